@@ -1,0 +1,64 @@
+//! Modules, their imports and their exports (ECMA-262, 16.2).
+
+use crate::class::{Class, Function};
+use crate::decl::Decl;
+use crate::expr::Expr;
+use crate::stmt::Stmt;
+use bundle_leaf::ident::Ident;
+use bundle_leaf::kind::ExportMetadata;
+use bundle_leaf::lit::Str;
+use bundle_leaf::specifier::{ExportSpecifier, ImportSpecifier};
+
+/// A module (ECMA-262, 16.2).
+#[derive(PartialEq, Drop, Debug)]
+pub struct Module {
+    pub body: Vec<ModuleItem>,
+}
+
+/// What stands at the top of a module (ECMA-262, 16.2).
+#[derive(PartialEq, Drop, Debug)]
+pub enum ModuleItem {
+    ModuleDecl(ModuleDecl),
+    Stmt(Stmt),
+}
+
+/// An import or an export (ECMA-262, 16.2.2 and 16.2.3).
+#[derive(PartialEq, Drop, Debug)]
+pub enum ModuleDecl {
+    ImportDecl {
+        specifiers: Vec<ImportSpecifier>,
+        src: Str,
+        meta: ExportMetadata,
+    },
+    ExportDecl {
+        decl: Decl,
+    },
+    NamedExport {
+        specifiers: Vec<ExportSpecifier>,
+        src: Option<Str>,
+        meta: ExportMetadata,
+    },
+    ExportDefaultDecl {
+        decl: DefaultDecl,
+    },
+    ExportDefaultExpr {
+        expr: Expr,
+    },
+    ExportAll {
+        src: Str,
+        meta: ExportMetadata,
+    },
+}
+
+/// The class or function of an `export default` (ECMA-262, 16.2.3).
+#[derive(PartialEq, Drop, Debug)]
+pub enum DefaultDecl {
+    ClassExpr {
+        ident: Option<Ident>,
+        class: Class,
+    },
+    FnExpr {
+        ident: Option<Ident>,
+        function: Function,
+    },
+}

@@ -1,0 +1,62 @@
+//! Patterns, and what is assigned to (ECMA-262, 13.15.5 and 14.3.3).
+
+use crate::expr::{Expr, MemberExpr, ParenExpr, SuperPropExpr};
+use crate::prop::PropName;
+use bundle_leaf::ident::BindingIdent;
+
+/// A pattern (ECMA-262, 14.3.3). `Expr` stands in patterns that assign and bind nothing.
+#[cycle(ast)]
+#[derive(PartialEq, Drop)]
+pub enum Pat {
+    BindingIdent(BindingIdent),
+    ArrayPat(ArrayPat),
+    RestPat(RestPat),
+    ObjectPat(ObjectPat),
+    AssignPat { left: Box<Pat>, right: Box<Expr> },
+    Expr(Box<Expr>),
+}
+
+/// A pattern of elements (ECMA-262, 14.3.3 ArrayBindingPattern).
+#[derive(PartialEq, Drop, Debug)]
+pub struct ArrayPat<P = Pat> {
+    pub elems: Vec<Option<P>>,
+}
+
+/// What is left over, behind `...` (ECMA-262, 14.3.3 BindingRestElement).
+#[derive(PartialEq, Drop, Debug)]
+pub struct RestPat<P = Pat> {
+    pub arg: Box<P>,
+}
+
+/// A pattern of properties (ECMA-262, 14.3.3 ObjectBindingPattern).
+#[derive(PartialEq, Drop, Debug)]
+pub struct ObjectPat<O = ObjectPatProp> {
+    pub props: Vec<O>,
+}
+
+/// What stands in a pattern of properties (ECMA-262, 14.3.3).
+#[cycle(ast)]
+#[derive(PartialEq, Drop)]
+pub enum ObjectPatProp {
+    KeyValuePatProp {
+        key: PropName,
+        value: Pat,
+    },
+    AssignPatProp {
+        key: BindingIdent,
+        value: Option<Expr>,
+    },
+    RestPat(RestPat),
+}
+
+/// The left side of an assignment (ECMA-262, 13.15).
+#[cycle(ast)]
+#[derive(PartialEq, Drop)]
+pub enum AssignTarget {
+    BindingIdent(BindingIdent),
+    MemberExpr(MemberExpr),
+    SuperPropExpr(SuperPropExpr),
+    ParenExpr(ParenExpr),
+    ArrayPat(ArrayPat),
+    ObjectPat(ObjectPat),
+}

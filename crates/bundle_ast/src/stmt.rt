@@ -1,0 +1,116 @@
+//! Statements (ECMA-262, 14).
+
+use crate::decl::{Decl, VarDecl};
+use crate::expr::Expr;
+use crate::pat::Pat;
+use bundle_leaf::ident::IdentName;
+
+/// Statements in braces (ECMA-262, 14.2). Also the body of a function, method or `catch`.
+#[derive(PartialEq, Drop, Debug)]
+pub struct BlockStmt<S = Stmt> {
+    pub stmts: Vec<S>,
+}
+
+/// A statement or a declaration.
+#[cycle(ast)]
+#[derive(PartialEq, Drop)]
+pub enum Stmt {
+    BlockStmt(BlockStmt),
+    EmptyStmt,
+    DebuggerStmt,
+    WithStmt {
+        obj: Expr,
+        body: Box<Stmt>,
+    },
+    ReturnStmt {
+        arg: Option<Expr>,
+    },
+    LabeledStmt {
+        label: IdentName,
+        body: Box<Stmt>,
+    },
+    BreakStmt {
+        label: Option<IdentName>,
+    },
+    ContinueStmt {
+        label: Option<IdentName>,
+    },
+    IfStmt {
+        test: Expr,
+        cons: Box<Stmt>,
+        alt: Option<Box<Stmt>>,
+    },
+    SwitchStmt {
+        discriminant: Expr,
+        cases: Vec<SwitchCase>,
+    },
+    ThrowStmt {
+        arg: Expr,
+    },
+    TryStmt {
+        block: BlockStmt,
+        handler: Option<CatchClause>,
+        finalizer: Option<BlockStmt>,
+    },
+    WhileStmt {
+        test: Expr,
+        body: Box<Stmt>,
+    },
+    DoWhileStmt {
+        body: Box<Stmt>,
+        test: Expr,
+    },
+    ForStmt {
+        init: Option<ForInit>,
+        test: Option<Expr>,
+        update: Option<Expr>,
+        body: Box<Stmt>,
+    },
+    ForInStmt {
+        left: ForHead,
+        right: Expr,
+        body: Box<Stmt>,
+    },
+    ForOfStmt {
+        is_await: bool,
+        left: ForHead,
+        right: Expr,
+        body: Box<Stmt>,
+    },
+    Decl(Decl),
+    ExprStmt {
+        expr: Expr,
+    },
+}
+
+/// A `case`, or the `default` where there is no test (ECMA-262, 14.12).
+#[cycle(ast)]
+#[derive(PartialEq, Drop)]
+pub struct SwitchCase {
+    pub test: Option<Expr>,
+    pub cons: Vec<Stmt>,
+}
+
+/// The `catch` of a `try` (ECMA-262, 14.15).
+#[cycle(ast)]
+#[derive(PartialEq, Drop)]
+pub struct CatchClause {
+    pub param: Option<Pat>,
+    pub body: BlockStmt,
+}
+
+/// What stands first in a `for` with two semicolons (ECMA-262, 14.7.4).
+#[cycle(ast)]
+#[derive(PartialEq, Drop)]
+pub enum ForInit {
+    VarDecl(VarDecl),
+    Expr(Expr),
+}
+
+/// What a `for` .. `in` or `of` assigns or declares (ECMA-262, 14.7.5).
+#[cycle(ast)]
+#[derive(PartialEq, Drop)]
+pub enum ForHead {
+    VarDecl(VarDecl),
+    Pat(Pat),
+}

@@ -1,0 +1,4 @@
+pub mod Error
+pub mod FileName
+pub mod FileNameLaws
+pub mod ModuleIdGenerator
