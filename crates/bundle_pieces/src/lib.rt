@@ -1,0 +1,9 @@
+//! The full list of a syntax tree: where each node begins and ends, with every value that stands in
+//! it, and each identifier with its role. Every field of the tree stands in the list.
+#![tactic(auto)]
+
+pub mod piece;
+pub mod walk;
+
+pub use piece::{Node, Piece, Role};
+pub use walk::{pieces, pieces_of_expr, pieces_of_module};

@@ -1,0 +1,139 @@
+//! The walk over a tree that gives its list.
+
+ghost use Rattle.std.specs.Prelude.{◌≡◌, ◌++◌, ◌∷◌, [], OnOk, IfOk, map};
+ghost use Rattle.std.specs.List.{flat_map};
+ghost use Rattle.bundle_pieces.specs.Item.{head_of, item_of, Open, Hole, Close};
+ghost use Rattle.bundle_pieces.specs.Tree.{expr_items, ident_items, module_item_items, module_items, role_of_names as role_of_names_lem};
+
+pub mod classes;
+pub mod decls;
+pub mod exprs;
+pub mod modules;
+pub mod names;
+pub mod pats;
+pub mod props;
+pub mod stmts;
+
+use crate::piece::{Node, Piece, Role};
+use bundle_ast::{Expr, Ident, Module, ModuleItem, Str};
+use std::alloc::{AllocError, Global};
+use std::marker::Model;
+
+/// The list of what was met so far. Each method adds what one child gives, `field` being the number of
+/// the child's field in the node around it. Clauses see the items that the pieces stand for.
+#[derive(Drop)]
+pub(crate) struct Walk<'a> {
+    pieces: Vec<Piece<'a>>,
+}
+
+impl<'a> Model for Walk<'a> {
+    ghost use Rattle.std.specs.Prelude.{List, map};
+    ghost use Rattle.bundle_pieces.specs.Item.{Item, item_of};
+
+    ghost Value = { List Item };
+
+    ghost view = { λ walk. map item_of walk.pieces.items };
+}
+
+/// The list of the items of a module, each in field 0 as in a `Module`. Refused only where memory runs
+/// out.
+pub fn pieces<'a>(alloc: Global, items: &'a [ModuleItem]) -> Result<Vec<Piece<'a>>, AllocError>
+    ensures { IfOk result (λ list. map item_of list.items ≡ flat_map (module_item_items 0) items.now) }
+{
+    let mut walk = Walk::new(alloc);
+    walk.each_module_item(0, items)?;
+    Ok(walk.pieces)
+}
+
+/// The list of a module, from its beginning to its end. Refused only where memory runs out.
+pub fn pieces_of_module<'a>(alloc: Global, module: &'a Module) -> Result<Vec<Piece<'a>>, AllocError>
+    ensures { IfOk result (λ list. map item_of list.items ≡ module_items 0 «module».now) }
+{
+    let mut walk = Walk::new(alloc);
+    walk.open(0, Node::Module)?;
+    walk.each_module_item(0, module.body.as_slice())?;
+    walk.close()?;
+    Ok(walk.pieces)
+}
+
+/// The list of an expression, which stands in field 0. Refused only where memory runs out.
+pub fn pieces_of_expr<'a>(alloc: Global, expr: &'a Expr) -> Result<Vec<Piece<'a>>, AllocError>
+    ensures { IfOk result (λ list. map item_of list.items ≡ expr_items 0 expr.now) }
+{
+    let mut walk = Walk::new(alloc);
+    walk.expr(0, expr)?;
+    Ok(walk.pieces)
+}
+
+impl<'a> Walk<'a> {
+    fn new(alloc: Global) -> Walk<'a>
+        ensures { result ≡ [] }
+    {
+        Walk {
+            pieces: Vec::new(alloc),
+        }
+    }
+
+    #[tactic(auto, using(crate::proofs::Rows::rows))]
+    fn each_module_item(&mut self, field: u8, items: &'a [ModuleItem]) -> Result<(), AllocError>
+        ensures { OnOk result (self.new ≡ self.old ++ flat_map (module_item_items field) items.now) }
+    {
+        for item in items {
+            self.module_item(field, item)?;
+        }
+        Ok(())
+    }
+
+    fn add(&mut self, piece: Piece<'a>) -> Result<(), AllocError>
+        ensures { OnOk result (self.new ≡ self.old ++ item_of piece.entry ∷ []) }
+    {
+        self.pieces.push(piece)?;
+        Ok(())
+    }
+
+    pub(crate) fn open(&mut self, field: u8, node: Node<'a>) -> Result<(), AllocError>
+        ensures { OnOk result (self.new ≡ self.old ++ Open field (head_of node.entry) ∷ []) }
+    {
+        self.add(Piece::Open { field, node })
+    }
+
+    pub(crate) fn close(&mut self) -> Result<(), AllocError>
+        ensures { OnOk result (self.new ≡ self.old ++ Close ∷ []) }
+    {
+        self.add(Piece::Close)
+    }
+
+    pub(crate) fn hole(&mut self, field: u8) -> Result<(), AllocError>
+        ensures { OnOk result (self.new ≡ self.old ++ Hole field ∷ []) }
+    {
+        self.add(Piece::Hole { field })
+    }
+
+    pub(crate) fn ident(
+        &mut self,
+        field: u8,
+        role: Role,
+        ident: &'a Ident,
+    ) -> Result<(), AllocError>
+        ensures { OnOk result (self.new ≡ self.old ++ ident_items role field ident.now) }
+    {
+        let sym = ident.sym.as_str();
+        let ctxt = ident.ctxt.as_u32();
+        self.add(Piece::Ident {
+            field,
+            sym,
+            ctxt,
+            role,
+        })
+    }
+}
+
+/// What the names of an export list are: names of the module that `from` gives, or else of this one.
+pub(crate) fn role_of_names(src: &Option<Str>) -> Role
+    ensures { result ≡ role_of_names_lem src.now }
+{
+    match src {
+        Some(_) => Role::Word,
+        None => Role::Reference,
+    }
+}

@@ -1,0 +1,2 @@
+pub mod IdName
+pub mod IdNameLaws

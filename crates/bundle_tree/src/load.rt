@@ -1,0 +1,57 @@
+//! The loader: from the name of a file to its module.
+
+ghost use Rattle.std.specs.Prelude.{◌≡◌, IfOk, Err};
+ghost use Rattle.bundle_name.specs.FileName.{name_of};
+
+use bundle_ast::Module;
+use bundle_name::file_name::FileName;
+use std::alloc::Global;
+use thiserror::Error;
+
+/// A module as a loader gives it, and the name that it gives the file. The linker speaks of a file by
+/// the name that it asked for; the hook sees this one.
+#[derive(Debug, Drop)]
+pub struct ModuleData {
+    pub file_name: FileName,
+    pub module: Module,
+}
+
+/// Why a loader gives no module.
+#[derive(Clone, Copy, PartialEq, Eq, Debug, Drop, Error)]
+pub enum LoadError {
+    /// The file cannot be loaded.
+    #[error("the file cannot be loaded")]
+    Failed,
+    /// A growth was refused.
+    #[error("out of memory")]
+    OutOfMemory,
+}
+
+/// Loads modules. Each implementation says which module it may give for a name, and for which names it
+/// may fail; asked twice, it may give two answers.
+pub trait Load {
+    ghost use Rattle.std.specs.Prelude.{ℕ};
+    ghost use Rattle.bundle_name.specs.FileName.{Name};
+    ghost use Rattle.bundle_tree.specs.declared.load.ModuleData.{ModuleData};
+
+    /// The answers that it may give for a name.
+    ghost may_load: { Self → Name → ModuleData → Type 0 };
+
+    /// The names for which it may fail.
+    ghost may_fail_load: { Self → Name → Type 0 };
+
+    /// The module of a file. Refused where it cannot be loaded, and for memory.
+    fn load(&self, alloc: Global, file: &FileName) -> Result<ModuleData, LoadError>
+        ensures answer { IfOk result (λ loaded. may_load self.now (name_of file.now) loaded) }
+        ensures failure { result ≡ Err LoadError.Failed → may_fail_load self.now (name_of file.now) };
+}
+
+impl<T: Load> Load for &T {
+    ghost may_load = { λ s. T.may_load s.now };
+
+    ghost may_fail_load = { λ s. T.may_fail_load s.now };
+
+    fn load(&self, alloc: Global, file: &FileName) -> Result<ModuleData, LoadError> {
+        (**self).load(alloc, file)
+    }
+}

@@ -1,0 +1,58 @@
+//! The resolver: from the specifier of an import to the name of a file.
+
+ghost use Rattle.std.specs.Prelude.{◌≡◌, IfOk, Err};
+ghost use Rattle.bundle_name.specs.FileName.{name_of};
+
+use bundle_name::file_name::FileName;
+use std::alloc::Global;
+use thiserror::Error;
+
+/// Why a resolver gives no file.
+#[derive(Clone, Copy, PartialEq, Eq, Debug, Drop, Error)]
+pub enum ResolveError {
+    /// The specifier leads to no file.
+    #[error("the specifier leads to no file")]
+    Failed,
+    /// A growth was refused.
+    #[error("out of memory")]
+    OutOfMemory,
+}
+
+/// Resolves specifiers (ECMA-262, 16.2.1.8 HostResolveImportedModule). Each implementation says which
+/// file it may give for a specifier of a file, and where it may fail; asked twice, it may give two
+/// answers.
+pub trait Resolve {
+    ghost use Rattle.std.specs.Prelude.{ℕ, List};
+    ghost use Rattle.bundle_name.specs.FileName.{Name};
+
+    /// The files that it may give for a specifier, as the text of the specifier stands in a file.
+    ghost may_resolve: { Self → Name → List ℕ → Name → Type 0 };
+
+    /// Where it may fail.
+    ghost may_fail_resolve: { Self → Name → List ℕ → Type 0 };
+
+    /// The file that `specifier` names in the file `base`. Refused where there is none, and for memory.
+    fn resolve(
+        &self,
+        alloc: Global,
+        base: &FileName,
+        specifier: &str,
+    ) -> Result<FileName, ResolveError>
+        ensures answer { IfOk result (λ file. may_resolve self.now (name_of base.now) specifier.now (name_of file)) }
+        ensures failure { result ≡ Err ResolveError.Failed → may_fail_resolve self.now (name_of base.now) specifier.now };
+}
+
+impl<T: Resolve> Resolve for &T {
+    ghost may_resolve = { λ s. T.may_resolve s.now };
+
+    ghost may_fail_resolve = { λ s. T.may_fail_resolve s.now };
+
+    fn resolve(
+        &self,
+        alloc: Global,
+        base: &FileName,
+        specifier: &str,
+    ) -> Result<FileName, ResolveError> {
+        (**self).resolve(alloc, base, specifier)
+    }
+}
