@@ -1,0 +1,11 @@
+pub mod BitLemmas
+pub mod CycleLemmas
+pub mod ListLemmas
+pub mod ModuleLemmas
+pub mod NodeLemmas
+pub mod OrderLemmas
+pub mod RowLemmas
+pub mod StatementLemmas
+pub mod SweepLemmas
+pub mod WalkLemmas
+pub mod WorkLemmas
