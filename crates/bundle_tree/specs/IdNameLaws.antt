@@ -1,5 +1,5 @@
 -- The laws of `==`, of the order and of the hash of the names of bindings.
-use Rattle.std.specs.Prelude.{◌≡◌, true, ℕ, List}
+use Rattle.std.specs.Prelude.{◌≡◌, true}
 use Rattle.std.specs.Bool.{Decides}
 use Rattle.std.specs.Ordering.{as_partial_cmp, eq_by_cmp, is_eq}
 use Rattle.std.specs.Cmp.{IsEquivalence, IsPartialEquivalence, IsPartialOrder, IsTotalOrder, and_equiv, both_tied, first_so, second_so, nat_cmp_total, nat_eq_equiv, on_equiv, on_total, partial_equiv_from_equiv, partial_order_from_agreeing_total, then_total, unsigned_Decides, unsigned_ties}
