@@ -11,7 +11,7 @@ use bundle_leaf::operator::{AssignOp, BinaryOp, UnaryOp, UpdateOp};
 
 /// An expression.
 #[cycle(ast)]
-#[derive(PartialEq, Drop)]
+#[derive(PartialEq)]
 pub enum Expr {
     ThisExpr,
     ArrayLit {
@@ -93,6 +93,83 @@ pub enum Expr {
         optional: bool,
         base: OptChainBase,
     },
+}
+
+/// Lets go of an expression and all below it. Written by hand, so that who lets one go from another crate calls
+/// this function, where a derived one would be proved anew in that crate.
+impl Drop for Expr {
+    #[cycle(drop)]
+    fn drop(self) {
+        match self {
+            Expr::ThisExpr => {}
+            Expr::ArrayLit { elems: _elems } => {}
+            Expr::ObjectLit { props: _props } => {}
+            Expr::FnExpr {
+                ident: _ident,
+                function: _function,
+            } => {}
+            Expr::UnaryExpr { op: _op, arg: _arg } => {}
+            Expr::UpdateExpr {
+                op: _op,
+                prefix: _prefix,
+                arg: _arg,
+            } => {}
+            Expr::BinExpr {
+                op: _op,
+                left: _left,
+                right: _right,
+            } => {}
+            Expr::AssignExpr {
+                op: _op,
+                left: _left,
+                right: _right,
+            } => {}
+            Expr::MemberExpr(_it) => {}
+            Expr::SuperPropExpr(_it) => {}
+            Expr::CondExpr {
+                test: _test,
+                cons: _cons,
+                alt: _alt,
+            } => {}
+            Expr::CallExpr {
+                callee: _callee,
+                args: _args,
+            } => {}
+            Expr::NewExpr {
+                callee: _callee,
+                args: _args,
+            } => {}
+            Expr::SeqExpr { exprs: _exprs } => {}
+            Expr::Ident(_it) => {}
+            Expr::Lit(_it) => {}
+            Expr::Tpl(_it) => {}
+            Expr::TaggedTpl {
+                tag: _tag,
+                tpl: _tpl,
+            } => {}
+            Expr::ArrowExpr {
+                params: _params,
+                body: _body,
+                is_async: _is_async,
+            } => {}
+            Expr::ClassExpr {
+                ident: _ident,
+                class: _class,
+            } => {}
+            Expr::YieldExpr {
+                arg: _arg,
+                delegate: _delegate,
+            } => {}
+            Expr::MetaPropExpr { kind: _kind } => {}
+            Expr::AwaitExpr { arg: _arg } => {}
+            Expr::ParenExpr(_it) => {}
+            Expr::PrivateName(_it) => {}
+            Expr::OptChainExpr {
+                optional: _optional,
+                base: _base,
+            } => {}
+        }
+    }
 }
 
 /// An expression in parentheses (ECMA-262, 13.2.9).

@@ -10,9 +10,29 @@ use bundle_leaf::lit::Str;
 use bundle_leaf::specifier::{ExportSpecifier, ImportSpecifier};
 
 /// A module (ECMA-262, 16.2).
-#[derive(PartialEq, Drop, Debug)]
+#[derive(PartialEq, Debug)]
 pub struct Module {
     pub body: Vec<ModuleItem>,
+}
+
+/// Lets go of a module and all below it. Written by hand, so that who lets one go from another crate calls
+/// this function, where a derived one would be proved anew in that crate.
+impl Drop for Module {
+    fn drop(self) {
+        let Module { body: _body } = self;
+    }
+}
+
+impl Module {
+    ghost use Rattle.std.specs.Prelude.{◌≡◌};
+
+    /// What stands in the module, taken out of it.
+    pub fn into_body(self) -> Vec<ModuleItem>
+        ensures { result ≡ self.body }
+    {
+        let Module { body } = self;
+        body
+    }
 }
 
 /// What stands at the top of a module (ECMA-262, 16.2).

@@ -6,7 +6,7 @@ use bundle_leaf::ident::BindingIdent;
 
 /// A pattern (ECMA-262, 14.3.3). `Expr` stands in patterns that assign and bind nothing.
 #[cycle(ast)]
-#[derive(PartialEq, Drop)]
+#[derive(PartialEq)]
 pub enum Pat {
     BindingIdent(BindingIdent),
     ArrayPat(ArrayPat),
@@ -14,6 +14,25 @@ pub enum Pat {
     ObjectPat(ObjectPat),
     AssignPat { left: Box<Pat>, right: Box<Expr> },
     Expr(Box<Expr>),
+}
+
+/// Lets go of a pattern and all below it. Written by hand, so that who lets one go from another crate calls
+/// this function, where a derived one would be proved anew in that crate.
+impl Drop for Pat {
+    #[cycle(drop)]
+    fn drop(self) {
+        match self {
+            Pat::BindingIdent(_it) => {}
+            Pat::ArrayPat(_it) => {}
+            Pat::RestPat(_it) => {}
+            Pat::ObjectPat(_it) => {}
+            Pat::AssignPat {
+                left: _left,
+                right: _right,
+            } => {}
+            Pat::Expr(_it) => {}
+        }
+    }
 }
 
 /// A pattern of elements (ECMA-262, 14.3.3 ArrayBindingPattern).

@@ -13,7 +13,7 @@ pub struct BlockStmt<S = Stmt> {
 
 /// A statement or a declaration.
 #[cycle(ast)]
-#[derive(PartialEq, Drop)]
+#[derive(PartialEq)]
 pub enum Stmt {
     BlockStmt(BlockStmt),
     EmptyStmt,
@@ -81,6 +81,72 @@ pub enum Stmt {
     ExprStmt {
         expr: Expr,
     },
+}
+
+/// Lets go of a statement and all below it. Written by hand, so that who lets one go from another crate calls
+/// this function, where a derived one would be proved anew in that crate.
+impl Drop for Stmt {
+    #[cycle(drop)]
+    fn drop(self) {
+        match self {
+            Stmt::BlockStmt(_it) => {}
+            Stmt::EmptyStmt => {}
+            Stmt::DebuggerStmt => {}
+            Stmt::WithStmt {
+                obj: _obj,
+                body: _body,
+            } => {}
+            Stmt::ReturnStmt { arg: _arg } => {}
+            Stmt::LabeledStmt {
+                label: _label,
+                body: _body,
+            } => {}
+            Stmt::BreakStmt { label: _label } => {}
+            Stmt::ContinueStmt { label: _label } => {}
+            Stmt::IfStmt {
+                test: _test,
+                cons: _cons,
+                alt: _alt,
+            } => {}
+            Stmt::SwitchStmt {
+                discriminant: _discriminant,
+                cases: _cases,
+            } => {}
+            Stmt::ThrowStmt { arg: _arg } => {}
+            Stmt::TryStmt {
+                block: _block,
+                handler: _handler,
+                finalizer: _finalizer,
+            } => {}
+            Stmt::WhileStmt {
+                test: _test,
+                body: _body,
+            } => {}
+            Stmt::DoWhileStmt {
+                body: _body,
+                test: _test,
+            } => {}
+            Stmt::ForStmt {
+                init: _init,
+                test: _test,
+                update: _update,
+                body: _body,
+            } => {}
+            Stmt::ForInStmt {
+                left: _left,
+                right: _right,
+                body: _body,
+            } => {}
+            Stmt::ForOfStmt {
+                is_await: _is_await,
+                left: _left,
+                right: _right,
+                body: _body,
+            } => {}
+            Stmt::Decl(_it) => {}
+            Stmt::ExprStmt { expr: _expr } => {}
+        }
+    }
 }
 
 /// A `case`, or the `default` where there is no test (ECMA-262, 14.12).

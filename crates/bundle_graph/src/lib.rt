@@ -5,3 +5,5 @@
 pub mod graph;
 pub(crate) mod rows;
 pub mod sort;
+#[cfg(test)]
+mod tests;

@@ -2,7 +2,7 @@
 use Rattle.std.proofs.Common.{◌≡◌, refl, [], ◌∷◌, ◌++◌, Option, Some, None, Vec, Global, is_some}
 use Rattle.std.specs.List.{flat_map}
 use Rattle.std.proofs.lemmas.Grind.{common_steps}
-use Rattle.bundle_pieces.specs.Item as h
+use Rattle.bundle_piece.specs.Item as h
 use Rattle.bundle_pieces.specs.Tree as k
 use Rattle.bundle_pieces.specs.Tree.{stmt_items}
 use Rattle.bundle_ast.specs.declared.stmt.Stmt as v_stmt
@@ -19,7 +19,7 @@ use Rattle.bundle_ast.specs.declared.pat.ObjectPatProp as v_object_pat_prop
 use Rattle.bundle_ast.specs.declared.pat.AssignTarget as v_assign_target
 use Rattle.bundle_ast.specs.declared.class.ClassMember as v_class_member
 use Rattle.bundle_ast.specs.declared.class.ClassMember.TheBlock as block
-use Rattle.bundle_pieces.specs.declared.piece.Role.TheVariants as r
+use Rattle.bundle_piece.specs.declared.piece.Role.TheVariants as r
 
 pub stmt_items-BlockStmt : (field : _) (u1 : _) (stmts : _) → k.stmt_items field (v_stmt.BlockStmt' u1 stmts) ≡ k.node field h.BlockStmt (k.row_of_stmt 0 stmts)
 unfolding stmt_items

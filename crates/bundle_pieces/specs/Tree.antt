@@ -65,10 +65,10 @@ use Rattle.bundle_ast.specs.declared.class.Param as v_param
 use Rattle.bundle_ast.specs.declared.class.Class as v_class
 use Rattle.bundle_ast.specs.declared.class.ClassMember as v_class_member
 use Rattle.bundle_ast.specs.declared.class.ClassMember.TheBlock as block
-use Rattle.bundle_pieces.specs.declared.piece.Role.TheVariants as r
-use Rattle.bundle_pieces.specs.declared.piece.Role.{Role}
-use Rattle.bundle_pieces.specs.Item as h
-use Rattle.bundle_pieces.specs.Item.{Item, Head}
+use Rattle.bundle_piece.specs.declared.piece.Role.TheVariants as r
+use Rattle.bundle_piece.specs.declared.piece.Role.{Role}
+use Rattle.bundle_piece.specs.Item as h
+use Rattle.bundle_piece.specs.Item.{Item, Head}
 
 -- a node: its beginning, what stands inside, its end
 abbrev pub node : ℕ → Head → List Item → List Item

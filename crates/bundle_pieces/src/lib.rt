@@ -2,8 +2,7 @@
 //! it, and each identifier with its role. Every field of the tree stands in the list.
 #![tactic(auto)]
 
-pub mod piece;
 pub mod walk;
 
-pub use piece::{Node, Piece, Role};
+pub use bundle_piece::{Node, Piece, Role};
 pub use walk::{pieces, pieces_of_expr, pieces_of_module};

@@ -2,7 +2,7 @@
 
 ghost use Rattle.std.specs.Prelude.{◌≡◌, ◌++◌, ◌∷◌, [], OnOk, IfOk, map};
 ghost use Rattle.std.specs.List.{flat_map};
-ghost use Rattle.bundle_pieces.specs.Item.{head_of, item_of, Open, Hole, Close};
+ghost use Rattle.bundle_piece.specs.Item.{head_of, item_of, Open, Hole, Close};
 ghost use Rattle.bundle_pieces.specs.Tree.{expr_items, ident_items, module_item_items, module_items, role_of_names as role_of_names_lem};
 
 pub mod classes;
@@ -14,8 +14,8 @@ pub mod pats;
 pub mod props;
 pub mod stmts;
 
-use crate::piece::{Node, Piece, Role};
 use bundle_ast::{Expr, Ident, Module, ModuleItem, Str};
+use bundle_piece::{Node, Piece, Role};
 use std::alloc::{AllocError, Global};
 use std::marker::Model;
 
@@ -28,7 +28,7 @@ pub(crate) struct Walk<'a> {
 
 impl<'a> Model for Walk<'a> {
     ghost use Rattle.std.specs.Prelude.{List, map};
-    ghost use Rattle.bundle_pieces.specs.Item.{Item, item_of};
+    ghost use Rattle.bundle_piece.specs.Item.{Item, item_of};
 
     ghost Value = { List Item };
 

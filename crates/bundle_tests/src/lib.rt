@@ -5,6 +5,8 @@
 #[cfg(test)]
 mod leaves;
 #[cfg(test)]
+mod lists;
+#[cfg(test)]
 mod numbers;
 #[cfg(test)]
 mod trees;

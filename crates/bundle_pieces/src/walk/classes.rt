@@ -3,9 +3,9 @@
 ghost use Rattle.std.specs.Prelude.{◌≡◌, ◌++◌, OnOk};
 ghost use Rattle.bundle_pieces.specs.Tree.{class_items, class_member_items, each_class_member_items, each_param_items, function_items, param_items};
 
-use crate::piece::{Node, Role};
 use crate::walk::Walk;
 use bundle_ast::{Class, ClassMember, Function, Param};
+use bundle_piece::{Node, Role};
 use std::alloc::AllocError;
 
 impl<'a> Walk<'a> {

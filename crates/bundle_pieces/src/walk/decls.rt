@@ -3,9 +3,9 @@
 ghost use Rattle.std.specs.Prelude.{◌≡◌, ◌++◌, OnOk};
 ghost use Rattle.bundle_pieces.specs.Tree.{decl_items, each_var_declarator_items, var_decl_items, var_declarator_items};
 
-use crate::piece::{Node, Role};
 use crate::walk::Walk;
 use bundle_ast::{Decl, VarDecl, VarDeclarator};
+use bundle_piece::{Node, Role};
 use std::alloc::AllocError;
 
 impl<'a> Walk<'a> {

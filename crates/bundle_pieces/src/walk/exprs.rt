@@ -3,12 +3,12 @@
 ghost use Rattle.std.specs.Prelude.{◌≡◌, ◌++◌, OnOk};
 ghost use Rattle.bundle_pieces.specs.Tree.{arrow_body_items, callee_items, each_expr_items, each_expr_or_spread_items, each_option_expr_or_spread_items, expr_items, expr_or_spread_items, member_expr_items, opt_call_items, opt_chain_base_items, option_boxed_expr_items, option_each_expr_or_spread_items, option_expr_items, paren_expr_items, super_prop_expr_items, tpl_items};
 
-use crate::piece::{Node, Role};
 use crate::walk::Walk;
 use bundle_ast::{
     ArrowBody, BlockStmt, Callee, Expr, ExprOrSpread, Ident, Lit, MemberExpr, OptCall,
     OptChainBase, ParenExpr, PrivateName, SuperPropExpr, Tpl,
 };
+use bundle_piece::{Node, Role};
 use std::alloc::AllocError;
 
 impl<'a> Walk<'a> {

@@ -3,12 +3,12 @@
 ghost use Rattle.std.specs.Prelude.{◌≡◌, ◌++◌, OnOk};
 ghost use Rattle.bundle_pieces.specs.Tree.{array_pat_items, assign_target_items, each_object_pat_prop_items, each_option_pat_items, each_pat_items, object_pat_items, object_pat_prop_items, option_pat_items, pat_items, rest_pat_items};
 
-use crate::piece::{Node, Role};
 use crate::walk::Walk;
 use bundle_ast::{
     ArrayPat, AssignTarget, BindingIdent, Expr, MemberExpr, ObjectPat, ObjectPatProp, ParenExpr,
     Pat, RestPat, SuperPropExpr,
 };
+use bundle_piece::{Node, Role};
 use std::alloc::AllocError;
 
 impl<'a> Walk<'a> {

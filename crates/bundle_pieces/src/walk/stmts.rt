@@ -3,11 +3,11 @@
 ghost use Rattle.std.specs.Prelude.{◌≡◌, ◌++◌, OnOk};
 ghost use Rattle.bundle_pieces.specs.Tree.{block_stmt_items, catch_clause_items, each_stmt_items, each_switch_case_items, for_head_items, for_init_items, option_block_stmt_items, option_boxed_stmt_items, option_catch_clause_items, option_for_init_items, stmt_items, switch_case_items};
 
-use crate::piece::{Node, Role};
 use crate::walk::Walk;
 use bundle_ast::{
     BlockStmt, CatchClause, Decl, Expr, ForHead, ForInit, Pat, Stmt, SwitchCase, VarDecl,
 };
+use bundle_piece::{Node, Role};
 use std::alloc::AllocError;
 
 impl<'a> Walk<'a> {

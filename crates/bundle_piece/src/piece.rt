@@ -1,6 +1,6 @@
 //! One element of the list of a tree.
 
-use bundle_ast::{
+use bundle_leaf::{
     AssignOp, BinaryOp, ExportMetadata, MetaPropKind, MethodKind, UnaryOp, UpdateOp, VarDeclKind,
 };
 

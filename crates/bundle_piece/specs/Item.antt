@@ -9,11 +9,11 @@ use Rattle.bundle_leaf.specs.declared.operator.AssignOp.{AssignOp}
 use Rattle.bundle_leaf.specs.declared.operator.BinaryOp.{BinaryOp}
 use Rattle.bundle_leaf.specs.declared.operator.UnaryOp.{UnaryOp}
 use Rattle.bundle_leaf.specs.declared.operator.UpdateOp.{UpdateOp}
-use Rattle.bundle_pieces.specs.declared.piece.Role.{Role}
-use Rattle.bundle_pieces.specs.declared.piece.Node as r_node
-use Rattle.bundle_pieces.specs.declared.piece.Node.TheVariants as n
-use Rattle.bundle_pieces.specs.declared.piece.Piece as r_piece
-use Rattle.bundle_pieces.specs.declared.piece.Piece.TheVariants as p
+use Rattle.bundle_piece.specs.declared.piece.Role.{Role}
+use Rattle.bundle_piece.specs.declared.piece.Node as r_node
+use Rattle.bundle_piece.specs.declared.piece.Node.TheVariants as n
+use Rattle.bundle_piece.specs.declared.piece.Piece as r_piece
+use Rattle.bundle_piece.specs.declared.piece.Piece.TheVariants as p
 
 -- a node by its name, with each value that stands in it and is no node: texts as their bytes
 pub data Head : Type 0 where

@@ -1,0 +1,20 @@
+//! The JSON form of a syntax tree, read into the tree's list of pieces and written from it.
+//!
+//! A node is an object with its name under `type` and every field under its key. A field that may hold
+//! nothing is `null` there, or absent when read; an absent truth value is false, an absent list empty.
+//! Keys that a node does not have are passed over, and so are `ctxt` and `meta`. What is written has every
+//! field, `ctxt` where it is not 0, and no `meta`.
+//!
+//! Whether the pieces form a tree is not judged here: each node gives its own fields in its own order,
+//! whatever stands in them.
+#![tactic(auto)]
+
+pub mod layout;
+pub mod node;
+pub mod read;
+pub mod role;
+pub mod scalar;
+pub mod write;
+
+pub use read::{FormError, read_module, read_properties};
+pub use write::tree_value;

@@ -1,0 +1,9 @@
+pub mod PlacesLemmas
+mod PlacesExamples
+mod SmallTrees
+mod ScopesExamples
+mod DenotesExamples
+mod DoubledExamples
+mod RenamingExamples
+mod CountsExamples
+mod DeferredExamples

@@ -1,0 +1,109 @@
+-- Words that a binding may not keep (ECMA-262, 12.7.2: keywords and reserved words, those of strict code, and the
+-- future reserved words of earlier editions), and what a binding with such a symbol is called.
+use Rattle.std.specs.Prelude.{◌≡◌, ℕ, Bool as Truth, cond, List, [], ◌∷◌, ◌++◌, codes, bytes_eq, map}
+use Rattle.std.specs.List.{list_any}
+use Rattle.bundle_piece.specs.Item.{Item}
+use Rattle.bundle_places.specs.Places.{occurrences}
+use Rattle.bundle_places.specs.Scopes.{Es}
+use Rattle.bundle_places.specs.Declarations.{ByContext, Declared, declared}
+use Rattle.bundle_places.specs.Denotes.{Denoted, Bound, Global, denoted_of, IsResolved, DenoteAlike}
+
+-- keywords and reserved words; `import` is none of them
+abbrev pub keywords : List (List ℕ)
+keywords =
+    codes "await"
+    ∷ codes "break"
+    ∷ codes "case"
+    ∷ codes "catch"
+    ∷ codes "class"
+    ∷ codes "const"
+    ∷ codes "continue"
+    ∷ codes "debugger"
+    ∷ codes "default"
+    ∷ codes "delete"
+    ∷ codes "do"
+    ∷ codes "else"
+    ∷ codes "enum"
+    ∷ codes "export"
+    ∷ codes "extends"
+    ∷ codes "false"
+    ∷ codes "finally"
+    ∷ codes "for"
+    ∷ codes "function"
+    ∷ codes "if"
+    ∷ codes "in"
+    ∷ codes "instanceof"
+    ∷ codes "new"
+    ∷ codes "null"
+    ∷ codes "return"
+    ∷ codes "super"
+    ∷ codes "switch"
+    ∷ codes "this"
+    ∷ codes "throw"
+    ∷ codes "true"
+    ∷ codes "try"
+    ∷ codes "typeof"
+    ∷ codes "var"
+    ∷ codes "void"
+    ∷ codes "while"
+    ∷ codes "with"
+    ∷ codes "yield"
+    ∷ []
+
+-- words that strict code reserves
+abbrev pub strict_words : List (List ℕ)
+strict_words =
+    codes "let"
+    ∷ codes "static"
+    ∷ codes "implements"
+    ∷ codes "interface"
+    ∷ codes "package"
+    ∷ codes "private"
+    ∷ codes "protected"
+    ∷ codes "public"
+    ∷ []
+
+-- words that earlier editions kept for later use
+abbrev pub older_words : List (List ℕ)
+older_words =
+    codes "abstract"
+    ∷ codes "boolean"
+    ∷ codes "byte"
+    ∷ codes "char"
+    ∷ codes "double"
+    ∷ codes "final"
+    ∷ codes "float"
+    ∷ codes "goto"
+    ∷ codes "int"
+    ∷ codes "long"
+    ∷ codes "native"
+    ∷ codes "short"
+    ∷ codes "synchronized"
+    ∷ codes "throws"
+    ∷ codes "transient"
+    ∷ codes "volatile"
+    ∷ []
+
+-- whether a binding may not keep this symbol
+abbrev pub is_keyword : List ℕ → Truth
+is_keyword sym = list_any (bytes_eq sym) (keywords ++ strict_words ++ older_words)
+
+-- the symbol of a binding that had this one
+abbrev pub keyword_free : List ℕ → List ℕ
+keyword_free sym = cond (is_keyword sym) (codes "__" ++ sym) sym
+
+-- the symbol of an occurrence of this symbol that denotes this: globals keep theirs
+abbrev pub keyword_free_of : List ℕ → Denoted → List ℕ
+keyword_free_of sym (Bound scope name) = keyword_free sym
+keyword_free_of sym (Global symbol) = sym
+
+-- the symbols of a module's occurrences once no binding has a keyword's
+abbrev pub keyword_free_symbols : List Item → List (List ℕ)
+keyword_free_symbols items =
+    let all : List Declared = declared ByContext Es items in map (λ o. keyword_free_of o.sym (denoted_of ByContext Es all o)) (occurrences items)
+
+-- the tree after has the symbols of the one before, but for a `__` before a keyword's that a binding had; it is resolved, and its names denote what they did
+pub record IsKeywordFree (before after : List Item) : Type 0 where
+  pub symbols : map (λ o. o.sym) (occurrences after) ≡ keyword_free_symbols before
+  pub resolved : IsResolved Es after
+  pub alike : DenoteAlike ByContext before ByContext after

@@ -1,0 +1,10 @@
+pub mod Places
+pub mod Scopes
+pub mod Declarations
+pub mod Homes
+pub mod Denotes
+pub mod Doubled
+pub mod Keywords
+pub mod Renaming
+pub mod Counts
+pub mod Deferred

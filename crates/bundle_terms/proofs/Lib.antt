@@ -1,0 +1,16 @@
+pub mod BundleExamples
+pub mod Computed
+pub mod EntryExamples
+pub mod FaultExamples
+pub mod InjectedExamples
+pub mod KeptLemmas
+pub mod LinkingExamples
+pub mod MeaningExamples
+pub mod MeaningLemmas
+pub mod OrderExamples
+pub mod PartsExamples
+pub mod Programs
+pub mod RebuildExamples
+pub mod RebuildLemmas
+pub mod StatementExamples
+pub mod Trees
