@@ -9,12 +9,12 @@
 //! whatever stands in them.
 #![tactic(auto)]
 
-pub mod layout;
-pub mod node;
-pub mod read;
-pub mod role;
-pub mod scalar;
-pub mod write;
+mod layout;
+mod node;
+mod read;
+mod role;
+mod scalar;
+mod write;
 
 pub use read::{FormError, read_module, read_properties};
 pub use write::tree_value;
