@@ -3,7 +3,7 @@
 ghost use Rattle.std.specs.Prelude.{◌≡◌, ◌++◌, ◌∷◌, [], OnOk, IfOk, map};
 ghost use Rattle.std.specs.List.{flat_map};
 ghost use Rattle.bundle_piece.specs.Item.{head_of, item_of, Open, Hole, Close};
-ghost use Rattle.bundle_pieces.specs.Tree.{expr_items, ident_items, module_item_items, module_items, role_of_names as role_of_names_lem};
+ghost use Rattle.bundle_pieces.specs.Tree.{expr_items, ident_items, key_value_prop_items, module_item_items, module_items, role_of_names as role_of_names_lem};
 
 pub mod classes;
 pub mod decls;
@@ -14,7 +14,7 @@ pub mod pats;
 pub mod props;
 pub mod stmts;
 
-use bundle_ast::{Expr, Ident, Module, ModuleItem, Str};
+use bundle_ast::{Expr, Ident, KeyValueProp, Module, ModuleItem, Str};
 use bundle_piece::{Node, Piece, Role};
 use std::alloc::{AllocError, Global};
 use std::marker::Model;
@@ -65,6 +65,18 @@ pub fn pieces_of_expr<'a>(alloc: Global, expr: &'a Expr) -> Result<Vec<Piece<'a>
     Ok(walk.pieces)
 }
 
+/// The list of properties, each in field 0. Refused only where memory runs out.
+pub fn pieces_of_properties<'a>(
+    alloc: Global,
+    properties: &'a [KeyValueProp],
+) -> Result<Vec<Piece<'a>>, AllocError>
+    ensures { IfOk result (λ list. map item_of list.items ≡ flat_map (key_value_prop_items 0) properties.now) }
+{
+    let mut walk = Walk::new(alloc);
+    walk.each_key_value_prop(0, properties)?;
+    Ok(walk.pieces)
+}
+
 impl<'a> Walk<'a> {
     fn new(alloc: Global) -> Walk<'a>
         ensures { result ≡ [] }
@@ -80,6 +92,20 @@ impl<'a> Walk<'a> {
     {
         for item in items {
             self.module_item(field, item)?;
+        }
+        Ok(())
+    }
+
+    #[tactic(auto, using(crate::proofs::Rows::rows))]
+    fn each_key_value_prop(
+        &mut self,
+        field: u8,
+        properties: &'a [KeyValueProp],
+    ) -> Result<(), AllocError>
+        ensures { OnOk result (self.new ≡ self.old ++ flat_map (key_value_prop_items field) properties.now) }
+    {
+        for property in properties {
+            self.key_value_prop(field, property)?;
         }
         Ok(())
     }

@@ -3,6 +3,8 @@
 #![tactic(auto)]
 
 #[cfg(test)]
+mod bundler;
+#[cfg(test)]
 mod leaves;
 #[cfg(test)]
 mod lists;

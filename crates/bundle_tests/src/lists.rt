@@ -1,8 +1,9 @@
-//! Trees as lists, and lists as JSON.
+//! Trees as lists, lists as trees, and both as JSON.
 
 use bundle_ast::{ExportMetadata, Expr, Module};
+use bundle_build::{BuildError, build_items, build_module, build_properties};
 use bundle_form::{FormError, read_module, read_properties, tree_value};
-use bundle_pieces::{pieces, pieces_of_expr, pieces_of_module};
+use bundle_pieces::{Piece, Role, pieces, pieces_of_expr, pieces_of_module, pieces_of_properties};
 use serde_json::Value;
 use std::test::Fail;
 
@@ -53,6 +54,47 @@ fn a_form_gives_a_list_and_the_list_the_form(rt: HostRuntime) -> Result<(), Fail
 }
 
 #[test]
+fn a_list_gives_a_tree_and_the_tree_the_list(rt: HostRuntime) -> Result<(), Fail> {
+    let value = Value::from_slice(rt.alloc(), TEXT.as_bytes())?;
+    let meta = ExportMetadata::default();
+    let list = read_module(rt.alloc(), &value, &meta)?;
+    let module = build_module(rt.alloc(), list.as_slice())?;
+    let again = pieces_of_module(rt.alloc(), &module)?;
+    assert_eq!(rt; again.len(), list.len());
+    Ok(())
+}
+
+#[test]
+fn a_list_gives_items_and_the_items_the_list(rt: HostRuntime) -> Result<(), Fail> {
+    let value = Value::from_slice(rt.alloc(), TEXT.as_bytes())?;
+    let meta = ExportMetadata::default();
+    let list = read_module(rt.alloc(), &value, &meta)?;
+    let module = build_module(rt.alloc(), list.as_slice())?;
+    let items = pieces(rt.alloc(), module.body.as_slice())?;
+    let copy = Module {
+        body: build_items(rt.alloc(), items.as_slice())?,
+    };
+    let again = pieces(rt.alloc(), copy.body.as_slice())?;
+    assert_eq!(rt; again.len(), items.len());
+    Ok(())
+}
+
+#[test]
+fn what_is_no_tree_is_refused(rt: HostRuntime) -> Result<(), Fail> {
+    let ident = Piece::Ident {
+        field: 0,
+        sym: "x",
+        ctxt: 0,
+        role: Role::Reference,
+    };
+    let refused = build_module(rt.alloc(), &[ident]);
+    assert!(rt; matches!(refused, Err(BuildError::Form)));
+    let refused = build_module(rt.alloc(), &[]);
+    assert!(rt; matches!(refused, Err(BuildError::Form)));
+    Ok(())
+}
+
+#[test]
 fn what_is_no_form_is_refused(rt: HostRuntime) -> Result<(), Fail> {
     let meta = ExportMetadata::default();
     let value = Value::from_slice(rt.alloc(), br#"{"type":"Unknown"}"#)?;
@@ -68,6 +110,9 @@ fn properties_are_read_one_by_one(rt: HostRuntime) -> Result<(), Fail> {
     let value = Value::from_slice(rt.alloc(), text)?;
     let meta = ExportMetadata::default();
     let list = read_properties(rt.alloc(), &value, &meta)?;
-    assert_eq!(rt; list.len(), 6);
+    let props = build_properties(rt.alloc(), list.as_slice())?;
+    assert_eq!(rt; props.len(), 1);
+    let again = pieces_of_properties(rt.alloc(), props.as_slice())?;
+    assert_eq!(rt; again.len(), list.len());
     Ok(())
 }

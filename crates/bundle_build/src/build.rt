@@ -1,0 +1,265 @@
+//! What is left of a list, and the tree that it gives.
+
+ghost use Rattle.std.specs.Prelude.{◌≡◌, ◌+◌, IfOk, map, true};
+ghost use Rattle.std.specs.List.{flat_map};
+ghost use Rattle.bundle_piece.specs.Item.{item_of};
+ghost use Rattle.bundle_pieces.specs.Tree.{key_value_prop_items, module_item_items, module_items};
+
+use crate::same::are_same;
+use bundle_ast::{KeyValueProp, Module, ModuleItem};
+use bundle_piece::{Node, Piece, Role};
+use bundle_pieces::{pieces as pieces_of_items, pieces_of_module, pieces_of_properties};
+use std::alloc::{AllocError, AllocFailed, Global};
+use std::fmt;
+
+/// Why a list gives no tree.
+#[derive(Clone, Copy, PartialEq, Eq, Debug)]
+pub enum BuildError {
+    /// It is not the list of a tree.
+    Form,
+    /// A growth was refused.
+    OutOfMemory,
+}
+
+impl fmt::Display for BuildError {
+    fn fmt<W: fmt::Write>(&self, f: &mut fmt::Formatter<W>) -> fmt::Result {
+        f.write_str(match self {
+            BuildError::Form => "not the list of a tree",
+            BuildError::OutOfMemory => "out of memory",
+        })
+    }
+}
+
+impl std::error::Error for BuildError {}
+
+impl From<AllocError> for BuildError {
+    fn from(_: AllocError) -> BuildError {
+        BuildError::OutOfMemory
+    }
+}
+
+impl<T: Drop> From<AllocFailed<T>> for BuildError {
+    fn from(_: AllocFailed<T>) -> BuildError {
+        BuildError::OutOfMemory
+    }
+}
+
+/// The module whose list this is: its list is just the one that is given. Refused where it is the list of no
+/// module, and for memory.
+pub fn build_module<'a>(alloc: Global, pieces: &[Piece<'a>]) -> Result<Module, BuildError>
+    ensures { IfOk result (λ it. module_items 0 it ≡ map item_of pieces.now) }
+{
+    let module = module_of(alloc, pieces)?;
+    if is_list_of_module(alloc, pieces, &module)? {
+        Ok(module)
+    } else {
+        Err(BuildError::Form)
+    }
+}
+
+/// The items whose lists stand here one after the other, each in field 0 as in a `Module`. Refused where it is
+/// not so, and for memory.
+pub fn build_items<'a>(alloc: Global, pieces: &[Piece<'a>]) -> Result<Vec<ModuleItem>, BuildError>
+    ensures { IfOk result (λ list. flat_map (module_item_items 0) list.items ≡ map item_of pieces.now) }
+{
+    let module = module_of_items(alloc, pieces)?;
+    if is_list_of_items(alloc, pieces, module.body.as_slice())? {
+        Ok(module.into_body())
+    } else {
+        Err(BuildError::Form)
+    }
+}
+
+/// The properties whose lists stand here one after the other, each in field 0. Refused where it is not so,
+/// and for memory.
+pub fn build_properties<'a>(
+    alloc: Global,
+    pieces: &[Piece<'a>],
+) -> Result<Vec<KeyValueProp>, BuildError>
+    ensures { IfOk result (λ list. flat_map (key_value_prop_items 0) list.items ≡ map item_of pieces.now) }
+{
+    let properties = properties_of(alloc, pieces)?;
+    if is_list_of_properties(alloc, pieces, properties.as_slice())? {
+        Ok(properties)
+    } else {
+        Err(BuildError::Form)
+    }
+}
+
+// Whether this is the list of the module.
+fn is_list_of_module<'a>(
+    alloc: Global,
+    pieces: &[Piece<'a>],
+    module: &Module,
+) -> Result<bool, AllocError>
+    ensures { IfOk result (λ same. same ≡ true → module_items 0 «module».now ≡ map item_of pieces.now) }
+{
+    let list = pieces_of_module(alloc, module)?;
+    Ok(are_same(list.as_slice(), pieces))
+}
+
+// Whether this is the list of the items.
+fn is_list_of_items<'a>(
+    alloc: Global,
+    pieces: &[Piece<'a>],
+    items: &[ModuleItem],
+) -> Result<bool, AllocError>
+    ensures { IfOk result (λ same. same ≡ true → flat_map (module_item_items 0) items.now ≡ map item_of pieces.now) }
+{
+    let list = pieces_of_items(alloc, items)?;
+    Ok(are_same(list.as_slice(), pieces))
+}
+
+// Whether this is the list of the properties.
+fn is_list_of_properties<'a>(
+    alloc: Global,
+    pieces: &[Piece<'a>],
+    properties: &[KeyValueProp],
+) -> Result<bool, AllocError>
+    ensures { IfOk result (λ same. same ≡ true → flat_map (key_value_prop_items 0) properties.now ≡ map item_of pieces.now) }
+{
+    let list = pieces_of_properties(alloc, properties)?;
+    Ok(are_same(list.as_slice(), pieces))
+}
+
+// The module that the list begins with.
+fn module_of<'a>(alloc: Global, pieces: &[Piece<'a>]) -> Result<Module, BuildError> {
+    let mut builder = Builder {
+        alloc,
+        pieces,
+        place: 0,
+    };
+    let body = builder.module(pieces.len())?;
+    Ok(Module { body })
+}
+
+// The module with the items whose lists stand here.
+fn module_of_items<'a>(alloc: Global, pieces: &[Piece<'a>]) -> Result<Module, BuildError> {
+    let mut builder = Builder {
+        alloc,
+        pieces,
+        place: 0,
+    };
+    let body = builder.each_module_item(pieces.len(), 0)?;
+    Ok(Module { body })
+}
+
+// The properties that the list begins with.
+fn properties_of<'a>(alloc: Global, pieces: &[Piece<'a>]) -> Result<Vec<KeyValueProp>, BuildError> {
+    let mut builder = Builder {
+        alloc,
+        pieces,
+        place: 0,
+    };
+    builder.each_key_value_prop(pieces.len(), 0)
+}
+
+/// A list, and how much of it was taken. Each method takes the pieces of one child; `field` is the number of the
+/// child's field in the node around it, and `room` how many more nodes may be open at once.
+#[derive(Clone, Copy)]
+pub(crate) struct Builder<'p, 'a> {
+    pub(crate) alloc: Global,
+    pub(crate) pieces: &'p [Piece<'a>],
+    pub(crate) place: usize,
+}
+
+/// The room inside a node that was just opened.
+pub(crate) fn inside(room: usize) -> Result<usize, BuildError>
+    ensures { IfOk result (λ less. less + 1 ≡ room) }
+{
+    match room.checked_sub(1) {
+        Some(less) => Ok(less),
+        None => Err(BuildError::Form),
+    }
+}
+
+impl<'p, 'a> Builder<'p, 'a> {
+    // The piece that comes next.
+    fn first(&self) -> Option<Piece<'a>> {
+        self.pieces.get(self.place).copied()
+    }
+
+    fn next(&mut self) -> Result<Piece<'a>, BuildError> {
+        let piece = self.first().ok_or(BuildError::Form)?;
+        self.place = self.place.saturating_add(1);
+        Ok(piece)
+    }
+
+    /// The node that begins next in this field.
+    pub(crate) fn open(&mut self, field: u8) -> Result<Node<'a>, BuildError> {
+        match self.next()? {
+            Piece::Open { field: at, node } if at == field => Ok(node),
+            _ => Err(BuildError::Form),
+        }
+    }
+
+    pub(crate) fn close(&mut self) -> Result<(), BuildError> {
+        match self.next()? {
+            Piece::Close => Ok(()),
+            _ => Err(BuildError::Form),
+        }
+    }
+
+    pub(crate) fn hole(&mut self, field: u8) -> Result<(), BuildError> {
+        match self.next()? {
+            Piece::Hole { field: at } if at == field => Ok(()),
+            _ => Err(BuildError::Form),
+        }
+    }
+
+    /// The identifier that comes next in this field, in this role.
+    pub(crate) fn take_ident(
+        &mut self,
+        field: u8,
+        role: Role,
+    ) -> Result<(&'a str, u32), BuildError> {
+        match self.next()? {
+            Piece::Ident {
+                field: at,
+                sym,
+                ctxt,
+                role: found,
+            } if at == field && found == role => Ok((sym, ctxt)),
+            _ => Err(BuildError::Form),
+        }
+    }
+
+    /// The node that begins next, if one does.
+    pub(crate) fn upcoming(&self) -> Option<Node<'a>> {
+        match self.first() {
+            Some(Piece::Open { node, .. }) => Some(node),
+            _ => None,
+        }
+    }
+
+    /// Whether an identifier comes next.
+    pub(crate) fn is_ident(&self) -> bool {
+        match self.first() {
+            Some(Piece::Ident { .. }) => true,
+            _ => false,
+        }
+    }
+
+    /// Whether a place without an element comes next.
+    pub(crate) fn is_hole(&self) -> bool {
+        match self.first() {
+            Some(Piece::Hole { .. }) => true,
+            _ => false,
+        }
+    }
+
+    /// Whether what comes next lies in this field.
+    pub(crate) fn is_in(&self, field: u8) -> bool {
+        match self.first() {
+            Some(Piece::Open { field: at, .. }) => at == field,
+            Some(Piece::Ident { field: at, .. }) => at == field,
+            Some(Piece::Hole { field: at }) => at == field,
+            _ => false,
+        }
+    }
+
+    /// How many elements a list can have at most.
+    pub(crate) fn most(&self) -> usize {
+        self.pieces.len()
+    }
+}

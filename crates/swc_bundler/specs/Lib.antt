@@ -1,0 +1,2 @@
+pub mod Bundler
+pub mod Refusal
