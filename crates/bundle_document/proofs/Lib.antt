@@ -1,0 +1,5 @@
+mod Floats
+mod Fronts
+mod Lists
+mod Maps
+mod Results

@@ -1,47 +1,78 @@
 //! Answering a document.
 
+ghost use Rattle.std.specs.Prelude.{◌≡◌, ◌≢◌, ◌⊎◌, ℕ, List, ◌++◌, codes, string_bytes, IfOk, IfErr};
+ghost use Rattle.std.specs.Io.KnownBytes.{Appends};
+ghost use Rattle.bundle_name.specs.declared.error.Error.{Error};
+ghost use Rattle.bundle_document.specs.Answer.{line_of as line_in, IsAnswer, IsRefusal};
+ghost use Rattle.bundle_document.specs.Writing.{AppendsFront};
+
+use crate::document::Document;
 use crate::parties::{DocumentLoader, DocumentResolver};
-use crate::read::{Document, refuse};
-use bundle_form::tree_value;
+use crate::text::bundles_text;
+use crate::writing::{refuse, write_line};
 use bundle_name::error::Error;
-use bundle_pieces::pieces_of_module;
 use bundle_tree::hook::Hook;
-use serde_json::{Map, Value};
 use std::alloc::{AllocError, Global};
 use std::io::Write;
-use swc_bundler::{Bundle, BundleKind, Bundler};
+use swc_bundler::Bundler;
 
-/// Bundles what a document asks for and writes the bundles. The status is 0; 1 for a refusal, with its
-/// line on `errors`; 3 for an output that cannot be written.
+/// Bundles what a document asks for and writes the text of the bundles, with a line feed behind it.
+///
+/// The status is 0 where all of it is written, and then nothing is said on `errors`; 1 for a refusal,
+/// of which one line is written on `errors`, its number and its name, and nothing on `output`; and 3 where
+/// `output` fails, without a word. Of a text that a writer does not take whole a front is written.
 pub fn answer<W: Write, E: Write>(
     alloc: Global,
     document: Document,
     hook: Box<dyn Hook>,
     output: &mut W,
     errors: &mut E,
-) -> u8 {
-    match text_of(alloc, document, hook) {
-        Ok(text) => match write_line(output, text.as_str()) {
-            true => 0,
-            false => 3,
-        },
-        Err(error) => {
-            let line = format!(in alloc; "error {}: {}\n", error.number(), error.name());
-            match line {
-                Ok(line) => refuse(errors, line.as_str(), 1),
-                Err(_) => refuse(errors, "error 22: OutOfMemory\n", 1),
+) -> u8
+    ensures status { (result ≡ 0) ⊎ (result ≡ 1) ⊎ (result ≡ 3) }
+    ensures written { result ≡ 0 → (text : List ℕ) × IsAnswer document text × Appends (W.contents output.old) (W.contents output.new) (text ++ codes "\n") }
+    ensures cut_off { result ≡ 3 → (text : List ℕ) × IsAnswer document text × AppendsFront (W.contents output.old) (W.contents output.new) (text ++ codes "\n") }
+    ensures refused { result ≡ 1 → (refusal : Error) × IsRefusal document refusal × AppendsFront (E.contents errors.old) (E.contents errors.new) (line_in refusal) }
+    ensures no_output { result ≡ 1 → output.new ≡ output.old }
+    ensures no_error { result ≢ 1 → errors.new ≡ errors.old }
+{
+    match answer_text(alloc, document, hook) {
+        Ok(text) => {
+            if write_line(output, text.as_bytes()) {
+                0
+            } else {
+                3
             }
         }
+        Err(refusal) => report(alloc, &refusal, errors),
     }
 }
 
-fn write_line<W: Write>(output: &mut W, text: &str) -> bool {
-    output.write_all(text.as_bytes()).is_ok()
-        && output.write_all(b"\n").is_ok()
-        && output.flush().is_ok()
+// Writes the line of a refusal, or of the want of memory for that line. The status is 1.
+fn report<E: Write>(alloc: Global, refusal: &Error, errors: &mut E) -> u8
+    ensures status { result ≡ 1 }
+    ensures line { (AppendsFront (E.contents errors.old) (E.contents errors.new) (line_in refusal.now)) ⊎ (AppendsFront (E.contents errors.old) (E.contents errors.new) (line_in Error.OutOfMemory)) }
+{
+    match line_of(alloc, refusal) {
+        Ok(line) => refuse(errors, line.as_bytes(), 1),
+        Err(_) => refuse(errors, b"error 22: OutOfMemory\n", 1),
+    }
 }
 
-fn text_of(alloc: Global, document: Document, hook: Box<dyn Hook>) -> Result<String, Error> {
+// The line of a refusal.
+#[tactic(auto, unfolding(crate::specs::Answer::line_of))]
+fn line_of(alloc: Global, refusal: &Error) -> Result<String, AllocError>
+    ensures { IfOk result (λ line. string_bytes line ≡ line_in refusal.now) }
+{
+    let number = refusal.number();
+    let name = refusal.name();
+    format!(in alloc; "error {number}: {name}\n")
+}
+
+// The text of the bundles that a document asks for.
+fn answer_text(alloc: Global, document: Document, hook: Box<dyn Hook>) -> Result<String, Error>
+    ensures made { IfOk result (λ text. IsAnswer document (string_bytes text)) }
+    ensures refused { IfErr result (IsRefusal document) }
+{
     let Document {
         config,
         files,
@@ -51,33 +82,4 @@ fn text_of(alloc: Global, document: Document, hook: Box<dyn Hook>) -> Result<Str
     let mut bundler = Bundler::new(alloc, loader, DocumentResolver, config, hook);
     let bundles = bundler.bundle(alloc, entries)?;
     bundles_text(alloc, bundles.as_slice())
-}
-
-/// The JSON text of the bundles: a list with an object for each, its id, its kind, its module and its
-/// name. Refused only for memory. Each bundle is to be of kind `Named`.
-pub fn bundles_text(alloc: Global, bundles: &[Bundle]) -> Result<String, Error> {
-    let mut list = Vec::new(alloc);
-    for bundle in bundles {
-        let value = bundle_value(alloc, bundle)?;
-        list.push(value)?;
-    }
-    Ok(Value::Array(list).to_string(alloc)?)
-}
-
-fn bundle_value(alloc: Global, bundle: &Bundle) -> Result<Value, AllocError> {
-    let name = match &bundle.kind {
-        BundleKind::Named { name } | BundleKind::Lib { name } => name.as_str(),
-        BundleKind::Dynamic => "",
-    };
-    let mut object = Map::new(alloc);
-    let id = format!(in alloc; "{}", bundle.id)?;
-    object.insert(String::from_str(alloc, "id")?, Value::String(id))?;
-    let kind = String::from_str(alloc, "Named")?;
-    object.insert(String::from_str(alloc, "kind")?, Value::String(kind))?;
-    let pieces = pieces_of_module(alloc, &bundle.module)?;
-    let module = tree_value(alloc, pieces.as_slice())?;
-    object.insert(String::from_str(alloc, "module")?, module)?;
-    let name = String::from_str(alloc, name)?;
-    object.insert(String::from_str(alloc, "name")?, Value::String(name))?;
-    Ok(Value::Object(object))
 }

@@ -2,10 +2,19 @@
 #![tactic(auto)]
 
 mod answering;
+mod document;
 mod error;
 mod parties;
 mod read;
+mod settings;
+#[cfg(test)]
+mod tests;
+mod text;
+mod values;
+mod writing;
 
-pub use answering::{answer, bundles_text};
+pub use answering::answer;
+pub use document::Document;
 pub use parties::MetaHook;
-pub use read::{Document, read_document};
+pub use read::read_document;
+pub use text::bundles_text;

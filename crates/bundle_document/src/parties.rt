@@ -1,22 +1,29 @@
 //! The program's loader, resolver and hook.
 
+ghost use Rattle.std.specs.Prelude.{◌≡◌, string_bytes, IfOk};
+ghost use Rattle.std.specs.List.{flat_map};
+ghost use Rattle.bundle_pieces.specs.Tree.{key_value_prop_items};
+ghost use Rattle.bundle_document.specs.Parties.{lists_of, script_path};
+
 use bundle_ast::{KeyValueProp, Module};
+use bundle_build::{BuildError, build_properties};
 use bundle_name::file_name::FileName;
+use bundle_pieces::pieces_of_properties;
 use bundle_tree::hook::{Hook, HookError, ModuleRecord};
 use bundle_tree::load::{Load, LoadError, ModuleData};
 use bundle_tree::resolve::{Resolve, ResolveError};
-use std::alloc::Global;
+use std::alloc::{AllocError, Global};
 use std::cell::RefCell;
 use std::collections::BTreeMap;
 
 /// Gives each file of a document once.
 #[derive(Drop)]
-pub struct DocumentLoader {
+pub(crate) struct DocumentLoader {
     files: RefCell<BTreeMap<String, Module>>,
 }
 
 impl DocumentLoader {
-    pub fn new(files: BTreeMap<String, Module>) -> DocumentLoader {
+    pub(crate) fn new(files: BTreeMap<String, Module>) -> DocumentLoader {
         DocumentLoader {
             files: RefCell::new(files),
         }
@@ -24,7 +31,9 @@ impl DocumentLoader {
 }
 
 impl Load for DocumentLoader {
-    ghost may_load = { λ _ _ _. Unit {0} };
+    ghost use Rattle.bundle_document.specs.Parties.{MayLoad};
+
+    ghost may_load = { λ _. MayLoad };
 
     ghost may_fail_load = { λ _ _. Unit {0} };
 
@@ -45,12 +54,15 @@ impl Load for DocumentLoader {
 
 /// Resolves `./r` to `r`, with `.js` behind it where it does not end so.
 #[derive(Drop)]
-pub struct DocumentResolver;
+pub(crate) struct DocumentResolver;
 
 impl Resolve for DocumentResolver {
-    ghost may_resolve = { λ _ _ _ _. Unit {0} };
+    ghost use Rattle.bundle_name.specs.FileName.{Name};
+    ghost use Rattle.bundle_document.specs.Parties.{LeadsTo};
 
-    ghost may_fail_resolve = { λ _ _ _. Unit {0} };
+    ghost may_resolve = { λ _ _. LeadsTo };
+
+    ghost may_fail_resolve = { λ _ _ specifier. (file : Name) → ¬ LeadsTo specifier file };
 
     fn resolve(
         &self,
@@ -58,54 +70,78 @@ impl Resolve for DocumentResolver {
         _base: &FileName,
         specifier: &str,
     ) -> Result<FileName, ResolveError> {
-        let Some(rest) = specifier.strip_prefix("./") else {
+        let Some(path) = specifier.strip_prefix("./") else {
             return Err(ResolveError::Failed);
         };
-        if rest.is_empty() {
+        if path.is_empty() {
             return Err(ResolveError::Failed);
         }
-        let mut name = String::from_str(alloc, rest).map_err(|_| ResolveError::OutOfMemory)?;
-        if !rest.ends_with(".js") {
-            name.push_str(".js").map_err(|_| ResolveError::OutOfMemory)?;
+        match script_name(alloc, path) {
+            Ok(name) => Ok(FileName::Real(name)),
+            Err(_) => Err(ResolveError::OutOfMemory),
         }
-        Ok(FileName::Real(name))
     }
 }
 
-/// Gives the properties of `import.meta` that a document lists for a file, each list once, and none
-/// for any other file.
+// A path, with `.js` behind it where it does not end so.
+fn script_name(alloc: Global, path: &str) -> Result<String, AllocError>
+    ensures { IfOk result (λ name. string_bytes name ≡ script_path path.now) }
+{
+    let mut name = String::from_str(alloc, path)?;
+    if !path.ends_with(".js") {
+        name.push_str(".js")?;
+    }
+    Ok(name)
+}
+
+/// Gives the properties of `import.meta` that a document lists for a file, and none for any other file.
 #[derive(Drop)]
 pub struct MetaHook {
-    alloc: Global,
-    lists: RefCell<BTreeMap<String, Vec<KeyValueProp>>>,
+    lists: BTreeMap<String, Vec<KeyValueProp>>,
 }
 
 impl MetaHook {
-    pub fn new(alloc: Global, lists: BTreeMap<String, Vec<KeyValueProp>>) -> MetaHook {
-        MetaHook {
-            alloc,
-            lists: RefCell::new(lists),
+    /// A hook that gives these lists, each for the real file of its name.
+    pub fn new(lists: BTreeMap<String, Vec<KeyValueProp>>) -> MetaHook
+        ensures { lists_of result ≡ lists.entries }
+    {
+        MetaHook { lists }
+    }
+}
+
+/// A list is given anew each time, as another list with the same trees. It fails only where there is one.
+impl Hook for MetaHook {
+    ghost use Rattle.bundle_document.specs.Parties.{GivesList, HasList};
+
+    ghost may_give = { λ hook file _. GivesList hook file };
+
+    ghost may_fail_hook = { λ hook file _. HasList hook file };
+
+    fn get_import_meta_props(
+        &self,
+        alloc: Global,
+        module: &ModuleRecord,
+    ) -> Result<Vec<KeyValueProp>, HookError> {
+        let FileName::Real(name) = &module.file_name else {
+            return Ok(Vec::new(alloc));
+        };
+        match self.lists.get(name.as_str()) {
+            Some(properties) => copied(alloc, properties.as_slice()),
+            None => Ok(Vec::new(alloc)),
         }
     }
 }
 
-impl Hook for MetaHook {
-    ghost may_give = { λ _ _ _ _. Unit {0} };
-
-    ghost may_fail_hook = { λ _ _ _. Unit {0} };
-
-    fn get_import_meta_props(
-        &self,
-        _alloc: Global,
-        module: &ModuleRecord,
-    ) -> Result<Vec<KeyValueProp>, HookError> {
-        if let FileName::Real(name) = &module.file_name {
-            if let Ok(mut lists) = self.lists.try_borrow_mut() {
-                if let Some(props) = lists.remove(name.as_str()) {
-                    return Ok(props);
-                }
-            }
-        }
-        Ok(Vec::new(self.alloc))
+// Another list of properties with the same trees.
+fn copied(alloc: Global, properties: &[KeyValueProp]) -> Result<Vec<KeyValueProp>, HookError>
+    ensures { IfOk result (λ copy. flat_map (key_value_prop_items 0) copy.items ≡ flat_map (key_value_prop_items 0) properties.now) }
+{
+    let Ok(pieces) = pieces_of_properties(alloc, properties) else {
+        return Err(HookError::OutOfMemory);
+    };
+    match build_properties(alloc, pieces.as_slice()) {
+        Ok(copy) => Ok(copy),
+        Err(BuildError::Form) => Err(HookError::Failed),
+        Err(BuildError::OutOfMemory) => Err(HookError::OutOfMemory),
     }
 }

@@ -1,0 +1,4 @@
+mod Frames
+mod Growth
+mod Run
+mod Steps

@@ -1,0 +1,5 @@
+pub mod Error
+pub mod Form
+pub mod Layout
+pub mod Reading
+pub mod Writing

@@ -9,6 +9,7 @@
 //! whatever stands in them.
 #![tactic(auto)]
 
+mod error;
 mod layout;
 mod node;
 mod read;
@@ -16,5 +17,9 @@ mod role;
 mod scalar;
 mod write;
 
-pub use read::{FormError, read_module, read_properties};
+pub use error::FormError;
+pub use read::{read_module, read_properties};
 pub use write::tree_value;
+
+#[cfg(test)]
+mod tests;

@@ -1,50 +1,24 @@
 //! From the JSON form of a tree to its list.
 
-ghost use Rattle.std.specs.Prelude.{◌≡◌, ◌+◌, IfOk};
+ghost use Rattle.std.specs.Prelude.{◌≡◌, ◌+◌, [], ◌∷◌, ◌++◌, Some, map, codes, IfOk, OnOk, IsSomeAnd};
+ghost use Rattle.serde_json.specs.Find.{as_array, get};
+ghost use Rattle.serde_json.specs.View.{items_view, view};
+ghost use Rattle.bundle_piece.specs.Item.{head_of, item_of};
+ghost use Rattle.bundle_form.specs.Form.{text_at, top, values, place_in as place_of_field, IsForm, AreForms};
+ghost use Rattle.bundle_form.specs.Layout.{field_of};
+ghost use Rattle.bundle_form.specs.Reading.{Grows};
 
-use crate::layout::{Field, Shape, layout_of};
+use crate::error::FormError;
+use crate::layout::{Field, Shape, fields_of};
 use crate::node::Object;
-use crate::role::{role_in, role_of_ident};
+use crate::role::{Place, role_in, role_of_ident};
 use bundle_leaf::kind::ExportMetadata;
 use bundle_piece::{Node, Piece, Role};
 use serde_json::Value;
-use std::alloc::{AllocError, AllocFailed, Global};
-use std::fmt;
+use std::alloc::Global;
 
 /// How deep nodes may nest: deeper than a document may.
 const LEVELS: u8 = 255;
-
-/// Why a value could not be read as a tree.
-#[derive(Clone, Copy, PartialEq, Eq, Debug)]
-pub enum FormError {
-    /// It is not of the form of a tree.
-    Form,
-    /// A growth was refused.
-    OutOfMemory,
-}
-
-impl fmt::Display for FormError {
-    fn fmt<W: fmt::Write>(&self, f: &mut fmt::Formatter<W>) -> fmt::Result {
-        f.write_str(match self {
-            FormError::Form => "not the form of a tree",
-            FormError::OutOfMemory => "out of memory",
-        })
-    }
-}
-
-impl std::error::Error for FormError {}
-
-impl From<AllocError> for FormError {
-    fn from(_: AllocError) -> FormError {
-        FormError::OutOfMemory
-    }
-}
-
-impl<T: Drop> From<AllocFailed<T>> for FormError {
-    fn from(_: AllocFailed<T>) -> FormError {
-        FormError::OutOfMemory
-    }
-}
 
 /// The pieces of the module whose JSON form `value` is; its declarations have the notes `meta`. Refused
 /// where it is another form, and for memory.
@@ -52,13 +26,12 @@ pub fn read_module<'a>(
     alloc: Global,
     value: &'a Value,
     meta: &'a ExportMetadata,
-) -> Result<Vec<Piece<'a>>, FormError> {
-    let mut reader = Reader {
-        meta,
-        pieces: Vec::new(alloc),
-    };
-    reader.node(value, Place::root(), LEVELS)?;
-    Ok(reader.pieces)
+) -> Result<Vec<Piece<'a>>, FormError>
+    ensures { IfOk result (λ list. IsForm meta.now top (view value.now) (map item_of list.items)) }
+{
+    let mut pieces = Vec::new(alloc);
+    read_node(&mut pieces, Object { value, meta }, Place::top(), LEVELS)?;
+    Ok(pieces)
 }
 
 /// The pieces of the properties whose JSON forms stand in the list `value`, each in field 0. Refused
@@ -67,44 +40,14 @@ pub fn read_properties<'a>(
     alloc: Global,
     value: &'a Value,
     meta: &'a ExportMetadata,
-) -> Result<Vec<Piece<'a>>, FormError> {
-    let mut reader = Reader {
-        meta,
-        pieces: Vec::new(alloc),
-    };
-    let Value::Array(list) = value else {
-        return Err(FormError::Form);
-    };
-    for item in list.as_slice() {
-        reader.node(item, Place::root(), LEVELS)?;
-    }
-    Ok(reader.pieces)
-}
-
-/// Where a node stands: the number of its field, what it is if it is an identifier, and what the names of
-/// its patterns are.
-#[derive(Clone, Copy)]
-struct Place {
-    field: u8,
-    ident: Role,
-    names: Role,
-}
-
-impl Place {
-    fn root() -> Place {
-        Place {
-            field: 0,
-            ident: Role::Reference,
-            names: Role::Reference,
-        }
-    }
-}
-
-/// The pieces of what was read so far.
-#[derive(Drop)]
-struct Reader<'a> {
-    meta: &'a ExportMetadata,
-    pieces: Vec<Piece<'a>>,
+) -> Result<Vec<Piece<'a>>, FormError>
+    ensures { IfOk result (λ list. IsSomeAnd (as_array (view value.now))
+        (λ forms. AreForms meta.now top forms (map item_of list.items))) }
+{
+    let mut pieces = Vec::new(alloc);
+    let list = value.as_array().ok_or(FormError::Form)?;
+    read_list(&mut pieces, list.as_slice(), meta, Place::top(), LEVELS)?;
+    Ok(pieces)
 }
 
 // How many levels are left below.
@@ -117,88 +60,143 @@ fn below(levels: u8) -> Result<u8, FormError>
     }
 }
 
-impl<'a> Reader<'a> {
-    #[cycle(read)]
-    fn node(&mut self, value: &'a Value, place: Place, levels: u8) -> Result<(), FormError> {
-        let Value::Object(members) = value else {
-            return Err(FormError::Form);
-        };
-        let object = Object {
-            members,
-            meta: self.meta,
-        };
-        if object.text("type")? == "Ident" {
-            return self.ident(object, place);
-        }
-        let node = object.node()?;
-        let field = place.field;
-        self.pieces.push(Piece::Open { field, node })?;
-        let less = below(levels)?;
-        for field in layout_of(&node).fields {
-            if let Some(field) = field {
-                self.field(object, &node, place.names, field, less)?;
-            }
-        }
-        self.pieces.push(Piece::Close)?;
-        Ok(())
-    }
+fn add<'a>(pieces: &mut Vec<Piece<'a>>, piece: Piece<'a>) -> Result<(), FormError>
+    ensures { OnOk result (map item_of pieces.new.items ≡ map item_of pieces.old.items ++ item_of piece.entry ∷ []) }
+{
+    pieces.push(piece)?;
+    Ok(())
+}
 
-    fn ident(&mut self, object: Object<'a>, place: Place) -> Result<(), FormError> {
-        let sym = object.text("sym")?;
-        self.pieces.push(Piece::Ident {
-            field: place.field,
+// Adds the node that the object stands for.
+#[cycle(read)]
+fn read_node<'a>(
+    pieces: &mut Vec<Piece<'a>>,
+    object: Object<'a>,
+    place: Place,
+    levels: u8,
+) -> Result<(), FormError>
+    ensures { OnOk result (Grows (IsForm object.entry.meta.now place (view object.entry.value.now))
+        (map item_of pieces.old.items) (map item_of pieces.new.items)) }
+{
+    if object.text("type")? == "Ident" {
+        return read_ident(pieces, object, place);
+    }
+    let node = object.node()?;
+    let field = place.field;
+    add(pieces, Piece::Open { field, node })?;
+    let less = below(levels)?;
+    for field in fields_of(&node) {
+        if let Some(field) = field {
+            read_field(pieces, object, &node, place.names, field, less)?;
+        }
+    }
+    add(pieces, Piece::Close)
+}
+
+// Adds the identifier that the object stands for.
+fn read_ident<'a>(
+    pieces: &mut Vec<Piece<'a>>,
+    object: Object<'a>,
+    place: Place,
+) -> Result<(), FormError>
+    requires { text_at (codes "type") (view object.value.now) ≡ Some (codes "Ident") }
+    ensures { OnOk result (Grows (IsForm object.entry.meta.now place (view object.entry.value.now))
+        (map item_of pieces.old.items) (map item_of pieces.new.items)) }
+{
+    let sym = object.text("sym")?;
+    let Place {
+        field,
+        ident: role,
+        ..
+    } = place;
+    add(
+        pieces,
+        Piece::Ident {
+            field,
             sym,
             ctxt: 0,
-            role: place.ident,
-        })?;
-        Ok(())
-    }
+            role,
+        },
+    )
+}
 
-    // What stands in the field of a node.
-    #[cycle(read)]
-    fn field(
-        &mut self,
-        object: Object<'a>,
-        node: &Node<'a>,
-        names: Role,
-        field: Field,
-        levels: u8,
-    ) -> Result<(), FormError> {
-        let has_source = object.members.get("src").is_some_and(|src| !src.is_null());
-        let place = Place {
-            field: field.number,
-            ident: role_of_ident(node, field.number, names),
-            names: role_in(node, field.number, names, has_source),
+// Where the nodes in a field of `node` stand, whose names as a pattern are `names`.
+fn place_in(object: Object, node: &Node, names: Role, field: Field) -> Place
+    ensures { result ≡ place_of_field (head_of node.now) names (view object.entry.value.now) (field_of field) }
+{
+    let number = field.number;
+    Place {
+        field: number,
+        ident: role_of_ident(node, number, names),
+        names: role_in(node, number, names, object.has("src")),
+        has_holes: match field.shape {
+            Shape::Places => true,
+            _ => false,
+        },
+    }
+}
+
+// Adds what stands in a field of a node.
+#[cycle(read)]
+fn read_field<'a>(
+    pieces: &mut Vec<Piece<'a>>,
+    object: Object<'a>,
+    node: &Node<'a>,
+    names: Role,
+    field: Field,
+    levels: u8,
+) -> Result<(), FormError>
+    ensures { OnOk result (IsSomeAnd
+        (values field.shape (get field.key.now (view object.entry.value.now)))
+        (λ forms. Grows
+        (AreForms object.entry.meta.now
+        (place_of_field (head_of node.now) names (view object.entry.value.now) (field_of field))
+        forms)
+        (map item_of pieces.old.items) (map item_of pieces.new.items))) }
+{
+    let place = place_in(object, node, names, field);
+    let meta = object.meta;
+    let Some(value) = object.value.get(field.key) else {
+        return match field.shape {
+            Shape::One => Err(FormError::Form),
+            Shape::Optional | Shape::List | Shape::Places => Ok(()),
         };
-        match (field.shape, object.members.get(field.key)) {
-            (Shape::One, None) => Err(FormError::Form),
-            (Shape::Optional | Shape::OptionalList, None | Some(Value::Null)) => Ok(()),
-            (Shape::List | Shape::Places, None) => Ok(()),
-            (Shape::One | Shape::Optional, Some(value)) => self.node(value, place, levels),
-            (_, Some(Value::Array(list))) => {
-                let has_holes = field.shape == Shape::Places;
-                self.list(list.as_slice(), has_holes, place, levels)
-            }
-            _ => Err(FormError::Form),
-        }
-    }
-
-    #[cycle(read)]
-    fn list(
-        &mut self,
-        list: &'a [Value],
-        has_holes: bool,
-        place: Place,
-        levels: u8,
-    ) -> Result<(), FormError> {
-        for value in list {
-            if has_holes && value.is_null() {
-                let field = place.field;
-                self.pieces.push(Piece::Hole { field })?;
+    };
+    match field.shape {
+        Shape::One => read_node(pieces, Object { value, meta }, place, levels),
+        Shape::Optional => {
+            if value.is_null() {
+                Ok(())
             } else {
-                self.node(value, place, levels)?;
+                read_node(pieces, Object { value, meta }, place, levels)
             }
         }
-        Ok(())
+        Shape::List | Shape::Places => match value.as_array() {
+            Some(list) => read_list(pieces, list.as_slice(), meta, place, levels),
+            None => Err(FormError::Form),
+        },
     }
+}
+
+// Adds the nodes of a list.
+#[cycle(read)]
+fn read_list<'a>(
+    pieces: &mut Vec<Piece<'a>>,
+    list: &'a [Value],
+    meta: &'a ExportMetadata,
+    place: Place,
+    levels: u8,
+) -> Result<(), FormError>
+    ensures { OnOk result (Grows (AreForms meta.now place (items_view list.now))
+        (map item_of pieces.old.items) (map item_of pieces.new.items)) }
+{
+    for value in list {
+        if place.has_holes && value.is_null() {
+            let field = place.field;
+            add(pieces, Piece::Hole { field })?;
+        } else {
+            read_node(pieces, Object { value, meta }, place, levels)?;
+        }
+    }
+    Ok(())
 }

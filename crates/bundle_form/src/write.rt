@@ -1,31 +1,40 @@
 //! From the list of a tree to its JSON form.
 
-use crate::layout::{Field, Shape, layout_of};
+ghost use Rattle.std.specs.Prelude.{◌≡◌, [], map, option_map, OnOk, IfOk};
+ghost use Rattle.serde_json.specs.View.{view};
+ghost use Rattle.bundle_piece.specs.Item.{head_of, item_of};
+ghost use Rattle.bundle_piece.specs.declared.piece.Role.TheVariants.{Reference};
+ghost use Rattle.bundle_form.specs.Form.{written, ident, IsFormWritten};
+ghost use Rattle.bundle_form.specs.Writing.{child_of, frames, with_child, first_in, after_first_in, all_in, after_all_in, value_in, rest_in, node_form};
+
+use crate::layout::{Field, Shape, fields_of, name_of};
 use crate::scalar::Object;
 use bundle_piece::{Node, Piece};
 use serde_json::Value;
 use std::alloc::{AllocError, Global};
-use std::vec::IntoIter;
+use std::collections::VecDeque;
 
 /// A node that is still open: the field of its parent that it lies in, and the values of the nodes in
 /// it so far, each with the number of its field.
 #[derive(Drop)]
-struct OpenNode<'a> {
+pub struct OpenNode<'a> {
     field: u8,
     node: Node<'a>,
-    children: Vec<(u8, Value)>,
+    children: VecDeque<(u8, Value)>,
 }
 
 /// The JSON form of the tree with these pieces, `null` where they are those of no tree. Refused only for
 /// memory.
-pub fn tree_value(alloc: Global, pieces: &[Piece]) -> Result<Value, AllocError> {
+pub fn tree_value(alloc: Global, pieces: &[Piece]) -> Result<Value, AllocError>
+    ensures { IfOk result (λ value. IsFormWritten (view value) (map item_of pieces.now)) }
+{
     let mut open: Vec<OpenNode> = Vec::new(alloc);
     for piece in pieces {
         match piece {
             Piece::Open { field, node } => open.push(OpenNode {
                 field: *field,
                 node: *node,
-                children: Vec::new(alloc),
+                children: VecDeque::new(alloc),
             })?,
             Piece::Ident {
                 field,
@@ -53,22 +62,20 @@ pub fn tree_value(alloc: Global, pieces: &[Piece]) -> Result<Value, AllocError> 
     Ok(Value::Null)
 }
 
-// Whether the node is a `new` without a list of arguments.
-fn is_without_args(node: &Node) -> bool {
-    match node {
-        Node::NewExpr { has_args } => !*has_args,
-        _ => false,
-    }
-}
-
-fn add(open: &mut Vec<OpenNode>, field: u8, value: Value) -> Result<(), AllocError> {
-    if let Some(parent) = open.last_mut() {
-        parent.children.push((field, value))?;
+// Adds a value to the innermost of the open nodes.
+fn add(open: &mut Vec<OpenNode>, field: u8, value: Value) -> Result<(), AllocError>
+    ensures { OnOk result (frames open.new.items ≡ with_child (field, view value) (frames open.old.items)) }
+{
+    if let Some(mut parent) = open.pop() {
+        parent.children.push_back((field, value))?;
+        open.push(parent)?;
     }
     Ok(())
 }
 
-fn ident_value(alloc: Global, sym: &str, ctxt: u32) -> Result<Value, AllocError> {
+fn ident_value(alloc: Global, sym: &str, ctxt: u32) -> Result<Value, AllocError>
+    ensures { IfOk result (λ value. view value ≡ written (ident sym.now ctxt Reference)) }
+{
     let mut object = Object::new(alloc);
     object.put_text("type", "Ident")?;
     object.put_text("sym", sym)?;
@@ -78,71 +85,69 @@ fn ident_value(alloc: Global, sym: &str, ctxt: u32) -> Result<Value, AllocError>
     Ok(object.into_value())
 }
 
-fn node_value(alloc: Global, node: OpenNode) -> Result<Value, AllocError> {
-    let OpenNode { node, children, .. } = node;
-    let layout = layout_of(&node);
+fn node_value(alloc: Global, node: OpenNode) -> Result<Value, AllocError>
+    ensures { IfOk result (λ value. view value ≡ node_form (head_of node.entry.node) (map child_of node.entry.children.items)) }
+{
+    let OpenNode {
+        node,
+        mut children,
+        ..
+    } = node;
     let mut object = Object::new(alloc);
-    object.put_text("type", layout.name)?;
+    object.put_text("type", name_of(&node))?;
     object.put_scalars(&node)?;
-    let mut children = Children {
-        rest: children.into_iter(),
-        next: None,
-    };
-    children.advance();
-    for field in layout.fields {
+    for field in fields_of(&node) {
         if let Some(field) = field {
-            let value = children.field_value(alloc, &node, field)?;
+            let value = field_value(alloc, &mut children, field)?;
             object.put(field.key, value)?;
         }
     }
     Ok(object.into_value())
 }
 
-/// The values of a node's children that are still to be placed.
-#[derive(Drop)]
-struct Children {
-    rest: IntoIter<(u8, Value)>,
-    next: Option<(u8, Value)>,
+// What stands under the key of a field, taken from the front of `children`.
+fn field_value(
+    alloc: Global,
+    children: &mut VecDeque<(u8, Value)>,
+    field: Field,
+) -> Result<Value, AllocError>
+    ensures value { IfOk result (λ value. view value ≡ value_in field.shape field.number (map child_of children.old.items)) }
+    ensures rest { OnOk result (map child_of children.new.items ≡ rest_in field.shape field.number (map child_of children.old.items)) }
+{
+    match field.shape {
+        Shape::One => Ok(take(children, field.number).unwrap_or(Value::Null)),
+        Shape::Optional => Ok(take(children, field.number).unwrap_or(Value::Null)),
+        Shape::List => Ok(Value::Array(take_all(alloc, children, field.number)?)),
+        Shape::Places => Ok(Value::Array(take_all(alloc, children, field.number)?)),
+    }
 }
 
-impl Children {
-    fn advance(&mut self) {
-        self.next = self.rest.next();
+// The first of the values, if it lies in the field.
+fn take(children: &mut VecDeque<(u8, Value)>, field: u8) -> Option<Value>
+    ensures value { option_map view result ≡ first_in field (map child_of children.old.items) }
+    ensures rest { map child_of children.new.items ≡ after_first_in field (map child_of children.old.items) }
+{
+    match children.front() {
+        Some((number, _)) if *number == field => match children.pop_front() {
+            Some((_, value)) => Some(value),
+            None => None,
+        },
+        _ => None,
     }
+}
 
-    /// The next value, where it lies in the field `number`.
-    fn take(&mut self, number: u8) -> Option<Value> {
-        match self.next.take() {
-            Some((field, value)) if field == number => {
-                self.advance();
-                Some(value)
-            }
-            other => {
-                self.next = other;
-                None
-            }
-        }
+// The first of the values, as far as they lie in the field.
+fn take_all(
+    alloc: Global,
+    children: &mut VecDeque<(u8, Value)>,
+    field: u8,
+) -> Result<Vec<Value>, AllocError>
+    ensures values { IfOk result (λ list. map view list.items ≡ all_in field (map child_of children.old.items)) }
+    ensures rest { OnOk result (map child_of children.new.items ≡ after_all_in field (map child_of children.old.items)) }
+{
+    let mut list = Vec::new(alloc);
+    while let Some(value) = take(children, field) {
+        list.push(value)?;
     }
-
-    fn field_value(
-        &mut self,
-        alloc: Global,
-        node: &Node,
-        field: Field,
-    ) -> Result<Value, AllocError> {
-        match field.shape {
-            Shape::One | Shape::Optional => Ok(self.take(field.number).unwrap_or(Value::Null)),
-            Shape::OptionalList if is_without_args(node) => Ok(Value::Null),
-            Shape::List | Shape::OptionalList | Shape::Places => {
-                let mut list = Vec::new(alloc);
-                for _ in 0..u64::MAX {
-                    match self.take(field.number) {
-                        Some(value) => list.push(value)?,
-                        None => break,
-                    }
-                }
-                Ok(Value::Array(list))
-            }
-        }
-    }
+    Ok(list)
 }

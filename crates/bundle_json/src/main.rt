@@ -2,6 +2,7 @@
 #![tactic(auto)]
 
 use bundle_document::{answer, read_document};
+use std::io::Write;
 use std::process::ExitCode;
 
 fn main(rt: HostRuntime) -> ExitCode {
@@ -13,7 +14,10 @@ fn main(rt: HostRuntime) -> ExitCode {
                 let status = answer(alloc, document, hook, &mut rt.stdout(), &mut rt.stderr());
                 ExitCode::from(status)
             }
-            Err(_) => ExitCode::from(1),
+            Err(_) => {
+                let _ = rt.stderr().write_all(b"error 22: OutOfMemory\n");
+                ExitCode::from(1)
+            }
         },
         Err(status) => ExitCode::from(status),
     }

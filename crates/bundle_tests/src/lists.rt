@@ -3,6 +3,7 @@
 use bundle_ast::{ExportMetadata, Expr, Module};
 use bundle_build::{BuildError, build_items, build_module, build_properties};
 use bundle_form::{FormError, read_module, read_properties, tree_value};
+use bundle_marks::{marks, occurrences};
 use bundle_pieces::{Piece, Role, pieces, pieces_of_expr, pieces_of_module, pieces_of_properties};
 use serde_json::Value;
 use std::test::Fail;
@@ -76,6 +77,22 @@ fn a_list_gives_items_and_the_items_the_list(rt: HostRuntime) -> Result<(), Fail
     };
     let again = pieces(rt.alloc(), copy.body.as_slice())?;
     assert_eq!(rt; again.len(), items.len());
+    Ok(())
+}
+
+#[test]
+fn a_tree_has_its_marks(rt: HostRuntime) -> Result<(), Fail> {
+    let value = Value::from_slice(rt.alloc(), TEXT.as_bytes())?;
+    let meta = ExportMetadata::default();
+    let list = read_module(rt.alloc(), &value, &meta)?;
+    let module = build_module(rt.alloc(), list.as_slice())?;
+    // Fifteen nodes, which begin and end, and a, b, c, f, d; no hole, no word.
+    let all = marks(rt.alloc(), module.body.as_slice())?;
+    assert_eq!(rt; all.len(), 35);
+    let names = occurrences(rt.alloc(), module.body.as_slice())?;
+    assert_eq!(rt; names.len(), 5);
+    let first = names.as_slice().first();
+    assert!(rt; first.is_some_and(|name| name.binding && name.id.sym == "a"));
     Ok(())
 }
 

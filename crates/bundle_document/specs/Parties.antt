@@ -1,0 +1,43 @@
+-- What the program's loader, its resolver and its hook answer.
+use Rattle.std.specs.Prelude.{◌≡◌, ◌≢◌, List, [], ◌++◌, if◌then◌else◌, ℕ, eqb, codes, Option, None, IsSome, MatchOption, String, Vec, flat_map}
+use Rattle.std.specs.BTreeMap.{get_by_text}
+use Rattle.std.specs.declared.alloc.Global.{Global}
+use Rattle.std.specs.List.{ends_with}
+use Rattle.bundle_ast.specs.declared.expr.Expr.{Expr}
+use Rattle.bundle_ast.specs.declared.prop.KeyValueProp.{KeyValueProp}
+use Rattle.bundle_pieces.specs.Tree.{key_value_prop_items}
+use Rattle.bundle_name.specs.FileName.{Name, real, custom, name_of}
+use Rattle.bundle_tree.specs.declared.load.ModuleData.{ModuleData}
+use Rattle.bundle_document.specs.declared.parties.MetaHook.{MetaHook}
+
+-- a module is given under the name of its file
+abbrev pub MayLoad : Name → ModuleData → Type 0
+MayLoad file loaded = name_of loaded.file_name ≡ file
+
+-- a path, with `.js` behind it where it does not end so
+abbrev pub script_path : List ℕ → List ℕ
+script_path path = if ends_with eqb path (codes ".js") then path else path ++ codes ".js"
+
+-- the specifier `./r` leads to the file `r`, if there is an `r`
+pub record LeadsTo (specifier : List ℕ) (file : Name) : Type 0 where
+  pub path : List ℕ
+  pub is_there : path ≢ []
+  pub split : specifier ≡ codes "./" ++ path
+  pub found : file ≡ real (script_path path)
+
+-- the lists of a hook, by the names of their files
+abbrev pub lists_of : MetaHook → List (String Global × Vec (KeyValueProp Expr) Global)
+lists_of hook = hook.lists.entries
+
+-- the list of a hook for a file; only a real file has one
+abbrev pub list_of : MetaHook → Name → Option (Vec (KeyValueProp Expr) Global)
+list_of hook (real path) = get_by_text hook.lists path
+list_of hook (custom text) = None
+
+-- a hook has a list for the file
+abbrev pub HasList : MetaHook → Name → Type 0
+HasList hook file = IsSome (list_of hook file)
+
+-- these are trees as in the hook's list for the file, and none where it has no list
+abbrev pub GivesList : MetaHook → Name → List (KeyValueProp Expr) → Type 0
+GivesList hook file given = MatchOption (list_of hook file) (given ≡ []) (λ list. flat_map (key_value_prop_items 0) given ≡ flat_map (key_value_prop_items 0) list.items)

@@ -1,0 +1,9 @@
+-- What a look-up found, as data.
+use Rattle.std.specs.Prelude.{Option, option_map}
+use Rattle.std.specs.Borrow.{Bor}
+use Rattle.serde_json.specs.Data.{Data}
+use Rattle.serde_json.specs.View.{view}
+use Rattle.serde_json.specs.declared.value.Value.{Value}
+
+abbrev pub seen : Option (Bor Value) → Option Data
+seen found = option_map (λ value. view value.now) found

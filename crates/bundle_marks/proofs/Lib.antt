@@ -1,0 +1,5 @@
+pub mod ListLemmas
+pub mod MarksLemmas
+pub mod ProgressLemmas
+pub mod RenameLemmas
+pub mod StepLemmas

@@ -1,0 +1,4 @@
+pub mod Changes
+pub mod Marks
+pub mod Progress
+pub mod Spelled
