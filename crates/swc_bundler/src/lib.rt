@@ -4,14 +4,14 @@
 
 pub mod bundle;
 pub mod bundler;
-pub mod carried;
-pub mod items;
-pub mod library;
-pub mod link;
-pub mod load;
-pub mod names;
-pub mod order;
-pub mod unlinked;
+mod carried;
+mod items;
+mod library;
+mod link;
+mod load;
+mod names;
+mod order;
+mod unlinked;
 
 pub use bundle::{Bundle, BundleKind};
 pub use bundler::Bundler;
