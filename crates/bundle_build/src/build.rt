@@ -1,14 +1,14 @@
 //! What is left of a list, and the tree that it gives.
 
-ghost use Rattle.std.specs.Prelude.{◌≡◌, ◌+◌, IfOk, map, true};
+ghost use Rattle.std.specs.Prelude.{◌≡◌, ◌↔◌, ◌+◌, IfOk, IsTrue, map};
 ghost use Rattle.std.specs.List.{flat_map};
 ghost use Rattle.bundle_piece.specs.Item.{item_of};
 ghost use Rattle.bundle_pieces.specs.Tree.{key_value_prop_items, module_item_items, module_items};
 
-use crate::same::are_same;
 use bundle_ast::{KeyValueProp, Module, ModuleItem};
 use bundle_piece::{Node, Piece, Role};
 use bundle_pieces::{pieces as pieces_of_items, pieces_of_module, pieces_of_properties};
+use bundle_same::are_same;
 use std::alloc::{AllocError, AllocFailed, Global};
 use std::fmt;
 
@@ -21,25 +21,42 @@ pub enum BuildError {
     OutOfMemory,
 }
 
+/// Writes why.
 impl fmt::Display for BuildError {
+    ghost use Rattle.std.specs.Prelude.{Some};
+    ghost use Rattle.bundle_build.specs.Error.{shown};
+
+    ghost output = { λ refusal. Some (shown refusal) };
+
     fn fmt<W: fmt::Write>(&self, f: &mut fmt::Formatter<W>) -> fmt::Result {
-        f.write_str(match self {
+        let reason = match self {
             BuildError::Form => "not the list of a tree",
             BuildError::OutOfMemory => "out of memory",
-        })
+        };
+        write!(f, "{reason}")
     }
 }
 
 impl std::error::Error for BuildError {}
 
 impl From<AllocError> for BuildError {
-    fn from(_: AllocError) -> BuildError {
+    ghost use Rattle.std.specs.Prelude.{◌≡◌};
+    ghost use Rattle.bundle_build.specs.declared.build.BuildError.TheVariants.{OutOfMemory};
+
+    ghost from_gives = { λ _ refusal. refusal ≡ OutOfMemory };
+
+    fn from(_refused: AllocError) -> BuildError {
         BuildError::OutOfMemory
     }
 }
 
 impl<T: Drop> From<AllocFailed<T>> for BuildError {
-    fn from(_: AllocFailed<T>) -> BuildError {
+    ghost use Rattle.std.specs.Prelude.{◌≡◌};
+    ghost use Rattle.bundle_build.specs.declared.build.BuildError.TheVariants.{OutOfMemory};
+
+    ghost from_gives = { λ _ refusal. refusal ≡ OutOfMemory };
+
+    fn from(_refused: AllocFailed<T>) -> BuildError {
         BuildError::OutOfMemory
     }
 }
@@ -92,7 +109,7 @@ fn is_list_of_module<'a>(
     pieces: &[Piece<'a>],
     module: &Module,
 ) -> Result<bool, AllocError>
-    ensures { IfOk result (λ same. same ≡ true → module_items 0 «module».now ≡ map item_of pieces.now) }
+    ensures { IfOk result (λ same. IsTrue same ↔ (module_items 0 «module».now ≡ map item_of pieces.now)) }
 {
     let list = pieces_of_module(alloc, module)?;
     Ok(are_same(list.as_slice(), pieces))
@@ -104,7 +121,7 @@ fn is_list_of_items<'a>(
     pieces: &[Piece<'a>],
     items: &[ModuleItem],
 ) -> Result<bool, AllocError>
-    ensures { IfOk result (λ same. same ≡ true → flat_map (module_item_items 0) items.now ≡ map item_of pieces.now) }
+    ensures { IfOk result (λ same. IsTrue same ↔ (flat_map (module_item_items 0) items.now ≡ map item_of pieces.now)) }
 {
     let list = pieces_of_items(alloc, items)?;
     Ok(are_same(list.as_slice(), pieces))
@@ -116,7 +133,7 @@ fn is_list_of_properties<'a>(
     pieces: &[Piece<'a>],
     properties: &[KeyValueProp],
 ) -> Result<bool, AllocError>
-    ensures { IfOk result (λ same. same ≡ true → flat_map (key_value_prop_items 0) properties.now ≡ map item_of pieces.now) }
+    ensures { IfOk result (λ same. IsTrue same ↔ (flat_map (key_value_prop_items 0) properties.now ≡ map item_of pieces.now)) }
 {
     let list = pieces_of_properties(alloc, properties)?;
     Ok(are_same(list.as_slice(), pieces))

@@ -10,7 +10,6 @@ pub mod names;
 pub mod operators;
 pub mod pats;
 pub mod props;
-mod same;
 pub mod stmts;
 
 pub use build::{BuildError, build_items, build_module, build_properties};

@@ -14,18 +14,33 @@ pub enum DocumentError {
 }
 
 impl From<AllocError> for DocumentError {
-    fn from(_: AllocError) -> DocumentError {
+    ghost use Rattle.std.specs.Prelude.{◌≡◌};
+    ghost use Rattle.bundle_document.specs.declared.error.DocumentError.TheVariants.{OutOfMemory};
+
+    ghost from_gives = { λ _ refusal. refusal ≡ OutOfMemory };
+
+    fn from(_refused: AllocError) -> DocumentError {
         DocumentError::OutOfMemory
     }
 }
 
 impl<T: Drop> From<AllocFailed<T>> for DocumentError {
-    fn from(_: AllocFailed<T>) -> DocumentError {
+    ghost use Rattle.std.specs.Prelude.{◌≡◌};
+    ghost use Rattle.bundle_document.specs.declared.error.DocumentError.TheVariants.{OutOfMemory};
+
+    ghost from_gives = { λ _ refusal. refusal ≡ OutOfMemory };
+
+    fn from(_refused: AllocFailed<T>) -> DocumentError {
         DocumentError::OutOfMemory
     }
 }
 
 impl From<FormError> for DocumentError {
+    ghost use Rattle.std.specs.Prelude.{◌≡◌};
+    ghost use Rattle.bundle_document.specs.Error.{of_form};
+
+    ghost from_gives = { λ error refusal. refusal ≡ of_form error };
+
     fn from(error: FormError) -> DocumentError {
         match error {
             FormError::Form => DocumentError::Form,
@@ -35,6 +50,11 @@ impl From<FormError> for DocumentError {
 }
 
 impl From<BuildError> for DocumentError {
+    ghost use Rattle.std.specs.Prelude.{◌≡◌};
+    ghost use Rattle.bundle_document.specs.Error.{of_list};
+
+    ghost from_gives = { λ error refusal. refusal ≡ of_list error };
+
     fn from(error: BuildError) -> DocumentError {
         match error {
             BuildError::Form => DocumentError::Form,

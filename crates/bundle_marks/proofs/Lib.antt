@@ -1,5 +1,1 @@
-pub mod ListLemmas
-pub mod MarksLemmas
-pub mod ProgressLemmas
-pub mod RenameLemmas
-pub mod StepLemmas
+pub mod RenamingLemmas

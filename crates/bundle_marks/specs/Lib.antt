@@ -1,4 +1,1 @@
-pub mod Changes
-pub mod Marks
-pub mod Progress
-pub mod Spelled
+pub mod Idents

@@ -4,10 +4,10 @@ ghost use Rattle.std.specs.Prelude.{◌≡◌, IfOk, map};
 ghost use Rattle.std.specs.List.{flat_map};
 ghost use Rattle.bundle_pieces.specs.Tree.{module_item_items};
 ghost use Rattle.bundle_terms.specs.Rebuilds.{listed, marks_of as marks_of_lem};
-ghost use Rattle.bundle_marks.specs.Marks.{listed_of, mark_of};
+ghost use Rattle.bundle_lists.specs.Marks.{listed_of, mark_of};
 
-use crate::mark::{Mark, Occurrence, marks_of, occurrences_of};
 use bundle_ast::ModuleItem;
+use bundle_lists::{Mark, Occurrence, marks_of, occurrences_of};
 use bundle_pieces::pieces;
 use std::alloc::{AllocError, Global};
 

@@ -1,19 +1,12 @@
-//! The marks of a tree and its occurrences, read off its list; and the list with other identifiers, where what
-//! is short is spelled out as a symbol changes.
+//! The marks of a tree and its occurrences; and the tree with other identifiers, where what is short is spelled
+//! out as a symbol changes.
 #![tactic(auto)]
 
-pub mod change;
 pub mod items;
-pub mod mark;
-pub mod rebuild;
 pub mod rename;
-mod spell;
+pub mod same;
 
-pub use change::Change;
+pub use bundle_lists::{Mark, Name, Node, Occurrence};
 pub use items::{marks, occurrences};
-pub use mark::{Mark, Name, Node, Occurrence, marks_of, occurrences_of};
-pub use rebuild::rebuilt_in;
-pub use rename::{renamed_in, with_idents_in};
-
-#[cfg(test)]
-mod tests;
+pub use rename::{rename_ids, with_idents};
+pub use same::is_same;

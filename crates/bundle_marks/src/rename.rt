@@ -1,95 +1,111 @@
-//! The list of a tree with each identifier another, in turn or by a map. What is short is spelled out where
-//! a symbol changes.
+//! The items of a module with each identifier another, in turn or by a map. What is short is spelled out
+//! where a symbol changes.
 
-ghost use Rattle.std.specs.Prelude.{◌≡◌, IfOk, map};
-ghost use Rattle.bundle_piece.specs.Item.{item_of};
-ghost use Rattle.bundle_terms.specs.Rebuilds.{becomes_by as becomes_by_lem, change_to as change_to_lem, changes_to, renamed_by, with_idents};
-ghost use Rattle.bundle_marks.specs.Changes.{change_of};
-ghost use Rattle.bundle_marks.specs.Marks.{ident_of, pair_of_idents};
+ghost use Rattle.std.specs.Prelude.{◌≡◌, IfOk, map, unwrap_or};
+ghost use Rattle.std.specs.List.{flat_map};
+ghost use Rattle.std.specs.Map.{lookup};
+ghost use Rattle.bundle_pieces.specs.Tree.{module_item_items};
+ghost use Rattle.bundle_terms.specs.Rebuilds.{becomes_by, change_to as change_to_lem, changes_to, ident_eq, renamed_by, with_idents as with_idents_lem};
+ghost use Rattle.bundle_lists.specs.Changes.{change_of};
+ghost use Rattle.bundle_lists.specs.Marks.{ident_of};
+ghost use Rattle.bundle_marks.specs.Idents.{ident_in, ident_named, pair_named};
 
-use crate::change::Change;
-use crate::mark::{Name, Occurrence, occurrences_of};
-use crate::rebuild::rebuilt_in;
-use bundle_piece::Piece;
+use crate::items::occurrences;
+use bundle_ast::{Ident, ModuleItem};
+use bundle_id::SyntaxContext;
+use bundle_lists::{Change, Name, Occurrence};
+use bundle_rebuild::rebuild_items;
+use bundle_tree::Id;
 use std::alloc::{AllocError, Global};
 use std::collections::BTreeMap;
 
-/// The list with these identifiers at its occurrences in turn; nothing else changes but what is spelled out.
-/// The caller hands in one for each; an occurrence for which there is none stays. Refused only where memory
-/// runs out.
-pub fn with_idents_in<'a>(
+/// The items with these identifiers at their occurrences in turn; nothing else changes but what is spelled
+/// out: a shorthand of an object literal or a pattern, and an import or export specifier of one name, where
+/// the symbol changes (ECMA-262, 13.2.5, 14.3.3, 16.2.2 and 16.2.3). The caller hands in one for each; an
+/// occurrence for which there is none stays. Refused only where memory runs out.
+pub fn with_idents(
     alloc: Global,
-    pieces: &[Piece<'a>],
-    idents: &[Name<'a>],
-) -> Result<Vec<Piece<'a>>, AllocError>
-    ensures { IfOk result (λ list. map item_of list.items ≡ with_idents (map item_of pieces.now) (map ident_of idents.now)) }
+    items: &[ModuleItem],
+    idents: &[Ident],
+) -> Result<Vec<ModuleItem>, AllocError>
+    ensures { IfOk result (λ made. flat_map (module_item_items 0) made.items ≡ with_idents_lem (flat_map (module_item_items 0) items.now) (map ident_in idents.now)) }
 {
-    let occurrences = occurrences_of(alloc, pieces)?;
-    let changes = changes_between(alloc, &occurrences, idents)?;
-    rebuilt_in(alloc, pieces, &changes)
+    let listed = occurrences(alloc, items)?;
+    let changes = changes_between(alloc, &listed, idents)?;
+    rebuild_items(alloc, items, &changes)
 }
 
-/// The list with each identifier that binds or refers mapped; one that is not in the map stays. Refused only
-/// where memory runs out.
-pub fn renamed_in<'a>(
+/// The items with each identifier that binds or refers mapped; one that is not in the map stays, and keys and
+/// exported names stay, since what is short is spelled out where the symbol changes. Refused only where memory
+/// runs out.
+pub fn rename_ids<'a>(
     alloc: Global,
-    pieces: &[Piece<'a>],
-    renaming: &BTreeMap<Name<'a>, Name<'a>>,
-) -> Result<Vec<Piece<'a>>, AllocError>
-    ensures { IfOk result (λ list. map item_of list.items ≡ renamed_by (map pair_of_idents renaming.now.entries) (map item_of pieces.now)) }
+    items: &'a [ModuleItem],
+    renaming: &'a BTreeMap<Id, Id>,
+) -> Result<Vec<ModuleItem>, AllocError>
+    ensures { IfOk result (λ made. flat_map (module_item_items 0) made.items ≡ renamed_by (map pair_named renaming.now.entries) (flat_map (module_item_items 0) items.now)) }
 {
-    let occurrences = occurrences_of(alloc, pieces)?;
-    let changes = changes_by(alloc, &occurrences, renaming)?;
-    rebuilt_in(alloc, pieces, &changes)
+    let listed = occurrences(alloc, items)?;
+    let changes = changes_by(alloc, &listed, renaming)?;
+    rebuild_items(alloc, items, &changes)
 }
 
 // The changes of these occurrences to these identifiers in turn.
-fn changes_between<'a>(
+fn changes_between<'a, 'b>(
     alloc: Global,
-    occurrences: &[Occurrence<'a>],
-    idents: &[Name<'a>],
-) -> Result<Vec<Change<'a>>, AllocError>
-    ensures { IfOk result (λ changes. map change_of changes.items ≡ changes_to (map (λ o. ident_of o.id) occurrences.now) (map ident_of idents.now)) }
+    listed: &[Occurrence<'a>],
+    idents: &'b [Ident],
+) -> Result<Vec<Change<'b>>, AllocError>
+    ensures { IfOk result (λ changes. map change_of changes.items ≡ changes_to (map (λ o. ident_of o.id) listed.now) (map ident_in idents.now)) }
 {
     let mut changes = Vec::new(alloc);
-    for (old, new) in occurrences.iter().zip(idents) {
-        changes.push(change_to(old.id, *new))?;
+    for (old, new) in listed.iter().zip(idents) {
+        let ident = Name {
+            sym: new.sym.as_str(),
+            ctxt: new.ctxt.as_u32(),
+        };
+        changes.push(Change {
+            ident,
+            is_spelled_out: old.id.sym != ident.sym,
+        })?;
     }
     Ok(changes)
 }
 
-// The changes of these occurrences to what they become.
+// The changes of these occurrences to what they become. One text serves to ask the map for each of them.
 fn changes_by<'a>(
     alloc: Global,
-    occurrences: &[Occurrence<'a>],
-    renaming: &BTreeMap<Name<'a>, Name<'a>>,
+    listed: &[Occurrence<'a>],
+    renaming: &'a BTreeMap<Id, Id>,
 ) -> Result<Vec<Change<'a>>, AllocError>
-    ensures { IfOk result (λ changes. map change_of changes.items ≡ map (λ o. change_to_lem (ident_of o.id) (becomes_by_lem (map pair_of_idents renaming.now.entries) (ident_of o.id))) occurrences.now) }
+    ensures { IfOk result (λ changes. map change_of changes.items ≡ map (λ o. change_to_lem (ident_of o.id) (becomes_by (map pair_named renaming.now.entries) (ident_of o.id))) listed.now) }
 {
     let mut changes = Vec::new(alloc);
-    for occurrence in occurrences {
+    let mut text = String::new(alloc);
+    for occurrence in listed {
         let old = occurrence.id;
-        changes.push(change_to(old, becomes_by(renaming, old)))?;
+        text.clear();
+        text.push_str(old.sym)?;
+        let id = Id::new(text, SyntaxContext::from_u32(old.ctxt));
+        let ident = becomes(renaming, &id, old);
+        text = id.into_ident().sym;
+        changes.push(Change {
+            ident,
+            is_spelled_out: old.sym != ident.sym,
+        })?;
     }
     Ok(changes)
 }
 
-// One identifier in the place of another.
-fn change_to<'a>(old: Name<'a>, new: Name<'a>) -> Change<'a>
-    ensures { change_of result ≡ change_to_lem (ident_of old.entry) (ident_of new.entry) }
+// What the identifier of this name becomes.
+fn becomes<'a>(renaming: &'a BTreeMap<Id, Id>, id: &Id, ident: Name<'a>) -> Name<'a>
+    ensures { ident_of result ≡ unwrap_or (lookup (ident_eq (ident_named id.now)) (map pair_named renaming.now.entries)) (ident_of ident.entry) }
 {
-    Change {
-        ident: new,
-        is_spelled_out: old.sym != new.sym,
-    }
-}
-
-// What an identifier becomes.
-fn becomes_by<'a>(renaming: &BTreeMap<Name<'a>, Name<'a>>, ident: Name<'a>) -> Name<'a>
-    ensures { ident_of result ≡ becomes_by_lem (map pair_of_idents renaming.now.entries) (ident_of ident.entry) }
-{
-    match renaming.get(&ident) {
-        Some(new) => *new,
+    match renaming.get(id) {
+        Some(new) => Name {
+            sym: new.sym(),
+            ctxt: new.ctxt().as_u32(),
+        },
         None => ident,
     }
 }

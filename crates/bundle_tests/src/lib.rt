@@ -11,4 +11,6 @@ mod lists;
 #[cfg(test)]
 mod numbers;
 #[cfg(test)]
+mod renames;
+#[cfg(test)]
 mod trees;

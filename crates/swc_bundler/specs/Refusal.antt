@@ -9,10 +9,17 @@ use Rattle.bundle_tree.specs.declared.load.LoadError.{LoadError}
 use Rattle.bundle_tree.specs.declared.load.LoadError.TheVariants.{Failed as LoadFailed, OutOfMemory as LoadNoMemory}
 use Rattle.bundle_tree.specs.declared.resolve.ResolveError.{ResolveError}
 use Rattle.bundle_tree.specs.declared.resolve.ResolveError.TheVariants.{Failed as ResolveFailed, OutOfMemory as ResolveNoMemory}
+use Rattle.bundle_build.specs.declared.build.BuildError.{BuildError}
+use Rattle.bundle_build.specs.declared.build.BuildError.TheVariants.{Form as NoTree, OutOfMemory as NoRoom}
 use Rattle.bundle_kept.specs.declared.kept.Request.{Request}
 use Rattle.swc_bundler.specs.declared.unlinked.Unlinked.{Unlinked}
 use Rattle.swc_bundler.specs.declared.unlinked.Unlinked.TheVariants.{NotYet as NotLinked, OutOfMemory as NoMemory}
 use Rattle.bundle_kept.specs.Contents.{Contents, tree_of, target_of}
+
+-- why trees are not linked, where a list of them gives no tree: what the bundler does not carry
+abbrev pub unlinked_of : BuildError → Unlinked
+unlinked_of NoTree = NotLinked
+unlinked_of NoRoom = NoMemory
 
 -- the refusal of a bundle where trees are not linked
 abbrev pub error_of : Unlinked → Error

@@ -12,18 +12,33 @@ pub enum Unlinked {
 }
 
 impl From<AllocError> for Unlinked {
+    ghost use Rattle.std.specs.Prelude.{◌≡◌};
+    ghost use Rattle.swc_bundler.specs.declared.unlinked.Unlinked.TheVariants.{OutOfMemory};
+
+    ghost from_gives = { λ _ refusal. refusal ≡ OutOfMemory };
+
     fn from(_refused: AllocError) -> Unlinked {
         Unlinked::OutOfMemory
     }
 }
 
 impl<T: Drop> From<AllocFailed<T>> for Unlinked {
+    ghost use Rattle.std.specs.Prelude.{◌≡◌};
+    ghost use Rattle.swc_bundler.specs.declared.unlinked.Unlinked.TheVariants.{OutOfMemory};
+
+    ghost from_gives = { λ _ refusal. refusal ≡ OutOfMemory };
+
     fn from(_refused: AllocFailed<T>) -> Unlinked {
         Unlinked::OutOfMemory
     }
 }
 
 impl From<BuildError> for Unlinked {
+    ghost use Rattle.std.specs.Prelude.{◌≡◌};
+    ghost use Rattle.swc_bundler.specs.Refusal.{unlinked_of};
+
+    ghost from_gives = { λ error refusal. refusal ≡ unlinked_of error };
+
     fn from(error: BuildError) -> Unlinked {
         match error {
             BuildError::Form => Unlinked::NotYet,

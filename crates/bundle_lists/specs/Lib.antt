@@ -1,0 +1,5 @@
+pub mod Changes
+pub mod Edits
+pub mod Marks
+pub mod Progress
+pub mod Spelled

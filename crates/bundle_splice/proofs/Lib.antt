@@ -1,0 +1,5 @@
+pub mod ClearedExamples
+pub mod ClearedLemmas
+pub mod ProgressLemmas
+pub mod ReplacedExamples
+pub mod TableLemmas
