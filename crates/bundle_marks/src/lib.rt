@@ -4,9 +4,7 @@
 
 pub mod items;
 pub mod rename;
-pub mod same;
 
 pub use bundle_lists::{Mark, Name, Node, Occurrence};
 pub use items::{marks, occurrences};
 pub use rename::{rename_ids, with_idents};
-pub use same::is_same;

@@ -5,5 +5,5 @@
 pub mod rebuild;
 pub mod try_clone;
 
-pub use rebuild::{rebuild_expr, rebuild_items, rebuild_module};
+pub use rebuild::rebuild_items;
 pub use try_clone::TryClone;

@@ -2,7 +2,7 @@
 
 ghost use Rattle.std.specs.Prelude.{◌≡◌, [], IfOk, drop, map, option_map};
 ghost use Rattle.std.specs.List.{flat_map};
-ghost use Rattle.bundle_pieces.specs.Tree.{expr_items, module_item_items, module_items};
+ghost use Rattle.bundle_pieces.specs.Tree.{module_item_items};
 ghost use Rattle.bundle_terms.specs.Rebuilds.{rebuilt, spells_out as spells_out_lem};
 ghost use Rattle.bundle_lists.specs.Changes.{change_of};
 ghost use Rattle.bundle_lists.specs.Edits.{Anywhere, next};
@@ -18,7 +18,7 @@ pub mod pats;
 pub mod props;
 pub mod stmts;
 
-use bundle_ast::{Expr, Module, ModuleItem};
+use bundle_ast::ModuleItem;
 use bundle_lists::Change;
 use std::alloc::{AllocError, Global};
 use std::marker::Model;
@@ -34,28 +34,6 @@ pub fn rebuild_items(
 {
     let mut rebuild = Rebuild::new(alloc, changes);
     rebuild.each_module_item(items)
-}
-
-/// The module made anew, with these changes of its occurrences in turn; an occurrence for which no change is
-/// left stays, so without changes this is a copy. Refused only where memory runs out.
-pub fn rebuild_module(
-    alloc: Global,
-    module: &Module,
-    changes: &[Change],
-) -> Result<Module, AllocError>
-    ensures { IfOk result (λ made. module_items 0 made ≡ rebuilt (module_items 0 «module».now) (map change_of changes.now)) }
-{
-    let mut rebuild = Rebuild::new(alloc, changes);
-    rebuild.module(module)
-}
-
-/// The expression made anew, with these changes of its occurrences in turn; an occurrence for which no change
-/// is left stays, so without changes this is a copy. Refused only where memory runs out.
-pub fn rebuild_expr(alloc: Global, expr: &Expr, changes: &[Change]) -> Result<Expr, AllocError>
-    ensures { IfOk result (λ made. expr_items 0 made ≡ rebuilt (expr_items 0 expr.now) (map change_of changes.now)) }
-{
-    let mut rebuild = Rebuild::new(alloc, changes);
-    rebuild.expr(expr)
 }
 
 /// The changes, and how many of them were taken. Each method makes one part of a tree anew. Clauses see the

@@ -9,9 +9,10 @@ use crate::listing::{add_marks, add_occurrences};
 use anyhow::{Context, Result};
 use bundle_ast::{ExportMetadata, Ident, Module, ModuleItem};
 use bundle_build::build_module;
+use bundle_equal::is_same;
 use bundle_form::read_module;
 use bundle_id::SyntaxContext;
-use bundle_marks::{is_same, occurrences, with_idents};
+use bundle_marks::{occurrences, with_idents};
 use bundle_rebuild::rebuild_items;
 use serde_json::Value;
 use std::alloc::{AllocError, Global};
@@ -72,9 +73,9 @@ fn add_rebuilt(alloc: Global, text: &mut String, items: &[ModuleItem]) -> Result
     let copy = Module {
         body: rebuild_items(alloc, items, &[])?,
     };
-    let copied = said(is_same(alloc, items, copy.body.as_slice())?);
+    let copied = said(is_same(items, copy.body.as_slice()));
     let renamed = with_own_idents(alloc, items)?;
-    let renamed = said(is_same(alloc, items, renamed.body.as_slice())?);
+    let renamed = said(is_same(items, renamed.body.as_slice()));
     writeln!(text, "rebuilt without changes: {copied}")?;
     writeln!(text, "rebuilt with each identifier by itself: {renamed}\n")
 }

@@ -1,12 +1,13 @@
 //! Trees with other identifiers, copies of trees, and trees compared.
 
-use bundle_ast::{ExportMetadata, Expr, Ident, Module};
+use bundle_ast::{ExportMetadata, Ident, Module};
 use bundle_build::build_module;
+use bundle_equal::{is_same, is_same_module};
 use bundle_form::{read_module, tree_value};
 use bundle_id::SyntaxContext;
-use bundle_marks::{is_same, rename_ids, with_idents};
+use bundle_marks::{rename_ids, with_idents};
 use bundle_pieces::pieces_of_module;
-use bundle_rebuild::{TryClone, rebuild_expr, rebuild_items, rebuild_module};
+use bundle_rebuild::{TryClone, rebuild_items};
 use bundle_tree::Id;
 use serde_json::Value;
 use std::alloc::Global;
@@ -71,14 +72,11 @@ fn a_map_renames(rt: HostRuntime) -> Result<(), Fail> {
 #[test]
 fn without_changes_a_tree_stays(rt: HostRuntime) -> Result<(), Fail> {
     let module = module_of(rt.alloc(), SHORT)?;
-    let whole = rebuild_module(rt.alloc(), &module, &[])?;
     let made = Module {
-        body: rebuild_items(rt.alloc(), whole.body.as_slice(), &[])?,
+        body: rebuild_items(rt.alloc(), module.body.as_slice(), &[])?,
     };
     let text = text_of(rt.alloc(), &made)?;
     assert_eq!(rt; text.as_str(), SHORT);
-    let expr = rebuild_expr(rt.alloc(), &Expr::ThisExpr, &[])?;
-    assert!(rt; matches!(&expr, Expr::ThisExpr));
     Ok(())
 }
 
@@ -86,10 +84,10 @@ fn without_changes_a_tree_stays(rt: HostRuntime) -> Result<(), Fail> {
 fn a_copy_is_the_same(rt: HostRuntime) -> Result<(), Fail> {
     let module = module_of(rt.alloc(), SHORT)?;
     let copy = module.try_clone(rt.alloc())?;
-    let same = is_same(rt.alloc(), module.body.as_slice(), copy.body.as_slice())?;
-    assert!(rt; same);
+    assert!(rt; is_same(module.body.as_slice(), copy.body.as_slice()));
+    assert!(rt; is_same_module(&module, &copy));
     let other = module_of(rt.alloc(), SPELLED_OUT)?;
-    let same = is_same(rt.alloc(), module.body.as_slice(), other.body.as_slice())?;
-    assert!(rt; !same);
+    assert!(rt; !is_same(module.body.as_slice(), other.body.as_slice()));
+    assert!(rt; !is_same_module(&module, &other));
     Ok(())
 }

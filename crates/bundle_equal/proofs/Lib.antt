@@ -1,0 +1,10 @@
+pub mod Agree
+pub mod Cut
+pub mod Leaves
+pub mod Modules
+pub mod Numbers
+pub mod Part
+pub mod Ring
+pub mod Rows
+pub mod Singles
+pub mod Trees
