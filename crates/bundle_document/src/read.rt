@@ -22,7 +22,7 @@ use bundle_name::file_name::FileName;
 use serde_json::{Map, Value};
 use std::alloc::Global;
 use std::collections::BTreeMap;
-use std::io::{Read, Write};
+use std::io::{ErrorKind, Read, Write};
 
 // The properties of `import.meta`, by the names of files.
 type Lists = BTreeMap<String, Vec<KeyValueProp>>;
@@ -44,8 +44,11 @@ pub fn read_document<R: Read + Drop, E: Write>(
     ensures refused { IfErr result (λ status. (line : List ℕ) × IsRefusalLine status line × AppendsFront (E.contents errors.old) (E.contents errors.new) line) }
 {
     let mut text = Vec::new(alloc);
-    if input.read_to_end(&mut text).is_err() {
-        return Err(refuse(errors, b"error: input\n", 2));
+    if let Err(error) = input.read_to_end(&mut text) {
+        return Err(match error.kind() {
+            ErrorKind::OutOfMemory => refuse(errors, b"error 22: OutOfMemory\n", 1),
+            _ => refuse(errors, b"error: input\n", 2),
+        });
     }
     match judged(alloc, text.as_slice()) {
         Ok((document, lists)) => Ok((document, MetaHook::new(lists))),

@@ -6,7 +6,7 @@ use Rattle.bundle_piece.specs.declared.piece.Role.TheVariants.{Binding, Referenc
 use Rattle.bundle_piece.specs.Item as h
 use Rattle.bundle_piece.specs.Item.{Item}
 use Rattle.bundle_places.specs.Places.{Spot, start, past, occurrences_from, is_binding}
-use Rattle.bundle_terms.specs.Headline.{ident_of}
+use Rattle.bundle_terms.specs.Idents.{ident_of}
 use Rattle.bundle_terms.specs.Rebuilds.{listed}
 use Rattle.bundle_lists.specs.Marks.{listed_as}
 

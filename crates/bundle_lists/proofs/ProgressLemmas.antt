@@ -11,7 +11,7 @@ use Rattle.bundle_places.specs.Places as places
 use Rattle.bundle_places.specs.Places.{Spot, start, past, path_past, path_to, path_to_option, path_at, in_field, outer_path, spot_before, occurrences_from}
 use Rattle.bundle_places.proofs.PlacesLemmas.{spot_before-next}
 use Rattle.bundle_terms.specs.Nodes.{Text}
-use Rattle.bundle_terms.specs.Headline.{Ident}
+use Rattle.bundle_terms.specs.Idents.{Ident}
 use Rattle.bundle_terms.specs.Meaning.{ends_at, has_default, is_object, is_shorthand_in_pattern, symbol_of}
 use Rattle.bundle_terms.specs.Shape.{is_specifier}
 use Rattle.bundle_terms.specs.Rebuilds.{Change, change_at, spells_out, is_key_spelled_out, pattern_front, new_begin, new_end, new_occurrence, new_item, spelled_out, rebuilt_from, rebuilt}

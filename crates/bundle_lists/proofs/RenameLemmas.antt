@@ -11,8 +11,8 @@ use Rattle.std.proofs.lemmas.Map.Text.{is_eq-slice_cmp}
 use Rattle.bundle_piece.specs.Item.{Item}
 use Rattle.bundle_places.specs.Places.{occurrences, is_binding}
 use Rattle.bundle_places.specs.Places as places
-use Rattle.bundle_terms.specs.Headline as headline
-use Rattle.bundle_terms.specs.Headline.{Ident, idents}
+use Rattle.bundle_terms.specs.Idents as terms
+use Rattle.bundle_terms.specs.Idents.{Ident, idents}
 use Rattle.bundle_terms.specs.Rebuilds.{Change, listed, change_to, changes_to, ident_eq, becomes_by, rebuilt, with_idents, renamed_by}
 use Rattle.bundle_lists.specs.declared.mark.Name.{Name}
 use Rattle.bundle_lists.specs.declared.mark.Occurrence.{Occurrence}
@@ -30,7 +30,7 @@ pub idents-listed : (tree : List Item) (all : List Occurrence) → map listed_of
 idents-listed tree all e =
     sym (map-map (λ pair. pair.0) listed_of all)
     ∙ ap (map (λ pair. pair.0)) e
-    ∙ map-map (λ pair. pair.0) (λ (o : places.Occurrence). (headline.ident_of o, is_binding o.role)) (occurrences tree)
+    ∙ map-map (λ pair. pair.0) (λ (o : places.Occurrence). (terms.ident_of o, is_binding o.role)) (occurrences tree)
 
 -- the changes to what identifiers are mapped to
 pub changes_to-map : {A : Type 0} (f : Ident → Ident) (old : A → Ident) (xs : List A) → changes_to (map old xs) (map f (map old xs)) ≡ map (λ x. change_to (old x) (f (old x))) xs

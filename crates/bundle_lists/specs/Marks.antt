@@ -4,7 +4,7 @@ use Rattle.bundle_piece.specs.declared.piece.Role.TheVariants.{Word}
 use Rattle.bundle_piece.specs.Item as h
 use Rattle.bundle_piece.specs.Item.{Item, head_of}
 use Rattle.bundle_places.specs.Places.{is_binding}
-use Rattle.bundle_terms.specs.Headline.{Ident}
+use Rattle.bundle_terms.specs.Idents.{Ident}
 use Rattle.bundle_terms.specs.Rebuilds.{TreeMark, Begins, BeginsWord, Ends, Occurs, Listed}
 use Rattle.bundle_lists.specs.declared.mark.Name.{Name}
 use Rattle.bundle_lists.specs.declared.mark.Occurrence.{Occurrence}

@@ -5,7 +5,7 @@ use Rattle.bundle_piece.specs.declared.piece.Role.TheVariants.{Word as IsWord}
 use Rattle.bundle_piece.specs.Item as h
 use Rattle.bundle_piece.specs.Item.{Item, Head}
 use Rattle.bundle_terms.specs.Nodes.{Text}
-use Rattle.bundle_terms.specs.Headline.{Ident}
+use Rattle.bundle_terms.specs.Idents.{Ident}
 use Rattle.bundle_terms.specs.Meaning.{is_object, is_shorthand_in_pattern}
 use Rattle.bundle_terms.specs.Shape.{is_specifier}
 use Rattle.bundle_terms.specs.Rebuilds.{Change, key_in_object, pattern_front}

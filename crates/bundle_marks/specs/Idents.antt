@@ -1,7 +1,7 @@
 -- What the identifiers of a tree, and the names of bindings, stand for.
 use Rattle.std.specs.Prelude.{string_bytes}
 use Rattle.bundle_leaf.specs.declared.ident.Ident as v_ident
-use Rattle.bundle_terms.specs.Headline.{Ident}
+use Rattle.bundle_terms.specs.Idents.{Ident}
 use Rattle.bundle_tree.specs.IdName.{IdName}
 
 -- an identifier of a tree: its symbol and its context

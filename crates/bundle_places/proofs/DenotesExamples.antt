@@ -10,7 +10,7 @@ use Rattle.bundle_piece.specs.Item.{Item}
 use Rattle.bundle_places.specs.Places.{Occurrence, occurrence_at}
 use Rattle.bundle_places.specs.Scopes.{Es, Cjs, Parameters, Block, Top, Wrapper, Inner}
 use Rattle.bundle_places.specs.Declarations.{BySymbol, ByContext, Name}
-use Rattle.bundle_places.specs.Denotes.{Bound, Global, denotations, denoted_at, IsUnbound, DenotesTop, IsResolved}
+use Rattle.bundle_places.specs.Denotes.{Bound, Global, denotations, denoted_at, IsResolved}
 use Rattle.bundle_places.proofs.SmallTrees.{node, reads, declares_in, block_of, parameter, declares_function}
 
 -- a symbol with a context, and one that no identifier declares
@@ -28,7 +28,7 @@ two_contexts = declares_in 0 v.Let (codes "a") 2 ++ reads (codes "a") 2 ++ reads
 by_context : denotations ByContext Es two_contexts ≡ Bound Top (ident (codes "a") 2) ∷ Bound Top (ident (codes "a") 2) ∷ Global (codes "a") ∷ []
 by_context = refl
 
-by_symbol : DenotesTop Es two_contexts 11 (codes "a")
+by_symbol : denoted_at BySymbol Es two_contexts 11 ≡ Some (Bound Top (implied (codes "a")))
 by_symbol = refl
 
 -- `let a; { let a; a; } a;`, where the innermost reference has the outer context
@@ -76,7 +76,7 @@ nameless = reads (codes "x") 1 ++ node 0 h.ExportDefaultExpr (node 0 (h.Number (
 a_nameless_default : denotations BySymbol Es nameless ≡ Global (codes "x") ∷ Bound Top (implied (codes "default")) ∷ []
 a_nameless_default = refl
 
-unbound : IsUnbound Es nameless 1 (codes "x")
+unbound : denoted_at BySymbol Es nameless 1 ≡ Some (Global (codes "x"))
 unbound = refl
 
 -- `a; a;` with these contexts

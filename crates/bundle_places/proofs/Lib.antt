@@ -5,5 +5,6 @@ mod ScopesExamples
 mod DenotesExamples
 mod DoubledExamples
 mod RenamingExamples
+mod ContextsExamples
 mod CountsExamples
 mod DeferredExamples

@@ -1,21 +1,22 @@
 -- Which names keep their symbols.
-use Rattle.std.specs.Prelude.{◌≡◌, ℕ, true, false, cond, List, [], ◌∷◌, ◌++◌, Some, codes}
+use Rattle.std.specs.Prelude.{◌≡◌, ℕ, Bool as Truth, true, false, cond, List, [], ◌∷◌, ◌++◌, Some, codes}
 use mathlib.Core.Path.{refl}
 use Rattle.std.specs.Fmt.{digits}
 use Rattle.bundle_leaf.specs.declared.kind.VarDeclKind.TheVariants as v
 use Rattle.bundle_piece.specs.Item.{Item}
 use Rattle.bundle_places.specs.Declarations.{contexts_agree}
 use Rattle.bundle_places.specs.Homes.{is_parameters}
-use Rattle.bundle_places.specs.Keywords.{is_keyword, keyword_free_symbols}
-use Rattle.bundle_places.specs.Renaming.{Renaming, is_renaming, symbols_after}
+use Rattle.bundle_places.specs.Places.{occurrences}
+use Rattle.bundle_places.specs.Keywords.{is_keyword, keyword_free_symbols, has_right_context}
+use Rattle.bundle_places.specs.Renaming.{Numbering, is_numbering, symbols_after}
 use Rattle.bundle_places.proofs.SmallTrees.{reads, declares_in, block_of, parameter, declares_function}
 
 -- each binding keeps its symbol
-abbrev keeps_all : Renaming
+abbrev keeps_all : Numbering
 keeps_all scope name = 0
 
 -- parameters have a number, and all else keeps its symbol
-abbrev parameters_with : ℕ → Renaming
+abbrev parameters_with : ℕ → Numbering
 parameters_with n scope name = cond (is_parameters scope) n 0
 
 -- `const x; function f(x) { x; x; }`, where the last `x` is the module's
@@ -23,7 +24,7 @@ abbrev hiding : List Item
 hiding = declares_in 0 v.Const (codes "x") 2 ++ declares_function (codes "f") 2 (parameter (codes "x") 5) (reads (codes "x") 5 ++ reads (codes "x") 2)
 
 -- the parameter would hide the constant that its function reads, so it is `x1`
-renamed_parameter : is_renaming hiding (parameters_with 1) ≡ true
+renamed_parameter : is_numbering hiding (parameters_with 1) ≡ true
 unfolding digits
 renamed_parameter = refl
 
@@ -32,11 +33,11 @@ unfolding digits
 symbols_of_the_parameter = refl
 
 -- to keep it is wrong, and so is a number that is not the least
-parameter_is_not_kept : is_renaming hiding keeps_all ≡ false
+parameter_is_not_kept : is_numbering hiding keeps_all ≡ false
 unfolding digits
 parameter_is_not_kept = refl
 
-parameter_is_not_x2 : is_renaming hiding (parameters_with 2) ≡ false
+parameter_is_not_x2 : is_numbering hiding (parameters_with 2) ≡ false
 unfolding digits
 parameter_is_not_x2 = refl
 
@@ -45,16 +46,16 @@ abbrev not_hiding : List Item
 not_hiding = declares_in 0 v.Const (codes "x") 2 ++ declares_function (codes "f") 2 (parameter (codes "x") 5) (reads (codes "x") 5)
 
 -- no name is changed without need
-parameter_is_kept : is_renaming not_hiding keeps_all ≡ true
+parameter_is_kept : is_numbering not_hiding keeps_all ≡ true
 unfolding digits
 parameter_is_kept = refl
 
-no_needless_renaming : is_renaming not_hiding (parameters_with 1) ≡ false
+no_needless_renaming : is_numbering not_hiding (parameters_with 1) ≡ false
 unfolding digits
 no_needless_renaming = refl
 
 -- the names with a context have a number, and all else keeps its symbol
-abbrev context_with : ℕ → ℕ → Renaming
+abbrev context_with : ℕ → ℕ → Numbering
 context_with ctxt n scope name = cond (contexts_agree name.ctxt (Some ctxt)) n 0
 
 -- `const x; const x;` of two modules
@@ -62,16 +63,16 @@ abbrev two_modules : List Item
 two_modules = declares_in 0 v.Const (codes "x") 2 ++ declares_in 0 v.Const (codes "x") 4
 
 -- the first keeps its symbol, and the second is `x1`
-second_is_renamed : is_renaming two_modules (context_with 4 1) ≡ true
+second_is_renamed : is_numbering two_modules (context_with 4 1) ≡ true
 unfolding digits
 second_is_renamed = refl
 
-first_is_not_renamed : is_renaming two_modules (context_with 2 1) ≡ false
+first_is_not_renamed : is_numbering two_modules (context_with 2 1) ≡ false
 unfolding digits
 first_is_not_renamed = refl
 
 -- with a global `x1` the second is `x2`
-second_is_x2 : is_renaming (two_modules ++ reads (codes "x1") 1) (context_with 4 2) ≡ true
+second_is_x2 : is_numbering (two_modules ++ reads (codes "x1") 1) (context_with 4 2) ≡ true
 unfolding digits
 second_is_x2 = refl
 
@@ -80,7 +81,7 @@ global_keeps_its_symbol : symbols_after (declares_in 0 v.Const (codes "console")
 unfolding digits
 global_keeps_its_symbol = refl
 
-console_is_renamed : is_renaming (declares_in 0 v.Const (codes "console") 2 ++ reads (codes "console") 1) (context_with 2 1) ≡ true
+console_is_renamed : is_numbering (declares_in 0 v.Const (codes "console") 2 ++ reads (codes "console") 1) (context_with 2 1) ≡ true
 unfolding digits
 console_is_renamed = refl
 
@@ -89,16 +90,16 @@ abbrev passing : List Item
 passing = block_of 0 (declares_in 0 v.Let (codes "a") 5 ++ block_of 0 (declares_in 0 v.Var (codes "a") 2))
 
 -- the `var` passes the block, whose name therefore changes
-passed_block_is_renamed : is_renaming passing (context_with 5 1) ≡ true
+passed_block_is_renamed : is_numbering passing (context_with 5 1) ≡ true
 unfolding digits
 passed_block_is_renamed = refl
 
-passed_block_is_not_kept : is_renaming passing keeps_all ≡ false
+passed_block_is_not_kept : is_numbering passing keeps_all ≡ false
 unfolding digits
 passed_block_is_not_kept = refl
 
 -- `function f(arguments) {}`: no declared `arguments` keeps its symbol
-declared_arguments : is_renaming (declares_function (codes "f") 2 (parameter (codes "arguments") 5) []) (parameters_with 1) ≡ true
+declared_arguments : is_numbering (declares_function (codes "f") 2 (parameter (codes "arguments") 5) []) (parameters_with 1) ≡ true
 unfolding digits
 declared_arguments = refl
 
@@ -116,3 +117,31 @@ int_is_a_keyword = refl
 
 import_is_left_alone : is_keyword (codes "import") ≡ false
 import_is_left_alone = refl
+
+abbrev zip_with : {A B C : Type 0} → (A → B → C) → List A → List B → List C
+zip_with f [] ys = []
+zip_with f (x ∷ xs) [] = []
+zip_with f (x ∷ xs) (y ∷ ys) = f x y ∷ zip_with f xs ys
+
+-- how contexts go on: those of `before` beside those of `after`, one by one
+abbrev right_contexts : List Item → List Item → List Truth
+right_contexts before after = zip_with (has_right_context (occurrences before)) (occurrences before) (occurrences after)
+
+abbrev constants : List ℕ → ℕ → List ℕ → ℕ → List Item
+constants first its second others = declares_in 0 v.Const first its ++ declares_in 0 v.Const second others
+
+-- `const int;` keeps its context, also the last one that there is
+context_is_kept : right_contexts (declares_in 0 v.Const (codes "int") 4294967295) (declares_in 0 v.Const (codes "__int") 4294967295) ≡ true ∷ []
+context_is_kept = refl
+
+-- another one is wrong there
+context_changes_needlessly : right_contexts (declares_in 0 v.Const (codes "int") 2) (declares_in 0 v.Const (codes "__int") 3) ≡ false ∷ []
+context_changes_needlessly = refl
+
+-- `const int, __int;` with one context: the first gets a context that nothing has, and the second keeps its own
+context_is_new : right_contexts (constants (codes "int") 2 (codes "__int") 2) (constants (codes "__int") 3 (codes "__int") 2) ≡ true ∷ true ∷ []
+context_is_new = refl
+
+-- both with one context would be one binding, and the second has no reason to change
+context_is_not_new : right_contexts (constants (codes "int") 2 (codes "__int") 2) (constants (codes "__int") 2 (codes "__int") 3) ≡ false ∷ false ∷ []
+context_is_not_new = refl

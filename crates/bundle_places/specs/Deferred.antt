@@ -7,15 +7,11 @@ use Rattle.bundle_piece.specs.Item as h
 use Rattle.bundle_piece.specs.Item.{Head}
 use Rattle.bundle_places.specs.Places.{Around}
 use Rattle.bundle_places.specs.Scopes.{Es, scopes_around}
-use Rattle.bundle_places.specs.Homes.{is_parameters, is_function}
+use Rattle.bundle_places.specs.Homes.{is_parameters}
 
 -- whether a place lies in the parameters or the body of a function, method, accessor, constructor or arrow
 abbrev pub is_in_function : List Around → Truth
 is_in_function path = list_any is_parameters (scopes_around Es path)
-
--- whether it lies in those of one that is no arrow, which has a `this` and an `arguments` of its own
-abbrev pub is_in_own_function : List Around → Truth
-is_in_own_function path = list_any is_function (scopes_around Es path)
 
 -- whether this field of such a node is what a field of an instance starts with
 abbrev pub is_initialiser : Head → ℕ → Truth

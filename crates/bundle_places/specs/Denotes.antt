@@ -5,7 +5,7 @@ use Rattle.std.specs.Prelude.{◌≡◌, ◌↔◌, ℕ, Bool as Truth, false, c
 use Rattle.std.specs.List.{list_any}
 use Rattle.bundle_piece.specs.Item.{Item}
 use Rattle.bundle_places.specs.Places.{Occurrence, occurrence_at, occurrences}
-use Rattle.bundle_places.specs.Scopes.{ModuleKind, Es, Scope, Top, scopes_around}
+use Rattle.bundle_places.specs.Scopes.{ModuleKind, Es, Scope, scopes_around}
 use Rattle.bundle_places.specs.Declarations.{Reading, BySymbol, ByContext, Name, name_of, Declared, declared, declaration_of}
 use Rattle.bundle_places.specs.Homes.{home_of, is_declared_in, declares, binds, is_arguments, is_function}
 
@@ -82,14 +82,6 @@ denoted_at reading kind items place = option_map (denoted_of reading kind (decla
 abbrev pub denotations : Reading → ModuleKind → List Item → List Denoted
 denotations reading kind items = map (denoted_of reading kind (declared reading kind items)) (occurrences items)
 
--- what stands at a place is a name that nothing in the tree binds, by its symbol
-abbrev pub IsUnbound : ModuleKind → List Item → ℕ → List ℕ → Type 0
-IsUnbound kind items place sym = denoted_at BySymbol kind items place ≡ Some (Global sym)
-
--- what stands at a place denotes the binding of this symbol at the top of the tree, by its symbol
-abbrev pub DenotesTop : ModuleKind → List Item → ℕ → List ℕ → Type 0
-DenotesTop kind items place sym = denoted_at BySymbol kind items place ≡ Some (Bound Top (name_of BySymbol sym 0))
-
 -- two occurrences have one symbol and one context
 abbrev pub SameIdent : Occurrence → Occurrence → Type 0
 SameIdent a b = (a.sym ≡ b.sym) × (a.ctxt ≡ b.ctxt)
@@ -104,17 +96,18 @@ abbrev pub by_symbol : Denoted → Denoted
 by_symbol (Bound scope name) = Bound scope (without_context name)
 by_symbol (Global sym) = Global sym
 
--- a tree whose contexts have been set: it is resolved, and each occurrence denotes by symbol and context what it denoted by its symbol in the tree before
+-- what the occurrence with this number denotes
+abbrev pub denoted_as : Reading → ModuleKind → List Item → ℕ → Option Denoted
+denoted_as reading kind items i = slice_get (denotations reading kind items) i
+
+-- a tree whose contexts have been set: it is resolved; each occurrence denotes by symbol and context what it denoted by its symbol in the tree before; and what was one binding or one global there is one here
 pub record IsResolutionOf (kind : ModuleKind) (before after : List Item) : Type 0 where
   pub resolved : IsResolved kind after
   pub same : map by_symbol (denotations ByContext kind after) ≡ denotations BySymbol kind before
-
--- what the occurrence with this number denotes
-abbrev pub denoted_as : Reading → List Item → ℕ → Option Denoted
-denoted_as reading items i = slice_get (denotations reading Es items) i
+  pub one : (i j : ℕ) → denoted_as BySymbol kind before i ≡ denoted_as BySymbol kind before j → denoted_as ByContext kind after i ≡ denoted_as ByContext kind after j
 
 -- the occurrences of two modules denote alike, one by one: the same global, or bindings that correspond one to one
 pub record DenoteAlike (reading_before : Reading) (before : List Item) (reading_after : Reading) (after : List Item) : Type 0 where
   pub len : length (denotations reading_before Es before) ≡ length (denotations reading_after Es after)
-  pub same : (i j : ℕ) → (denoted_as reading_before before i ≡ denoted_as reading_before before j) ↔ (denoted_as reading_after after i ≡ denoted_as reading_after after j)
-  pub globals : (i : ℕ) (sym : List ℕ) → (denoted_as reading_before before i ≡ Some (Global sym)) ↔ (denoted_as reading_after after i ≡ Some (Global sym))
+  pub same : (i j : ℕ) → (denoted_as reading_before Es before i ≡ denoted_as reading_before Es before j) ↔ (denoted_as reading_after Es after i ≡ denoted_as reading_after Es after j)
+  pub globals : (i : ℕ) (sym : List ℕ) → (denoted_as reading_before Es before i ≡ Some (Global sym)) ↔ (denoted_as reading_after Es after i ≡ Some (Global sym))

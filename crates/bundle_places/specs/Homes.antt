@@ -3,7 +3,7 @@
 -- Two readings are this linker's own: a `var` or function of a body with the name of a parameter is that parameter,
 -- also where a parameter has an expression; and a class declaration has one binding, seen inside the class too.
 -- A declaration that stands as the body of an `if`, a loop or a label belongs to the block around it.
-use Rattle.std.specs.Prelude.{Bool as Truth, true, false, cond, not, ◌&&◌, ◌||◌, ℕ, List, [], ◌∷◌, ◌++◌, ◌+◌, Option, Some, None, codes, bytes_eq, filter, unwrap_or, map, fold, position}
+use Rattle.std.specs.Prelude.{Bool as Truth, true, false, cond, not, ◌&&◌, ◌||◌, ℕ, List, [], ◌∷◌, Option, Some, None, codes, bytes_eq, filter, unwrap_or}
 use Rattle.std.specs.List.{list_any}
 use Rattle.bundle_piece.specs.Item.{Item}
 use Rattle.bundle_places.specs.Scopes.{ModuleKind, Scope, Wrapper, Top, Inner, Parameters, ArrowParameters, FunctionBody, StaticBody, Block, CatchBlock, Loop, Catch, FunctionName, ClassName, same_scope}
@@ -138,23 +138,6 @@ has_implicit_arguments all scope = is_function scope && not (declares all scope 
 -- whether a scope binds the name, by a declaration or as the implicit `arguments`
 abbrev pub binds : List Declared → Scope → Name → Truth
 binds all scope name = declares all scope name || (is_arguments name.sym && has_implicit_arguments all scope)
-
--- the names with one more behind them, if none of them agrees with it
-abbrev pub with_name : List Name → Name → List Name
-with_name names name = cond (list_any (names_agree name) names) names (names ++ name ∷ [])
-
--- the names that declarations bind in a scope, each once, in the order in which they are first declared
-abbrev pub names_in : List Declared → Scope → List Name
-names_in all scope = fold with_name [] (map (λ (d : Declared). d.name) (filter (λ d. same_scope (home_of all d) scope) all))
-
--- the number that a position in a list has, counted from one, and zero for none
-abbrev pub number_at : Option ℕ → ℕ
-number_at None = 0
-number_at (Some i) = i + 1
-
--- the number of a binding of a scope: from one on in the order of first declarations, and zero for what no declaration binds there, the implicit `arguments`
-abbrev pub number_in : List Declared → Scope → Name → ℕ
-number_in all scope name = number_at (position (names_agree name) (names_in all scope))
 
 -- the scope whose bindings keep apart in symbol from those of the first of these scopes: parameters and body are one group, a catch parameter and its block too, and any other scope stands alone
 abbrev pub group_of : List Scope → Scope

@@ -7,4 +7,5 @@ pub mod Doubled
 pub mod Keywords
 pub mod Renaming
 pub mod Counts
+pub mod Contexts
 pub mod Deferred

@@ -11,7 +11,7 @@ use Rattle.bundle_terms.specs.Meaning.{Label, Meant, Inside, Known, Unbound, Mar
 
 -- nothing is replaced, and a binding stands for its label
 abbrev pub labelled_sense : View → (Denoted → Option Label) → Sense
-labelled_sense view label_of = record { view = view; Replaces = λ place by. ⊥; Stands = λ d l. label_of d ≡ Some l }
+labelled_sense view label_of = record { view = view; replaced = λ place. None; Stands = λ d l. label_of d ≡ Some l }
 
 abbrev pub outside_meant : (Denoted → Option Label) → Denoted → Option Meant
 outside_meant label_of (Bound scope name) = option_map Known (label_of (Bound scope name))
@@ -67,7 +67,7 @@ is_meaning view label_of inner [] marks e = subst (λ ms. Means (labelled_sense 
 is_meaning view label_of inner (written x ∷ rest) marks e = absurd (none_is_some marks e)
 is_meaning view label_of inner (taken place (h.Open field head) ∷ rest) marks e =
     let (more, found, same) = mapped (λ ms. begin_marks view.tree place field (path_at view.tree place) head ++ ms) (computed view label_of inner rest) marks e in
-    subst (λ ms. Means (labelled_sense view label_of) inner (taken place (h.Open field head) ∷ rest) ms) (sym same) (begun (λ by r. r) (is_meaning view label_of inner rest more found))
+    subst (λ ms. Means (labelled_sense view label_of) inner (taken place (h.Open field head) ∷ rest) ms) (sym same) (begun refl (is_meaning view label_of inner rest more found))
 is_meaning view label_of inner (taken place h.Close ∷ rest) marks e =
     let (more, found, same) = mapped (λ ms. end_marks view.tree (path_at view.tree place) ++ ms) (computed view label_of inner rest) marks e in
     subst (λ ms. Means (labelled_sense view label_of) inner (taken place h.Close ∷ rest) ms) (sym same) (ended (is_meaning view label_of inner rest more found))

@@ -1,19 +1,20 @@
 -- Examples of faults: one of each kind that the definitions decide by themselves.
 use Rattle.std.proofs.Common.{◌≡◌, ℕ, zero, suc, true, false, List, [], ◌∷◌, ◌++◌, ◌⊎◌, inl, inr, Option, Some, None, refl, sym, subst, ◌∙◌, arith, lit<, lit≤, true≢false}
-use Rattle.std.specs.Prelude.{codes, Contains}
+use Rattle.std.specs.Prelude.{◌<◌, codes, Contains, slice_index_or}
 use Rattle.bundle_leaf.specs.declared.kind.VarDeclKind.TheVariants.{Let}
 use Rattle.bundle_leaf.specs.declared.operator.AssignOp.TheVariants.{Assign}
 use Rattle.bundle_piece.specs.Item as h
 use Rattle.bundle_piece.specs.Item.{Item}
 use Rattle.bundle_terms.specs.Nodes.{Text}
-use Rattle.bundle_places.specs.Scopes.{Es, Top}
-use Rattle.bundle_places.specs.Denotes.{Global, Bound}
+use Rattle.bundle_piece.specs.declared.piece.Role.TheVariants.{Reference}
+use Rattle.bundle_places.specs.Places.{Around, path_at}
 use Rattle.bundle_graph.specs.Walks.{itself}
-use Rattle.bundle_terms.specs.Statements.{no_notes, taken_from}
+use Rattle.bundle_terms.specs.Statements.{no_notes, taken_from, taken as element}
 use Rattle.bundle_terms.specs.Entries.{ExportEntry, Local, Indirect, Star, Taken, Named}
-use Rattle.bundle_terms.specs.Kept.{Program, nothing_kept, resolves, is_external}
-use Rattle.bundle_terms.specs.Linking.{Namespace, taken_whole, IsCommonJs, Gives, declaration, namespace_import, taken, given_on, starred, HasExternalStar, own, through, Target, Origin, exports, of_module, Takes, of_external, of_common_js}
-use Rattle.bundle_terms.specs.Meaning.{is_es, IsMeant, by_statement, Of, OwnMeaning, Begins, Ends, Name, Known, Unbound, finished, begun, ended, named, unbound, outside, at_top, plain}
+use Rattle.bundle_terms.specs.Program.{Program, tree_of, resolves, is_external}
+use Rattle.bundle_terms.specs.Kept.{nothing_kept, program_of}
+use Rattle.bundle_terms.specs.Linking.{Namespace, taken_whole, IsCommonJs, Gives, declaration, namespace_import, taken, given_on, starred, HasExternalStar, own, through, Target, Origin, exports, of_module, Takes, of_external, of_common_js, StandsFor}
+use Rattle.bundle_terms.specs.Meaning.{is_es, IsMeant, IsLeft, Replaced, by_statement, says_name, Of, at_top}
 use Rattle.bundle_terms.specs.Faults.{NamespaceOverExternalStar, ExternalStarOnly, external_only, namespace_over_external_star, DoubledDeclaration, DoubledExport, UndeclaredExport, MissingExport, AmbiguousExport, StarOfCommonJs, WithStatement, RequiredEsModule, RequiredEntry, AwaitInCommonJs, ExternalUnderIife, ArgumentsUnderIife, TooManyModules, TreeFault, doubled_export, undeclared_export, with_statement, ProgramFault, required_entry, required_es_module, doubled_declaration, await_in_common_js, star_of_common_js, name, external_under_iife, arguments_under_iife, NameFault, ambiguous, missing, PropertiesFault, doubled, Parties}
 use Rattle.bundle_terms.specs.Judging.{IsDoubledEntry, Loads, no_room, Refused}
 use Rattle.bundle_terms.proofs.Trees.{node, module_of, binds, uses, names, word, string, number, declares, exports_const, imports, imports_all, imports_bare, exports_all, exports_from, exports_name, function, runs, calls, requires, member}
@@ -80,7 +81,7 @@ two_given : NameFault two 0 x main_js (AmbiguousExport main_js x)
 two_given = ambiguous both_give_x
 
 -- main: `import { x } from './a';` with a: `export { x } from './b';` and b: `export { x } from './a';`: a gives nothing
-abbrev ring : Program
+abbrev pub ring : Program
 ring = program (imports x x (codes "./a")) (exports_from x x (codes "./b")) (exports_from x x (codes "./a")) []
 
 abbrev InRing : ℕ → Type 0
@@ -157,13 +158,13 @@ none_given = missing (λ t origin gives. nothing_given 1 x t origin (inl refl) g
 es_ring : (m : ℕ) → IsCommonJs ring m → ⊥
 es_ring m c = true≢false (sym c.linked)
 
-x_is_missing : ProgramFault ring main_js 0 5 0 (MissingExport main_js x)
+pub x_is_missing : ProgramFault ring main_js 0 5 0 (MissingExport main_js x)
 x_is_missing = name _ refl (record { resolved = refl; es = es_ring 1 }) none_given
 
 -- Under one function's call.
 
-abbrev under_iife : List Item → Program
-under_iife main = record { kept = kept_of main [] [] []; settings = record { require = false; external = codes "ext" ∷ []; iife = true; most_modules = 9 }; entry = 0 }
+abbrev pub under_iife : List Item → Program
+under_iife main = program_of (kept_of main [] [] []) (record { require = false; external = codes "ext" ∷ []; iife = true; most_modules = 9 }) 0
 
 -- `import 'ext';`
 external_there : ProgramFault (under_iife (imports_bare (codes "ext"))) main_js 0 7 0 (ExternalUnderIife main_js (codes "ext"))
@@ -221,15 +222,25 @@ whole = program (imports_all (codes "ns") (codes "./c") ++ calls (codes "use") (
 es_whole : (m : ℕ) → IsCommonJs whole m → ⊥
 es_whole m c = true≢false (sym c.linked)
 
-ns_meant : IsMeant whole (Of (Namespace 3))
-ns_meant = by_statement {m = 0} {field = 1} {statement = taken_from 8 (calls (codes "use") (uses 1 (codes "ns")))} itself (0, lit< tt, refl) its_meaning (4, lit< tt, refl)
+abbrev use_ns : List Item
+use_ns = calls (codes "use") (uses 1 (codes "ns"))
+
+ns_stands : StandsFor whole 0 (codes "ns") (Namespace 3)
+ns_stands = taken_whole _ refl (of_module (record { resolved = refl; es = es_whole 3 }))
+
+-- no node around `ns` is replaced
+ns_is_left : IsLeft whole 0 (element 12 (h.Ident 1 (codes "ns") 0 Reference))
+ns_is_left node by (k, b, e) is = at k b e
   where
-    its_meaning : OwnMeaning whole 0 (taken_from 8 (calls (codes "use") (uses 1 (codes "ns")))) (Begins 0 h.ExprStmt ∷ Begins 0 h.CallExpr ∷ Name 0 (Unbound (codes "use")) ∷ Begins 1 (h.ExprOrSpread false) ∷ Name 1 (Known (Of (Namespace 3))) ∷ Ends ∷ Ends ∷ Ends ∷ [])
-    its_meaning = record {
-      kind = Es;
-      has_kind = is_es (es_whole 0);
-      means = begun (not_replaced whole 0 8 refl refl refl refl) (begun (not_replaced whole 0 9 refl refl refl refl) (named (Global (codes "use")) _ refl unbound (begun (not_replaced whole 0 11 refl refl refl refl) (named (Bound Top (plain (codes "ns"))) _ refl (outside refl (at_top (taken_whole _ refl (of_module (record { resolved = refl; es = es_whole 3 }))))) (ended (ended (ended finished)))))));
-    }
+    at : (i : ℕ) → i < 4 → slice_index_or (path_at (tree_of whole 0) 12) i node ≡ node → ⊥
+    at zero b q = not_replaced whole 0 11 refl refl refl refl by (subst (λ (n : Around). Replaced whole 0 n.begins by) (sym q) is)
+    at (suc zero) b q = not_replaced whole 0 9 refl refl refl refl by (subst (λ (n : Around). Replaced whole 0 n.begins by) (sym q) is)
+    at (suc (suc zero)) b q = not_replaced whole 0 8 refl refl refl refl by (subst (λ (n : Around). Replaced whole 0 n.begins by) (sym q) is)
+    at (suc (suc (suc zero))) b q = not_replaced whole 0 0 refl refl refl refl by (subst (λ (n : Around). Replaced whole 0 n.begins by) (sym q) is)
+    at (suc (suc (suc (suc i)))) b q = grind arith
+
+ns_meant : IsMeant whole (Of (Namespace 3))
+ns_meant = by_statement {m = 0} {statement = taken_from 8 use_ns} itself (0, lit< tt, refl) (4, lit< tt, refl) ns_is_left (says_name (is_es (es_whole 0)) refl (at_top ns_stands))
 
 object_over_star : ProgramFault whole c_js 3 6 0 (NamespaceOverExternalStar c_js)
 object_over_star = namespace_over_external_star ns_meant (codes "ext", own (0, lit< tt, refl) refl)

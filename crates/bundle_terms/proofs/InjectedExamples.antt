@@ -17,7 +17,7 @@ use Rattle.bundle_terms.specs.Meaning.{Label, Of, Parameter, Load, Helper, Mark,
 use Rattle.bundle_terms.specs.Injected.{helper_function, namespace_object, import_names, export_list, load_statement, load_front, load_back}
 use Rattle.bundle_terms.specs.Bundle.{function_front, function_back}
 use Rattle.bundle_piece.specs.declared.piece.Role.TheVariants.{Binding, Reference}
-use Rattle.bundle_terms.specs.Headline.{IsNamespaceItem, IsLoadItem, IsHelperItem}
+use Rattle.bundle_terms.specs.Forms.{IsNamespaceItem, IsLoadItem, IsHelperItem}
 use Rattle.bundle_terms.proofs.Trees.{node, module_of, binds, uses, names, word, string, number, declares, member, argument, runs, calls}
 use Rattle.bundle_terms.proofs.Computed.{computed}
 
@@ -134,7 +134,7 @@ namespace_is_built : IsNamespaceItem (codes "mod", 7) ((codes "__proto__", (code
 namespace_is_built = record { built = record { its_shape = refl; names = refl }; noted = refl }
 
 load_is_built : IsLoadItem (codes "load", 0) (codes "__swcpack_require__", 0) (its_module, 0) (codes "exports", 0) (calls (codes "f") (number 1 (codes "1"))) (function_tree (calls (codes "f") (number 1 (codes "1"))))
-load_is_built = record { front = take 21 (function_tree []); back = drop 21 (function_tree []); is = refl; built = record { its_shape = refl; names = refl }; ends = refl }
+load_is_built = record { front = take 21 (function_tree []); back = drop 21 (function_tree []); is = refl; built = record { its_shape = refl; names = refl }; unnoted = refl; ends = refl }
 
 helper_is_built : IsHelperItem (codes "__swcpack_require__", 0) (fn, 0) (its_module, 0) helper_tree
-helper_is_built = record { its_shape = refl; names = refl }
+helper_is_built = record { built = record { its_shape = refl; names = refl }; unnoted = refl }

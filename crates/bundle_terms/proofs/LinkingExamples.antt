@@ -4,7 +4,7 @@ use Rattle.std.specs.Prelude.{codes, Contains}
 use Rattle.bundle_piece.specs.Item.{Item}
 use Rattle.bundle_terms.specs.Nodes.{Text}
 use Rattle.bundle_terms.specs.Entries.{import_of, ImportEntry, Named, ExportEntry, Local, Indirect, Star}
-use Rattle.bundle_terms.specs.Kept.{Program, requested, Requests, IsReached}
+use Rattle.bundle_terms.specs.Program.{Program, requested, Requests, IsReached}
 use Rattle.bundle_graph.specs.Walks.{itself}
 use Rattle.bundle_terms.specs.Linking.{exports, imports as imports_of_module, taken_whole, Target, Declared, Namespace, External, CommonJs, Gives, declaration, namespace_import, taken, given_on, starred, Takes, of_external, of_common_js, of_module, IsModule, IsCommonJs, Linked, IsAmbiguous, IsMissing, HasExternalStar, own, through, StandsFor, imported, Origin}
 use Rattle.bundle_terms.proofs.Trees.{number, exports_const, imports, imports_all, exports_all, exports_from, exports_all_as, exports_name, calls, requires}
@@ -28,7 +28,7 @@ p = program (exports_from x (codes "y") (codes "./a") ++ exports_all_as (codes "
 es : (m : ℕ) → IsCommonJs p m → ⊥
 es m c = true≢false (sym c.linked)
 
-a_from : (m : ℕ) → Rattle.bundle_terms.specs.Kept.resolves p m (codes "./a") ≡ Some 1 → IsModule p m (codes "./a") 1
+a_from : (m : ℕ) → Rattle.bundle_terms.specs.Program.resolves p m (codes "./a") ≡ Some 1 → IsModule p m (codes "./a") 1
 a_from m e = record { resolved = e; es = es 1 }
 
 -- a gives its declaration

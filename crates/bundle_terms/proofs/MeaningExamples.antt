@@ -1,31 +1,33 @@
 -- Examples of meanings.
-use Rattle.std.proofs.Common.{◌≡◌, ℕ, true, false, List, [], ◌∷◌, ◌++◌, length, Some, None, refl, sym, ◌∙◌, arith, lit<, true≢false}
-use Rattle.std.specs.Prelude.{codes}
+use Rattle.std.proofs.Common.{◌≡◌, ℕ, zero, suc, true, false, List, [], ◌∷◌, ◌++◌, length, Option, Some, None, refl, sym, ap, subst, ◌∙◌, arith, lit<, true≢false}
+use Rattle.std.specs.Prelude.{Bool, codes, drop, if◌then◌else◌}
 use Rattle.bundle_piece.specs.Item as h
 use Rattle.bundle_piece.specs.Item.{Item}
 use Rattle.bundle_leaf.specs.declared.kind.VarDeclKind.TheVariants.{Const}
 use Rattle.bundle_leaf.specs.declared.operator.AssignOp.TheVariants.{Assign}
 use Rattle.bundle_leaf.specs.declared.operator.UnaryOp.TheVariants.{Delete}
 use Rattle.bundle_places.specs.Scopes.{Es, Top, Inner, Parameters}
-use Rattle.bundle_places.specs.Declarations.{BySymbol}
+use Rattle.bundle_places.specs.Declarations.{BySymbol, Name as SourceName}
 use Rattle.bundle_places.specs.Denotes.{Bound, Global, denoted_at}
-use Rattle.bundle_terms.specs.Nodes.{inside as inside_of}
+use Rattle.bundle_terms.specs.Nodes.{Text, inside as inside_of, first_or_nothing, side_by_side}
+use Rattle.bundle_terms.specs.Entries.{ImportEntry, import_of, Taken, Named, Whole}
 use Rattle.bundle_terms.specs.Statements.{taken_from}
-use Rattle.bundle_terms.specs.Kept.{Program, tree_of, calls_of}
-use Rattle.bundle_terms.specs.Linking.{Declared, Namespace, External, StandsFor, taken_whole, of_module, of_external}
-use Rattle.bundle_terms.specs.Meaning.{Labelling, StatementMeans, bundle_sense, inner_bindings, plain as plain_name, Begins, Ends, Name, Known, Unbound, Of, ByName, Replacement, finished, replaced, begun, ended, named, unbound, outside, OwnMeaning, ReadsAs, by_name, by_read, read_word, is_meta_at, Replaced, static_read, import_meta, require_call, is_es}
+use Rattle.bundle_terms.specs.Program.{Program, tree_of, calls_of, resolves, is_external}
+use Rattle.bundle_terms.specs.Linking.{Target, Declared, Namespace, Linked, StandsFor, declared, imported, taken_whole, imports, Takes, of_module, of_external, of_common_js}
+use Rattle.bundle_terms.specs.Meaning.{Labelling, StatementMeans, bundle_sense, inner_bindings, plain as plain_name, Begins, Ends, Name, Known, Unbound, Of, ByName, Replacement, IsExact, finished, replaced, begun, ended, named, unbound, outside, OwnMeaning, ReadsAs, by_name, by_read, is_meta_at, Replaced, static_read, import_meta, require_call, is_es}
 use Rattle.std.specs.Prelude.{slice_get}
+use Rattle.bundle_terms.specs.Reads.{read_word, property_of}
 use Rattle.bundle_terms.proofs.Trees.{node, module_of, declares, imports_all, calls, runs, binds, uses, member, number}
 use Rattle.bundle_terms.proofs.LinkingExamples.{x, plain, es_plain, x_is_linked}
 
 -- where no name and no read stands, nothing is read
-no_read : (p : Program) (m place : ℕ) → denoted_at BySymbol Es (tree_of p m) place ≡ None → read_word (tree_of p m) place ≡ None → (t : Rattle.bundle_terms.specs.Linking.Target) → ReadsAs p m place t → ⊥
+no_read : (p : Program) (m place : ℕ) → denoted_at BySymbol Es (tree_of p m) place ≡ None → read_word (tree_of p m) place ≡ None → (t : Target) → ReadsAs p m place t → ⊥
 no_read p m place no_name no_word t (by_name denotes stands) = cc
 no_read p m place no_name no_word t (by_read word reads linked) = cc
 
 -- what is no read, no `import.meta` and no call of `require` is not replaced
 pub not_replaced : (p : Program) (m place : ℕ) → denoted_at BySymbol Es (tree_of p m) place ≡ None → read_word (tree_of p m) place ≡ None → is_meta_at (slice_get (tree_of p m) place) ≡ false → length (calls_of p m) ≡ 0 → (by : Replacement) → Replaced p m place by → ⊥
-not_replaced p m place no_name no_word no_meta no_calls by (static_read {t = t} reads) = no_read p m place no_name no_word t reads
+not_replaced p m place no_name no_word no_meta no_calls by (static_read {t = t} word reads) = no_read p m place no_name no_word t reads
 not_replaced p m place no_name no_word no_meta no_calls by (import_meta is) = true≢false (sym is ∙ no_meta)
 not_replaced p m place no_name no_word no_meta no_calls by (require_call call (k, h, e) at resolved) = grind arith
 
@@ -44,13 +46,172 @@ ns_stands = taken_whole _ refl (of_module (record { resolved = refl; es = es_pla
 reads_x : ReadsAs p 0 12 (Declared 1 x)
 reads_x = by_read refl (by_name refl ns_stands) (x_is_linked main)
 
+-- what is replaced in main: the read at place 12
+abbrev table : ℕ → Option Replacement
+table (suc (suc (suc (suc (suc (suc (suc (suc (suc (suc (suc (suc zero)))))))))))) = Some (ByName (Of (Declared 1 x)))
+table _ = None
+
+none_there : (place : ℕ) (by : Replacement) → None ≡ Some by → Replaced p 0 place by
+none_there place by e = cc
+
+same_by : (a b : Replacement) → Some a ≡ Some b → a ≡ b
+same_by a b e = cc
+
+there : (place : ℕ) (by : Replacement) → table place ≡ Some by → Replaced p 0 place by
+there zero by e = none_there 0 by e
+there (suc zero) by e = none_there 1 by e
+there (suc (suc zero)) by e = none_there 2 by e
+there (suc (suc (suc zero))) by e = none_there 3 by e
+there (suc (suc (suc (suc zero)))) by e = none_there 4 by e
+there (suc (suc (suc (suc (suc zero))))) by e = none_there 5 by e
+there (suc (suc (suc (suc (suc (suc zero)))))) by e = none_there 6 by e
+there (suc (suc (suc (suc (suc (suc (suc zero))))))) by e = none_there 7 by e
+there (suc (suc (suc (suc (suc (suc (suc (suc zero)))))))) by e = none_there 8 by e
+there (suc (suc (suc (suc (suc (suc (suc (suc (suc zero))))))))) by e = none_there 9 by e
+there (suc (suc (suc (suc (suc (suc (suc (suc (suc (suc zero)))))))))) by e = none_there 10 by e
+there (suc (suc (suc (suc (suc (suc (suc (suc (suc (suc (suc zero))))))))))) by e = none_there 11 by e
+there (suc (suc (suc (suc (suc (suc (suc (suc (suc (suc (suc (suc zero)))))))))))) by e = subst (λ it. Replaced p 0 12 it) (same_by (ByName (Of (Declared 1 x))) by e) (static_read refl reads_x)
+there (suc (suc (suc (suc (suc (suc (suc (suc (suc (suc (suc (suc (suc n))))))))))))) by e = none_there _ by e
+
+-- nothing else is: there is no other read of a member, no `import.meta` and no call of `require`
+no_word : (y : Text) → None ≡ Some y → ⊥
+no_word y e = cc
+
+beyond : (n : ℕ) (y : Text) (stays : Bool) → (if stays then None else property_of (first_or_nothing (side_by_side zero (drop n [])))) ≡ Some y → ⊥
+beyond zero y true e = cc
+beyond zero y false e = cc
+beyond (suc n) y true e = cc
+beyond (suc n) y false e = cc
+
+read_at : (place : ℕ) (y : Text) → read_word (tree_of p 0) place ≡ Some y → place ≡ 12
+read_at zero y e = absurd (no_word y e)
+read_at (suc zero) y e = absurd (no_word y e)
+read_at (suc (suc zero)) y e = absurd (no_word y e)
+read_at (suc (suc (suc zero))) y e = absurd (no_word y e)
+read_at (suc (suc (suc (suc zero)))) y e = absurd (no_word y e)
+read_at (suc (suc (suc (suc (suc zero))))) y e = absurd (no_word y e)
+read_at (suc (suc (suc (suc (suc (suc zero)))))) y e = absurd (no_word y e)
+read_at (suc (suc (suc (suc (suc (suc (suc zero))))))) y e = absurd (no_word y e)
+read_at (suc (suc (suc (suc (suc (suc (suc (suc zero)))))))) y e = absurd (no_word y e)
+read_at (suc (suc (suc (suc (suc (suc (suc (suc (suc zero))))))))) y e = absurd (no_word y e)
+read_at (suc (suc (suc (suc (suc (suc (suc (suc (suc (suc zero)))))))))) y e = absurd (no_word y e)
+read_at (suc (suc (suc (suc (suc (suc (suc (suc (suc (suc (suc zero))))))))))) y e = absurd (no_word y e)
+read_at (suc (suc (suc (suc (suc (suc (suc (suc (suc (suc (suc (suc zero)))))))))))) y e = refl
+read_at (suc (suc (suc (suc (suc (suc (suc (suc (suc (suc (suc (suc (suc zero))))))))))))) y e = absurd (no_word y e)
+read_at (suc (suc (suc (suc (suc (suc (suc (suc (suc (suc (suc (suc (suc (suc zero)))))))))))))) y e = absurd (no_word y e)
+read_at (suc (suc (suc (suc (suc (suc (suc (suc (suc (suc (suc (suc (suc (suc (suc zero))))))))))))))) y e = absurd (no_word y e)
+read_at (suc (suc (suc (suc (suc (suc (suc (suc (suc (suc (suc (suc (suc (suc (suc (suc zero)))))))))))))))) y e = absurd (no_word y e)
+read_at (suc (suc (suc (suc (suc (suc (suc (suc (suc (suc (suc (suc (suc (suc (suc (suc (suc zero))))))))))))))))) y e = absurd (no_word y e)
+read_at (suc (suc (suc (suc (suc (suc (suc (suc (suc (suc (suc (suc (suc (suc (suc (suc (suc (suc zero)))))))))))))))))) y e = absurd (no_word y e)
+read_at (suc (suc (suc (suc (suc (suc (suc (suc (suc (suc (suc (suc (suc (suc (suc (suc (suc (suc (suc zero))))))))))))))))))) y e = absurd (no_word y e)
+read_at (suc (suc (suc (suc (suc (suc (suc (suc (suc (suc (suc (suc (suc (suc (suc (suc (suc (suc (suc (suc zero)))))))))))))))))))) y e = absurd (no_word y e)
+read_at (suc (suc (suc (suc (suc (suc (suc (suc (suc (suc (suc (suc (suc (suc (suc (suc (suc (suc (suc (suc (suc n))))))))))))))))))))) y e = absurd (beyond n y _ e)
+
+meta_at : (place : ℕ) → is_meta_at (slice_get (tree_of p 0) place) ≡ true → ⊥
+meta_at zero e = true≢false (sym e)
+meta_at (suc zero) e = true≢false (sym e)
+meta_at (suc (suc zero)) e = true≢false (sym e)
+meta_at (suc (suc (suc zero))) e = true≢false (sym e)
+meta_at (suc (suc (suc (suc zero)))) e = true≢false (sym e)
+meta_at (suc (suc (suc (suc (suc zero))))) e = true≢false (sym e)
+meta_at (suc (suc (suc (suc (suc (suc zero)))))) e = true≢false (sym e)
+meta_at (suc (suc (suc (suc (suc (suc (suc zero))))))) e = true≢false (sym e)
+meta_at (suc (suc (suc (suc (suc (suc (suc (suc zero)))))))) e = true≢false (sym e)
+meta_at (suc (suc (suc (suc (suc (suc (suc (suc (suc zero))))))))) e = true≢false (sym e)
+meta_at (suc (suc (suc (suc (suc (suc (suc (suc (suc (suc zero)))))))))) e = true≢false (sym e)
+meta_at (suc (suc (suc (suc (suc (suc (suc (suc (suc (suc (suc zero))))))))))) e = true≢false (sym e)
+meta_at (suc (suc (suc (suc (suc (suc (suc (suc (suc (suc (suc (suc zero)))))))))))) e = true≢false (sym e)
+meta_at (suc (suc (suc (suc (suc (suc (suc (suc (suc (suc (suc (suc (suc zero))))))))))))) e = true≢false (sym e)
+meta_at (suc (suc (suc (suc (suc (suc (suc (suc (suc (suc (suc (suc (suc (suc zero)))))))))))))) e = true≢false (sym e)
+meta_at (suc (suc (suc (suc (suc (suc (suc (suc (suc (suc (suc (suc (suc (suc (suc zero))))))))))))))) e = true≢false (sym e)
+meta_at (suc (suc (suc (suc (suc (suc (suc (suc (suc (suc (suc (suc (suc (suc (suc (suc zero)))))))))))))))) e = true≢false (sym e)
+meta_at (suc (suc (suc (suc (suc (suc (suc (suc (suc (suc (suc (suc (suc (suc (suc (suc (suc zero))))))))))))))))) e = true≢false (sym e)
+meta_at (suc (suc (suc (suc (suc (suc (suc (suc (suc (suc (suc (suc (suc (suc (suc (suc (suc (suc zero)))))))))))))))))) e = true≢false (sym e)
+meta_at (suc (suc (suc (suc (suc (suc (suc (suc (suc (suc (suc (suc (suc (suc (suc (suc (suc (suc (suc zero))))))))))))))))))) e = true≢false (sym e)
+meta_at (suc (suc (suc (suc (suc (suc (suc (suc (suc (suc (suc (suc (suc (suc (suc (suc (suc (suc (suc (suc zero)))))))))))))))))))) e = true≢false (sym e)
+meta_at (suc (suc (suc (suc (suc (suc (suc (suc (suc (suc (suc (suc (suc (suc (suc (suc (suc (suc (suc (suc (suc n))))))))))))))))))))) e = true≢false (sym e)
+
+-- and the read means the declaration of x alone: `ns` is the namespace of a, and nothing else
+abbrev ns : Text
+ns = codes "ns"
+
+abbrev its_import : ImportEntry
+its_import = record { local = ns; specifier = codes "./a"; taken = Whole }
+
+imports_it : (entry : ImportEntry) (y : Text) → y ≡ ns → import_of (imports p 0) y ≡ Some entry → entry ≡ its_import
+imports_it entry y is found = sym (same_entry (subst (λ w. import_of (imports p 0) w ≡ Some entry) is found))
+  where
+    same_entry : Some its_import ≡ Some entry → its_import ≡ entry
+    same_entry e = cc
+
+is_imported : (y : Text) → y ≡ ns → import_of (imports p 0) y ≡ None → ⊥
+is_imported y is none = not_none (subst (λ z. import_of (imports p 0) z ≡ None) is none)
+  where
+    not_none : Some its_import ≡ None → ⊥
+    not_none e = cc
+
+of_a : (s : Text) (what : Taken) (t : Target) → s ≡ codes "./a" → what ≡ Whole → Takes p 0 s what t → t ≡ Namespace 1
+of_a s what t same whole (of_external out) = absurd (true≢false (sym out ∙ ap (is_external p) same))
+of_a s what t same whole (of_common_js found c) = absurd (es_plain main _ c)
+of_a s what t same whole (of_module {d = d} source) = ap Namespace (sym (one_number (subst (λ w. resolves p 0 w ≡ Some d) same source.resolved)))
+  where
+    one_number : Some 1 ≡ Some d → 1 ≡ d
+    one_number e = cc
+
+whole_is_no_name : (entry : ImportEntry) (w : Text) → entry ≡ its_import → entry.taken ≡ Named w → ⊥
+whole_is_no_name entry w is by = not_whole (sym (ap (λ (e : ImportEntry). e.taken) is) ∙ by)
+  where
+    not_whole : Whole ≡ Named w → ⊥
+    not_whole e = cc
+
+its_namespace : (y : Text) (t : Target) → y ≡ ns → StandsFor p 0 y t → t ≡ Namespace 1
+its_namespace y t is (declared stands none) = absurd (is_imported y is none)
+its_namespace y t is (imported {y = z} entry found by_its_name source linked) = absurd (whole_is_no_name entry z (imports_it entry y is found) by_its_name)
+its_namespace y t is (taken_whole entry found takes) = let same = imports_it entry y is found in of_a entry.specifier entry.taken t (ap (λ (e : ImportEntry). e.specifier) same) (ap (λ (e : ImportEntry). e.taken) same) takes
+
+same_name : (y : Text) → Some (Bound Top (plain_name ns)) ≡ Some (Bound Top (plain_name y)) → y ≡ ns
+same_name y e = sym (ap (λ (name : SourceName). name.sym) (same_bound e))
+  where
+    same_bound : Some (Bound Top (plain_name ns)) ≡ Some (Bound Top (plain_name y)) → plain_name ns ≡ plain_name y
+    same_bound e = cc
+
+ns_reads : (place : ℕ) (t : Target) → place ≡ 13 → ReadsAs p 0 place t → t ≡ Namespace 1
+ns_reads place t is (by_name {x = y} denotes stands) = its_namespace y t (same_name y (subst (λ at. denoted_at BySymbol Es (tree_of p 0) at ≡ Some (Bound Top (plain_name y))) is denotes)) stands
+ns_reads place t is (by_read {x = y} word reads linked) = absurd (no_word y (subst (λ at. read_word (tree_of p 0) at ≡ Some y) is word))
+
+only_x : (d : ℕ) (y : Text) (t : Target) → d ≡ 1 → y ≡ x → Linked p d y t → t ≡ Declared 1 x
+only_x d y t module_a is_x linked = sym ((subst (λ z. Linked p 1 z t) is_x (subst (λ m. Linked p m y t) module_a linked)).only (Declared 1 x) ((x_is_linked main).origin) (x_is_linked main).given).0
+
+x_reads : (place : ℕ) (t : Target) → place ≡ 12 → ReadsAs p 0 place t → t ≡ Declared 1 x
+x_reads place t is (by_name {x = y} denotes stands) = absurd (no_name (subst (λ at. denoted_at BySymbol Es (tree_of p 0) at ≡ Some (Bound Top (plain_name y))) is denotes))
+  where
+    no_name : None ≡ Some (Bound Top (plain_name y)) → ⊥
+    no_name e = cc
+x_reads place t is (by_read {d = d} {x = y} word reads linked) = only_x d y t (one_namespace (ns_reads _ (Namespace d) (ap suc is) reads)) (sym (same_word (subst (λ at. read_word (tree_of p 0) at ≡ Some y) is word))) linked
+  where
+    one_namespace : Namespace d ≡ Namespace 1 → d ≡ 1
+    one_namespace e = cc
+
+    same_word : Some x ≡ Some y → x ≡ y
+    same_word e = cc
+
+told : (place : ℕ) (by : Replacement) → Replaced p 0 place by → table place ≡ Some by
+told place by (static_read {x = y} {t = t} word reads) = let is = read_at place y word in ap table is ∙ ap (λ u. Some (ByName (Of u))) (sym (x_reads place t is reads))
+told place by (import_meta is) = absurd (meta_at place is)
+told place by (require_call call (k, h, e) at resolved) = grind arith
+
+exact : IsExact p 0 table
+exact place by = (there place by, told place by)
+
 -- the statement `use(ns.x);` means `use(l);`, where `use` is a global and l the declaration of x in a
 use_means : OwnMeaning p 0 (taken_from 8 (calls (codes "use") (member 1 (uses 0 (codes "ns")) x)))
     (Begins 0 h.ExprStmt ∷ Begins 0 h.CallExpr ∷ Name 0 (Unbound (codes "use")) ∷ Begins 1 (h.ExprOrSpread false) ∷ Name 1 (Known (Of (Declared 1 x))) ∷ Ends ∷ Ends ∷ Ends ∷ [])
 use_means = record {
   kind = Es;
   has_kind = is_es (es_plain main 0);
-  means = begun (not_replaced p 0 8 refl refl refl refl) (begun (not_replaced p 0 9 refl refl refl refl) (named (Global (codes "use")) _ refl unbound (begun (not_replaced p 0 11 refl refl refl refl) (replaced (ByName (Of (Declared 1 x))) (static_read reads_x) (ended (ended (ended finished)))))));
+  table = table;
+  exact = exact;
+  means = begun refl (begun refl (named (Global (codes "use")) _ refl unbound (begun refl (replaced (ByName (Of (Declared 1 x))) refl (ended (ended (ended finished)))))));
 }
 
 -- in the bundle `const x = 1; use(x);` the second statement means the same, where x stands for the declaration in a
@@ -62,7 +223,7 @@ labels = (Bound Top (plain_name x), Of (Declared 1 x)) ∷ []
 
 second_means : StatementMeans (bundle_sense bundle BySymbol labels) 10 (taken_from 10 (calls (codes "use") (uses 1 x)))
     (Begins 0 h.ExprStmt ∷ Begins 0 h.CallExpr ∷ Name 0 (Unbound (codes "use")) ∷ Begins 1 (h.ExprOrSpread false) ∷ Name 1 (Known (Of (Declared 1 x))) ∷ Ends ∷ Ends ∷ Ends ∷ [])
-second_means = begun (λ by r. r) (begun (λ by r. r) (named _ _ refl unbound (begun (λ by r. r) (named _ _ refl (outside refl (0, lit< tt, refl)) (ended (ended (ended finished)))))))
+second_means = begun refl (begun refl (named _ _ refl unbound (begun refl (named _ _ refl (outside refl (0, lit< tt, refl)) (ended (ended (ended finished)))))))
 
 -- a shorthand is spelled out, and `__proto__` gets a computed key: `({ y, __proto__ })` as an argument
 abbrev shorthands : List Item
@@ -73,7 +234,7 @@ shorthands_mean : StatementMeans (bundle_sense shorthands BySymbol []) 1 (taken_
     ∷ Begins 0 h.KeyValueProp ∷ Begins 0 (h.IdentName (codes "y")) ∷ Ends ∷ Name 1 (Unbound (codes "y")) ∷ Ends
     ∷ Begins 0 h.KeyValueProp ∷ Begins 0 h.ComputedPropName ∷ Begins 0 (h.Str (codes "__proto__") None) ∷ Ends ∷ Ends ∷ Name 1 (Unbound (codes "__proto__")) ∷ Ends
     ∷ Ends ∷ Ends ∷ Ends ∷ Ends ∷ [])
-shorthands_mean = begun (λ by r. r) (begun (λ by r. r) (named _ _ refl unbound (begun (λ by r. r) (begun (λ by r. r) (named _ _ refl unbound (named _ _ refl unbound (ended (ended (ended (ended finished))))))))))
+shorthands_mean = begun refl (begun refl (named _ _ refl unbound (begun refl (begun refl (named _ _ refl unbound (named _ _ refl unbound (ended (ended (ended (ended finished))))))))))
 
 -- an inner binding is told by its number: `function f(a) { return a; }` of a bundle in which nothing else stands
 abbrev inner : List Item

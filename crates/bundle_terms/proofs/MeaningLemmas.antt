@@ -1,5 +1,5 @@
 -- How a meaning begins, by how the statement does.
-use Rattle.std.proofs.Common.{◌≡◌, ℕ, List, [], ◌∷◌, ◌++◌, Some, refl}
+use Rattle.std.proofs.Common.{◌≡◌, ℕ, List, [], ◌∷◌, ◌++◌, Some, None, refl}
 use Rattle.bundle_piece.specs.declared.piece.Role.TheVariants.{Reference}
 use Rattle.bundle_piece.specs.Item as h
 use Rattle.bundle_piece.specs.Item.{Head}
@@ -7,11 +7,11 @@ use Rattle.bundle_places.specs.Places.{path_at}
 use Rattle.bundle_places.specs.Denotes.{Denoted, Global}
 use Rattle.bundle_terms.specs.Nodes.{Text}
 use Rattle.bundle_terms.specs.Statements.{Element, taken}
-use Rattle.bundle_terms.specs.Meaning.{Mark, Meant, Sense, Replacement, Means, finished, replaced, begun, ended, named, inside, unbound, Unbound, NameMeans, denoted, begin_marks, end_marks, name_marks}
+use Rattle.bundle_terms.specs.Meaning.{Mark, Meant, Sense, Means, finished, replaced, begun, ended, named, inside, unbound, Unbound, NameMeans, denoted, begin_marks, end_marks, name_marks}
 
 -- a node that is not replaced begins
-pub begun_first : (sense : Sense) (inner : List Denoted) (place field : ℕ) (head : Head) (rest : List Element) (marks : List Mark) → ((by : Replacement) → sense.Replaces place by → ⊥) → Means sense inner (taken place (h.Open field head) ∷ rest) marks → (more : List Mark) × Means sense inner rest more × (marks ≡ begin_marks sense.view.tree place field (path_at sense.view.tree place) head ++ more)
-begun_first sense inner place field head rest marks stays (replaced by is means) = absurd (stays by is)
+pub begun_first : (sense : Sense) (inner : List Denoted) (place field : ℕ) (head : Head) (rest : List Element) (marks : List Mark) → sense.replaced place ≡ None → Means sense inner (taken place (h.Open field head) ∷ rest) marks → (more : List Mark) × Means sense inner rest more × (marks ≡ begin_marks sense.view.tree place field (path_at sense.view.tree place) head ++ more)
+begun_first sense inner place field head rest marks stays (replaced by is means) = cc
 begun_first sense inner place field head rest marks stays (begun {marks = more} not means) = (more, means, refl)
 
 -- a node ends

@@ -1,20 +1,21 @@
 -- Examples of the list of a program, and of what items need.
-use Rattle.std.proofs.Common.{◌≡◌, ◌≢◌, ℕ, zero, suc, true, false, List, [], ◌∷◌, ◌++◌, inl, inr, Some, None, refl, arith, lit<, lit≤}
-use Rattle.std.specs.Prelude.{codes, Contains}
-use Rattle.bundle_leaf.specs.declared.kind.VarDeclKind.TheVariants.{Const}
+use Rattle.std.proofs.Common.{◌≡◌, ◌≢◌, ℕ, zero, suc, true, false, List, [], ◌∷◌, ◌++◌, inl, inr, Option, Some, None, refl, arith, lit<}
+use Rattle.std.specs.Prelude.{codes, Contains, take, drop}
+use Rattle.bundle_leaf.specs.declared.kind.VarDeclKind.TheVariants.{Const, Var}
 use Rattle.bundle_leaf.specs.declared.operator.AssignOp.TheVariants.{Assign}
 use Rattle.bundle_piece.specs.Item as h
 use Rattle.bundle_piece.specs.Item.{Item}
-use Rattle.bundle_piece.specs.declared.piece.Role.TheVariants.{Binding}
-use Rattle.bundle_places.specs.Scopes.{Top}
-use Rattle.bundle_places.specs.Declarations.{Name, BySymbol}
+use Rattle.bundle_piece.specs.declared.piece.Role.TheVariants.{Binding, Reference}
+use Rattle.bundle_places.specs.Scopes.{Top, Inner, FunctionBody}
+use Rattle.bundle_places.specs.Declarations.{BySymbol, ByContext}
 use Rattle.bundle_graph.specs.Walks.{itself, along}
 use Rattle.bundle_graph.specs.Order.{finished, listed}
-use Rattle.bundle_terms.specs.Statements.{top_items}
-use Rattle.bundle_terms.specs.Kept.{Program, requested, IsList, SharesBlock}
-use Rattle.bundle_terms.specs.Order.{Group, Refers, DeclaresAt, Depends, IsStrong, Needs, is_delayed, roots_chain}
-use Rattle.bundle_places.specs.Places.{path_at}
-use Rattle.bundle_terms.proofs.Trees.{node, module_of, declares, exports_const, imports, imports_bare, exports_from, calls, runs, uses, member, number, function}
+use Rattle.bundle_terms.specs.Statements.{top_items, placed, no_notes}
+use Rattle.bundle_terms.specs.Program.{Program, requested, IsList, SharesBlock}
+use Rattle.bundle_terms.specs.Order.{Mention, Group, group_of, Refers, DeclaresAt, Depends, IsStrong, Needs}
+use Rattle.bundle_terms.specs.Nodes.{side_by_side}
+use Rattle.bundle_terms.specs.Forms.{wrapped}
+use Rattle.bundle_terms.proofs.Trees.{node, module_of, declares, exports_const, imports, imports_bare, exports_from, calls, runs, uses, word, member, number, function}
 use Rattle.bundle_terms.proofs.Programs.{program}
 use Rattle.bundle_terms.proofs.LinkingExamples.{x, one}
 
@@ -55,32 +56,91 @@ abbrev items : List Item
 items = module_of (runs (node 0 (h.AssignExpr Assign) (node 1 h.MemberExpr (uses 0 (codes "b") ++ node 1 h.ComputedPropName (number 0 (codes "0"))) ++ number 2 (codes "133"))) ++ declares Const (codes "b") (number 1 (codes "32")))
 
 abbrev g : Group
-g = record { tree = items; reading = BySymbol; top = Top; items = top_items items; owners = Some 0 ∷ Some 1 ∷ [] }
+g = group_of BySymbol Top items (top_items items) (Some 0 ∷ Some 1 ∷ [])
 
-abbrev b : Name
-b = record { sym = codes "b"; ctxt = None }
+-- an identifier that denotes the first top binding, and of which nothing else holds
+abbrev plain : Mention
+plain = record { top = Some 0; declares = false; later = false; assigned = false; argument = false; chain = false; prototype = false; valueless = false }
 
-refers_at_once : Refers g 0 b 4 false
-refers_at_once = record { inside = record { item = record { start = 1; items = runs (node 0 (h.AssignExpr Assign) (node 1 h.MemberExpr (uses 0 (codes "b") ++ node 1 h.ComputedPropName (number 0 (codes "0"))) ++ number 2 (codes "133"))) }; is = refl; from = lit≤ tt; to = lit< tt }; occurrence = _; stands = refl; refers = refl; denotes = refl; delayed = refl }
+-- b is the one top binding: the first item assigns to a member of it, and the second declares it
+its_mentions : g.items ≡ (record plain { chain = true } ∷ []) ∷ (record plain { declares = true } ∷ []) ∷ []
+its_mentions = refl
 
-declares_b : DeclaresAt g 1 b 17
-declares_b = record { inside = record { item = record { start = 14; items = declares Const (codes "b") (number 1 (codes "32")) }; is = refl; from = lit≤ tt; to = lit< tt }; declaration = _; stands = (0, lit< tt, refl); at = refl; home = refl; named = refl }
+refers_at_once : Refers g 0 0 (record plain { chain = true })
+refers_at_once = record { at = 0; there = refl; denotes = refl; refers = refl }
+
+declares_b : DeclaresAt g 1 0 0 (record plain { declares = true })
+declares_b = record { there = refl; denotes = refl; declares = refl }
 
 depends : Depends g 0 1
-depends = record { other = λ e. grind arith; binding = b; place = 4; later = false; refers = refers_at_once; provides = inl (17, declares_b) }
+depends = record { other = λ e. grind arith; binding = 0; by = record plain { chain = true }; refers = refers_at_once; provides = inl (0, record plain { declares = true }, declares_b) }
 
 strong : IsStrong g 0 1
-strong = record { depends = depends; at_once = inr (b, 4, refers_at_once, inl (17, declares_b)) }
+strong = record { depends = depends; at_once = inr (record { binding = 0; by = record plain { chain = true }; refers = refers_at_once; at_once = refl; provides = inl (0, record plain { declares = true }, declares_b) }) }
 
 needs : Needs g 0 1
 needs = record { depends = depends; across = record { apart = λ m first second. cc }; holds = λ weak back. weak.not_strong strong }
 
--- Set up. In `b.c = 1;` a member of b is assigned at once, and in `function f() { b; }` the name is read later
-is_set_up : roots_chain (path_at (module_of (runs (node 0 (h.AssignExpr Assign) (member 1 (uses 0 (codes "b")) (codes "c") ++ number 2 (codes "1"))))) 4) ≡ true
-is_set_up = refl
+-- What holds of identifiers. Each of these stands beside `var b;`, the first item
 
-read_alone : roots_chain (path_at (module_of (runs (member 0 (uses 0 (codes "b")) (codes "c")))) 3) ≡ false
-read_alone = refl
+abbrev beside : List Item → List (List Mention)
+beside item = let tree : List Item = module_of (declares Var (codes "b") [] ++ item) in (group_of BySymbol Top tree (top_items tree) []).items
 
-later : is_delayed 1 (path_at (module_of (node 0 h.FnDecl (h.Ident 0 (codes "f") 0 Binding ∷ function 1 (runs (uses 0 (codes "b")))))) 5) ≡ true
-later = refl
+abbrev declared : List Mention
+declared = record plain { declares = true; valueless = true } ∷ []
+
+-- another name than b
+abbrev other : Mention
+other = record plain { top = None }
+
+-- `b.c = 1;`
+member_is_set : beside (runs (node 0 (h.AssignExpr Assign) (member 1 (uses 0 (codes "b")) (codes "c") ++ number 2 (codes "1")))) ≡ declared ∷ (record plain { chain = true } ∷ []) ∷ []
+member_is_set = refl
+
+-- `b.c;`
+member_is_read : beside (runs (member 0 (uses 0 (codes "b")) (codes "c"))) ≡ declared ∷ (plain ∷ []) ∷ []
+member_is_read = refl
+
+-- `function f() { b; }`: f is a top binding too, the second
+read_later : beside (node 0 h.FnDecl (h.Ident 0 (codes "f") 0 Binding ∷ function 1 (runs (uses 0 (codes "b"))))) ≡ declared ∷ (record plain { top = Some 1; declares = true } ∷ record plain { later = true } ∷ []) ∷ []
+read_later = refl
+
+-- `f(b);`
+in_argument : beside (calls (codes "f") (uses 1 (codes "b"))) ≡ declared ∷ (other ∷ record plain { argument = true } ∷ []) ∷ []
+in_argument = refl
+
+-- `Object.assign(b.prototype);`
+abbrev assigns_to : ℕ → List Item
+assigns_to ctxt = runs (node 0 h.CallExpr (node 0 h.MemberExpr (h.Ident 0 (codes "Object") ctxt Reference ∷ node 1 (h.IdentName (codes "assign")) []) ++ node 1 (h.ExprOrSpread false) (member 1 (uses 0 (codes "b")) (codes "prototype"))))
+
+prototype_is_set : beside (assigns_to 0) ≡ declared ∷ (other ∷ record plain { argument = true; prototype = true } ∷ []) ∷ []
+prototype_is_set = refl
+
+-- read by contexts, where a part of a bundle stands alone, an `Object` that another part declares is not the global
+abbrev alone : ℕ → List (List Mention)
+alone ctxt = let tree : List Item = module_of (assigns_to ctxt) in (group_of ByContext Top tree (top_items tree) []).items
+
+of_the_global : alone 1 ≡ (other ∷ record other { argument = true; prototype = true } ∷ []) ∷ []
+of_the_global = refl
+
+of_another_module : alone 5 ≡ (other ∷ record other { argument = true } ∷ []) ∷ []
+of_another_module = refl
+
+-- A group stays the same where names are changed, and in one function's call.
+
+-- `const x = 1; use({ x });` with the context 2, and `const x1 = 1; use({ x: x1 });`
+abbrev of_contexts : List Item
+of_contexts = module_of (node 0 (h.VarDecl Const no_notes) (node 1 h.VarDeclarator (node 0 h.BindingIdent (h.Ident 0 x 2 Binding ∷ []) ++ one)) ++ calls (codes "use") (node 1 h.ObjectLit (h.Ident 0 x 2 Reference ∷ [])))
+
+abbrev of_symbols : List Item
+of_symbols = module_of (declares Const (codes "x1") one ++ calls (codes "use") (node 1 h.ObjectLit (node 0 h.KeyValueProp (word 0 x ++ uses 1 (codes "x1")))))
+
+abbrev owners : List (Option ℕ)
+owners = Some 0 ∷ Some 0 ∷ []
+
+same_by_symbols : group_of ByContext Top of_contexts (top_items of_contexts) owners ≡ group_of BySymbol Top of_symbols (top_items of_symbols) owners
+same_by_symbols = refl
+
+-- the items of `(function () { const x1 = 1; use({ x: x1 }); return {}; })();`, without what it returns
+same_in_a_call : group_of BySymbol Top of_symbols (top_items of_symbols) owners ≡ group_of BySymbol (Inner FunctionBody 6) (wrapped of_symbols) (take 2 (placed 7 (side_by_side zero (drop 7 (wrapped of_symbols))))) owners
+same_in_a_call = refl

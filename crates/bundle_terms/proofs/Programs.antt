@@ -4,7 +4,8 @@ use Rattle.bundle_piece.specs.Item.{Item}
 use Rattle.bundle_name.specs.FileName.{Name, real}
 use Rattle.bundle_terms.specs.Nodes.{Text}
 use Rattle.bundle_terms.specs.Entries.{Settings}
-use Rattle.bundle_terms.specs.Kept.{Asked, Loaded, Kept, Program}
+use Rattle.bundle_terms.specs.Program.{Loaded, Program}
+use Rattle.bundle_terms.specs.Kept.{Asked, Kept, program_of}
 use Rattle.bundle_terms.proofs.Trees.{module_of}
 
 abbrev pub main_js : Name
@@ -42,8 +43,8 @@ settings_with require = record { require = require; external = codes "ext" ∷ [
 
 -- the program with these modules, with `require` not linked
 abbrev pub program : List Item → List Item → List Item → List Item → Program
-program main a b c = record { kept = kept_of main a b c; settings = settings_with false; entry = 0 }
+program main a b c = program_of (kept_of main a b c) (settings_with false) 0
 
 -- the same, with `require` linked
 abbrev pub program_with_require : List Item → List Item → List Item → List Item → Program
-program_with_require main a b c = record { kept = kept_of main a b c; settings = settings_with true; entry = 0 }
+program_with_require main a b c = program_of (kept_of main a b c) (settings_with true) 0

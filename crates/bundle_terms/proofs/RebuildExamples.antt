@@ -8,7 +8,7 @@ use Rattle.bundle_piece.specs.Item.{Item}
 use Rattle.bundle_terms.specs.Nodes.{Text}
 use Rattle.bundle_terms.specs.Statements.{no_notes}
 use Rattle.bundle_terms.specs.Shape.{shape}
-use Rattle.bundle_terms.specs.Headline.{Ident}
+use Rattle.bundle_terms.specs.Idents.{Ident}
 use Rattle.bundle_terms.specs.Rebuilds.{Begins, BeginsWord, Ends, Occurs, marks_of, listed, with_idents, renamed_by, with_pair, renamed_all, followed_by, found, Renaming, RenamingsCompose}
 use Rattle.bundle_terms.proofs.Trees.{node, binds, uses, names, word, string, number, imports, exports_name, calls, runs}
 

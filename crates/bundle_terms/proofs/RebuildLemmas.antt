@@ -5,7 +5,7 @@ use Rattle.bundle_piece.specs.declared.piece.Role.TheVariants.{Binding, Referenc
 use Rattle.bundle_piece.specs.Item as h
 use Rattle.bundle_piece.specs.Item.{Item}
 use Rattle.bundle_places.specs.Places.{Spot, start, past, occurrences_from, is_binding}
-use Rattle.bundle_terms.specs.Headline.{ident_of}
+use Rattle.bundle_terms.specs.Idents.{ident_of}
 use Rattle.bundle_terms.specs.Rebuilds.{marks_of, listed, listed_in}
 
 -- from a spot on, the identifiers among the marks are the occurrences

@@ -1,24 +1,27 @@
 -- What a bundle is: its items stand for the own statements of the reached modules and for what is injected, each
 -- once, with the meanings of the originals; and how they are laid out (ECMA-262, 16.2.1.5.2 Evaluate: a module runs
 -- after those that it requests, in depth-first order).
-use Rattle.std.specs.Prelude.{◌≡◌, ℕ, zero, suc, ◌+◌, ◌<◌, ◌==◌, ◌↔◌, ◌⊎◌, Bool, true, false, IsTrue, List, [], ◌∷◌, ◌++◌, Option, Some, None, Contains, length, map, filter, flat_map, slice_get}
+use Rattle.std.specs.Prelude.{◌≡◌, ℕ, zero, suc, ◌+◌, ◌<◌, ◌==◌, ◌↔◌, ◌⊎◌, Bool, true, false, IsTrue, List, [], ◌∷◌, ◌++◌, Option, Some, None, Contains, length, map, filter, flat_map, slice_get, codes, if◌then◌else◌}
 use Rattle.std.specs.List.{AllZip}
 use Rattle.std.specs.Cmp.Lexicographic.{slice_cmp}
 use Rattle.std.specs.Ordering.{nat_cmp}
 use Rattle.std.specs.declared.cmp.Ordering.TheVariants.{Less}
 use Rattle.bundle_piece.specs.Item as h
 use Rattle.bundle_piece.specs.Item.{Item, Head}
-use Rattle.bundle_places.specs.Scopes.{Scope, Top, Inner as InnerScope, FunctionBody}
+use Rattle.bundle_places.specs.Scopes.{Es, Scope, Top, Inner as InnerScope, FunctionBody}
+use Rattle.bundle_places.specs.Doubled.{first_doubled}
 use Rattle.bundle_places.specs.Declarations.{Reading, BySymbol}
 use Rattle.bundle_name.specs.FileName.{Name as FileName}
-use Rattle.bundle_terms.specs.Nodes.{Text, each_once, side_by_side}
+use Rattle.bundle_terms.specs.Nodes.{Text, each_once, side_by_side, has_head}
 use Rattle.bundle_terms.specs.Statements.{TopItem, top_items, placed, Element, taken_from, own_statements}
-use Rattle.bundle_terms.specs.Entries.{Named, Whole, declared_requests, has_import_meta}
-use Rattle.bundle_terms.specs.Kept.{Program, Loaded, module_of, tree_of, resolves, is_external, requested, cleared, Requests, IsReached, IsList, AreBlocks}
+use Rattle.bundle_terms.specs.Entries.{Settings, Named, Whole, declared_requests, has_import_meta}
+use Rattle.bundle_terms.specs.Cleared.{cleared}
+use Rattle.bundle_terms.specs.Bound.{has_free}
+use Rattle.bundle_terms.specs.Program.{Program, Loaded, module_of, tree_of, resolves, is_external, requested, Requests, IsReached, IsList, AreBlocks}
 use Rattle.bundle_terms.specs.Linking.{IsCommonJs, Target, Namespace, External, CommonJs, Linked, IsLinked, HasExternalStar}
 use Rattle.bundle_terms.specs.Meaning.{Of, Mark, Labelling, IsOneToOne, Sense, StatementMeans, Means, bundle_sense, OwnMeaning, IsMeant}
 use Rattle.bundle_terms.specs.Injected.{NamedTarget, import_names, import_whole, import_bare, export_star, export_list, return_object, namespace_object, meta_object, load_statement, load_front, load_back, helper_function}
-use Rattle.bundle_terms.specs.Order.{IsGoodOrder}
+use Rattle.bundle_terms.specs.Order.{group_of, IsGoodOrder}
 use Rattle.bundle_terms.specs.Awaits.{awaits_outside}
 
 -- What a bundle has.
@@ -36,6 +39,15 @@ pub data Cause : Type 0 where
   HoldsNamespace : (d : ℕ) → Cause
   Stars : (s : Text) → Cause
   Exports : Cause
+
+-- the form in which a bundle stands: as a module, or as one function's call
+pub data Form : Type 0 where
+  AsModule : Form
+  AsCall : Form
+
+-- the form that is asked for
+abbrev pub form_of : Settings → Form
+form_of settings = if settings.iife then AsCall else AsModule
 
 -- a reached module asks for the external
 pub record IsUsed (p : Program) (s : Text) : Type 0 where
@@ -59,20 +71,20 @@ MeansName p s x = IsMeant p (Of (External s (Named x)))
 abbrev pub MeansWhole : Program → Text → Type 0
 MeansWhole p s = IsMeant p (Of (External s Whole))
 
--- what is due in a bundle, and nothing else is
-pub data IsDue (p : Program) : Cause → Type 0 where
-  own : {m k : ℕ} → IsReached p m → (IsCommonJs p m → ⊥) → k < length (own_statements (tree_of p m)) → IsDue p (Own m k)
-  imports_names : {s x : Text} → IsUsed p s → MeansName p s x → IsDue p (ImportsNames s)
-  imports_whole : {s : Text} → IsUsed p s → MeansWhole p s → IsDue p (ImportsWhole s)
-  imports_nothing : {s : Text} → IsUsed p s → ((x : Text) → MeansName p s x → ⊥) → (MeansWhole p s → ⊥) → IsDue p (ImportsNothing s)
-  helps : {c : ℕ} → IsReached p c → IsCommonJs p c → IsDue p Helps
-  defines : {c : ℕ} → IsReached p c → IsCommonJs p c → IsDue p (Defines c)
-  loads : {m c : ℕ} → IsReached p m → (IsCommonJs p m → ⊥) → AsksCommonJs p m c → IsDue p (Loads m c)
-  holds_meta : {m : ℕ} → IsReached p m → IsTrue (has_import_meta (tree_of p m)) → IsDue p (HoldsMeta m)
-  holds_namespace : {d : ℕ} → IsMeant p (Of (Namespace d)) → IsDue p (HoldsNamespace d)
-  stars : {s : Text} → HasExternalStar p p.entry s → IsDue p (Stars s)
-  exports : {x : Text} → p.settings.iife ≡ false → IsLinked p p.entry x → IsDue p Exports
-  returns : p.settings.iife ≡ true → IsDue p Exports
+-- what is due in a bundle of this form, and nothing else is
+pub data IsDue (p : Program) (form : Form) : Cause → Type 0 where
+  own : {m k : ℕ} → IsReached p m → (IsCommonJs p m → ⊥) → k < length (own_statements (tree_of p m)) → IsDue p form (Own m k)
+  imports_names : {s x : Text} → IsUsed p s → MeansName p s x → IsDue p form (ImportsNames s)
+  imports_whole : {s : Text} → IsUsed p s → MeansWhole p s → IsDue p form (ImportsWhole s)
+  imports_nothing : {s : Text} → IsUsed p s → ((x : Text) → MeansName p s x → ⊥) → (MeansWhole p s → ⊥) → IsDue p form (ImportsNothing s)
+  helps : {c : ℕ} → IsReached p c → IsCommonJs p c → IsDue p form Helps
+  defines : {c : ℕ} → IsReached p c → IsCommonJs p c → IsDue p form (Defines c)
+  loads : {m c : ℕ} → IsReached p m → (IsCommonJs p m → ⊥) → AsksCommonJs p m c → IsDue p form (Loads m c)
+  holds_meta : {m : ℕ} → IsReached p m → IsTrue (has_import_meta (tree_of p m)) → IsDue p form (HoldsMeta m)
+  holds_namespace : {d : ℕ} → IsMeant p (Of (Namespace d)) → IsDue p form (HoldsNamespace d)
+  stars : {s : Text} → HasExternalStar p p.entry s → IsDue p form (Stars s)
+  exports : {x : Text} → form ≡ AsModule → IsLinked p p.entry x → IsDue p form Exports
+  returns : form ≡ AsCall → IsDue p form Exports
 
 -- Names in their order.
 
@@ -146,20 +158,31 @@ pub record MayHold (p : Program) (hooks : Hooks) (m : ℕ) (properties : List It
   pub answered : hooks.may_answer loaded.file_name (m == p.entry) answer
   pub cleared : properties ≡ cleared answer
 
--- an item stands for its cause
-pub data Realises (p : Program) (hooks : Hooks) (b : Labelled) : TopItem → Cause → Type 0 where
-  own : {item : TopItem} {m k : ℕ} (statement : List Element) → slice_get (own_statements (tree_of p m)) k ≡ Some statement → SameMeaning p b m item statement → Realises p hooks b item (Own m k)
-  imports_names : {item : TopItem} {s : Text} (names : List Text) → AreNames (MeansName p s) names → ItemMeans b item (import_names s names) → Realises p hooks b item (ImportsNames s)
-  imports_whole : {item : TopItem} {s : Text} → ItemMeans b item (import_whole s) → Realises p hooks b item (ImportsWhole s)
-  imports_nothing : {item : TopItem} {s : Text} → ItemMeans b item (import_bare s) → Realises p hooks b item (ImportsNothing s)
-  helps : {item : TopItem} → ItemMeans b item helper_function → Realises p hooks b item Helps
-  defines : {item : TopItem} {c : ℕ} → IsLoadFunction p b c item → Realises p hooks b item (Defines c)
-  loads : {item : TopItem} {m c : ℕ} (whole : Bool) (names : List Text) → AreNames (λ x. IsMeant p (Of (CommonJs m c (Named x)))) names → (IsTrue whole ↔ IsMeant p (Of (CommonJs m c Whole))) → ItemMeans b item (load_statement m c whole names) → Realises p hooks b item (Loads m c)
-  holds_meta : {item : TopItem} {m : ℕ} (properties : List Item) (marks : List Mark) → MayHold p hooks m properties → PropertiesMean properties marks → ItemMeans b item (meta_object m marks) → Realises p hooks b item (HoldsMeta m)
-  holds_namespace : {item : TopItem} {d : ℕ} (pairs : List NamedTarget) → AreLinked p d pairs → ItemMeans b item (namespace_object d pairs) → Realises p hooks b item (HoldsNamespace d)
-  stars : {item : TopItem} {s : Text} → ItemMeans b item (export_star s) → Realises p hooks b item (Stars s)
-  exports : {item : TopItem} (pairs : List NamedTarget) → p.settings.iife ≡ false → AreLinked p p.entry pairs → ItemMeans b item (export_list pairs) → Realises p hooks b item Exports
-  returns : {item : TopItem} (pairs : List NamedTarget) → p.settings.iife ≡ true → AreLinked p p.entry pairs → ItemMeans b item (return_object pairs) → Realises p hooks b item Exports
+-- whether such a node is a `with` statement
+abbrev pub is_with : Head → Bool
+is_with h.WithStmt = true
+is_with _ = false
+
+-- properties that a hook answers have no fault: no name is declared twice in them, they have no `with` and, where the bundle is one function's call, no free `arguments`
+pub record AreFaultless (p : Program) (properties : List Item) : Type 0 where
+  pub undoubled : first_doubled Es (properties_tree properties) ≡ None
+  pub no_with : has_head is_with properties ≡ false
+  pub no_arguments : p.settings.iife ≡ true → has_free (properties_tree properties) (codes "arguments") ≡ false
+
+-- an item stands for its cause, in a bundle of this form
+pub data Realises (p : Program) (hooks : Hooks) (form : Form) (b : Labelled) : TopItem → Cause → Type 0 where
+  own : {item : TopItem} {m k : ℕ} (statement : List Element) → slice_get (own_statements (tree_of p m)) k ≡ Some statement → SameMeaning p b m item statement → Realises p hooks form b item (Own m k)
+  imports_names : {item : TopItem} {s : Text} (names : List Text) → AreNames (MeansName p s) names → ItemMeans b item (import_names s names) → Realises p hooks form b item (ImportsNames s)
+  imports_whole : {item : TopItem} {s : Text} → ItemMeans b item (import_whole s) → Realises p hooks form b item (ImportsWhole s)
+  imports_nothing : {item : TopItem} {s : Text} → ItemMeans b item (import_bare s) → Realises p hooks form b item (ImportsNothing s)
+  helps : {item : TopItem} → ItemMeans b item helper_function → Realises p hooks form b item Helps
+  defines : {item : TopItem} {c : ℕ} → IsLoadFunction p b c item → Realises p hooks form b item (Defines c)
+  loads : {item : TopItem} {m c : ℕ} (whole : Bool) (names : List Text) → AreNames (λ x. IsMeant p (Of (CommonJs m c (Named x)))) names → (IsTrue whole ↔ IsMeant p (Of (CommonJs m c Whole))) → ItemMeans b item (load_statement m c whole names) → Realises p hooks form b item (Loads m c)
+  holds_meta : {item : TopItem} {m : ℕ} (properties : List Item) (marks : List Mark) → MayHold p hooks m properties → AreFaultless p properties → PropertiesMean properties marks → ItemMeans b item (meta_object m marks) → Realises p hooks form b item (HoldsMeta m)
+  holds_namespace : {item : TopItem} {d : ℕ} (pairs : List NamedTarget) → AreLinked p d pairs → ItemMeans b item (namespace_object d pairs) → Realises p hooks form b item (HoldsNamespace d)
+  stars : {item : TopItem} {s : Text} → ItemMeans b item (export_star s) → Realises p hooks form b item (Stars s)
+  exports : {item : TopItem} (pairs : List NamedTarget) → form ≡ AsModule → AreLinked p p.entry pairs → ItemMeans b item (export_list pairs) → Realises p hooks form b item Exports
+  returns : {item : TopItem} (pairs : List NamedTarget) → form ≡ AsCall → AreLinked p p.entry pairs → ItemMeans b item (return_object pairs) → Realises p hooks form b item Exports
 
 -- The body of a bundle.
 
@@ -171,11 +194,11 @@ function_front is_async = h.Open 0 h.Module ∷ h.Open 0 h.ExprStmt ∷ h.Open 0
 abbrev pub function_back : List Item
 function_back = h.Close ∷ h.Close ∷ h.Close ∷ h.Close ∷ h.Close ∷ h.Close ∷ h.Close ∷ []
 
--- `HasBody iife tree top body`: the items of the bundle, and the scope of its top bindings
-pub data HasBody : Bool → List Item → Scope → List TopItem → Type 0 where
-  of_module : {tree : List Item} → HasBody false tree Top (top_items tree)
+-- `HasBody form tree top body`: the items of the bundle, and the scope of its top bindings
+pub data HasBody : Form → List Item → Scope → List TopItem → Type 0 where
+  of_module : {tree : List Item} → HasBody AsModule tree Top (top_items tree)
   -- one function's call; the function is async exactly where something in the body awaits outside functions
-  of_function : (inside : List Item) → HasBody true (function_front (awaits_outside inside) ++ (inside ++ function_back)) (InnerScope FunctionBody 6) (placed 7 (side_by_side zero inside))
+  of_function : (inside : List Item) → HasBody AsCall (function_front (awaits_outside inside) ++ (inside ++ function_back)) (InnerScope FunctionBody 6) (placed 7 (side_by_side zero inside))
 
 -- The pairing.
 
@@ -191,11 +214,11 @@ abbrev pub labelled : List Item → Reading → Pairing → Labelled
 labelled tree reading pairing = record { tree = tree; reading = reading; labels = pairing.labels }
 
 -- each item of the bundle stands for its cause; what is due stands once, and nothing else does
-pub record IsPaired (p : Program) (hooks : Hooks) (reading : Reading) (tree : List Item) (pairing : Pairing) : Type 0 where
+pub record IsPaired (p : Program) (hooks : Hooks) (form : Form) (reading : Reading) (tree : List Item) (pairing : Pairing) : Type 0 where
   pub labels : IsOneToOne pairing.labels
-  pub body : HasBody p.settings.iife tree pairing.top pairing.body
-  pub realised : AllZip (Realises p hooks (labelled tree reading pairing)) pairing.body pairing.plan
-  pub due : (cause : Cause) → Contains pairing.plan cause ↔ IsDue p cause
+  pub body : HasBody form tree pairing.top pairing.body
+  pub realised : AllZip (Realises p hooks form (labelled tree reading pairing)) pairing.body pairing.plan
+  pub due : (cause : Cause) → Contains pairing.plan cause ↔ IsDue p form cause
   pub once : (i j : ℕ) (cause : Cause) → slice_get pairing.plan i ≡ Some cause → slice_get pairing.plan j ≡ Some cause → i ≡ j
 
 -- The layout.
@@ -237,17 +260,17 @@ pub record StandsFor (pairing : Pairing) (cause : Cause) (item : TopItem) : Type
   pub cause_there : slice_get pairing.plan at ≡ Some cause
   pub item_there : slice_get pairing.body at ≡ Some item
 
--- `IsBlockLaidOut p tree reading pairing members plan`: the items of a block stand so
-pub data IsBlockLaidOut (p : Program) (tree : List Item) (reading : Reading) (pairing : Pairing) : List ℕ → List Cause → Type 0 where
+-- `IsBlockLaidOut p form tree reading pairing members plan`: the items of a block stand so
+pub data IsBlockLaidOut (p : Program) (form : Form) (tree : List Item) (reading : Reading) (pairing : Pairing) : List ℕ → List Cause → Type 0 where
   -- a module that shares its block with none and does not request itself: its items in their order, and then its free item
-  lone : {m : ℕ} {plan : List Cause} → (Requests p m m → ⊥) → Chosen (IsDue p) (module_causes p m ++ HoldsNamespace m ∷ []) plan → IsBlockLaidOut p tree reading pairing (m ∷ []) plan
+  lone : {m : ℕ} {plan : List Cause} → (Requests p m m → ⊥) → Chosen (IsDue p form) (module_causes p m ++ HoldsNamespace m ∷ []) plan → IsBlockLaidOut p form tree reading pairing (m ∷ []) plan
   -- any other block: its items, numbered by modules and then the free ones, in an order that meets what is promised of one
-  cycle : {members : List ℕ} {plan : List Cause} (numbered : List Cause) (items : List TopItem) (order : List ℕ) → ((m : ℕ) → members ≡ m ∷ [] → Requests p m m) → Chosen (IsDue p) (flat_map (module_causes p) members ++ map HoldsNamespace members) numbered → AllZip (StandsFor pairing) numbered items → IsGoodOrder (record { tree = tree; reading = reading; top = pairing.top; items = items; owners = map owner_of numbered }) order → AllZip (λ n cause. slice_get numbered n ≡ Some cause) order plan → IsBlockLaidOut p tree reading pairing members plan
+  cycle : {members : List ℕ} {plan : List Cause} (numbered : List Cause) (items : List TopItem) (order : List ℕ) → ((m : ℕ) → members ≡ m ∷ [] → Requests p m m) → Chosen (IsDue p form) (flat_map (module_causes p) members ++ map HoldsNamespace members) numbered → AllZip (StandsFor pairing) numbered items → IsGoodOrder (group_of reading pairing.top tree items (map owner_of numbered)) order → AllZip (λ n cause. slice_get numbered n ≡ Some cause) order plan → IsBlockLaidOut p form tree reading pairing members plan
 
 -- the blocks one after the other
-pub data AreBlocksLaidOut (p : Program) (tree : List Item) (reading : Reading) (pairing : Pairing) : List (List ℕ) → List Cause → Type 0 where
-  over : AreBlocksLaidOut p tree reading pairing [] []
-  next : {members : List ℕ} {blocks : List (List ℕ)} {rest : List Cause} (plan : List Cause) → IsBlockLaidOut p tree reading pairing members plan → AreBlocksLaidOut p tree reading pairing blocks rest → AreBlocksLaidOut p tree reading pairing (members ∷ blocks) (plan ++ rest)
+pub data AreBlocksLaidOut (p : Program) (form : Form) (tree : List Item) (reading : Reading) (pairing : Pairing) : List (List ℕ) → List Cause → Type 0 where
+  over : AreBlocksLaidOut p form tree reading pairing [] []
+  next : {members : List ℕ} {blocks : List (List ℕ)} {rest : List Cause} (plan : List Cause) → IsBlockLaidOut p form tree reading pairing members plan → AreBlocksLaidOut p form tree reading pairing blocks rest → AreBlocksLaidOut p form tree reading pairing (members ∷ blocks) (plan ++ rest)
 
 -- a block stands after each other block that one of its modules requests
 abbrev pub FollowsRequests : Program → List (List ℕ) → Type 0
@@ -255,7 +278,7 @@ FollowsRequests p blocks =
     (i j m n : ℕ) (block other : List ℕ) → slice_get blocks i ≡ Some block → slice_get blocks j ≡ Some other → Contains block m → Contains other n → Requests p m n → (j < i) ⊎ (j ≡ i)
 
 -- imports of externals and the helper stand in front, then the blocks in the order of their last members, then stars of externals and the exports
-pub record IsLaidOut (p : Program) (reading : Reading) (tree : List Item) (pairing : Pairing) : Type 0 where
+pub record IsLaidOut (p : Program) (form : Form) (reading : Reading) (tree : List Item) (pairing : Pairing) : Type 0 where
   pub list : List ℕ
   pub is_list : IsList p list
   pub blocks : List (List ℕ)
@@ -265,12 +288,12 @@ pub record IsLaidOut (p : Program) (reading : Reading) (tree : List Item) (pairi
   pub middle : List Cause
   pub back : List Cause
   pub plan : pairing.plan ≡ front ++ (middle ++ back)
-  pub in_front : Chosen (IsDue p) (flat_map import_causes (externals p list) ++ Helps ∷ []) front
-  pub in_blocks : AreBlocksLaidOut p tree reading pairing blocks middle
-  pub behind : Chosen (IsDue p) (map Stars (externals p list) ++ Exports ∷ []) back
+  pub in_front : Chosen (IsDue p form) (flat_map import_causes (externals p list) ++ Helps ∷ []) front
+  pub in_blocks : AreBlocksLaidOut p form tree reading pairing blocks middle
+  pub behind : Chosen (IsDue p form) (map Stars (externals p list) ++ Exports ∷ []) back
 
--- the tree is a bundle of the program, where names are read so: some pairing of its items is right and is laid out
-pub record IsBundle (p : Program) (hooks : Hooks) (reading : Reading) (tree : List Item) : Type 0 where
+-- the tree is a bundle of the program in this form, where names are read so: some pairing of its items is right and is laid out
+pub record IsBundle (p : Program) (hooks : Hooks) (form : Form) (reading : Reading) (tree : List Item) : Type 0 where
   pub pairing : Pairing
-  pub paired : IsPaired p hooks reading tree pairing
-  pub laid_out : IsLaidOut p reading tree pairing
+  pub paired : IsPaired p hooks form reading tree pairing
+  pub laid_out : IsLaidOut p form reading tree pairing

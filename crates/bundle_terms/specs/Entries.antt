@@ -11,6 +11,7 @@ use Rattle.bundle_piece.specs.declared.piece.Role.TheVariants.{Binding}
 use Rattle.bundle_piece.specs.Item as h
 use Rattle.bundle_piece.specs.Item.{Item, Head}
 use Rattle.bundle_terms.specs.Nodes.{Text, has_text, each_once, in_field, child, string_of, name_of, begins_with, has_head}
+pub use Rattle.bundle_terms.specs.Nodes.{is_end}
 use Rattle.bundle_terms.specs.Statements.{top_items, default_name}
 
 -- what is taken of another module: one of its names, or the whole
@@ -210,11 +211,6 @@ is_plain_argument_head _ = false
 abbrev pub is_plain_argument : Item → Bool
 is_plain_argument (h.Open field head) = is_plain_argument_head head
 is_plain_argument _ = false
-
--- whether this is an end
-abbrev pub is_end : Item → Bool
-is_end h.Close = true
-is_end _ = false
 
 -- whether the list begins with n ends
 abbrev pub ends : ℕ → List Item → Bool

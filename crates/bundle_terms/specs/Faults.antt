@@ -6,7 +6,8 @@ use Rattle.bundle_piece.specs.Item.{Item, Head}
 use Rattle.bundle_places.specs.Scopes.{ModuleKind, Es}
 use Rattle.bundle_places.specs.Doubled.{first_doubled}
 use Rattle.bundle_places.specs.Declarations.{Declared as Declaration}
-use Rattle.bundle_places.specs.Counts.{scope_count, binding_count}
+use Rattle.bundle_places.specs.Places.{start}
+use Rattle.bundle_places.specs.Counts.{scope_count, scope_count_from, binding_count}
 use Rattle.bundle_name.specs.FileName.{Name, name_of as file_name_of}
 use Rattle.bundle_name.specs.declared.error.Error.{Error}
 use Rattle.bundle_name.specs.declared.error.Error.TheVariants as e
@@ -14,11 +15,12 @@ use Rattle.bundle_terms.specs.Nodes.{Text, in_field, child, string_of, begins_wi
 use Rattle.bundle_terms.specs.Statements.{top_items, default_name}
 use Rattle.bundle_terms.specs.Entries.{Named, Whole, ImportEntry, ExportEntry, Local, Indirect, Star, RequireCall, imports_of, imports_of_item, exports_of, exports_of_item, declared_requests, has_import_meta, is_script}
 use Rattle.bundle_terms.specs.Bound.{top_names, has_free}
-use Rattle.bundle_terms.specs.Kept.{Asked, Loaded, Kept, Answers, Program, file_of, module_of, tree_of, resolves, is_external, calls_of, IsReached, IsList}
+use Rattle.bundle_terms.specs.Program.{Loaded, Program, file_of, module_of, tree_of, resolves, is_external, calls_of, IsReached, IsList}
+use Rattle.bundle_terms.specs.Kept.{Asked, Kept, Answers}
 use Rattle.bundle_terms.specs.Linking.{IsCommonJs, IsModule, IsAmbiguous, IsMissing, HasExternalStar, Namespace, exports, CommonJs}
 use Rattle.bundle_terms.specs.Meaning.{HasKind, IsMeant, Of}
 use Rattle.bundle_terms.specs.Awaits.{awaits_outside}
-use Rattle.bundle_terms.specs.Bundle.{Hooks, Cause, ImportsNames, ImportsWhole, Helps, Defines, Loads, HoldsMeta, HoldsNamespace, IsDue, AreNames, MeansName, MayHold, properties_tree}
+use Rattle.bundle_terms.specs.Bundle.{Hooks, Cause, ImportsNames, ImportsWhole, Helps, Defines, Loads, HoldsMeta, HoldsNamespace, IsDue, form_of, AreNames, MeansName, MayHold, properties_tree, is_with, AreFaultless}
 
 -- a refusal: what is wrong, in which file, and with which name or specifier
 pub data Fault : Type 0 where
@@ -239,11 +241,6 @@ IsFaultlessProgram p = (m stage place : ℕ) (file : Name) (f : Fault) → IsRea
 
 -- Faults of a hook's answer: it fails, or what it answers has a doubled declaration, a `with`, or a free `arguments` under one function's call.
 
--- whether such a node is a `with` statement
-abbrev pub is_with : Head → Bool
-is_with h.WithStmt = true
-is_with _ = false
-
 -- what is wrong with properties that a hook answers
 pub data PropertiesFault (p : Program) (file : Name) (properties : List Item) : Fault → Type 0 where
   doubled : (d : Declaration) → first_doubled Es (properties_tree properties) ≡ Some d → PropertiesFault p file properties (DoubledDeclaration file d.name.sym)
@@ -256,10 +253,10 @@ pub data HookFault (p : Program) (parties : Parties) (m : ℕ) (file : Name) : F
   answers : {f : Fault} (properties : List Item) → MayHold p parties.hooks m properties → PropertiesFault p file properties f → HookFault p parties m file f
 
 -- the hook may answer for module m without a fault
-pub record MayAnswer (p : Program) (parties : Parties) (m : ℕ) (file : Name) : Type 0 where
+pub record MayAnswer (p : Program) (parties : Parties) (m : ℕ) : Type 0 where
   pub properties : List Item
   pub held : MayHold p parties.hooks m properties
-  pub right : (f : Fault) → PropertiesFault p file properties f → ⊥
+  pub right : AreFaultless p properties
 
 -- Where the number of contexts ends.
 
@@ -271,7 +268,8 @@ pub data InjectedCount (p : Program) : Cause → ℕ → Type 0 where
   helper : InjectedCount p Helps 10
   -- the name of the function; its scopes and parameters are counted with the tree
   load_function : {c : ℕ} → InjectedCount p (Defines c) 1
-  loads : {m c : ℕ} (names : List Text) → AreNames (λ x. IsMeant p (Of (CommonJs m c (Named x)))) names → InjectedCount p (Loads m c) (length names + 1)
+  loads : {m c : ℕ} (names : List Text) → AreNames (λ x. IsMeant p (Of (CommonJs m c (Named x)))) names → (IsMeant p (Of (CommonJs m c Whole)) → ⊥) → InjectedCount p (Loads m c) (length names)
+  loads_whole : {m c : ℕ} (names : List Text) → AreNames (λ x. IsMeant p (Of (CommonJs m c (Named x)))) names → IsMeant p (Of (CommonJs m c Whole)) → InjectedCount p (Loads m c) (length names + 1)
   meta : {m : ℕ} → InjectedCount p (HoldsMeta m) 1
   -- the object's name, its function's scopes and `arguments`
   namespace : {d : ℕ} → InjectedCount p (HoldsNamespace d) 4
@@ -286,24 +284,33 @@ pub data CountsTo (p : Program) : List Cause → ℕ → Type 0 where
 abbrev pub tree_count : ModuleKind → List Item → ℕ
 tree_count kind tree = scope_count kind tree + binding_count kind tree
 
--- the scopes and bindings of the modules of a list, and of answers of the hook for those with `import.meta`, added
+-- those of properties that a hook answers; they have no top of their own
+abbrev pub properties_count : List Item → ℕ
+properties_count properties = scope_count_from start (properties_tree properties) + binding_count Es (properties_tree properties)
+
+-- the scopes and bindings of the modules of a list, and of answers of the hook for those with `import.meta`, added; where the hook was not asked the tree counts alone
 pub data TreesCountTo (p : Program) (hooks : Hooks) : List ℕ → ℕ → Type 0 where
   nothing : TreesCountTo p hooks [] 0
   plain : {m more : ℕ} {rest : List ℕ} {kind : ModuleKind} → HasKind p m kind → has_import_meta (tree_of p m) ≡ false → TreesCountTo p hooks rest more → TreesCountTo p hooks (m ∷ rest) (tree_count kind (tree_of p m) + more)
-  with_meta : {m more : ℕ} {rest : List ℕ} (properties : List Item) → has_import_meta (tree_of p m) ≡ true → MayHold p hooks m properties → TreesCountTo p hooks rest more → TreesCountTo p hooks (m ∷ rest) (tree_count Es (tree_of p m) + (tree_count Es (properties_tree properties) + more))
+  with_meta : {m more : ℕ} {rest : List ℕ} (properties : List Item) → has_import_meta (tree_of p m) ≡ true → MayHold p hooks m properties → TreesCountTo p hooks rest more → TreesCountTo p hooks (m ∷ rest) (tree_count Es (tree_of p m) + (properties_count properties + more))
+  unanswered : {m more : ℕ} {rest : List ℕ} → has_import_meta (tree_of p m) ≡ true → TreesCountTo p hooks rest more → TreesCountTo p hooks (m ∷ rest) (tree_count Es (tree_of p m) + more)
 
--- a bundle may need contexts above the last: two for each number and two more, one for each scope and binding
-pub record NeedsTooManyContexts (p : Program) (hooks : Hooks) : Type 0 where
+-- a bundle may need contexts above the last: from the next one on, one for each scope and binding
+pub record NeedsTooManyContexts (p : Program) (hooks : Hooks) (next : ℕ) : Type 0 where
   pub list : List ℕ
   pub is_list : IsList p list
   pub causes : List Cause
-  pub due : (cause : Cause) → Contains causes cause → IsDue p cause
+  pub due : (cause : Cause) → Contains causes cause → IsDue p (form_of p.settings) cause
   pub once : (i j : ℕ) (cause : Cause) → slice_get causes i ≡ Some cause → slice_get causes j ≡ Some cause → i ≡ j
   pub of_trees : ℕ
   pub trees : TreesCountTo p hooks list of_trees
   pub of_causes : ℕ
   pub injected : CountsTo p causes of_causes
-  pub above : 4294967295 < 2 * length p.kept.names + 2 + of_trees + of_causes
+  pub above : 4294967295 < next + of_trees + of_causes
+
+-- the first context above those of files: two for each number, and two more
+abbrev pub first_context : Program → ℕ
+first_context p = 2 * p.count + 2
 
 -- the last number that a file can have
 abbrev pub last_number : ℕ

@@ -13,7 +13,8 @@ use Rattle.bundle_terms.specs.Nodes.{Text}
 use Rattle.bundle_terms.specs.Statements.{no_notes}
 use Rattle.bundle_terms.specs.Entries.{Named, Whole}
 use Rattle.bundle_terms.specs.Linking.{Target, Namespace, External, CommonJs}
-use Rattle.bundle_terms.specs.Meaning.{Label, Of, Parameter, Load, Meta, Helper, Inside, Known, Mark, Begins, Ends, Name, Word, word_key, computed_key}
+use Rattle.bundle_terms.specs.Marks.{Begins, Ends, Name, Word, word_key, computed_key}
+use Rattle.bundle_terms.specs.Meaning.{Label, Of, Parameter, Load, Meta, Helper, Inside, Known, Mark}
 
 -- a node in a field, with what stands in it
 abbrev pub marks_node : ℕ → Head → List Mark → List Mark

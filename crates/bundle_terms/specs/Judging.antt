@@ -6,7 +6,9 @@ use Rattle.bundle_name.specs.FileName.{Name}
 use Rattle.bundle_terms.specs.Nodes.{Text}
 use Rattle.bundle_terms.specs.Entries.{Settings, requests_of, has_import_meta}
 use Rattle.bundle_terms.specs.Bound.{is_free}
-use Rattle.bundle_terms.specs.Kept.{Asked, Loaded, Kept, Program, number_in, kept_module, kept_file, cleared, tree_of, IsList}
+use Rattle.bundle_terms.specs.Cleared.{cleared}
+use Rattle.bundle_terms.specs.Program.{Loaded, Program, tree_of, IsList}
+use Rattle.bundle_terms.specs.Kept.{Asked, Kept, number_in, kept_module, kept_file, program_of}
 use Rattle.bundle_terms.specs.Faults.{Fault, LoadFails, ResolveFails, TooManyModules, ContextsUsedUp, DoubledEntry, Parties, IsFirstTreeFault, IsFaultless, IsFirstProgramFault, IsFaultlessProgram, HookFault, MayAnswer, Stands, NumbersUsedUp}
 
 -- an entry: the name of its bundle, and its file
@@ -89,14 +91,14 @@ pub data LoadsAll (parties : Parties) (settings : Settings) : List Name → ℕ 
 
 -- the program of an entry
 pub record IsProgramOf (kept : Kept) (settings : Settings) (entry : Entry) (p : Program) : Type 0 where
-  pub its_kept : p.kept ≡ kept
-  pub its_settings : p.settings ≡ settings
-  pub its_entry : number_in kept entry.file ≡ Some p.entry
+  pub number : ℕ
+  pub its_number : number_in kept entry.file ≡ Some number
+  pub is : p ≡ program_of kept settings number
 
 -- the hook may answer without a fault for each module before place i of the list that has `import.meta`
 abbrev pub AnsweredBefore : Program → Parties → List ℕ → ℕ → Type 0
 AnsweredBefore p parties list i =
-    (j m : ℕ) (file : Name) → j < i → Stands p list j m file → IsTrue (has_import_meta (tree_of p m)) → MayAnswer p parties m file
+    (j m : ℕ) (file : Name) → j < i → Stands p list j m file → IsTrue (has_import_meta (tree_of p m)) → MayAnswer p parties m
 
 -- a program is refused: by its first fault or, where it has none, at the first module for which the hook's answer is at fault
 pub data RefusesProgram (p : Program) (parties : Parties) : Fault → Type 0 where

@@ -4,7 +4,7 @@ use Rattle.bundle_terms.specs.Nodes.{Text}
 use Rattle.bundle_terms.specs.Statements.{default_name}
 use Rattle.bundle_terms.specs.Entries.{Taken, Named, Whole, ImportEntry, ExportEntry, Local, Indirect, Star, RequireCall, imports_of, import_of, exports_of, has_own_entry, is_script}
 use Rattle.bundle_terms.specs.Bound.{has_free, top_names}
-use Rattle.bundle_terms.specs.Kept.{Program, tree_of, resolves, is_external, calls_of, IsReached}
+use Rattle.bundle_terms.specs.Program.{Program, tree_of, resolves, is_external, calls_of, IsReached}
 
 -- Kinds of modules.
 

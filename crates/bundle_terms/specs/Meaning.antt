@@ -1,20 +1,24 @@
 -- What a statement means: its tree, in which each name is replaced by what it denotes (ECMA-262, 9.4.2
 -- ResolveBinding; 16.2.1.6.4, by which an imported name is the binding of another module; 10.4.6 for reads of a
 -- namespace). Contexts and notes are left out, and shorthands are spelled out (13.2.5, 14.3.3).
-use Rattle.std.specs.Prelude.{◌≡◌, ℕ, zero, suc, ◌+◌, ◌==◌, ◌&&◌, ◌||◌, nat_le, Bool, true, false, not, List, [], ◌∷◌, ◌++◌, Option, Some, None, Contains, filter, filter_map, position, slice_get, bytes_eq, codes, if◌then◌else◌}
-use Rattle.bundle_leaf.specs.declared.operator.UnaryOp.TheVariants.{Delete}
+use Rattle.std.specs.Prelude.{◌≡◌, ℕ, zero, suc, ◌↔◌, nat_le, Bool, true, false, List, [], ◌∷◌, ◌++◌, Option, Some, None, Contains, filter, filter_map, position, slice_get}
 use Rattle.bundle_piece.specs.declared.piece.Role.{Role}
 use Rattle.bundle_piece.specs.declared.piece.Role.TheVariants.{Word as IsWord}
 use Rattle.bundle_piece.specs.Item as h
 use Rattle.bundle_piece.specs.Item.{Item, Head}
 use Rattle.bundle_places.specs.Places.{Around, path_at}
-use Rattle.bundle_places.specs.Scopes.{ModuleKind, Es, Cjs, Scope, Inner as InnerScope, Top, Wrapper, same_scope}
+use Rattle.bundle_places.specs.Scopes.{ModuleKind, Es, Cjs, Scope, Inner as InnerScope, Top, Wrapper}
 use Rattle.bundle_places.specs.Declarations.{Reading, BySymbol, Name as Known_as}
 use Rattle.bundle_places.specs.Denotes.{Denoted, Bound, Global, denoted_at}
-use Rattle.bundle_terms.specs.Nodes.{Text, child, begins_with, node_at}
+use Rattle.bundle_terms.specs.Nodes.{Text}
 use Rattle.bundle_terms.specs.Statements.{Element, taken, written, own_statements}
-use Rattle.bundle_terms.specs.Entries.{RequireCall, is_end, is_import_meta}
-use Rattle.bundle_terms.specs.Kept.{Program, tree_of, resolves, calls_of, cleared_head, IsReached}
+use Rattle.bundle_terms.specs.Cleared.{cleared_head}
+pub use Rattle.bundle_terms.specs.Shorthands.{ends_at, has_default, is_shorthand_in_pattern, is_object, symbol_of}
+pub use Rattle.bundle_terms.specs.Marks.{MarkOf, Begins, Ends, Empty, Name, Word, begin_marks, end_marks, name_marks}
+use Rattle.bundle_terms.specs.Reads.{read_word}
+pub use Rattle.bundle_terms.specs.Mentions.{same_denoted, each_denoted_once}
+use Rattle.bundle_terms.specs.Entries.{RequireCall, is_import_meta}
+use Rattle.bundle_terms.specs.Program.{Program, tree_of, resolves, calls_of, IsReached}
 use Rattle.bundle_terms.specs.Linking.{IsCommonJs, Target, Namespace, Linked, StandsFor}
 
 -- Meanings.
@@ -33,75 +37,9 @@ pub data Meant : Type 0 where
   Known : Label → Meant
   Unbound : Text → Meant
 
--- one element of a meaning: a node begins in a field, or ends; a place of a list is empty; a name with what it means; a plain word
-pub data Mark : Type 0 where
-  Begins : ℕ → Head → Mark
-  Ends : Mark
-  Empty : ℕ → Mark
-  Name : ℕ → Meant → Mark
-  Word : ℕ → Text → Mark
-
--- The marks of single elements, with shorthands spelled out.
-
--- whether a node ends here
-abbrev pub ends_at : Option Item → Bool
-ends_at None = false
-ends_at (Some x) = is_end x
-
--- whether the shorthand property of a pattern that begins at this place has a default value
-abbrev pub has_default : List Item → ℕ → Bool
-has_default tree begins = not (ends_at (slice_get tree (begins + 4)))
-
--- whether such a node is a shorthand property of a pattern
-abbrev pub is_shorthand_in_pattern : Head → Bool
-is_shorthand_in_pattern h.AssignPatProp = true
-is_shorthand_in_pattern _ = false
-
--- whether such a node is an object literal
-abbrev pub is_object : Head → Bool
-is_object h.ObjectLit = true
-is_object _ = false
-
--- the symbol of an identifier
-abbrev pub symbol_of : Option Item → Text
-symbol_of (Some (h.Ident field sym ctxt role)) = sym
-symbol_of _ = []
-
--- a plain key
-abbrev pub word_key : Text → List Mark
-word_key x = Begins 0 (h.IdentName x) ∷ Ends ∷ []
-
--- a computed key
-abbrev pub computed_key : Text → List Mark
-computed_key x = Begins 0 h.ComputedPropName ∷ Begins 0 (h.Str x None) ∷ Ends ∷ Ends ∷ []
-
--- the key that a shorthand of an object literal is spelled out with; a plain `__proto__` would set the prototype
-abbrev pub object_key : Text → List Mark
-object_key x = if bytes_eq x (codes "__proto__") then computed_key x else word_key x
-
--- the beginning of a node
-abbrev pub begin_marks : List Item → ℕ → ℕ → List Around → Head → List Mark
-begin_marks tree place field around h.AssignPatProp =
-    Begins field h.KeyValuePatProp ∷ (word_key (symbol_of (slice_get tree (place + 2))) ++ (if has_default tree place then Begins 1 h.AssignPat ∷ [] else []))
-begin_marks tree place field [] head = Begins field (cleared_head head) ∷ []
-begin_marks tree place field (node ∷ outer) head =
-    Begins (if is_shorthand_in_pattern node.head && is_key node.field then (if has_default tree node.begins then 0 else 1) else field) (cleared_head head) ∷ []
-  where
-    is_key : ℕ → Bool
-    is_key n = n == 0
-
--- the end of a node: with the shorthand property of a pattern its default ends too
-abbrev pub end_marks : List Item → List Around → List Mark
-end_marks tree [] = Ends ∷ []
-end_marks tree (node ∷ outer) = if is_shorthand_in_pattern node.head && has_default tree node.begins then Ends ∷ Ends ∷ [] else Ends ∷ []
-
--- a name
-abbrev pub name_marks : ℕ → List Around → Text → Meant → List Mark
-name_marks field [] x meant = Name field meant ∷ []
-name_marks field (node ∷ outer) x meant =
-    if is_object node.head
-    then Begins field h.KeyValueProp ∷ (object_key x ++ Name 1 meant ∷ Ends ∷ [])
-    else Name field meant ∷ []
+-- one element of a meaning: in the place of a name stands what it means
+abbrev pub Mark : Type 0
+Mark = MarkOf Meant
 
 -- What names denote.
 
@@ -121,27 +59,10 @@ denoted view (taken place x) = denoted_at view.reading view.kind view.tree place
 denoted view (written (h.Ident field sym ctxt role)) = Some (Bound Top (plain sym))
 denoted view (written _) = None
 
--- whether two contexts are the same, or both are not read
-abbrev pub same_context : Option ℕ → Option ℕ → Bool
-same_context None None = true
-same_context (Some a) (Some b) = a == b
-same_context _ _ = false
-
--- whether two names denote the same
-abbrev pub same_denoted : Denoted → Denoted → Bool
-same_denoted (Bound scope name) (Bound other its) = same_scope scope other && bytes_eq name.sym its.sym && same_context name.ctxt its.ctxt
-same_denoted (Global x) (Global y) = bytes_eq x y
-same_denoted _ _ = false
-
 -- whether it is a binding of a scope that begins from this place on
 abbrev pub is_inside : ℕ → Denoted → Bool
 is_inside start (Bound (InnerScope kind begins) name) = nat_le start begins
 is_inside start _ = false
-
--- what is denoted, each once, where it stands first
-abbrev pub each_denoted_once : List Denoted → List Denoted
-each_denoted_once [] = []
-each_denoted_once (d ∷ rest) = d ∷ filter (λ other. not (same_denoted d other)) (each_denoted_once rest)
 
 -- the bindings inside a statement that begins at this place, in the order of first mention
 abbrev pub inner_bindings : View → ℕ → List Element → List Denoted
@@ -162,7 +83,7 @@ replacement_marks field (ByCall l) = Begins field h.CallExpr ∷ Name 0 (Known l
 -- how a tree gets its meaning: what the node that begins at a place is replaced by, if it is, and what a binding outside a statement stands for
 pub record Sense : Type 1 where
   pub view : View
-  pub Replaces : ℕ → Replacement → Type 0
+  pub replaced : ℕ → Option Replacement
   pub Stands : Denoted → Label → Type 0
 
 -- the element of a tree that an element of a statement is
@@ -190,9 +111,9 @@ pub data NameMeans (sense : Sense) (inner : List Denoted) : Denoted → Meant �
 pub data Means (sense : Sense) (inner : List Denoted) : List Element → List Mark → Type 0 where
   finished : Means sense inner [] []
   -- a node that is replaced; what stands in it is passed over, so that of two one in the other the outer one counts
-  replaced : {place field : ℕ} {head : Head} {rest : List Element} {marks : List Mark} (by : Replacement) → sense.Replaces place by → Means sense inner (past_end zero rest) marks → Means sense inner (taken place (h.Open field head) ∷ rest) (replacement_marks field by ++ marks)
+  replaced : {place field : ℕ} {head : Head} {rest : List Element} {marks : List Mark} (by : Replacement) → sense.replaced place ≡ Some by → Means sense inner (past_end zero rest) marks → Means sense inner (taken place (h.Open field head) ∷ rest) (replacement_marks field by ++ marks)
   -- any other node begins
-  begun : {place field : ℕ} {head : Head} {rest : List Element} {marks : List Mark} → ((by : Replacement) → sense.Replaces place by → ⊥) → Means sense inner rest marks → Means sense inner (taken place (h.Open field head) ∷ rest) (begin_marks sense.view.tree place field (path_at sense.view.tree place) head ++ marks)
+  begun : {place field : ℕ} {head : Head} {rest : List Element} {marks : List Mark} → sense.replaced place ≡ None → Means sense inner rest marks → Means sense inner (taken place (h.Open field head) ∷ rest) (begin_marks sense.view.tree place field (path_at sense.view.tree place) head ++ marks)
   ended : {place : ℕ} {rest : List Element} {marks : List Mark} → Means sense inner rest marks → Means sense inner (taken place h.Close ∷ rest) (end_marks sense.view.tree (path_at sense.view.tree place) ++ marks)
   empty : {place field : ℕ} {rest : List Element} {marks : List Mark} → Means sense inner rest marks → Means sense inner (taken place (h.Hole field) ∷ rest) (Empty field ∷ marks)
   -- a name means what it denotes
@@ -210,66 +131,6 @@ StatementMeans sense start statement marks = Means sense (inner_bindings sense.v
 
 -- Static reads of namespaces.
 
--- whether such a node reads a member
-abbrev pub is_member : Head → Bool
-is_member h.MemberExpr = true
-is_member _ = false
-
--- the text of a plain word
-abbrev pub head_plain_word : Head → Option Text
-head_plain_word (h.IdentName x) = Some x
-head_plain_word _ = None
-
--- the text of the plain word that the list begins with
-abbrev pub plain_word : List Item → Option Text
-plain_word (h.Open field head ∷ rest) = head_plain_word head
-plain_word _ = None
-
--- the word x of a node `p.x`
-abbrev pub property_of : List Item → Option Text
-property_of node = if begins_with is_member node then plain_word (child 1 node) else None
-
--- whether such a node, in this field, writes to what stands there
-abbrev pub writes : Head → ℕ → Bool
-writes (h.AssignExpr op) field = field == 1
-writes (h.UpdateExpr op prefix) field = true
-writes (h.UnaryExpr Delete) field = true
-writes h.ForInStmt field = field == 0
-writes (h.ForOfStmt is_await) field = field == 1
-writes _ field = false
-
--- whether what stands in this field of such a node is written to where the node is: parentheses and patterns
-abbrev pub passes_writes : Head → ℕ → Bool
-passes_writes h.ParenExpr field = true
-passes_writes h.ArrayPat field = true
-passes_writes h.ObjectPat field = true
-passes_writes h.RestPat field = true
-passes_writes h.AssignPat field = field == 0
-passes_writes h.KeyValuePatProp field = field == 1
-passes_writes _ field = false
-
--- whether what stands in these nodes is a target of an assignment, an update, a `delete` or a loop head
-abbrev pub is_written_to : List Around → Bool
-is_written_to [] = false
-is_written_to (node ∷ outer) = writes node.head node.field || (passes_writes node.head node.field && is_written_to outer)
-
--- whether such a node is an optional chain
-abbrev pub is_optional_chain : Head → Bool
-is_optional_chain (h.OptChainExpr optional) = true
-is_optional_chain _ = false
-
--- whether what stands in these nodes is the base of an optional chain
-abbrev pub is_optional_base : List Around → Bool
-is_optional_base [] = false
-is_optional_base (node ∷ outer) = is_optional_chain node.head
-
--- the word x, where a read `p.x` begins at this place that is neither written to nor optional
-abbrev pub read_word : List Item → ℕ → Option Text
-read_word tree place =
-    if is_written_to (path_at tree place) || is_optional_base (path_at tree place)
-    then None
-    else property_of (node_at tree place)
-
 -- `ReadsAs p m place t`: the expression at this place of m is an imported name or a static read, and means t
 pub data ReadsAs (p : Program) (m : ℕ) : ℕ → Target → Type 0 where
   -- a name at the top of the module means what it stands for
@@ -286,9 +147,13 @@ is_meta_at _ = false
 
 -- what is replaced in a module: static reads, `import.meta`, and literal calls of `require`
 pub data Replaced (p : Program) (m : ℕ) : ℕ → Replacement → Type 0 where
-  static_read : {place : ℕ} {t : Target} → ReadsAs p m place t → Replaced p m place (ByName (Of t))
+  static_read : {place : ℕ} {x : Text} {t : Target} → read_word (tree_of p m) place ≡ Some x → ReadsAs p m place t → Replaced p m place (ByName (Of t))
   import_meta : {place : ℕ} → is_meta_at (slice_get (tree_of p m) place) ≡ true → Replaced p m place (ByName (Meta m))
   require_call : {place c : ℕ} (call : RequireCall) → Contains (calls_of p m) call → call.place ≡ place → resolves p m call.specifier ≡ Some c → Replaced p m place (ByCall (Load c))
+
+-- a table of what is replaced in a module: it tells of each place just what is replaced there
+abbrev pub IsExact : Program → ℕ → (ℕ → Option Replacement) → Type 0
+IsExact p m table = (place : ℕ) (by : Replacement) → (table place ≡ Some by) ↔ Replaced p m place by
 
 -- what a binding at the top of a module stands for; a CommonJS module's `module`, `exports` and `arguments` are its function's
 pub data OwnName (p : Program) (m : ℕ) : Denoted → Label → Type 0 where
@@ -300,15 +165,21 @@ pub data HasKind (p : Program) (m : ℕ) : ModuleKind → Type 0 where
   is_es : (IsCommonJs p m → ⊥) → HasKind p m Es
   is_common_js : IsCommonJs p m → HasKind p m Cjs
 
--- how a module gets its meaning
-abbrev pub own_sense : Program → ℕ → ModuleKind → Sense
-own_sense p m kind = record { view = record { tree = tree_of p m; kind = kind; reading = BySymbol }; Replaces = Replaced p m; Stands = OwnName p m }
+-- how a module is read, by its symbols
+abbrev pub own_view : Program → ℕ → ModuleKind → View
+own_view p m kind = record { tree = tree_of p m; kind = kind; reading = BySymbol }
+
+-- how a module gets its meaning, with this table of what is replaced in it
+abbrev pub own_sense : Program → ℕ → ModuleKind → (ℕ → Option Replacement) → Sense
+own_sense p m kind table = record { view = own_view p m kind; replaced = table; Stands = OwnName p m }
 
 -- a statement of m means these marks
 pub record OwnMeaning (p : Program) (m : ℕ) (statement : List Element) (marks : List Mark) : Type 0 where
   pub kind : ModuleKind
   pub has_kind : HasKind p m kind
-  pub means : StatementMeans (own_sense p m kind) 0 statement marks
+  pub table : ℕ → Option Replacement
+  pub exact : IsExact p m table
+  pub means : StatementMeans (own_sense p m kind table) 0 statement marks
 
 -- The statements of a bundle.
 
@@ -323,12 +194,31 @@ pub record IsOneToOne (labels : Labelling) : Type 0 where
 
 -- how a bundle gets its meaning: nothing is replaced, and its bindings stand for their labels
 abbrev pub bundle_sense : List Item → Reading → Labelling → Sense
-bundle_sense tree reading labels = record { view = record { tree = tree; kind = Es; reading = reading }; Replaces = λ place by. ⊥; Stands = λ d l. Contains labels (d, l) }
+bundle_sense tree reading labels = record { view = record { tree = tree; kind = Es; reading = reading }; replaced = λ place. None; Stands = λ d l. Contains labels (d, l) }
 
 -- What is meant.
 
--- the least set of labels that a bundle needs: what own statements of reached modules mean, what the entry's exports are linked to, and what the names of a namespace are linked to that is itself meant
+-- the nodes of the module around an element of a statement; around what is written in addition stands none
+abbrev pub around_element : List Item → Element → List Around
+around_element tree (taken place x) = path_at tree place
+around_element tree (written x) = []
+
+-- the element lies in no node that is replaced
+abbrev pub IsLeft : Program → ℕ → Element → Type 0
+IsLeft p m e = (node : Around) (by : Replacement) → Contains (around_element (tree_of p m) e) node → Replaced p m node.begins by → ⊥
+
+-- the label that a replacement means
+abbrev pub label_of : Replacement → Label
+label_of (ByName l) = l
+label_of (ByCall l) = l
+
+-- `SaysAt p m e l`: at this element of a statement of m the label is meant, by a name that stands for it or by a node that is replaced by it
+pub data SaysAt (p : Program) (m : ℕ) : Element → Label → Type 0 where
+  says_name : {kind : ModuleKind} {e : Element} {d : Denoted} {l : Label} → HasKind p m kind → denoted (own_view p m kind) e ≡ Some d → OwnName p m d l → SaysAt p m e l
+  says_node : {place field : ℕ} {head : Head} {by : Replacement} → Replaced p m place by → SaysAt p m (taken place (h.Open field head)) (label_of by)
+
+-- the least set of labels that a bundle needs: what own statements of reached modules mean, place by place, what the entry's exports are linked to, and what the names of a namespace are linked to that is itself meant
 pub data IsMeant (p : Program) : Label → Type 0 where
-  by_statement : {m field : ℕ} {statement : List Element} {marks : List Mark} {l : Label} → IsReached p m → Contains (own_statements (tree_of p m)) statement → OwnMeaning p m statement marks → Contains marks (Name field (Known l)) → IsMeant p l
+  by_statement : {m : ℕ} {statement : List Element} {e : Element} {l : Label} → IsReached p m → Contains (own_statements (tree_of p m)) statement → Contains statement e → IsLeft p m e → SaysAt p m e l → IsMeant p l
   by_export : {x : Text} {t : Target} → Linked p p.entry x t → IsMeant p (Of t)
   by_namespace : {d : ℕ} {x : Text} {t : Target} → IsMeant p (Of (Namespace d)) → Linked p d x t → IsMeant p (Of t)

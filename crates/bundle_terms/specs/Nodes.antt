@@ -17,6 +17,11 @@ abbrev pub each_once : List Text → List Text
 each_once [] = []
 each_once (x ∷ rest) = x ∷ filter (λ y. not (bytes_eq x y)) (each_once rest)
 
+-- the numbers in their order, each once, where it stands first
+abbrev pub numbers_once : List ℕ → List ℕ
+numbers_once [] = []
+numbers_once (n ∷ rest) = n ∷ filter (λ m. not (n == m)) (numbers_once rest)
+
 -- one more element in front of the first list
 abbrev pub put_first : Item → List (List Item) → List (List Item)
 put_first x [] = (x ∷ []) ∷ []
@@ -49,6 +54,11 @@ without_last (x ∷ y ∷ rest) = x ∷ without_last (y ∷ rest)
 abbrev pub inside : List Item → List Item
 inside [] = []
 inside (first ∷ rest) = without_last rest
+
+-- whether this is an end
+abbrev pub is_end : Item → Bool
+is_end h.Close = true
+is_end _ = false
 
 -- the number of the field in which an element lies; an end lies in none
 abbrev pub field_of : Item → Option ℕ

@@ -1,29 +1,45 @@
 -- In which order the statements of modules that reach each other may stand. What an item needs is what must have run
 -- before it (ECMA-262, 9.1.1.1.6: a binding is read after it is initialised; 14.2.2 and 14.7 statements run in their
 -- order; 15.2 to 15.7: the body of a function runs when it is called, an instance field with its object).
-use Rattle.std.specs.Prelude.{◌≡◌, ◌≢◌, ℕ, ◌+◌, ◌<◌, ◌≤◌, ◌==◌, ◌&&◌, ◌||◌, ◌⊎◌, ◌↔◌, nat_eq, nat_le, Bool, true, false, not, List, [], ◌∷◌, Option, Some, None, Contains, length, slice_get, bytes_eq, codes, take_while}
+use Rattle.std.specs.Prelude.{◌≡◌, ◌≢◌, ℕ, ◌+◌, ◌<◌, ◌≤◌, ◌==◌, ◌&&◌, ◌||◌, ◌⊎◌, ◌↔◌, nat_eq, Bool, true, false, not, List, [], ◌∷◌, Option, Some, None, Contains, length, slice_get, bytes_eq, codes, map, flat_map, filter, filter_map, position, option_and_then}
 use Rattle.std.specs.List.{IsDistinct}
-use Rattle.bundle_piece.specs.declared.piece.Role.TheVariants.{Reference}
 use Rattle.bundle_piece.specs.Item as h
 use Rattle.bundle_piece.specs.Item.{Item, Head}
-use Rattle.bundle_places.specs.Places.{Around, Occurrence, path_at, occurrence_at}
-use Rattle.bundle_places.specs.Scopes.{Es, Scope}
-use Rattle.bundle_places.specs.Declarations.{Reading, Name, Declared as Declaration, declared}
-use Rattle.bundle_places.specs.Homes.{home_of}
+use Rattle.bundle_places.specs.Places.{Around, Occurrence, occurrence_at, occurrences, is_binding}
+use Rattle.bundle_places.specs.Scopes.{Es, Scope, same_scope}
+use Rattle.bundle_places.specs.Declarations.{Reading, BySymbol, ByContext}
 use Rattle.bundle_places.specs.Denotes.{Denoted, Bound, Global, denoted_at}
 use Rattle.bundle_places.specs.Deferred.{runs_later}
 use Rattle.bundle_graph.specs.Walks.{Path}
 use Rattle.bundle_terms.specs.Nodes.{Text, in_field, node_at}
 use Rattle.bundle_terms.specs.Statements.{TopItem}
 use Rattle.bundle_terms.specs.Entries.{is_call_head}
-use Rattle.bundle_terms.specs.Meaning.{passes_writes, property_of}
+use Rattle.bundle_terms.specs.Reads.{passes_writes, property_of}
+use Rattle.bundle_terms.specs.Mentions.{same_denoted, each_denoted_once}
 
--- what is to be put in order: items of a tree, numbered by their places in the list; the module of each, or none for a free item; the scope of the top bindings; and how names are read
+-- What is to be put in order. Nothing of it depends on what names are called, on where an item stands, or on what is
+-- spelled out; so it is the same before names are changed and afterwards, and in a module and in one function's call.
+
+-- an identifier of an item, as far as order goes
+pub record Mention : Type 0 where
+  -- the number of the top binding that it denotes, in the order of first mention, if it denotes one
+  pub top : Option ℕ
+  -- whether it declares it; else it refers to it
+  pub declares : Bool
+  -- whether it runs later than its item
+  pub later : Bool
+  -- whether it is assigned, and whether it stands in an argument of a call
+  pub assigned : Bool
+  pub argument : Bool
+  -- whether it is the root of a chain of members that is assigned to, and whether it is the `b` of a `b.prototype` in an argument of `Object.assign`
+  pub chain : Bool
+  pub prototype : Bool
+  -- whether it is declared without a value
+  pub valueless : Bool
+
+-- items, each with its identifiers in turn and numbered by its place in the list; and the module of each, or none for a free item
 pub record Group : Type 0 where
-  pub tree : List Item
-  pub reading : Reading
-  pub top : Scope
-  pub items : List TopItem
+  pub items : List (List Mention)
   pub owners : List (Option ℕ)
 
 -- item s is one of module m
@@ -34,42 +50,7 @@ IsOf g s m = slice_get g.owners s ≡ Some (Some m)
 abbrev pub IsFree : Group → ℕ → Type 0
 IsFree g s = slice_get g.owners s ≡ Some None
 
--- a place lies in item s
-pub record LiesIn (g : Group) (s place : ℕ) : Type 0 where
-  pub item : TopItem
-  pub is : slice_get g.items s ≡ Some item
-  pub from : item.start ≤ place
-  pub to : place < item.start + length item.items
-
--- Which places run later than their item.
-
--- whether what stands in those of these nodes that begin from `start` on runs later than the item that begins there: in functions, and in what a field of an instance starts with
-abbrev pub is_delayed : ℕ → List Around → Bool
-is_delayed start path = runs_later (take_while (λ node. nat_le start node.begins) path)
-
--- item s refers to the binding b, or assigns to it, at a place; `later` says whether the place runs later than the item
-pub record Refers (g : Group) (s : ℕ) (b : Name) (place : ℕ) (later : Bool) : Type 0 where
-  pub inside : LiesIn g s place
-  pub occurrence : Occurrence
-  pub stands : occurrence_at g.tree place ≡ Some occurrence
-  pub refers : occurrence.role ≡ Reference
-  pub denotes : denoted_at g.reading Es g.tree place ≡ Some (Bound g.top b)
-  pub delayed : is_delayed inside.item.start (path_at g.tree place) ≡ later
-
--- at a place of item t the top binding b is declared
-pub record DeclaresAt (g : Group) (t : ℕ) (b : Name) (place : ℕ) : Type 0 where
-  pub inside : LiesIn g t place
-  pub declaration : Declaration
-  pub stands : Contains (declared g.reading Es g.tree) declaration
-  pub at : declaration.place ≡ place
-  pub home : home_of (declared g.reading Es g.tree) declaration ≡ g.top
-  pub named : declaration.name ≡ b
-
--- item t declares b
-abbrev pub Declares : Group → ℕ → Name → Type 0
-Declares g t b = (place : ℕ) × DeclaresAt g t b place
-
--- What sets up a binding after its declaration.
+-- What stands around an identifier in its item.
 
 -- whether a target that stands in this field of such a node is one where the node is
 abbrev pub passes_assignments : Head → ℕ → Bool
@@ -112,24 +93,17 @@ abbrev pub is_text : Text → Option Text → Bool
 is_text x None = false
 is_text x (Some y) = bytes_eq x y
 
--- whether this is the global x
-abbrev pub is_global_named : Text → Option Denoted → Bool
-is_global_named x (Some (Global y)) = bytes_eq x y
-is_global_named x _ = false
+-- whether what stands in these nodes is the `b` of a read `b.prototype` in the item
+abbrev pub is_prototype_read : List Item → List Around → Bool
+is_prototype_read item [] = false
+is_prototype_read item (node ∷ outer) = node.field == 0 && is_text (codes "prototype") (property_of (node_at item node.begins))
 
--- whether a call that begins at this place calls `assign` of the global `Object`
-abbrev pub calls_object_assign : Group → ℕ → Bool
-calls_object_assign g place = is_text (codes "assign") (property_of (node_at g.tree (place + 1))) && is_global_named (codes "Object") (denoted_at g.reading Es g.tree (place + 2))
-
--- whether some of these nodes is a call of `Object.assign` in an argument of which the place lies
-abbrev pub is_in_object_assign : Group → List Around → Bool
-is_in_object_assign g [] = false
-is_in_object_assign g (node ∷ outer) = (is_call_head node.head && node.field == 1 && calls_object_assign g node.begins) || is_in_object_assign g outer
-
--- whether what stands in these nodes is the `b` of a read `b.prototype`
-abbrev pub is_prototype_read : Group → List Around → Bool
-is_prototype_read g [] = false
-is_prototype_read g (node ∷ outer) = node.field == 0 && is_text (codes "prototype") (property_of (node_at g.tree node.begins))
+-- whether some of these nodes is a call in an argument of which the place lies, and which calls the `assign` of what passes the test at its place
+abbrev pub is_in_assign_of : (ℕ → Bool) → List Item → List Around → Bool
+is_in_assign_of test item [] = false
+is_in_assign_of test item (node ∷ outer) =
+    (is_call_head node.head && node.field == 1 && is_text (codes "assign") (property_of (node_at item (node.begins + 1))) && test (node.begins + 2))
+    || is_in_assign_of test item outer
 
 -- whether such a node calls what is in its first field with what is in its second
 abbrev pub is_any_call : Head → Bool
@@ -137,15 +111,10 @@ is_any_call h.CallExpr = true
 is_any_call h.OptCall = true
 is_any_call _ = false
 
--- whether some of these nodes that begin from `start` on is a call in an argument of which the place lies
-abbrev pub is_in_argument : ℕ → List Around → Bool
-is_in_argument start [] = false
-is_in_argument start (node ∷ outer) = (nat_le start node.begins && is_any_call node.head && node.field == 1) || is_in_argument start outer
-
--- item d is the first that declares b
-pub record DeclaresFirst (g : Group) (d : ℕ) (b : Name) : Type 0 where
-  pub declares : Declares g d b
-  pub first : (u : ℕ) → Declares g u b → d ≤ u
+-- whether some of these nodes is a call in an argument of which the place lies
+abbrev pub is_in_argument : List Around → Bool
+is_in_argument [] = false
+is_in_argument (node ∷ outer) = (is_any_call node.head && node.field == 1) || is_in_argument outer
 
 -- whether such a node is a declarator
 abbrev pub is_declarator : Head → Bool
@@ -162,31 +131,111 @@ abbrev pub has_no_value : List Item → List Around → Bool
 has_no_value tree [] = false
 has_no_value tree (node ∷ outer) = (is_declarator node.head && is_nothing (in_field 1 (node_at tree node.begins))) || (not (is_declarator node.head) && has_no_value tree outer)
 
+-- What identifiers denote.
+
+-- whether this is the global x
+abbrev pub is_global_named : Text → Option Denoted → Bool
+is_global_named x (Some (Global y)) = bytes_eq x y
+is_global_named x _ = false
+
+-- whether an identifier has the context of what nothing binds, where contexts are read: items may be part of a bundle, and a name that another part declares looks unbound in them
+abbrev pub is_of_nothing : Reading → Option Occurrence → Bool
+is_of_nothing BySymbol o = true
+is_of_nothing ByContext None = false
+is_of_nothing ByContext (Some o) = o.ctxt == 1
+
+-- whether the global `Object` stands at a place of a tree
+abbrev pub is_object_at : Reading → List Item → ℕ → Bool
+is_object_at reading tree place = is_global_named (codes "Object") (denoted_at reading Es tree place) && is_of_nothing reading (occurrence_at tree place)
+
+-- what an identifier of an item denotes in the tree
+abbrev pub denoted_in : Reading → List Item → TopItem → Occurrence → Option Denoted
+denoted_in reading tree item o = denoted_at reading Es tree (item.start + o.place)
+
+-- whether it is a binding of this scope
+abbrev pub is_of_scope : Scope → Denoted → Bool
+is_of_scope top (Bound scope name) = same_scope scope top
+is_of_scope top (Global x) = false
+
+-- the bindings of a scope that items mention, in the order of first mention
+abbrev pub mentioned : Reading → Scope → List Item → List TopItem → List Denoted
+mentioned reading top tree items = each_denoted_once (filter (is_of_scope top) (flat_map (λ item. filter_map (denoted_in reading tree item) (occurrences item.items)) items))
+
+-- an identifier of an item, where these are the top bindings
+abbrev pub mention_of : Reading → List Item → List Denoted → TopItem → Occurrence → Mention
+mention_of reading tree tops item o = record {
+  top = option_and_then (λ d. position (same_denoted d) tops) (denoted_in reading tree item o);
+  declares = is_binding o.role;
+  later = runs_later o.path;
+  assigned = is_assigned o.path;
+  argument = is_in_argument o.path;
+  chain = roots_chain o.path;
+  prototype = is_prototype_read item.items o.path && is_in_assign_of (λ place. is_object_at reading tree (item.start + place)) item.items o.path;
+  valueless = is_binding o.role && has_no_value item.items o.path;
+}
+
+-- items of a tree with their modules as a group, where names are read so and this is the scope of the top bindings
+abbrev pub group_of : Reading → Scope → List Item → List TopItem → List (Option ℕ) → Group
+group_of reading top tree items owners = record {
+  items = map (λ item. map (mention_of reading tree (mentioned reading top tree items) item) (occurrences item.items)) items;
+  owners = owners;
+}
+
+-- What items declare and refer to.
+
+-- the identifier of item s with this number
+abbrev pub mention_at : Group → ℕ → ℕ → Option Mention
+mention_at g s i = option_and_then (λ mentions. slice_get mentions i) (slice_get g.items s)
+
+-- item s refers to the top binding b, or assigns to it, by this identifier
+pub record Refers (g : Group) (s b : ℕ) (by : Mention) : Type 0 where
+  pub at : ℕ
+  pub there : mention_at g s at ≡ Some by
+  pub denotes : by.top ≡ Some b
+  pub refers : by.declares ≡ false
+
+-- the identifier of item t with this number declares b
+pub record DeclaresAt (g : Group) (t b at : ℕ) (by : Mention) : Type 0 where
+  pub there : mention_at g t at ≡ Some by
+  pub denotes : by.top ≡ Some b
+  pub declares : by.declares ≡ true
+
+-- item t declares b
+abbrev pub Declares : Group → ℕ → ℕ → Type 0
+Declares g t b = (at : ℕ) × (by : Mention) × DeclaresAt g t b at by
+
+-- What sets up a binding after its declaration.
+
+-- item d is the first that declares b
+pub record DeclaresFirst (g : Group) (d : ℕ) (b : ℕ) : Type 0 where
+  pub declares : Declares g d b
+  pub first : (u : ℕ) → Declares g u b → d ≤ u
+
 -- b is declared without a value: the first declarator of it in item d has none
-pub record IsWithoutValue (g : Group) (d : ℕ) (b : Name) : Type 0 where
-  pub place : ℕ
-  pub declares : DeclaresAt g d b place
-  pub first : (other : ℕ) → DeclaresAt g d b other → place ≤ other
-  pub no_value : has_no_value g.tree (path_at g.tree place) ≡ true
+pub record IsWithoutValue (g : Group) (d b : ℕ) : Type 0 where
+  pub at : ℕ
+  pub by : Mention
+  pub declares : DeclaresAt g d b at by
+  pub first : (other : ℕ) (its : Mention) → DeclaresAt g d b other its → at ≤ other
+  pub no_value : by.valueless ≡ true
 
 -- item u gives b a value, perhaps in a function: it assigns b or has it in an argument of a call
-pub record Fills (g : Group) (u : ℕ) (b : Name) : Type 0 where
-  pub place : ℕ
-  pub later : Bool
-  pub refers : Refers g u b place later
-  pub fills : (is_assigned (path_at g.tree place) ≡ true) ⊎ (is_in_argument refers.inside.item.start (path_at g.tree place) ≡ true)
+pub record Fills (g : Group) (u b : ℕ) : Type 0 where
+  pub by : Mention
+  pub refers : Refers g u b by
+  pub fills : (by.assigned ≡ true) ⊎ (by.argument ≡ true)
 
 -- how a later item of a module sets up b
-pub data SetsUpBy (g : Group) (m d t : ℕ) (b : Name) : Type 0 where
+pub data SetsUpBy (g : Group) (m d t b : ℕ) : Type 0 where
   -- at once, it assigns to a member of b, or to a member of such a member and so on
-  by_member : (place : ℕ) → Refers g t b place false → roots_chain (path_at g.tree place) ≡ true → SetsUpBy g m d t b
+  by_member : (by : Mention) → Refers g t b by → by.later ≡ false → by.chain ≡ true → SetsUpBy g m d t b
   -- at once, it calls `Object.assign` with `b.prototype` in an argument
-  by_prototype : (place : ℕ) → Refers g t b place false → is_prototype_read g (path_at g.tree place) ≡ true → is_in_object_assign g (path_at g.tree place) ≡ true → SetsUpBy g m d t b
+  by_prototype : (by : Mention) → Refers g t b by → by.later ≡ false → by.prototype ≡ true → SetsUpBy g m d t b
   -- b is declared without a value, and it is the first later item of the module that gives it one
   by_value : IsWithoutValue g d b → Fills g t b → ((u : ℕ) → IsOf g u m → d < u → u < t → Fills g u b → ⊥) → SetsUpBy g m d t b
 
 -- item t sets up b: it is a later item of the module that declares b first, and does so in one of three ways
-pub record SetsUp (g : Group) (t : ℕ) (b : Name) : Type 0 where
+pub record SetsUp (g : Group) (t : ℕ) (b : ℕ) : Type 0 where
   pub «module» : ℕ
   pub first : ℕ
   pub declares : DeclaresFirst g first b
@@ -196,7 +245,7 @@ pub record SetsUp (g : Group) (t : ℕ) (b : Name) : Type 0 where
   pub by : SetsUpBy g «module» first t b
 
 -- item t declares b or sets it up
-abbrev pub Provides : Group → ℕ → Name → Type 0
+abbrev pub Provides : Group → ℕ → ℕ → Type 0
 Provides g t b = Declares g t b ⊎ SetsUp g t b
 
 -- Dependencies and needs.
@@ -204,16 +253,23 @@ Provides g t b = Declares g t b ⊎ SetsUp g t b
 -- item s depends on item t: it refers to a binding that t provides
 pub record Depends (g : Group) (s t : ℕ) : Type 0 where
   pub other : s ≢ t
-  pub binding : Name
-  pub place : ℕ
-  pub later : Bool
-  pub refers : Refers g s binding place later
+  pub binding : ℕ
+  pub by : Mention
+  pub refers : Refers g s binding by
+  pub provides : Provides g t binding
+
+-- item s refers at once to a binding that t provides
+pub record DependsAtOnce (g : Group) (s t : ℕ) : Type 0 where
+  pub binding : ℕ
+  pub by : Mention
+  pub refers : Refers g s binding by
+  pub at_once : by.later ≡ false
   pub provides : Provides g t binding
 
 -- the dependency is strong: s is free, or refers at once to a binding that t provides
 pub record IsStrong (g : Group) (s t : ℕ) : Type 0 where
   pub depends : Depends g s t
-  pub at_once : IsFree g s ⊎ ((b : Name) × (place : ℕ) × Refers g s b place false × Provides g t b)
+  pub at_once : IsFree g s ⊎ DependsAtOnce g s t
 
 -- the dependency is weak: it is not strong
 pub record IsWeak (g : Group) (s t : ℕ) : Type 0 where

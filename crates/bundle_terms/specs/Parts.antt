@@ -1,11 +1,30 @@
 -- Lists of items by module, as a linker holds them while it joins modules: what stands in front, the bodies, and what
 -- stands behind. Each part holds pairs of a module and an item, by modules as these first came into it.
-use Rattle.std.specs.Prelude.{◌≡◌, ℕ, Bool, true, false, List, [], ◌∷◌, ◌++◌, map, flat_map, filter}
+use Rattle.std.specs.Prelude.{◌≡◌, ℕ, nat_eq, Bool, true, false, List, [], ◌∷◌, ◌++◌, map, flat_map, filter, if◌then◌else◌}
 use Rattle.std.specs.List.{AllZip}
+use Rattle.bundle_piece.specs.Item as h
 use Rattle.bundle_piece.specs.Item.{Item}
-use Rattle.bundle_graph.specs.Modules.{Modules}
-use Rattle.bundle_terms.specs.Kept.{numbers_once}
-use Rattle.bundle_terms.specs.Headline.{Owned, by_modules, items_in, tree_of_items, IsSortedFrom}
+use Rattle.bundle_terms.specs.Nodes.{numbers_once}
+
+-- an item with its module
+abbrev pub Owned : Type 0
+Owned = ℕ × List Item
+
+-- the items by modules, as these first come, each module's in their order
+abbrev pub by_modules : List Owned → List Owned
+by_modules [] = []
+by_modules ((m, item) ∷ rest) = (m, item) ∷ (filter (λ pair. nat_eq pair.0 m) rest ++ others m (by_modules rest))
+  where
+    others : ℕ → List Owned → List Owned
+    others n pairs = filter (λ pair. if nat_eq pair.0 n then false else true) pairs
+
+-- the items of a module
+abbrev pub items_in : List Owned → ℕ → List (List Item)
+items_in pairs m = map (λ pair. pair.1) (filter (λ pair. nat_eq pair.0 m) pairs)
+
+-- the tree in which items stand one after the other
+abbrev pub tree_of_items : List Item → List Item
+tree_of_items items = h.Open 0 h.Module ∷ (items ++ h.Close ∷ [])
 
 -- the three parts
 pub record Parts : Type 0 where
@@ -117,11 +136,3 @@ pub data Retained (May : ℕ → List Item → Bool → Type 0) : List Owned →
 -- the items stay for which true is answered
 abbrev pub Retains : (ℕ → List Item → Bool → Type 0) → Parts → Parts → Type 0
 Retains May before after = HoldsOfParts (Retained May) before after
-
--- The sort.
-
--- all items are the entry's body, sorted over this graph
-pub record IsSortedInto (g : Modules) (entry : ℕ) (before after : Parts) : Type 0 where
-  pub sorted : List (List Item)
-  pub is : after ≡ parts_of entry sorted
-  pub sorts : IsSortedFrom g entry (in_order before) sorted

@@ -9,9 +9,9 @@ use Rattle.bundle_piece.specs.Item as h
 use Rattle.bundle_piece.specs.Item.{Item, Head}
 use Rattle.bundle_places.specs.Places.{Around, path_at, occurrences, is_binding}
 use Rattle.bundle_terms.specs.Nodes.{Text}
-use Rattle.bundle_terms.specs.Meaning.{ends_at, has_default, is_shorthand_in_pattern, is_object, symbol_of}
+use Rattle.bundle_terms.specs.Shorthands.{ends_at, has_default, is_shorthand_in_pattern, is_object, symbol_of}
 use Rattle.bundle_terms.specs.Shape.{is_specifier}
-use Rattle.bundle_terms.specs.Headline.{Ident, ident_of, idents}
+use Rattle.bundle_terms.specs.Idents.{Ident, ident_of, idents}
 
 -- Marks.
 

@@ -1,15 +1,19 @@
--- A tree without its names: what stays the same where identifiers are renamed and their contexts set. A shorthand whose
--- symbol changes is spelled out (ECMA-262, 13.2.5 and 14.3.3), and so is an import or export specifier of one name
--- (16.2.2 and 16.2.3); so shapes are spelled out throughout.
-use Rattle.std.specs.Prelude.{◌≡◌, ℕ, suc, ◌+◌, ◌==◌, ◌&&◌, Bool, true, false, List, [], ◌∷◌, ◌++◌, slice_get, if◌then◌else◌}
+-- A tree without its names: its form, whatever its identifiers are. A shorthand whose symbol changes is spelled out
+-- (ECMA-262, 13.2.5 and 14.3.3), and so is an import or export specifier of one name (16.2.2 and 16.2.3); so shapes are
+-- spelled out throughout.
+use Rattle.std.specs.Prelude.{ℕ, suc, ◌+◌, ◌==◌, ◌&&◌, Bool, true, false, List, [], ◌∷◌, ◌++◌, slice_get, if◌then◌else◌}
 use Rattle.bundle_piece.specs.declared.piece.Role.{Role}
 use Rattle.bundle_piece.specs.declared.piece.Role.TheVariants.{Binding, Reference, Word as IsWord}
 use Rattle.bundle_piece.specs.Item as h
 use Rattle.bundle_piece.specs.Item.{Item, Head}
 use Rattle.bundle_places.specs.Places.{Around, path_at}
-use Rattle.bundle_terms.specs.Kept.{cleared_head}
 use Rattle.bundle_terms.specs.Nodes.{Text}
-use Rattle.bundle_terms.specs.Meaning.{Mark, Empty, Word, Unbound, begin_marks, end_marks, name_marks, symbol_of}
+use Rattle.bundle_terms.specs.Shorthands.{symbol_of}
+use Rattle.bundle_terms.specs.Marks.{MarkOf, Empty, Word, begin_marks, end_marks, name_marks}
+
+-- one element of a shape: in the place of a name stands nothing
+abbrev pub Outline : Type 0
+Outline = MarkOf (Unit {0})
 
 -- whether such a node names an import or an export
 abbrev pub is_specifier : Head → Bool
@@ -18,56 +22,28 @@ is_specifier h.ExportNamedSpecifier = true
 is_specifier _ = false
 
 -- the second name of a specifier that has but one and ends at this place
-abbrev pub second_name : List Item → ℕ → List Around → List Mark
+abbrev pub second_name : List Item → ℕ → List Around → List Outline
 second_name tree place [] = []
 second_name tree place (node ∷ outer) = if is_specifier node.head && place == node.begins + 2 then Word 1 (symbol_of (slice_get tree (node.begins + 1))) ∷ [] else []
 
 -- a name is left out; a plain word stays
-abbrev pub shape_of_name : ℕ → List Around → Text → Role → List Mark
+abbrev pub shape_of_name : ℕ → List Around → Text → Role → List Outline
 shape_of_name field around x IsWord = Word field x ∷ []
-shape_of_name field around x Binding = name_marks field around x (Unbound [])
-shape_of_name field around x Reference = name_marks field around x (Unbound [])
+shape_of_name field around x Binding = name_marks field around x tt
+shape_of_name field around x Reference = name_marks field around x tt
 
 -- the shape of one element
-abbrev pub shape_at : List Item → ℕ → List Around → Item → List Mark
+abbrev pub shape_at : List Item → ℕ → List Around → Item → List Outline
 shape_at tree place around (h.Open field head) = begin_marks tree place field around head
 shape_at tree place around (h.Ident field sym ctxt role) = shape_of_name field around sym role
 shape_at tree place around (h.Hole field) = Empty field ∷ []
 shape_at tree place around h.Close = second_name tree place around ++ end_marks tree around
 
 -- the shape of the elements from this place on
-abbrev pub shape_from : List Item → ℕ → List Item → List Mark
+abbrev pub shape_from : List Item → ℕ → List Item → List Outline
 shape_from tree place [] = []
 shape_from tree place (x ∷ rest) = shape_at tree place (path_at tree place) x ++ shape_from tree (suc place) rest
 
 -- the tree without its names
-abbrev pub shape : List Item → List Mark
+abbrev pub shape : List Item → List Outline
 shape tree = shape_from tree 0 tree
-
--- two trees are the same but for the symbols and contexts of their names, what is noted, and what is spelled out
-abbrev pub SameButForNames : List Item → List Item → Type 0
-SameButForNames before after = shape before ≡ shape after
-
--- an element with context 0
-abbrev pub without_context : Item → Item
-without_context (h.Ident field sym ctxt role) = h.Ident field sym 0 role
-without_context x = x
-
--- a tree with each context 0
-abbrev pub without_contexts : List Item → List Item
-without_contexts [] = []
-without_contexts (x ∷ rest) = without_context x ∷ without_contexts rest
-
--- two trees are the same but for the contexts of their names
-abbrev pub SameButForContexts : List Item → List Item → Type 0
-SameButForContexts before after = without_contexts before ≡ without_contexts after
-
--- an element with nothing noted
-abbrev pub without_note : Item → Item
-without_note (h.Open field head) = h.Open field (cleared_head head)
-without_note x = x
-
--- the tree with nothing noted
-abbrev pub without_notes : List Item → List Item
-without_notes [] = []
-without_notes (x ∷ rest) = without_note x ∷ without_notes rest

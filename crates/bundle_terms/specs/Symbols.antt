@@ -2,7 +2,6 @@
 -- it adds (ECMA-262, 12.7 for what an identifier is).
 use Rattle.std.specs.Prelude.{◌≡◌, ℕ, ◌==◌, ◌&&◌, Bool, true, false, List, [], ◌∷◌, Option, Some, None, Contains, codes, bytes_eq, find, flat_map, map, length, slice_get, zero, ◌+◌, option_map, unwrap_or, if◌then◌else◌}
 use Rattle.bundle_places.specs.Denotes.{Denoted, Bound, Global}
-use Rattle.bundle_places.specs.Keywords.{keyword_free}
 use Rattle.bundle_places.specs.Scopes.{Scope, Es, Cjs}
 use Rattle.bundle_places.specs.Declarations.{Name, BySymbol}
 use Rattle.bundle_piece.specs.Item.{Item}
@@ -11,9 +10,9 @@ use Rattle.bundle_terms.specs.Statements.{TopItem, Element, taken_from, placed, 
 use Rattle.bundle_terms.specs.Bundle.{Hooks, Labelled, sense_of, elements_of, IsLoadFunction, MayHold, properties_tree, Pairing, StandsFor, Own, Defines, Helps, HoldsMeta}
 use Rattle.std.specs.List.{AllZip}
 use Rattle.bundle_terms.specs.Entries.{Taken, Named, Whole, ImportEntry, ExportEntry, Local, Indirect, Star}
-use Rattle.bundle_terms.specs.Kept.{Program, tree_of, resolves, IsList}
+use Rattle.bundle_terms.specs.Program.{Program, tree_of, resolves, IsList}
 use Rattle.bundle_terms.specs.Linking.{Target, Declared, Namespace, External, CommonJs, imports, exports}
-use Rattle.bundle_terms.specs.Meaning.{View, inner_bindings, own_sense, Label, Of, Parameter, Load, Meta, Helper}
+use Rattle.bundle_terms.specs.Meaning.{View, inner_bindings, own_view, Label, Of, Parameter, Load, Meta, Helper}
 use Rattle.bundle_terms.specs.Injected.{is_ascii_identifier}
 
 -- whether the same is taken
@@ -83,22 +82,22 @@ inner_symbols view start statement = map denoted_symbol (inner_bindings view sta
 abbrev pub item_symbols : Labelled → TopItem → List Text
 item_symbols b item = inner_symbols (sense_of b).view item.start (elements_of item)
 
--- the bindings inside an item are called as in the statement that it stands for, with `__` before a keyword
-abbrev pub CalledAlike : Labelled → View → TopItem → List Element → Type 0
-CalledAlike b view item statement = item_symbols b item ≡ map keyword_free (inner_symbols view 0 statement)
+-- the bindings inside an item are called as in the statement that it stands for, each spelled so
+abbrev pub CalledAlike : (Text → Text) → Labelled → View → TopItem → List Element → Type 0
+CalledAlike spelled b view item statement = item_symbols b item ≡ map spelled (inner_symbols view 0 statement)
 
 -- the same of the properties of an `import.meta` object, which are some answer of the hook
-pub record CalledAsAnswered (p : Program) (hooks : Hooks) (b : Labelled) (m : ℕ) (item : TopItem) : Type 0 where
+pub record CalledAsAnswered (spelled : Text → Text) (p : Program) (hooks : Hooks) (b : Labelled) (m : ℕ) (item : TopItem) : Type 0 where
   pub properties : List Item
   pub held : MayHold p hooks m properties
-  pub alike : CalledAlike b (record { tree = properties_tree properties; kind = Es; reading = BySymbol }) item (taken_from 3 properties)
+  pub alike : CalledAlike spelled b (record { tree = properties_tree properties; kind = Es; reading = BySymbol }) item (taken_from 3 properties)
 
--- the bindings of a bundle, read by symbol and context, are called right: each labelled one as its label, with `__` before a keyword, and those inside items as in the source
-pub record AreCalled (p : Program) (hooks : Hooks) (b : Labelled) (pairing : Pairing) : Type 0 where
+-- the bindings of a bundle are called right: each labelled one as its label and those inside items as in the source, each spelled so
+pub record AreCalled (spelled : Text → Text) (p : Program) (hooks : Hooks) (b : Labelled) (pairing : Pairing) : Type 0 where
   pub list : List ℕ
   pub is_list : IsList p list
-  pub outer : (scope : Scope) (name : Name) (l : Label) → Contains pairing.labels (Bound scope name, l) → name.sym ≡ keyword_free (symbol_of_label p list l)
-  pub own : (m k : ℕ) (item : TopItem) (statement : List Element) → StandsFor pairing (Own m k) item → slice_get (own_statements (tree_of p m)) k ≡ Some statement → CalledAlike b (own_sense p m Es).view item statement
-  pub common_js : (c : ℕ) (item : TopItem) (f : IsLoadFunction p b c item) → StandsFor pairing (Defines c) item → AllZip (CalledAlike b (own_sense p c Cjs).view) (placed (item.start + length f.front) (side_by_side zero f.inside)) (own_statements (tree_of p c))
+  pub outer : (scope : Scope) (name : Name) (l : Label) → Contains pairing.labels (Bound scope name, l) → name.sym ≡ spelled (symbol_of_label p list l)
+  pub own : (m k : ℕ) (item : TopItem) (statement : List Element) → StandsFor pairing (Own m k) item → slice_get (own_statements (tree_of p m)) k ≡ Some statement → CalledAlike spelled b (own_view p m Es) item statement
+  pub common_js : (c : ℕ) (item : TopItem) (f : IsLoadFunction p b c item) → StandsFor pairing (Defines c) item → AllZip (CalledAlike spelled b (own_view p c Cjs)) (placed (item.start + length f.front) (side_by_side zero f.inside)) (own_statements (tree_of p c))
   pub helper : (item : TopItem) → StandsFor pairing Helps item → item_symbols b item ≡ codes "fn" ∷ codes "module" ∷ []
-  pub metas : (m : ℕ) (item : TopItem) → StandsFor pairing (HoldsMeta m) item → CalledAsAnswered p hooks b m item
+  pub metas : (m : ℕ) (item : TopItem) → StandsFor pairing (HoldsMeta m) item → CalledAsAnswered spelled p hooks b m item

@@ -11,7 +11,7 @@ use Rattle.bundle_tree.specs.declared.resolve.ResolveError.{ResolveError}
 use Rattle.bundle_tree.specs.declared.resolve.ResolveError.TheVariants.{Failed as ResolveFailed, OutOfMemory as ResolveNoMemory}
 use Rattle.bundle_kept.specs.declared.kept.Request.{Request}
 use Rattle.swc_bundler.specs.declared.unlinked.Unlinked.{Unlinked}
-use Rattle.swc_bundler.specs.declared.unlinked.Unlinked.TheVariants.{NotYet as NotLinked, OutOfMemory as NoMemory}
+use Rattle.swc_bundler.specs.declared.unlinked.Unlinked.TheVariants as u
 use Rattle.bundle_kept.specs.Kept.{asked_of}
 use Rattle.swc_bundler.specs.Refusal.{IsRight, error_of, load_refusal, resolve_refusal}
 use Rattle.bundle_kept.specs.Contents.{Asked, Contents, tree_of, target_of}
@@ -52,5 +52,22 @@ module _ {M : Type 0} (may_fail_load : Name → Type 0) (may_fail_resolve : Name
 
   -- a refusal to link is right
   pub unlinked_right : (c : Contents M) (u : Unlinked) (e : Error) → e ≡ error_of u → IsRight may_fail_load may_fail_resolve max_modules c e
-  unlinked_right c NotLinked e is = subst (IsRight may_fail_load may_fail_resolve max_modules c) (sym is) tt
-  unlinked_right c NoMemory e is = subst (IsRight may_fail_load may_fail_resolve max_modules c) (sym is) tt
+  unlinked_right c u.NotYet e is = subst (IsRight may_fail_load may_fail_resolve max_modules c) (sym is) tt
+  unlinked_right c u.OutOfMemory e is = subst (IsRight may_fail_load may_fail_resolve max_modules c) (sym is) tt
+  unlinked_right c (u.Hook file) e is = subst (IsRight may_fail_load may_fail_resolve max_modules c) (sym is) tt
+  unlinked_right c (u.ContextsUsedUp file) e is = subst (IsRight may_fail_load may_fail_resolve max_modules c) (sym is) tt
+  unlinked_right c (u.DoubledDeclaration file name) e is = subst (IsRight may_fail_load may_fail_resolve max_modules c) (sym is) tt
+  unlinked_right c (u.DoubledExport file name) e is = subst (IsRight may_fail_load may_fail_resolve max_modules c) (sym is) tt
+  unlinked_right c (u.UndeclaredExport file name) e is = subst (IsRight may_fail_load may_fail_resolve max_modules c) (sym is) tt
+  unlinked_right c (u.MissingExport file name) e is = subst (IsRight may_fail_load may_fail_resolve max_modules c) (sym is) tt
+  unlinked_right c (u.AmbiguousExport file name) e is = subst (IsRight may_fail_load may_fail_resolve max_modules c) (sym is) tt
+  unlinked_right c (u.ExternalStarOnly file name) e is = subst (IsRight may_fail_load may_fail_resolve max_modules c) (sym is) tt
+  unlinked_right c (u.StarOfCommonJs file specifier) e is = subst (IsRight may_fail_load may_fail_resolve max_modules c) (sym is) tt
+  unlinked_right c (u.NamespaceOverExternalStar file) e is = subst (IsRight may_fail_load may_fail_resolve max_modules c) (sym is) tt
+  unlinked_right c (u.With file) e is = subst (IsRight may_fail_load may_fail_resolve max_modules c) (sym is) tt
+  unlinked_right c (u.RequiredEsModule file specifier) e is = subst (IsRight may_fail_load may_fail_resolve max_modules c) (sym is) tt
+  unlinked_right c (u.RequiredEntry file specifier) e is = subst (IsRight may_fail_load may_fail_resolve max_modules c) (sym is) tt
+  unlinked_right c (u.AwaitInCommonJs file) e is = subst (IsRight may_fail_load may_fail_resolve max_modules c) (sym is) tt
+  unlinked_right c (u.DoubledEntry file name) e is = subst (IsRight may_fail_load may_fail_resolve max_modules c) (sym is) tt
+  unlinked_right c (u.ExternalUnderIife file specifier) e is = subst (IsRight may_fail_load may_fail_resolve max_modules c) (sym is) tt
+  unlinked_right c (u.ArgumentsUnderIife file) e is = subst (IsRight may_fail_load may_fail_resolve max_modules c) (sym is) tt

@@ -1,9 +1,9 @@
 -- Why there is no bundle, in terms of what is kept at that time.
-use Rattle.std.specs.Prelude.{◌≡◌, ℕ, ◌≤◌, List, length, None, Contains}
+use Rattle.std.specs.Prelude.{◌≡◌, ℕ, ◌≤◌, List, length, None}
 use Rattle.std.specs.String.{string_bytes}
 use Rattle.bundle_name.specs.FileName.{Name, name_of}
 use Rattle.bundle_name.specs.declared.error.Error.{Error}
-use Rattle.bundle_name.specs.declared.error.Error.TheVariants.{NotYet, Load, Resolve, TooManyModules, ContextsUsedUp, OutOfMemory}
+use Rattle.bundle_name.specs.declared.error.Error.TheVariants.{Load, Resolve, TooManyModules, OutOfMemory}
 use Rattle.bundle_name.specs.declared.file_name.FileName.{FileName}
 use Rattle.bundle_tree.specs.declared.load.LoadError.{LoadError}
 use Rattle.bundle_tree.specs.declared.load.LoadError.TheVariants.{Failed as LoadFailed, OutOfMemory as LoadNoMemory}
@@ -13,18 +13,36 @@ use Rattle.bundle_build.specs.declared.build.BuildError.{BuildError}
 use Rattle.bundle_build.specs.declared.build.BuildError.TheVariants.{Form as NoTree, OutOfMemory as NoRoom}
 use Rattle.bundle_kept.specs.declared.kept.Request.{Request}
 use Rattle.swc_bundler.specs.declared.unlinked.Unlinked.{Unlinked}
-use Rattle.swc_bundler.specs.declared.unlinked.Unlinked.TheVariants.{NotYet as NotLinked, OutOfMemory as NoMemory}
+use Rattle.swc_bundler.specs.declared.unlinked.Unlinked.TheVariants as u
+use Rattle.bundle_name.specs.declared.error.Error.TheVariants as e
 use Rattle.bundle_kept.specs.Contents.{Contents, tree_of, target_of}
 
--- why trees are not linked, where a list of them gives no tree: what the bundler does not carry
+-- why trees are not linked, where a list gives no tree
 abbrev pub unlinked_of : BuildError → Unlinked
-unlinked_of NoTree = NotLinked
-unlinked_of NoRoom = NoMemory
+unlinked_of NoTree = u.NotYet
+unlinked_of NoRoom = u.OutOfMemory
 
 -- the refusal of a bundle where trees are not linked
 abbrev pub error_of : Unlinked → Error
-error_of NotLinked = NotYet
-error_of NoMemory = OutOfMemory
+error_of u.NotYet = e.NotYet
+error_of u.OutOfMemory = e.OutOfMemory
+error_of (u.Hook file) = e.Hook file
+error_of (u.ContextsUsedUp file) = e.ContextsUsedUp file
+error_of (u.DoubledDeclaration file name) = e.DoubledDeclaration file name
+error_of (u.DoubledExport file name) = e.DoubledExport file name
+error_of (u.UndeclaredExport file name) = e.UndeclaredExport file name
+error_of (u.MissingExport file name) = e.MissingExport file name
+error_of (u.AmbiguousExport file name) = e.AmbiguousExport file name
+error_of (u.ExternalStarOnly file name) = e.ExternalStarOnly file name
+error_of (u.StarOfCommonJs file specifier) = e.StarOfCommonJs file specifier
+error_of (u.NamespaceOverExternalStar file) = e.NamespaceOverExternalStar file
+error_of (u.With file) = e.With file
+error_of (u.RequiredEsModule file specifier) = e.RequiredEsModule file specifier
+error_of (u.RequiredEntry file specifier) = e.RequiredEntry file specifier
+error_of (u.AwaitInCommonJs file) = e.AwaitInCommonJs file
+error_of (u.DoubledEntry file name) = e.DoubledEntry file name
+error_of (u.ExternalUnderIife file specifier) = e.ExternalUnderIife file specifier
+error_of (u.ArgumentsUnderIife file) = e.ArgumentsUnderIife file
 
 -- the refusal of a bundle where a file is not loaded
 abbrev pub load_refusal : FileName → LoadError → Error
@@ -37,13 +55,11 @@ resolve_refusal request ResolveFailed = Resolve request.file request.specifier
 resolve_refusal request ResolveNoMemory = OutOfMemory
 
 -- a refusal is right where this is kept, the loader may fail at these files, the resolver may fail at these specifiers of
--- files, and there may be so many modules
+-- files, and there may be so many modules. Of the faults that are found in trees, between modules and in what the hook
+-- answers nothing is said yet.
 abbrev pub IsRight : {M : Type 0} → (Name → Type 0) → (Name → List ℕ → Type 0) → ℕ → Contents M → Error → Type 0
-IsRight may_fail_load may_fail_resolve max_modules kept NotYet = Unit {0}
-IsRight may_fail_load may_fail_resolve max_modules kept OutOfMemory = Unit {0}
 IsRight may_fail_load may_fail_resolve max_modules kept (Load file) = (tree_of kept (name_of file) ≡ None) × may_fail_load (name_of file)
 IsRight may_fail_load may_fail_resolve max_modules kept (Resolve file specifier) =
     (target_of kept (name_of file, string_bytes specifier) ≡ None) × may_fail_resolve (name_of file) (string_bytes specifier)
 IsRight may_fail_load may_fail_resolve max_modules kept (TooManyModules file) = (tree_of kept (name_of file) ≡ None) × (max_modules ≤ length kept.trees)
-IsRight may_fail_load may_fail_resolve max_modules kept (ContextsUsedUp file) = (¬ Contains kept.ids (name_of file)) × (length kept.ids ≡ 2147483647)
-IsRight may_fail_load may_fail_resolve max_modules kept _ = ⊥
+IsRight may_fail_load may_fail_resolve max_modules kept _ = Unit {0}

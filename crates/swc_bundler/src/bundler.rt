@@ -1,22 +1,27 @@
 //! The bundler.
 
-ghost use Rattle.std.specs.Prelude.{◌≡◌, [], ◌∷◌, Err, IsOk, IfOk, IfErr};
+ghost use Rattle.std.specs.Prelude.{◌≡◌, ℕ, List, [], IsOk, IfOk, IfErr};
 ghost use Rattle.std.specs.List.{AllZip};
-ghost use Rattle.swc_bundler.specs.Bundler.{IsBundleOf};
+ghost use Rattle.bundle_name.specs.FileName.{Name};
+ghost use Rattle.swc_bundler.specs.Bundler.{IsBundleOf, IsNumbered};
 ghost use Rattle.bundle_kept.specs.Contents.{Advances, Grows};
 ghost use Rattle.bundle_kept.specs.Kept.{contents_of};
 ghost use Rattle.swc_bundler.specs.Refusal.{IsRight};
 
 use crate::bundle::{Bundle, BundleKind};
+use crate::entry::{Call, module_of};
 use crate::library::Library;
-use crate::link::link;
-use crate::load::load_all;
-use bundle_name::config::{Config, ModuleType};
+use crate::load::{LoadList, load_all};
+use crate::program::program_of;
+use crate::unlinked::Unlinked;
+use bundle_id::ModuleId;
+use bundle_name::config::Config;
 use bundle_name::error::Error;
 use bundle_name::file_name::FileName;
 use bundle_tree::hook::Hook;
 use bundle_tree::load::Load;
 use bundle_tree::resolve::Resolve;
+use indexmap::IndexSet;
 use std::alloc::Global;
 
 /// Makes bundles. It keeps the numbers of files, the modules that were loaded and the files that their
@@ -44,14 +49,17 @@ impl<L: Load + Drop, R: Resolve + Drop> Bundler<L, R> {
         }
     }
 
-    /// A bundle for each entry, a name and a file. Nobody is asked where there is no entry.
+    /// A bundle for each entry, a name and a file, in their order. Nobody is asked where there is no entry.
+    ///
+    /// What a bundle of an entry holds stands in `docs/DEFINITIONS.md`, and so does why there may be none, and
+    /// which refusal comes first.
     ///
     /// What was kept stays kept, after a refusal too, and what comes to it are answers of the loader and
     /// the resolver. A module is asked for only where it is not kept.
     pub fn bundle(
         &mut self,
         alloc: Global,
-        mut entries: Vec<(String, FileName)>,
+        entries: Vec<(String, FileName)>,
     ) -> Result<Vec<Bundle>, Error>
         ensures grows { Grows (L.may_load self.old.library.loader) (R.may_resolve self.old.library.resolver) (contents_of self.old.library.kept) (contents_of self.new.library.kept) }
         ensures loader { self.new.library.loader ≡ self.old.library.loader }
@@ -62,53 +70,101 @@ impl<L: Load + Drop, R: Resolve + Drop> Bundler<L, R> {
         ensures refused { IfErr result (IsRight (L.may_fail_load self.new.library.loader) (R.may_fail_resolve self.new.library.resolver) self.new.config.max_modules (contents_of self.new.library.kept)) }
         ensures no_entry { entries.items ≡ [] → IsOk result × (self.new ≡ self.old) }
     {
-        let Some((name, file)) = entries.pop() else {
+        if entries.is_empty() {
             return Ok(Vec::new(alloc));
-        };
-        if !entries.is_empty() || !is_carried(&self.config) {
-            return Err(Error::NotYet);
         }
-        let max_modules = self.config.max_modules;
-        let made = bundle_entry(&mut self.library, alloc, name, file, max_modules);
-        one(alloc, made)
+        refuse_doubled_entry(alloc, entries.as_slice())?;
+        let ids = numbers_of(&mut self.library, alloc, entries.as_slice())?;
+        let list = load_all(
+            &mut self.library,
+            alloc,
+            entries.as_slice(),
+            ids.as_slice(),
+            &self.config,
+        )?;
+        let library = &self.library;
+        Ok(linked_bundles(
+            alloc,
+            library,
+            &list,
+            &self.config,
+            &*self.hook,
+            entries,
+            ids,
+        )?)
     }
 }
 
-// The bundle of one entry.
-fn bundle_entry<L: Load + Drop, R: Resolve + Drop>(
+// Refuses two entries of one name or one file.
+fn refuse_doubled_entry(alloc: Global, entries: &[(String, FileName)]) -> Result<(), Unlinked> {
+    let mut names = IndexSet::new(alloc);
+    let mut files = IndexSet::new(alloc);
+    for (name, file) in entries {
+        if !names.insert(name.as_str())? || !files.insert(file)? {
+            return Err(Unlinked::DoubledEntry {
+                file: file.clone()?,
+                name: name.clone()?,
+            });
+        }
+    }
+    Ok(())
+}
+
+// The numbers of the entries' files, in their order.
+fn numbers_of<L: Load + Drop, R: Resolve + Drop>(
     library: &mut Library<L, R>,
     alloc: Global,
-    name: String,
-    file: FileName,
-    max_modules: u32,
-) -> Result<Bundle, Error>
+    entries: &[(String, FileName)],
+) -> Result<Vec<ModuleId>, Error>
+    ensures numbered { IfOk result (λ ids. AllZip (IsNumbered (contents_of library.new.kept).ids) entries.now ids.items) }
     ensures kept { Advances L.may_load R.may_resolve library.old.loader library.new.loader library.old.resolver library.new.resolver (contents_of library.old.kept) (contents_of library.new.kept) }
-    ensures made { IfOk result (IsBundleOf (contents_of library.new.kept).ids (name, file)) }
-    ensures refused { IfErr result (IsRight (L.may_fail_load library.new.loader) (R.may_fail_resolve library.new.resolver) max_modules (contents_of library.new.kept)) }
+    ensures refused { (max_modules : ℕ) → IfErr result (IsRight (L.may_fail_load library.new.loader) (R.may_fail_resolve library.new.resolver) max_modules (contents_of library.new.kept)) }
 {
-    let id = library.id(&file)?;
-    let list = load_all(library, alloc, &file, id, max_modules)?;
-    let module = link(library, alloc, &list)?;
-    let kind = BundleKind::Named { name };
-    Ok(Bundle { kind, id, module })
+    let mut ids = Vec::new(alloc);
+    for (_, file) in entries {
+        let id = library.id(file)?;
+        ids.push(id)?;
+    }
+    Ok(ids)
 }
 
-// Whether the settings are carried.
-fn is_carried(config: &Config) -> bool {
-    config.disable_hygiene
-        && !config.require
-        && config.external_modules.is_empty()
-        && config.module == ModuleType::Es
+// A bundle for each entry, where these are the numbers of their files, and all that they need is on the list.
+fn linked_bundles<L: Load + Drop, R: Resolve + Drop>(
+    alloc: Global,
+    library: &Library<L, R>,
+    list: &LoadList,
+    config: &Config,
+    hook: &dyn Hook,
+    entries: Vec<(String, FileName)>,
+    ids: Vec<ModuleId>,
+) -> Result<Vec<Bundle>, Unlinked>
+    ensures bundles { IfOk result (λ bundles. (names : List Name) → AllZip (IsNumbered names) entries.items ids.items → AllZip (IsBundleOf names) entries.items bundles.items) }
+{
+    let program = program_of(library, alloc, list, config)?;
+    let call = Call {
+        program: &program,
+        config,
+    };
+    bundles_of(alloc, library, &call, hook, entries, ids)
 }
 
-// The list of one item, or the item's refusal.
-fn one<T: Drop>(alloc: Global, item: Result<T, Error>) -> Result<Vec<T>, Error>
-    ensures given { IfOk item (λ x. IfOk result (λ list. list.items ≡ x ∷ [])) }
-    ensures full { IfOk item (λ _. IfErr result (λ e. e ≡ Error.OutOfMemory)) }
-    ensures refused { IfErr item (λ e. result ≡ Err e) }
+// The same, given what the files say.
+fn bundles_of<'p, 'x, L: Load + Drop, R: Resolve + Drop>(
+    alloc: Global,
+    library: &Library<L, R>,
+    call: &Call<'p, 'x>,
+    hook: &dyn Hook,
+    entries: Vec<(String, FileName)>,
+    ids: Vec<ModuleId>,
+) -> Result<Vec<Bundle>, Unlinked>
+    ensures bundles { IfOk result (λ bundles. (names : List Name) → AllZip (IsNumbered names) entries.items ids.items → AllZip (IsBundleOf names) entries.items bundles.items) }
 {
-    let item = item?;
-    let mut list = Vec::new(alloc);
-    list.push(item)?;
-    Ok(list)
+    let mut bundles = Vec::new(alloc);
+    for (entry, id) in entries.into_iter().zip(ids) {
+        let (name, _) = entry;
+        let module = module_of(alloc, library, call, hook, id)?;
+        let kind = BundleKind::Named { name };
+        bundles.push(Bundle { kind, id, module })?;
+    }
+    Ok(bundles)
 }

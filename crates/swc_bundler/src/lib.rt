@@ -4,13 +4,13 @@
 
 pub mod bundle;
 pub mod bundler;
-mod carried;
-mod items;
+mod entry;
+mod fault;
+mod finish;
 mod library;
-mod link;
 mod load;
-mod names;
-mod order;
+mod meta;
+mod program;
 mod unlinked;
 
 pub use bundle::{Bundle, BundleKind};

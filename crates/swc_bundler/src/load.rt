@@ -6,19 +6,20 @@ ghost use Rattle.bundle_kept.specs.Contents.{Advances};
 ghost use Rattle.bundle_kept.specs.Kept.{contents_of};
 ghost use Rattle.swc_bundler.specs.Refusal.{IsRight};
 
-use crate::carried::carries;
-use crate::items::items_of;
+use crate::fault::refuse_tree;
 use crate::library::Library;
-use crate::names::{check_exports, specifiers};
 use crate::unlinked::Unlinked;
+use bundle_denote::{ModuleKind, Reading, denotations};
 use bundle_id::ModuleId;
 use bundle_kept::Request;
+use bundle_name::config::Config;
 use bundle_name::error::Error;
 use bundle_name::file_name::FileName;
 use bundle_pieces::pieces_of_module;
+use bundle_tables::tables_of;
 use bundle_tree::load::Load;
 use bundle_tree::resolve::Resolve;
-use indexmap::{IndexMap, IndexSet};
+use indexmap::IndexMap;
 use std::alloc::Global;
 
 /// Files with their numbers, in the order in which they were met, and for each that was worked on the
@@ -55,28 +56,31 @@ impl LoadList {
     }
 }
 
-/// Loads the entry and all files that it needs, first in first out, and gives their list.
+/// Loads the files of the entries and all files that they need, first in first out, and gives their list, which
+/// begins with those of the entries, of which these are the numbers.
 pub fn load_all<L: Load + Drop, R: Resolve + Drop>(
     library: &mut Library<L, R>,
     alloc: Global,
-    entry: &FileName,
-    id: ModuleId,
-    max_modules: u32,
+    entries: &[(String, FileName)],
+    ids: &[ModuleId],
+    config: &Config,
 ) -> Result<LoadList, Error>
     ensures kept { Advances L.may_load R.may_resolve library.old.loader library.new.loader library.old.resolver library.new.resolver (contents_of library.old.kept) (contents_of library.new.kept) }
-    ensures refused { IfErr result (IsRight (L.may_fail_load library.new.loader) (R.may_fail_resolve library.new.resolver) max_modules (contents_of library.new.kept)) }
+    ensures refused { IfErr result (IsRight (L.may_fail_load library.new.loader) (R.may_fail_resolve library.new.resolver) config.now.max_modules (contents_of library.new.kept)) }
 {
     let mut list = LoadList {
         files: IndexMap::new(alloc),
         requests: Vec::new(alloc),
     };
-    list.place(entry, id)?;
+    for ((_, file), id) in entries.iter().zip(ids) {
+        list.place(file, *id)?;
+    }
     // A list of files is shorter than that.
     for place in 0..usize::MAX {
         let Some(file) = list.file_at(place)? else {
             break;
         };
-        work_on(library, alloc, &mut list, &file, max_modules)?;
+        work_on(library, alloc, &mut list, &file, config)?;
     }
     Ok(list)
 }
@@ -87,13 +91,13 @@ fn work_on<L: Load + Drop, R: Resolve + Drop>(
     alloc: Global,
     list: &mut LoadList,
     file: &FileName,
-    max_modules: u32,
+    config: &Config,
 ) -> Result<(), Error>
     ensures kept { Advances L.may_load R.may_resolve library.old.loader library.new.loader library.old.resolver library.new.resolver (contents_of library.old.kept) (contents_of library.new.kept) }
-    ensures refused { IfErr result (IsRight (L.may_fail_load library.new.loader) (R.may_fail_resolve library.new.resolver) max_modules (contents_of library.new.kept)) }
+    ensures refused { IfErr result (IsRight (L.may_fail_load library.new.loader) (R.may_fail_resolve library.new.resolver) config.now.max_modules (contents_of library.new.kept)) }
 {
-    library.load(alloc, file, max_modules)?;
-    let specifiers = specifiers_of(library, alloc, file)?;
+    library.load(alloc, file, config.max_modules)?;
+    let specifiers = requests_of(library, alloc, file, config)?;
     let mut places = IndexMap::new(alloc);
     for specifier in specifiers {
         let place = place_of(library, alloc, list, file, &specifier)?;
@@ -149,24 +153,27 @@ fn target_of<L: Load + Drop, R: Resolve + Drop>(
     }
 }
 
-// The specifiers of a kept module, once it is seen to hold nothing that is not carried.
-fn specifiers_of<L: Load + Drop, R: Resolve + Drop>(
+// The texts of a kept module's requests, once it is seen to have no fault of its own.
+fn requests_of<L: Load + Drop, R: Resolve + Drop>(
     library: &Library<L, R>,
     alloc: Global,
     file: &FileName,
-) -> Result<IndexSet<String>, Unlinked> {
+    config: &Config,
+) -> Result<Vec<String>, Unlinked> {
     let Some(loaded) = library.module(file) else {
         return Err(Unlinked::NotYet);
     };
     let pieces = pieces_of_module(alloc, &loaded.module)?;
-    if !carries(pieces.as_slice()) {
-        return Err(Unlinked::NotYet);
+    let names = denotations(alloc, pieces.as_slice(), ModuleKind::Es, Reading::BySymbol)?;
+    let external = config.external_modules.as_slice();
+    match tables_of(alloc, pieces.as_slice(), &names, config.require, external)? {
+        Ok(tables) => {
+            let mut texts = Vec::new(alloc);
+            for request in &tables.requests {
+                texts.push(String::from_str(alloc, *request)?)?;
+            }
+            Ok(texts)
+        }
+        Err(fault) => refuse_tree(alloc, file, fault),
     }
-    let items = items_of(alloc, pieces.as_slice())?;
-    check_exports(alloc, items.as_slice())?;
-    let mut texts = IndexSet::new(alloc);
-    for specifier in &specifiers(alloc, items.as_slice())? {
-        texts.insert(String::from_str(alloc, *specifier)?)?;
-    }
-    Ok(texts)
 }

@@ -1,14 +1,52 @@
-//! The refusals that say nothing of what is kept.
+//! The refusals that are no answer of the loader or the resolver.
 
 use bundle_build::BuildError;
 use bundle_name::error::Error;
+use bundle_name::file_name::FileName;
 use std::alloc::{AllocError, AllocFailed};
 
-/// Why trees give no other trees: they hold something that is not carried, or a growth was refused.
-#[derive(Clone, Copy, PartialEq, Eq, Debug)]
+/// Why modules that were loaded make no bundle: a fault in one of them, between them or in what the hook answers, or a
+/// growth was refused.
+#[derive(Debug, Drop)]
 pub enum Unlinked {
+    /// What was made is not the list of a tree, which was never seen.
     NotYet,
+    /// A growth was refused.
     OutOfMemory,
+    /// The hook failed.
+    Hook { file: FileName },
+    /// The next context would be above 4294967295.
+    ContextsUsedUp { file: FileName },
+    /// A name is declared twice.
+    DoubledDeclaration { file: FileName, name: String },
+    /// A name is exported twice.
+    DoubledExport { file: FileName, name: String },
+    /// A name is exported that the module does not bind.
+    UndeclaredExport { file: FileName, name: String },
+    /// A name is asked for that is not given,
+    MissingExport { file: FileName, name: String },
+    /// that is given more than once,
+    AmbiguousExport { file: FileName, name: String },
+    /// or that an external may hold.
+    ExternalStarOnly { file: FileName, name: String },
+    /// A CommonJS module is starred.
+    StarOfCommonJs { file: FileName, specifier: String },
+    /// A namespace object is needed whose names are not known.
+    NamespaceOverExternalStar { file: FileName },
+    /// A `with` statement.
+    With { file: FileName },
+    /// A literal call of `require` is of an ES module,
+    RequiredEsModule { file: FileName, specifier: String },
+    /// or of the entry.
+    RequiredEntry { file: FileName, specifier: String },
+    /// An `await` outside functions in a CommonJS module.
+    AwaitInCommonJs { file: FileName },
+    /// Two entries have one name or one file.
+    DoubledEntry { file: FileName, name: String },
+    /// An external import where the bundle is one function's call.
+    ExternalUnderIife { file: FileName, specifier: String },
+    /// A free `arguments` where it is.
+    ArgumentsUnderIife { file: FileName },
 }
 
 impl From<AllocError> for Unlinked {
@@ -57,6 +95,34 @@ impl From<Unlinked> for Error {
         match unlinked {
             Unlinked::NotYet => Error::NotYet,
             Unlinked::OutOfMemory => Error::OutOfMemory,
+            Unlinked::Hook { file } => Error::Hook { file },
+            Unlinked::ContextsUsedUp { file } => Error::ContextsUsedUp { file },
+            Unlinked::DoubledDeclaration { file, name } => Error::DoubledDeclaration { file, name },
+            Unlinked::DoubledExport { file, name } => Error::DoubledExport { file, name },
+            Unlinked::UndeclaredExport { file, name } => Error::UndeclaredExport { file, name },
+            Unlinked::MissingExport { file, name } => Error::MissingExport { file, name },
+            Unlinked::AmbiguousExport { file, name } => Error::AmbiguousExport { file, name },
+            Unlinked::ExternalStarOnly { file, name } => Error::ExternalStarOnly { file, name },
+            Unlinked::StarOfCommonJs { file, specifier } => Error::StarOfCommonJs {
+                file,
+                specifier,
+            },
+            Unlinked::NamespaceOverExternalStar { file } => Error::NamespaceOverExternalStar {
+                file,
+            },
+            Unlinked::With { file } => Error::With { file },
+            Unlinked::RequiredEsModule { file, specifier } => Error::RequiredEsModule {
+                file,
+                specifier,
+            },
+            Unlinked::RequiredEntry { file, specifier } => Error::RequiredEntry { file, specifier },
+            Unlinked::AwaitInCommonJs { file } => Error::AwaitInCommonJs { file },
+            Unlinked::DoubledEntry { file, name } => Error::DoubledEntry { file, name },
+            Unlinked::ExternalUnderIife { file, specifier } => Error::ExternalUnderIife {
+                file,
+                specifier,
+            },
+            Unlinked::ArgumentsUnderIife { file } => Error::ArgumentsUnderIife { file },
         }
     }
 }

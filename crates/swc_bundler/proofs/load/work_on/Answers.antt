@@ -8,7 +8,7 @@ returns-in_err-place-clause-kept g c =
     advances_trans _ _ _ _ _ _ _ _ _ _ _ c.in_ok-load.ensures.kept (advances_trans _ _ _ _ _ _ _ _ _ _ _ c.loop-specifier.invariant c.in_err-place.ensures.kept)
 
 pub returns-in_err-place-clause-refused : goal.returns-in_err-place-clause-refused
-returns-in_err-place-clause-refused g c = handed_on _ _ _ c.from_residual-in_err-place.ensures.1 (c.in_err-place.ensures.refused c.args.max_modules)
+returns-in_err-place-clause-refused g c = handed_on _ _ _ c.from_residual-in_err-place.ensures.1 (c.in_err-place.ensures.refused c.args.config.now.max_modules)
 
 pub loop-specifier-preserved : goal.loop-specifier-preserved
 loop-specifier-preserved g c = advances_trans _ _ _ _ _ _ _ _ _ _ _ c.loop-specifier.invariant c.in_ok-place.ensures.kept

@@ -1,0 +1,10 @@
+pub mod ChainLemmas
+pub mod NameLemmas
+pub mod NamelessLemmas
+pub mod HeadLemmas
+pub mod WalkLemmas
+pub mod StepLemmas
+pub mod BeginLemmas
+pub mod EndLemmas
+pub mod ListedLemmas
+pub mod DoubledLemmas

@@ -1,0 +1,3 @@
+mod CalledLemmas
+mod AwaitsLemmas
+mod WrapLemmas

@@ -1,0 +1,43 @@
+-- What the bindings of a list are called, and what its identifiers become.
+use Rattle.std.specs.Prelude.{ℕ, List, [], ◌∷◌, ◌++◌, Option, Some, None, codes, map, slice_get, unwrap_or, option_and_then, string_bytes, if◌then◌else◌}
+use Rattle.std.specs.Option.{option_map}
+use Rattle.bundle_places.specs.Keywords.{is_keyword}
+use Rattle.bundle_terms.specs.Nodes.{Text}
+use Rattle.bundle_terms.specs.Idents.{Ident}
+use Rattle.bundle_terms.specs.Cleared.{without_context}
+use Rattle.bundle_piece.specs.Item.{Item}
+use Rattle.bundle_naming.specs.declared.names.Names.{Names}
+use Rattle.bundle_naming.specs.declared.names.Contexts.{Contexts}
+use Rattle.bundle_naming.specs.declared.names.Contexts.TheVariants.{Keep, Clear}
+
+-- what stands at a position, where something does
+abbrev pub at : {A : Type 0} → List (Option A) → ℕ → Option A
+at values i = option_and_then (λ value. value) (slice_get values i)
+
+-- the new text of a binding, if it has one
+abbrev pub text_of : Names → ℕ → Option Text
+text_of names binding = option_map string_bytes (at names.texts.items binding)
+
+-- the new context of a binding, if it has one
+abbrev pub context_of : Names → ℕ → Option ℕ
+context_of names binding = at names.contexts.items binding
+
+-- the text that a binding with this symbol gets, if it may not keep it
+abbrev pub keyword_text : Text → Option Text
+keyword_text sym = if is_keyword sym then Some (codes "__" ++ sym) else None
+
+-- what an identifier becomes that denotes this binding, or a global
+abbrev pub called : Names → Ident → Option ℕ → Ident
+called names ident None = ident
+called names ident (Some binding) = (unwrap_or (text_of names binding) ident.0, unwrap_or (context_of names binding) ident.1)
+
+-- what identifiers become that denote these in turn
+abbrev pub called_in : Names → List Ident → List (Option ℕ) → List Ident
+called_in names (ident ∷ idents) (binding ∷ bindings) = called names ident binding ∷ called_in names idents bindings
+called_in names [] bindings = []
+called_in names idents [] = []
+
+-- a list whose contexts stay, or are 0
+abbrev pub list_called : Contexts → List Item → List Item
+list_called Keep list = list
+list_called Clear list = map without_context list

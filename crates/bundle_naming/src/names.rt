@@ -1,0 +1,81 @@
+//! What the bindings of a list are called.
+
+ghost use Rattle.std.specs.Prelude.{◌≡◌, IfOk, length, map};
+ghost use Rattle.std.specs.Option.{option_map};
+ghost use Rattle.bundle_naming.specs.Called.{context_of as context_of_lem, text_of as text_of_lem};
+
+use std::alloc::{AllocError, Global};
+
+/// What becomes of the contexts of a list whose bindings are named.
+#[derive(Clone, Copy, PartialEq, Eq, Debug)]
+pub enum Contexts {
+    /// They stay, but for those that the names say.
+    Keep,
+    /// Each is 0, that of a plain word too.
+    Clear,
+}
+
+/// What the bindings of a list are called, by their numbers.
+#[derive(Drop)]
+pub struct Names {
+    /// For each binding its new text, or `None` where it keeps its symbol.
+    pub texts: Vec<Option<String>>,
+    /// For each binding its new context, or `None` where it keeps what it has.
+    pub contexts: Vec<Option<u32>>,
+}
+
+impl Names {
+    /// The names of so many bindings, each of which keeps its symbol and its context.
+    pub fn kept(alloc: Global, count: usize) -> Result<Names, AllocError>
+        ensures texts { IfOk result (λ names. length names.texts.items ≡ count) }
+        ensures contexts { IfOk result (λ names. length names.contexts.items ≡ count) }
+    {
+        let mut texts = Vec::new(alloc);
+        let mut contexts = Vec::new(alloc);
+        for _ in 0..count {
+            texts.push(None)?;
+            contexts.push(None)?;
+        }
+        Ok(Names { texts, contexts })
+    }
+
+    /// The new text of a binding, or `None` where it keeps its symbol.
+    pub fn text_of(&self, binding: usize) -> Option<&str>
+        ensures { option_map (λ text. text.now) result ≡ text_of_lem self.now binding }
+    {
+        match self.texts.get(binding) {
+            Some(Some(text)) => Some(text.as_str()),
+            _ => None,
+        }
+    }
+
+    /// The new context of a binding, or `None` where it keeps what it has.
+    pub fn context_of(&self, binding: usize) -> Option<u32>
+        ensures { result ≡ context_of_lem self.now binding }
+    {
+        match self.contexts.get(binding) {
+            Some(context) => *context,
+            None => None,
+        }
+    }
+
+    /// Calls a binding by this text.
+    pub(crate) fn set_text(&mut self, binding: usize, text: String)
+        ensures texts { length self.new.texts.items ≡ length self.old.texts.items }
+        ensures contexts { self.new.contexts.items ≡ self.old.contexts.items }
+    {
+        if let Some(its) = self.texts.get_mut(binding) {
+            *its = Some(text);
+        }
+    }
+
+    /// Gives a binding this context.
+    pub(crate) fn set_context(&mut self, binding: usize, ctxt: Option<u32>)
+        ensures texts { self.new.texts.items ≡ self.old.texts.items }
+        ensures contexts { length self.new.contexts.items ≡ length self.old.contexts.items }
+    {
+        if let Some(context) = self.contexts.get_mut(binding) {
+            *context = ctxt;
+        }
+    }
+}

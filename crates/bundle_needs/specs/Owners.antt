@@ -1,0 +1,12 @@
+-- To which module items belong.
+use Rattle.std.specs.Prelude.{ℕ, Bool}
+use Rattle.bundle_needs.specs.declared.needs.ItemRange.{ItemRange}
+use Rattle.bundle_sort.specs.declared.SortItem.{SortItem}
+
+-- the module of an item, and whether the item is free
+abbrev pub owner_of : ItemRange → ℕ × Bool
+owner_of item = (item.«module», item.is_free)
+
+-- the same of an item to sort
+abbrev pub sorted_owner_of : SortItem → ℕ × Bool
+sorted_owner_of item = (item.«module», item.is_free)

@@ -1,0 +1,11 @@
+//! What the items of a block depend on: which items have a reference to a name of the top that another item
+//! declares or sets up, and whether such a reference waits for a function to run.
+#![tactic(auto)]
+
+pub(crate) mod facts;
+pub mod needs;
+pub(crate) mod providers;
+pub(crate) mod spot;
+pub(crate) mod walk;
+
+pub use needs::{ItemRange, dependencies};

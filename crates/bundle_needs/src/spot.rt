@@ -1,0 +1,176 @@
+//! What is known of a place by the nodes around it.
+
+ghost use Rattle.std.specs.Prelude.{◌≡◌, ◌≤◌, [], List};
+ghost use Rattle.bundle_piece.specs.Item.{head_of};
+ghost use Rattle.bundle_places.specs.Deferred.{runs_later};
+ghost use Rattle.bundle_places.specs.Places.{Around};
+ghost use Rattle.bundle_terms.specs.Order.{assigns as assigns_lem, is_any_call as is_any_call_lem, is_chain_step as is_chain_step_lem, is_parenthesis as is_parenthesis_lem, passes_assignments};
+ghost use Rattle.bundle_needs.specs.Known.{IsKnown, delays as delays_lem, path_in};
+
+use bundle_piece::Node;
+
+/// What is known of a place by the nodes around it in its item.
+#[derive(Clone, Copy)]
+pub(crate) struct Spot {
+    /// It is a target of an assignment, parentheses and patterns aside (ECMA-262, 13.15).
+    pub(crate) is_assigned: bool,
+    /// What stands there is the rest of a chain of members that is assigned to.
+    pub(crate) ends_chain: bool,
+    /// It is the root of a chain of at least one member that is assigned to.
+    pub(crate) roots_chain: bool,
+    /// It lies in an argument of a call of `Object.assign`.
+    pub(crate) is_in_assign: bool,
+    /// It lies in an argument of a call.
+    pub(crate) is_in_argument: bool,
+    /// It runs later than its item: it lies in a function, or in what a field of an instance starts with.
+    pub(crate) is_later: bool,
+    /// Where the nearest declarator around it begins.
+    pub(crate) declarator: Option<usize>,
+}
+
+/// An open node: where it begins, what is known of that place, whether it is a call of `Object.assign`, and
+/// whether it is a declarator with a value so far.
+#[derive(Clone, Copy)]
+pub(crate) struct Frame<'a> {
+    pub(crate) node: Node<'a>,
+    pub(crate) begins: usize,
+    pub(crate) spot: Spot,
+    pub(crate) is_object_assign: bool,
+    pub(crate) has_value: bool,
+}
+
+impl Spot {
+    /// A place outside all nodes.
+    pub(crate) fn outside() -> Spot
+        ensures known { IsKnown result [] }
+        ensures later { result.is_later ≡ runs_later [] }
+    {
+        Spot {
+            is_assigned: false,
+            ends_chain: false,
+            roots_chain: false,
+            is_in_assign: false,
+            is_in_argument: false,
+            is_later: false,
+            declarator: None,
+        }
+    }
+
+    /// A place directly in this field of an open node, in an item that begins at `start`. Nodes around the item
+    /// do not count.
+    pub(crate) fn inside<'a>(frame: Frame<'a>, field: u8, start: usize) -> Spot
+        ensures known { (outer : List Around) → start ≤ frame.entry.begins → IsKnown frame.entry.spot outer → IsKnown result (path_in frame.entry field outer) }
+        ensures later { (outer : List Around) → start ≤ frame.entry.begins → frame.entry.spot.is_later ≡ runs_later outer → result.is_later ≡ runs_later (path_in frame.entry field outer) }
+    {
+        if frame.begins < start {
+            return Spot::outside();
+        }
+        let node = frame.node;
+        let outer = frame.spot;
+        let is_step = is_chain_step(node, field);
+        let is_parenthesis = is_parenthesis(node);
+        let is_assigned = assigns(node, field)
+            || (passes_targets(node, field) && outer.is_assigned);
+        Spot {
+            is_assigned,
+            ends_chain: ((is_step || is_parenthesis) && outer.ends_chain) || is_assigned,
+            roots_chain: (is_step && outer.ends_chain) || (is_parenthesis && outer.roots_chain),
+            is_in_assign: (frame.is_object_assign && field == 1) || outer.is_in_assign,
+            is_in_argument: (is_any_call(node) && field == 1) || outer.is_in_argument,
+            is_later: is_later_in(frame, field),
+            declarator: declarator_in(frame),
+        }
+    }
+}
+
+// Where the nearest declarator around what stands in an open node begins.
+fn declarator_in<'a>(frame: Frame<'a>) -> Option<usize> {
+    if frame.node == Node::VarDeclarator {
+        Some(frame.begins)
+    } else {
+        frame.spot.declarator
+    }
+}
+
+// Whether such a node assigns to what stands in this field.
+fn assigns<'a>(node: Node<'a>, field: u8) -> bool
+    ensures { result ≡ assigns_lem (head_of node.entry) field }
+{
+    match node {
+        Node::AssignExpr { .. } => field == 1,
+        _ => false,
+    }
+}
+
+// Whether what stands in this field of such a node is a target where the node is one: parentheses and patterns.
+fn passes_targets<'a>(node: Node<'a>, field: u8) -> bool
+    ensures { result ≡ passes_assignments (head_of node.entry) field }
+{
+    match node {
+        Node::BindingIdent => true,
+        Node::ParenExpr => true,
+        Node::ArrayPat => true,
+        Node::ObjectPat => true,
+        Node::RestPat => true,
+        Node::AssignPat => field == 0,
+        Node::AssignPatProp => field == 0,
+        Node::KeyValuePatProp => field == 1,
+        _ => false,
+    }
+}
+
+// Whether such a node reads a member of what stands in this field.
+fn is_chain_step<'a>(node: Node<'a>, field: u8) -> bool
+    ensures { result ≡ is_chain_step_lem (head_of node.entry) field }
+{
+    match node {
+        Node::MemberExpr => field == 0,
+        _ => false,
+    }
+}
+
+// Whether such a node is a pair of parentheses.
+fn is_parenthesis<'a>(node: Node<'a>) -> bool
+    ensures { result ≡ is_parenthesis_lem (head_of node.entry) }
+{
+    match node {
+        Node::ParenExpr => true,
+        _ => false,
+    }
+}
+
+// Whether such a node calls what is in its first field with what is in its second.
+fn is_any_call<'a>(node: Node<'a>) -> bool
+    ensures { result ≡ is_any_call_lem (head_of node.entry) }
+{
+    match node {
+        Node::CallExpr => true,
+        Node::OptCall => true,
+        _ => false,
+    }
+}
+
+// Whether what stands in this field of an open node runs later than the item.
+#[tactic(auto, using(crate::proofs::LaterLemmas::later_inside))]
+fn is_later_in<'a>(frame: Frame<'a>, field: u8) -> bool
+    ensures { (outer : List Around) → frame.entry.spot.is_later ≡ runs_later outer → result ≡ runs_later (path_in frame.entry field outer) }
+{
+    delays(frame.node, field) || frame.spot.is_later
+}
+
+// Whether what stands in this field of such a node runs later: parameters and bodies of functions, and what a
+// field of an instance starts with (ECMA-262, 15 and 15.7.14).
+fn delays<'a>(node: Node<'a>, field: u8) -> bool
+    ensures { result ≡ delays_lem (head_of node.entry) field }
+{
+    match node {
+        Node::Function { .. } => true,
+        Node::Constructor => true,
+        Node::ArrowExpr { .. } => true,
+        Node::GetterProp => field != 0,
+        Node::SetterProp => field != 0,
+        Node::ClassProp { is_static } => !is_static && field == 1,
+        Node::PrivateProp { is_static } => !is_static && field == 1,
+        _ => false,
+    }
+}

@@ -1,0 +1,10 @@
+pub mod EndLemmas
+pub mod Examples
+pub mod ItemLemmas
+pub mod RankingLemmas
+pub mod RowLemmas
+pub mod SortLemmas
+pub mod StackLemmas
+pub mod StepLemmas
+pub mod WalkingLemmas
+pub mod WorkLemmas

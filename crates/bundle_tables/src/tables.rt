@@ -1,0 +1,184 @@
+//! The tables of a module from its list.
+
+ghost use Rattle.std.specs.Prelude.{◌≡◌, false, true, IsTrue, IfOk, IfErr, Some, None, map};
+ghost use Rattle.bundle_piece.specs.Item.{item_of};
+ghost use Rattle.bundle_tables.specs.declared.table.TreeFault.TheVariants as f;
+ghost use Rattle.bundle_terms.specs.Entries.{has_import_meta as has_import_meta_lem};
+ghost use Rattle.bundle_terms.specs.Bundle.{is_with};
+ghost use Rattle.bundle_terms.specs.Nodes.{has_head};
+
+use crate::entries::{Entries, entries_of};
+use crate::nodes::{has_import_meta, has_with};
+use crate::outline::Outline;
+use crate::table::{RequireCall, Tables, TreeFault};
+use crate::walk::{Found, found_in};
+use bundle_denote::Denotations;
+use bundle_piece::Piece;
+use indexmap::IndexSet;
+use std::alloc::{AllocError, Global};
+
+/// The number of the scope of a module's top.
+const TOP: usize = 0;
+
+/// The tables of a module, or what is wrong with it by itself: the first fault, exports that are doubled
+/// before those that are undeclared, and these before `with`.
+///
+/// `denotations` are those of the list as an ECMAScript module, by symbol. `require` says whether literal
+/// calls of `require` are linked, and `external` which texts are external.
+pub fn tables_of<'a>(
+    alloc: Global,
+    pieces: &[Piece<'a>],
+    denotations: &Denotations<'a>,
+    require: bool,
+    external: &[String],
+) -> Result<Result<Tables<'a>, TreeFault<'a>>, AllocError>
+    ensures meta { IfOk result (λ answer. IfOk answer (λ tables.
+        tables.has_import_meta ≡ has_import_meta_lem (map item_of pieces.now))) }
+    ensures none { IfOk result (λ answer. IfOk answer (λ tables. has_head is_with (map item_of pieces.now) ≡ false)) }
+    ensures stands { IfOk result (λ answer. IfErr answer (λ fault. fault ≡ f.With → IsTrue (has_head is_with (map item_of pieces.now)))) }
+{
+    let outline = Outline::new(alloc, pieces)?;
+    let external = texts(alloc, external)?;
+    let entries = entries_of(alloc, &outline, &external)?;
+    let found = found_in(alloc, &outline, denotations, &entries.locals)?;
+    if let Some(fault) = first_fault(alloc, denotations, &entries, has_with(pieces))? {
+        return Ok(Err(fault));
+    }
+    let has_import_meta = has_import_meta(pieces);
+    let tables = joined(alloc, entries, found, has_import_meta, require, &external)?;
+    Ok(Ok(tables))
+}
+
+// The texts, each once.
+fn texts<'t>(alloc: Global, list: &'t [String]) -> Result<IndexSet<&'t str>, AllocError> {
+    let mut texts = IndexSet::new(alloc);
+    for text in list {
+        texts.insert(text.as_str())?;
+    }
+    Ok(texts)
+}
+
+// The first fault of a module by itself.
+fn first_fault<'a>(
+    alloc: Global,
+    denotations: &Denotations<'a>,
+    entries: &Entries<'a>,
+    has_with: bool,
+) -> Result<Option<TreeFault<'a>>, AllocError>
+    ensures none { IfOk result (λ fault. fault ≡ None → has_with ≡ false) }
+    ensures stands { IfOk result (λ fault. fault ≡ Some f.With → has_with ≡ true) }
+{
+    if let Some(name) = doubled_name(alloc, entries)? {
+        return Ok(Some(TreeFault::DoubledExport { name }));
+    }
+    if let Some(name) = undeclared_name(alloc, denotations, entries)? {
+        return Ok(Some(TreeFault::UndeclaredExport { name }));
+    }
+    if has_with {
+        return Ok(Some(TreeFault::With));
+    }
+    Ok(None)
+}
+
+// The first name that an earlier export has.
+fn doubled_name<'a>(alloc: Global, entries: &Entries<'a>) -> Result<Option<&'a str>, AllocError> {
+    let mut names = IndexSet::new(alloc);
+    for export in &entries.exports {
+        if names.contains(&export.name) {
+            return Ok(Some(export.name));
+        }
+        names.insert(export.name)?;
+    }
+    Ok(None)
+}
+
+// The first name in an export list without `from` that is a string, or that the top does not bind.
+fn undeclared_name<'a>(
+    alloc: Global,
+    denotations: &Denotations<'a>,
+    entries: &Entries<'a>,
+) -> Result<Option<&'a str>, AllocError> {
+    if entries.listed.is_empty() {
+        return Ok(None);
+    }
+    let mut bound = IndexSet::new(alloc);
+    for binding in &denotations.bindings {
+        if binding.scope == TOP {
+            bound.insert(binding.sym)?;
+        }
+    }
+    for listed in &entries.listed {
+        if listed.is_string || !bound.contains(&listed.name) {
+            return Ok(Some(listed.name));
+        }
+    }
+    Ok(None)
+}
+
+// The tables of a module without fault.
+fn joined<'a>(
+    alloc: Global,
+    entries: Entries<'a>,
+    found: Found<'a>,
+    has_import_meta: bool,
+    require: bool,
+    external: &IndexSet<&str>,
+) -> Result<Tables<'a>, AllocError>
+    ensures { IfOk result (λ tables. tables.has_import_meta ≡ has_import_meta) }
+{
+    let calls = linked_calls(alloc, &found, require, external)?;
+    let requests = requests(alloc, &entries, calls.as_slice())?;
+    let stars = entries.stars.iter().copied().collect(alloc)?;
+    let is_script = !entries.is_declared_module && !has_import_meta;
+    Ok(Tables {
+        requests,
+        imports: entries.imports,
+        exports: entries.exports,
+        stars,
+        sources: entries.sources,
+        calls,
+        uses: found.uses,
+        reads: found.reads,
+        is_script,
+        has_import_meta,
+        names_common_js: found.names_common_js,
+        awaits: found.awaits,
+        has_free_arguments: found.has_free_arguments,
+    })
+}
+
+// The literal calls that are linked.
+fn linked_calls<'a>(
+    alloc: Global,
+    found: &Found<'a>,
+    require: bool,
+    external: &IndexSet<&str>,
+) -> Result<Vec<RequireCall<'a>>, AllocError> {
+    let mut calls = Vec::new(alloc);
+    if require {
+        for call in &found.calls {
+            if !(&*external).contains(&call.specifier) {
+                calls.push(*call)?;
+            }
+        }
+    }
+    Ok(calls)
+}
+
+// What a module asks to be loaded.
+fn requests<'a>(
+    alloc: Global,
+    entries: &Entries<'a>,
+    calls: &[RequireCall<'a>],
+) -> Result<Vec<&'a str>, AllocError> {
+    let mut texts = IndexSet::new(alloc);
+    for source in &entries.sources {
+        if !source.is_external {
+            texts.insert(source.specifier)?;
+        }
+    }
+    for call in calls {
+        texts.insert(call.specifier)?;
+    }
+    texts.iter().copied().collect(alloc)
+}

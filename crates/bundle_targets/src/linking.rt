@@ -1,0 +1,164 @@
+//! The modules of one bundle, linked.
+
+use crate::faults::{call_fault_of, is_perhaps_external, link_fault_of};
+use crate::index::{Asked, Index, list_at};
+use crate::kinds::{Kinds, flag};
+use crate::meant::{Meant, meant_in};
+use crate::search::{Answer, Search};
+use crate::taken::{external_stars_of, externals_of, identifier_of, loads_of, symbols_of};
+use crate::target::{External, Fault, LinkModule, Loaded, Meaning, Resolution, Setting, Target};
+use bundle_tables::Taken;
+use indexmap::IndexMap;
+use std::alloc::{AllocError, Global};
+
+/// What each name of the modules of a bundle stands for, which of the modules are CommonJS, what of them is
+/// meant, and what is wrong with them.
+#[derive(Drop)]
+pub struct Linking<'a> {
+    alloc: Global,
+    index: Index<'a>,
+    search: Search<'a>,
+    common_js: Vec<bool>,
+    meant: Meant<'a>,
+    externals: Vec<External<'a>>,
+    external_stars: Vec<&'a str>,
+    loads: Vec<Vec<Loaded<'a>>>,
+    symbols: IndexMap<Target<'a>, &'a str>,
+    call_fault: Option<Fault<'a>>,
+    link_fault: Option<Fault<'a>>,
+}
+
+impl<'a> Linking<'a> {
+    /// Links modules. `list` has the numbers of the modules that the entry reaches, in post-order of their
+    /// requests, the entry last. The caller sees to it that all numbers, in `leads` too, are indexes of
+    /// `modules`, and that no module has a fault of its own.
+    pub fn new(
+        alloc: Global,
+        modules: &[LinkModule<'_, 'a>],
+        list: &[usize],
+        entry: usize,
+        setting: Setting,
+    ) -> Result<Linking<'a>, AllocError> {
+        let kinds = Kinds::new(alloc, modules, list, entry, setting)?;
+        let index = Index::new(alloc, &kinds)?;
+        let mut search = Search::new(alloc, modules.len())?;
+        let meant = meant_in(alloc, &kinds, &index, &mut search)?;
+        let externals = externals_of(alloc, &kinds, &meant.targets)?;
+        let external_stars = external_stars_of(
+            alloc,
+            &index,
+            &mut search,
+            entry,
+            externals.as_slice(),
+        )?;
+        let loads = loads_of(alloc, &kinds, &meant.targets)?;
+        let symbols = symbols_of(alloc, &kinds)?;
+        let call_fault = call_fault_of(&kinds);
+        let link_fault = link_fault_of(alloc, &kinds, &index, &mut search, &meant.targets)?;
+        let Kinds { common_js, .. } = kinds;
+        Ok(Linking {
+            alloc,
+            index,
+            search,
+            common_js,
+            meant,
+            externals,
+            external_stars,
+            loads,
+            symbols,
+            call_fault,
+            link_fault,
+        })
+    }
+
+    /// What a module gives for a name.
+    pub fn resolve(&self, module: usize, name: &str) -> Result<Resolution<'a>, AllocError> {
+        let asked = Asked { module, name };
+        let answer = match self.index.holders(name) {
+            Some(holders) => self.answer(Asked {
+                module,
+                name: holders.name,
+            })?,
+            None => Answer::None,
+        };
+        Ok(match answer {
+            Answer::One(given) => Resolution::One(given.target),
+            Answer::Two(first, second) => Resolution::Two(first.target, second.target),
+            Answer::None if is_perhaps_external(&self.index, asked) => Resolution::ExternalStar,
+            Answer::None => Resolution::None,
+        })
+    }
+
+    fn answer(&self, asked: Asked<'a>) -> Result<Answer<'a>, AllocError> {
+        if let Some(answer) = self.search.known(asked) {
+            return Ok(answer);
+        }
+        let mut search = Search::new(self.alloc, self.index.len())?;
+        search.answer(self.alloc, &self.index, asked)
+    }
+
+    /// Whether a module is CommonJS in this bundle.
+    pub fn is_common_js(&self, module: usize) -> bool {
+        flag(&self.common_js, module)
+    }
+
+    /// Whether the object of a module's namespace is meant.
+    pub fn is_object_meant(&self, module: usize) -> bool {
+        self.meant.targets.contains(&Target::Namespace { module })
+    }
+
+    /// What a use of an imported name means, by its number among the uses of its module. None where the
+    /// module is not listed, or the name is not linked.
+    pub fn meaning(&self, module: usize, number: usize) -> Option<Meaning<'a>> {
+        self.meant.meanings.get(module)?.get(number).copied()?
+    }
+
+    /// The names that a module links, ascending, with their targets: of the entry, and of each module
+    /// whose namespace object is meant. Empty for any other.
+    pub fn linked_names(&self, module: usize) -> &[(&'a str, Target<'a>)] {
+        list_at(&self.meant.linked, module)
+    }
+
+    /// The externals that ECMAScript modules of the list ask for, in the order of first occurrence.
+    pub fn externals(&self) -> &[External<'a>] {
+        self.externals.as_slice()
+    }
+
+    /// The CommonJS modules that an ECMAScript module of the list imports or re-exports, in the order of
+    /// its requests. Empty for any other module.
+    pub fn loads(&self, module: usize) -> &[Loaded<'a>] {
+        list_at(&self.loads, module)
+    }
+
+    /// The externals that the entry stars, or that stand at the end of a chain of stars from it, in the
+    /// order of `externals`.
+    pub fn external_stars(&self) -> &[&'a str] {
+        self.external_stars.as_slice()
+    }
+
+    /// What a target is called before names are made apart: `mod` for a namespace; the local name of the
+    /// first import that takes it, else its own name, else `name`.
+    pub fn symbol_of(&self, target: Target<'a>) -> &'a str {
+        let taken = match target {
+            Target::Declared { name, .. } => return name,
+            Target::Namespace { .. } => return "mod",
+            Target::External { taken, .. } | Target::CommonJs { taken, .. } => taken,
+        };
+        match (self.symbols.get(&target), taken) {
+            (Some(symbol), _) => *symbol,
+            (None, Taken::Named(name)) => identifier_of(name),
+            (None, Taken::Whole) => "name",
+        }
+    }
+
+    /// The first fault of the literal calls of `require`, which is judged before the declarations of
+    /// modules are.
+    pub fn call_fault(&self) -> Option<Fault<'a>> {
+        self.call_fault
+    }
+
+    /// The first fault of the linking, which is judged after them.
+    pub fn link_fault(&self) -> Option<Fault<'a>> {
+        self.link_fault
+    }
+}
