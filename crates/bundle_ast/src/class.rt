@@ -9,12 +9,25 @@ use bundle_leaf::kind::MethodKind;
 
 /// The parameters and the body of a function or a method (ECMA-262, 15.2, 15.5, 15.6 and 15.8).
 #[cycle(ast)]
-#[derive(PartialEq, Drop)]
+#[derive(PartialEq)]
 pub struct Function {
     pub params: Vec<Param>,
     pub body: BlockStmt,
     pub is_generator: bool,
     pub is_async: bool,
+}
+
+/// Lets go of a function and all below it.
+impl Drop for Function {
+    #[cycle(drop)]
+    fn drop(self) {
+        let Function {
+            params: _params,
+            body: _body,
+            is_generator: _is_generator,
+            is_async: _is_async,
+        } = self;
+    }
 }
 
 /// A parameter (ECMA-262, 15.1).
@@ -25,15 +38,26 @@ pub struct Param<P = Pat> {
 
 /// The heritage and the members of a class (ECMA-262, 15.7).
 #[cycle(ast)]
-#[derive(PartialEq, Drop)]
+#[derive(PartialEq)]
 pub struct Class {
     pub super_class: Option<Box<Expr>>,
     pub body: Vec<ClassMember>,
 }
 
+/// Lets go of a class and all below it.
+impl Drop for Class {
+    #[cycle(drop)]
+    fn drop(self) {
+        let Class {
+            super_class: _super_class,
+            body: _body,
+        } = self;
+    }
+}
+
 /// A member of a class (ECMA-262, 15.7 ClassElement).
 #[cycle(ast)]
-#[derive(PartialEq, Drop)]
+#[derive(PartialEq)]
 pub enum ClassMember {
     Constructor {
         params: Vec<Param>,
@@ -65,4 +89,41 @@ pub enum ClassMember {
         body: BlockStmt,
     },
     EmptyStmt,
+}
+
+/// Lets go of a member of a class and all below it.
+impl Drop for ClassMember {
+    #[cycle(drop)]
+    fn drop(self) {
+        match self {
+            ClassMember::Constructor {
+                params: _params,
+                body: _body,
+            } => {}
+            ClassMember::ClassMethod {
+                key: _key,
+                function: _function,
+                kind: _kind,
+                is_static: _is_static,
+            } => {}
+            ClassMember::PrivateMethod {
+                key: _key,
+                function: _function,
+                kind: _kind,
+                is_static: _is_static,
+            } => {}
+            ClassMember::ClassProp {
+                key: _key,
+                value: _value,
+                is_static: _is_static,
+            } => {}
+            ClassMember::PrivateProp {
+                key: _key,
+                value: _value,
+                is_static: _is_static,
+            } => {}
+            ClassMember::StaticBlock { body: _body } => {}
+            ClassMember::EmptyStmt => {}
+        }
+    }
 }

@@ -8,11 +8,29 @@ use bundle_leaf::kind::{ExportMetadata, VarDeclKind};
 
 /// A declaration of a class, a function or variables.
 #[cycle(ast)]
-#[derive(PartialEq, Drop)]
+#[derive(PartialEq)]
 pub enum Decl {
     ClassDecl { ident: Ident, class: Class },
     FnDecl { ident: Ident, function: Function },
     VarDecl(VarDecl),
+}
+
+/// Lets go of a declaration and all below it.
+impl Drop for Decl {
+    #[cycle(drop)]
+    fn drop(self) {
+        match self {
+            Decl::ClassDecl {
+                ident: _ident,
+                class: _class,
+            } => {}
+            Decl::FnDecl {
+                ident: _ident,
+                function: _function,
+            } => {}
+            Decl::VarDecl(_it) => {}
+        }
+    }
 }
 
 /// `var`, `let` or `const` with its declarators (ECMA-262, 14.3).
@@ -25,8 +43,19 @@ pub struct VarDecl<D = VarDeclarator> {
 
 /// A declared pattern and its first value (ECMA-262, 14.3.2 VariableDeclaration).
 #[cycle(ast)]
-#[derive(PartialEq, Drop)]
+#[derive(PartialEq)]
 pub struct VarDeclarator {
     pub name: Pat,
     pub init: Option<Expr>,
+}
+
+/// Lets go of a declarator and all below it.
+impl Drop for VarDeclarator {
+    #[cycle(drop)]
+    fn drop(self) {
+        let VarDeclarator {
+            name: _name,
+            init: _init,
+        } = self;
+    }
 }

@@ -208,10 +208,21 @@ pub struct ExprOrSpread<E = Expr> {
 
 /// The body of an arrow function (ECMA-262, 15.3).
 #[cycle(ast)]
-#[derive(PartialEq, Drop)]
+#[derive(PartialEq)]
 pub enum ArrowBody {
     BlockStmt(BlockStmt),
     Expr(Box<Expr>),
+}
+
+/// Lets go of the body of an arrow function and all below it.
+impl Drop for ArrowBody {
+    #[cycle(drop)]
+    fn drop(self) {
+        match self {
+            ArrowBody::BlockStmt(_it) => {}
+            ArrowBody::Expr(_it) => {}
+        }
+    }
 }
 
 /// One link of an optional chain (ECMA-262, 13.3.9).

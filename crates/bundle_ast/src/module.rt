@@ -36,14 +36,24 @@ impl Module {
 }
 
 /// What stands at the top of a module (ECMA-262, 16.2).
-#[derive(PartialEq, Drop, Debug)]
+#[derive(PartialEq, Debug)]
 pub enum ModuleItem {
     ModuleDecl(ModuleDecl),
     Stmt(Stmt),
 }
 
+/// Lets go of what stands at the top of a module and all below it.
+impl Drop for ModuleItem {
+    fn drop(self) {
+        match self {
+            ModuleItem::ModuleDecl(_it) => {}
+            ModuleItem::Stmt(_it) => {}
+        }
+    }
+}
+
 /// An import or an export (ECMA-262, 16.2.2 and 16.2.3).
-#[derive(PartialEq, Drop, Debug)]
+#[derive(PartialEq, Debug)]
 pub enum ModuleDecl {
     ImportDecl {
         specifiers: Vec<ImportSpecifier>,
@@ -70,8 +80,33 @@ pub enum ModuleDecl {
     },
 }
 
+/// Lets go of an import or an export and all below it.
+impl Drop for ModuleDecl {
+    fn drop(self) {
+        match self {
+            ModuleDecl::ImportDecl {
+                specifiers: _specifiers,
+                src: _src,
+                meta: _meta,
+            } => {}
+            ModuleDecl::ExportDecl { decl: _decl } => {}
+            ModuleDecl::NamedExport {
+                specifiers: _specifiers,
+                src: _src,
+                meta: _meta,
+            } => {}
+            ModuleDecl::ExportDefaultDecl { decl: _decl } => {}
+            ModuleDecl::ExportDefaultExpr { expr: _expr } => {}
+            ModuleDecl::ExportAll {
+                src: _src,
+                meta: _meta,
+            } => {}
+        }
+    }
+}
+
 /// The class or function of an `export default` (ECMA-262, 16.2.3).
-#[derive(PartialEq, Drop, Debug)]
+#[derive(PartialEq, Debug)]
 pub enum DefaultDecl {
     ClassExpr {
         ident: Option<Ident>,
@@ -81,4 +116,20 @@ pub enum DefaultDecl {
         ident: Option<Ident>,
         function: Function,
     },
+}
+
+/// Lets go of the class or function of an `export default` and all below it.
+impl Drop for DefaultDecl {
+    fn drop(self) {
+        match self {
+            DefaultDecl::ClassExpr {
+                ident: _ident,
+                class: _class,
+            } => {}
+            DefaultDecl::FnExpr {
+                ident: _ident,
+                function: _function,
+            } => {}
+        }
+    }
 }

@@ -55,7 +55,7 @@ pub struct ObjectPat<O = ObjectPatProp> {
 
 /// What stands in a pattern of properties (ECMA-262, 14.3.3).
 #[cycle(ast)]
-#[derive(PartialEq, Drop)]
+#[derive(PartialEq)]
 pub enum ObjectPatProp {
     KeyValuePatProp {
         key: PropName,
@@ -68,9 +68,27 @@ pub enum ObjectPatProp {
     RestPat(RestPat),
 }
 
+/// Lets go of what stands in a pattern of properties and all below it.
+impl Drop for ObjectPatProp {
+    #[cycle(drop)]
+    fn drop(self) {
+        match self {
+            ObjectPatProp::KeyValuePatProp {
+                key: _key,
+                value: _value,
+            } => {}
+            ObjectPatProp::AssignPatProp {
+                key: _key,
+                value: _value,
+            } => {}
+            ObjectPatProp::RestPat(_it) => {}
+        }
+    }
+}
+
 /// The left side of an assignment (ECMA-262, 13.15).
 #[cycle(ast)]
-#[derive(PartialEq, Drop)]
+#[derive(PartialEq)]
 pub enum AssignTarget {
     BindingIdent(BindingIdent),
     MemberExpr(MemberExpr),
@@ -78,4 +96,19 @@ pub enum AssignTarget {
     ParenExpr(ParenExpr),
     ArrayPat(ArrayPat),
     ObjectPat(ObjectPat),
+}
+
+/// Lets go of the left side of an assignment and all below it.
+impl Drop for AssignTarget {
+    #[cycle(drop)]
+    fn drop(self) {
+        match self {
+            AssignTarget::BindingIdent(_it) => {}
+            AssignTarget::MemberExpr(_it) => {}
+            AssignTarget::SuperPropExpr(_it) => {}
+            AssignTarget::ParenExpr(_it) => {}
+            AssignTarget::ArrayPat(_it) => {}
+            AssignTarget::ObjectPat(_it) => {}
+        }
+    }
 }

@@ -9,15 +9,26 @@ use bundle_leaf::lit::{BigInt, Number, Str};
 
 /// What stands in an object literal (ECMA-262, 13.2.5).
 #[cycle(ast)]
-#[derive(PartialEq, Drop)]
+#[derive(PartialEq)]
 pub enum PropOrSpread {
     SpreadElement { expr: Expr },
     Prop(Prop),
 }
 
+/// Lets go of what stands in an object literal and all below it.
+impl Drop for PropOrSpread {
+    #[cycle(drop)]
+    fn drop(self) {
+        match self {
+            PropOrSpread::SpreadElement { expr: _expr } => {}
+            PropOrSpread::Prop(_it) => {}
+        }
+    }
+}
+
 /// A property of an object literal (ECMA-262, 13.2.5 and 15.4).
 #[cycle(ast)]
-#[derive(PartialEq, Drop)]
+#[derive(PartialEq)]
 pub enum Prop {
     Shorthand(Ident),
     KeyValueProp(KeyValueProp),
@@ -34,6 +45,30 @@ pub enum Prop {
         key: PropName,
         function: Function,
     },
+}
+
+/// Lets go of a property and all below it.
+impl Drop for Prop {
+    #[cycle(drop)]
+    fn drop(self) {
+        match self {
+            Prop::Shorthand(_it) => {}
+            Prop::KeyValueProp(_it) => {}
+            Prop::GetterProp {
+                key: _key,
+                body: _body,
+            } => {}
+            Prop::SetterProp {
+                key: _key,
+                param: _param,
+                body: _body,
+            } => {}
+            Prop::MethodProp {
+                key: _key,
+                function: _function,
+            } => {}
+        }
+    }
 }
 
 /// A key with its value (ECMA-262, 13.2.5).

@@ -151,32 +151,76 @@ impl Drop for Stmt {
 
 /// A `case`, or the `default` where there is no test (ECMA-262, 14.12).
 #[cycle(ast)]
-#[derive(PartialEq, Drop)]
+#[derive(PartialEq)]
 pub struct SwitchCase {
     pub test: Option<Expr>,
     pub cons: Vec<Stmt>,
 }
 
+/// Lets go of a case and all below it.
+impl Drop for SwitchCase {
+    #[cycle(drop)]
+    fn drop(self) {
+        let SwitchCase {
+            test: _test,
+            cons: _cons,
+        } = self;
+    }
+}
+
 /// The `catch` of a `try` (ECMA-262, 14.15).
 #[cycle(ast)]
-#[derive(PartialEq, Drop)]
+#[derive(PartialEq)]
 pub struct CatchClause {
     pub param: Option<Pat>,
     pub body: BlockStmt,
 }
 
+/// Lets go of a `catch` and all below it.
+impl Drop for CatchClause {
+    #[cycle(drop)]
+    fn drop(self) {
+        let CatchClause {
+            param: _param,
+            body: _body,
+        } = self;
+    }
+}
+
 /// What stands first in a `for` with two semicolons (ECMA-262, 14.7.4).
 #[cycle(ast)]
-#[derive(PartialEq, Drop)]
+#[derive(PartialEq)]
 pub enum ForInit {
     VarDecl(VarDecl),
     Expr(Expr),
 }
 
+/// Lets go of what stands first in a `for` and all below it.
+impl Drop for ForInit {
+    #[cycle(drop)]
+    fn drop(self) {
+        match self {
+            ForInit::VarDecl(_it) => {}
+            ForInit::Expr(_it) => {}
+        }
+    }
+}
+
 /// What a `for` .. `in` or `of` assigns or declares (ECMA-262, 14.7.5).
 #[cycle(ast)]
-#[derive(PartialEq, Drop)]
+#[derive(PartialEq)]
 pub enum ForHead {
     VarDecl(VarDecl),
     Pat(Pat),
+}
+
+/// Lets go of what a `for` assigns or declares and all below it.
+impl Drop for ForHead {
+    #[cycle(drop)]
+    fn drop(self) {
+        match self {
+            ForHead::VarDecl(_it) => {}
+            ForHead::Pat(_it) => {}
+        }
+    }
 }

@@ -1,14 +1,9 @@
 //! What is left of a list, and the tree that it gives.
 
-ghost use Rattle.std.specs.Prelude.{◌≡◌, ◌↔◌, ◌+◌, IfOk, IsTrue, map};
-ghost use Rattle.std.specs.List.{flat_map};
-ghost use Rattle.bundle_piece.specs.Item.{item_of};
-ghost use Rattle.bundle_pieces.specs.Tree.{key_value_prop_items, module_item_items, module_items};
+ghost use Rattle.std.specs.Prelude.{◌≡◌, ◌+◌, IfOk};
 
-use bundle_ast::{KeyValueProp, Module, ModuleItem};
+use bundle_ast::{KeyValueProp, Module};
 use bundle_piece::{Node, Piece, Role};
-use bundle_pieces::{pieces as pieces_of_items, pieces_of_module, pieces_of_properties};
-use bundle_same::are_same;
 use std::alloc::{AllocError, AllocFailed, Global};
 use std::fmt;
 
@@ -61,86 +56,8 @@ impl<T: Drop> From<AllocFailed<T>> for BuildError {
     }
 }
 
-/// The module whose list this is: its list is just the one that is given. Refused where it is the list of no
-/// module, and for memory.
-pub fn build_module<'a>(alloc: Global, pieces: &[Piece<'a>]) -> Result<Module, BuildError>
-    ensures { IfOk result (λ it. module_items 0 it ≡ map item_of pieces.now) }
-{
-    let module = module_of(alloc, pieces)?;
-    if is_list_of_module(alloc, pieces, &module)? {
-        Ok(module)
-    } else {
-        Err(BuildError::Form)
-    }
-}
-
-/// The items whose lists stand here one after the other, each in field 0 as in a `Module`. Refused where it is
-/// not so, and for memory.
-pub fn build_items<'a>(alloc: Global, pieces: &[Piece<'a>]) -> Result<Vec<ModuleItem>, BuildError>
-    ensures { IfOk result (λ list. flat_map (module_item_items 0) list.items ≡ map item_of pieces.now) }
-{
-    let module = module_of_items(alloc, pieces)?;
-    if is_list_of_items(alloc, pieces, module.body.as_slice())? {
-        Ok(module.into_body())
-    } else {
-        Err(BuildError::Form)
-    }
-}
-
-/// The properties whose lists stand here one after the other, each in field 0. Refused where it is not so,
-/// and for memory.
-pub fn build_properties<'a>(
-    alloc: Global,
-    pieces: &[Piece<'a>],
-) -> Result<Vec<KeyValueProp>, BuildError>
-    ensures { IfOk result (λ list. flat_map (key_value_prop_items 0) list.items ≡ map item_of pieces.now) }
-{
-    let properties = properties_of(alloc, pieces)?;
-    if is_list_of_properties(alloc, pieces, properties.as_slice())? {
-        Ok(properties)
-    } else {
-        Err(BuildError::Form)
-    }
-}
-
-// Whether this is the list of the module.
-fn is_list_of_module<'a>(
-    alloc: Global,
-    pieces: &[Piece<'a>],
-    module: &Module,
-) -> Result<bool, AllocError>
-    ensures { IfOk result (λ same. IsTrue same ↔ (module_items 0 «module».now ≡ map item_of pieces.now)) }
-{
-    let list = pieces_of_module(alloc, module)?;
-    Ok(are_same(list.as_slice(), pieces))
-}
-
-// Whether this is the list of the items.
-fn is_list_of_items<'a>(
-    alloc: Global,
-    pieces: &[Piece<'a>],
-    items: &[ModuleItem],
-) -> Result<bool, AllocError>
-    ensures { IfOk result (λ same. IsTrue same ↔ (flat_map (module_item_items 0) items.now ≡ map item_of pieces.now)) }
-{
-    let list = pieces_of_items(alloc, items)?;
-    Ok(are_same(list.as_slice(), pieces))
-}
-
-// Whether this is the list of the properties.
-fn is_list_of_properties<'a>(
-    alloc: Global,
-    pieces: &[Piece<'a>],
-    properties: &[KeyValueProp],
-) -> Result<bool, AllocError>
-    ensures { IfOk result (λ same. IsTrue same ↔ (flat_map (key_value_prop_items 0) properties.now ≡ map item_of pieces.now)) }
-{
-    let list = pieces_of_properties(alloc, properties)?;
-    Ok(are_same(list.as_slice(), pieces))
-}
-
-// The module that the list begins with.
-fn module_of<'a>(alloc: Global, pieces: &[Piece<'a>]) -> Result<Module, BuildError> {
+/// The module that the list begins with. Refused where it begins with none, and for memory.
+pub fn module_of<'a>(alloc: Global, pieces: &[Piece<'a>]) -> Result<Module, BuildError> {
     let mut builder = Builder {
         alloc,
         pieces,
@@ -150,19 +67,11 @@ fn module_of<'a>(alloc: Global, pieces: &[Piece<'a>]) -> Result<Module, BuildErr
     Ok(Module { body })
 }
 
-// The module with the items whose lists stand here.
-fn module_of_items<'a>(alloc: Global, pieces: &[Piece<'a>]) -> Result<Module, BuildError> {
-    let mut builder = Builder {
-        alloc,
-        pieces,
-        place: 0,
-    };
-    let body = builder.each_module_item(pieces.len(), 0)?;
-    Ok(Module { body })
-}
-
-// The properties that the list begins with.
-fn properties_of<'a>(alloc: Global, pieces: &[Piece<'a>]) -> Result<Vec<KeyValueProp>, BuildError> {
+/// The properties that the list begins with. Refused where what stands there is none, and for memory.
+pub fn properties_of<'a>(
+    alloc: Global,
+    pieces: &[Piece<'a>],
+) -> Result<Vec<KeyValueProp>, BuildError> {
     let mut builder = Builder {
         alloc,
         pieces,

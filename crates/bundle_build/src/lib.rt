@@ -1,4 +1,4 @@
-//! From the full list of a syntax tree back to the tree (ECMA-262, 13 to 16).
+//! From the full list of a syntax tree back to a tree (ECMA-262, 13 to 16): what the list begins with.
 #![tactic(auto)]
 
 pub mod build;
@@ -12,4 +12,4 @@ pub mod pats;
 pub mod props;
 pub mod stmts;
 
-pub use build::{BuildError, build_items, build_module, build_properties};
+pub use build::{BuildError, module_of, properties_of};

@@ -23,7 +23,8 @@ use Rattle.bundle_denote.specs.Numbers.{Numbered, AreAround, Keeps}
 use Rattle.bundle_denote.specs.Walked.{scope_in, IsInnermost, AreOpen, IsDeclared, IsSeen, IsAt, IsDefault, at_number, begins_nameless, declared_as, occurs_as}
 use Rattle.bundle_denote.specs.Steps.{scopes_of, names_of, scope_made, IsWalkAt, Stays, Goes, Begins, Occurs, Ends, next_inner}
 use Rattle.bundle_denote.proofs.ChainLemmas.{Keeps-append, Keeps-same, slice_get-next, AreAround-keeps}
-use Rattle.bundle_denote.proofs.WalkLemmas.{drop-at, AreOpen-in_field, AreOpen-keeps, innermost, innermost-new, BothOrNone, behind_option, declared-next, seen-next}
+use Rattle.bundle_denote.proofs.ZipLemmas.{BothOrNone}
+use Rattle.bundle_denote.proofs.WalkLemmas.{drop-at, AreOpen-in_field, AreOpen-keeps, innermost, innermost-new, behind_option, declared-next, seen-next}
 
 -- what holds where all goes well
 pub on_ok : {T E P Q : Type 0} (r : Result T E) → (P → Q) → OnOk r P → OnOk r Q

@@ -19,6 +19,7 @@ use Rattle.bundle_denote.specs.Kinds.{scope_as, way_named, kind_named, kind_made
 use Rattle.bundle_denote.specs.Numbers.{Numbered, AreAround, Keeps, in_scope}
 use Rattle.bundle_denote.specs.Walked.{scope_within, scope_in, IsInnermost, AreOpen, IsDeclared, IsSeen, AreDeclaredTo, AreSeenTo}
 use Rattle.bundle_denote.proofs.ChainLemmas.{Keeps-append, slice_get-next, AreAround-keeps, AllZip-weaker}
+use Rattle.bundle_denote.proofs.ZipLemmas.{BothOrNone}
 use Rattle.bundle_denote.proofs.HeadLemmas.{way_in-named, way_of_variable-named, kind_made-named}
 
 -- the items from a place on begin with the one there
@@ -73,7 +74,7 @@ innermost scopes kind node outer [] known = known.0
 innermost scopes kind node outer (around ∷ path) known = known.0
 
 -- a kind of scope has its name
-named_scope : (kind : s.ScopeKind) (begins : ℕ) → scope_as (kind_named kind) begins ≡ s.Inner kind begins
+pub named_scope : (kind : s.ScopeKind) (begins : ℕ) → scope_as (kind_named kind) begins ≡ s.Inner kind begins
 named_scope s.Parameters begins = refl
 named_scope s.ArrowParameters begins = refl
 named_scope s.FunctionBody begins = refl
@@ -124,13 +125,6 @@ innermost-new scopes kind inner new path place field head known is_node is_way i
 pub behind_option : {X : Type 0} (before : List X) (first : Option X) (rest : List X) → (before ++ option_to_list first) ++ rest ≡ before ++ cons_option first rest
 behind_option before None rest = ap (λ l. l ++ rest) (append-nil before)
 behind_option before (Some x) rest = append_assoc before (x ∷ []) rest
-
--- two options hold what is related, or nothing
-abbrev pub BothOrNone : {A B : Type 0} → (A → B → Type 0) → Option A → Option B → Type 0
-BothOrNone R None None = Unit {0}
-BothOrNone R (Some x) (Some y) = R x y
-BothOrNone R None (Some y) = ⊥
-BothOrNone R (Some x) None = ⊥
 
 -- one more of both, or of neither
 all_zipped_option : {A B : Type 0} (R : A → B → Type 0) (xs : List A) (ys : List B) (x : Option A) (y : Option B) → AllZip R xs ys → BothOrNone R x y → AllZip R (xs ++ option_to_list x) (ys ++ option_to_list y)

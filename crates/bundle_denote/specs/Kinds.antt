@@ -7,6 +7,7 @@ use Rattle.bundle_piece.specs.Item as h
 use Rattle.bundle_piece.specs.Item.{Head}
 use Rattle.bundle_places.specs.Scopes as s
 use Rattle.bundle_places.specs.Declarations as d
+use Rattle.bundle_places.specs.Homes as o
 use Rattle.bundle_denote.specs.declared.table.ModuleKind.{ModuleKind}
 use Rattle.bundle_denote.specs.declared.table.ModuleKind.TheVariants as m
 use Rattle.bundle_denote.specs.declared.table.Reading.{Reading}
@@ -120,3 +121,26 @@ leaves_first_out h.GetterProp = true
 leaves_first_out h.SetterProp = true
 leaves_first_out h.SwitchStmt = true
 leaves_first_out _ = false
+
+-- whether a name that is declared in this way belongs to the scope, if it is the nearest such one
+abbrev pub takes_by : Way → s.Scope → Truth
+takes_by w.Import scope = o.is_top scope
+takes_by w.Var scope = o.is_body scope
+takes_by w.Let scope = o.is_block scope
+takes_by w.Const scope = o.is_block scope
+takes_by w.Function scope = o.is_block scope
+takes_by w.Class scope = o.is_block scope
+takes_by w.Default scope = o.is_top scope
+takes_by w.Parameter scope = o.is_parameters scope
+takes_by w.Catch scope = o.is_catch scope
+takes_by w.Loop scope = o.is_loop scope
+takes_by w.FunctionName scope = o.is_function_name scope
+takes_by w.ClassName scope = o.is_class_name scope
+takes_by w.Wrapper scope = o.is_wrapper scope
+takes_by w.Arguments scope = false
+
+-- whether a name that is declared in this way is the parameter of that name, where the body's function has one
+abbrev pub joins_by : Way → Truth
+joins_by w.Var = true
+joins_by w.Function = true
+joins_by _ = false

@@ -1,5 +1,9 @@
 pub mod Kinds
-pub mod Listed
 pub mod Numbers
-pub mod Steps
+pub mod Chains
+pub mod Bound
 pub mod Walked
+pub mod Steps
+pub mod Ready
+pub mod Searched
+pub mod Listed

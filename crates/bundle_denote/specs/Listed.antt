@@ -1,15 +1,34 @@
--- The occurrences of a list, as the table has them.
-use Rattle.std.specs.Prelude.{◌≡◌, ℕ, Bool, List, Some, is_some, map, slice_get}
+-- What the table says of a list.
+use Rattle.std.specs.Prelude.{◌≡◌, ℕ, Bool, List, Option, Some, None, is_some, map, slice_get}
 use Rattle.std.specs.List.{AllZip}
 use Rattle.bundle_piece.specs.Item.{Item}
 use Rattle.bundle_places.specs.Places.{Occurrence, occurrences}
-use Rattle.bundle_places.specs.Scopes.{ModuleKind, scopes_around}
-use Rattle.bundle_places.specs.Declarations.{Reading, Declared, declaration_of}
+use Rattle.bundle_places.specs.Scopes.{ModuleKind, Scope, scopes_around}
+use Rattle.bundle_places.specs.Declarations.{Reading, Name, Declared, declared, declaration_of}
+use Rattle.bundle_places.specs.Homes.{home_of}
+use Rattle.bundle_places.specs.Denotes as e
+use Rattle.bundle_denote.specs.declared.table.Binding.{Binding}
 use Rattle.bundle_denote.specs.declared.table.Denoted.{Denoted}
 use Rattle.bundle_denote.specs.declared.table.Denotations.{Denotations}
 use Rattle.bundle_denote.specs.declared.table.Doubled.{Doubled}
 use Rattle.bundle_denote.specs.declared.walk.Occurrence.{Occurrence as Seen}
 use Rattle.bundle_denote.specs.Numbers.{Numbered, numbered, AreAround}
+use Rattle.bundle_denote.specs.Chains.{scope_at}
+use Rattle.bundle_denote.specs.Ready.{binding_name}
+
+-- the binding with this number is that of the name in the scope
+pub record IsBinding (scopes : List Numbered) (bindings : List Binding) (number : ℕ) (scope : Scope) (name : Name) : Type 0 where
+  pub binding : Binding
+  pub at : slice_get bindings number ≡ Some binding
+  pub in_scope : scope_at scopes binding.scope ≡ Some scope
+  pub named : binding_name binding ≡ name
+
+-- the number of a binding, or none for a global, says what is denoted
+abbrev pub IsDenoted : List Numbered → List Binding → Option ℕ → e.Denoted → Type 0
+IsDenoted scopes bindings None (e.Global symbol) = Unit {0}
+IsDenoted scopes bindings None (e.Bound scope name) = ⊥
+IsDenoted scopes bindings (Some number) (e.Global symbol) = ⊥
+IsDenoted scopes bindings (Some number) (e.Bound scope name) = IsBinding scopes bindings number scope name
 
 -- an entry of the table is that of an occurrence: it says where it stands, which scopes are around it, and whether it declares
 pub record IsEntry (scopes : List Numbered) (reading : Reading) (kind : ModuleKind) (entry : Denoted) (occurrence : Occurrence) : Type 0 where
@@ -17,9 +36,16 @@ pub record IsEntry (scopes : List Numbered) (reading : Reading) (kind : ModuleKi
   pub around : AreAround scopes (Some entry.scope) (scopes_around kind occurrence.path)
   pub declares : entry.declares ≡ is_some (declaration_of reading kind occurrence)
 
--- the table has an entry for each occurrence, in their order
-abbrev pub ListsOccurrences : Reading → ModuleKind → List Item → Denotations → Type 0
-ListsOccurrences reading kind items table = AllZip (IsEntry (map numbered table.scopes.items) reading kind) table.occurrences.items (occurrences items)
+-- what an entry denotes
+abbrev pub Tells : List Numbered → List Binding → Denoted → e.Denoted → Type 0
+Tells scopes bindings entry denoted = IsDenoted scopes bindings entry.binding denoted
+
+-- the table has an entry for each occurrence of a list, in their order, and says what each denotes; each declared name has a binding, and no two bindings are one
+pub record IsTable (reading : Reading) (kind : ModuleKind) (items : List Item) (table : Denotations) : Type 0 where
+  pub occurrences : AllZip (IsEntry (map numbered table.scopes.items) reading kind) table.occurrences.items (occurrences items)
+  pub denotes : AllZip (Tells (map numbered table.scopes.items) table.bindings.items) table.occurrences.items (e.denotations reading kind items)
+  pub declared : (i : ℕ) (x : Declared) → slice_get (declared reading kind items) i ≡ Some x → (number : ℕ) × IsBinding (map numbered table.scopes.items) table.bindings.items number (home_of (declared reading kind items) x) x.name
+  pub one : (i j : ℕ) (scope : Scope) (name : Name) → IsBinding (map numbered table.scopes.items) table.bindings.items i scope name → IsBinding (map numbered table.scopes.items) table.bindings.items j scope name → i ≡ j
 
 -- one of the declarations declares this name at this place
 pub record IsDeclaredAt (all : List Declared) (doubled : Doubled) : Type 0 where

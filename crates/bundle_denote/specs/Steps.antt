@@ -15,7 +15,8 @@ use Rattle.bundle_denote.specs.declared.walk.Open.{Open}
 use Rattle.bundle_denote.specs.declared.walk.Walk.{Walk}
 use Rattle.bundle_denote.specs.Kinds.{kind_as, reading_as, kind_named, kind_made, way_in, way_of_variable}
 use Rattle.bundle_denote.specs.Numbers.{Numbered, AreAround, numbered, in_scope, name_as, Keeps}
-use Rattle.bundle_denote.specs.Walked.{IsAt, IsDeclared, IsSeen, IsDefault, scope_in, declared_as}
+use Rattle.bundle_denote.specs.Chains.{AreInOrder, IsOnce}
+use Rattle.bundle_denote.specs.Walked.{IsAt, IsDeclared, IsSeen, IsDefault, scope_in, declared_as, IsTidy, StaysOnce}
 
 -- the scopes and the names of a walk
 abbrev pub scopes_of : Walk → List Numbered
@@ -27,6 +28,10 @@ names_of walk = map name_as walk.names.keys
 -- a walk has met what stands before a place
 abbrev pub IsWalkAt : Walk → List Item → ℕ → Type 0
 IsWalkAt walk items place = IsAt (reading_as walk.reading) (kind_as walk.kind) items place (scopes_of walk) (names_of walk) walk.declarations.items walk.occurrences.items (walk.inner ∷ reverse walk.outer.items) walk.top
+
+-- and its tables are tidy
+abbrev pub IsTidyAt : Walk → ℕ → Type 0
+IsTidyAt walk place = IsTidy (scopes_of walk) (names_of walk) place
 
 -- what no step changes
 pub record Stays (old new : Walk) : Type 0 where
@@ -50,6 +55,7 @@ pub record Begins (old new : Walk) (place field : ℕ) (head : Head) (is_nameles
   pub declarations : new.declarations.items ≡ old.declarations.items ++ option_to_list default
   pub occurrences : new.occurrences.items ≡ old.occurrences.items
   pub keeps : Keeps (names_of old) (names_of new)
+  pub once : StaysOnce (names_of old) (names_of new)
   pub scopes : scopes_of new ≡ scopes_of old ++ option_to_list (scope_made old.inner place field head)
   pub node : head_of new.inner.node ≡ head
   pub way : new.inner.way ≡ cond (d.is_pattern head) old.inner.way (way_in head old.inner.variable (s.exports_default (head_of old.inner.node)))
@@ -64,6 +70,7 @@ pub record Occurs (old new : Walk) (place field : ℕ) (sym : List ℕ) (ctxt : 
   pub number : ℕ
   pub named : slice_get (names_of new) number ≡ Some (d.name_of (reading_as old.reading) sym ctxt)
   pub keeps : Keeps (names_of old) (names_of new)
+  pub once : StaysOnce (names_of old) (names_of new)
   pub scopes : scopes_of new ≡ scopes_of old
   pub declared : Option Declaration
   pub is_declared : declared ≡ option_map (declared_as place number (scope_in old.inner field)) (cond (is_binding role) old.inner.way None)
@@ -95,6 +102,8 @@ pub record IsWhole (walk : Walk) (reading : d.Reading) (kind : s.ModuleKind) (it
   pub declared : AllZip (IsDeclared (scopes_of walk) (names_of walk)) walk.declarations.items (d.declared reading kind items)
   pub seen : AllZip (IsSeen (scopes_of walk) (names_of walk) reading kind (d.declared reading kind items)) walk.occurrences.items (p.occurrences items)
   pub outermost : AreAround (scopes_of walk) (Some walk.top) (s.outermost kind)
+  pub order : AreInOrder (scopes_of walk)
+  pub once : IsOnce (names_of walk)
 
 -- what is doubled has the place and the name of a declaration that was met
 pub record IsNamedAs (walk : Walk) (declaration : Declaration) (doubled : Doubled) : Type 0 where

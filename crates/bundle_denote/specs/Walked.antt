@@ -1,5 +1,5 @@
 -- How far a list was gone over.
-use Rattle.std.specs.Prelude.{◌≡◌, ℕ, Bool as Truth, true, false, cond, not, ◌==◌, ◌&&◌, List, [], ◌∷◌, ◌++◌, Option, Some, None, codes, drop, slice_get, option_map, is_some}
+use Rattle.std.specs.Prelude.{◌≡◌, ◌<◌, ◌+◌, ℕ, Bool as Truth, true, false, cond, not, ◌==◌, ◌&&◌, List, [], ◌∷◌, ◌++◌, Option, Some, None, codes, drop, slice_get, option_map, is_some}
 use Rattle.std.specs.List.{AllZip}
 use Rattle.bundle_piece.specs.declared.piece.Role.{Role}
 use Rattle.bundle_piece.specs.declared.piece.Role.TheVariants as o
@@ -15,6 +15,7 @@ use Rattle.bundle_denote.specs.declared.walk.Occurrence.{Occurrence}
 use Rattle.bundle_denote.specs.declared.walk.Open.{Open}
 use Rattle.bundle_denote.specs.Kinds.{way_named, leaves_first_out}
 use Rattle.bundle_denote.specs.Numbers.{Numbered, AreAround}
+use Rattle.bundle_denote.specs.Chains.{AreInOrder, IsOnce}
 
 -- the number of the innermost scope around the places in this field of an inner node
 abbrev pub scope_within : Option ℕ → (around : ℕ) → (is_left_out : Truth) → ℕ
@@ -126,3 +127,13 @@ occurs_as _ = true
 abbrev pub is_occurrence : Item → Truth
 is_occurrence (h.Ident field sym ctxt role) = occurs_as role
 is_occurrence _ = false
+
+-- the tables before a place: the scopes are in order, their nodes begin before the place, and each name is there once
+pub record IsTidy (scopes : List Numbered) (names : List d.Name) (place : ℕ) : Type 0 where
+  pub order : AreInOrder scopes
+  pub before : (i : ℕ) (x : Numbered) → slice_get scopes i ≡ Some x → s.scope_order x.scope < place + 2
+  pub once : IsOnce names
+
+-- each name is still there once
+abbrev pub StaysOnce : List d.Name → List d.Name → Type 0
+StaysOnce old new = IsOnce old → IsOnce new

@@ -1,18 +1,27 @@
 //! What each occurrence of a list denotes.
 
-ghost use Rattle.std.specs.Prelude.{IfOk, map};
+ghost use Rattle.std.specs.Prelude.{◌≡◌, ◌<◌, ◌||◌, ◌&&◌, IfOk, OnOk, Some, length, map, slice_get};
+ghost use Rattle.std.specs.List.{list_any};
 ghost use Rattle.bundle_piece.specs.Item.{item_of};
+ghost use Rattle.bundle_places.specs.Declarations.{ByContext, BySymbol};
+ghost use Rattle.bundle_places.specs.Denotes.{is_unresolved as is_unresolved_lem};
+ghost use Rattle.bundle_places.specs.Homes.{is_arguments as is_arguments_lem, is_function as is_function_lem};
 ghost use Rattle.bundle_denote.specs.Kinds.{kind_as, reading_as};
-ghost use Rattle.bundle_denote.specs.Listed.{ListsOccurrences};
+ghost use Rattle.bundle_denote.specs.Numbers.{name_as, numbered};
+ghost use Rattle.bundle_denote.specs.Chains.{nearest_at, passes};
+ghost use Rattle.bundle_denote.specs.Bound.{Key, same_key, binds_at as binds_at_lem, is_written_key as is_written_key_lem, is_written_name as is_written_name_lem};
+ghost use Rattle.bundle_denote.specs.Ready.{AreSeenNamed, HasArguments, HoldsImplied, is_implied_key};
+ghost use Rattle.bundle_denote.specs.Searched.{Denotes, DenotesSeen, Puts, Searches};
+ghost use Rattle.bundle_denote.specs.Listed.{IsTable};
+ghost use Rattle.bundle_denote.specs.Steps.{IsWhole};
 
-use crate::homes::{Homes, homes_of};
+use crate::homes::{Bindings, Homes, alone_of, homes_of, outer_at, scope_at};
 use crate::kinds::is_function;
 use crate::table::{Binding, Denotations, Denoted, ModuleKind, Reading, Scope, Way};
-use crate::visible::Visible;
-use crate::walk::{Name, Occurrence, Walk, walked};
+use crate::walk::{Name, Occurrence, Walk, number_of, walked};
 use bundle_piece::Piece;
+use indexmap::IndexSet;
 use std::alloc::{AllocError, Global};
-use std::collections::HashMap;
 
 /// What each occurrence of a list denotes: the binding of the nearest scope around it that binds its name, or
 /// else a global. Refused only where memory runs out.
@@ -22,186 +31,366 @@ pub fn denotations<'a>(
     kind: ModuleKind,
     reading: Reading,
 ) -> Result<Denotations<'a>, AllocError>
-    ensures { IfOk result (λ table. ListsOccurrences (reading_as reading) (kind_as kind) (map item_of pieces.now) table) }
+    ensures { IfOk result (IsTable (reading_as reading) (kind_as kind) (map item_of pieces.now)) }
 {
-    let walk = walked(alloc, pieces, kind, reading)?;
+    let walk = walked_with_arguments(alloc, pieces, kind, reading)?;
     let homes = homes_of(alloc, &walk)?;
-    let mut search = Search::new(alloc, &walk, &homes, reading)?;
-    let mut occurrences = Vec::new(alloc);
-    for occurrence in &walk.occurrences {
-        let binding = search.binding_of(&walk, &homes, *occurrence)?;
-        occurrences.push(Denoted {
-            place: occurrence.place,
-            scope: occurrence.scope,
-            binding,
-            declares: occurrence.declaration.is_some(),
-        })?;
-    }
-    let mut bindings = homes.bindings;
-    for binding in &search.implicit {
-        bindings.push(*binding)?;
-    }
+    let Homes { bindings, of } = homes;
+    let implied = implied_in(alloc, &walk.names, &bindings.keys, reading)?;
+    let mut search = Search { bindings, implied };
+    let occurrences = search.entries(alloc, &walk, &of, reading)?;
     Ok(Denotations {
         scopes: walk.scopes,
-        bindings,
+        bindings: search.bindings.items,
         occurrences,
     })
 }
 
-// The search for bindings along the occurrences: what is seen, the bindings that are implied by symbol and
-// context, and the `arguments` of functions that were denoted so far, with the number of each by its scope.
-// `count` is the number of bindings that are declared.
+// One pass over a list, where the name `arguments` without a context has a number too.
+fn walked_with_arguments<'a>(
+    alloc: Global,
+    pieces: &[Piece<'a>],
+    kind: ModuleKind,
+    reading: Reading,
+) -> Result<Walk<'a>, AllocError>
+    ensures whole { IfOk result (λ walk. IsWhole walk (reading_as reading) (kind_as kind) (map item_of pieces.now)) }
+    ensures arguments { IfOk result HasArguments }
+{
+    let mut walk = walked(alloc, pieces, kind, reading)?;
+    let arguments = Name {
+        sym: "arguments",
+        ctxt: None,
+    };
+    number_of(&mut walk.names, arguments)?;
+    Ok(walk)
+}
+
+// The search for bindings along the occurrences: the bindings, to which the `arguments` of a function is added
+// where an occurrence denotes it, and the keys of those that are implied by symbol and context.
 #[derive(Drop)]
 struct Search<'a> {
-    visible: Visible,
-    reading: Reading,
-    implied: Vec<(&'a str, usize)>,
-    implicit: Vec<Binding<'a>>,
-    arguments: HashMap<usize, usize>,
-    count: usize,
+    bindings: Bindings<'a>,
+    implied: IndexSet<(usize, usize)>,
 }
 
 impl<'a> Search<'a> {
-    fn new(
+    // The entry of each occurrence that was met; `of` has the bindings of the declarations.
+    fn entries(
+        &mut self,
         alloc: Global,
         walk: &Walk<'a>,
-        homes: &Homes<'a>,
+        of: &[usize],
         reading: Reading,
-    ) -> Result<Search<'a>, AllocError> {
-        Ok(Search {
-            visible: Visible::new(alloc, walk, homes)?,
-            reading,
-            implied: implied_in(alloc, homes)?,
-            implicit: Vec::new(alloc),
-            arguments: HashMap::new(alloc),
-            count: homes.bindings.len(),
-        })
+    ) -> Result<Vec<Denoted>, AllocError>
+        requires { AreSeenNamed walk.now }
+        ensures { IfOk result (λ table. Searches (reading_as reading) walk.now of.now self.old self.new table.items walk.now.occurrences.items) }
+    {
+        let mut occurrences = Vec::new(alloc);
+        for occurrence in &walk.occurrences {
+            let binding = self.binding_of(walk, of, *occurrence, reading)?;
+            occurrences.push(Denoted {
+                place: occurrence.place,
+                scope: occurrence.scope,
+                binding,
+                declares: occurrence.declaration.is_some(),
+            })?;
+        }
+        Ok(occurrences)
     }
 
-    // The binding that an occurrence denotes.
+    // The binding that an occurrence denotes; `of` has those of the declarations.
     fn binding_of(
         &mut self,
         walk: &Walk<'a>,
-        homes: &Homes<'a>,
+        of: &[usize],
         occurrence: Occurrence,
-    ) -> Result<Option<usize>, AllocError> {
+        reading: Reading,
+    ) -> Result<Option<usize>, AllocError>
+        requires { occurrence.name < length walk.now.names.keys }
+        ensures { IfOk result (DenotesSeen (reading_as reading) walk.now of.now self.old self.new occurrence) }
+    {
         if let Some(declaration) = occurrence.declaration {
-            return Ok(homes.of.get(declaration).copied());
+            return Ok(number_at(of, declaration));
         }
-        self.visible.go_to(&walk.scopes, occurrence.scope)?;
-        let seen = self.visible.get(occurrence.name);
-        let Some(name) = walk.names.get_index(occurrence.name) else {
-            return Ok(seen);
-        };
-        match self.reading {
-            Reading::BySymbol if name.sym == "arguments" => {
-                self.nearer_arguments(walk, homes, occurrence.scope, seen)
+        let name = walk.names[occurrence.name];
+        match reading {
+            Reading::BySymbol => {
+                let binding = self.by_symbol(walk, name, occurrence.name, occurrence.scope)?;
+                Ok(binding)
             }
-            Reading::BySymbol => Ok(seen),
-            Reading::ByContext if seen.is_some() || name.ctxt == Some(1) => Ok(seen),
-            Reading::ByContext => self.implied(walk, *name, occurrence.scope),
+            Reading::ByContext => {
+                let binding = self.by_context(walk, name, occurrence.name, occurrence.scope)?;
+                Ok(binding)
+            }
         }
     }
 
-    // What `arguments` denotes by its symbol, if this is the nearest binding that is declared.
-    fn nearer_arguments(
-        &mut self,
-        walk: &Walk<'a>,
-        homes: &Homes<'a>,
-        scope: usize,
-        seen: Option<usize>,
-    ) -> Result<Option<usize>, AllocError> {
-        let Some(function) = function_around(&walk.scopes, scope) else {
-            return Ok(seen);
-        };
-        match scope_of(homes, seen) {
-            Some(declaring) if declaring >= function => Ok(seen),
-            _ => self.arguments_of(&walk.scopes, function),
-        }
-    }
-
-    // What a name denotes by symbol and context that no identifier around it declares.
-    fn implied(
+    // What a name with a number denotes by its symbol.
+    fn by_symbol(
         &mut self,
         walk: &Walk<'a>,
         name: Name<'a>,
-        scope: usize,
-    ) -> Result<Option<usize>, AllocError> {
-        if name.sym == "arguments" {
-            return match function_around(&walk.scopes, scope) {
-                Some(function) => self.arguments_of(&walk.scopes, function),
-                None => Ok(None),
-            };
-        }
-        for (sym, binding) in &self.implied {
-            if *sym == name.sym {
-                return Ok(Some(*binding));
-            }
-        }
-        Ok(None)
+        number: usize,
+        from: usize,
+    ) -> Result<Option<usize>, AllocError>
+        requires { slice_get walk.now.names.keys number ≡ Some name }
+        ensures { IfOk result (Denotes BySymbol walk.now self.old self.new (name_as name.entry) number from) }
+    {
+        let adds = is_arguments(name.sym);
+        let found = nearest(&walk.scopes, &self.bindings.keys, adds, number, from);
+        let binding = self.put(walk, found, name, number)?;
+        Ok(binding)
     }
 
-    // The implicit `arguments` of a function.
-    fn arguments_of(
+    // What it denotes by symbol and context.
+    fn by_context(
         &mut self,
-        scopes: &[Scope],
-        function: usize,
-    ) -> Result<Option<usize>, AllocError> {
-        if let Some(number) = self.arguments.get(&function) {
-            return Ok(Some(*number));
+        walk: &Walk<'a>,
+        name: Name<'a>,
+        number: usize,
+        from: usize,
+    ) -> Result<Option<usize>, AllocError>
+        requires { slice_get walk.now.names.keys number ≡ Some name }
+        ensures { IfOk result (Denotes ByContext walk.now self.old self.new (name_as name.entry) number from) }
+    {
+        let found = nearest(&walk.scopes, &self.bindings.keys, false, number, from);
+        if found.is_some() {
+            let binding = self.put(walk, found, name, number)?;
+            return Ok(binding);
         }
-        let number = self.count.saturating_add(self.implicit.len());
-        let first = match scopes.get(function) {
-            Some(scope) => scope.begins,
-            None => 0,
+        if is_unresolved(name.ctxt) {
+            return Ok(None);
+        }
+        let Some(alone) = alone_of(&walk.names, name, number) else {
+            return Ok(None);
         };
-        self.implicit.push(Binding {
-            scope: function,
-            sym: "arguments",
+        let adds = is_arguments(name.sym);
+        let implied = nearest(&walk.scopes, &self.implied, adds, alone, from);
+        let plain = Name {
+            sym: name.sym,
             ctxt: None,
+        };
+        let binding = self.put(walk, implied, plain, alone)?;
+        Ok(binding)
+    }
+
+    // The number of the binding of a name in the scope that was found.
+    fn put(
+        &mut self,
+        walk: &Walk<'a>,
+        found: Option<usize>,
+        name: Name<'a>,
+        number: usize,
+    ) -> Result<Option<usize>, AllocError>
+        ensures { IfOk result (Puts self.old self.new found (name_as name.entry) number) }
+    {
+        let Some(scope) = found else {
+            return Ok(None);
+        };
+        let binding = Binding {
+            scope,
+            sym: name.sym,
+            ctxt: name.ctxt,
             way: Way::Arguments,
-            first,
-        })?;
-        self.arguments.insert(function, number)?;
+            first: begins_at(&walk.scopes, scope),
+        };
+        let number = self.bindings.number_of((scope, number), binding)?;
         Ok(Some(number))
     }
 }
 
-// The bindings that no identifier declares, with their symbols: not those beside which an identifier declares
-// the symbol in the same scope.
-fn implied_in<'a>(alloc: Global, homes: &Homes<'a>) -> Result<Vec<(&'a str, usize)>, AllocError> {
-    let mut implied = Vec::new(alloc);
-    for (number, binding) in homes.bindings.iter().enumerate() {
-        let is_alone = binding.way == Way::Wrapper || binding.way == Way::Default;
-        if is_alone && !is_written(homes, binding.scope, binding.sym) {
-            implied.push((binding.sym, number))?;
-        }
-    }
-    Ok(implied)
+// The number at a place of a list of numbers.
+fn number_at(numbers: &[usize], place: usize) -> Option<usize>
+    ensures { result ≡ slice_get numbers.now place }
+{
+    numbers.get(place).copied()
 }
 
-// Whether an identifier with a context declares the symbol in the scope.
-fn is_written<'a>(homes: &Homes<'a>, scope: usize, sym: &str) -> bool {
-    homes.bindings.iter().any(|other| other.ctxt.is_some()
-        && other.scope == scope
-        && other.sym == sym)
-}
-
-// The scope of the nearest function around a place that is no arrow.
-fn function_around(scopes: &[Scope], scope: usize) -> Option<usize> {
-    let mut at = scope;
+// The number of the nearest scope, from one on outwards, that has the name with a number among these keys, or
+// is that of a function where `adds` says that functions bind the name.
+fn nearest(
+    scopes: &[Scope],
+    keys: &IndexSet<(usize, usize)>,
+    adds: bool,
+    name: usize,
+    from: usize,
+) -> Option<usize>
+    ensures { result ≡ nearest_at (map numbered scopes.now) (binds_at_lem (map numbered scopes.now) keys.now.keys adds name) from }
+{
+    let mut at = Some(from);
     for _ in 0..scopes.len() {
-        let found = scopes.get(at)?;
-        if is_function(found.kind) {
-            return Some(at);
+        let Some(number) = at else {
+            return None;
+        };
+        if binds_at(scopes, keys, adds, name, number) {
+            return Some(number);
         }
-        at = found.outer?;
+        at = outer_at(scopes, number);
     }
     None
 }
 
-// The scope of a binding.
-fn scope_of<'a>(homes: &Homes<'a>, binding: Option<usize>) -> Option<usize> {
-    let binding = homes.bindings.get(binding?)?;
-    Some(binding.scope)
+// Whether a scope has the name with a number among these keys, or is that of a function which binds it.
+fn binds_at(
+    scopes: &[Scope],
+    keys: &IndexSet<(usize, usize)>,
+    adds: bool,
+    name: usize,
+    scope: usize,
+) -> bool
+    ensures { result ≡ binds_at_lem (map numbered scopes.now) keys.now.keys adds name scope }
+{
+    if keys.contains(&(scope, name)) {
+        return true;
+    }
+    if adds {
+        is_function_at(scopes, scope)
+    } else {
+        false
+    }
+}
+
+// Whether the scope with a number is that of a function that is no arrow.
+fn is_function_at(scopes: &[Scope], number: usize) -> bool
+    ensures { result ≡ passes is_function_lem (map numbered scopes.now) number }
+{
+    match scope_at(scopes, number) {
+        None => false,
+        Some(scope) => is_function(scope.kind),
+    }
+}
+
+// Whether a symbol is `arguments`.
+fn is_arguments(sym: &str) -> bool
+    ensures { result ≡ is_arguments_lem sym.now }
+{
+    sym == "arguments"
+}
+
+// Whether a context is that of the names that nothing binds.
+fn is_unresolved(ctxt: Option<u32>) -> bool
+    ensures { result ≡ is_unresolved_lem ctxt }
+{
+    match ctxt {
+        None => false,
+        Some(ctxt) => ctxt == 1,
+    }
+}
+
+// Where the node of a scope begins.
+fn begins_at(scopes: &[Scope], number: usize) -> usize {
+    match scope_at(scopes, number) {
+        None => 0,
+        Some(scope) => scope.begins,
+    }
+}
+
+// The keys of the bindings that no identifier declares, by symbol and context: not those beside which an
+// identifier declares the symbol in the same scope.
+fn implied_in<'a>(
+    alloc: Global,
+    names: &IndexSet<Name<'a>>,
+    keys: &IndexSet<(usize, usize)>,
+    reading: Reading,
+) -> Result<IndexSet<(usize, usize)>, AllocError>
+    ensures { IfOk result (λ implied. HoldsImplied (reading_as reading) (map name_as names.now.keys) keys.now.keys implied.keys) }
+{
+    match reading {
+        Reading::BySymbol => Ok(IndexSet::new(alloc)),
+        Reading::ByContext => implied_by_context(alloc, names, keys),
+    }
+}
+
+// The same by symbol and context.
+fn implied_by_context<'a>(
+    alloc: Global,
+    names: &IndexSet<Name<'a>>,
+    keys: &IndexSet<(usize, usize)>,
+) -> Result<IndexSet<(usize, usize)>, AllocError>
+    ensures { IfOk result (λ implied. HoldsImplied ByContext (map name_as names.now.keys) keys.now.keys implied.keys) }
+{
+    let mut implied = IndexSet::new(alloc);
+    for key in keys.as_slice() {
+        put_implied(&mut implied, names, keys, *key)?;
+    }
+    Ok(implied)
+}
+
+// Adds a key, if it is that of a name that no identifier declares.
+fn put_implied<'a>(
+    implied: &mut IndexSet<(usize, usize)>,
+    names: &IndexSet<Name<'a>>,
+    keys: &IndexSet<(usize, usize)>,
+    key: (usize, usize),
+) -> Result<(), AllocError>
+    ensures { OnOk result ((other : Key) → list_any (same_key other) implied.new.keys ≡ (list_any (same_key other) implied.old.keys || (is_implied_key (map name_as names.now.keys) keys.now.keys key && same_key other key))) }
+{
+    if !is_implied(names, keys, key) {
+        return Ok(());
+    }
+    implied.insert_full(key)?;
+    Ok(())
+}
+
+// Whether a key has no context, and no identifier declares its symbol in the scope.
+fn is_implied<'a>(
+    names: &IndexSet<Name<'a>>,
+    keys: &IndexSet<(usize, usize)>,
+    key: (usize, usize),
+) -> bool
+    ensures { result ≡ is_implied_key (map name_as names.now.keys) keys.now.keys key }
+{
+    let Some(name) = names.get_index(key.1) else {
+        return false;
+    };
+    match name.ctxt {
+        None => !is_written(names, keys, key.0, name.sym),
+        Some(_) => false,
+    }
+}
+
+// Whether a key of the scope is of an identifier's name with this symbol.
+fn is_written<'a>(
+    names: &IndexSet<Name<'a>>,
+    keys: &IndexSet<(usize, usize)>,
+    scope: usize,
+    sym: &str,
+) -> bool
+    ensures { result ≡ list_any (is_written_key_lem (map name_as names.now.keys) scope sym.now) keys.now.keys }
+{
+    for key in keys.as_slice() {
+        if is_written_key(names, *key, scope, sym) {
+            return true;
+        }
+    }
+    false
+}
+
+// Whether a key is of the scope and of an identifier's name with this symbol.
+fn is_written_key<'a>(
+    names: &IndexSet<Name<'a>>,
+    key: (usize, usize),
+    scope: usize,
+    sym: &str,
+) -> bool
+    ensures { result ≡ is_written_key_lem (map name_as names.now.keys) scope sym.now key }
+{
+    if scope == key.0 {
+        is_written_name(names, key.1, sym)
+    } else {
+        false
+    }
+}
+
+// Whether the name with a number is that of an identifier with this symbol, whose context is read.
+fn is_written_name<'a>(names: &IndexSet<Name<'a>>, number: usize, sym: &str) -> bool
+    ensures { result ≡ is_written_name_lem sym.now (slice_get (map name_as names.now.keys) number) }
+{
+    match names.get_index(number) {
+        None => false,
+        Some(name) => match name.ctxt {
+            None => false,
+            Some(_) => name.sym == sym,
+        },
+    }
 }

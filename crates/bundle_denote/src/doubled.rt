@@ -7,7 +7,7 @@ ghost use Rattle.bundle_denote.specs.Kinds.{kind_as};
 ghost use Rattle.bundle_denote.specs.Listed.{IsDeclaredAt};
 ghost use Rattle.bundle_denote.specs.Steps.{IsNamedAs};
 
-use crate::homes::{kind_at, taker_of};
+use crate::homes::{scope_at, taker_of};
 use crate::kinds::is_body;
 use crate::table::{Doubled, ModuleKind, Reading, Scope, ScopeKind, Way};
 use crate::walk::{Declaration, Walk, walked};
@@ -63,7 +63,7 @@ impl Met {
 
     // Whether a declaration may not stand beside those that were met.
     fn clashes<'a>(&self, walk: &Walk<'a>, declaration: Declaration) -> bool {
-        let taker = taker_of(&walk.scopes, declaration, walk.top);
+        let taker = taker_of(&walk.scopes, declaration.way, declaration.scope).unwrap_or(walk.top);
         let name = declaration.name;
         if self.barred.contains(&(taker, name)) {
             return true;
@@ -98,7 +98,7 @@ impl Met {
 
     // Adds a declaration.
     fn add<'a>(&mut self, walk: &Walk<'a>, declaration: Declaration) -> Result<(), AllocError> {
-        let taker = taker_of(&walk.scopes, declaration, walk.top);
+        let taker = taker_of(&walk.scopes, declaration.way, declaration.scope).unwrap_or(walk.top);
         let name = declaration.name;
         self.taken.insert((taker, name))?;
         if stands_once(&walk.scopes, declaration.way, taker) {
@@ -150,7 +150,10 @@ fn stands_once(scopes: &[Scope], way: Way, taker: usize) -> bool {
 // Whether functions may be doubled in a scope, as a `var` may: at the top of a body, and not in a block or at
 // the top of a module.
 fn may_double_functions(scopes: &[Scope], taker: usize) -> bool {
-    match kind_at(scopes, taker) {
+    let Some(scope) = scope_at(scopes, taker) else {
+        return false;
+    };
+    match scope.kind {
         ScopeKind::Top => group_at(scopes, taker) != taker,
         ScopeKind::FunctionBody | ScopeKind::StaticBody => true,
         _ => false,

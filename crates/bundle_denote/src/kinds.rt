@@ -1,10 +1,12 @@
 //! What each kind of node means for the names in it: which scope it makes, and how it declares.
 
-ghost use Rattle.std.specs.Prelude.{◌≡◌};
+ghost use Rattle.std.specs.Prelude.{◌≡◌, ℕ};
 ghost use Rattle.bundle_piece.specs.Item.{head_of};
 ghost use Rattle.bundle_places.specs.Scopes.{block_in as block_in_lem, exports_default};
 ghost use Rattle.bundle_places.specs.Declarations.{is_pattern as is_pattern_lem, is_loop_head as is_loop_head_lem};
-ghost use Rattle.bundle_denote.specs.Kinds.{kind_made, kind_named, leaves_first_out as leaves_first_out_lem, way_in as way_in_lem, way_of_kind as way_of_kind_lem, way_of_variable as way_of_variable_lem};
+ghost use Rattle.bundle_places.specs.Homes.{is_block as is_block_lem, is_body as is_body_lem, is_catch as is_catch_lem, is_class_name as is_class_name_lem, is_function as is_function_lem, is_function_name as is_function_name_lem, is_loop as is_loop_lem, is_parameters as is_parameters_lem, is_top as is_top_lem, is_wrapper as is_wrapper_lem};
+ghost use Rattle.bundle_denote.specs.Bound.{has_parameters as has_parameters_lem, holds_parameters as holds_parameters_lem};
+ghost use Rattle.bundle_denote.specs.Kinds.{joins_by, kind_made, kind_named, scope_as, takes_by, leaves_first_out as leaves_first_out_lem, way_in as way_in_lem, way_of_kind as way_of_kind_lem, way_of_variable as way_of_variable_lem};
 
 use crate::table::{ScopeKind, Way};
 use bundle_leaf::VarDeclKind;
@@ -141,23 +143,97 @@ pub(crate) fn leaves_first_out(node: &Node) -> bool
 }
 
 /// Whether a name that is declared in this way belongs to a scope of this kind, if it is the nearest such one.
-pub(crate) fn takes(way: Way, kind: ScopeKind) -> bool {
+pub(crate) fn takes(way: Way, kind: ScopeKind) -> bool
+    ensures { (begins : ℕ) → result ≡ takes_by way (scope_as kind begins) }
+{
     match way {
-        Way::Import | Way::Default => kind == ScopeKind::Top,
+        Way::Import | Way::Default => is_top(kind),
         Way::Var => is_body(kind),
         Way::Let | Way::Const | Way::Function | Way::Class => is_block(kind),
         Way::Parameter => is_parameters(kind),
-        Way::Catch => kind == ScopeKind::Catch,
-        Way::Loop => kind == ScopeKind::Loop,
-        Way::FunctionName => kind == ScopeKind::FunctionName,
-        Way::ClassName => kind == ScopeKind::ClassName,
-        Way::Wrapper => kind == ScopeKind::Wrapper,
+        Way::Catch => is_catch(kind),
+        Way::Loop => is_loop(kind),
+        Way::FunctionName => is_function_name(kind),
+        Way::ClassName => is_class_name(kind),
+        Way::Wrapper => is_wrapper(kind),
         Way::Arguments => false,
     }
 }
 
+/// Whether a name that is declared in this way is the parameter of that name, where the body's function has one.
+pub(crate) fn joins_parameter(way: Way) -> bool
+    ensures { result ≡ joins_by way }
+{
+    match way {
+        Way::Var | Way::Function => true,
+        _ => false,
+    }
+}
+
+// Whether a scope is the top of a module.
+fn is_top(kind: ScopeKind) -> bool
+    ensures { (begins : ℕ) → result ≡ is_top_lem (scope_as kind begins) }
+{
+    match kind {
+        ScopeKind::Top => true,
+        _ => false,
+    }
+}
+
+// Whether a scope is that of a catch parameter.
+fn is_catch(kind: ScopeKind) -> bool
+    ensures { (begins : ℕ) → result ≡ is_catch_lem (scope_as kind begins) }
+{
+    match kind {
+        ScopeKind::Catch => true,
+        _ => false,
+    }
+}
+
+// Whether a scope is that of a loop.
+fn is_loop(kind: ScopeKind) -> bool
+    ensures { (begins : ℕ) → result ≡ is_loop_lem (scope_as kind begins) }
+{
+    match kind {
+        ScopeKind::Loop => true,
+        _ => false,
+    }
+}
+
+// Whether a scope is that of the own name of a function expression.
+fn is_function_name(kind: ScopeKind) -> bool
+    ensures { (begins : ℕ) → result ≡ is_function_name_lem (scope_as kind begins) }
+{
+    match kind {
+        ScopeKind::FunctionName => true,
+        _ => false,
+    }
+}
+
+// Whether a scope is that of the own name of a class expression.
+fn is_class_name(kind: ScopeKind) -> bool
+    ensures { (begins : ℕ) → result ≡ is_class_name_lem (scope_as kind begins) }
+{
+    match kind {
+        ScopeKind::ClassName => true,
+        _ => false,
+    }
+}
+
+// Whether a scope is that of the parameters of a CommonJS module.
+fn is_wrapper(kind: ScopeKind) -> bool
+    ensures { (begins : ℕ) → result ≡ is_wrapper_lem (scope_as kind begins) }
+{
+    match kind {
+        ScopeKind::Wrapper => true,
+        _ => false,
+    }
+}
+
 /// Whether a scope is the top of a module or the body of a function or a static block.
-pub(crate) fn is_body(kind: ScopeKind) -> bool {
+pub(crate) fn is_body(kind: ScopeKind) -> bool
+    ensures { (begins : ℕ) → result ≡ is_body_lem (scope_as kind begins) }
+{
     match kind {
         ScopeKind::Top | ScopeKind::FunctionBody | ScopeKind::StaticBody => true,
         _ => false,
@@ -165,23 +241,40 @@ pub(crate) fn is_body(kind: ScopeKind) -> bool {
 }
 
 /// Whether a scope is one of these or a block.
-pub(crate) fn is_block(kind: ScopeKind) -> bool {
+pub(crate) fn is_block(kind: ScopeKind) -> bool
+    ensures { (begins : ℕ) → result ≡ is_block_lem (scope_as kind begins) }
+{
     match kind {
         ScopeKind::Block | ScopeKind::CatchBlock => true,
-        _ => is_body(kind),
+        ScopeKind::Top | ScopeKind::FunctionBody | ScopeKind::StaticBody => true,
+        _ => false,
     }
 }
 
 /// Whether a scope is that of the parameters of a function or an arrow.
-pub(crate) fn is_parameters(kind: ScopeKind) -> bool {
+pub(crate) fn is_parameters(kind: ScopeKind) -> bool
+    ensures { (begins : ℕ) → result ≡ is_parameters_lem (scope_as kind begins) }
+{
     match kind {
         ScopeKind::Parameters | ScopeKind::ArrowParameters => true,
         _ => false,
     }
 }
 
+/// Whether a scope is that of the parameters of a function, an arrow or a CommonJS module.
+pub(crate) fn holds_parameters(kind: ScopeKind) -> bool
+    ensures { (begins : ℕ) → result ≡ holds_parameters_lem (scope_as kind begins) }
+{
+    match kind {
+        ScopeKind::Parameters | ScopeKind::ArrowParameters | ScopeKind::Wrapper => true,
+        _ => false,
+    }
+}
+
 /// Whether a scope binds `arguments` where no declaration does.
-pub(crate) fn is_function(kind: ScopeKind) -> bool {
+pub(crate) fn is_function(kind: ScopeKind) -> bool
+    ensures { (begins : ℕ) → result ≡ is_function_lem (scope_as kind begins) }
+{
     match kind {
         ScopeKind::Wrapper | ScopeKind::Parameters => true,
         _ => false,
@@ -189,7 +282,9 @@ pub(crate) fn is_function(kind: ScopeKind) -> bool {
 }
 
 /// Whether a scope is a body that has parameters beside it.
-pub(crate) fn has_parameters(kind: ScopeKind) -> bool {
+pub(crate) fn has_parameters(kind: ScopeKind) -> bool
+    ensures { (begins : ℕ) → result ≡ has_parameters_lem (scope_as kind begins) }
+{
     match kind {
         ScopeKind::Top | ScopeKind::FunctionBody => true,
         _ => false,

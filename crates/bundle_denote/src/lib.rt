@@ -6,7 +6,6 @@ pub mod doubled;
 mod homes;
 mod kinds;
 pub mod table;
-mod visible;
 mod walk;
 
 pub use denote::denotations;
@@ -14,6 +13,3 @@ pub use doubled::first_doubled;
 pub use table::{
     Binding, Denotations, Denoted, Doubled, ModuleKind, Reading, Scope, ScopeKind, Way,
 };
-
-#[cfg(test)]
-mod tests;

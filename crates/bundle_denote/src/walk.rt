@@ -1,15 +1,15 @@
 //! One pass over a list: the scopes, the declarations and the occurrences, with names as numbers.
 
-ghost use Rattle.std.specs.Prelude.{◌≡◌, ◌<◌, ◌++◌, ◌∷◌, [], IfOk, List, OnOk, cond, drop, map, length, slice_get};
+ghost use Rattle.std.specs.Prelude.{◌≡◌, ◌+◌, ◌<◌, ◌++◌, ◌∷◌, [], IfOk, List, OnOk, cond, drop, map, length, slice_get};
 ghost use Rattle.std.specs.Option.{option_map, option_to_list};
 ghost use Rattle.bundle_piece.specs.Item.{Item, head_of, item_of};
 ghost use Rattle.bundle_places.specs.Places.{is_binding};
 ghost use Rattle.bundle_places.specs.Scopes.{block_in as block_in_lem, exports_default};
 ghost use Rattle.bundle_places.specs.Declarations.{is_pattern as is_pattern_lem, is_loop_head as is_loop_head_lem, name_of as name_of_lem};
 ghost use Rattle.bundle_denote.specs.Kinds.{kind_as, kind_made, kind_named, reading_as, scope_as, way_in as way_in_lem, way_of_variable as way_of_variable_lem};
-ghost use Rattle.bundle_denote.specs.Steps.{Begins, Ends, Goes, IsWalkAt, IsWhole, Occurs};
+ghost use Rattle.bundle_denote.specs.Steps.{Begins, Ends, Goes, IsTidyAt, IsWalkAt, IsWhole, Occurs};
 ghost use Rattle.bundle_denote.specs.Numbers.{Keeps, name_as, numbered, in_scope};
-ghost use Rattle.bundle_denote.specs.Walked.{IsAlone, IsDefault, begins_node_by, begins_nameless, declared_as, is_identifier_by, is_nameless_by, is_occurrence as is_occurrence_lem, scope_in as scope_in_lem};
+ghost use Rattle.bundle_denote.specs.Walked.{IsAlone, IsDefault, StaysOnce, begins_node_by, begins_nameless, declared_as, is_identifier_by, is_nameless_by, is_occurrence as is_occurrence_lem, scope_in as scope_in_lem};
 
 use crate::kinds::{
     block_in, is_default, is_loop_head, is_pattern, joins_outer, kind_of_scope, leaves_first_out,
@@ -98,6 +98,7 @@ impl<'a> Walk<'a> {
         reading: Reading,
     ) -> Result<Walk<'a>, AllocError>
         ensures at { IfOk result (λ walk. (items : List Item) → IsWalkAt walk items 0) }
+        ensures tidy { IfOk result (λ walk. IsTidyAt walk 0) }
         ensures kind { IfOk result (λ walk. walk.kind ≡ kind) }
         ensures reading { IfOk result (λ walk. walk.reading ≡ reading) }
     {
@@ -110,6 +111,7 @@ impl<'a> Walk<'a> {
     // Before an ECMAScript module.
     fn module(alloc: Global, length: usize, reading: Reading) -> Result<Walk<'a>, AllocError>
         ensures at { IfOk result (λ walk. (items : List Item) → IsWalkAt walk items 0) }
+        ensures tidy { IfOk result (λ walk. IsTidyAt walk 0) }
         ensures kind { IfOk result (λ walk. walk.kind ≡ ModuleKind.Es) }
         ensures reading { IfOk result (λ walk. walk.reading ≡ reading) }
     {
@@ -132,6 +134,7 @@ impl<'a> Walk<'a> {
     // Before a CommonJS module, whose parameters are declared.
     fn wrapped(alloc: Global, length: usize, reading: Reading) -> Result<Walk<'a>, AllocError>
         ensures at { IfOk result (λ walk. (items : List Item) → IsWalkAt walk items 0) }
+        ensures tidy { IfOk result (λ walk. IsTidyAt walk 0) }
         ensures kind { IfOk result (λ walk. walk.kind ≡ ModuleKind.Cjs) }
         ensures reading { IfOk result (λ walk. walk.reading ≡ reading) }
     {
@@ -162,7 +165,9 @@ impl<'a> Walk<'a> {
     fn step(&mut self, pieces: &[Piece<'a>], place: usize) -> Result<(), AllocError>
         requires within { place < length pieces.now }
         requires before { IsWalkAt self.old (map item_of pieces.now) place }
-        ensures { OnOk result (Goes self.old self.new (map item_of pieces.now) place) }
+        requires tidy { IsTidyAt self.old place }
+        ensures goes { OnOk result (Goes self.old self.new (map item_of pieces.now) place) }
+        ensures tidy { OnOk result (IsTidyAt self.new (place + 1)) }
     {
         let piece = pieces[place];
         match piece {
@@ -371,9 +376,13 @@ fn name_of<'a>(reading: Reading, sym: &'a str, ctxt: u32) -> Name<'a>
     }
 }
 
-// The number of a name, which it gets if it has none.
-fn number_of<'a>(names: &mut IndexSet<Name<'a>>, name: Name<'a>) -> Result<usize, AllocError>
+/// The number of a name, which it gets if it has none.
+pub(crate) fn number_of<'a>(
+    names: &mut IndexSet<Name<'a>>,
+    name: Name<'a>,
+) -> Result<usize, AllocError>
     ensures keeps { OnOk result (Keeps (map name_as names.old.keys) (map name_as names.new.keys)) }
+    ensures once { OnOk result (StaysOnce (map name_as names.old.keys) (map name_as names.new.keys)) }
     ensures number { IfOk result (λ number. slice_get (map name_as names.new.keys) number ≡ Some (name_as name.entry)) }
 {
     let (number, _) = names.insert_full(name)?;
@@ -389,6 +398,7 @@ fn alone<'a>(
     scope: usize,
 ) -> Result<Declaration, AllocError>
     ensures keeps { OnOk result (Keeps (map name_as names.old.keys) (map name_as names.new.keys)) }
+    ensures once { OnOk result (StaysOnce (map name_as names.old.keys) (map name_as names.new.keys)) }
     ensures declaration { IfOk result (IsAlone (map name_as names.new.keys) place scope way sym.now) }
 {
     let name = number_of(names, Name { sym, ctxt: None })?;
@@ -408,6 +418,7 @@ fn default_at<'a>(
     top: usize,
 ) -> Result<Option<Declaration>, AllocError>
     ensures keeps { OnOk result (Keeps (map name_as names.old.keys) (map name_as names.new.keys)) }
+    ensures once { OnOk result (StaysOnce (map name_as names.old.keys) (map name_as names.new.keys)) }
     ensures declaration { IfOk result (IsDefault (map name_as names.new.keys) place top (begins_nameless (map item_of rest.now))) }
 {
     if !is_nameless_default(rest) {

@@ -7,8 +7,6 @@ mod error;
 mod parties;
 mod read;
 mod settings;
-#[cfg(test)]
-mod tests;
 mod text;
 mod values;
 mod writing;

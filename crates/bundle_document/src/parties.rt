@@ -6,9 +6,9 @@ ghost use Rattle.bundle_pieces.specs.Tree.{key_value_prop_items};
 ghost use Rattle.bundle_document.specs.Parties.{lists_of, script_path};
 
 use bundle_ast::{KeyValueProp, Module};
-use bundle_build::{BuildError, build_properties};
+use bundle_listing::pieces_of_properties;
 use bundle_name::file_name::FileName;
-use bundle_pieces::pieces_of_properties;
+use bundle_restore::{BuildError, build_properties};
 use bundle_tree::hook::{Hook, HookError, ModuleRecord};
 use bundle_tree::load::{Load, LoadError, ModuleData};
 use bundle_tree::resolve::{Resolve, ResolveError};

@@ -5,8 +5,8 @@ ghost use Rattle.serde_json.specs.View.{view};
 ghost use Rattle.bundle_document.specs.Bundles.{name_in, object_of, IsCompactTextOf, IsObjectOf, IsTextOf};
 
 use bundle_form::tree_value;
+use bundle_listing::pieces_of_module;
 use bundle_name::error::Error;
-use bundle_pieces::pieces_of_module;
 use serde_json::{Value, json};
 use std::alloc::{AllocError, Global};
 use swc_bundler::{Bundle, BundleKind};

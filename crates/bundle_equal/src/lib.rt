@@ -4,6 +4,3 @@
 pub mod same;
 
 pub use same::{is_same, is_same_expr, is_same_module};
-
-#[cfg(test)]
-mod tests;

@@ -20,6 +20,3 @@ mod write;
 pub use error::FormError;
 pub use read::{read_module, read_properties};
 pub use write::tree_value;
-
-#[cfg(test)]
-mod tests;

@@ -5,5 +5,3 @@
 pub mod graph;
 pub(crate) mod rows;
 pub mod sort;
-#[cfg(test)]
-mod tests;

@@ -5,6 +5,3 @@
 pub mod kept;
 
 pub use kept::{Kept, Request};
-
-#[cfg(test)]
-mod tests;

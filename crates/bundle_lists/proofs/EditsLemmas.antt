@@ -11,11 +11,11 @@ use Rattle.bundle_terms.specs.Nodes.{Text}
 use Rattle.bundle_terms.specs.Entries.{is_end}
 use Rattle.bundle_terms.specs.Meaning.{ends_at, has_default, symbol_of}
 use Rattle.bundle_terms.specs.Rebuilds.{Change, spells_out, plain_key, rebuilt_from, rebuilt}
-use Rattle.bundle_lists.specs.declared.spell.Around.{Around}
-use Rattle.bundle_lists.specs.declared.spell.Around.TheVariants as a
-use Rattle.bundle_lists.specs.Spelled.{around_of, field_in, pattern_begin, begun_in, ended_in, named_in}
-use Rattle.bundle_lists.specs.Progress.{is_first_key_spelled_out, IsAt}
-use Rattle.bundle_lists.specs.Progress as progress
+use Rattle.bundle_lists.proofs.Spelled.{Around}
+use Rattle.bundle_lists.proofs.Spelled as a
+use Rattle.bundle_lists.proofs.Spelled.{around_of, field_in, pattern_begin, begun_in, ended_in, named_in}
+use Rattle.bundle_lists.proofs.Progress.{is_first_key_spelled_out, IsAt}
+use Rattle.bundle_lists.proofs.Progress as progress
 use Rattle.bundle_lists.specs.Edits.{Around as Surrounding, Anywhere, InObject, InSpecifier, Edits, Edited, Nothing, Joined, Hole, Word, Name, Inside, Shorthand, node, is_occurrence, next, renamed, around_in, ends_in_name, is_plain, in_its_place, binding, pattern_in_its_place}
 use Rattle.bundle_lists.proofs.ListLemmas.{slice_get-drop}
 use Rattle.bundle_lists.proofs.ProgressLemmas.{begin-next, end-next_some, hole-next, word-next, name-next, at_start}

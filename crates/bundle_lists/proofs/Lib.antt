@@ -3,6 +3,7 @@ pub mod EditExamples
 pub mod EditsLemmas
 pub mod ListLemmas
 pub mod MarksLemmas
+pub mod Progress
 pub mod ProgressLemmas
 pub mod RenameLemmas
-pub mod StepLemmas
+pub mod Spelled

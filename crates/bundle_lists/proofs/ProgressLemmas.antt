@@ -15,10 +15,10 @@ use Rattle.bundle_terms.specs.Idents.{Ident}
 use Rattle.bundle_terms.specs.Meaning.{ends_at, has_default, is_object, is_shorthand_in_pattern, symbol_of}
 use Rattle.bundle_terms.specs.Shape.{is_specifier}
 use Rattle.bundle_terms.specs.Rebuilds.{Change, change_at, spells_out, is_key_spelled_out, pattern_front, new_begin, new_end, new_occurrence, new_item, spelled_out, rebuilt_from, rebuilt}
-use Rattle.bundle_lists.specs.declared.spell.Around.{Around}
-use Rattle.bundle_lists.specs.declared.spell.Around.TheVariants as a
-use Rattle.bundle_lists.specs.Spelled.{around_of, field_in, pattern_begin, begun_in, ended_in, spelled_in, named_in}
-use Rattle.bundle_lists.specs.Progress.{is_occurrence, is_first_key_spelled_out, asked, each_asked, IsAt}
+use Rattle.bundle_lists.proofs.Spelled.{Around}
+use Rattle.bundle_lists.proofs.Spelled as a
+use Rattle.bundle_lists.proofs.Spelled.{around_of, field_in, pattern_begin, begun_in, ended_in, spelled_in, named_in}
+use Rattle.bundle_lists.proofs.Progress.{is_occurrence, is_first_key_spelled_out, asked, each_asked, IsAt}
 use Rattle.bundle_lists.proofs.ListLemmas.{slice_get-drop, drop_at, take_at, count_by-append, count_by-cons, count_by-take-add}
 
 -- Occurrences.

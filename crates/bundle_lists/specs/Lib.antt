@@ -1,5 +1,3 @@
 pub mod Changes
 pub mod Edits
 pub mod Marks
-pub mod Progress
-pub mod Spelled

@@ -7,8 +7,8 @@ ghost use Rattle.bundle_terms.specs.Rebuilds.{listed, marks_of as marks_of_lem};
 ghost use Rattle.bundle_lists.specs.Marks.{listed_of, mark_of};
 
 use bundle_ast::ModuleItem;
+use bundle_listing::pieces;
 use bundle_lists::{Mark, Occurrence, marks_of, occurrences_of};
-use bundle_pieces::pieces;
 use std::alloc::{AllocError, Global};
 
 /// The marks of the items of a module, in their order: where each node begins and ends, and the identifiers

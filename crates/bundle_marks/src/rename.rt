@@ -14,7 +14,7 @@ use crate::items::occurrences;
 use bundle_ast::{Ident, ModuleItem};
 use bundle_id::SyntaxContext;
 use bundle_lists::{Change, Name, Occurrence};
-use bundle_rebuild::rebuild_items;
+use bundle_rewrite::rebuild_items;
 use bundle_tree::Id;
 use std::alloc::{AllocError, Global};
 use std::collections::BTreeMap;

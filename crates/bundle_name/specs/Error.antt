@@ -1,11 +1,10 @@
 -- The number and the name of each refusal of a bundle.
 use Rattle.std.specs.Prelude.{ℕ, List, codes}
 use Rattle.bundle_name.specs.declared.error.Error.{Error}
-use Rattle.bundle_name.specs.declared.error.Error.TheVariants.{NotYet, Load, Resolve, Hook, TooManyModules, ContextsUsedUp, DoubledDeclaration, DoubledExport, UndeclaredExport, MissingExport, AmbiguousExport, ExternalStarOnly, StarOfCommonJs, NamespaceOverExternalStar, With, RequiredEsModule, RequiredEntry, AwaitInCommonJs, DoubledEntry, ExternalUnderIife, ArgumentsUnderIife, OutOfMemory}
+use Rattle.bundle_name.specs.declared.error.Error.TheVariants.{Load, Resolve, Hook, TooManyModules, ContextsUsedUp, DoubledDeclaration, DoubledExport, UndeclaredExport, MissingExport, AmbiguousExport, ExternalStarOnly, StarOfCommonJs, NamespaceOverExternalStar, With, RequiredEsModule, RequiredEntry, AwaitInCommonJs, DoubledEntry, ExternalUnderIife, ArgumentsUnderIife, OutOfMemory}
 
--- the number of each kind of refusal; 6 is no refusal's
+-- the number of each kind of refusal; 0 and 6 are no refusal's
 abbrev pub number_of : Error → ℕ
-number_of NotYet = 0
 number_of (Load file) = 1
 number_of (Resolve file specifier) = 2
 number_of (Hook file) = 3
@@ -30,7 +29,6 @@ number_of OutOfMemory = 22
 
 -- the name of each kind of refusal
 abbrev pub variant_name : Error → List ℕ
-variant_name NotYet = codes "NotYet"
 variant_name (Load file) = codes "Load"
 variant_name (Resolve file specifier) = codes "Resolve"
 variant_name (Hook file) = codes "Hook"

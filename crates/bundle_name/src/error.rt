@@ -10,8 +10,6 @@ use std::{error, fmt};
 /// Why there is no bundle.
 #[derive(Debug, Drop, PartialEq, Eq)]
 pub enum Error {
-    /// The input holds something that is not carried yet.
-    NotYet,
     /// The loader failed to give the text of `file`.
     Load { file: FileName },
     /// The resolver failed on `specifier`, as `file` writes it.
@@ -65,12 +63,11 @@ pub enum Error {
 }
 
 impl Error {
-    /// The number of this kind of refusal, from 0 to 22. 6 is unused.
+    /// The number of this kind of refusal, from 1 to 22. 6 is unused.
     pub fn number(&self) -> u32
         ensures { result ≡ number_of self.now }
     {
         match self {
-            Error::NotYet => 0,
             Error::Load { .. } => 1,
             Error::Resolve { .. } => 2,
             Error::Hook { .. } => 3,
@@ -100,7 +97,6 @@ impl Error {
         ensures { result.now ≡ variant_name self.now }
     {
         match self {
-            Error::NotYet => "NotYet",
             Error::Load { .. } => "Load",
             Error::Resolve { .. } => "Resolve",
             Error::Hook { .. } => "Hook",

@@ -10,6 +10,3 @@ pub use config::{Config, ModuleType};
 pub use error::Error;
 pub use file_name::FileName;
 pub use generator::ModuleIdGenerator;
-
-#[cfg(test)]
-mod tests;

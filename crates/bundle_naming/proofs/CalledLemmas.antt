@@ -2,11 +2,12 @@
 use Rattle.std.proofs.Common.{◌≡◌, List, [], ◌∷◌, Option, map, length, ◌⊎◌, inl, inr, refl, ℕ, arith}
 use Rattle.bundle_terms.specs.Idents.{Ident}
 use Rattle.bundle_naming.specs.declared.names.Names.{Names}
-use Rattle.bundle_naming.specs.Called.{called_in}
+use Rattle.bundle_naming.specs.declared.names.Contexts.{Contexts}
+use Rattle.bundle_naming.specs.Called.{name_changes}
 
 -- nothing is left of one of two lists
-pub called_in-none : {A B : Type 0} (names : Names) (old : A → Ident) (binding : B → Option ℕ) (xs : List A) (ys : List B) → (length xs ≡ 0) ⊎ (length ys ≡ 0) → called_in names (map old xs) (map binding ys) ≡ []
-called_in-none names old binding [] ys none = refl
-called_in-none names old binding (x ∷ xs) [] none = refl
-called_in-none names old binding (x ∷ xs) (y ∷ ys) (inl e) = absurd (omega (arith, e))
-called_in-none names old binding (x ∷ xs) (y ∷ ys) (inr e) = absurd (omega (arith, e))
+pub name_changes-none : {A B : Type 0} (names : Names) (contexts : Contexts) (old : A → Ident) (binding : B → Option ℕ) (xs : List A) (ys : List B) → (length xs ≡ 0) ⊎ (length ys ≡ 0) → name_changes names contexts (map old xs) (map binding ys) ≡ []
+name_changes-none names contexts old binding [] ys none = refl
+name_changes-none names contexts old binding (x ∷ xs) [] none = refl
+name_changes-none names contexts old binding (x ∷ xs) (y ∷ ys) (inl e) = absurd (omega (arith, e))
+name_changes-none names contexts old binding (x ∷ xs) (y ∷ ys) (inr e) = absurd (omega (arith, e))

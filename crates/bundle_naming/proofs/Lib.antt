@@ -1,3 +1,2 @@
 mod CalledLemmas
 mod AwaitsLemmas
-mod WrapLemmas

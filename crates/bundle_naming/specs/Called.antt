@@ -4,8 +4,7 @@ use Rattle.std.specs.Option.{option_map}
 use Rattle.bundle_places.specs.Keywords.{is_keyword}
 use Rattle.bundle_terms.specs.Nodes.{Text}
 use Rattle.bundle_terms.specs.Idents.{Ident}
-use Rattle.bundle_terms.specs.Cleared.{without_context}
-use Rattle.bundle_piece.specs.Item.{Item}
+use Rattle.bundle_terms.specs.Rebuilds.{Change, changes_to}
 use Rattle.bundle_naming.specs.declared.names.Names.{Names}
 use Rattle.bundle_naming.specs.declared.names.Contexts.{Contexts}
 use Rattle.bundle_naming.specs.declared.names.Contexts.TheVariants.{Keep, Clear}
@@ -37,7 +36,11 @@ called_in names (ident ∷ idents) (binding ∷ bindings) = called names ident b
 called_in names [] bindings = []
 called_in names idents [] = []
 
--- a list whose contexts stay, or are 0
-abbrev pub list_called : Contexts → List Item → List Item
-list_called Keep list = list
-list_called Clear list = map without_context list
+-- an identifier whose context stays, or is 0
+abbrev pub in_context : Contexts → Ident → Ident
+in_context Keep ident = ident
+in_context Clear ident = (ident.0, 0)
+
+-- the changes of identifiers that denote these in turn, where contexts stay or are 0
+abbrev pub name_changes : Names → Contexts → List Ident → List (Option ℕ) → List Change
+name_changes names contexts idents bindings = changes_to idents (map (in_context contexts) (called_in names idents bindings))

@@ -18,7 +18,7 @@ pub(crate) enum Standing {
 
 /// Whether an `await` or `for await` stands outside functions (ECMA-262, 15.8 and 16.2). Functions are meant
 /// with their parameters and without their keys; static blocks and values of fields are no functions.
-pub(crate) fn awaits_outside<'a>(alloc: Global, pieces: &[Piece<'a>]) -> Result<bool, AllocError>
+pub fn awaits_outside<'a>(alloc: Global, pieces: &[Piece<'a>]) -> Result<bool, AllocError>
     ensures { IfOk result (λ awaits. awaits ≡ awaits_outside_lem (map item_of pieces.now)) }
 {
     has_await(alloc, pieces)

@@ -1,5 +1,10 @@
-//! The order of modules and of statements: the graphs of `bundle_graph`, under the paths that callers
-//! use.
+//! The order of modules and of statements: the graphs, what the statements of a bundle depend on, and their sort.
 #![tactic(auto)]
 
-pub use bundle_graph::{graph, sort};
+mod arrange;
+mod group;
+mod needs;
+pub mod sort;
+mod sorting;
+
+pub use bundle_graph::graph;

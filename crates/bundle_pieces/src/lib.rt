@@ -5,4 +5,4 @@
 pub mod walk;
 
 pub use bundle_piece::{Node, Piece, Role};
-pub use walk::{pieces, pieces_of_expr, pieces_of_module, pieces_of_properties};
+pub use walk::Walk;

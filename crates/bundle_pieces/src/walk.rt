@@ -1,9 +1,9 @@
 //! The walk over a tree that gives its list.
 
-ghost use Rattle.std.specs.Prelude.{◌≡◌, ◌++◌, ◌∷◌, [], OnOk, IfOk, map};
+ghost use Rattle.std.specs.Prelude.{◌≡◌, ◌++◌, ◌∷◌, [], OnOk, map};
 ghost use Rattle.std.specs.List.{flat_map};
 ghost use Rattle.bundle_piece.specs.Item.{head_of, item_of, Open, Hole, Close};
-ghost use Rattle.bundle_pieces.specs.Tree.{expr_items, ident_items, key_value_prop_items, module_item_items, module_items, role_of_names as role_of_names_lem};
+ghost use Rattle.bundle_pieces.specs.Tree.{ident_items, key_value_prop_items, module_item_items, role_of_names as role_of_names_lem};
 
 pub mod classes;
 pub mod decls;
@@ -14,7 +14,7 @@ pub mod pats;
 pub mod props;
 pub mod stmts;
 
-use bundle_ast::{Expr, Ident, KeyValueProp, Module, ModuleItem, Str};
+use bundle_ast::{Ident, KeyValueProp, ModuleItem, Str};
 use bundle_piece::{Node, Piece, Role};
 use std::alloc::{AllocError, Global};
 use std::marker::Model;
@@ -22,7 +22,7 @@ use std::marker::Model;
 /// The list of what was met so far. Each method adds what one child gives, `field` being the number of
 /// the child's field in the node around it. Clauses see the items that the pieces stand for.
 #[derive(Drop)]
-pub(crate) struct Walk<'a> {
+pub struct Walk<'a> {
     pieces: Vec<Piece<'a>>,
 }
 
@@ -35,50 +35,9 @@ impl<'a> Model for Walk<'a> {
     ghost view = { λ walk. map item_of walk.pieces.items };
 }
 
-/// The list of the items of a module, each in field 0 as in a `Module`. Refused only where memory runs
-/// out.
-pub fn pieces<'a>(alloc: Global, items: &'a [ModuleItem]) -> Result<Vec<Piece<'a>>, AllocError>
-    ensures { IfOk result (λ list. map item_of list.items ≡ flat_map (module_item_items 0) items.now) }
-{
-    let mut walk = Walk::new(alloc);
-    walk.each_module_item(0, items)?;
-    Ok(walk.pieces)
-}
-
-/// The list of a module, from its beginning to its end. Refused only where memory runs out.
-pub fn pieces_of_module<'a>(alloc: Global, module: &'a Module) -> Result<Vec<Piece<'a>>, AllocError>
-    ensures { IfOk result (λ list. map item_of list.items ≡ module_items 0 «module».now) }
-{
-    let mut walk = Walk::new(alloc);
-    walk.open(0, Node::Module)?;
-    walk.each_module_item(0, module.body.as_slice())?;
-    walk.close()?;
-    Ok(walk.pieces)
-}
-
-/// The list of an expression, which stands in field 0. Refused only where memory runs out.
-pub fn pieces_of_expr<'a>(alloc: Global, expr: &'a Expr) -> Result<Vec<Piece<'a>>, AllocError>
-    ensures { IfOk result (λ list. map item_of list.items ≡ expr_items 0 expr.now) }
-{
-    let mut walk = Walk::new(alloc);
-    walk.expr(0, expr)?;
-    Ok(walk.pieces)
-}
-
-/// The list of properties, each in field 0. Refused only where memory runs out.
-pub fn pieces_of_properties<'a>(
-    alloc: Global,
-    properties: &'a [KeyValueProp],
-) -> Result<Vec<Piece<'a>>, AllocError>
-    ensures { IfOk result (λ list. map item_of list.items ≡ flat_map (key_value_prop_items 0) properties.now) }
-{
-    let mut walk = Walk::new(alloc);
-    walk.each_key_value_prop(0, properties)?;
-    Ok(walk.pieces)
-}
-
 impl<'a> Walk<'a> {
-    fn new(alloc: Global) -> Walk<'a>
+    /// A walk that has met nothing.
+    pub fn new(alloc: Global) -> Walk<'a>
         ensures { result ≡ [] }
     {
         Walk {
@@ -86,8 +45,9 @@ impl<'a> Walk<'a> {
         }
     }
 
+    /// Adds the lists of these items, one after the other.
     #[tactic(auto, using(crate::proofs::Rows::rows))]
-    fn each_module_item(&mut self, field: u8, items: &'a [ModuleItem]) -> Result<(), AllocError>
+    pub fn each_module_item(&mut self, field: u8, items: &'a [ModuleItem]) -> Result<(), AllocError>
         ensures { OnOk result (self.new ≡ self.old ++ flat_map (module_item_items field) items.now) }
     {
         for item in items {
@@ -96,8 +56,9 @@ impl<'a> Walk<'a> {
         Ok(())
     }
 
+    /// Adds the lists of these properties, one after the other.
     #[tactic(auto, using(crate::proofs::Rows::rows))]
-    fn each_key_value_prop(
+    pub fn each_key_value_prop(
         &mut self,
         field: u8,
         properties: &'a [KeyValueProp],
@@ -110,6 +71,13 @@ impl<'a> Walk<'a> {
         Ok(())
     }
 
+    /// What was met, as a list.
+    pub fn into_pieces(self) -> Vec<Piece<'a>>
+        ensures { map item_of result.items ≡ self.entry }
+    {
+        self.pieces
+    }
+
     fn add(&mut self, piece: Piece<'a>) -> Result<(), AllocError>
         ensures { OnOk result (self.new ≡ self.old ++ item_of piece.entry ∷ []) }
     {
@@ -117,13 +85,15 @@ impl<'a> Walk<'a> {
         Ok(())
     }
 
-    pub(crate) fn open(&mut self, field: u8, node: Node<'a>) -> Result<(), AllocError>
+    /// Adds where a node begins.
+    pub fn open(&mut self, field: u8, node: Node<'a>) -> Result<(), AllocError>
         ensures { OnOk result (self.new ≡ self.old ++ Open field (head_of node.entry) ∷ []) }
     {
         self.add(Piece::Open { field, node })
     }
 
-    pub(crate) fn close(&mut self) -> Result<(), AllocError>
+    /// Adds where a node ends.
+    pub fn close(&mut self) -> Result<(), AllocError>
         ensures { OnOk result (self.new ≡ self.old ++ Close ∷ []) }
     {
         self.add(Piece::Close)

@@ -19,39 +19,41 @@ use Rattle.bundle_piece.specs.Item.{Item}
 use Rattle.bundle_pieces.specs.Tree as k
 use Rattle.bundle_pieces.specs.Tree.{node, stmt_items}
 use Rattle.bundle_terms.specs.Rebuilds.{Change, key_in_object, plain_key, spells_out}
-use Rattle.bundle_lists.specs.Edits.{Anywhere, InObject, Edits, Name, Shorthand, is_occurrence, next, renamed, in_its_place, binding, pattern_in_its_place, shorthand_in_its_place}
+use Rattle.bundle_lists.specs.Edits.{Anywhere, InObject, is_occurrence, renamed, in_its_place, binding, pattern_in_its_place, shorthand_in_its_place}
+use Rattle.bundle_rebuild.specs.Becomes.{Becomes, Name, Shorthand}
+use Rattle.bundle_rebuild.specs.Work.{Work, after, next}
 use Rattle.bundle_rebuild.specs.Remade.{Remade, RemadePattern, Takes}
 use Rattle.bundle_rebuild.specs.Parts.{with_default_items}
 
 -- an edit by what it makes
-made_so : {changes rest : List Change} {before after other : List Item} (around : _) → after ≡ other → Edits around changes before after rest → Edits around changes before other rest
-made_so {changes = changes} {rest = rest} {before = before} around is edit = subst (λ it. Edits around changes before it rest) is edit
+made_so : {work rest : Work} {before made other : List Item} (around : _) → made ≡ other → Becomes around work before made rest → Becomes around work before other rest
+made_so {work = work} {rest = rest} {before = before} around is edit = subst (λ it. Becomes around work before it rest) is edit
 
 -- an occurrence by what it leaves
-left_so : {changes rest : List Change} {before after : List Item} (around : _) → rest ≡ drop 1 changes → Edits around changes before after (drop 1 changes) → Edits around changes before after rest
-left_so {changes = changes} {before = before} {after = after} around is edit = subst (λ it. Edits around changes before after it) (sym is) edit
+left_so : {work rest : Work} {before made : List Item} (around : _) → rest ≡ after work → Becomes around work before made (after work) → Becomes around work before made rest
+left_so {work = work} {before = before} {made = made} around is edit = subst (λ it. Becomes around work before made it) (sym is) edit
 
 -- a shorthand of an object literal that is spelled out
-pub prop-spelled_out : {changes rest : List Change} {it name : v_ident.Ident} (key : v_prop_name.PropName v_expr.Expr) → Takes changes it name rest → spells_out (next changes) ≡ true → k.prop_name_items 0 key ≡ key_in_object (string_bytes it.sym) → Remade InObject k.prop_items changes (v_prop.Shorthand it) (v_prop.KeyValueProp (record { key = key; value = v_expr.Ident name })) rest
+pub prop-spelled_out : {work rest : Work} {it name : v_ident.Ident} (key : v_prop_name.PropName v_expr.Expr) → Takes work it name rest → spells_out (next work (string_bytes it.sym)) ≡ true → k.prop_name_items 0 key ≡ key_in_object (string_bytes it.sym) → Remade InObject k.prop_items work (v_prop.Shorthand it) (v_prop.KeyValueProp (record { key = key; value = v_expr.Ident name })) rest
 unfolding stmt_items
-prop-spelled_out {changes = changes} {it = it} {name = name} key taken spelled key_is = record {
+prop-spelled_out {work = work} {it = it} {name = name} key taken spelled key_is = record {
   in_field = λ field.
       let x : List ℕ = string_bytes it.sym in
-      let pair : List Item = node field h.KeyValueProp (key_in_object x ++ renamed (next changes) 1 x it.ctxt r.Reference ∷ []) in
-      let place : in_its_place InObject (next changes) field x it.ctxt r.Reference ≡ pair = ap (λ s. if s then pair else renamed (next changes) field x it.ctxt r.Reference ∷ []) spelled in
+      let pair : List Item = node field h.KeyValueProp (key_in_object x ++ renamed (next work (string_bytes it.sym)) 1 x it.ctxt r.Reference ∷ []) in
+      let place : in_its_place InObject (next work (string_bytes it.sym)) field x it.ctxt r.Reference ≡ pair = ap (λ s. if s then pair else renamed (next work (string_bytes it.sym)) field x it.ctxt r.Reference ∷ []) spelled in
       let with_name : pair ≡ node field h.KeyValueProp (key_in_object x ++ k.ident_items r.Reference 1 name) = ap (λ list. node field h.KeyValueProp (key_in_object x ++ list)) (sym (taken.renamed_is 1 r.Reference)) in
       let with_key : node field h.KeyValueProp (key_in_object x ++ k.ident_items r.Reference 1 name) ≡ node field h.KeyValueProp (k.prop_name_items 0 key ++ k.ident_items r.Reference 1 name) = ap (λ list. node field h.KeyValueProp (list ++ k.ident_items r.Reference 1 name)) (sym key_is) in
       left_so InObject taken.rest_is (made_so InObject (place ∙ (with_name ∙ with_key)) (Name InObject field x it.ctxt r.Reference refl));
 }
 
 -- one that stays short
-pub prop-stays : {changes rest : List Change} {it name : v_ident.Ident} → Takes changes it name rest → spells_out (next changes) ≡ false → Remade InObject k.prop_items changes (v_prop.Shorthand it) (v_prop.Shorthand name) rest
+pub prop-stays : {work rest : Work} {it name : v_ident.Ident} → Takes work it name rest → spells_out (next work (string_bytes it.sym)) ≡ false → Remade InObject k.prop_items work (v_prop.Shorthand it) (v_prop.Shorthand name) rest
 unfolding stmt_items
-prop-stays {changes = changes} {it = it} {name = name} taken stays = record {
+prop-stays {work = work} {it = it} {name = name} taken stays = record {
   in_field = λ field.
       let x : List ℕ = string_bytes it.sym in
-      let pair : List Item = node field h.KeyValueProp (key_in_object x ++ renamed (next changes) 1 x it.ctxt r.Reference ∷ []) in
-      let place : in_its_place InObject (next changes) field x it.ctxt r.Reference ≡ renamed (next changes) field x it.ctxt r.Reference ∷ [] = ap (λ s. if s then pair else renamed (next changes) field x it.ctxt r.Reference ∷ []) stays in
+      let pair : List Item = node field h.KeyValueProp (key_in_object x ++ renamed (next work (string_bytes it.sym)) 1 x it.ctxt r.Reference ∷ []) in
+      let place : in_its_place InObject (next work (string_bytes it.sym)) field x it.ctxt r.Reference ≡ renamed (next work (string_bytes it.sym)) field x it.ctxt r.Reference ∷ [] = ap (λ s. if s then pair else renamed (next work (string_bytes it.sym)) field x it.ctxt r.Reference ∷ []) stays in
       left_so InObject taken.rest_is (made_so InObject (place ∙ sym (taken.renamed_is field r.Reference)) (Name InObject field x it.ctxt r.Reference refl));
 }
 
@@ -91,42 +93,42 @@ with_expr change x ctxt role (v_expr.PrivateName _) = refl
 with_expr change x ctxt role (v_expr.OptChainExpr' _ _) = refl
 
 -- the pattern that a name is spelled out with, with its default value if it has one
-pattern_is : {changes rest : List Change} {key name : v_binding_ident.BindingIdent} → Takes changes key.id name.id rest → (role : Role) (value : Option v_expr.Expr) → pattern_in_its_place (next changes) (string_bytes key.id.sym) key.id.ctxt role (k.option_expr_items 1 value) ≡ with_default_items role 1 (v_pat.BindingIdent name) value
+pattern_is : {work rest : Work} {key name : v_binding_ident.BindingIdent} → Takes work key.id name.id rest → (role : Role) (value : Option v_expr.Expr) → pattern_in_its_place (next work (string_bytes key.id.sym)) (string_bytes key.id.sym) key.id.ctxt role (k.option_expr_items 1 value) ≡ with_default_items role 1 (v_pat.BindingIdent name) value
 unfolding stmt_items
-pattern_is {changes = changes} {key = key} {name = name} taken role None = ap (λ list. node 1 h.BindingIdent list) (sym (taken.renamed_is 0 role))
-pattern_is {changes = changes} {key = key} {name = name} taken role (Some it) = with_expr (next changes) (string_bytes key.id.sym) key.id.ctxt role it ∙ ap (λ list. node 1 h.AssignPat (node 0 h.BindingIdent list ++ k.expr_items 1 it)) (sym (taken.renamed_is 0 role))
+pattern_is {work = work} {key = key} {name = name} taken role None = ap (λ list. node 1 h.BindingIdent list) (sym (taken.renamed_is 0 role))
+pattern_is {work = work} {key = key} {name = name} taken role (Some it) = with_expr (next work (string_bytes key.id.sym)) (string_bytes key.id.sym) key.id.ctxt role it ∙ ap (λ list. node 1 h.AssignPat (node 0 h.BindingIdent list ++ k.expr_items 1 it)) (sym (taken.renamed_is 0 role))
 
 -- a shorthand property of a pattern, made as its clause says
-shorthand_so : {changes between rest : List Change} {key name : v_binding_ident.BindingIdent} {value value' : Option v_expr.Expr} → Takes changes key.id name.id between → Remade Anywhere k.option_expr_items between value value' rest → (role : Role) → is_occurrence role ≡ true → (field : ℕ) → Edits Anywhere changes (k.object_pat_prop_items role field (v_object_pat_prop.AssignPatProp key value)) (shorthand_in_its_place (next changes) field (string_bytes key.id.sym) key.id.ctxt role (k.option_expr_items 1 value')) rest
+shorthand_so : {work between rest : Work} {key name : v_binding_ident.BindingIdent} {value value' : Option v_expr.Expr} → Takes work key.id name.id between → Remade Anywhere k.option_expr_items between value value' rest → (role : Role) → is_occurrence role ≡ true → (field : ℕ) → Becomes Anywhere work (k.object_pat_prop_items role field (v_object_pat_prop.AssignPatProp key value)) (shorthand_in_its_place (next work (string_bytes key.id.sym)) field (string_bytes key.id.sym) key.id.ctxt role (k.option_expr_items 1 value')) rest
 unfolding stmt_items
-shorthand_so {changes = changes} {rest = rest} {key = key} {value = value} {value' = value'} taken default role occurs field =
-    Shorthand field (string_bytes key.id.sym) key.id.ctxt role occurs (subst (λ left. Edits Anywhere left (k.option_expr_items 1 value) (k.option_expr_items 1 value') rest) taken.rest_is (default.in_field 1))
+shorthand_so {work = work} {rest = rest} {key = key} {value = value} {value' = value'} taken default role occurs field =
+    Shorthand field (string_bytes key.id.sym) key.id.ctxt role occurs (subst (λ left. Becomes Anywhere left (k.option_expr_items 1 value) (k.option_expr_items 1 value') rest) taken.rest_is (default.in_field 1))
 
 -- a shorthand property that is spelled out
-pub pattern-spelled_out : {changes between rest : List Change} {key name : v_binding_ident.BindingIdent} {value value' : Option v_expr.Expr} (new_key : v_prop_name.PropName v_expr.Expr) (pattern : v_pat.Pat) → Takes changes key.id name.id between → Remade Anywhere k.option_expr_items between value value' rest → spells_out (next changes) ≡ true → k.prop_name_items 0 new_key ≡ plain_key (string_bytes key.id.sym) → ((role : Role) (field : ℕ) → k.pat_items role field pattern ≡ with_default_items role field (v_pat.BindingIdent name) value') → RemadePattern k.object_pat_prop_items changes (v_object_pat_prop.AssignPatProp key value) (v_object_pat_prop.KeyValuePatProp new_key pattern) rest
+pub pattern-spelled_out : {work between rest : Work} {key name : v_binding_ident.BindingIdent} {value value' : Option v_expr.Expr} (new_key : v_prop_name.PropName v_expr.Expr) (pattern : v_pat.Pat) → Takes work key.id name.id between → Remade Anywhere k.option_expr_items between value value' rest → spells_out (next work (string_bytes key.id.sym)) ≡ true → k.prop_name_items 0 new_key ≡ plain_key (string_bytes key.id.sym) → ((role : Role) (field : ℕ) → k.pat_items role field pattern ≡ with_default_items role field (v_pat.BindingIdent name) value') → RemadePattern k.object_pat_prop_items work (v_object_pat_prop.AssignPatProp key value) (v_object_pat_prop.KeyValuePatProp new_key pattern) rest
 unfolding stmt_items
-pattern-spelled_out {changes = changes} {key = key} {name = name} {value' = value'} new_key pattern taken default spelled key_is pattern_so role occurs = record {
+pattern-spelled_out {work = work} {key = key} {name = name} {value' = value'} new_key pattern taken default spelled key_is pattern_so role occurs = record {
   in_field = λ field.
       let x : List ℕ = string_bytes key.id.sym in
       let made : List Item = k.option_expr_items 1 value' in
-      let pair : List Item = node field h.KeyValuePatProp (plain_key x ++ pattern_in_its_place (next changes) x key.id.ctxt role made) in
-      let short : List Item = node field h.AssignPatProp (binding (next changes) 0 x key.id.ctxt role ++ made) in
-      let place : shorthand_in_its_place (next changes) field x key.id.ctxt role made ≡ pair = ap (λ s. if s then pair else short) spelled in
+      let pair : List Item = node field h.KeyValuePatProp (plain_key x ++ pattern_in_its_place (next work (string_bytes key.id.sym)) x key.id.ctxt role made) in
+      let short : List Item = node field h.AssignPatProp (binding (next work (string_bytes key.id.sym)) 0 x key.id.ctxt role ++ made) in
+      let place : shorthand_in_its_place (next work (string_bytes key.id.sym)) field x key.id.ctxt role made ≡ pair = ap (λ s. if s then pair else short) spelled in
       let with_pattern : pair ≡ node field h.KeyValuePatProp (plain_key x ++ k.pat_items role 1 pattern) = ap (λ list. node field h.KeyValuePatProp (plain_key x ++ list)) (pattern_is taken role value' ∙ sym (pattern_so role 1)) in
       let with_key : node field h.KeyValuePatProp (plain_key x ++ k.pat_items role 1 pattern) ≡ node field h.KeyValuePatProp (k.prop_name_items 0 new_key ++ k.pat_items role 1 pattern) = ap (λ list. node field h.KeyValuePatProp (list ++ k.pat_items role 1 pattern)) (sym key_is) in
       made_so Anywhere (place ∙ (with_pattern ∙ with_key)) (shorthand_so taken default role occurs field);
 }
 
 -- one that stays short
-pub pattern-stays : {changes between rest : List Change} {key name : v_binding_ident.BindingIdent} {value value' : Option v_expr.Expr} → Takes changes key.id name.id between → Remade Anywhere k.option_expr_items between value value' rest → spells_out (next changes) ≡ false → RemadePattern k.object_pat_prop_items changes (v_object_pat_prop.AssignPatProp key value) (v_object_pat_prop.AssignPatProp name value') rest
+pub pattern-stays : {work between rest : Work} {key name : v_binding_ident.BindingIdent} {value value' : Option v_expr.Expr} → Takes work key.id name.id between → Remade Anywhere k.option_expr_items between value value' rest → spells_out (next work (string_bytes key.id.sym)) ≡ false → RemadePattern k.object_pat_prop_items work (v_object_pat_prop.AssignPatProp key value) (v_object_pat_prop.AssignPatProp name value') rest
 unfolding stmt_items
-pattern-stays {changes = changes} {key = key} {name = name} {value' = value'} taken default stays role occurs = record {
+pattern-stays {work = work} {key = key} {name = name} {value' = value'} taken default stays role occurs = record {
   in_field = λ field.
       let x : List ℕ = string_bytes key.id.sym in
       let made : List Item = k.option_expr_items 1 value' in
-      let pair : List Item = node field h.KeyValuePatProp (plain_key x ++ pattern_in_its_place (next changes) x key.id.ctxt role made) in
-      let short : List Item = node field h.AssignPatProp (binding (next changes) 0 x key.id.ctxt role ++ made) in
-      let place : shorthand_in_its_place (next changes) field x key.id.ctxt role made ≡ short = ap (λ s. if s then pair else short) stays in
+      let pair : List Item = node field h.KeyValuePatProp (plain_key x ++ pattern_in_its_place (next work (string_bytes key.id.sym)) x key.id.ctxt role made) in
+      let short : List Item = node field h.AssignPatProp (binding (next work (string_bytes key.id.sym)) 0 x key.id.ctxt role ++ made) in
+      let place : shorthand_in_its_place (next work (string_bytes key.id.sym)) field x key.id.ctxt role made ≡ short = ap (λ s. if s then pair else short) stays in
       let with_name : short ≡ node field h.AssignPatProp (k.binding_ident_items role 0 name ++ made) = ap (λ list. node field h.AssignPatProp (node 0 h.BindingIdent list ++ made)) (sym (taken.renamed_is 0 role)) in
       made_so Anywhere (place ∙ with_name) (shorthand_so taken default role occurs field);
 }

@@ -1,3 +1,4 @@
-pub mod Copies
+pub mod Becomes
 pub mod Parts
 pub mod Remade
+pub mod Work

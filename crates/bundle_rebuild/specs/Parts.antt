@@ -12,13 +12,16 @@ use Rattle.bundle_leaf.specs.declared.specifier.ImportSpecifier as v_import_spec
 use Rattle.bundle_leaf.specs.declared.specifier.ExportSpecifier as v_export_specifier
 use Rattle.bundle_ast.specs.declared.module.ModuleItem as v_module_item
 use Rattle.bundle_ast.specs.declared.expr.Expr as v_expr
+use Rattle.bundle_ast.specs.declared.expr.MemberExpr as v_member_expr
+use Rattle.bundle_ast.specs.declared.expr.Callee as v_callee
+use Rattle.bundle_ast.specs.declared.expr.ExprOrSpread as v_expr_or_spread
 use Rattle.bundle_ast.specs.declared.stmt.Stmt as v_stmt
 use Rattle.bundle_ast.specs.declared.pat.Pat as v_pat
 use Rattle.bundle_piece.specs.declared.piece.Role.{Role}
 use Rattle.bundle_piece.specs.declared.piece.Role.TheVariants as r
 use Rattle.bundle_piece.specs.Item as h
 use Rattle.bundle_piece.specs.Item.{Item}
-use Rattle.bundle_pieces.specs.Tree.{node, option_items, ident_items, ident_name_items, str_items, tpl_element_items, expr_items, stmt_items, pat_items, module_export_name_items, import_specifier_items, export_specifier_items, module_item_items}
+use Rattle.bundle_pieces.specs.Tree.{node, option_items, callee_items, each_expr_or_spread_items, member_prop_items, ident_items, ident_name_items, str_items, tpl_element_items, expr_items, stmt_items, pat_items, module_export_name_items, import_specifier_items, export_specifier_items, module_item_items}
 
 -- the lists of the elements, one after another
 abbrev pub each : {A : Type 0} → (ℕ → A → List Item) → ℕ → List A → List Item
@@ -76,3 +79,10 @@ abbrev pub second_name_items : Option v_module_export_name.ModuleExportName → 
 second_name_items (Some name) is_spelled_out only = word_items 1 name
 second_name_items None true only = h.Ident 1 (string_bytes only.sym) 0 r.Word ∷ []
 second_name_items None false only = []
+
+-- what is in a member expression, and what is in a call
+abbrev pub member_parts : ℕ → v_member_expr.MemberExpr v_expr.Expr → List Item
+member_parts field it = expr_items 0 it.obj.value ++ member_prop_items 1 it.prop
+
+abbrev pub call_parts : v_callee.Callee v_expr.Expr → Vec (v_expr_or_spread.ExprOrSpread v_expr.Expr) Global → List Item
+call_parts callee args = callee_items 0 callee ++ each_expr_or_spread_items 1 args

@@ -3,7 +3,9 @@
 #![tactic(auto)]
 
 pub mod rebuild;
-pub mod try_clone;
+pub mod rewrite;
+mod whole;
+mod work;
 
-pub use rebuild::rebuild_items;
-pub use try_clone::TryClone;
+pub use rebuild::{Rebuild, no_notes};
+pub use rewrite::{Rewrite, Rewriting, Whole};

@@ -1,13 +1,15 @@
 //! The walk over a tree that makes it anew.
 
-ghost use Rattle.std.specs.Prelude.{◌≡◌, [], IfOk, drop, map, option_map};
+ghost use Rattle.std.specs.Prelude.{◌≡◌, ℕ, [], IfOk, Some, None, map, option_map, string_bytes, if◌then◌else◌};
 ghost use Rattle.std.specs.List.{flat_map};
-ghost use Rattle.bundle_pieces.specs.Tree.{module_item_items};
+ghost use Rattle.bundle_piece.specs.declared.piece.Role.{Role};
+ghost use Rattle.bundle_pieces.specs.Tree.{ident_items, module_item_items};
 ghost use Rattle.bundle_terms.specs.Rebuilds.{rebuilt, spells_out as spells_out_lem};
 ghost use Rattle.bundle_lists.specs.Changes.{change_of};
-ghost use Rattle.bundle_lists.specs.Edits.{Anywhere, next};
-ghost use Rattle.bundle_rebuild.specs.Remade.{Remade};
-ghost use Rattle.bundle_rebuild.specs.Parts.{each_module_item_items};
+ghost use Rattle.bundle_lists.specs.Marks.{ident_of as ident_of_lem};
+ghost use Rattle.bundle_rebuild.specs.Becomes.{kept_notes, name_for_call as name_for_call_lem, name_for_member as name_for_member_lem, name_for_meta as name_for_meta_lem, named, no_notes as no_notes_lem};
+ghost use Rattle.bundle_rebuild.specs.Parts.{call_parts, member_parts};
+ghost use Rattle.bundle_rebuild.specs.Work.{after, next, plain, step_of, upcoming as upcoming_lem, work_of};
 
 pub mod classes;
 pub mod decls;
@@ -18,85 +20,182 @@ pub mod pats;
 pub mod props;
 pub mod stmts;
 
-use bundle_ast::ModuleItem;
-use bundle_lists::Change;
+use crate::rewrite::{Rewriting, Whole};
+use crate::whole::{are_reads, is_literal_call};
+use crate::work::{Step, Steps};
+use bundle_ast::{Callee, ExprOrSpread, Ident, MemberExpr, ModuleItem};
+use bundle_id::SyntaxContext;
+use bundle_leaf::kind::{ExportMetadata, MetaPropKind};
+use bundle_lists::{Change, Name};
 use std::alloc::{AllocError, Global};
 use std::marker::Model;
 
-/// The items made anew, with these changes of their occurrences in turn; an occurrence for which no change is
-/// left stays, so without changes this is a copy. Refused only where memory runs out.
-pub fn rebuild_items(
-    alloc: Global,
-    items: &[ModuleItem],
-    changes: &[Change],
-) -> Result<Vec<ModuleItem>, AllocError>
-    ensures { IfOk result (λ made. flat_map (module_item_items 0) made.items ≡ rebuilt (flat_map (module_item_items 0) items.now) (map change_of changes.now)) }
-{
-    let mut rebuild = Rebuild::new(alloc, changes);
-    rebuild.each_module_item(items)
-}
-
-/// The changes, and how many of them were taken. Each method makes one part of a tree anew. Clauses see the
-/// changes that are left.
+/// What is asked of the occurrences that are left, and what else is asked. Each method makes one part of a tree
+/// anew.
 #[derive(Drop)]
-pub(crate) struct Rebuild<'c> {
+pub struct Rebuild<'r, 'c> {
     pub(crate) alloc: Global,
-    changes: &'c [Change<'c>],
-    place: usize,
+    left: Steps<'r, 'c>,
+    import_meta: Option<Name<'c>>,
+    has_notes_cleared: bool,
 }
 
-impl<'c> Model for Rebuild<'c> {
-    ghost use Rattle.std.specs.Prelude.{List, drop, map};
-    ghost use Rattle.bundle_terms.specs.Rebuilds.{Change};
-    ghost use Rattle.bundle_lists.specs.Changes.{change_of};
+impl<'r, 'c> Model for Rebuild<'r, 'c> {
+    ghost use Rattle.std.specs.Prelude.{option_map};
+    ghost use Rattle.bundle_lists.specs.Marks.{ident_of};
+    ghost use Rattle.bundle_rebuild.specs.Work.{Work, steps_of};
 
-    ghost Value = { List Change };
+    ghost Value = { Work };
 
-    ghost view = { λ it. drop it.place (map change_of it.changes.now) };
+    ghost view = { λ it. record { steps = steps_of it.left; meta = option_map ident_of it.import_meta; clears_notes = it.has_notes_cleared } };
 }
 
-impl<'c> Rebuild<'c> {
-    fn new(alloc: Global, changes: &'c [Change<'c>]) -> Rebuild<'c>
-        ensures { result ≡ map change_of changes.now }
+impl<'r, 'c> Rebuild<'r, 'c> {
+    /// A walk with these changes of the occurrences in turn.
+    pub fn new(alloc: Global, changes: &'r [Change<'c>]) -> Rebuild<'r, 'c>
+        ensures { result ≡ plain (map change_of changes.now) }
     {
         Rebuild {
             alloc,
-            changes,
-            place: 0,
+            left: Steps::Changes(changes),
+            import_meta: None,
+            has_notes_cleared: false,
         }
     }
 
     /// A walk without changes, which makes a copy.
-    pub(crate) fn copy(alloc: Global) -> Rebuild<'c>
-        ensures { result ≡ [] }
+    pub fn copy(alloc: Global) -> Rebuild<'r, 'c>
+        ensures { result ≡ plain [] }
     {
-        Rebuild::new(alloc, &[])
+        Rebuild {
+            alloc,
+            left: Steps::Nothing,
+            import_meta: None,
+            has_notes_cleared: false,
+        }
     }
 
-    // The change of the next occurrence, if one is left.
-    fn upcoming(&self) -> Option<Change<'c>>
-        ensures { option_map change_of result ≡ next self.now }
+    /// A walk over a part of a module that stands in a bundle.
+    pub fn rewriting(alloc: Global, rewriting: Rewriting<'r, 'c>) -> Rebuild<'r, 'c>
+        ensures { result ≡ work_of rewriting.entry }
     {
-        self.changes.get(self.place).copied()
+        Rebuild {
+            alloc,
+            left: Steps::Rewrites(rewriting.rewrites),
+            import_meta: rewriting.meta,
+            has_notes_cleared: true,
+        }
     }
 
-    /// The change of the next occurrence, which is taken.
-    pub(crate) fn take(&mut self) -> Option<Change<'c>>
-        ensures change { option_map change_of result ≡ next self.old }
-        ensures rest { self.new ≡ drop 1 self.old }
+    // What becomes of the next occurrence, if anything is asked of it.
+    fn upcoming(&self) -> Option<Step<'c>>
+        ensures { option_map step_of result ≡ upcoming_lem self.now }
     {
-        let change = self.upcoming()?;
-        self.place += 1;
-        Some(change)
+        self.left.first()
     }
 
-    /// Whether what is short is spelled out at the next occurrence.
-    pub(crate) fn spells_out(&self) -> bool
-        ensures { result ≡ spells_out_lem (next self.now) }
+    /// What becomes of the next occurrence, which is met.
+    pub(crate) fn take(&mut self) -> Option<Step<'c>>
+        ensures step { option_map step_of result ≡ upcoming_lem self.old }
+        ensures rest { self.new ≡ after self.old }
+    {
+        let step = self.upcoming();
+        self.left = self.left.behind_first();
+        step
+    }
+
+    /// Whether what is short is spelled out at the next occurrence, which is this identifier.
+    pub(crate) fn spells_out(&self, ident: &Ident) -> bool
+        ensures { result ≡ spells_out_lem (next self.now (string_bytes ident.now.sym)) }
     {
         match self.upcoming() {
-            Some(change) => change.is_spelled_out,
+            Some(step) => step.spells_out(ident.sym.as_str()),
             None => false,
         }
+    }
+
+    /// The name that stands for a member expression, if one does: it is as many static reads around the next
+    /// occurrence as that one's name stands for.
+    pub(crate) fn name_for_member(&self, member: &MemberExpr) -> Option<Name<'c>>
+        ensures { option_map ident_of_lem result ≡ name_for_member_lem (upcoming_lem self.now) (member_parts 0 member.now) }
+    {
+        let step = self.upcoming()?;
+        match step.whole {
+            Whole::Alone => None,
+            Whole::Reads(count) => name_if(are_reads(member, count), step.name),
+            Whole::Call => None,
+        }
+    }
+
+    /// The name that is called in the place of a call, if one is: it is a literal call of the next occurrence.
+    pub(crate) fn name_for_call(
+        &self,
+        callee: &Callee,
+        args: &Vec<ExprOrSpread>,
+    ) -> Option<Name<'c>>
+        ensures { option_map ident_of_lem result ≡ name_for_call_lem (upcoming_lem self.now) (call_parts callee.now args.now) }
+    {
+        let step = self.upcoming()?;
+        match step.whole {
+            Whole::Alone => None,
+            Whole::Reads(_) => None,
+            Whole::Call => name_if(is_literal_call(callee, args), step.name),
+        }
+    }
+
+    /// The name that stands for `import.meta`, if one does.
+    pub(crate) fn name_for_meta(&self, kind: MetaPropKind) -> Option<Name<'c>>
+        ensures { option_map ident_of_lem result ≡ name_for_meta_lem self.now.meta kind }
+    {
+        match kind {
+            MetaPropKind::ImportMeta => self.import_meta,
+            MetaPropKind::NewTarget => None,
+        }
+    }
+
+    /// An identifier of this name, in the place of the next occurrence.
+    pub(crate) fn name_instead(&mut self, name: Name) -> Result<Ident, AllocError>
+        ensures name { IfOk result (λ made. (role : Role) (field : ℕ) → ident_items role field made ≡ named field (ident_of_lem name.entry) role) }
+        ensures rest { self.new ≡ after self.old }
+    {
+        let _met = self.take();
+        self.ident_of(name)
+    }
+
+    /// An identifier of this name.
+    pub fn ident_of(&self, name: Name) -> Result<Ident, AllocError>
+        ensures { IfOk result (λ made. (role : Role) (field : ℕ) → ident_items role field made ≡ named field (ident_of_lem name.entry) role) }
+    {
+        let sym = String::from_str(self.alloc, name.sym)?;
+        let ctxt = SyntaxContext::from_u32(name.ctxt);
+        Ok(Ident { sym, ctxt })
+    }
+
+    /// The notes of a declaration, or none where they are cleared.
+    pub(crate) fn notes(&self, notes: ExportMetadata) -> ExportMetadata
+        ensures { result ≡ kept_notes self.now.clears_notes notes }
+    {
+        if self.has_notes_cleared {
+            no_notes()
+        } else {
+            notes
+        }
+    }
+}
+
+// The name, if it is so.
+fn name_if<'c>(is_so: bool, name: Name<'c>) -> Option<Name<'c>>
+    ensures { result ≡ (if is_so then Some name.entry else None) }
+{
+    if is_so { Some(name) } else { None }
+}
+
+/// The notes of a declaration on which nothing is noted.
+pub fn no_notes() -> ExportMetadata
+    ensures { result ≡ no_notes_lem }
+{
+    ExportMetadata {
+        injected: false,
+        export_ctxt: None,
     }
 }

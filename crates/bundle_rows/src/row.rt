@@ -8,12 +8,12 @@ ghost use Rattle.bundle_form.specs.Form.{text_at};
 use crate::listing::{add_marks, add_occurrences};
 use anyhow::{Context, Result};
 use bundle_ast::{ExportMetadata, Ident, Module, ModuleItem};
-use bundle_build::build_module;
 use bundle_equal::is_same;
 use bundle_form::read_module;
 use bundle_id::SyntaxContext;
 use bundle_marks::{occurrences, with_idents};
-use bundle_rebuild::rebuild_items;
+use bundle_restore::build_module;
+use bundle_rewrite::rebuild_items;
 use serde_json::Value;
 use std::alloc::{AllocError, Global};
 

@@ -4,6 +4,3 @@
 mod same;
 
 pub use same::are_same;
-
-#[cfg(test)]
-mod tests;

@@ -8,8 +8,6 @@ ghost use Rattle.bundle_sort.specs.Items.{IsGoodOrder};
 pub(crate) mod classes;
 pub(crate) mod needs;
 pub(crate) mod stack;
-#[cfg(test)]
-mod tests;
 
 use std::alloc::{AllocError, Global};
 

@@ -47,7 +47,6 @@ pub data Fault : Type 0 where
 
 -- the fault that an error tells of; want of memory is none
 abbrev pub fault_of : Error → Option Fault
-fault_of e.NotYet = None
 fault_of (e.Load file) = Some (LoadFails (file_name_of file))
 fault_of (e.Resolve file specifier) = Some (ResolveFails (file_name_of file) (string_bytes specifier))
 fault_of (e.Hook file) = Some (HookFails (file_name_of file))

@@ -1,13 +1,13 @@
 //! The bundler and what it asks its parties, who write down what they are asked.
 
 use bundle_ast::KeyValueProp;
-use bundle_build::build_module;
 use bundle_document::bundles_text;
 use bundle_form::read_module;
 use bundle_leaf::kind::ExportMetadata;
 use bundle_name::config::Config;
 use bundle_name::error::Error;
 use bundle_name::file_name::FileName;
+use bundle_restore::build_module;
 use bundle_tree::{
     Hook, HookError, Load, LoadError, ModuleData, ModuleRecord, Resolve, ResolveError,
 };

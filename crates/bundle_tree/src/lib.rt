@@ -18,6 +18,3 @@ pub use hook::{Hook, HookError, ModuleRecord};
 pub use id::Id;
 pub use load::{Load, LoadError, ModuleData};
 pub use resolve::{Resolve, ResolveError};
-
-#[cfg(test)]
-mod tests;

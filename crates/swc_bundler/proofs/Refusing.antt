@@ -52,7 +52,6 @@ module _ {M : Type 0} (may_fail_load : Name → Type 0) (may_fail_resolve : Name
 
   -- a refusal to link is right
   pub unlinked_right : (c : Contents M) (u : Unlinked) (e : Error) → e ≡ error_of u → IsRight may_fail_load may_fail_resolve max_modules c e
-  unlinked_right c u.NotYet e is = subst (IsRight may_fail_load may_fail_resolve max_modules c) (sym is) tt
   unlinked_right c u.OutOfMemory e is = subst (IsRight may_fail_load may_fail_resolve max_modules c) (sym is) tt
   unlinked_right c (u.Hook file) e is = subst (IsRight may_fail_load may_fail_resolve max_modules c) (sym is) tt
   unlinked_right c (u.ContextsUsedUp file) e is = subst (IsRight may_fail_load may_fail_resolve max_modules c) (sym is) tt

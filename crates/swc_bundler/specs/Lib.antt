@@ -1,2 +1,3 @@
 pub mod Bundler
+pub mod Loading
 pub mod Refusal

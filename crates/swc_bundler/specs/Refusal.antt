@@ -9,22 +9,14 @@ use Rattle.bundle_tree.specs.declared.load.LoadError.{LoadError}
 use Rattle.bundle_tree.specs.declared.load.LoadError.TheVariants.{Failed as LoadFailed, OutOfMemory as LoadNoMemory}
 use Rattle.bundle_tree.specs.declared.resolve.ResolveError.{ResolveError}
 use Rattle.bundle_tree.specs.declared.resolve.ResolveError.TheVariants.{Failed as ResolveFailed, OutOfMemory as ResolveNoMemory}
-use Rattle.bundle_build.specs.declared.build.BuildError.{BuildError}
-use Rattle.bundle_build.specs.declared.build.BuildError.TheVariants.{Form as NoTree, OutOfMemory as NoRoom}
 use Rattle.bundle_kept.specs.declared.kept.Request.{Request}
 use Rattle.swc_bundler.specs.declared.unlinked.Unlinked.{Unlinked}
 use Rattle.swc_bundler.specs.declared.unlinked.Unlinked.TheVariants as u
 use Rattle.bundle_name.specs.declared.error.Error.TheVariants as e
 use Rattle.bundle_kept.specs.Contents.{Contents, tree_of, target_of}
 
--- why trees are not linked, where a list gives no tree
-abbrev pub unlinked_of : BuildError → Unlinked
-unlinked_of NoTree = u.NotYet
-unlinked_of NoRoom = u.OutOfMemory
-
 -- the refusal of a bundle where trees are not linked
 abbrev pub error_of : Unlinked → Error
-error_of u.NotYet = e.NotYet
 error_of u.OutOfMemory = e.OutOfMemory
 error_of (u.Hook file) = e.Hook file
 error_of (u.ContextsUsedUp file) = e.ContextsUsedUp file

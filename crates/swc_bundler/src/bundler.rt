@@ -6,13 +6,14 @@ ghost use Rattle.bundle_name.specs.FileName.{Name};
 ghost use Rattle.swc_bundler.specs.Bundler.{IsBundleOf, IsNumbered};
 ghost use Rattle.bundle_kept.specs.Contents.{Advances, Grows};
 ghost use Rattle.bundle_kept.specs.Kept.{contents_of};
+ghost use Rattle.swc_bundler.specs.Loading.{files_on, AreKept};
 ghost use Rattle.swc_bundler.specs.Refusal.{IsRight};
 
 use crate::bundle::{Bundle, BundleKind};
 use crate::entry::{Call, module_of};
 use crate::library::Library;
 use crate::load::{LoadList, load_all};
-use crate::program::program_of;
+use crate::program::{Program, program_of};
 use crate::unlinked::Unlinked;
 use bundle_id::ModuleId;
 use bundle_name::config::Config;
@@ -138,31 +139,35 @@ fn linked_bundles<L: Load + Drop, R: Resolve + Drop>(
     entries: Vec<(String, FileName)>,
     ids: Vec<ModuleId>,
 ) -> Result<Vec<Bundle>, Unlinked>
+    requires { AreKept (contents_of library.now.kept) (files_on list.now) }
     ensures bundles { IfOk result (λ bundles. (names : List Name) → AllZip (IsNumbered names) entries.items ids.items → AllZip (IsBundleOf names) entries.items bundles.items) }
 {
     let program = program_of(library, alloc, list, config)?;
-    let call = Call {
-        program: &program,
-        config,
-    };
-    bundles_of(alloc, library, &call, hook, entries, ids)
+    bundles_of(alloc, library, &program, config, hook, entries, ids)
 }
 
 // The same, given what the files say.
-fn bundles_of<'p, 'x, L: Load + Drop, R: Resolve + Drop>(
+fn bundles_of<'x, L: Load + Drop, R: Resolve + Drop>(
     alloc: Global,
     library: &Library<L, R>,
-    call: &Call<'p, 'x>,
+    program: &Program<'x>,
+    config: &Config,
     hook: &dyn Hook,
     entries: Vec<(String, FileName)>,
     ids: Vec<ModuleId>,
 ) -> Result<Vec<Bundle>, Unlinked>
+    requires { AreKept (contents_of library.now.kept) (files_on program.now.list.now) }
     ensures bundles { IfOk result (λ bundles. (names : List Name) → AllZip (IsNumbered names) entries.items ids.items → AllZip (IsBundleOf names) entries.items bundles.items) }
 {
     let mut bundles = Vec::new(alloc);
     for (entry, id) in entries.into_iter().zip(ids) {
-        let (name, _) = entry;
-        let module = module_of(alloc, library, call, hook, id)?;
+        let (name, file) = entry;
+        let call = Call {
+            program,
+            config,
+            entry: &file,
+        };
+        let module = module_of(alloc, library, &call, hook, id)?;
         let kind = BundleKind::Named { name };
         bundles.push(Bundle { kind, id, module })?;
     }

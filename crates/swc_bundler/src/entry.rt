@@ -1,6 +1,9 @@
 //! The bundle of one entry: which modules it reaches, what their names are linked to, which fault is first, and the
 //! module that stands for all of them.
 
+ghost use Rattle.bundle_kept.specs.Kept.{contents_of};
+ghost use Rattle.swc_bundler.specs.Loading.{files_on, AreKept};
+
 use crate::fault::{refuse_doubled, refuse_link};
 use crate::finish::finished;
 use crate::library::Library;
@@ -12,10 +15,9 @@ use bundle_ast::{KeyValueProp, Module};
 use bundle_denote::{Denotations, ModuleKind, Reading, denotations, first_doubled};
 use bundle_graph::graph::{cycles, order};
 use bundle_id::ModuleId;
-use bundle_join::{Block, BundleParts, JoinError, Meta, Part, joined_list};
+use bundle_merge::{Block, BundleParts, MergeError, Merged, Meta, Part, merge_modules};
 use bundle_name::config::{Config, ModuleType};
 use bundle_name::file_name::FileName;
-use bundle_piece::Piece;
 use bundle_targets::{Fault, LinkModule, Linking, Setting};
 use bundle_tree::hook::Hook;
 use bundle_tree::load::Load;
@@ -23,11 +25,12 @@ use bundle_tree::resolve::Resolve;
 use indexmap::IndexMap;
 use std::alloc::{AllocError, Global};
 
-/// What the bundle of an entry is made of: the files that were read, and the settings.
+/// What the bundle of an entry is made of: the files that were read, the settings, and the entry's file.
 #[derive(Clone, Copy)]
 pub struct Call<'p, 'x> {
     pub program: &'p Program<'x>,
     pub config: &'p Config,
+    pub entry: &'p FileName,
 }
 
 /// The modules that an entry reaches, numbered by their places in its list, the entry last: the place of each on the
@@ -48,13 +51,15 @@ struct Answer {
 
 /// The module of an entry. Where the hook answers for a module, all is read once more, so that what is read and what
 /// the hook answered are lent for one time.
-pub fn module_of<'p, 'x, L: Load + Drop, R: Resolve + Drop>(
+pub(crate) fn module_of<'p, 'x, L: Load + Drop, R: Resolve + Drop>(
     alloc: Global,
     library: &Library<L, R>,
     call: &Call<'p, 'x>,
     hook: &dyn Hook,
     entry: ModuleId,
-) -> Result<Module, Unlinked> {
+) -> Result<Module, Unlinked>
+    requires { AreKept (contents_of library.now.kept) (files_on call.now.program.now.list.now) }
+{
     let reached = reached_from(alloc, call.program, entry)?;
     let linking = linked(alloc, call, &reached)?;
     let answers = ask_all(alloc, call, hook, &reached)?;
@@ -63,7 +68,16 @@ pub fn module_of<'p, 'x, L: Load + Drop, R: Resolve + Drop>(
         return made(alloc, call, &reached, &linking, none.as_slice());
     }
     let list = call.program.list;
-    module_with_answers(alloc, library, list, call.config, entry, answers.as_slice())
+    let answers = answers.as_slice();
+    module_with_answers(
+        alloc,
+        library,
+        list,
+        call.config,
+        call.entry,
+        entry,
+        answers,
+    )
 }
 
 // No answers.
@@ -77,13 +91,17 @@ fn module_with_answers<'y, L: Load + Drop, R: Resolve + Drop>(
     library: &'y Library<L, R>,
     list: &'y LoadList,
     config: &Config,
+    file: &FileName,
     entry: ModuleId,
     answers: &'y [Answer],
-) -> Result<Module, Unlinked> {
+) -> Result<Module, Unlinked>
+    requires { AreKept (contents_of library.now.kept) (files_on list.now) }
+{
     let program = program_of(library, alloc, list, config)?;
     let call = Call {
         program: &program,
         config,
+        entry: file,
     };
     let reached = reached_from(alloc, &program, entry)?;
     let linking = linked(alloc, &call, &reached)?;
@@ -280,9 +298,9 @@ fn refuse_fault<'p, 'x>(
     let Some(fault) = fault else {
         return Ok(());
     };
-    match file_at(call, reached, fault.module) {
-        Some((file, _)) => refuse_link(alloc, file, fault),
-        None => Err(Unlinked::NotYet),
+    match file_of(call, reached, Some(fault.module)) {
+        Some(file) => refuse_link(alloc, file, fault),
+        None => refuse_link(alloc, call.entry, fault),
     }
 }
 
@@ -378,19 +396,19 @@ fn made<'t, 'p: 't, 'x>(
     metas: &'t [Option<ReadMeta<'x>>],
 ) -> Result<Module, Unlinked> {
     let kinds = read_common_js(alloc, call, reached, linking)?;
-    let list = list_of(alloc, call, reached, linking, kinds.as_slice(), metas)?;
-    finished(alloc, list.as_slice(), call.config)
+    let merged = merged_of(alloc, call, reached, linking, kinds.as_slice(), metas)?;
+    finished(alloc, &merged, call.config)
 }
 
-// The list that all modules make, where these are the names of the CommonJS ones.
-fn list_of<'t, 'p: 't, 'x>(
+// The items that all modules make, where these are the names of the CommonJS ones.
+fn merged_of<'t, 'p: 't, 'x>(
     alloc: Global,
     call: &Call<'p, 'x>,
     reached: &'t Reached,
     linking: &'t Linking<'x>,
     kinds: &'t [Option<Denotations<'x>>],
     metas: &'t [Option<ReadMeta<'x>>],
-) -> Result<Vec<Piece<'x>>, Unlinked> {
+) -> Result<Merged<'x>, Unlinked> {
     let mut parts = Vec::new(alloc);
     for (module, leads) in reached.leads.iter().enumerate() {
         if let Some(part) = part_of(call, reached, module, leads, kinds, metas) {
@@ -402,16 +420,15 @@ fn list_of<'t, 'p: 't, 'x>(
         linking,
         blocks: reached.blocks.as_slice(),
         files: call.program.files,
-        notes: call.program.notes,
     };
-    match joined_list(alloc, &bundle) {
-        Ok(list) => Ok(list),
-        Err(JoinError::OutOfMemory) => Err(Unlinked::OutOfMemory),
-        Err(JoinError::ContextsUsedUp { module }) => refuse_contexts(call, reached, module),
+    match merge_modules(alloc, &bundle) {
+        Ok(merged) => Ok(merged),
+        Err(MergeError::OutOfMemory) => Err(Unlinked::OutOfMemory),
+        Err(MergeError::ContextsUsedUp { module }) => refuse_contexts(call, reached, module),
     }
 }
 
-// A module as it is joined with others.
+// A module as it is merged with others.
 fn part_of<'t, 'p: 't, 'x>(
     call: &Call<'p, 'x>,
     reached: &Reached,
@@ -427,6 +444,7 @@ fn part_of<'t, 'p: 't, 'x>(
         _ => &source.names,
     };
     Some(Part {
+        items: source.items,
         pieces: source.pieces.as_slice(),
         denotations,
         tables: &source.tables,
@@ -440,6 +458,7 @@ fn part_of<'t, 'p: 't, 'x>(
 fn meta_at<'t, 'x>(metas: &'t [Option<ReadMeta<'x>>], module: usize) -> Option<Meta<'t, 'x>> {
     match metas.get(module) {
         Some(Some(meta)) => Some(Meta {
+            properties: meta.properties,
             pieces: meta.pieces.as_slice(),
             denotations: &meta.names,
         }),
@@ -447,17 +466,26 @@ fn meta_at<'t, 'x>(metas: &'t [Option<ReadMeta<'x>>], module: usize) -> Option<M
     }
 }
 
-// The refusal where contexts run out for a module's names or, without one, for those of the linker's own.
+// The refusal where contexts run out for a module's names or, without one, for those of the linker's own, which stand
+// in no file but the entry's.
 fn refuse_contexts<'p, 'x>(
     call: &Call<'p, 'x>,
     reached: &Reached,
     module: Option<usize>,
-) -> Result<Vec<Piece<'x>>, Unlinked> {
-    let entry = reached.places.len().saturating_sub(1);
-    match file_at(call, reached, module.unwrap_or(entry)) {
-        Some((file, _)) => Err(Unlinked::ContextsUsedUp {
-            file: file.clone()?,
-        }),
-        None => Err(Unlinked::NotYet),
-    }
+) -> Result<Merged<'x>, Unlinked> {
+    let file = match file_of(call, reached, module) {
+        Some(file) => file.clone()?,
+        None => call.entry.clone()?,
+    };
+    Err(Unlinked::ContextsUsedUp { file })
+}
+
+// The file of a module, if there is one.
+fn file_of<'p, 'x>(
+    call: &Call<'p, 'x>,
+    reached: &Reached,
+    module: Option<usize>,
+) -> Option<&'x FileName> {
+    let (file, _) = file_at(call, reached, module?)?;
+    Some(file)
 }

@@ -1,53 +1,46 @@
-//! The module of a joined list: no binding has a keyword's name, no two names clash, and it is one function's call
+//! The module of what was merged: no binding has a keyword's name, no two names clash, and it is one function's call
 //! where the settings say so.
 
 use crate::unlinked::Unlinked;
 use bundle_ast::Module;
-use bundle_build::build_module;
 use bundle_denote::{Denotations, ModuleKind, Reading, denotations};
+use bundle_merge::{Merged, order_items};
 use bundle_name::config::{Config, ModuleType};
-use bundle_naming::{
-    Contexts, Names, function_call_of, hygienic_names, keyword_names, list_with_names,
-};
+use bundle_naming::{Contexts, Names, awaits_outside, changes_of, hygienic_names, keyword_names};
 use bundle_piece::Piece;
 use std::alloc::{AllocError, Global};
 
-/// The module of a joined list.
-pub fn finished(alloc: Global, joined: &[Piece], config: &Config) -> Result<Module, Unlinked> {
-    let names = denotations(alloc, joined, ModuleKind::Es, Reading::ByContext)?;
-    let symbols = symbols_of(alloc, joined, &names, config)?;
+/// The module of what was merged.
+pub fn finished(alloc: Global, merged: &Merged, config: &Config) -> Result<Module, Unlinked> {
+    let ordered = order_items(alloc, merged)?;
+    let list = ordered.list.as_slice();
+    let denoted = denotations(alloc, list, ModuleKind::Es, Reading::ByContext)?;
+    let names = names_of(alloc, list, &denoted, config)?;
     let contexts = match config.disable_hygiene {
         true => Contexts::Keep,
         false => Contexts::Clear,
     };
-    let list = list_with_names(alloc, joined, &names, &symbols, contexts)?;
+    let changes = changes_of(alloc, list, &denoted, &names, contexts)?;
+    let changes = changes.as_slice();
     match config.module {
-        ModuleType::Es => module_of_list(alloc, list.as_slice()),
-        ModuleType::Iife => module_of_call(alloc, list.as_slice()),
+        ModuleType::Es => Ok(ordered.module(alloc, merged, changes)?),
+        ModuleType::Iife => {
+            let is_async = awaits_outside(alloc, list)?;
+            Ok(ordered.call(alloc, merged, changes, is_async)?)
+        }
     }
 }
 
 // What the bindings of a list are called.
-fn symbols_of<'c>(
+fn names_of<'c>(
     alloc: Global,
-    joined: &[Piece<'c>],
-    names: &Denotations<'c>,
+    list: &[Piece<'c>],
+    denoted: &Denotations<'c>,
     config: &Config,
 ) -> Result<Names, AllocError> {
-    let keywords = keyword_names(alloc, joined, names)?;
+    let keywords = keyword_names(alloc, list, denoted)?;
     if config.disable_hygiene {
         return Ok(keywords);
     }
-    hygienic_names(alloc, joined, names, &keywords)
-}
-
-// The module of a list.
-fn module_of_list(alloc: Global, list: &[Piece]) -> Result<Module, Unlinked> {
-    Ok(build_module(alloc, list)?)
-}
-
-// The module that calls one function with what stands in a list.
-fn module_of_call(alloc: Global, list: &[Piece]) -> Result<Module, Unlinked> {
-    let call = function_call_of(alloc, list)?;
-    module_of_list(alloc, call.as_slice())
+    hygienic_names(alloc, list, denoted, &keywords)
 }

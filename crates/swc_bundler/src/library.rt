@@ -7,7 +7,6 @@ ghost use Rattle.bundle_kept.specs.Contents.{Advances, tree_of, target_of};
 ghost use Rattle.bundle_kept.specs.Kept.{asked_of, contents_of, target_room, tree_room};
 ghost use Rattle.swc_bundler.specs.Refusal.{IsRight, load_refusal, resolve_refusal};
 
-use bundle_ast::ExportMetadata;
 use bundle_id::ModuleId;
 use bundle_kept::{Kept, Request};
 use bundle_name::error::Error;
@@ -22,8 +21,6 @@ pub struct Library<L: Load, R: Resolve> {
     pub loader: L,
     pub resolver: R,
     pub kept: Kept<ModuleData>,
-    /// The notes on what the linker writes: none.
-    pub notes: ExportMetadata,
 }
 
 impl<L: Load + Drop, R: Resolve + Drop> Library<L, R> {
@@ -37,7 +34,6 @@ impl<L: Load + Drop, R: Resolve + Drop> Library<L, R> {
             loader,
             resolver,
             kept: Kept::new(alloc),
-            notes: ExportMetadata::default(),
         }
     }
 

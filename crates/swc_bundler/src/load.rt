@@ -1,9 +1,11 @@
 //! The load list: the files that an entry needs, in the order in which they are met.
 
-ghost use Rattle.std.specs.Prelude.{◌≡◌, ℕ, slice_get, Some, IfOk, IfErr};
+ghost use Rattle.std.specs.Prelude.{◌≡◌, ℕ, slice_get, Some, IsSome, IfOk, IfErr, OnOk};
+ghost use Rattle.std.specs.Option.{option_map};
 ghost use Rattle.bundle_name.specs.FileName.{name_of};
-ghost use Rattle.bundle_kept.specs.Contents.{Advances};
-ghost use Rattle.bundle_kept.specs.Kept.{contents_of};
+ghost use Rattle.bundle_kept.specs.Contents.{Advances, Begins, target_of as target_in, tree_of};
+ghost use Rattle.bundle_kept.specs.Kept.{asked_of, contents_of};
+ghost use Rattle.swc_bundler.specs.Loading.{files_on, AreKept};
 ghost use Rattle.swc_bundler.specs.Refusal.{IsRight};
 
 use crate::fault::refuse_tree;
@@ -12,10 +14,10 @@ use crate::unlinked::Unlinked;
 use bundle_denote::{ModuleKind, Reading, denotations};
 use bundle_id::ModuleId;
 use bundle_kept::Request;
+use bundle_listing::pieces_of_module;
 use bundle_name::config::Config;
 use bundle_name::error::Error;
 use bundle_name::file_name::FileName;
-use bundle_pieces::pieces_of_module;
 use bundle_tables::tables_of;
 use bundle_tree::load::Load;
 use bundle_tree::resolve::Resolve;
@@ -32,7 +34,9 @@ pub struct LoadList {
 
 impl LoadList {
     /// The place of a file, which goes last where it has none yet.
-    fn place(&mut self, file: &FileName, id: ModuleId) -> Result<usize, Unlinked> {
+    fn place(&mut self, file: &FileName, id: ModuleId) -> Result<usize, Unlinked>
+        ensures { Begins (files_on self.old) (files_on self.new) }
+    {
         if let Some(place) = self.files.get_index_of(file) {
             return Ok(place);
         }
@@ -42,7 +46,9 @@ impl LoadList {
     }
 
     // The file at a place.
-    fn file_at(&self, place: usize) -> Result<Option<FileName>, Unlinked> {
+    fn file_at(&self, place: usize) -> Result<Option<FileName>, Unlinked>
+        ensures { IfOk result (λ file. option_map name_of file ≡ slice_get (files_on self.now) place) }
+    {
         match self.files.get_index(place) {
             Some((file, _)) => Ok(Some(file.clone()?)),
             None => Ok(None),
@@ -50,14 +56,16 @@ impl LoadList {
     }
 
     // Notes where the specifiers of the next file lead.
-    fn add_requests(&mut self, places: IndexMap<String, usize>) -> Result<(), Unlinked> {
+    fn add_requests(&mut self, places: IndexMap<String, usize>) -> Result<(), Unlinked>
+        ensures { files_on self.new ≡ files_on self.old }
+    {
         self.requests.push(places)?;
         Ok(())
     }
 }
 
 /// Loads the files of the entries and all files that they need, first in first out, and gives their list, which
-/// begins with those of the entries, of which these are the numbers.
+/// begins with those of the entries, of which these are the numbers. Each file on it is kept.
 pub fn load_all<L: Load + Drop, R: Resolve + Drop>(
     library: &mut Library<L, R>,
     alloc: Global,
@@ -67,6 +75,7 @@ pub fn load_all<L: Load + Drop, R: Resolve + Drop>(
 ) -> Result<LoadList, Error>
     ensures kept { Advances L.may_load R.may_resolve library.old.loader library.new.loader library.old.resolver library.new.resolver (contents_of library.old.kept) (contents_of library.new.kept) }
     ensures refused { IfErr result (IsRight (L.may_fail_load library.new.loader) (R.may_fail_resolve library.new.resolver) config.now.max_modules (contents_of library.new.kept)) }
+    ensures loaded { IfOk result (λ list. AreKept (contents_of library.new.kept) (files_on list)) }
 {
     let mut list = LoadList {
         files: IndexMap::new(alloc),
@@ -78,10 +87,11 @@ pub fn load_all<L: Load + Drop, R: Resolve + Drop>(
     // A list of files is shorter than that.
     for place in 0..usize::MAX {
         let Some(file) = list.file_at(place)? else {
-            break;
+            return Ok(list);
         };
         work_on(library, alloc, &mut list, &file, config)?;
     }
+    let _count = list.files.len();
     Ok(list)
 }
 
@@ -95,6 +105,8 @@ fn work_on<L: Load + Drop, R: Resolve + Drop>(
 ) -> Result<(), Error>
     ensures kept { Advances L.may_load R.may_resolve library.old.loader library.new.loader library.old.resolver library.new.resolver (contents_of library.old.kept) (contents_of library.new.kept) }
     ensures refused { IfErr result (IsRight (L.may_fail_load library.new.loader) (R.may_fail_resolve library.new.resolver) config.now.max_modules (contents_of library.new.kept)) }
+    ensures loaded { OnOk result (IsSome (tree_of (contents_of library.new.kept) (name_of file.now))) }
+    ensures listed { OnOk result (Begins (files_on list.old) (files_on list.new)) }
 {
     library.load(alloc, file, config.max_modules)?;
     let specifiers = requests_of(library, alloc, file, config)?;
@@ -127,6 +139,7 @@ fn place_of<L: Load + Drop, R: Resolve + Drop>(
 ) -> Result<usize, Error>
     ensures kept { Advances L.may_load R.may_resolve library.old.loader library.new.loader library.old.resolver library.new.resolver (contents_of library.old.kept) (contents_of library.new.kept) }
     ensures refused { (max_modules : ℕ) → IfErr result (IsRight (L.may_fail_load library.new.loader) (R.may_fail_resolve library.new.resolver) max_modules (contents_of library.new.kept)) }
+    ensures listed { OnOk result (Begins (files_on list.old) (files_on list.new)) }
 {
     let request = request_of(file, specifier)?;
     library.resolve(alloc, &request)?;
@@ -142,15 +155,15 @@ fn request_of(file: &FileName, specifier: &String) -> Result<Request, Unlinked> 
     })
 }
 
-// The file that a resolved request leads to.
+// The file that a request leads to, which is kept.
 fn target_of<L: Load + Drop, R: Resolve + Drop>(
     library: &Library<L, R>,
     request: &Request,
-) -> Result<FileName, Unlinked> {
-    match library.target(request) {
-        Some(target) => Ok(target.clone()?),
-        None => Err(Unlinked::NotYet),
-    }
+) -> Result<FileName, Unlinked>
+    requires { IsSome (target_in (contents_of library.now.kept) (asked_of request.now)) }
+{
+    let target = library.target(request).unwrap();
+    Ok(target.clone()?)
 }
 
 // The texts of a kept module's requests, once it is seen to have no fault of its own.
@@ -159,10 +172,10 @@ fn requests_of<L: Load + Drop, R: Resolve + Drop>(
     alloc: Global,
     file: &FileName,
     config: &Config,
-) -> Result<Vec<String>, Unlinked> {
-    let Some(loaded) = library.module(file) else {
-        return Err(Unlinked::NotYet);
-    };
+) -> Result<Vec<String>, Unlinked>
+    requires { IsSome (tree_of (contents_of library.now.kept) (name_of file.now)) }
+{
+    let loaded = library.module(file).unwrap();
     let pieces = pieces_of_module(alloc, &loaded.module)?;
     let names = denotations(alloc, pieces.as_slice(), ModuleKind::Es, Reading::BySymbol)?;
     let external = config.external_modules.as_slice();

@@ -4,17 +4,18 @@ use crate::fault::{refuse_doubled, refuse_tree};
 use crate::unlinked::Unlinked;
 use bundle_ast::KeyValueProp;
 use bundle_denote::{Denotations, ModuleKind, Reading, denotations, first_doubled};
+use bundle_listing::pieces_of_properties;
 use bundle_name::file_name::FileName;
 use bundle_piece::{Node, Piece};
-use bundle_pieces::pieces_of_properties;
 use bundle_tables::TreeFault;
 use bundle_tree::hook::{Hook, HookError, ModuleRecord};
 use std::alloc::{AllocError, Global};
 
-/// An answer as it was read: the list of a module of one statement, an object with the properties, and what the names
-/// in it denote.
+/// An answer as it was read: the properties, the list of a module of one statement, an object that has them, and what
+/// the names in it denote.
 #[derive(Drop)]
 pub struct ReadMeta<'x> {
+    pub properties: &'x [KeyValueProp],
     pub pieces: Vec<Piece<'x>>,
     pub names: Denotations<'x>,
 }
@@ -104,5 +105,9 @@ pub fn read_meta<'x>(
         pieces.push(Piece::Close)?;
     }
     let names = denotations(alloc, pieces.as_slice(), ModuleKind::Es, Reading::BySymbol)?;
-    Ok(ReadMeta { pieces, names })
+    Ok(ReadMeta {
+        properties,
+        pieces,
+        names,
+    })
 }

@@ -1,6 +1,5 @@
 //! The refusals that are no answer of the loader or the resolver.
 
-use bundle_build::BuildError;
 use bundle_name::error::Error;
 use bundle_name::file_name::FileName;
 use std::alloc::{AllocError, AllocFailed};
@@ -9,8 +8,6 @@ use std::alloc::{AllocError, AllocFailed};
 /// growth was refused.
 #[derive(Debug, Drop)]
 pub enum Unlinked {
-    /// What was made is not the list of a tree, which was never seen.
-    NotYet,
     /// A growth was refused.
     OutOfMemory,
     /// The hook failed.
@@ -71,20 +68,6 @@ impl<T: Drop> From<AllocFailed<T>> for Unlinked {
     }
 }
 
-impl From<BuildError> for Unlinked {
-    ghost use Rattle.std.specs.Prelude.{◌≡◌};
-    ghost use Rattle.swc_bundler.specs.Refusal.{unlinked_of};
-
-    ghost from_gives = { λ error refusal. refusal ≡ unlinked_of error };
-
-    fn from(error: BuildError) -> Unlinked {
-        match error {
-            BuildError::Form => Unlinked::NotYet,
-            BuildError::OutOfMemory => Unlinked::OutOfMemory,
-        }
-    }
-}
-
 impl From<Unlinked> for Error {
     ghost use Rattle.std.specs.Prelude.{◌≡◌};
     ghost use Rattle.swc_bundler.specs.Refusal.{error_of};
@@ -93,7 +76,6 @@ impl From<Unlinked> for Error {
 
     fn from(unlinked: Unlinked) -> Error {
         match unlinked {
-            Unlinked::NotYet => Error::NotYet,
             Unlinked::OutOfMemory => Error::OutOfMemory,
             Unlinked::Hook { file } => Error::Hook { file },
             Unlinked::ContextsUsedUp { file } => Error::ContextsUsedUp { file },

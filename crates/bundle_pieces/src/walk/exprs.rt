@@ -14,7 +14,7 @@ use std::alloc::AllocError;
 impl<'a> Walk<'a> {
     #[cycle(walk)]
     #[tactic(auto, using(crate::proofs::Steps::steps))]
-    pub(crate) fn expr(&mut self, field: u8, expr: &'a Expr) -> Result<(), AllocError>
+    pub fn expr(&mut self, field: u8, expr: &'a Expr) -> Result<(), AllocError>
         ensures { OnOk result (self.new ≡ self.old ++ expr_items field expr.now) }
     {
         match expr {

@@ -9,9 +9,9 @@ use crate::rebuild::Rebuild;
 use bundle_ast::{Class, ClassMember, Function, Param};
 use std::alloc::AllocError;
 
-impl<'c> Rebuild<'c> {
+impl<'r, 'c> Rebuild<'r, 'c> {
     #[cycle(rebuild)]
-    pub(crate) fn function(&mut self, function: &Function) -> Result<Function, AllocError>
+    pub fn function(&mut self, function: &Function) -> Result<Function, AllocError>
         ensures { IfOk result (λ made. Remade Anywhere function_items self.old function.now made self.new) }
     {
         let params = self.each_param(&function.params)?;
@@ -25,7 +25,7 @@ impl<'c> Rebuild<'c> {
     }
 
     #[cycle(rebuild)]
-    pub(crate) fn param(&mut self, param: &Param) -> Result<Param, AllocError>
+    pub fn param(&mut self, param: &Param) -> Result<Param, AllocError>
         ensures { IfOk result (λ made. Remade Anywhere param_items self.old param.now made self.new) }
     {
         let pat = self.pat(&param.pat)?;
@@ -44,7 +44,7 @@ impl<'c> Rebuild<'c> {
     }
 
     #[cycle(rebuild)]
-    pub(crate) fn class(&mut self, class: &Class) -> Result<Class, AllocError>
+    pub fn class(&mut self, class: &Class) -> Result<Class, AllocError>
         ensures { IfOk result (λ made. Remade Anywhere class_items self.old «class».now made self.new) }
     {
         let super_class = self.option_boxed_expr(&class.super_class)?;
@@ -53,10 +53,7 @@ impl<'c> Rebuild<'c> {
     }
 
     #[cycle(rebuild)]
-    pub(crate) fn class_member(
-        &mut self,
-        class_member: &ClassMember,
-    ) -> Result<ClassMember, AllocError>
+    pub fn class_member(&mut self, class_member: &ClassMember) -> Result<ClassMember, AllocError>
         ensures { IfOk result (λ made. Remade Anywhere class_member_items self.old class_member.now made self.new) }
     {
         match class_member {

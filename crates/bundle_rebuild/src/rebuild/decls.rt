@@ -9,9 +9,9 @@ use crate::rebuild::Rebuild;
 use bundle_ast::{Decl, VarDecl, VarDeclarator};
 use std::alloc::AllocError;
 
-impl<'c> Rebuild<'c> {
+impl<'r, 'c> Rebuild<'r, 'c> {
     #[cycle(rebuild)]
-    pub(crate) fn decl(&mut self, decl: &Decl) -> Result<Decl, AllocError>
+    pub fn decl(&mut self, decl: &Decl) -> Result<Decl, AllocError>
         ensures { IfOk result (λ made. Remade Anywhere decl_items self.old decl.now made self.new) }
     {
         match decl {
@@ -30,19 +30,20 @@ impl<'c> Rebuild<'c> {
     }
 
     #[cycle(rebuild)]
-    pub(crate) fn var_decl(&mut self, var_decl: &VarDecl) -> Result<VarDecl, AllocError>
+    pub fn var_decl(&mut self, var_decl: &VarDecl) -> Result<VarDecl, AllocError>
         ensures { IfOk result (λ made. Remade Anywhere var_decl_items self.old var_decl.now made self.new) }
     {
+        let meta = self.notes(var_decl.meta);
         let decls = self.each_var_declarator(&var_decl.decls)?;
         Ok(VarDecl {
             kind: var_decl.kind,
             decls,
-            meta: var_decl.meta,
+            meta,
         })
     }
 
     #[cycle(rebuild)]
-    pub(crate) fn var_declarator(
+    pub fn var_declarator(
         &mut self,
         var_declarator: &VarDeclarator,
     ) -> Result<VarDeclarator, AllocError>

@@ -1,21 +1,28 @@
 //! Expressions (ECMA-262, 13).
 
-ghost use Rattle.std.specs.Prelude.{◌≡◌, IfOk, is_some};
-ghost use Rattle.bundle_pieces.specs.Tree.{arrow_body_items, callee_items, each_expr_items, each_expr_or_spread_items, each_option_expr_or_spread_items, expr_items, expr_or_spread_items, expr_or_spread_place_items, member_expr_items, opt_call_items, opt_chain_base_items, option_boxed_expr_items, option_each_expr_or_spread_items, option_expr_items, paren_expr_items, super_prop_expr_items, tpl_items};
+ghost use Rattle.std.specs.Prelude.{◌≡◌, ℕ, IfOk, is_some};
+ghost use Rattle.bundle_ast.specs.declared.expr.Expr.{MemberExpr as MemberOf, MetaPropExpr};
+ghost use Rattle.bundle_piece.specs.Item.{CallExpr};
+ghost use Rattle.bundle_pieces.specs.Tree.{arrow_body_items, callee_items, each_expr_items, each_expr_or_spread_items, each_option_expr_or_spread_items, expr_items, expr_or_spread_items, expr_or_spread_place_items, node, opt_call_items, opt_chain_base_items, option_boxed_expr_items, option_each_expr_or_spread_items, option_expr_items, paren_expr_items, super_prop_expr_items, tpl_items};
 ghost use Rattle.bundle_lists.specs.Edits.{Anywhere};
-ghost use Rattle.bundle_rebuild.specs.Remade.{Remade};
-ghost use Rattle.bundle_rebuild.specs.Parts.{boxed_expr_items};
+ghost use Rattle.bundle_lists.specs.Marks.{ident_of as ident_of_lem};
+ghost use Rattle.bundle_rebuild.specs.Becomes.{reference};
+ghost use Rattle.bundle_rebuild.specs.Remade.{Remade, RemadeFirst};
+ghost use Rattle.bundle_rebuild.specs.Parts.{boxed_expr_items, member_parts};
+ghost use Rattle.bundle_rebuild.specs.Work.{after};
 
 use crate::rebuild::Rebuild;
 use bundle_ast::{
     ArrowBody, Callee, Expr, ExprOrSpread, MemberExpr, OptCall, OptChainBase, ParenExpr,
     SuperPropExpr, Tpl,
 };
+use bundle_leaf::kind::MetaPropKind;
+use bundle_lists::Name;
 use std::alloc::AllocError;
 
-impl<'c> Rebuild<'c> {
+impl<'r, 'c> Rebuild<'r, 'c> {
     #[cycle(rebuild)]
-    pub(crate) fn expr(&mut self, expr: &Expr) -> Result<Expr, AllocError>
+    pub fn expr(&mut self, expr: &Expr) -> Result<Expr, AllocError>
         ensures { IfOk result (λ made. Remade Anywhere expr_items self.old expr.now made self.new) }
     {
         match expr {
@@ -63,7 +70,7 @@ impl<'c> Rebuild<'c> {
                     right,
                 })
             }
-            Expr::MemberExpr(it) => Ok(Expr::MemberExpr(self.member_expr(it)?)),
+            Expr::MemberExpr(it) => self.member(it),
             Expr::SuperPropExpr(it) => Ok(Expr::SuperPropExpr(self.super_prop_expr(it)?)),
             Expr::CondExpr { test, cons, alt } => {
                 let test = self.boxed_expr(test)?;
@@ -71,11 +78,14 @@ impl<'c> Rebuild<'c> {
                 let alt = self.boxed_expr(alt)?;
                 Ok(Expr::CondExpr { test, cons, alt })
             }
-            Expr::CallExpr { callee, args } => {
-                let callee = self.callee(callee)?;
-                let args = self.each_expr_or_spread(args)?;
-                Ok(Expr::CallExpr { callee, args })
-            }
+            Expr::CallExpr { callee, args } => match self.name_for_call(callee, args) {
+                Some(name) => self.call_of(name),
+                None => {
+                    let callee = self.callee(callee)?;
+                    let args = self.each_expr_or_spread(args)?;
+                    Ok(Expr::CallExpr { callee, args })
+                }
+            },
             Expr::NewExpr { callee, args } => {
                 let callee = self.boxed_expr(callee)?;
                 let args = self.option_each_expr_or_spread(args)?;
@@ -118,7 +128,7 @@ impl<'c> Rebuild<'c> {
                     delegate: *delegate,
                 })
             }
-            Expr::MetaPropExpr { kind } => Ok(Expr::MetaPropExpr { kind: *kind }),
+            Expr::MetaPropExpr { kind } => self.meta_prop_expr(*kind),
             Expr::AwaitExpr { arg } => {
                 let arg = self.boxed_expr(arg)?;
                 Ok(Expr::AwaitExpr { arg })
@@ -132,6 +142,38 @@ impl<'c> Rebuild<'c> {
                     base,
                 })
             }
+        }
+    }
+
+    // A member expression, or the name that stands for it.
+    #[cycle(rebuild)]
+    pub(crate) fn member(&mut self, member: &MemberExpr) -> Result<Expr, AllocError>
+        ensures { IfOk result (λ made. Remade Anywhere expr_items self.old (MemberOf member.now) made self.new) }
+    {
+        match self.name_for_member(member) {
+            Some(name) => Ok(Expr::Ident(self.name_instead(name)?)),
+            None => Ok(Expr::MemberExpr(self.member_expr(member)?)),
+        }
+    }
+
+    // A call of this name without arguments, in the place of the next occurrence and the call around it.
+    fn call_of(&mut self, name: Name) -> Result<Expr, AllocError>
+        ensures made { IfOk result (λ made. (field : ℕ) → expr_items field made ≡ node field CallExpr (reference 0 (ident_of_lem name.entry))) }
+        ensures rest { self.new ≡ after self.old }
+    {
+        let name = Expr::Ident(self.name_instead(name)?);
+        let callee = Callee::Expr(Box::new(self.alloc, name)?);
+        let args = Vec::new(self.alloc);
+        Ok(Expr::CallExpr { callee, args })
+    }
+
+    // `new.target`; or `import.meta`, or the name that it becomes.
+    fn meta_prop_expr(&self, kind: MetaPropKind) -> Result<Expr, AllocError>
+        ensures { IfOk result (λ made. Remade Anywhere expr_items self.now (MetaPropExpr kind) made self.now) }
+    {
+        match self.name_for_meta(kind) {
+            Some(name) => Ok(Expr::Ident(self.ident_of(name)?)),
+            None => Ok(Expr::MetaPropExpr { kind }),
         }
     }
 
@@ -178,7 +220,7 @@ impl<'c> Rebuild<'c> {
     }
 
     #[cycle(rebuild)]
-    pub(crate) fn paren_expr(&mut self, paren_expr: &ParenExpr) -> Result<ParenExpr, AllocError>
+    pub fn paren_expr(&mut self, paren_expr: &ParenExpr) -> Result<ParenExpr, AllocError>
         ensures { IfOk result (λ made. Remade Anywhere paren_expr_items self.old paren_expr.now made self.new) }
     {
         let expr = self.boxed_expr(&paren_expr.expr)?;
@@ -186,8 +228,8 @@ impl<'c> Rebuild<'c> {
     }
 
     #[cycle(rebuild)]
-    pub(crate) fn member_expr(&mut self, member_expr: &MemberExpr) -> Result<MemberExpr, AllocError>
-        ensures { IfOk result (λ made. Remade Anywhere member_expr_items self.old member_expr.now made self.new) }
+    pub fn member_expr(&mut self, member_expr: &MemberExpr) -> Result<MemberExpr, AllocError>
+        ensures { IfOk result (λ made. Remade Anywhere member_parts self.old member_expr.now made self.new) }
     {
         let obj = self.boxed_expr(&member_expr.obj)?;
         let prop = self.member_prop(&member_expr.prop)?;
@@ -195,7 +237,7 @@ impl<'c> Rebuild<'c> {
     }
 
     #[cycle(rebuild)]
-    pub(crate) fn super_prop_expr(
+    pub fn super_prop_expr(
         &mut self,
         super_prop_expr: &SuperPropExpr,
     ) -> Result<SuperPropExpr, AllocError>
@@ -206,7 +248,7 @@ impl<'c> Rebuild<'c> {
     }
 
     #[cycle(rebuild)]
-    pub(crate) fn callee(&mut self, callee: &Callee) -> Result<Callee, AllocError>
+    pub fn callee(&mut self, callee: &Callee) -> Result<Callee, AllocError>
         ensures { IfOk result (λ made. Remade Anywhere callee_items self.old callee.now made self.new) }
     {
         match callee {
@@ -217,7 +259,7 @@ impl<'c> Rebuild<'c> {
     }
 
     #[cycle(rebuild)]
-    pub(crate) fn expr_or_spread(
+    pub fn expr_or_spread(
         &mut self,
         expr_or_spread: &ExprOrSpread,
     ) -> Result<ExprOrSpread, AllocError>
@@ -286,7 +328,7 @@ impl<'c> Rebuild<'c> {
     }
 
     #[cycle(rebuild)]
-    pub(crate) fn arrow_body(&mut self, arrow_body: &ArrowBody) -> Result<ArrowBody, AllocError>
+    pub fn arrow_body(&mut self, arrow_body: &ArrowBody) -> Result<ArrowBody, AllocError>
         ensures { IfOk result (λ made. Remade Anywhere arrow_body_items self.old arrow_body.now made self.new) }
     {
         match arrow_body {
@@ -296,11 +338,11 @@ impl<'c> Rebuild<'c> {
     }
 
     #[cycle(rebuild)]
-    pub(crate) fn opt_chain_base(
+    pub fn opt_chain_base(
         &mut self,
         opt_chain_base: &OptChainBase,
     ) -> Result<OptChainBase, AllocError>
-        ensures { IfOk result (λ made. Remade Anywhere opt_chain_base_items self.old opt_chain_base.now made self.new) }
+        ensures { IfOk result (λ made. RemadeFirst opt_chain_base_items self.old opt_chain_base.now made self.new) }
     {
         match opt_chain_base {
             OptChainBase::MemberExpr(it) => Ok(OptChainBase::MemberExpr(self.member_expr(it)?)),
@@ -309,7 +351,7 @@ impl<'c> Rebuild<'c> {
     }
 
     #[cycle(rebuild)]
-    pub(crate) fn opt_call(&mut self, opt_call: &OptCall) -> Result<OptCall, AllocError>
+    pub fn opt_call(&mut self, opt_call: &OptCall) -> Result<OptCall, AllocError>
         ensures { IfOk result (λ made. Remade Anywhere opt_call_items self.old opt_call.now made self.new) }
     {
         let callee = self.boxed_expr(&opt_call.callee)?;
@@ -318,7 +360,7 @@ impl<'c> Rebuild<'c> {
     }
 
     #[cycle(rebuild)]
-    pub(crate) fn tpl(&mut self, tpl: &Tpl) -> Result<Tpl, AllocError>
+    pub fn tpl(&mut self, tpl: &Tpl) -> Result<Tpl, AllocError>
         ensures { IfOk result (λ made. Remade Anywhere tpl_items self.old tpl.now made self.new) }
     {
         let exprs = self.each_expr(&tpl.exprs)?;

@@ -28,18 +28,15 @@ fn are_names_own(src: &Option<Str>) -> bool
     }
 }
 
-impl<'c> Rebuild<'c> {
-    pub(crate) fn module(&mut self, module: &Module) -> Result<Module, AllocError>
+impl<'r, 'c> Rebuild<'r, 'c> {
+    pub fn module(&mut self, module: &Module) -> Result<Module, AllocError>
         ensures { IfOk result (λ made. Remade Anywhere module_items self.old «module».now made self.new) }
     {
         let body = self.each_module_item(module.body.as_slice())?;
         Ok(Module { body })
     }
 
-    pub(crate) fn each_module_item(
-        &mut self,
-        items: &[ModuleItem],
-    ) -> Result<Vec<ModuleItem>, AllocError>
+    pub fn each_module_item(&mut self, items: &[ModuleItem]) -> Result<Vec<ModuleItem>, AllocError>
         ensures { IfOk result (λ made. Remade Anywhere each_module_item_items self.old items.now made.items self.new) }
     {
         let mut made = Vec::new(self.alloc);
@@ -49,7 +46,7 @@ impl<'c> Rebuild<'c> {
         Ok(made)
     }
 
-    pub(crate) fn module_item(&mut self, module_item: &ModuleItem) -> Result<ModuleItem, AllocError>
+    pub fn module_item(&mut self, module_item: &ModuleItem) -> Result<ModuleItem, AllocError>
         ensures { IfOk result (λ made. Remade Anywhere module_item_items self.old module_item.now made self.new) }
     {
         match module_item {
@@ -58,7 +55,7 @@ impl<'c> Rebuild<'c> {
         }
     }
 
-    pub(crate) fn module_decl(&mut self, module_decl: &ModuleDecl) -> Result<ModuleDecl, AllocError>
+    pub fn module_decl(&mut self, module_decl: &ModuleDecl) -> Result<ModuleDecl, AllocError>
         ensures { IfOk result (λ made. Remade Anywhere module_decl_items self.old module_decl.now made self.new) }
     {
         match module_decl {
@@ -108,10 +105,7 @@ impl<'c> Rebuild<'c> {
         }
     }
 
-    pub(crate) fn default_decl(
-        &mut self,
-        default_decl: &DefaultDecl,
-    ) -> Result<DefaultDecl, AllocError>
+    pub fn default_decl(&mut self, default_decl: &DefaultDecl) -> Result<DefaultDecl, AllocError>
         ensures { IfOk result (λ made. Remade Anywhere default_decl_items self.old default_decl.now made self.new) }
     {
         match default_decl {
@@ -141,7 +135,7 @@ impl<'c> Rebuild<'c> {
         Ok(made)
     }
 
-    pub(crate) fn import_specifier(
+    pub fn import_specifier(
         &mut self,
         import_specifier: &ImportSpecifier,
     ) -> Result<ImportSpecifier, AllocError>
@@ -149,7 +143,7 @@ impl<'c> Rebuild<'c> {
     {
         match import_specifier {
             ImportSpecifier::ImportNamedSpecifier { local, imported } => {
-                let is_spelled_out = self.spells_out();
+                let is_spelled_out = self.spells_out(local);
                 let named = self.ident(local)?;
                 let imported = self.second_name(imported, is_spelled_out, local)?;
                 Ok(ImportSpecifier::ImportNamedSpecifier {
@@ -234,7 +228,7 @@ impl<'c> Rebuild<'c> {
     ) -> Result<ExportSpecifier, AllocError>
         ensures { IfOk result (λ made. Remade Anywhere (export_specifier_items Reference) self.old (ExportNamedSpecifier (NameOf local.now) exported.now) made self.new) }
     {
-        let is_spelled_out = self.spells_out();
+        let is_spelled_out = self.spells_out(local);
         let named = self.ident(local)?;
         let exported = self.second_name(exported, is_spelled_out, local)?;
         let orig = ModuleExportName::Ident(named);
@@ -262,10 +256,7 @@ impl<'c> Rebuild<'c> {
     }
 
     /// A name that stays.
-    pub(crate) fn word_or_str(
-        &self,
-        name: &ModuleExportName,
-    ) -> Result<ModuleExportName, AllocError>
+    pub fn word_or_str(&self, name: &ModuleExportName) -> Result<ModuleExportName, AllocError>
         ensures { IfOk result (λ made. (role : Role) (field : ℕ) → module_export_name_items role field made ≡ module_export_name_items role field name.now) }
     {
         match name {
@@ -274,7 +265,7 @@ impl<'c> Rebuild<'c> {
         }
     }
 
-    pub(crate) fn option_word(
+    pub fn option_word(
         &self,
         choice: &Option<ModuleExportName>,
     ) -> Result<Option<ModuleExportName>, AllocError>

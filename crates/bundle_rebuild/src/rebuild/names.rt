@@ -10,20 +10,15 @@ use crate::rebuild::Rebuild;
 use bundle_ast::{
     BigInt, BindingIdent, Ident, IdentName, Lit, Number, PrivateName, Regex, Str, TplElement,
 };
-use bundle_id::SyntaxContext;
 use std::alloc::AllocError;
 
-impl<'c> Rebuild<'c> {
+impl<'r, 'c> Rebuild<'r, 'c> {
     /// An occurrence.
-    pub(crate) fn ident(&mut self, ident: &Ident) -> Result<Ident, AllocError>
+    pub fn ident(&mut self, ident: &Ident) -> Result<Ident, AllocError>
         ensures { IfOk result (λ made. Takes self.old ident.now made self.new) }
     {
         match self.take() {
-            Some(change) => {
-                let sym = String::from_str(self.alloc, change.ident.sym)?;
-                let ctxt = SyntaxContext::from_u32(change.ident.ctxt);
-                Ok(Ident { sym, ctxt })
-            }
+            Some(step) => self.ident_of(step.name),
             None => self.word(ident),
         }
     }
@@ -52,7 +47,7 @@ impl<'c> Rebuild<'c> {
         }
     }
 
-    pub(crate) fn binding_ident(
+    pub fn binding_ident(
         &mut self,
         binding_ident: &BindingIdent,
     ) -> Result<BindingIdent, AllocError>
@@ -62,7 +57,7 @@ impl<'c> Rebuild<'c> {
         Ok(BindingIdent { id })
     }
 
-    pub(crate) fn ident_name(&self, ident_name: &IdentName) -> Result<IdentName, AllocError>
+    pub fn ident_name(&self, ident_name: &IdentName) -> Result<IdentName, AllocError>
         ensures { IfOk result (λ made. Remade Anywhere ident_name_items self.now ident_name.now made self.now) }
     {
         let sym = String::from_str(self.alloc, ident_name.sym.as_str())?;
@@ -81,14 +76,14 @@ impl<'c> Rebuild<'c> {
         }
     }
 
-    pub(crate) fn private_name(&self, private_name: &PrivateName) -> Result<PrivateName, AllocError>
+    pub fn private_name(&self, private_name: &PrivateName) -> Result<PrivateName, AllocError>
         ensures { IfOk result (λ made. Remade Anywhere private_name_items self.now private_name.now made self.now) }
     {
         let sym = String::from_str(self.alloc, private_name.sym.as_str())?;
         Ok(PrivateName { sym })
     }
 
-    pub(crate) fn str(&self, str: &Str) -> Result<Str, AllocError>
+    pub fn str(&self, str: &Str) -> Result<Str, AllocError>
         ensures made { IfOk result (λ made. Remade Anywhere str_items self.now str.now made self.now) }
         ensures same { IfOk result (λ made. (field : ℕ) → str_items field made ≡ str_items field str.now) }
     {
@@ -116,28 +111,28 @@ impl<'c> Rebuild<'c> {
         }
     }
 
-    pub(crate) fn number(&self, number: &Number) -> Result<Number, AllocError>
+    pub fn number(&self, number: &Number) -> Result<Number, AllocError>
         ensures { IfOk result (λ made. Remade Anywhere number_items self.now number.now made self.now) }
     {
         let raw = String::from_str(self.alloc, number.raw.as_str())?;
         Ok(Number { raw })
     }
 
-    pub(crate) fn big_int(&self, big_int: &BigInt) -> Result<BigInt, AllocError>
+    pub fn big_int(&self, big_int: &BigInt) -> Result<BigInt, AllocError>
         ensures { IfOk result (λ made. Remade Anywhere big_int_items self.now big_int.now made self.now) }
     {
         let raw = String::from_str(self.alloc, big_int.raw.as_str())?;
         Ok(BigInt { raw })
     }
 
-    pub(crate) fn regex(&self, regex: &Regex) -> Result<Regex, AllocError>
+    pub fn regex(&self, regex: &Regex) -> Result<Regex, AllocError>
         ensures { IfOk result (λ made. Remade Anywhere regex_items self.now regex.now made self.now) }
     {
         let raw = String::from_str(self.alloc, regex.raw.as_str())?;
         Ok(Regex { raw })
     }
 
-    pub(crate) fn lit(&self, lit: &Lit) -> Result<Lit, AllocError>
+    pub fn lit(&self, lit: &Lit) -> Result<Lit, AllocError>
         ensures { IfOk result (λ made. Remade Anywhere lit_items self.now lit.now made self.now) }
     {
         match lit {
@@ -150,7 +145,7 @@ impl<'c> Rebuild<'c> {
         }
     }
 
-    pub(crate) fn tpl_element(&self, tpl_element: &TplElement) -> Result<TplElement, AllocError>
+    pub fn tpl_element(&self, tpl_element: &TplElement) -> Result<TplElement, AllocError>
         ensures { IfOk result (λ made. Remade Anywhere tpl_element_items self.now tpl_element.now made self.now) }
     {
         let raw = String::from_str(self.alloc, tpl_element.raw.as_str())?;

@@ -3,7 +3,7 @@
 ghost use Rattle.std.specs.Prelude.{◌≡◌, ℕ, IfOk};
 ghost use Rattle.bundle_pieces.specs.Tree.{array_pat_items, assign_target_items, each_object_pat_prop_items, each_option_pat_items, each_pat_items, object_pat_items, object_pat_prop_items, option_pat_items, pat_items, pat_place_items, rest_pat_items};
 ghost use Rattle.bundle_lists.specs.Edits.{Anywhere};
-ghost use Rattle.bundle_rebuild.specs.Remade.{Remade, RemadePattern};
+ghost use Rattle.bundle_rebuild.specs.Remade.{RemadeFirst, RemadePattern};
 ghost use Rattle.bundle_rebuild.specs.Parts.{boxed_pat_items, with_default_items};
 ghost use Rattle.bundle_piece.specs.declared.piece.Role.{Role};
 ghost use Rattle.bundle_ast.specs.declared.pat.ObjectPatProp.{AssignPatProp};
@@ -14,9 +14,9 @@ use bundle_ast::{
 };
 use std::alloc::AllocError;
 
-impl<'c> Rebuild<'c> {
+impl<'r, 'c> Rebuild<'r, 'c> {
     #[cycle(rebuild)]
-    pub(crate) fn pat(&mut self, pat: &Pat) -> Result<Pat, AllocError>
+    pub fn pat(&mut self, pat: &Pat) -> Result<Pat, AllocError>
         ensures { IfOk result (λ made. RemadePattern pat_items self.old pat.now made self.new) }
     {
         match pat {
@@ -87,7 +87,7 @@ impl<'c> Rebuild<'c> {
     }
 
     #[cycle(rebuild)]
-    pub(crate) fn array_pat(&mut self, array_pat: &ArrayPat) -> Result<ArrayPat, AllocError>
+    pub fn array_pat(&mut self, array_pat: &ArrayPat) -> Result<ArrayPat, AllocError>
         ensures { IfOk result (λ made. RemadePattern array_pat_items self.old array_pat.now made self.new) }
     {
         let elems = self.each_option_pat(&array_pat.elems)?;
@@ -95,7 +95,7 @@ impl<'c> Rebuild<'c> {
     }
 
     #[cycle(rebuild)]
-    pub(crate) fn rest_pat(&mut self, rest_pat: &RestPat) -> Result<RestPat, AllocError>
+    pub fn rest_pat(&mut self, rest_pat: &RestPat) -> Result<RestPat, AllocError>
         ensures { IfOk result (λ made. RemadePattern rest_pat_items self.old rest_pat.now made self.new) }
     {
         let arg = self.boxed_pat(&rest_pat.arg)?;
@@ -103,7 +103,7 @@ impl<'c> Rebuild<'c> {
     }
 
     #[cycle(rebuild)]
-    pub(crate) fn object_pat(&mut self, object_pat: &ObjectPat) -> Result<ObjectPat, AllocError>
+    pub fn object_pat(&mut self, object_pat: &ObjectPat) -> Result<ObjectPat, AllocError>
         ensures { IfOk result (λ made. RemadePattern object_pat_items self.old object_pat.now made self.new) }
     {
         let props = self.each_object_pat_prop(&object_pat.props)?;
@@ -111,7 +111,7 @@ impl<'c> Rebuild<'c> {
     }
 
     #[cycle(rebuild)]
-    pub(crate) fn object_pat_prop(
+    pub fn object_pat_prop(
         &mut self,
         object_pat_prop: &ObjectPatProp,
     ) -> Result<ObjectPatProp, AllocError>
@@ -137,7 +137,7 @@ impl<'c> Rebuild<'c> {
     ) -> Result<ObjectPatProp, AllocError>
         ensures { IfOk result (λ made. RemadePattern object_pat_prop_items self.old (AssignPatProp key.now value.now) made self.new) }
     {
-        let is_spelled_out = self.spells_out();
+        let is_spelled_out = self.spells_out(&key.id);
         let name = self.binding_ident(key)?;
         let value = self.option_expr(value)?;
         if is_spelled_out {
@@ -178,11 +178,11 @@ impl<'c> Rebuild<'c> {
     }
 
     #[cycle(rebuild)]
-    pub(crate) fn assign_target(
+    pub fn assign_target(
         &mut self,
         assign_target: &AssignTarget,
     ) -> Result<AssignTarget, AllocError>
-        ensures { IfOk result (λ made. Remade Anywhere assign_target_items self.old assign_target.now made self.new) }
+        ensures { IfOk result (λ made. RemadeFirst assign_target_items self.old assign_target.now made self.new) }
     {
         match assign_target {
             AssignTarget::BindingIdent(it) => Ok(AssignTarget::BindingIdent(self.binding_ident(

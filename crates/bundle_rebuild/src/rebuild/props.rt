@@ -14,9 +14,9 @@ use bundle_ast::{
 };
 use std::alloc::AllocError;
 
-impl<'c> Rebuild<'c> {
+impl<'r, 'c> Rebuild<'r, 'c> {
     #[cycle(rebuild)]
-    pub(crate) fn prop_or_spread(
+    pub fn prop_or_spread(
         &mut self,
         prop_or_spread: &PropOrSpread,
     ) -> Result<PropOrSpread, AllocError>
@@ -46,7 +46,7 @@ impl<'c> Rebuild<'c> {
     }
 
     #[cycle(rebuild)]
-    pub(crate) fn prop(&mut self, prop: &Prop) -> Result<Prop, AllocError>
+    pub fn prop(&mut self, prop: &Prop) -> Result<Prop, AllocError>
         ensures { IfOk result (λ made. Remade InObject prop_items self.old prop.now made self.new) }
     {
         match prop {
@@ -75,7 +75,7 @@ impl<'c> Rebuild<'c> {
     pub(crate) fn shorthand(&mut self, ident: &Ident) -> Result<Prop, AllocError>
         ensures { IfOk result (λ made. Remade InObject prop_items self.old (Shorthand ident.now) made self.new) }
     {
-        let is_spelled_out = self.spells_out();
+        let is_spelled_out = self.spells_out(ident);
         let name = self.ident(ident)?;
         if is_spelled_out {
             let value = Expr::Ident(name);
@@ -109,7 +109,7 @@ impl<'c> Rebuild<'c> {
     }
 
     #[cycle(rebuild)]
-    pub(crate) fn key_value_prop(
+    pub fn key_value_prop(
         &mut self,
         key_value_prop: &KeyValueProp,
     ) -> Result<KeyValueProp, AllocError>
@@ -121,7 +121,7 @@ impl<'c> Rebuild<'c> {
     }
 
     #[cycle(rebuild)]
-    pub(crate) fn computed_prop_name(
+    pub fn computed_prop_name(
         &mut self,
         computed_prop_name: &ComputedPropName,
     ) -> Result<ComputedPropName, AllocError>
@@ -132,7 +132,7 @@ impl<'c> Rebuild<'c> {
     }
 
     #[cycle(rebuild)]
-    pub(crate) fn prop_name(&mut self, prop_name: &PropName) -> Result<PropName, AllocError>
+    pub fn prop_name(&mut self, prop_name: &PropName) -> Result<PropName, AllocError>
         ensures { IfOk result (λ made. Remade Anywhere prop_name_items self.old prop_name.now made self.new) }
     {
         match prop_name {
@@ -147,7 +147,7 @@ impl<'c> Rebuild<'c> {
     }
 
     #[cycle(rebuild)]
-    pub(crate) fn member_prop(&mut self, member_prop: &MemberProp) -> Result<MemberProp, AllocError>
+    pub fn member_prop(&mut self, member_prop: &MemberProp) -> Result<MemberProp, AllocError>
         ensures { IfOk result (λ made. Remade Anywhere member_prop_items self.old member_prop.now made self.new) }
     {
         match member_prop {
@@ -160,7 +160,7 @@ impl<'c> Rebuild<'c> {
     }
 
     #[cycle(rebuild)]
-    pub(crate) fn super_prop(&mut self, super_prop: &SuperProp) -> Result<SuperProp, AllocError>
+    pub fn super_prop(&mut self, super_prop: &SuperProp) -> Result<SuperProp, AllocError>
         ensures { IfOk result (λ made. Remade Anywhere super_prop_items self.old super_prop.now made self.new) }
     {
         match super_prop {

@@ -10,9 +10,9 @@ use crate::rebuild::Rebuild;
 use bundle_ast::{BlockStmt, CatchClause, ForHead, ForInit, Stmt, SwitchCase};
 use std::alloc::AllocError;
 
-impl<'c> Rebuild<'c> {
+impl<'r, 'c> Rebuild<'r, 'c> {
     #[cycle(rebuild)]
-    pub(crate) fn block_stmt(&mut self, block_stmt: &BlockStmt) -> Result<BlockStmt, AllocError>
+    pub fn block_stmt(&mut self, block_stmt: &BlockStmt) -> Result<BlockStmt, AllocError>
         ensures { IfOk result (λ made. Remade Anywhere block_stmt_items self.old block_stmt.now made self.new) }
     {
         let stmts = self.each_stmt(&block_stmt.stmts)?;
@@ -33,7 +33,7 @@ impl<'c> Rebuild<'c> {
     }
 
     #[cycle(rebuild)]
-    pub(crate) fn stmt(&mut self, stmt: &Stmt) -> Result<Stmt, AllocError>
+    pub fn stmt(&mut self, stmt: &Stmt) -> Result<Stmt, AllocError>
         ensures { IfOk result (λ made. Remade Anywhere stmt_items self.old stmt.now made self.new) }
     {
         match stmt {
@@ -187,7 +187,7 @@ impl<'c> Rebuild<'c> {
     }
 
     #[cycle(rebuild)]
-    pub(crate) fn switch_case(&mut self, switch_case: &SwitchCase) -> Result<SwitchCase, AllocError>
+    pub fn switch_case(&mut self, switch_case: &SwitchCase) -> Result<SwitchCase, AllocError>
         ensures { IfOk result (λ made. Remade Anywhere switch_case_items self.old switch_case.now made self.new) }
     {
         let test = self.option_expr(&switch_case.test)?;
@@ -210,10 +210,7 @@ impl<'c> Rebuild<'c> {
     }
 
     #[cycle(rebuild)]
-    pub(crate) fn catch_clause(
-        &mut self,
-        catch_clause: &CatchClause,
-    ) -> Result<CatchClause, AllocError>
+    pub fn catch_clause(&mut self, catch_clause: &CatchClause) -> Result<CatchClause, AllocError>
         ensures { IfOk result (λ made. Remade Anywhere catch_clause_items self.old catch_clause.now made self.new) }
     {
         let param = self.option_pat(&catch_clause.param)?;
@@ -235,7 +232,7 @@ impl<'c> Rebuild<'c> {
     }
 
     #[cycle(rebuild)]
-    pub(crate) fn for_init(&mut self, for_init: &ForInit) -> Result<ForInit, AllocError>
+    pub fn for_init(&mut self, for_init: &ForInit) -> Result<ForInit, AllocError>
         ensures { IfOk result (λ made. Remade Anywhere for_init_items self.old for_init.now made self.new) }
     {
         match for_init {
@@ -258,7 +255,7 @@ impl<'c> Rebuild<'c> {
     }
 
     #[cycle(rebuild)]
-    pub(crate) fn for_head(&mut self, for_head: &ForHead) -> Result<ForHead, AllocError>
+    pub fn for_head(&mut self, for_head: &ForHead) -> Result<ForHead, AllocError>
         ensures { IfOk result (λ made. Remade Anywhere for_head_items self.old for_head.now made self.new) }
     {
         match for_head {

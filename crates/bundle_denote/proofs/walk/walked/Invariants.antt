@@ -1,8 +1,8 @@
 -- What stands before the place was met.
 use Rattle.std.proofs.Common.{◌≡◌, map}
 use Rattle.bundle_piece.specs.Item.{item_of}
-use Rattle.bundle_denote.specs.Steps.{IsWalkAt}
+use Rattle.bundle_denote.specs.Steps.{IsWalkAt, IsTidyAt}
 use Rattle.bundle_denote.proofs.walk.walked.Given as goal
 
 abbrev pub invariant-loop-place : goal.invariant-loop-place
-invariant-loop-place l = record { is_at : IsWalkAt l.walk (map item_of l.pieces) l.place; kind : l.walk.kind ≡ l.fn.kind; reading : l.walk.reading ≡ l.fn.reading }
+invariant-loop-place l = record { is_at : IsWalkAt l.walk (map item_of l.pieces) l.place; kind : l.walk.kind ≡ l.fn.kind; reading : l.walk.reading ≡ l.fn.reading; tidy : IsTidyAt l.walk l.place }

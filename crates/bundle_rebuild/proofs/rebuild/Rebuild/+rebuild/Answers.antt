@@ -5,7 +5,7 @@ use Rattle.bundle_pieces.proofs.Rows as row
 use Rattle.bundle_pieces.specs.Tree.{class_member_items, each_class_member_items, each_expr_items, each_expr_or_spread_items, each_object_pat_prop_items, each_option_expr_or_spread_items, each_option_pat_items, each_param_items, each_pat_items, each_prop_or_spread_items, each_stmt_items, each_switch_case_items, each_var_declarator_items, expr_items, expr_or_spread_items, expr_or_spread_place_items, object_pat_prop_items, param_items, pat_items, pat_place_items, prop_or_spread_items, stmt_items, switch_case_items, var_declarator_items}
 use Rattle.bundle_terms.specs.Rebuilds.{plain_key}
 use Rattle.bundle_lists.specs.Edits.{Anywhere, InObject}
-use Rattle.bundle_rebuild.proofs.Remaking.{along, along_pattern, none_so_far, one_more, all_of_them}
+use Rattle.bundle_rebuild.proofs.Remaking.{along, along_first, along_pattern, none_so_far, one_more, all_of_them}
 use Rattle.bundle_rebuild.proofs.Rules as rule
 use Rattle.bundle_rebuild.proofs.Spelling.{pattern-spelled_out, pattern-stays}
 use Rattle.bundle_rebuild.proofs.rebuild.Rebuild.+rebuild.Goals as goal
@@ -34,8 +34,8 @@ expr-returns-in_ok-right-in-BinExpr t c = along c.in-BinExpr.is (rule.expr-BinEx
 pub expr-returns-in_ok-right-in-AssignExpr : goal.expr-returns-in_ok-right-in-AssignExpr
 expr-returns-in_ok-right-in-AssignExpr t c = along c.in-AssignExpr.is (rule.expr-AssignExpr c.in_ok-left-in-AssignExpr.ensures c.in_ok-right-in-AssignExpr.ensures)
 
-pub expr-returns-in_ok-member_expr-in-MemberExpr : goal.expr-returns-in_ok-member_expr-in-MemberExpr
-expr-returns-in_ok-member_expr-in-MemberExpr t c = along c.in-MemberExpr.is (rule.expr-MemberExpr c.in_ok-member_expr-in-MemberExpr.ensures)
+pub expr-returns-in-MemberExpr : goal.expr-returns-in-MemberExpr
+expr-returns-in-MemberExpr t c = IfOk-weaker c.member.result _ _ (λ made one. along c.in-MemberExpr.is one) c.member.ensures
 
 pub expr-returns-in_ok-super_prop_expr-in-SuperPropExpr : goal.expr-returns-in_ok-super_prop_expr-in-SuperPropExpr
 expr-returns-in_ok-super_prop_expr-in-SuperPropExpr t c = along c.in-SuperPropExpr.is (rule.expr-SuperPropExpr c.in_ok-super_prop_expr-in-SuperPropExpr.ensures)
@@ -43,8 +43,11 @@ expr-returns-in_ok-super_prop_expr-in-SuperPropExpr t c = along c.in-SuperPropEx
 pub expr-returns-in_ok-alt-in-CondExpr : goal.expr-returns-in_ok-alt-in-CondExpr
 expr-returns-in_ok-alt-in-CondExpr t c = along c.in-CondExpr.is (rule.expr-CondExpr c.in_ok-test-in-CondExpr.ensures c.in_ok-cons-in-CondExpr.ensures c.in_ok-alt-in-CondExpr.ensures)
 
-pub expr-returns-in_ok-args-in-CallExpr : goal.expr-returns-in_ok-args-in-CallExpr
-expr-returns-in_ok-args-in-CallExpr t c = along c.in-CallExpr.is (rule.expr-CallExpr c.in_ok-callee-in-CallExpr.ensures c.in_ok-args-in-CallExpr.ensures)
+pub expr-returns-in-Some : goal.expr-returns-in-Some
+expr-returns-in-Some t c = IfOk-weaker c.call_of.result _ _ (λ made one. along c.in-CallExpr.is (rule.expr-OfCall c.in-CallExpr.callee c.in-CallExpr.args made c.in-Some.ensures one c.call_of.ensures.rest)) c.call_of.ensures.made
+
+pub expr-returns-in_ok-args-in-None : goal.expr-returns-in_ok-args-in-None
+expr-returns-in_ok-args-in-None t c = along c.in-CallExpr.is (rule.expr-CallExpr c.in-None.ensures c.in_ok-callee-in-None.ensures c.in_ok-args-in-None.ensures)
 
 pub expr-returns-in_ok-args-in-NewExpr : goal.expr-returns-in_ok-args-in-NewExpr
 expr-returns-in_ok-args-in-NewExpr t c = along c.in-NewExpr.is (rule.expr-NewExpr c.in_ok-callee-in-NewExpr.ensures c.in_ok-args-in-NewExpr.ensures.made c.in_ok-args-in-NewExpr.ensures.given)
@@ -74,7 +77,7 @@ pub expr-returns-in_ok-arg-in-YieldExpr : goal.expr-returns-in_ok-arg-in-YieldEx
 expr-returns-in_ok-arg-in-YieldExpr t c = along c.in-YieldExpr.is (rule.expr-YieldExpr c.in_ok-arg-in-YieldExpr.ensures)
 
 pub expr-returns-in-MetaPropExpr : goal.expr-returns-in-MetaPropExpr
-expr-returns-in-MetaPropExpr t c = along c.in-MetaPropExpr.is rule.expr-MetaPropExpr
+expr-returns-in-MetaPropExpr t c = IfOk-weaker c.meta_prop_expr.result _ _ (λ made one. along c.in-MetaPropExpr.is one) c.meta_prop_expr.ensures
 
 pub expr-returns-in_ok-arg-in-AwaitExpr : goal.expr-returns-in_ok-arg-in-AwaitExpr
 expr-returns-in_ok-arg-in-AwaitExpr t c = along c.in-AwaitExpr.is (rule.expr-AwaitExpr c.in_ok-arg-in-AwaitExpr.ensures)
@@ -87,6 +90,12 @@ expr-returns-in_ok-private_name-in-PrivateName t c = along c.in-PrivateName.is (
 
 pub expr-returns-in_ok-base-in-OptChainExpr : goal.expr-returns-in_ok-base-in-OptChainExpr
 expr-returns-in_ok-base-in-OptChainExpr t c = along c.in-OptChainExpr.is (rule.expr-OptChainExpr c.in_ok-base-in-OptChainExpr.ensures)
+
+pub member-returns-in_ok-name_instead-in-Some : goal.member-returns-in_ok-name_instead-in-Some
+member-returns-in_ok-name_instead-in-Some t c = rule.expr-OfReads c.args.member.now c.in_ok-name_instead-in-Some.field-0 c.in-Some.ensures c.in_ok-name_instead-in-Some.ensures.name c.in_ok-name_instead-in-Some.ensures.rest
+
+pub member-returns-in_ok-member_expr-in-None : goal.member-returns-in_ok-member_expr-in-None
+member-returns-in_ok-member_expr-in-None t c = rule.expr-MemberExpr c.in-None.ensures c.in_ok-member_expr-in-None.ensures
 
 pub option_expr-returns-in-None : goal.option_expr-returns-in-None
 option_expr-returns-in-None t c = along c.in-None.is rule.option_expr-None
@@ -167,10 +176,10 @@ pub arrow_body-returns-in_ok-boxed_expr-in-Expr : goal.arrow_body-returns-in_ok-
 arrow_body-returns-in_ok-boxed_expr-in-Expr t c = along c.in-Expr.is (rule.arrow_body-Expr c.in_ok-boxed_expr-in-Expr.ensures)
 
 pub opt_chain_base-returns-in_ok-member_expr-in-MemberExpr : goal.opt_chain_base-returns-in_ok-member_expr-in-MemberExpr
-opt_chain_base-returns-in_ok-member_expr-in-MemberExpr t c = along c.in-MemberExpr.is (rule.opt_chain_base-MemberExpr c.in_ok-member_expr-in-MemberExpr.ensures)
+opt_chain_base-returns-in_ok-member_expr-in-MemberExpr t c = along_first c.in-MemberExpr.is (rule.opt_chain_base-MemberExpr c.in_ok-member_expr-in-MemberExpr.ensures)
 
 pub opt_chain_base-returns-in_ok-opt_call-in-OptCall : goal.opt_chain_base-returns-in_ok-opt_call-in-OptCall
-opt_chain_base-returns-in_ok-opt_call-in-OptCall t c = along c.in-OptCall.is (rule.opt_chain_base-OptCall c.in_ok-opt_call-in-OptCall.ensures)
+opt_chain_base-returns-in_ok-opt_call-in-OptCall t c = along_first c.in-OptCall.is (rule.opt_chain_base-OptCall c.in_ok-opt_call-in-OptCall.ensures)
 
 pub opt_call-returns : goal.opt_call-returns
 opt_call-returns t c = rule.opt_call c.in_ok-callee.ensures c.in_ok-args.ensures
@@ -308,7 +317,7 @@ pub decl-returns-in_ok-var_decl-in-VarDecl : goal.decl-returns-in_ok-var_decl-in
 decl-returns-in_ok-var_decl-in-VarDecl t c = along c.in-VarDecl.is (rule.decl-VarDecl c.in_ok-var_decl-in-VarDecl.ensures)
 
 pub var_decl-returns : goal.var_decl-returns
-var_decl-returns t c = rule.var_decl c.in_ok-decls.ensures
+var_decl-returns t c = rule.var_decl c.notes-meta.ensures c.in_ok-decls.ensures
 
 pub var_declarator-returns : goal.var_declarator-returns
 var_declarator-returns t c = rule.var_declarator c.in_ok-name.ensures c.in_ok-init.ensures
@@ -458,22 +467,22 @@ pub each_object_pat_prop-returns : goal.each_object_pat_prop-returns
 each_object_pat_prop-returns t c = λ role occurs. all_of_them Anywhere (object_pat_prop_items role) (each_object_pat_prop_items role) (row.all_object_pat_prop role) c.deref-element-items.ensures.value c.loop-element-test.false (c.loop-element.invariant role occurs)
 
 pub assign_target-returns-in_ok-binding_ident-in-BindingIdent : goal.assign_target-returns-in_ok-binding_ident-in-BindingIdent
-assign_target-returns-in_ok-binding_ident-in-BindingIdent t c = along c.in-BindingIdent.is (rule.assign_target-BindingIdent c.in_ok-binding_ident-in-BindingIdent.ensures)
+assign_target-returns-in_ok-binding_ident-in-BindingIdent t c = along_first c.in-BindingIdent.is (rule.assign_target-BindingIdent c.in_ok-binding_ident-in-BindingIdent.ensures)
 
 pub assign_target-returns-in_ok-member_expr-in-MemberExpr : goal.assign_target-returns-in_ok-member_expr-in-MemberExpr
-assign_target-returns-in_ok-member_expr-in-MemberExpr t c = along c.in-MemberExpr.is (rule.assign_target-MemberExpr c.in_ok-member_expr-in-MemberExpr.ensures)
+assign_target-returns-in_ok-member_expr-in-MemberExpr t c = along_first c.in-MemberExpr.is (rule.assign_target-MemberExpr c.in_ok-member_expr-in-MemberExpr.ensures)
 
 pub assign_target-returns-in_ok-super_prop_expr-in-SuperPropExpr : goal.assign_target-returns-in_ok-super_prop_expr-in-SuperPropExpr
-assign_target-returns-in_ok-super_prop_expr-in-SuperPropExpr t c = along c.in-SuperPropExpr.is (rule.assign_target-SuperPropExpr c.in_ok-super_prop_expr-in-SuperPropExpr.ensures)
+assign_target-returns-in_ok-super_prop_expr-in-SuperPropExpr t c = along_first c.in-SuperPropExpr.is (rule.assign_target-SuperPropExpr c.in_ok-super_prop_expr-in-SuperPropExpr.ensures)
 
 pub assign_target-returns-in_ok-paren_expr-in-ParenExpr : goal.assign_target-returns-in_ok-paren_expr-in-ParenExpr
-assign_target-returns-in_ok-paren_expr-in-ParenExpr t c = along c.in-ParenExpr.is (rule.assign_target-ParenExpr c.in_ok-paren_expr-in-ParenExpr.ensures)
+assign_target-returns-in_ok-paren_expr-in-ParenExpr t c = along_first c.in-ParenExpr.is (rule.assign_target-ParenExpr c.in_ok-paren_expr-in-ParenExpr.ensures)
 
 pub assign_target-returns-in_ok-array_pat-in-ArrayPat : goal.assign_target-returns-in_ok-array_pat-in-ArrayPat
-assign_target-returns-in_ok-array_pat-in-ArrayPat t c = along c.in-ArrayPat.is (rule.assign_target-ArrayPat c.in_ok-array_pat-in-ArrayPat.ensures)
+assign_target-returns-in_ok-array_pat-in-ArrayPat t c = along_first c.in-ArrayPat.is (rule.assign_target-ArrayPat c.in_ok-array_pat-in-ArrayPat.ensures)
 
 pub assign_target-returns-in_ok-object_pat-in-ObjectPat : goal.assign_target-returns-in_ok-object_pat-in-ObjectPat
-assign_target-returns-in_ok-object_pat-in-ObjectPat t c = along c.in-ObjectPat.is (rule.assign_target-ObjectPat c.in_ok-object_pat-in-ObjectPat.ensures)
+assign_target-returns-in_ok-object_pat-in-ObjectPat t c = along_first c.in-ObjectPat.is (rule.assign_target-ObjectPat c.in_ok-object_pat-in-ObjectPat.ensures)
 
 pub function-returns : goal.function-returns
 function-returns t c = rule.function c.in_ok-params.ensures c.in_ok-body.ensures refl refl

@@ -28,6 +28,9 @@ decreases-paren_expr = λ a. 16 * goal.size-paren_expr a + 2
 abbrev pub decreases-member_expr : goal.decreases-member_expr
 decreases-member_expr = λ a. 16 * goal.size-member_expr a + 4
 
+abbrev pub decreases-member : goal.decreases-member
+decreases-member = λ a. 16 * goal.size-member a + 5
+
 abbrev pub decreases-super_prop_expr : goal.decreases-super_prop_expr
 decreases-super_prop_expr = λ a. 16 * goal.size-super_prop_expr a + 4
 

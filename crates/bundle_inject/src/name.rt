@@ -1,0 +1,108 @@
+//! Names, words and strings.
+
+ghost use Rattle.std.specs.Prelude.{◌≡◌, ℕ, IfOk, string_bytes};
+ghost use Rattle.std.specs.List.{list_all};
+ghost use Rattle.bundle_terms.specs.Injected.{is_ascii_identifier as is_ascii_identifier_lem, is_letter as is_letter_lem, is_letter_or_digit};
+ghost use Rattle.bundle_lists.specs.Marks.{ident_of};
+
+use bundle_ast::{
+    BindingIdent, ComputedPropName, Expr, Ident, IdentName, Lit, ModuleExportName, Pat, PropName,
+    Str,
+};
+use bundle_id::SyntaxContext;
+use bundle_lists::Name;
+use std::alloc::{AllocError, Global};
+
+/// A name of another module, or a key, and what stands for it in the bundle.
+#[derive(Clone, Copy, PartialEq, Eq, Debug)]
+pub struct Pair<'a> {
+    pub name: &'a str,
+    pub local: Name<'a>,
+}
+
+/// An identifier.
+pub(crate) fn ident<'a>(alloc: Global, name: Name<'a>) -> Result<Ident, AllocError>
+    ensures { IfOk result (λ made. (string_bytes made.sym, made.ctxt) ≡ ident_of name.entry) }
+{
+    let sym = String::from_str(alloc, name.sym)?;
+    let ctxt = SyntaxContext::from_u32(name.ctxt);
+    Ok(Ident { sym, ctxt })
+}
+
+/// A name that is read.
+pub(crate) fn reference<'a>(alloc: Global, name: Name<'a>) -> Result<Expr, AllocError> {
+    Ok(Expr::Ident(ident(alloc, name)?))
+}
+
+/// A pattern of this one name.
+pub(crate) fn pattern<'a>(alloc: Global, name: Name<'a>) -> Result<Pat, AllocError> {
+    let id = ident(alloc, name)?;
+    Ok(Pat::BindingIdent(BindingIdent { id }))
+}
+
+/// A plain word.
+pub(crate) fn word(alloc: Global, sym: &str) -> Result<IdentName, AllocError> {
+    let sym = String::from_str(alloc, sym)?;
+    Ok(IdentName { sym })
+}
+
+/// A string without a source text.
+pub(crate) fn string(alloc: Global, value: &str) -> Result<Str, AllocError> {
+    let value = String::from_str(alloc, value)?;
+    Ok(Str { value, raw: None })
+}
+
+/// The name of an import or an export: a word where it is an identifier of ASCII letters and digits, else a string
+/// (ECMA-262, 16.2 ModuleExportName).
+pub(crate) fn export_name(alloc: Global, name: &str) -> Result<ModuleExportName, AllocError> {
+    if is_ascii_identifier(name) {
+        let word = Name { sym: name, ctxt: 0 };
+        Ok(ModuleExportName::Ident(ident(alloc, word)?))
+    } else {
+        Ok(ModuleExportName::Str(string(alloc, name)?))
+    }
+}
+
+/// The key of a property. A plain `__proto__` would set the prototype (ECMA-262, B.3.1), so it is computed.
+pub(crate) fn key(alloc: Global, name: &str) -> Result<PropName, AllocError> {
+    if name == "__proto__" {
+        let text = string(alloc, name)?;
+        let expr = Box::new(alloc, Expr::Lit(Lit::Str(text)))?;
+        Ok(PropName::ComputedPropName(ComputedPropName { expr }))
+    } else if is_ascii_identifier(name) {
+        Ok(PropName::IdentName(word(alloc, name)?))
+    } else {
+        Ok(PropName::Str(string(alloc, name)?))
+    }
+}
+
+// Whether a text is an identifier of ASCII letters and digits, reserved words included.
+fn is_ascii_identifier(text: &str) -> bool
+    ensures { result ≡ is_ascii_identifier_lem text.now }
+{
+    match text.as_bytes().split_first() {
+        Some((first, rest)) => is_letter(*first) && are_parts(rest),
+        None => false,
+    }
+}
+
+// Whether each of these bytes is one of a letter, `_`, `$` and a digit.
+fn are_parts(bytes: &[u8]) -> bool
+    ensures { result ≡ list_all is_letter_or_digit bytes.now }
+{
+    bytes.iter().all(|byte| is_part(*byte))
+}
+
+// Whether a byte is a letter, `_` or `$`.
+fn is_letter(byte: u8) -> bool
+    ensures { result ≡ is_letter_lem byte }
+{
+    (b'a' <= byte && byte <= b'z') || (b'A' <= byte && byte <= b'Z') || byte == b'_' || byte == b'$'
+}
+
+// Whether a byte is one of these or a digit.
+fn is_part(byte: u8) -> bool
+    ensures { result ≡ is_letter_or_digit byte }
+{
+    is_letter(byte) || (b'0' <= byte && byte <= b'9')
+}

@@ -1,9 +1,0 @@
--- The changes so far are those of the occurrences passed.
-use Rattle.std.proofs.Common.{◌≡◌, map, take}
-use Rattle.bundle_terms.specs.Rebuilds.{becomes_by, change_to}
-use Rattle.bundle_lists.specs.Changes.{change_of}
-use Rattle.bundle_lists.specs.Marks.{ident_of, pair_of_idents}
-use Rattle.bundle_lists.proofs.rename.changes_by.Given as goal
-
-abbrev pub invariant-loop-occurrence : goal.invariant-loop-occurrence
-invariant-loop-occurrence l = map change_of l.changes.items ≡ map (λ o. change_to (ident_of o.id) (becomes_by (map pair_of_idents l.renaming.entries) (ident_of o.id))) (take l.occurrence-index l.occurrences)

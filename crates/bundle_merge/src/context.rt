@@ -1,0 +1,41 @@
+//! Contexts that nothing has yet.
+
+use crate::error::MergeError;
+
+/// The context of a name that no module declares.
+pub const GLOBAL: u32 = 1;
+
+/// The numbers of contexts from the next one on.
+#[derive(Clone, Copy, PartialEq, Eq, Debug)]
+pub struct Contexts {
+    next: Option<u32>,
+}
+
+impl Contexts {
+    /// The contexts above those of so many files, each of which has two.
+    pub fn above(files: usize) -> Contexts {
+        Contexts {
+            next: first_above(files),
+        }
+    }
+
+    /// The next context, for a name of a module or, without one, of the linker's own.
+    pub fn take(&mut self, module: Option<usize>) -> Result<u32, MergeError> {
+        let Some(context) = self.next else {
+            return Err(MergeError::ContextsUsedUp { module });
+        };
+        self.next = context.checked_add(1);
+        Ok(context)
+    }
+}
+
+// The first context behind those of so many files.
+fn first_above(files: usize) -> Option<u32> {
+    let last = files.checked_mul(2)?;
+    u32::try_from(last.checked_add(2)?).ok()
+}
+
+/// The context of the names at the top of the file with this number.
+pub fn local_context(file: u32) -> u32 {
+    file.saturating_mul(2).saturating_add(2)
+}

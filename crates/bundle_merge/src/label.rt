@@ -1,0 +1,131 @@
+//! What the top names of a bundle are called: each target, and each name that the linker adds, by symbol and context.
+
+use crate::context::{Contexts, local_context};
+use crate::error::MergeError;
+use bundle_ast::{KeyValueProp, ModuleItem};
+use bundle_denote::Denotations;
+use bundle_lists::Name;
+use bundle_piece::Piece;
+use bundle_tables::Tables;
+use bundle_targets::{Linking, Target};
+use indexmap::IndexMap;
+use std::alloc::Global;
+
+/// A module of a bundle, as it was read. The modules of a bundle are numbered by their places in its list, the entry
+/// last.
+#[derive(Clone, Copy)]
+pub struct Part<'t, 'a> {
+    /// Its items.
+    pub items: &'a [ModuleItem],
+    /// Its list, and what each occurrence in it denotes by its symbol, read as the kind of module that it is.
+    pub pieces: &'t [Piece<'a>],
+    pub denotations: &'t Denotations<'a>,
+    pub tables: &'t Tables<'a>,
+    /// The modules to which its requests lead, by their texts.
+    pub leads: &'t IndexMap<String, usize>,
+    /// The number of its file.
+    pub file: u32,
+    /// What `import.meta` holds in it.
+    pub meta: Option<Meta<'t, 'a>>,
+}
+
+/// The properties of an `import.meta`, with the list of a module of one statement, an object that has them, and what
+/// its occurrences denote.
+#[derive(Clone, Copy)]
+pub struct Meta<'t, 'a> {
+    pub properties: &'a [KeyValueProp],
+    pub pieces: &'t [Piece<'a>],
+    pub denotations: &'t Denotations<'a>,
+}
+
+/// The names that were given so far, and the next context.
+#[derive(Drop)]
+pub struct Labels<'t, 'a> {
+    linking: &'t Linking<'a>,
+    parts: &'t [Part<'t, 'a>],
+    pub contexts: Contexts,
+    targets: IndexMap<Target<'a>, Name<'a>>,
+    loads: IndexMap<usize, Name<'a>>,
+    metas: IndexMap<usize, Name<'a>>,
+    helper: Option<Name<'a>>,
+}
+
+impl<'t, 'a> Labels<'t, 'a> {
+    /// No name yet, where so many files have numbers.
+    pub fn new(
+        alloc: Global,
+        linking: &'t Linking<'a>,
+        parts: &'t [Part<'t, 'a>],
+        files: usize,
+    ) -> Labels<'t, 'a> {
+        Labels {
+            linking,
+            parts,
+            contexts: Contexts::above(files),
+            targets: IndexMap::new(alloc),
+            loads: IndexMap::new(alloc),
+            metas: IndexMap::new(alloc),
+            helper: None,
+        }
+    }
+
+    /// What stands for a target.
+    pub fn target(&mut self, target: Target<'a>) -> Result<Name<'a>, MergeError> {
+        if let Target::Declared { module, name } = target {
+            return Ok(self.local(module, name));
+        }
+        if let Some(name) = self.targets.get(&target) {
+            return Ok(*name);
+        }
+        let sym = self.linking.symbol_of(target);
+        let name = self.fresh(sym)?;
+        self.targets.insert(target, name)?;
+        Ok(name)
+    }
+
+    /// A name at the top of a module.
+    pub fn local(&self, module: usize, sym: &'a str) -> Name<'a> {
+        let file = match self.parts.get(module) {
+            Some(part) => part.file,
+            None => 0,
+        };
+        let ctxt = local_context(file);
+        Name { sym, ctxt }
+    }
+
+    /// The function that loads a CommonJS module.
+    pub fn load(&mut self, module: usize) -> Result<Name<'a>, MergeError> {
+        if let Some(name) = self.loads.get(&module) {
+            return Ok(*name);
+        }
+        let name = self.fresh("load")?;
+        self.loads.insert(module, name)?;
+        Ok(name)
+    }
+
+    /// The object for `import.meta` in a module.
+    pub fn meta(&mut self, module: usize) -> Result<Name<'a>, MergeError> {
+        if let Some(name) = self.metas.get(&module) {
+            return Ok(*name);
+        }
+        let name = self.fresh("importMeta")?;
+        self.metas.insert(module, name)?;
+        Ok(name)
+    }
+
+    /// The helper that load functions are made by.
+    pub fn helper(&mut self) -> Result<Name<'a>, MergeError> {
+        if let Some(name) = self.helper {
+            return Ok(name);
+        }
+        let name = self.fresh("__swcpack_require__")?;
+        self.helper = Some(name);
+        Ok(name)
+    }
+
+    /// A name with a context that nothing has yet.
+    pub fn fresh(&mut self, sym: &'a str) -> Result<Name<'a>, MergeError> {
+        let ctxt = self.contexts.take(None)?;
+        Ok(Name { sym, ctxt })
+    }
+}

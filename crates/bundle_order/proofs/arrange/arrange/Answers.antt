@@ -1,0 +1,6 @@
+-- One more exchange.
+use Rattle.std.proofs.lemmas.List.Sorted.{IsPermutation-trans}
+use Rattle.bundle_order.proofs.arrange.arrange.Goals as goal
+
+pub loop-place-preserved : goal.loop-place-preserved
+loop-place-preserved g c = IsPermutation-trans _ _ _ c.loop-place.invariant c.exchange.ensures

@@ -1,0 +1,141 @@
+//! What items depend on, as a graph.
+
+ghost use Rattle.std.specs.Prelude.{◌≡◌, ◌≢◌, ◌<◌, ◌↔◌, [], ◌∷◌, IfOk, IfErr, IsTrue, OnOk, length};
+ghost use Rattle.bundle_order.specs.Items.{how_required, AreApart, AreBetween, AreNodes, Grows, IsGraphOf};
+
+use crate::group::{Group, lists_of};
+use bundle_ast::ModuleItem;
+use bundle_graph::sort::{Required, StmtDepGraph};
+use bundle_name::Error;
+use bundle_piece::Piece;
+use bundle_sort::{Dependency, SortItem};
+use std::alloc::{AllocError, Global};
+use std::ops::Range;
+
+/// The graph of what the items depend on, by their numbers: an item depends on another where it has a reference
+/// to a name of the top that the other declares or sets up. It is required maybe where the item is not free and
+/// every such reference waits for a function to run, and else always.
+///
+/// A range is one module's items, and an item in none is free. The caller sees to it that the ranges ascend
+/// within the items and do not overlap. Refused only where memory runs out.
+pub fn calc_deps(
+    alloc: Global,
+    items: &[ModuleItem],
+    modules: &[Range<usize>],
+) -> Result<StmtDepGraph, Error>
+    ensures nodes { IfOk result (λ graph. AreNodes graph (length items.now)) }
+    ensures edges { IfOk result (λ graph. AreBetween graph (length items.now)) }
+    ensures refused { IfErr result (λ refusal. refusal ≡ Error.OutOfMemory) }
+{
+    let lists = lists_of(alloc, items)?;
+    let group = group_by(alloc, &lists, modules)?;
+    let needs = group.dependencies(alloc)?;
+    Ok(graph_of(alloc, &needs)?)
+}
+
+// The items with these lists, of the modules that these ranges tell.
+fn group_by<'a>(
+    alloc: Global,
+    lists: &[Vec<Piece<'a>>],
+    modules: &[Range<usize>],
+) -> Result<Group<'a>, AllocError>
+    ensures { IfOk result (λ group. length group.ranges.items ≡ length lists.now) }
+{
+    let mut group = Group::new(alloc)?;
+    let mut module = 0usize;
+    for (number, item) in lists.iter().enumerate() {
+        for range in modules.get(module..).unwrap_or(&[]) {
+            if number < range.end {
+                break;
+            }
+            module = module.saturating_add(1);
+        }
+        group.add(item, module_at(modules, module, number))?;
+    }
+    Ok(group)
+}
+
+// The number of this module, where its range holds the item.
+fn module_at(modules: &[Range<usize>], module: usize, number: usize) -> Option<usize> {
+    let range = modules.get(module)?;
+    if range.start <= number && number < range.end {
+        Some(module)
+    } else {
+        None
+    }
+}
+
+// The graph of these dependencies. A number that is no item's, or its own, counts as none.
+fn graph_of(alloc: Global, items: &[SortItem]) -> Result<StmtDepGraph, AllocError>
+    ensures { IfOk result (λ graph. IsGraphOf graph items.now) }
+{
+    let mut graph = graph_with(alloc, items.len())?;
+    for (number, item) in items.iter().enumerate() {
+        add_edges(&mut graph, number, &item.dependencies, items.len())?;
+    }
+    Ok(graph)
+}
+
+// A graph of so many items that do not depend on each other.
+fn graph_with(alloc: Global, count: usize) -> Result<StmtDepGraph, AllocError>
+    ensures { IfOk result (λ graph. AreApart graph count) }
+{
+    let mut graph = StmtDepGraph::new(alloc);
+    for number in 0..count {
+        graph.add_node(number)?;
+    }
+    Ok(graph)
+}
+
+// Adds what an item depends on of so many items.
+fn add_edges(
+    graph: &mut StmtDepGraph,
+    number: usize,
+    dependencies: &[Dependency],
+    count: usize,
+) -> Result<(), AllocError>
+    requires item { number < count }
+    requires nodes { AreNodes graph.old count }
+    ensures { OnOk result (Grows graph.old graph.new number count dependencies.now) }
+{
+    for dependency in dependencies {
+        add_dependency(graph, number, *dependency, count)?;
+    }
+    Ok(())
+}
+
+// Adds that an item depends on another, if that is one of so many items.
+fn add_dependency(
+    graph: &mut StmtDepGraph,
+    number: usize,
+    dependency: Dependency,
+    count: usize,
+) -> Result<(), AllocError>
+    requires item { number < count }
+    requires nodes { AreNodes graph.old count }
+    ensures { OnOk result (Grows graph.old graph.new number count (dependency ∷ [])) }
+{
+    if !is_on_another(dependency, number, count) {
+        return Ok(());
+    }
+    graph.add_edge(number, dependency.item, required_by(dependency))?;
+    Ok(())
+}
+
+// Whether an item depends by this on another of so many items.
+fn is_on_another(dependency: Dependency, number: usize, count: usize) -> bool
+    ensures { IsTrue result ↔ ((dependency.item < count) × (dependency.item ≢ number)) }
+{
+    dependency.item < count && dependency.item != number
+}
+
+// How much a dependency is required.
+fn required_by(dependency: Dependency) -> Required
+    ensures { result ≡ how_required dependency.is_weak }
+{
+    if dependency.is_weak {
+        Required::Maybe
+    } else {
+        Required::Always
+    }
+}

@@ -1,0 +1,33 @@
+//! A syntax tree made anew, with other identifiers at its occurrences, or as it is: a copy. What is short is
+//! spelled out where a change asks for it, so that keys and exported names stay.
+#![tactic(auto)]
+
+ghost use Rattle.std.specs.Prelude.{◌≡◌, IfOk, map};
+ghost use Rattle.std.specs.List.{flat_map};
+ghost use Rattle.bundle_pieces.specs.Tree.{module_item_items};
+ghost use Rattle.bundle_terms.specs.Rebuilds.{rebuilt};
+ghost use Rattle.bundle_lists.specs.Changes.{change_of};
+
+pub mod stated;
+pub mod try_clone;
+
+use bundle_ast::ModuleItem;
+use bundle_lists::Change;
+use bundle_rebuild::Rebuild;
+pub use bundle_rebuild::{Rewrite, Rewriting, Whole};
+pub use stated::{rewritten_object, stated_item};
+use std::alloc::{AllocError, Global};
+pub use try_clone::TryClone;
+
+/// The items made anew, with these changes of their occurrences in turn; an occurrence for which no change is
+/// left stays, so without changes this is a copy. Refused only where memory runs out.
+pub fn rebuild_items(
+    alloc: Global,
+    items: &[ModuleItem],
+    changes: &[Change],
+) -> Result<Vec<ModuleItem>, AllocError>
+    ensures { IfOk result (λ made. flat_map (module_item_items 0) made.items ≡ rebuilt (flat_map (module_item_items 0) items.now) (map change_of changes.now)) }
+{
+    let mut rebuild = Rebuild::new(alloc, changes);
+    rebuild.each_module_item(items)
+}
