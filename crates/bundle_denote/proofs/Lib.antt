@@ -7,7 +7,6 @@ pub mod StepLemmas
 pub mod BeginLemmas
 pub mod EndLemmas
 pub mod ListedLemmas
-pub mod DoubledLemmas
 pub mod ZipLemmas
 pub mod OutwardLemmas
 pub mod KeyLemmas
@@ -23,3 +22,7 @@ pub mod StartLemmas
 pub mod LoopLemmas
 pub mod OrderLemmas
 pub mod TableLemmas
+pub mod PassedLemmas
+pub mod BarredLemmas
+pub mod MetLemmas
+pub mod DoubledLemmas

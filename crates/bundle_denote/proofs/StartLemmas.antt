@@ -34,7 +34,7 @@ use Rattle.bundle_denote.proofs.KeyLemmas.{told-by_key, told-split}
 use Rattle.bundle_denote.proofs.ParameterLemmas.{is_parameter_exactly, parameter-by_key, no-parameter, parameter-either}
 use Rattle.bundle_denote.proofs.ImpliedLemmas.{implied-by_key, implied-nowhere}
 
-takes-named : (way : d.Way) (scope : s.Scope) → takes_by (way_named way) scope ≡ o.takes way scope
+pub takes-named : (way : d.Way) (scope : s.Scope) → takes_by (way_named way) scope ≡ o.takes way scope
 takes-named d.ByImport scope = refl
 takes-named d.ByVar scope = refl
 takes-named d.ByLet scope = refl

@@ -56,6 +56,11 @@ has_parameters s.Top = true
 has_parameters (s.Inner s.FunctionBody begins) = true
 has_parameters _ = false
 
+-- whether a scope keeps its names apart from those of the scope around it: a body with its parameters, and the block of a catch
+abbrev pub joins_outer : s.Scope → Truth
+joins_outer (s.Inner s.CatchBlock begins) = true
+joins_outer scope = has_parameters scope
+
 -- the number of the scope of the parameters of the function of which a scope is the body
 abbrev pub beside_at : List Numbered → ℕ → Option ℕ
 beside_at scopes body = cond (passes has_parameters scopes body) (outer_at scopes body) None

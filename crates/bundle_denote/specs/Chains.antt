@@ -1,5 +1,6 @@
 -- The scopes of a table by their numbers, and those around one of them.
 use Rattle.std.specs.Prelude.{◌≡◌, ◌<◌, ℕ, zero, suc, Bool as Truth, false, List, [], ◌∷◌, Option, Some, None, option_map, option_and_then, unwrap_or, slice_get, find, length}
+use Rattle.std.specs.List.{AllZip}
 use Rattle.bundle_places.specs.Scopes as s
 use Rattle.bundle_denote.specs.Numbers.{Numbered}
 
@@ -20,6 +21,10 @@ abbrev pub outwards : List Numbered → ℕ → Option ℕ → List ℕ
 outwards scopes zero at = []
 outwards scopes (suc more) None = []
 outwards scopes (suc more) (Some number) = number ∷ outwards scopes more (outer_at scopes number)
+
+-- the numbers are those of the scopes
+abbrev pub AreScopesAt : List Numbered → List ℕ → List s.Scope → Type 0
+AreScopesAt scopes = AllZip (λ number scope. scope_at scopes number ≡ Some scope)
 
 -- the scopes of a table stand in the order of their nodes, each behind the one around it
 pub record AreInOrder (scopes : List Numbered) : Type 0 where

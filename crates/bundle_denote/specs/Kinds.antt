@@ -139,6 +139,11 @@ takes_by w.ClassName scope = o.is_class_name scope
 takes_by w.Wrapper scope = o.is_wrapper scope
 takes_by w.Arguments scope = false
 
+-- whether a name is declared by `var`
+abbrev pub is_var_by : Way → Truth
+is_var_by w.Var = true
+is_var_by _ = false
+
 -- whether a name that is declared in this way is the parameter of that name, where the body's function has one
 abbrev pub joins_by : Way → Truth
 joins_by w.Var = true

@@ -7,3 +7,4 @@ pub mod Steps
 pub mod Ready
 pub mod Searched
 pub mod Listed
+pub mod Barred

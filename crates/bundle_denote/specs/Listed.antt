@@ -47,13 +47,13 @@ pub record IsTable (reading : Reading) (kind : ModuleKind) (items : List Item) (
   pub declared : (i : ℕ) (x : Declared) → slice_get (declared reading kind items) i ≡ Some x → (number : ℕ) × IsBinding (map numbered table.scopes.items) table.bindings.items number (home_of (declared reading kind items) x) x.name
   pub one : (i j : ℕ) (scope : Scope) (name : Name) → IsBinding (map numbered table.scopes.items) table.bindings.items i scope name → IsBinding (map numbered table.scopes.items) table.bindings.items j scope name → i ≡ j
 
--- one of the declarations declares this name at this place
-pub record IsDeclaredAt (all : List Declared) (doubled : Doubled) : Type 0 where
-  pub number : ℕ
-  pub declared : Declared
-  pub at : slice_get all number ≡ Some declared
-  pub place : doubled.place ≡ declared.place
-  pub name : doubled.name.now ≡ declared.name.sym
+-- the place of a declaration and the symbol of its name
+abbrev pub place_and_symbol : Declared → ℕ × List ℕ
+place_and_symbol declared = (declared.place, declared.name.sym)
+
+-- the same as the code tells them
+abbrev pub told_of : Doubled → ℕ × List ℕ
+told_of doubled = (doubled.place, doubled.name.now)
 
 -- what an entry takes from an occurrence that was met: the place, the scope, and whether it declares
 abbrev pub copy_of : Denoted → ℕ × ℕ × Bool

@@ -8,8 +8,6 @@ use Rattle.bundle_places.specs.Places as p
 use Rattle.bundle_places.specs.Places.{is_binding}
 use Rattle.bundle_places.specs.Scopes as s
 use Rattle.bundle_places.specs.Declarations as d
-use Rattle.bundle_denote.specs.declared.table.Doubled.{Doubled}
-use Rattle.bundle_denote.specs.declared.walk.Name.{Name}
 use Rattle.bundle_denote.specs.declared.walk.Declaration.{Declaration}
 use Rattle.bundle_denote.specs.declared.walk.Open.{Open}
 use Rattle.bundle_denote.specs.declared.walk.Walk.{Walk}
@@ -104,10 +102,3 @@ pub record IsWhole (walk : Walk) (reading : d.Reading) (kind : s.ModuleKind) (it
   pub outermost : AreAround (scopes_of walk) (Some walk.top) (s.outermost kind)
   pub order : AreInOrder (scopes_of walk)
   pub once : IsOnce (names_of walk)
-
--- what is doubled has the place and the name of a declaration that was met
-pub record IsNamedAs (walk : Walk) (declaration : Declaration) (doubled : Doubled) : Type 0 where
-  pub name : Name
-  pub named : slice_get walk.names.keys declaration.name ≡ Some name
-  pub place : doubled.place ≡ declaration.place
-  pub sym : doubled.name.now ≡ name.sym.now

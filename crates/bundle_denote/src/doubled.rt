@@ -1,14 +1,23 @@
 //! The first name that is declared where it may not be declared again.
 
-ghost use Rattle.std.specs.Prelude.{IfOk, IfSome, map};
+ghost use Rattle.std.specs.Prelude.{◌≡◌, ◌<◌, ◌||◌, [], IfOk, List, OnOk, Some, length, map, slice_get};
+ghost use Rattle.std.specs.List.{list_any};
+ghost use Rattle.std.specs.Option.{option_map};
 ghost use Rattle.bundle_piece.specs.Item.{item_of};
-ghost use Rattle.bundle_places.specs.Declarations.{BySymbol, declared};
-ghost use Rattle.bundle_denote.specs.Kinds.{kind_as};
-ghost use Rattle.bundle_denote.specs.Listed.{IsDeclaredAt};
-ghost use Rattle.bundle_denote.specs.Steps.{IsNamedAs};
+ghost use Rattle.bundle_places.specs.Scopes.{ModuleKind as ModuleKindLem, Scope as ScopeLem, outermost};
+ghost use Rattle.bundle_places.specs.Declarations.{Way as WayLem};
+ghost use Rattle.bundle_places.specs.Homes.{group_of as group_of_lem};
+ghost use Rattle.bundle_places.specs.Doubled.{first_doubled as first_doubled_lem, may_double_functions as may_double_functions_lem, stands_once as stands_once_lem};
+ghost use Rattle.bundle_denote.specs.Kinds.{kind_as, way_named};
+ghost use Rattle.bundle_denote.specs.Numbers.{AreAround, numbered};
+ghost use Rattle.bundle_denote.specs.Chains.{scope_at as scope_at_lem};
+ghost use Rattle.bundle_denote.specs.Bound.{Key, same_key};
+ghost use Rattle.bundle_denote.specs.Ready.{AreNamed};
+ghost use Rattle.bundle_denote.specs.Barred.{Holds, IsToldOf, Reaches, TellsFirst, begins_wrapped, has_any, is_key_in, passed_at};
+ghost use Rattle.bundle_denote.specs.Listed.{place_and_symbol, told_of};
 
-use crate::homes::{scope_at, taker_of};
-use crate::kinds::is_body;
+use crate::homes::{outer_at, scope_at, taker_of, takes_at};
+use crate::kinds::{is_var, is_wrapper, joins_outer};
 use crate::table::{Doubled, ModuleKind, Reading, Scope, ScopeKind, Way};
 use crate::walk::{Declaration, Walk, walked};
 use bundle_piece::Piece;
@@ -23,123 +32,115 @@ pub fn first_doubled<'a>(
     pieces: &[Piece<'a>],
     kind: ModuleKind,
 ) -> Result<Option<Doubled<'a>>, AllocError>
-    ensures { IfOk result (λ found. IfSome found (IsDeclaredAt (declared BySymbol (kind_as kind) (map item_of pieces.now)))) }
+    ensures { IfOk result (λ found. option_map told_of found ≡ option_map place_and_symbol (first_doubled_lem (kind_as kind) (map item_of pieces.now))) }
 {
     let walk = walked(alloc, pieces, kind, Reading::BySymbol)?;
+    let doubled = first_of(alloc, &walk)?;
+    Ok(doubled)
+}
+
+// The same by what was met in one pass over the list.
+fn first_of<'a>(alloc: Global, walk: &Walk<'a>) -> Result<Option<Doubled<'a>>, AllocError>
+    requires { AreNamed walk.now }
+    ensures { IfOk result (TellsFirst walk.now) }
+{
     let mut met = Met::new(alloc);
     for declaration in &walk.declarations {
-        if met.clashes(&walk, *declaration) {
-            return Ok(doubled_at(&walk, *declaration));
+        let reach = reach_of(alloc, walk, *declaration)?;
+        if met.excludes(declaration.name, &reach) {
+            return Ok(Some(doubled_at(walk, *declaration)));
         }
-        met.add(&walk, *declaration)?;
+        met.add(declaration.name, &reach)?;
     }
     Ok(None)
 }
 
-fn doubled_at<'a>(walk: &Walk<'a>, declaration: Declaration) -> Option<Doubled<'a>>
-    ensures { IfSome result (IsNamedAs walk.now declaration) }
+// What is told of a declaration that is doubled.
+fn doubled_at<'a>(walk: &Walk<'a>, declaration: Declaration) -> Doubled<'a>
+    requires { declaration.name < length walk.now.names.keys }
+    ensures { IsToldOf walk.now declaration result }
 {
-    let name = walk.names.get_index(declaration.name)?;
-    Some(Doubled {
+    let name = walk.names[declaration.name];
+    Doubled {
         place: declaration.place,
         name: name.sym,
+    }
+}
+
+// The number of the scope that takes a declared name, and those of the scopes in which no other declaration may
+// have it.
+#[derive(Drop)]
+struct Reach {
+    taker: usize,
+    barred: Vec<usize>,
+}
+
+fn reach_of<'a>(
+    alloc: Global,
+    walk: &Walk<'a>,
+    declaration: Declaration,
+) -> Result<Reach, AllocError>
+    ensures { IfOk result (Reaches walk.now declaration) }
+{
+    let taker = taker_of(&walk.scopes, declaration.way, declaration.scope);
+    let barred = if is_var(declaration.way) {
+        passed_by(alloc, &walk.scopes, declaration.way, declaration.scope)?
+    } else {
+        held_by(alloc, &walk.scopes, walk.top, declaration.way, taker)?
+    };
+    Ok(Reach {
+        taker: taker.unwrap_or(walk.top),
+        barred,
     })
 }
 
-// The declarations that were met: which names each scope takes, and which it may not take any more.
-#[derive(Drop)]
-struct Met {
-    taken: IndexSet<(usize, usize)>,
-    barred: IndexSet<(usize, usize)>,
+// The scopes from one on outwards that a name declared in this way passes, up to the one that takes it.
+fn passed_by(
+    alloc: Global,
+    scopes: &[Scope],
+    way: Way,
+    from: usize,
+) -> Result<Vec<usize>, AllocError>
+    ensures { IfOk result (λ passed. passed.items ≡ passed_at (map numbered scopes.now) way from) }
+{
+    let mut passed = Vec::new(alloc);
+    let mut at = Some(from);
+    for _ in 0..scopes.len() {
+        let Some(number) = at else {
+            return Ok(passed);
+        };
+        if takes_at(scopes, way, number) {
+            return Ok(passed);
+        }
+        passed.push(number)?;
+        at = outer_at(scopes, number);
+    }
+    Ok(passed)
 }
 
-impl Met {
-    fn new(alloc: Global) -> Met {
-        Met {
-            taken: IndexSet::new(alloc),
-            barred: IndexSet::new(alloc),
-        }
+// The scope of a name that stands there once, and the one beside it; none for a name that may stand twice.
+fn held_by(
+    alloc: Global,
+    scopes: &[Scope],
+    top: usize,
+    way: Way,
+    taker: Option<usize>,
+) -> Result<Vec<usize>, AllocError>
+    ensures { IfOk result (λ held. Holds (map numbered scopes.now) top way taker held.items) }
+{
+    let mut held = Vec::new(alloc);
+    if !stands_once(scopes, way, taker) {
+        return Ok(held);
     }
-
-    // Whether a declaration may not stand beside those that were met.
-    fn clashes<'a>(&self, walk: &Walk<'a>, declaration: Declaration) -> bool {
-        let taker = taker_of(&walk.scopes, declaration.way, declaration.scope).unwrap_or(walk.top);
-        let name = declaration.name;
-        if self.barred.contains(&(taker, name)) {
-            return true;
-        }
-        if stands_once(&walk.scopes, declaration.way, taker) {
-            return self.taken.contains(&(taker, name))
-                || self.taken.contains(&(group_at(&walk.scopes, taker), name));
-        }
-        declaration.way == Way::Var && self.is_taken_on_the_way(&walk.scopes, declaration)
-    }
-
-    // Whether a scope that a `var` passes takes its name.
-    fn is_taken_on_the_way(&self, scopes: &[Scope], declaration: Declaration) -> bool {
-        let mut at = Some(declaration.scope);
-        for _ in 0..scopes.len() {
-            let Some(number) = at else {
-                return false;
-            };
-            let Some(scope) = scopes.get(number) else {
-                return false;
-            };
-            if is_body(scope.kind) {
-                return false;
-            }
-            if self.taken.contains(&(number, declaration.name)) {
-                return true;
-            }
-            at = scope.outer;
-        }
-        false
-    }
-
-    // Adds a declaration.
-    fn add<'a>(&mut self, walk: &Walk<'a>, declaration: Declaration) -> Result<(), AllocError> {
-        let taker = taker_of(&walk.scopes, declaration.way, declaration.scope).unwrap_or(walk.top);
-        let name = declaration.name;
-        self.taken.insert((taker, name))?;
-        if stands_once(&walk.scopes, declaration.way, taker) {
-            self.barred.insert((taker, name))?;
-            let group = group_at(&walk.scopes, taker);
-            if group != taker {
-                self.barred.insert((group, name))?;
-            }
-        }
-        if declaration.way == Way::Var {
-            self.bar_on_the_way(&walk.scopes, declaration)?;
-        }
-        Ok(())
-    }
-
-    // No scope that a `var` passes may take its name.
-    fn bar_on_the_way(
-        &mut self,
-        scopes: &[Scope],
-        declaration: Declaration,
-    ) -> Result<(), AllocError> {
-        let mut at = Some(declaration.scope);
-        for _ in 0..scopes.len() {
-            let Some(number) = at else {
-                return Ok(());
-            };
-            let Some(scope) = scopes.get(number) else {
-                return Ok(());
-            };
-            if is_body(scope.kind) {
-                return Ok(());
-            }
-            self.barred.insert((number, declaration.name))?;
-            at = scope.outer;
-        }
-        Ok(())
-    }
+    held.push(taker.unwrap_or(top))?;
+    held.push(group_of(scopes, top, taker))?;
+    Ok(held)
 }
 
 // Whether a name that is declared in this way may stand only once in the scope that takes it.
-fn stands_once(scopes: &[Scope], way: Way, taker: usize) -> bool {
+fn stands_once(scopes: &[Scope], way: Way, taker: Option<usize>) -> bool
+    ensures { (by : WayLem) (around : List ScopeLem) → way ≡ way_named by → AreAround (map numbered scopes.now) taker around → result ≡ stands_once_lem by around }
+{
     match way {
         Way::Import | Way::Let | Way::Const | Way::Class | Way::Default | Way::Loop => true,
         Way::Function => !may_double_functions(scopes, taker),
@@ -149,20 +150,125 @@ fn stands_once(scopes: &[Scope], way: Way, taker: usize) -> bool {
 
 // Whether functions may be doubled in a scope, as a `var` may: at the top of a body, and not in a block or at
 // the top of a module.
-fn may_double_functions(scopes: &[Scope], taker: usize) -> bool {
-    let Some(scope) = scope_at(scopes, taker) else {
+fn may_double_functions(scopes: &[Scope], taker: Option<usize>) -> bool
+    ensures { (around : List ScopeLem) → AreAround (map numbered scopes.now) taker around → result ≡ may_double_functions_lem around }
+{
+    let Some(number) = taker else {
+        return false;
+    };
+    let Some(scope) = scope_at(scopes, number) else {
         return false;
     };
     match scope.kind {
-        ScopeKind::Top => group_at(scopes, taker) != taker,
+        ScopeKind::Top => is_wrapper_at(scopes, scope.outer),
         ScopeKind::FunctionBody | ScopeKind::StaticBody => true,
         _ => false,
     }
 }
 
-fn group_at(scopes: &[Scope], number: usize) -> usize {
-    match scopes.get(number) {
-        Some(scope) => scope.group,
-        None => number,
+// Whether a scope is that of the parameters of a CommonJS module.
+fn is_wrapper_at(scopes: &[Scope], number: Option<usize>) -> bool
+    ensures { (around : List ScopeLem) → AreAround (map numbered scopes.now) number around → result ≡ begins_wrapped around }
+{
+    let Some(number) = number else {
+        return false;
+    };
+    match scope_at(scopes, number) {
+        None => false,
+        Some(scope) => is_wrapper(scope.kind),
     }
+}
+
+// The number of the scope whose names keep apart from those of the taker.
+fn group_of(scopes: &[Scope], top: usize, taker: Option<usize>) -> usize
+    ensures { (around : List ScopeLem) (kind : ModuleKindLem) → AreAround (map numbered scopes.now) (Some top) (outermost kind) → AreAround (map numbered scopes.now) taker around → scope_at_lem (map numbered scopes.now) result ≡ Some (group_of_lem around) }
+{
+    match taker {
+        None => top,
+        Some(number) => group_at(scopes, number),
+    }
+}
+
+// The same of the scope with a number.
+fn group_at(scopes: &[Scope], number: usize) -> usize
+    ensures { (around : List ScopeLem) → AreAround (map numbered scopes.now) (Some number) around → scope_at_lem (map numbered scopes.now) result ≡ Some (group_of_lem around) }
+{
+    match scope_at(scopes, number) {
+        Some(scope) if joins_outer(scope.kind) => scope.outer.unwrap_or(number),
+        _ => number,
+    }
+}
+
+// The declarations that were met: the number of the scope that takes each and that of its name, and those of the
+// scopes in which no other declaration may have the name.
+#[derive(Drop)]
+struct Met {
+    taken: IndexSet<(usize, usize)>,
+    barred: IndexSet<(usize, usize)>,
+}
+
+impl Met {
+    fn new(alloc: Global) -> Met
+        ensures taken { result.taken.keys ≡ [] }
+        ensures barred { result.barred.keys ≡ [] }
+    {
+        Met {
+            taken: IndexSet::new(alloc),
+            barred: IndexSet::new(alloc),
+        }
+    }
+
+    // Whether one that was met may not have a name beside a declaration that reaches so far.
+    fn excludes(&self, name: usize, reach: &Reach) -> bool
+        ensures { result ≡ (list_any (same_key (reach.now.taker, name)) self.now.barred.keys || has_any self.now.taken.keys name reach.now.barred.items) }
+    {
+        if self.barred.contains(&(reach.taker, name)) {
+            return true;
+        }
+        is_taken(&self.taken, name, &reach.barred)
+    }
+
+    // Adds a declaration.
+    fn add(&mut self, name: usize, reach: &Reach) -> Result<(), AllocError>
+        ensures taken { OnOk result ((key : Key) → list_any (same_key key) self.new.taken.keys ≡ (list_any (same_key key) self.old.taken.keys || same_key key (reach.now.taker, name))) }
+        ensures barred { OnOk result ((key : Key) → list_any (same_key key) self.new.barred.keys ≡ (list_any (same_key key) self.old.barred.keys || is_key_in key name reach.now.barred.items)) }
+    {
+        put_key(&mut self.taken, (reach.taker, name))?;
+        put_keys(&mut self.barred, name, &reach.barred)?;
+        Ok(())
+    }
+}
+
+// Whether one of these scopes takes a name that was met.
+fn is_taken(taken: &IndexSet<(usize, usize)>, name: usize, scopes: &[usize]) -> bool
+    ensures { result ≡ has_any taken.now.keys name scopes.now }
+{
+    for scope in scopes {
+        if taken.contains(&(*scope, name)) {
+            return true;
+        }
+    }
+    false
+}
+
+// Adds a key.
+fn put_key(keys: &mut IndexSet<(usize, usize)>, key: (usize, usize)) -> Result<(), AllocError>
+    ensures { OnOk result ((other : Key) → list_any (same_key other) keys.new.keys ≡ (list_any (same_key other) keys.old.keys || same_key other key)) }
+{
+    keys.insert_full(key)?;
+    Ok(())
+}
+
+// Adds a name in each of these scopes.
+fn put_keys(
+    keys: &mut IndexSet<(usize, usize)>,
+    name: usize,
+    scopes: &[usize],
+) -> Result<(), AllocError>
+    ensures { OnOk result ((other : Key) → list_any (same_key other) keys.new.keys ≡ (list_any (same_key other) keys.old.keys || is_key_in other name scopes.now)) }
+{
+    for scope in scopes {
+        put_key(keys, (*scope, name))?;
+    }
+    Ok(())
 }

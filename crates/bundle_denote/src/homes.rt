@@ -217,8 +217,8 @@ pub(crate) fn taker_of(scopes: &[Scope], way: Way, from: usize) -> Option<usize>
     None
 }
 
-// Whether the scope with a number takes a name declared in this way, if it is the nearest such one.
-fn takes_at(scopes: &[Scope], way: Way, number: usize) -> bool
+/// Whether the scope with a number takes a name declared in this way, if it is the nearest such one.
+pub(crate) fn takes_at(scopes: &[Scope], way: Way, number: usize) -> bool
     ensures { result ≡ passes (takes_by way) (map numbered scopes.now) number }
 {
     match scope_at(scopes, number) {

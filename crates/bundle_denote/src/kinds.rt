@@ -5,8 +5,8 @@ ghost use Rattle.bundle_piece.specs.Item.{head_of};
 ghost use Rattle.bundle_places.specs.Scopes.{block_in as block_in_lem, exports_default};
 ghost use Rattle.bundle_places.specs.Declarations.{is_pattern as is_pattern_lem, is_loop_head as is_loop_head_lem};
 ghost use Rattle.bundle_places.specs.Homes.{is_block as is_block_lem, is_body as is_body_lem, is_catch as is_catch_lem, is_class_name as is_class_name_lem, is_function as is_function_lem, is_function_name as is_function_name_lem, is_loop as is_loop_lem, is_parameters as is_parameters_lem, is_top as is_top_lem, is_wrapper as is_wrapper_lem};
-ghost use Rattle.bundle_denote.specs.Bound.{has_parameters as has_parameters_lem, holds_parameters as holds_parameters_lem};
-ghost use Rattle.bundle_denote.specs.Kinds.{joins_by, kind_made, kind_named, scope_as, takes_by, leaves_first_out as leaves_first_out_lem, way_in as way_in_lem, way_of_kind as way_of_kind_lem, way_of_variable as way_of_variable_lem};
+ghost use Rattle.bundle_denote.specs.Bound.{has_parameters as has_parameters_lem, holds_parameters as holds_parameters_lem, joins_outer as joins_outer_lem};
+ghost use Rattle.bundle_denote.specs.Kinds.{is_var_by, joins_by, kind_made, kind_named, scope_as, takes_by, leaves_first_out as leaves_first_out_lem, way_in as way_in_lem, way_of_kind as way_of_kind_lem, way_of_variable as way_of_variable_lem};
 
 use crate::table::{ScopeKind, Way};
 use bundle_leaf::VarDeclKind;
@@ -170,6 +170,16 @@ pub(crate) fn joins_parameter(way: Way) -> bool
     }
 }
 
+/// Whether a name is declared by `var`.
+pub(crate) fn is_var(way: Way) -> bool
+    ensures { result ≡ is_var_by way }
+{
+    match way {
+        Way::Var => true,
+        _ => false,
+    }
+}
+
 // Whether a scope is the top of a module.
 fn is_top(kind: ScopeKind) -> bool
     ensures { (begins : ℕ) → result ≡ is_top_lem (scope_as kind begins) }
@@ -220,8 +230,8 @@ fn is_class_name(kind: ScopeKind) -> bool
     }
 }
 
-// Whether a scope is that of the parameters of a CommonJS module.
-fn is_wrapper(kind: ScopeKind) -> bool
+/// Whether a scope is that of the parameters of a CommonJS module.
+pub(crate) fn is_wrapper(kind: ScopeKind) -> bool
     ensures { (begins : ℕ) → result ≡ is_wrapper_lem (scope_as kind begins) }
 {
     match kind {
@@ -292,7 +302,9 @@ pub(crate) fn has_parameters(kind: ScopeKind) -> bool
 }
 
 /// Whether a scope of this kind keeps its names apart with the scope around it.
-pub(crate) fn joins_outer(kind: ScopeKind) -> bool {
+pub(crate) fn joins_outer(kind: ScopeKind) -> bool
+    ensures { (begins : ℕ) → result ≡ joins_outer_lem (scope_as kind begins) }
+{
     match kind {
         ScopeKind::CatchBlock => true,
         _ => has_parameters(kind),

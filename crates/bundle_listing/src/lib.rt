@@ -9,7 +9,7 @@ ghost use Rattle.bundle_pieces.specs.Tree.{expr_items, key_value_prop_items, mod
 
 use bundle_ast::{Expr, KeyValueProp, Module, ModuleItem};
 pub use bundle_piece::{Node, Piece, Role};
-use bundle_pieces::Walk;
+use bundle_walk::Walk;
 use std::alloc::{AllocError, Global};
 
 /// The list of the items of a module, each in field 0 as in a `Module`. Refused only where memory runs

@@ -1,1 +1,2 @@
 pub mod Idents
+pub mod Owned

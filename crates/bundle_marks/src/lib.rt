@@ -5,6 +5,6 @@
 pub mod items;
 pub mod rename;
 
-pub use bundle_lists::{Mark, Name, Node, Occurrence};
-pub use items::{marks, occurrences};
+pub use bundle_lists::Node;
+pub use items::{Mark, Occurrence, marks, occurrences};
 pub use rename::{rename_ids, with_idents};

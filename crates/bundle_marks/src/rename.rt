@@ -10,7 +10,7 @@ ghost use Rattle.bundle_lists.specs.Changes.{change_of};
 ghost use Rattle.bundle_lists.specs.Marks.{ident_of};
 ghost use Rattle.bundle_marks.specs.Idents.{ident_in, ident_named, pair_named};
 
-use crate::items::occurrences;
+use crate::items::lent_occurrences;
 use bundle_ast::{Ident, ModuleItem};
 use bundle_id::SyntaxContext;
 use bundle_lists::{Change, Name, Occurrence};
@@ -30,7 +30,7 @@ pub fn with_idents(
 ) -> Result<Vec<ModuleItem>, AllocError>
     ensures { IfOk result (λ made. flat_map (module_item_items 0) made.items ≡ with_idents_lem (flat_map (module_item_items 0) items.now) (map ident_in idents.now)) }
 {
-    let listed = occurrences(alloc, items)?;
+    let listed = lent_occurrences(alloc, items)?;
     let changes = changes_between(alloc, &listed, idents)?;
     rebuild_items(alloc, items, &changes)
 }
@@ -45,7 +45,7 @@ pub fn rename_ids<'a>(
 ) -> Result<Vec<ModuleItem>, AllocError>
     ensures { IfOk result (λ made. flat_map (module_item_items 0) made.items ≡ renamed_by (map pair_named renaming.now.entries) (flat_map (module_item_items 0) items.now)) }
 {
-    let listed = occurrences(alloc, items)?;
+    let listed = lent_occurrences(alloc, items)?;
     let changes = changes_by(alloc, &listed, renaming)?;
     rebuild_items(alloc, items, &changes)
 }

@@ -1,5 +1,5 @@
-//! A syntax tree made anew, with other identifiers at its occurrences, or as it is: a copy. What is short is
-//! spelled out where a change asks for it, so that keys and exported names stay.
+//! Items of modules made anew, with other identifiers at their occurrences, and what an item states in a
+//! bundle. What is short is spelled out where a change asks for it, so that keys and exported names stay.
 #![tactic(auto)]
 
 ghost use Rattle.std.specs.Prelude.{◌≡◌, IfOk, map};
@@ -9,7 +9,6 @@ ghost use Rattle.bundle_terms.specs.Rebuilds.{rebuilt};
 ghost use Rattle.bundle_lists.specs.Changes.{change_of};
 
 pub mod stated;
-pub mod try_clone;
 
 use bundle_ast::ModuleItem;
 use bundle_lists::Change;
@@ -17,7 +16,6 @@ use bundle_rebuild::Rebuild;
 pub use bundle_rebuild::{Rewrite, Rewriting, Whole};
 pub use stated::{rewritten_object, stated_item};
 use std::alloc::{AllocError, Global};
-pub use try_clone::TryClone;
 
 /// The items made anew, with these changes of their occurrences in turn; an occurrence for which no change is
 /// left stays, so without changes this is a copy. Refused only where memory runs out.

@@ -13,15 +13,15 @@ pub(crate) fn add_marks(
 ) -> Result<(), AllocError> {
     let mut depth = 0usize;
     for mark in marks(alloc, items)? {
-        if let Mark::Close = mark {
+        if let Mark::Close = &mark {
             depth = depth.saturating_sub(1);
         }
         for _ in 0..depth {
             text.push_str("  ")?;
         }
-        let line = mark_text(alloc, mark)?;
+        let line = mark_text(alloc, &mark)?;
         writeln!(text, "{line}")?;
-        if let Mark::Open { .. } = mark {
+        if let Mark::Open { .. } = &mark {
             depth = depth.saturating_add(1);
         }
     }
@@ -35,16 +35,16 @@ pub(crate) fn add_occurrences(
     items: &[ModuleItem],
 ) -> Result<(), AllocError> {
     for occurrence in occurrences(alloc, items)? {
-        let line = occurrence_text(alloc, occurrence)?;
+        let line = occurrence_text(alloc, &occurrence)?;
         writeln!(text, "{line}")?;
     }
     Ok(())
 }
 
-fn mark_text(alloc: Global, mark: Mark) -> Result<String, AllocError> {
+fn mark_text(alloc: Global, mark: &Mark) -> Result<String, AllocError> {
     match mark {
         Mark::Open { field, node } => {
-            let node = node_text(alloc, node)?;
+            let node = node_text(alloc, *node)?;
             format!(in alloc; "Open {field} {node}")
         }
         Mark::Close => String::from_str(alloc, "Close"),
@@ -55,8 +55,8 @@ fn mark_text(alloc: Global, mark: Mark) -> Result<String, AllocError> {
     }
 }
 
-fn occurrence_text(alloc: Global, occurrence: Occurrence) -> Result<String, AllocError> {
-    let sym = occurrence.id.sym;
+fn occurrence_text(alloc: Global, occurrence: &Occurrence) -> Result<String, AllocError> {
+    let sym = occurrence.id.sym();
     let role = if occurrence.binding {
         "binding"
     } else {

@@ -7,10 +7,9 @@ ghost use Rattle.bundle_form.specs.Form.{text_at};
 
 use crate::listing::{add_marks, add_occurrences};
 use anyhow::{Context, Result};
-use bundle_ast::{ExportMetadata, Ident, Module, ModuleItem};
+use bundle_ast::{ExportMetadata, Module, ModuleItem};
 use bundle_equal::is_same;
 use bundle_form::read_module;
-use bundle_id::SyntaxContext;
 use bundle_marks::{occurrences, with_idents};
 use bundle_restore::build_module;
 use bundle_rewrite::rebuild_items;
@@ -84,10 +83,7 @@ fn add_rebuilt(alloc: Global, text: &mut String, items: &[ModuleItem]) -> Result
 fn with_own_idents(alloc: Global, items: &[ModuleItem]) -> Result<Module, AllocError> {
     let mut idents = Vec::new(alloc);
     for occurrence in occurrences(alloc, items)? {
-        idents.push(Ident {
-            sym: String::from_str(alloc, occurrence.id.sym)?,
-            ctxt: SyntaxContext::from_u32(occurrence.id.ctxt),
-        })?;
+        idents.push(occurrence.id.into_ident())?;
     }
     Ok(Module {
         body: with_idents(alloc, items, idents.as_slice())?,

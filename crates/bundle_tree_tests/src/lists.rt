@@ -76,7 +76,7 @@ fn a_tree_has_its_marks(rt: HostRuntime) -> Result<(), Fail> {
     let names = occurrences(rt.alloc(), module.body.as_slice())?;
     assert_eq!(rt; names.len(), 5);
     let first = names.as_slice().first();
-    assert!(rt; first.is_some_and(|name| name.binding && name.id.sym == "a"));
+    assert!(rt; first.is_some_and(|name| name.binding && name.id.sym() == "a"));
     Ok(())
 }
 

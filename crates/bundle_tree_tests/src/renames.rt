@@ -1,13 +1,14 @@
 //! Trees with other identifiers, copies of trees, and trees compared.
 
 use bundle_ast::{ExportMetadata, Ident, Module};
+use bundle_copy::TryClone;
 use bundle_equal::{is_same, is_same_module};
 use bundle_form::{read_module, tree_value};
 use bundle_id::SyntaxContext;
 use bundle_listing::pieces_of_module;
 use bundle_marks::{rename_ids, with_idents};
 use bundle_restore::build_module;
-use bundle_rewrite::{TryClone, rebuild_items};
+use bundle_rewrite::rebuild_items;
 use bundle_tree::Id;
 use serde_json::Value;
 use std::alloc::Global;

@@ -1,0 +1,16 @@
+pub mod Numbering
+pub mod Lists
+pub mod HomesLemmas
+pub mod FoundLemmas
+pub mod TreeLemmas
+pub mod GivenLemmas
+pub mod KindsLemmas
+pub mod Separation
+pub mod Kept
+pub mod NumberLemmas
+pub mod GivingLemmas
+pub mod PassingLemmas
+pub mod Told
+pub mod Pigeons
+pub mod Counting
+pub mod Resolved

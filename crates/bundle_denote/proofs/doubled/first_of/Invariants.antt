@@ -1,0 +1,11 @@
+-- The declarations gone over were met, and none of them is doubled.
+use Rattle.std.proofs.Common.{List}
+use Rattle.bundle_piece.specs.Item.{Item}
+use Rattle.bundle_places.specs.Scopes.{ModuleKind}
+use Rattle.bundle_places.specs.Declarations.{BySymbol, declared}
+use Rattle.bundle_denote.specs.Steps.{IsWhole}
+use Rattle.bundle_denote.specs.Barred.{HasMetFirst}
+use Rattle.bundle_denote.proofs.doubled.first_of.Given as goal
+
+abbrev pub invariant-loop-declaration : goal.invariant-loop-declaration
+invariant-loop-declaration l = (kind : ModuleKind) (items : List Item) → IsWhole l.fn.walk BySymbol kind items → HasMetFirst l.fn.walk (declared BySymbol kind items) l.declaration-index l.met
