@@ -1,0 +1,6 @@
+pub mod Composed
+pub mod Contexts
+pub mod Faces
+pub mod Named
+pub mod Refusals
+pub mod Renamings
