@@ -1,8 +1,4 @@
 pub mod FacesLemmas
-pub mod LawLemmas
 pub mod NamedLemmas
-pub mod RenamingLemmas
-pub mod Shapes
-pub mod TreeParts
-pub mod Twice
+pub mod RenameLemmas
 pub mod WordsLemmas

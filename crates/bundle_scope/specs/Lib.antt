@@ -1,6 +1,5 @@
-pub mod Composed
 pub mod Contexts
 pub mod Faces
 pub mod Named
 pub mod Refusals
-pub mod Renamings
+pub mod Resolved

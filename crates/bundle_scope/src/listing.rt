@@ -4,12 +4,12 @@ ghost use Rattle.std.specs.Prelude.{◌≡◌, IfOk, map};
 ghost use Rattle.bundle_piece.specs.Item.{item_of};
 ghost use Rattle.bundle_terms.specs.Rebuilds.{listed};
 ghost use Rattle.bundle_lists.specs.Marks.{listed_of};
-ghost use Rattle.bundle_scope.specs.Faces.{list_of};
+ghost use Rattle.bundle_renaming.specs.Composed.{list_of};
 
 use bundle_ast::ModuleItem;
 use bundle_lists::{Occurrence, occurrences_of};
 use bundle_piece::Piece;
-use bundle_pieces::pieces;
+use bundle_listing::pieces;
 use std::alloc::{AllocError, Global};
 
 /// The list of the items of a module, and its occurrences.

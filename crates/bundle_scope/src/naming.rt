@@ -1,7 +1,7 @@
 //! The names of a bundle: without keywords, and without clashes once contexts are gone.
 
 ghost use Rattle.std.specs.Prelude.{IfOk};
-ghost use Rattle.bundle_scope.specs.Faces.{list_of};
+ghost use Rattle.bundle_renaming.specs.Composed.{list_of};
 ghost use Rattle.bundle_scope.specs.Named.{IsNamed, IsRidOfKeywords};
 
 use crate::words::clear_words;
@@ -9,8 +9,8 @@ use bundle_ast::Module;
 use bundle_denote::{ModuleKind, Reading, denotations};
 use bundle_name::Error;
 use bundle_naming::{Contexts, Names, changes_of, hygienic_names, keyword_names};
-use bundle_pieces::pieces;
-use bundle_rebuild::rebuild_items;
+use bundle_listing::pieces;
+use bundle_rewrite::rebuild_items;
 use std::alloc::Global;
 
 /// The renamer of keywords.

@@ -6,16 +6,16 @@ ghost use Rattle.bundle_terms.specs.Rebuilds.{change_by as change_by_lem, ident_
 ghost use Rattle.bundle_lists.specs.Changes.{change_of};
 ghost use Rattle.bundle_lists.specs.Marks.{ident_of};
 ghost use Rattle.bundle_renaming.specs.Idents.{ident_named};
-ghost use Rattle.bundle_scope.specs.Faces.{list_of};
-ghost use Rattle.bundle_scope.specs.Renamings.{unchanged};
+ghost use Rattle.bundle_renaming.specs.Composed.{list_of};
+ghost use Rattle.bundle_renaming.specs.Renamings.{unchanged};
 
 use crate::listing::listing_of;
-use crate::renaming::Renaming;
+use bundle_renaming::Renaming;
 use bundle_ast::ModuleItem;
 use bundle_id::SyntaxContext;
 use bundle_lists::{Change, Name, Occurrence};
 use bundle_name::Error;
-use bundle_rebuild::rebuild_items;
+use bundle_rewrite::rebuild_items;
 use bundle_tree::Id;
 use std::alloc::{AllocError, Global};
 

@@ -1,26 +1,34 @@
 //! The resolver: the contexts of a module tell apart what its names denote.
 
-ghost use Rattle.std.specs.Prelude.{◌≡◌, IfErr, IfOk, OnErr, OnOk, map};
-ghost use Rattle.bundle_places.specs.Declarations.{BySymbol, declared};
+ghost use Rattle.std.specs.Prelude.{◌≡◌, IfErr, IfOk, None, OnErr, OnOk, map};
+ghost use Rattle.bundle_piece.specs.Item.{item_of};
+ghost use Rattle.bundle_places.specs.Doubled.{first_doubled as first_doubled_lem};
+ghost use Rattle.bundle_terms.specs.Rebuilds.{changes_to as changes_to_lem};
+ghost use Rattle.bundle_lists.specs.Changes.{change_of};
+ghost use Rattle.bundle_lists.specs.Marks.{ident_of};
 ghost use Rattle.bundle_name.specs.FileName.{name_of};
 ghost use Rattle.bundle_denote.specs.Kinds.{kind_as};
+ghost use Rattle.bundle_renaming.specs.Composed.{list_of};
 ghost use Rattle.bundle_scope.specs.Contexts.{HasGiven};
-ghost use Rattle.bundle_scope.specs.Faces.{HasOtherContexts, kept, list_of, spelled};
+ghost use Rattle.bundle_scope.specs.Faces.{in_contexts};
+ghost use Rattle.bundle_scope.specs.Resolved.{IsJudged, IsResolvedBy};
 ghost use Rattle.bundle_scope.specs.Refusals.{IsDoubled, IsUsedUp, MayRefuse};
 
 use crate::contexts::Contexts;
 use crate::listing::listing_of;
-use crate::numbers::Numbers;
 use bundle_ast::Module;
-use bundle_denote::{Denotations, ModuleKind, Reading, denotations, first_doubled};
+use bundle_contexts::{Resolution, contexts_of};
+use bundle_denote::{ModuleKind, first_doubled};
 use bundle_lists::{Change, Name, Occurrence};
 use bundle_name::{Error, FileName};
-use bundle_rebuild::rebuild_items;
+use bundle_piece::Piece;
+use bundle_rewrite::rebuild_items;
 use std::alloc::{AllocError, Global};
 
 /// The module with contexts by which two of its identifiers are equal exactly where they denote one binding or
-/// one global (ECMA-262, 8.2 and 9.1). The names of its top get the local context, globals 1, and all others
-/// the next numbers, one for each scope that binds a name.
+/// one global (ECMA-262, 8.2 and 9.1). The names of its top get the local context, globals 1, and each other
+/// binding that occurs a number of its own, from the next one on; nothing else changes. The caller sees to it
+/// that the local context is not 1, and that the next number is above it and above 1.
 ///
 /// Refused where a name is declared that may not be declared there again, where the numbers do not suffice, and
 /// for memory. The contexts are then unchanged.
@@ -30,24 +38,39 @@ pub fn resolve_scopes(
     kind: ModuleKind,
     contexts: &mut Contexts,
 ) -> Result<Module, Error>
-    ensures same { IfOk result (λ made. HasOtherContexts (list_of «module».now.body.items) (list_of made.body.items)) }
+    ensures resolved { IfOk result (λ made. IsResolvedBy (kind_as kind) contexts.old contexts.new (list_of «module».now.body.items) (list_of made.body.items)) }
+    ensures undoubled { OnOk result (first_doubled_lem (kind_as kind) (list_of «module».now.body.items) ≡ None) }
     ensures given { OnOk result (HasGiven contexts.old contexts.new) }
-    ensures refused { IfErr result (MayRefuse contexts.old.file (declared BySymbol (kind_as kind) (list_of «module».now.body.items))) }
+    ensures refused { IfErr result (MayRefuse (kind_as kind) contexts.old (list_of «module».now.body.items)) }
     ensures unchanged { OnErr result (contexts.new ≡ contexts.old) }
 {
     let items = module.body.as_slice();
     let listing = listing_of(alloc, items)?;
-    if let Some(doubled) = first_doubled(alloc, &listing.list, kind)? {
+    let resolution = judged(alloc, &listing.list, kind, contexts)?;
+    let changes = changes_to(alloc, &listing.occurrences, &resolution.contexts)?;
+    let body = rebuild_items(alloc, items, &changes)?;
+    contexts.go_to(resolution.next);
+    Ok(Module { body })
+}
+
+// The contexts for the occurrences of a list in which no name is doubled.
+fn judged<'a>(
+    alloc: Global,
+    list: &[Piece<'a>],
+    kind: ModuleKind,
+    contexts: &Contexts,
+) -> Result<Resolution, Error>
+    ensures judged { IfOk result (IsJudged (kind_as kind) contexts.now (map item_of list.now)) }
+    ensures refused { IfErr result (MayRefuse (kind_as kind) contexts.now (map item_of list.now)) }
+{
+    if let Some(doubled) = first_doubled(alloc, list, kind)? {
         return Err(doubled_fault(alloc, contexts.file(), doubled.name)?);
     }
-    let table = denotations(alloc, &listing.list, kind, Reading::BySymbol)?;
-    let Some(numbers) = Numbers::of(alloc, &table, contexts)? else {
-        return Err(lack_of_contexts(contexts.file())?);
-    };
-    let changes = changes_by(alloc, &listing.occurrences, &table, &numbers)?;
-    let body = rebuild_items(alloc, items, &changes)?;
-    contexts.go_to(numbers.next);
-    Ok(Module { body })
+    let local = contexts.local().as_u32();
+    match contexts_of(alloc, list, kind, local, contexts.next())? {
+        Some(resolution) => Ok(resolution),
+        None => Err(lack_of_contexts(contexts.file())?),
+    }
 }
 
 // That this file declares the name twice.
@@ -69,38 +92,23 @@ fn lack_of_contexts(file: &FileName) -> Result<Error, AllocError>
     })
 }
 
-// The changes of these occurrences: each keeps its symbol.
-fn changes_by<'a>(
+// The changes of these occurrences to the same symbols in these contexts, in turn.
+fn changes_to<'a>(
     alloc: Global,
     occurrences: &[Occurrence<'a>],
-    table: &Denotations<'a>,
-    numbers: &Numbers,
+    contexts: &[u32],
 ) -> Result<Vec<Change<'a>>, AllocError>
-    ensures { IfOk result (λ changes. map spelled changes.items ≡ map kept occurrences.now) }
+    ensures { IfOk result (λ changes. map change_of changes.items ≡ changes_to_lem (map (λ o. ident_of o.id) occurrences.now) (in_contexts (map (λ o. ident_of o.id) occurrences.now) contexts.now)) }
 {
     let mut changes = Vec::new(alloc);
-    for (number, occurrence) in occurrences.iter().enumerate() {
+    for (occurrence, context) in occurrences.iter().zip(contexts) {
         changes.push(Change {
             ident: Name {
                 sym: occurrence.id.sym,
-                ctxt: context_of(table, numbers, number),
+                ctxt: *context,
             },
             is_spelled_out: false,
         })?;
     }
     Ok(changes)
-}
-
-// The context of the occurrence of this number: that of its binding's scope, or 1 for a global.
-fn context_of<'a>(table: &Denotations<'a>, numbers: &Numbers, number: usize) -> u32 {
-    match number_of_scope(table, numbers, number) {
-        Some(ctxt) => ctxt,
-        None => 1,
-    }
-}
-
-// The context of the scope of the binding that the occurrence denotes, unless it is a global.
-fn number_of_scope<'a>(table: &Denotations<'a>, numbers: &Numbers, number: usize) -> Option<u32> {
-    let binding = table.occurrences.get(number)?.binding?;
-    numbers.get(table.bindings.get(binding)?.scope)
 }

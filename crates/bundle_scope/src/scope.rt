@@ -2,7 +2,7 @@
 
 pub use crate::contexts::Contexts;
 pub use crate::rename::rename_all;
-pub use crate::renaming::Renaming;
 pub use crate::resolve::resolve_scopes;
 pub use bundle_denote::ModuleKind;
 pub use bundle_marks::{Occurrence, occurrences, rename_ids};
+pub use bundle_renaming::Renaming;

@@ -3,7 +3,7 @@
 ghost use Rattle.std.specs.Prelude.{◌≡◌, ℕ, flat_map};
 ghost use Rattle.bundle_piece.specs.declared.piece.Role.TheVariants as role;
 ghost use Rattle.bundle_pieces.specs.Tree.{export_specifier_items, import_specifier_items, module_decl_items, module_export_name_items, module_item_items, option_items};
-ghost use Rattle.bundle_scope.specs.Faces.{list_of};
+ghost use Rattle.bundle_renaming.specs.Composed.{list_of};
 ghost use Rattle.bundle_scope.specs.Named.{words_aside};
 
 use bundle_ast::{ExportSpecifier, ImportSpecifier, ModuleDecl, ModuleExportName, ModuleItem};

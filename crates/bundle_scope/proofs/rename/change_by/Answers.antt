@@ -1,8 +1,8 @@
 -- The renaming is asked for the name.
 use Rattle.std.proofs.Common.{◌≡◌, unwrap_or, ap, sym, ◌∙◌}
 use Rattle.bundle_lists.specs.Marks.{ident_of}
-use Rattle.bundle_scope.specs.Renamings.{unchanged}
-use Rattle.bundle_scope.proofs.RenamingLemmas.{both}
+use Rattle.bundle_renaming.specs.Renamings.{unchanged}
+use Rattle.bundle_scope.proofs.RenameLemmas.{both}
 use Rattle.bundle_scope.proofs.rename.change_by.Goals as goal
 
 pub returns-in-Some : goal.returns-in-Some

@@ -2,8 +2,8 @@
 use Rattle.std.proofs.Common.{map, ap, ◌∙◌}
 use Rattle.bundle_lists.specs.Changes.{change_of}
 use Rattle.bundle_lists.specs.Marks.{listed_of}
-use Rattle.bundle_scope.specs.Faces.{list_of}
-use Rattle.bundle_scope.proofs.RenamingLemmas.{renamed_all-is}
+use Rattle.bundle_renaming.specs.Composed.{list_of}
+use Rattle.bundle_scope.proofs.RenameLemmas.{renamed_all-is}
 use Rattle.bundle_scope.proofs.rename.rename_all.Goals as goal
 
 pub returns : goal.returns

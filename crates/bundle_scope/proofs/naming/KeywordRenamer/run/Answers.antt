@@ -5,16 +5,16 @@ use Rattle.bundle_places.specs.Scopes.{Es}
 use Rattle.bundle_places.specs.Declarations.{ByContext}
 use Rattle.bundle_terms.specs.Rebuilds.{rebuilt}
 use Rattle.bundle_lists.specs.Changes.{change_of}
-use Rattle.bundle_denote.specs.Listed.{ListsOccurrences}
+use Rattle.bundle_denote.specs.Listed.{IsTable}
 use Rattle.bundle_naming.specs.declared.names.Contexts.TheVariants.{Keep}
-use Rattle.bundle_scope.specs.Faces.{list_of}
+use Rattle.bundle_renaming.specs.Composed.{list_of}
 use Rattle.bundle_scope.proofs.NamedLemmas.{called-is}
 use Rattle.bundle_scope.proofs.naming.KeywordRenamer.run.Goals as goal
 
 pub returns : goal.returns
 returns c = record {
   table = c.in_ok-table.table;
-  lists = subst (λ tree. ListsOccurrences ByContext Es tree c.in_ok-table.table) (ap (map item_of) c.deref.ensures.value ∙ c.in_ok-list.ensures ∙ ap list_of c.as_slice-items.ensures.value) c.in_ok-table.ensures;
+  denotes = subst (λ tree. IsTable ByContext Es tree c.in_ok-table.table) (ap (map item_of) c.deref.ensures.value ∙ c.in_ok-list.ensures ∙ ap list_of c.as_slice-items.ensures.value) c.in_ok-table.ensures;
   names = c.in_ok-names.names;
   texts = c.in_ok-names.ensures.texts;
   is =
