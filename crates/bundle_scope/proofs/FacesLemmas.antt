@@ -1,60 +1,52 @@
--- The same tree with other contexts.
-use Rattle.std.proofs.Common.{◌≡◌, Bool, true, false, not, List, [], ◌∷◌, map, bytes_eq, refl, ap, ap₂, sym, ◌∙◌}
+-- The same identifiers in other contexts.
+use Rattle.std.proofs.Common.{◌≡◌, ◌⊎◌, ℕ, Some, subst, Bool, false, not, List, [], ◌∷◌, length, map, bytes_eq, inl, inr, arith, refl, ap, sym, ◌∙◌}
 use Rattle.std.proofs.lemmas.Slice.Eq.{bytes_eq-Decides}
 use Rattle.bundle_piece.specs.Item.{Item}
+use Rattle.bundle_places.specs.Places.{Occurrence as Place, occurrences}
+use Rattle.bundle_places.specs.Scopes.{ModuleKind}
 use Rattle.bundle_terms.specs.Nodes.{Text}
+use Rattle.bundle_terms.specs.Idents as terms
 use Rattle.bundle_terms.specs.Idents.{Ident, idents}
-use Rattle.bundle_terms.specs.Rebuilds as r
-use Rattle.bundle_terms.specs.Rebuilds.{changes_to, change_to, listed, rebuilt}
-use Rattle.bundle_lists.specs.declared.change.Change.{Change}
+use Rattle.bundle_terms.specs.Rebuilds.{Change, changes_to, change_to, listed, rebuilt}
+use Rattle.bundle_terms.specs.Renamed.{IsResolvedFrom}
 use Rattle.bundle_lists.specs.declared.mark.Occurrence.{Occurrence}
-use Rattle.bundle_lists.specs.Changes.{change_of}
 use Rattle.bundle_lists.specs.Marks.{ident_of, listed_of}
 use Rattle.bundle_lists.proofs.RenameLemmas.{idents-listed}
-use Rattle.bundle_scope.specs.Faces.{HasOtherContexts, kept, spelled, symbols}
+use Rattle.bundle_contexts.specs.declared.contexts.Resolution.{Resolution}
+use Rattle.bundle_contexts.specs.Resolution.{AreFit, ResolvesFit, tree_with, with_contexts}
+use Rattle.bundle_scope.specs.Faces.{in_contexts}
 
--- what a list is mapped to twice
-pub map-map : {A B C : Type 0} (f : B → C) (g : A → B) (xs : List A) → map f (map g xs) ≡ map (λ x. f (g x)) xs
-map-map f g [] = refl
-map-map f g (x ∷ xs) = ap (λ ys. f (g x) ∷ ys) (map-map f g xs)
+-- a change that keeps the symbol spells nothing out
+pub symbol-kept : (x : Text) (old new : ℕ) → (let change : Change = record { ident = (x, new); is_spelled_out = false } in change) ≡ change_to (x, old) (x, new)
+symbol-kept x old new =
+    let short : not (bytes_eq x x) ≡ false = ap not ((bytes_eq-Decides x x).1 refl) in
+    λ i. record { ident = (x, new); is_spelled_out = sym short i }
 
--- a change that keeps the symbol is the change to its identifier
-keeps-is : (change : Change) (o : Occurrence) → spelled change ≡ kept o → change_of change ≡ change_to (ident_of o.id) (ident_of change.ident)
-keeps-is change o same =
-    let same_symbol : o.id.sym.now ≡ change.ident.sym.now = sym (ap (λ pair. pair.0) same) in
-    let short : not (bytes_eq o.id.sym.now change.ident.sym.now) ≡ false = ap not ((bytes_eq-Decides o.id.sym.now change.ident.sym.now).1 same_symbol) in
-    λ i. record { ident = ident_of change.ident; is_spelled_out = (ap (λ pair. pair.1) same ∙ sym short) i }
+-- where nothing is left of one of the lists, there are no more changes
+pub none-left : {A : Type 0} (old : A → Ident) (xs : List A) (contexts : List ℕ) → (length xs ≡ 0) ⊎ (length contexts ≡ 0) → changes_to (map old xs) (in_contexts (map old xs) contexts) ≡ []
+none-left old [] contexts none = refl
+none-left old (x ∷ xs) [] none = refl
+none-left old (x ∷ xs) (c ∷ cs) (inl none) = absurd (omega (arith, none))
+none-left old (x ∷ xs) (c ∷ cs) (inr none) = absurd (omega (arith, none))
 
--- the parts of equal lists
-abbrev head_or : {A : Type 0} → A → List A → A
-head_or d [] = d
-head_or d (x ∷ xs) = x
+-- identifiers of occurrences in other contexts
+in-contexts : (os : List Place) (contexts : List ℕ) → in_contexts (map terms.ident_of os) contexts ≡ with_contexts os contexts
+in-contexts [] contexts = refl
+in-contexts (o ∷ os) [] = refl
+in-contexts (o ∷ os) (c ∷ cs) = ap (λ (rest : List Ident). (o.sym, c) ∷ rest) (in-contexts os cs)
 
-abbrev tail_of : {A : Type 0} → List A → List A
-tail_of [] = []
-tail_of (x ∷ xs) = xs
+-- what is rebuilt by these changes is the tree with these contexts
+pub tree-with : (tree : List Item) (all : List Occurrence) (contexts : List ℕ) (changes : List Change) → map listed_of all ≡ listed tree → changes ≡ changes_to (map (λ o. ident_of o.id) all) (in_contexts (map (λ o. ident_of o.id) all) contexts) → rebuilt tree changes ≡ tree_with tree contexts
+tree-with tree all contexts changes listed_is is =
+    ap (rebuilt tree)
+    (is
+    ∙ ap (λ (old : List Ident). changes_to old (in_contexts old contexts)) (idents-listed tree all listed_is)
+    ∙ ap (changes_to (idents tree)) (in-contexts (occurrences tree) contexts))
 
--- so of changes in turn
-pub changes-kept : (changes : List Change) (all : List Occurrence) → map spelled changes ≡ map kept all → map change_of changes ≡ changes_to (map (λ o. ident_of o.id) all) (map (λ change. ident_of change.ident) changes)
-changes-kept [] [] same = refl
-changes-kept [] (o ∷ os) same = cc
-changes-kept (change ∷ changes) [] same = cc
-changes-kept (change ∷ changes) (o ∷ os) same =
-    ap₂ (λ (one : r.Change) (rest : List r.Change). one ∷ rest) (keeps-is change o (ap (head_or (spelled change)) same)) (changes-kept changes os (ap tail_of same))
-
--- the symbols are those of the occurrences
-symbols-kept : (changes : List Change) (all : List Occurrence) → map spelled changes ≡ map kept all → symbols (map (λ change. ident_of change.ident) changes) ≡ symbols (map (λ o. ident_of o.id) all)
-symbols-kept changes all same =
-    map-map (λ (ident : Ident). ident.0) (λ (change : Change). ident_of change.ident) changes
-    ∙ sym (map-map (λ (pair : Text × Bool). pair.0) spelled changes)
-    ∙ ap (map (λ (pair : Text × Bool). pair.0)) same
-    ∙ map-map (λ (pair : Text × Bool). pair.0) kept all
-    ∙ sym (map-map (λ (ident : Ident). ident.0) (λ (o : Occurrence). ident_of o.id) all)
-
--- the tree that is made by such changes has other contexts
-pub has_other_contexts : (tree after : List Item) (all : List Occurrence) (changes : List Change) → map listed_of all ≡ listed tree → map spelled changes ≡ map kept all → after ≡ rebuilt tree (map change_of changes) → HasOtherContexts tree after
-has_other_contexts tree after all changes listed_is same is = record {
-  new = map (λ change. ident_of change.ident) changes;
-  is = is ∙ ap (rebuilt tree) (changes-kept changes all same ∙ ap (λ olds. changes_to olds (map (λ change. ident_of change.ident) changes)) (idents-listed tree all listed_is));
-  same = symbols-kept changes all same ∙ ap symbols (idents-listed tree all listed_is);
-}
+-- what is rebuilt by these changes is resolved, where the contexts resolve the tree
+pub resolved-so : (kind : ModuleKind) (local next later : ℕ) (tree list made : List Item) (resolution : Resolution) (all : List Occurrence) (changes : List Change) → ResolvesFit kind list local next (Some resolution) → list ≡ tree → map listed_of all ≡ listed tree → changes ≡ changes_to (map (λ o. ident_of o.id) all) (in_contexts (map (λ o. ident_of o.id) all) resolution.contexts.items) → made ≡ rebuilt tree changes → later ≡ resolution.next → AreFit local next → IsResolvedFrom kind local next later tree made
+resolved-so kind local next later tree list made resolution all changes resolves same listed_is is made_is later_is fit =
+    let contexts : List ℕ = resolution.contexts.items in
+    let its : IsResolvedFrom kind local next resolution.next tree (tree_with tree contexts) = (subst (λ t. ResolvesFit kind t local next (Some resolution)) same resolves fit).1 in
+    subst (λ t. IsResolvedFrom kind local next later tree t) (sym (made_is ∙ tree-with tree all contexts changes listed_is is))
+    (subst (λ n. IsResolvedFrom kind local next n tree (tree_with tree contexts)) (sym later_is) its)

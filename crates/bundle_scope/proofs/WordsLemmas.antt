@@ -20,7 +20,7 @@ pub words_inside : (field : ℕ) (head : Head) (inside inside_too : List Item) �
 words_inside field head inside inside_too same = ap (λ (rest : List Item). h.Open field head ∷ rest) (words_joined inside inside_too (h.Close ∷ []) (h.Close ∷ []) same refl)
 
 -- one of them is another
-pub words_set : {A : Type 0} (f : A → List Item) (xs : List A) (k : ℕ) (x : A) → words_aside (f x) ≡ words_aside (f (get_or xs k x)) → words_aside (flat_map f (set xs k x)) ≡ words_aside (flat_map f xs)
-words_set f [] k x same = refl
-words_set f (y ∷ ys) zero x same = words_joined (f x) (f y) (flat_map f ys) (flat_map f ys) same refl
-words_set f (y ∷ ys) (suc k) x same = words_joined (f y) (f y) (flat_map f (set ys k x)) (flat_map f ys) refl (words_set f ys k x same)
+pub words_set : {A : Type 0} (f : A → List Item) (xs : List A) (k : ℕ) (x default : A) → words_aside (f x) ≡ words_aside (f (get_or xs k default)) → words_aside (flat_map f (set xs k x)) ≡ words_aside (flat_map f xs)
+words_set f [] k x default same = refl
+words_set f (y ∷ ys) zero x default same = words_joined (f x) (f y) (flat_map f ys) (flat_map f ys) same refl
+words_set f (y ∷ ys) (suc k) x default same = words_joined (f y) (f y) (flat_map f (set ys k x)) (flat_map f ys) refl (words_set f ys k x default same)

@@ -1,6 +1,7 @@
 -- Why a module is not resolved.
 use Rattle.std.specs.Prelude.{◌≡◌, List, Option, Some, string_bytes}
 use Rattle.std.specs.Option.{option_map}
+use Rattle.std.specs.declared.alloc.Global.{Global}
 use Rattle.std.specs.declared.string.String.{String}
 use Rattle.bundle_piece.specs.Item.{Item}
 use Rattle.bundle_places.specs.Scopes.{ModuleKind}
@@ -21,7 +22,7 @@ doubled_name kind tree = option_map (λ declared. declared.name.sym) (first_doub
 -- it says of this file that the name is declared in it where it may not be
 pub record IsDoubled (file : Name) (name : Text) (refusal : Error) : Type 0 where
   pub its : FileName
-  pub text : String
+  pub text : String Global
   pub is : refusal ≡ DoubledDeclaration its text
   pub of : name_of its ≡ file
   pub says : string_bytes text ≡ name

@@ -3,7 +3,7 @@
 ghost use Rattle.std.specs.Prelude.{◌≡◌, IfErr, IfOk, None, OnErr, OnOk, map};
 ghost use Rattle.bundle_piece.specs.Item.{item_of};
 ghost use Rattle.bundle_places.specs.Doubled.{first_doubled as first_doubled_lem};
-ghost use Rattle.bundle_terms.specs.Rebuilds.{changes_to as changes_to_lem};
+ghost use Rattle.bundle_terms.specs.Rebuilds.{change_to as change_to_lem, changes_to as changes_to_lem};
 ghost use Rattle.bundle_lists.specs.Changes.{change_of};
 ghost use Rattle.bundle_lists.specs.Marks.{ident_of};
 ghost use Rattle.bundle_name.specs.FileName.{name_of};
@@ -102,13 +102,20 @@ fn changes_to<'a>(
 {
     let mut changes = Vec::new(alloc);
     for (occurrence, context) in occurrences.iter().zip(contexts) {
-        changes.push(Change {
-            ident: Name {
-                sym: occurrence.id.sym,
-                ctxt: *context,
-            },
-            is_spelled_out: false,
-        })?;
+        changes.push(change_to(occurrence.id, *context))?;
     }
     Ok(changes)
+}
+
+// The same symbol in another context.
+fn change_to<'a>(old: Name<'a>, context: u32) -> Change<'a>
+    ensures { change_of result ≡ change_to_lem (ident_of old.entry) ((ident_of old.entry).0, context) }
+{
+    Change {
+        ident: Name {
+            sym: old.sym,
+            ctxt: context,
+        },
+        is_spelled_out: false,
+    }
 }
