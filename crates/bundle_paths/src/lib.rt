@@ -2,26 +2,106 @@
 #![tactic(auto)]
 
 pub use swc_bundler::Error;
-pub use swc_bundler::ast::{
-    ArrayPat, ArrowBody, AssignOp, AssignTarget, BigInt, BinaryOp, BindingIdent, BlockStmt, Callee,
-    CatchClause, Class, ClassMember, ComputedPropName, Decl, DefaultDecl, ExportMetadata,
-    ExportSpecifier, Expr, ExprOrSpread, ForHead, ForInit, Function, Ident, IdentName,
-    ImportSpecifier, KeyValueProp, Lit, MemberExpr, MemberProp, MetaPropKind, MethodKind, Module,
-    ModuleDecl, ModuleExportName, ModuleItem, Number, ObjectPat, ObjectPatProp, OptCall,
-    OptChainBase, Param, ParenExpr, Pat, PrivateName, Prop, PropName, PropOrSpread, Regex, RestPat,
-    Stmt, Str, SuperProp, SuperPropExpr, SwitchCase, Tpl, TplElement, UnaryOp, UpdateOp, VarDecl,
-    VarDeclKind, VarDeclarator,
-};
-pub use swc_bundler::bundler::{Bundle, BundleKind, Bundler, Config, ModuleType};
-pub use swc_bundler::finalize::{KeywordRenamer, hygiene};
-pub use swc_bundler::graph::{ModuleGraph, closure, cycles, order};
-pub use swc_bundler::hook::{Hook, HookError, ModuleRecord};
-pub use swc_bundler::id::{Id, ModuleId, ModuleIdGenerator, SyntaxContext};
-pub use swc_bundler::load::{FileName, Load, LoadError, ModuleData};
-pub use swc_bundler::marks::{Mark, Node, Occurrence, marks, with_idents};
-pub use swc_bundler::resolve::{Resolve, ResolveError};
-pub use swc_bundler::scope::{
-    Contexts, ModuleKind, Occurrence as ScopeOccurrence, Renaming, occurrences, rename_all,
-    rename_ids, resolve_scopes,
-};
-pub use swc_bundler::sort::{EdgeDirection, Required, StmtDepGraph, calc_deps, sort_stmts};
+pub use swc_bundler::ast::ArrayPat;
+pub use swc_bundler::ast::ArrowBody;
+pub use swc_bundler::ast::AssignOp;
+pub use swc_bundler::ast::AssignTarget;
+pub use swc_bundler::ast::BigInt;
+pub use swc_bundler::ast::BinaryOp;
+pub use swc_bundler::ast::BindingIdent;
+pub use swc_bundler::ast::BlockStmt;
+pub use swc_bundler::ast::Callee;
+pub use swc_bundler::ast::CatchClause;
+pub use swc_bundler::ast::Class;
+pub use swc_bundler::ast::ClassMember;
+pub use swc_bundler::ast::ComputedPropName;
+pub use swc_bundler::ast::Decl;
+pub use swc_bundler::ast::DefaultDecl;
+pub use swc_bundler::ast::ExportMetadata;
+pub use swc_bundler::ast::ExportSpecifier;
+pub use swc_bundler::ast::Expr;
+pub use swc_bundler::ast::ExprOrSpread;
+pub use swc_bundler::ast::ForHead;
+pub use swc_bundler::ast::ForInit;
+pub use swc_bundler::ast::Function;
+pub use swc_bundler::ast::Ident;
+pub use swc_bundler::ast::IdentName;
+pub use swc_bundler::ast::ImportSpecifier;
+pub use swc_bundler::ast::KeyValueProp;
+pub use swc_bundler::ast::Lit;
+pub use swc_bundler::ast::MemberExpr;
+pub use swc_bundler::ast::MemberProp;
+pub use swc_bundler::ast::MetaPropKind;
+pub use swc_bundler::ast::MethodKind;
+pub use swc_bundler::ast::Module;
+pub use swc_bundler::ast::ModuleDecl;
+pub use swc_bundler::ast::ModuleExportName;
+pub use swc_bundler::ast::ModuleItem;
+pub use swc_bundler::ast::Number;
+pub use swc_bundler::ast::ObjectPat;
+pub use swc_bundler::ast::ObjectPatProp;
+pub use swc_bundler::ast::OptCall;
+pub use swc_bundler::ast::OptChainBase;
+pub use swc_bundler::ast::Param;
+pub use swc_bundler::ast::ParenExpr;
+pub use swc_bundler::ast::Pat;
+pub use swc_bundler::ast::PrivateName;
+pub use swc_bundler::ast::Prop;
+pub use swc_bundler::ast::PropName;
+pub use swc_bundler::ast::PropOrSpread;
+pub use swc_bundler::ast::Regex;
+pub use swc_bundler::ast::RestPat;
+pub use swc_bundler::ast::Stmt;
+pub use swc_bundler::ast::Str;
+pub use swc_bundler::ast::SuperProp;
+pub use swc_bundler::ast::SuperPropExpr;
+pub use swc_bundler::ast::SwitchCase;
+pub use swc_bundler::ast::Tpl;
+pub use swc_bundler::ast::TplElement;
+pub use swc_bundler::ast::UnaryOp;
+pub use swc_bundler::ast::UpdateOp;
+pub use swc_bundler::ast::VarDecl;
+pub use swc_bundler::ast::VarDeclKind;
+pub use swc_bundler::ast::VarDeclarator;
+pub use swc_bundler::bundler::Bundle;
+pub use swc_bundler::bundler::BundleKind;
+pub use swc_bundler::bundler::Bundler;
+pub use swc_bundler::bundler::Config;
+pub use swc_bundler::bundler::ModuleType;
+pub use swc_bundler::finalize::KeywordRenamer;
+pub use swc_bundler::finalize::hygiene;
+pub use swc_bundler::graph::ModuleGraph;
+pub use swc_bundler::graph::closure;
+pub use swc_bundler::graph::cycles;
+pub use swc_bundler::graph::order;
+pub use swc_bundler::hook::Hook;
+pub use swc_bundler::hook::HookError;
+pub use swc_bundler::hook::ModuleRecord;
+pub use swc_bundler::id::Id;
+pub use swc_bundler::id::ModuleId;
+pub use swc_bundler::id::ModuleIdGenerator;
+pub use swc_bundler::id::SyntaxContext;
+pub use swc_bundler::load::FileName;
+pub use swc_bundler::load::Load;
+pub use swc_bundler::load::LoadError;
+pub use swc_bundler::load::ModuleData;
+pub use swc_bundler::marks::Mark;
+pub use swc_bundler::marks::Node;
+pub use swc_bundler::marks::Occurrence;
+pub use swc_bundler::marks::marks;
+pub use swc_bundler::marks::with_idents;
+pub use swc_bundler::resolve::Resolve;
+pub use swc_bundler::resolve::ResolveError;
+pub use swc_bundler::scope::Contexts;
+pub use swc_bundler::scope::ModuleKind;
+pub use swc_bundler::scope::Occurrence as ScopeOccurrence;
+pub use swc_bundler::scope::Renaming;
+pub use swc_bundler::scope::occurrences;
+pub use swc_bundler::scope::rename_all;
+pub use swc_bundler::scope::rename_ids;
+pub use swc_bundler::scope::resolve_scopes;
+pub use swc_bundler::sort::EdgeDirection;
+pub use swc_bundler::sort::Required;
+pub use swc_bundler::sort::StmtDepGraph;
+pub use swc_bundler::sort::calc_deps;
+pub use swc_bundler::sort::sort_stmts;

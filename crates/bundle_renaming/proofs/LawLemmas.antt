@@ -1,8 +1,6 @@
 -- One renaming after the other is one renaming.
-use Rattle.std.proofs.Common.{◌≡◌, ℕ, ◌==◌, ◌&&◌, ◌||◌, Bool, true, false, cond, List, [], ◌∷◌, ◌++◌, Option, Some, None, map, unwrap_or, bytes_eq, refl, ap, sym, ◌∙◌, append-nil}
+use Rattle.std.proofs.Common.{◌≡◌, ℕ, Bool, true, false, cond, List, [], ◌∷◌, ◌++◌, Option, Some, None, map, unwrap_or, refl, ap, sym, ◌∙◌, append-nil}
 use Rattle.std.specs.List.{flat_map}
-use Rattle.std.specs.Map.{lookup}
-use Rattle.std.specs.Option.{option_map}
 use Rattle.bundle_ast.specs.declared.module.ModuleItem.{ModuleItem}
 use Rattle.bundle_piece.specs.declared.piece.Role.{Role}
 use Rattle.bundle_piece.specs.declared.piece.Role.TheVariants as r
@@ -22,7 +20,7 @@ use Rattle.bundle_lists.proofs.MarksLemmas.{listed-each}
 use Rattle.bundle_renaming.specs.Composed.{list_of}
 use Rattle.bundle_renaming.proofs.Shapes.{Part, Specified, IsPlainName, Nothing, Joined, Hole, Plain, Name, Inside, Specifier, Shorthand, alone, named, plain, plains, word, text, made, names, names_specified, again, edits}
 use Rattle.bundle_renaming.specs.Renamings.{KeepsSymbols}
-use Rattle.bundle_renaming.proofs.Twice.{both, names-again, twice}
+use Rattle.bundle_renaming.proofs.Twice.{both, twice}
 use Rattle.bundle_renaming.proofs.TreeParts.{items_part}
 
 -- what a list is mapped to twice

@@ -1,5 +1,5 @@
 -- What a renaming says of an identifier, and the items that it makes.
-use Rattle.std.proofs.Common.{Bor, ◌≡◌, ℕ, ◌==◌, ◌&&◌, ◌||◌, Bool, true, false, not, cond, List, [], ◌∷◌, ◌++◌, Option, Some, None, map, unwrap_or, bytes_eq, refl, ap, ap₂, sym, ◌∙◌, subst, append-nil, append_assoc}
+use Rattle.std.proofs.Common.{Bor, ◌≡◌, ◌==◌, Bool, true, false, not, cond, List, [], ◌∷◌, ◌++◌, Option, Some, None, map, unwrap_or, bytes_eq, refl, ap, ap₂, sym, ◌∙◌, subst, append-nil, append_assoc}
 use Rattle.std.specs.BTreeMap.{BTreeMap, Updates, IsClone}
 use Rattle.std.specs.List.{AllZip}
 use Rattle.std.specs.Map.{lookup}
@@ -9,7 +9,7 @@ use Rattle.std.proofs.lemmas.Bool.{and_parts, not-false, or_parts}
 use Rattle.std.proofs.lemmas.Slice.Eq.{bytes_eq-Decides}
 use Rattle.bundle_terms.specs.Idents.{Ident}
 use Rattle.bundle_terms.specs.Rebuilds.{Change, Renaming, change_by, change_then, change_to, followed_by, found, ident_eq, with_pair}
-use Rattle.bundle_tree.specs.IdName.{IdName, name_cmp, name_eq}
+use Rattle.bundle_tree.specs.IdName.{IdName, name_cmp}
 use Rattle.bundle_tree.specs.IdNameLaws.{name_cmp-ties, name_eq_equiv}
 use Rattle.bundle_lists.proofs.RenameLemmas.{lookup-map, lookup-same}
 use Rattle.bundle_renaming.specs.Idents.{ident_named}
@@ -47,12 +47,6 @@ insert-says old new from step updates = λ ident.
 pub copied-map : {A B : Type 0} (f : A → B) (found : Option (Bor A)) → option_map (λ one. f one.now) found ≡ option_map f (option_copied found)
 copied-map f (Some one) = refl
 copied-map f None = refl
-
--- what is found for a name, where this is the renaming of the map
-pub found-is : (renaming : Renaming) (pairs : List (IdName × Step)) (name : IdName) → map pair_of pairs ≡ renaming → option_map (λ (change : Change). change.ident) (option_map change_of_step (lookup (λ key. is_eq (name_cmp name key)) pairs)) ≡ found renaming (ident_named name)
-found-is renaming pairs name is =
-    ap (option_map (λ (change : Change). change.ident)) (sym (lookup-step pairs name))
-    ∙ ap (λ (all : Renaming). found all (ident_named name)) is
 
 -- a step that is put in
 pub put-says : (old new : BTreeMap IdName Step) (from to : IdName) (spelled : Bool) (renaming : Renaming) → spelled ≡ not (bytes_eq from.symbol to.symbol) → map pair_of old.entries ≡ renaming → Updates name_cmp old new from (Some (record { to = to; is_spelled_out = spelled })) → SaySame (map pair_of new.entries) (with_pair renaming (ident_named from) (ident_named to))
@@ -92,10 +86,10 @@ pub record Followed (all rest : List (IdName × Step)) (second : Renaming) (made
   pub says : SaySame (map pair_of made.entries) (followed_by (map pair_of done) second)
 
 -- nothing is done
-pub followed-start : (all : List (IdName × Step)) (second : Renaming) (made : BTreeMap IdName Step) → map pair_of made.entries ≡ second → Followed all all second made
-followed-start all second made same = record {
+pub followed-start : (all rest : List (IdName × Step)) (second : Renaming) (made : BTreeMap IdName Step) → rest ≡ all → map pair_of made.entries ≡ second → Followed all rest second made
+followed-start all rest second made is same = record {
   done = [];
-  split = sym (append-nil all);
+  split = sym is ∙ sym (append-nil rest);
   says = λ ident. ap (lookup (ident_eq ident)) same;
 }
 
@@ -108,12 +102,16 @@ followed-step all rest left second old new from key step made so_far last same i
 }
 
 -- all are done
-pub followed-end : (all rest : List (IdName × Step)) (second : Renaming) (made : BTreeMap IdName Step) → Followed all rest second made → rest ≡ [] → SaySame (map pair_of made.entries) (followed_by (map pair_of all) second)
-followed-end all rest second made so_far none =
-    let same : all ≡ so_far.done = so_far.split ∙ ap (λ (items : List (IdName × Step)). items ++ so_far.done) none in
-    subst (λ (items : List (IdName × Step)). SaySame (map pair_of made.entries) (followed_by (map pair_of items) second)) (sym same) so_far.says
+pub followed-end : (all rest : List (IdName × Step)) (first second : Renaming) (made : BTreeMap IdName Step) → map pair_of all ≡ first → Followed all rest second made → rest ≡ [] → SaySame (map pair_of made.entries) (followed_by first second)
+followed-end all rest first second made view so_far none =
+    let same : map pair_of so_far.done ≡ first = ap (map pair_of) (sym (so_far.split ∙ ap (λ (items : List (IdName × Step)). items ++ so_far.done) none)) ∙ view in
+    subst (λ (renaming : Renaming). SaySame (map pair_of made.entries) (followed_by renaming second)) same so_far.says
 
 -- What is spelled out.
+
+-- the renaming that some steps stand for
+pub view-keeps : (steps : List (IdName × Step)) (renaming : Renaming) → map pair_of steps ≡ renaming → KeepsSymbols (change_by (map pair_of steps)) → KeepsSymbols (change_by renaming)
+view-keeps steps renaming view keeps = subst (λ (all : Renaming). KeepsSymbols (change_by all)) view keeps
 
 pub same-keeps : (one other : Renaming) → SaySame one other → KeepsSymbols (change_by other) → KeepsSymbols (change_by one)
 same-keeps one other says keeps = λ ident short.

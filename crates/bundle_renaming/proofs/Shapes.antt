@@ -1,8 +1,8 @@
 -- The parts of a tree, by its list, as they are edited, whatever becomes of its identifiers; and that to edit a tree
 -- twice is to edit it once. What a walk edits is `Edits`; here the changes go by identifiers and not by their turn.
-use Rattle.std.proofs.Common.{◌≡◌, ℕ, ◌&&◌, ◌||◌, Bool, true, false, not, cond, List, [], ◌∷◌, ◌++◌, Option, Some, None, map, bytes_eq, refl, ap, ap₂, sym, ◌∙◌, subst, append_assoc, append-nil, drop}
+use Rattle.std.proofs.Common.{◌≡◌, ℕ, Bool, true, false, List, [], ◌∷◌, ◌++◌, Option, Some, None, map, bytes_eq, refl, ap, sym, ◌∙◌, subst, append_assoc}
 use Rattle.std.specs.Prelude.{codes, if◌then◌else◌}
-use Rattle.std.specs.List.{flat_map}
+use Rattle.std.proofs.lemmas.List.{map-append}
 use Rattle.bundle_piece.specs.declared.piece.Role.{Role}
 use Rattle.bundle_piece.specs.declared.piece.Role.TheVariants as r
 use Rattle.bundle_piece.specs.Item as h
@@ -89,10 +89,6 @@ names (Shorthand field x ctxt role occurs one) = (x, ctxt) ∷ names one
 
 -- The walk edits it so.
 
-map-append : {A B : Type 0} (f : A → B) (xs ys : List A) → map f (xs ++ ys) ≡ map f xs ++ map f ys
-map-append f [] ys = refl
-map-append f (x ∷ xs) ys = ap (λ zs. f x ∷ zs) (map-append f xs ys)
-
 open_is_plain : (head : Head) (inside : List Item) → is_open head ≡ true → is_plain head inside ≡ true
 open_is_plain h.AssignPatProp inside opens = cc
 open_is_plain h.ImportNamedSpecifier inside opens = cc
@@ -124,6 +120,7 @@ specifier_is_plain head {inside = inside} is one = same head inside is ∙ secon
     same h.ImportNamedSpecifier inside is = refl
     same h.ExportNamedSpecifier inside is = refl
     same _ inside is = cc
+
     second : {inside : List Item} → Specified inside → e.is_second_plain inside ≡ true
     second (alone field x ctxt role occurs) = refl
     second (named field x ctxt role occurs (word f y d)) = refl

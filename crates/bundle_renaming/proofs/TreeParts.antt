@@ -44,9 +44,9 @@ use Rattle.bundle_ast.specs.declared.module.DefaultDecl as v_default_decl
 use Rattle.bundle_ast.specs.declared.module.DefaultDecl.TheVariants as i_default_decl
 use Rattle.bundle_piece.specs.Item as h
 use Rattle.bundle_piece.specs.Item.{Item}
-use Rattle.bundle_pieces.specs.Tree.{ident_items, ident_name_items, private_name_items, binding_ident_items, str_items, number_items, big_int_items, regex_items, lit_items, tpl_element_items, stmt_items, for_init_items, for_head_items, held_option_boxed_stmt, held_option_block_stmt, held_option_catch_clause, held_option_for_init, row_of_stmt, row_of_switch_case, decl_items, row_of_var_declarator, expr_items, arrow_body_items, held_callee, held_opt_chain_base, held_option_expr, held_option_boxed_expr, place_of_expr_or_spread, held_option_each_expr_or_spread, row_of_expr, row_of_expr_or_spread, row_of_option_expr_or_spread, prop_or_spread_items, prop_items, held_prop_name, held_member_prop, held_super_prop, row_of_prop_or_spread, pat_items, object_pat_prop_items, assign_target_items, held_option_pat, place_of_pat, row_of_pat, row_of_option_pat, row_of_object_pat_prop, class_member_items, row_of_param, row_of_class_member, option_items, class_items, function_items, default_decl_items, export_specifier_items, import_specifier_items, module_decl_items, module_export_name_items, module_item_items, role_of_names}
+use Rattle.bundle_pieces.specs.Tree.{ident_items, ident_name_items, private_name_items, binding_ident_items, str_items, number_items, big_int_items, regex_items, lit_items, tpl_element_items, stmt_items, for_init_items, for_head_items, held_option_boxed_stmt, held_option_block_stmt, held_option_catch_clause, held_option_for_init, row_of_stmt, row_of_switch_case, decl_items, row_of_var_declarator, expr_items, arrow_body_items, held_callee, held_opt_chain_base, held_option_expr, held_option_boxed_expr, is_given, place_of_expr_or_spread, held_option_each_expr_or_spread, row_of_expr, row_of_expr_or_spread, row_of_option_expr_or_spread, prop_or_spread_items, prop_items, held_prop_name, held_member_prop, held_super_prop, row_of_prop_or_spread, pat_items, object_pat_prop_items, assign_target_items, held_option_pat, place_of_pat, row_of_pat, row_of_option_pat, row_of_object_pat_prop, class_member_items, row_of_param, row_of_class_member, option_items, class_items, function_items, default_decl_items, export_specifier_items, import_specifier_items, module_decl_items, module_export_name_items, module_item_items}
 use Rattle.bundle_lists.specs.Edits.{is_occurrence}
-use Rattle.bundle_renaming.proofs.Shapes.{Part, Nothing, Joined, Hole, Plain, Name, Inside, Specifier, Shorthand, IsPlainName, word, text, Specified, alone, named, plain, plains}
+use Rattle.bundle_renaming.proofs.Shapes.{Part, Nothing, Joined, Hole, Plain, Name, Inside, Specifier, Shorthand, IsPlainName, word, text, alone, named, plain, plains}
 
 -- Lists.
 

@@ -1,5 +1,7 @@
 -- To edit a tree and then what it became is to edit it once.
-use Rattle.std.proofs.Common.{◌≡◌, ℕ, ◌&&◌, ◌||◌, Bool, true, false, List, [], ◌∷◌, ◌++◌, Option, Some, None, map, bytes_eq, refl, ap, ap₂, sym, ◌∙◌}
+use Rattle.std.proofs.Common.{◌≡◌, ℕ, ◌&&◌, ◌||◌, Bool, true, false, List, [], ◌∷◌, ◌++◌, Some, None, map, bytes_eq, refl, ap, ap₂, sym, ◌∙◌}
+use Rattle.std.proofs.lemmas.Bool.{and_parts}
+use Rattle.std.proofs.lemmas.List.{map-append}
 use Rattle.std.specs.Prelude.{codes, if◌then◌else◌}
 use Rattle.bundle_piece.specs.declared.piece.Role.{Role}
 use Rattle.bundle_piece.specs.Item as h
@@ -9,7 +11,7 @@ use Rattle.bundle_terms.specs.Idents.{Ident}
 use Rattle.bundle_terms.specs.Rebuilds.{Change, plain_key, key_in_object}
 use Rattle.bundle_lists.specs.Edits.{InObject, InSpecifier, node, is_occurrence, in_its_place, pattern_in_its_place, shorthand_in_its_place}
 use Rattle.bundle_renaming.specs.Renamings.{KeepsSymbols}
-use Rattle.bundle_renaming.proofs.Shapes.{Part, Specified, IsPlainName, Nothing, Joined, Hole, Plain, Name, Inside, Specifier, Shorthand, alone, named, plain, plains, word, made, specified, names, names_specified, again, specified_again, either, either_specified, key_part, object_key_part, pair_part, pattern_part}
+use Rattle.bundle_renaming.proofs.Shapes.{Part, Specified, Nothing, Joined, Hole, Plain, Name, Inside, Specifier, Shorthand, alone, named, plain, plains, word, made, specified, names, names_specified, again, specified_again, either, either_specified, key_part, object_key_part, pair_part, pattern_part}
 
 -- a change, and then another of what it gave
 abbrev pub then_change : Change → Change → Change
@@ -99,15 +101,8 @@ module _ (G : Ident → Change) where
   no_names : {o : Bool} {tree : List Item} (one : Part o tree) → is_none tree ≡ true → names one ≡ []
   no_names Nothing empty = refl
   no_names (Joined {first = first} {second = second} one two) empty =
-    let parts : (is_none first && is_none second) ≡ true = sym (none_append first second) ∙ empty in
-    ap₂ (λ (xs ys : List Ident). xs ++ ys) (no_names one (left (is_none first) (is_none second) parts)) (no_names two (right (is_none first) (is_none second) parts))
-    where
-      left : (a b : Bool) → (a && b) ≡ true → a ≡ true
-      left true b e = refl
-      left false b e = e
-      right : (a b : Bool) → (a && b) ≡ true → b ≡ true
-      right true b e = e
-      right false b e = cc
+      let parts = and_parts (is_none first) (is_none second) (sym (none_append first second) ∙ empty) in
+      ap₂ (λ (xs ys : List Ident). xs ++ ys) (no_names one parts.0) (no_names two parts.1)
   no_names (Hole field) empty = refl
   no_names (Plain its) empty = refl
   no_names (Name o field x ctxt role occurs) empty = cc
@@ -158,10 +153,6 @@ specified_names F (alone field x ctxt role occurs) = alone_names F field x role 
 specified_names F (named field x ctxt role occurs its) = refl
 specified_names F (plain its) = refl
 specified_names F (plains one two) = refl
-
-map-append : {A B : Type 0} (f : A → B) (xs ys : List A) → map f (xs ++ ys) ≡ map f xs ++ map f ys
-map-append f [] ys = refl
-map-append f (x ∷ xs) ys = ap (λ zs. f x ∷ zs) (map-append f xs ys)
 
 -- its identifiers are what they became
 pub names-again : (F : Ident → Change) {o : Bool} {tree : List Item} (one : Part o tree) → names (again F one) ≡ map (λ ident. (F ident).ident) (names one)

@@ -54,9 +54,10 @@ impl Renaming {
 
     /// What an identifier becomes, or `None` where it stays.
     pub fn get(&self, id: &Id) -> Option<&Id>
-        ensures { option_map (λ to. ident_named to.now) result ≡ found self.now (ident_named id.now) }
+        ensures { option_map (λ to. ident_named to.now) result
+            ≡ found self.now (ident_named id.now) }
     {
-        match self.steps.get(id) {
+        match self.step(id) {
             Some(step) => Some(&step.to),
             None => None,
         }
@@ -64,7 +65,8 @@ impl Renaming {
 
     /// What an identifier becomes, and whether what is short is spelled out, or `None` where it stays.
     pub fn step(&self, id: &Id) -> Option<&Step>
-        ensures { option_map (λ step. change_of_step step.now) result ≡ lookup (ident_eq (ident_named id.now)) self.now }
+        ensures { option_map (λ step. change_of_step step.now) result
+            ≡ lookup (ident_eq (ident_named id.now)) self.now }
     {
         self.steps.get(id)
     }
@@ -72,7 +74,8 @@ impl Renaming {
     /// From now on this identifier becomes that one, whatever it became before. Refused only where memory runs
     /// out, and then nothing changes.
     pub fn insert(&mut self, from: Id, to: Id) -> Result<(), AllocError>
-        ensures ok { OnOk result (SaySame self.new (with_pair self.old (ident_named from) (ident_named to))) }
+        ensures ok { OnOk result
+            (SaySame self.new (with_pair self.old (ident_named from) (ident_named to))) }
         ensures err { OnErr result (self.new ≡ self.old) }
     {
         let is_spelled_out = from.sym() != to.sym();
@@ -100,7 +103,8 @@ impl Renaming {
 impl Step {
     // This step and then what the renaming makes of it.
     fn then(&self, next: &Renaming) -> Result<Step, AllocError>
-        ensures { IfOk result (λ made. change_of_step made ≡ change_then next.now (change_of_step self.now)) }
+        ensures { IfOk result
+            (λ made. change_of_step made ≡ change_then next.now (change_of_step self.now)) }
     {
         match next.step(&self.to) {
             Some(step) => Ok(Step {

@@ -20,7 +20,7 @@ abbrev pub called_by : Denotations → Names → Contexts → List Item → List
 called_by table names contexts tree = map (in_context contexts) (called_in names (idents tree) (map (λ denoted. denoted.binding) table.occurrences.items))
 
 -- the same tree, in which each binding with a keyword's symbol has `__` before it, and every other keeps its symbol
-pub record IsRidOfKeywords (before after : List Item) : Type 0 where
+pub record RenamesKeywords (before after : List Item) : Type 0 where
   pub table : Denotations
   pub denotes : IsTable ByContext Es before table
   pub names : Names
@@ -37,7 +37,7 @@ abbrev pub words_aside : List Item → List Item
 words_aside tree = map word_aside tree
 
 -- the same tree, in which each binding is called by one name wherever it occurs and a global keeps its symbol; each context of an occurrence is 0, and those of plain words count for nothing
-pub record IsNamed (before after : List Item) : Type 0 where
+pub record RenamesBindings (before after : List Item) : Type 0 where
   pub table : Denotations
   pub denotes : IsTable ByContext Es before table
   pub names : Names
