@@ -8,7 +8,7 @@ use Rattle.bundle_terms.specs.Rebuilds.{ident_eq}
 use Rattle.bundle_tree.specs.IdName.{IdName, name_cmp}
 use Rattle.bundle_tree.specs.IdNameLaws.{name_cmp-ties}
 use Rattle.bundle_lists.proofs.RenameLemmas.{lookup-map, lookup-same}
-use Rattle.bundle_marks.specs.Idents.{ident_named, pair_named}
+use Rattle.bundle_renaming.specs.Idents.{ident_named, pair_named}
 
 -- what is found for an identifier is what the map has for its name
 pub lookup-named : (pairs : List (IdName × IdName)) (name : IdName) → lookup (ident_eq (ident_named name)) (map pair_named pairs) ≡ option_map ident_named (lookup (λ key. is_eq (name_cmp name key)) pairs)

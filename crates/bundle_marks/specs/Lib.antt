@@ -1,2 +1,1 @@
-pub mod Idents
 pub mod Owned

@@ -8,7 +8,7 @@ ghost use Rattle.bundle_pieces.specs.Tree.{module_item_items};
 ghost use Rattle.bundle_terms.specs.Rebuilds.{becomes_by, change_to as change_to_lem, changes_to, ident_eq, renamed_by, with_idents as with_idents_lem};
 ghost use Rattle.bundle_lists.specs.Changes.{change_of};
 ghost use Rattle.bundle_lists.specs.Marks.{ident_of};
-ghost use Rattle.bundle_marks.specs.Idents.{ident_in, ident_named, pair_named};
+ghost use Rattle.bundle_renaming.specs.Idents.{ident_in, ident_named, pair_named};
 
 use crate::items::lent_occurrences;
 use bundle_ast::{Ident, ModuleItem};

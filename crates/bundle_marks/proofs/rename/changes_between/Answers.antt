@@ -4,7 +4,7 @@ use Rattle.bundle_terms.specs.Rebuilds.{Change}
 use Rattle.bundle_lists.specs.Changes.{change_of}
 use Rattle.bundle_lists.specs.Marks.{ident_of}
 use Rattle.bundle_lists.proofs.RenameLemmas.{changes_to-none}
-use Rattle.bundle_marks.specs.Idents.{ident_in}
+use Rattle.bundle_renaming.specs.Idents.{ident_in}
 use Rattle.bundle_marks.proofs.rename.changes_between.Goals as goal
 
 pub returns : goal.returns

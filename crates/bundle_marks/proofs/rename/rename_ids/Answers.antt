@@ -6,7 +6,7 @@ use Rattle.bundle_pieces.specs.Tree.{module_item_items}
 use Rattle.bundle_lists.specs.Changes.{change_of}
 use Rattle.bundle_lists.specs.Marks.{listed_of}
 use Rattle.bundle_lists.proofs.RenameLemmas.{renamed-is}
-use Rattle.bundle_marks.specs.Idents.{pair_named}
+use Rattle.bundle_renaming.specs.Idents.{pair_named}
 use Rattle.bundle_marks.proofs.rename.rename_ids.Goals as goal
 
 pub returns : goal.returns

@@ -6,7 +6,7 @@ use Rattle.bundle_pieces.specs.Tree.{module_item_items}
 use Rattle.bundle_lists.specs.Changes.{change_of}
 use Rattle.bundle_lists.specs.Marks.{listed_of}
 use Rattle.bundle_lists.proofs.RenameLemmas.{with_idents-is}
-use Rattle.bundle_marks.specs.Idents.{ident_in}
+use Rattle.bundle_renaming.specs.Idents.{ident_in}
 use Rattle.bundle_marks.proofs.rename.with_idents.Goals as goal
 
 pub returns : goal.returns

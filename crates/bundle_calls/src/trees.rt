@@ -1,0 +1,132 @@
+//! Trees of rows, and how they are written.
+
+use anyhow::{Context, Result, bail};
+use bundle_ast::{ExportMetadata, Module, ModuleItem};
+use bundle_restore::build_module;
+use bundle_form::{read_module, tree_value};
+use bundle_id::SyntaxContext;
+use bundle_name::FileName;
+use bundle_listing::pieces_of_module;
+use bundle_scope::scope::{
+    Contexts, ModuleKind, Renaming, occurrences, rename_all, resolve_scopes,
+};
+use bundle_tree::Id;
+use serde_json::Value;
+use std::alloc::Global;
+
+/// The text under a key.
+pub(crate) fn text<'a>(row: &'a Value, key: &str) -> Result<&'a str> {
+    row.get(key)
+        .and_then(Value::as_str)
+        .context(format_args!("no text {key:?}"))
+}
+
+/// The list under a key, empty where there is none.
+pub(crate) fn list<'a>(row: &'a Value, key: &str) -> &'a [Value] {
+    match row.get(key).and_then(Value::as_array) {
+        Some(list) => list.as_slice(),
+        None => &[],
+    }
+}
+
+/// The module that a value stands for.
+pub(crate) fn module_in(alloc: Global, value: &Value, injected: bool) -> Result<Module> {
+    let notes = ExportMetadata {
+        injected,
+        export_ctxt: None,
+    };
+    let list = read_module(alloc, value, &notes)?;
+    Ok(build_module(alloc, list.as_slice())?)
+}
+
+/// The module under the key `module`.
+pub(crate) fn module_of(alloc: Global, row: &Value) -> Result<Module> {
+    let value = row.get("module").context("no module")?;
+    module_in(alloc, value, false)
+}
+
+/// The contexts of a file.
+pub(crate) fn contexts(alloc: Global, local: u32, next: u32) -> Result<Contexts> {
+    let file = FileName::Real(String::from_str(alloc, "main.js")?);
+    Ok(Contexts::new(file, SyntaxContext::from_u32(local), next))
+}
+
+/// The modules under the key `modules` and those under `free`, resolved and renamed by `pairs` and then by `then`.
+/// The names of their tops have the contexts 2, 4 and so on, or all of them 2.
+pub(crate) fn modules_of(alloc: Global, row: &Value, is_shared: bool) -> Result<Vec<Module>> {
+    let first = renaming_of(alloc, list(row, "pairs"))?;
+    let renaming = first.then(&renaming_of(alloc, list(row, "then"))?)?;
+    let mut modules = Vec::new(alloc);
+    let mut local = 2u32;
+    let mut next = 100;
+    for (key, injected) in [("modules", false), ("free", true)] {
+        for value in list(row, key) {
+            let module = module_in(alloc, value, injected)?;
+            let mut contexts = contexts(alloc, local, next)?;
+            let module = resolve_scopes(alloc, &module, ModuleKind::Es, &mut contexts)?;
+            let body = rename_all(alloc, module.body.as_slice(), &renaming)?;
+            modules.push(Module { body })?;
+            next = contexts.next();
+            if !is_shared {
+                local = local.saturating_add(2);
+            }
+        }
+    }
+    Ok(modules)
+}
+
+/// The JSON text of a tree.
+pub(crate) fn tree_text(alloc: Global, module: &Module) -> Result<String> {
+    let pieces = pieces_of_module(alloc, module)?;
+    let form = tree_value(alloc, pieces.as_slice())?;
+    Ok(form.to_string(alloc)?)
+}
+
+/// The identifiers of some items, a `+` before each that binds.
+pub(crate) fn occurrences_text(alloc: Global, items: &[ModuleItem]) -> Result<String> {
+    let mut text = String::new(alloc);
+    for occurrence in occurrences(alloc, items)? {
+        let sign = if occurrence.binding { " +" } else { " " };
+        let id = occurrence.id;
+        write!(text, "{sign}{id:?}")?;
+    }
+    Ok(text)
+}
+
+/// The identifier in an array of its symbol and its context, from this place on.
+pub(crate) fn id_at(alloc: Global, pair: &Value, place: usize) -> Result<Id> {
+    let sym = pair
+        .get(place)
+        .and_then(Value::as_str)
+        .context("no symbol")?;
+    let ctxt = pair
+        .get(place.saturating_add(1))
+        .and_then(Value::as_u64)
+        .context("no context")?;
+    let ctxt = SyntaxContext::from_u32(u32::try_from(ctxt)?);
+    Ok(Id::new(String::from_str(alloc, sym)?, ctxt))
+}
+
+/// The number at a place in an array.
+pub(crate) fn number_at(pair: &Value, place: usize) -> Result<usize> {
+    let number = pair
+        .get(place)
+        .and_then(Value::as_u64)
+        .context("no number")?;
+    Ok(usize::try_from(number)?)
+}
+
+/// The renaming of these pairs, each an array of two symbols with their contexts.
+pub(crate) fn renaming_of(alloc: Global, pairs: &[Value]) -> Result<Renaming> {
+    let mut renaming = Renaming::empty(alloc);
+    for pair in pairs {
+        let from = id_at(alloc, pair, 0)?;
+        let to = id_at(alloc, pair, 2)?;
+        renaming.insert(from.clone()?, to.clone()?)?;
+        let found = renaming.get(&from).context("no pair")?;
+        if *found != to {
+            bail!("another pair");
+        }
+    }
+    Ok(renaming)
+}

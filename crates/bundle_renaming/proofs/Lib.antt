@@ -1,0 +1,5 @@
+pub mod LawLemmas
+pub mod RenamingLemmas
+pub mod Shapes
+pub mod TreeParts
+pub mod Twice

@@ -1,0 +1,5 @@
+pub mod FacesLemmas
+pub mod NamedLemmas
+pub mod RefusalLemmas
+pub mod RenameLemmas
+pub mod WordsLemmas

@@ -1,0 +1,24 @@
+-- The names are those of the keywords, and the tree has them.
+use Rattle.std.proofs.Common.{◌≡◌, List, map, ap, ◌∙◌, subst}
+use Rattle.bundle_piece.specs.Item.{Item, item_of}
+use Rattle.bundle_places.specs.Scopes.{Es}
+use Rattle.bundle_places.specs.Declarations.{ByContext}
+use Rattle.bundle_terms.specs.Rebuilds.{rebuilt}
+use Rattle.bundle_lists.specs.Changes.{change_of}
+use Rattle.bundle_denote.specs.Listed.{IsTable}
+use Rattle.bundle_naming.specs.declared.names.Contexts.TheVariants.{Keep}
+use Rattle.bundle_renaming.specs.Composed.{list_of}
+use Rattle.bundle_scope.proofs.NamedLemmas.{called-is}
+use Rattle.bundle_scope.proofs.naming.KeywordRenamer.run.Goals as goal
+
+pub returns : goal.returns
+returns c = record {
+  table = c.in_ok-table.table;
+  denotes = subst (λ tree. IsTable ByContext Es tree c.in_ok-table.table) (ap (map item_of) c.deref.ensures.value ∙ c.in_ok-list.ensures ∙ ap list_of c.as_slice-items.ensures.value) c.in_ok-table.ensures;
+  names = c.in_ok-names.names;
+  texts = c.in_ok-names.ensures.texts;
+  is =
+      c.in_ok-body.ensures
+      ∙ ap (rebuilt (list_of c.as_slice-items.result.now)) (ap (map change_of) c.deref-4.ensures.value ∙ c.in_ok-changes.ensures)
+      ∙ called-is _ _ (list_of c.args.module.now.body.items) Keep c.in_ok-names.names c.in_ok-table.table (ap list_of c.as_slice-items.ensures.value) (ap (map item_of) c.deref-3.ensures.value ∙ c.in_ok-list.ensures ∙ ap list_of c.as_slice-items.ensures.value);
+}

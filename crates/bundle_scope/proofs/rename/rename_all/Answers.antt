@@ -1,0 +1,12 @@
+-- The changes are those by the renaming.
+use Rattle.std.proofs.Common.{map, ap, ◌∙◌}
+use Rattle.bundle_lists.specs.Changes.{change_of}
+use Rattle.bundle_lists.specs.Marks.{listed_of}
+use Rattle.bundle_renaming.specs.Composed.{list_of}
+use Rattle.bundle_scope.proofs.RenameLemmas.{renamed_all-is}
+use Rattle.bundle_scope.proofs.rename.rename_all.Goals as goal
+
+pub returns : goal.returns
+returns c =
+    c.in_ok-rebuild_items.ensures
+    ∙ renamed_all-is (list_of c.args.items.now) c.args.renaming.now c.deref.result.now _ (ap (map listed_of) c.deref.ensures.value ∙ c.in_ok-listing.ensures.occurrences) (ap (map change_of) c.deref-2.ensures.value ∙ c.in_ok-changes.ensures)

@@ -1,0 +1,13 @@
+-- Where nothing is left of one of the lists, all changes are there.
+use Rattle.std.proofs.Common.{List, ◌++◌, map, inl, inr, append-nil, ap, sym, ◌∙◌}
+use Rattle.bundle_terms.specs.Rebuilds.{Change}
+use Rattle.bundle_lists.specs.Changes.{change_of}
+use Rattle.bundle_lists.specs.Marks.{ident_of}
+use Rattle.bundle_scope.proofs.FacesLemmas.{none-left}
+use Rattle.bundle_scope.proofs.resolve.changes_to.Goals as goal
+
+pub returns : goal.returns
+returns c =
+    sym (append-nil _)
+    ∙ ap (λ (rest : List Change). map change_of c.loop-occurrence.changes.items ++ rest) (sym (none-left (λ o. ident_of o.id) c.loop-occurrence.occurrence-iterator.a.rest.now c.loop-occurrence.occurrence-iterator.b.rest.now (elim c.in-None.ensures.steps [ inl none ↦ inl none.1.0 | inr none ↦ inr none.1.0 ])))
+    ∙ c.loop-occurrence.invariant

@@ -1,0 +1,9 @@
+-- The lists so far are the same, the contexts of plain words aside.
+use Rattle.std.proofs.Common.{◌≡◌, length}
+use Rattle.std.specs.List.{flat_map}
+use Rattle.bundle_pieces.specs.Tree.{import_specifier_items}
+use Rattle.bundle_scope.specs.Named.{words_aside}
+use Rattle.bundle_scope.proofs.words.clear_imports.Given as goal
+
+abbrev pub invariant-loop-place : goal.invariant-loop-place
+invariant-loop-place l = (length l.specifiers.items ≡ l.place-end) × (words_aside (flat_map (import_specifier_items 0) l.specifiers.items) ≡ words_aside (flat_map (import_specifier_items 0) l.initial.specifiers.items))

@@ -1,0 +1,5 @@
+pub mod Contexts
+pub mod Faces
+pub mod Named
+pub mod Refusals
+pub mod Resolved

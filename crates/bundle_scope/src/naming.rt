@@ -1,0 +1,50 @@
+//! The names of a bundle: without keywords, and without clashes once contexts are gone.
+
+ghost use Rattle.std.specs.Prelude.{IfOk};
+ghost use Rattle.bundle_renaming.specs.Composed.{list_of};
+ghost use Rattle.bundle_scope.specs.Named.{RenamesBindings, RenamesKeywords};
+
+use crate::words::clear_words;
+use bundle_ast::Module;
+use bundle_denote::{ModuleKind, Reading, denotations};
+use bundle_name::Error;
+use bundle_naming::{Contexts, Names, changes_of, hygienic_names, keyword_names};
+use bundle_listing::pieces;
+use bundle_rewrite::rebuild_items;
+use std::alloc::Global;
+
+/// The renamer of keywords.
+#[derive(Clone, Copy, PartialEq, Eq, Debug)]
+pub struct KeywordRenamer;
+
+impl KeywordRenamer {
+    /// The module in which each binding with the symbol of a reserved word has `__` before it, wherever it
+    /// occurs (ECMA-262, 12.7.2). Globals stay, and all other names. Refused only where memory runs out.
+    pub fn run(alloc: Global, module: &Module) -> Result<Module, Error>
+        ensures { IfOk result (λ made. RenamesKeywords (list_of «module».now.body.items) (list_of made.body.items)) }
+    {
+        let items = module.body.as_slice();
+        let list = pieces(alloc, items)?;
+        let table = denotations(alloc, &list, ModuleKind::Es, Reading::ByContext)?;
+        let names = keyword_names(alloc, &list, &table)?;
+        let changes = changes_of(alloc, &list, &table, &names, Contexts::Keep)?;
+        let body = rebuild_items(alloc, items, &changes)?;
+        Ok(Module { body })
+    }
+}
+
+/// The module in which each name denotes by its symbol what it denoted by symbol and context, and each context
+/// is 0. No binding is renamed without need, and globals keep their names. Refused only where memory runs out.
+pub fn hygiene(alloc: Global, module: &Module) -> Result<Module, Error>
+    ensures { IfOk result (λ made. RenamesBindings (list_of «module».now.body.items) (list_of made.body.items)) }
+{
+    let items = module.body.as_slice();
+    let list = pieces(alloc, items)?;
+    let table = denotations(alloc, &list, ModuleKind::Es, Reading::ByContext)?;
+    let kept = Names::kept(alloc, table.bindings.len())?;
+    let names = hygienic_names(alloc, &list, &table, &kept)?;
+    let changes = changes_of(alloc, &list, &table, &names, Contexts::Clear)?;
+    let mut body = rebuild_items(alloc, items, &changes)?;
+    clear_words(&mut body);
+    Ok(Module { body })
+}

@@ -1,0 +1,75 @@
+//! The items of a module, renamed.
+
+ghost use Rattle.std.specs.Prelude.{◌≡◌, false, IfOk, map, unwrap_or};
+ghost use Rattle.std.specs.Map.{lookup};
+ghost use Rattle.bundle_terms.specs.Rebuilds.{change_by as change_by_lem, ident_eq, renamed_all};
+ghost use Rattle.bundle_lists.specs.Changes.{change_of};
+ghost use Rattle.bundle_lists.specs.Marks.{ident_of};
+ghost use Rattle.bundle_renaming.specs.Idents.{ident_named};
+ghost use Rattle.bundle_renaming.specs.Composed.{list_of};
+ghost use Rattle.bundle_renaming.specs.Renamings.{unchanged};
+
+use crate::listing::listing_of;
+use bundle_renaming::Renaming;
+use bundle_ast::ModuleItem;
+use bundle_id::SyntaxContext;
+use bundle_lists::{Change, Name, Occurrence};
+use bundle_name::Error;
+use bundle_rewrite::rebuild_items;
+use bundle_tree::Id;
+use std::alloc::{AllocError, Global};
+
+/// The items with each identifier that binds or refers renamed. What is short is spelled out where some step
+/// of the renaming changed the symbol. Refused only where memory runs out.
+pub fn rename_all(
+    alloc: Global,
+    items: &[ModuleItem],
+    renaming: &Renaming,
+) -> Result<Vec<ModuleItem>, Error>
+    ensures { IfOk result (λ made. list_of made.items ≡ renamed_all renaming.now (list_of items.now)) }
+{
+    let listing = listing_of(alloc, items)?;
+    let changes = changes_by(alloc, &listing.occurrences, renaming)?;
+    Ok(rebuild_items(alloc, items, &changes)?)
+}
+
+// The changes of these occurrences to what they become. One text serves to ask for each of them.
+fn changes_by<'a>(
+    alloc: Global,
+    listed: &[Occurrence<'a>],
+    renaming: &'a Renaming,
+) -> Result<Vec<Change<'a>>, AllocError>
+    ensures { IfOk result (λ changes. map change_of changes.items ≡ map (λ o. change_by_lem renaming.now (ident_of o.id)) listed.now) }
+{
+    let mut changes = Vec::new(alloc);
+    let mut text = String::new(alloc);
+    for occurrence in listed {
+        let old = occurrence.id;
+        text.clear();
+        text.push_str(old.sym)?;
+        let id = Id::new(text, SyntaxContext::from_u32(old.ctxt));
+        let change = change_by(renaming, &id, old);
+        text = id.into_ident().sym;
+        changes.push(change)?;
+    }
+    Ok(changes)
+}
+
+// The change of the identifier of this name.
+fn change_by<'a>(renaming: &'a Renaming, id: &Id, ident: Name<'a>) -> Change<'a>
+    ensures { change_of result ≡ unwrap_or (lookup (ident_eq (ident_named id.now)) renaming.now) (unchanged (ident_of ident.entry)) }
+{
+    match renaming.step(id) {
+        Some(step) => Change {
+            ident: Name {
+                sym: step.to.sym(),
+                ctxt: step.to.ctxt().as_u32(),
+            },
+            is_spelled_out: step.is_spelled_out,
+        },
+        None => Change {
+            ident,
+            is_spelled_out: false,
+        },
+    }
+}

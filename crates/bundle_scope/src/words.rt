@@ -1,0 +1,127 @@
+//! The identifiers of a module that denote nothing in it: names of other modules, and those that it exports under.
+
+ghost use Rattle.std.specs.Prelude.{◌≡◌, ℕ, flat_map};
+ghost use Rattle.bundle_piece.specs.declared.piece.Role.TheVariants as role;
+ghost use Rattle.bundle_pieces.specs.Tree.{export_specifier_items, import_specifier_items, module_decl_items, module_export_name_items, module_item_items, option_items};
+ghost use Rattle.bundle_renaming.specs.Composed.{list_of};
+ghost use Rattle.bundle_scope.specs.Named.{words_aside};
+
+use bundle_ast::{ExportSpecifier, ImportSpecifier, ModuleDecl, ModuleExportName, ModuleItem};
+use bundle_id::SyntaxContext;
+
+/// Makes the context of each name that is imported or exported 0.
+pub(crate) fn clear_words(items: &mut Vec<ModuleItem>)
+    ensures { words_aside (list_of items.new.items) ≡ words_aside (list_of items.old.items) }
+{
+    for place in 0..items.len() {
+        clear_item(&mut items[place]);
+    }
+}
+
+fn clear_item(item: &mut ModuleItem)
+    ensures { words_aside (module_item_items 0 item.new) ≡ words_aside (module_item_items 0 item.old) }
+{
+    if let ModuleItem::ModuleDecl(decl) = item {
+        clear_decl(decl);
+    }
+}
+
+fn clear_decl(decl: &mut ModuleDecl)
+    ensures { words_aside (module_decl_items 0 decl.new) ≡ words_aside (module_decl_items 0 decl.old) }
+{
+    match decl {
+        ModuleDecl::ImportDecl { specifiers, .. } => clear_imports(specifiers),
+        ModuleDecl::NamedExport {
+            specifiers,
+            src: None,
+            ..
+        } => clear_exports(specifiers),
+        ModuleDecl::NamedExport { specifiers, .. } => clear_names(specifiers),
+        ModuleDecl::ExportDecl { .. } => {}
+        ModuleDecl::ExportDefaultDecl { .. } => {}
+        ModuleDecl::ExportDefaultExpr { .. } => {}
+        ModuleDecl::ExportAll { .. } => {}
+    }
+}
+
+fn clear_imports(specifiers: &mut Vec<ImportSpecifier>)
+    ensures { words_aside (flat_map (import_specifier_items 0) specifiers.new.items) ≡ words_aside (flat_map (import_specifier_items 0) specifiers.old.items) }
+{
+    for place in 0..specifiers.len() {
+        clear_import(&mut specifiers[place]);
+    }
+}
+
+// The specifiers of a list with names of this module.
+fn clear_exports(specifiers: &mut Vec<ExportSpecifier>)
+    ensures { words_aside (flat_map (export_specifier_items role.Reference 0) specifiers.new.items) ≡ words_aside (flat_map (export_specifier_items role.Reference 0) specifiers.old.items) }
+{
+    for place in 0..specifiers.len() {
+        clear_export(&mut specifiers[place]);
+    }
+}
+
+// The specifiers of a list with names of another module.
+fn clear_names(specifiers: &mut Vec<ExportSpecifier>)
+    ensures { words_aside (flat_map (export_specifier_items role.Word 0) specifiers.new.items) ≡ words_aside (flat_map (export_specifier_items role.Word 0) specifiers.old.items) }
+{
+    for place in 0..specifiers.len() {
+        clear_both(&mut specifiers[place]);
+    }
+}
+
+fn clear_import(specifier: &mut ImportSpecifier)
+    ensures { words_aside (import_specifier_items 0 specifier.new) ≡ words_aside (import_specifier_items 0 specifier.old) }
+{
+    match specifier {
+        ImportSpecifier::ImportNamedSpecifier { imported, .. } => clear_option(imported),
+        ImportSpecifier::ImportDefaultSpecifier { .. } => {}
+        ImportSpecifier::ImportStarAsSpecifier { .. } => {}
+    }
+}
+
+// The name under which a specifier exports.
+fn clear_export(specifier: &mut ExportSpecifier)
+    ensures own { words_aside (export_specifier_items role.Reference 0 specifier.new) ≡ words_aside (export_specifier_items role.Reference 0 specifier.old) }
+    ensures other { words_aside (export_specifier_items role.Word 0 specifier.new) ≡ words_aside (export_specifier_items role.Word 0 specifier.old) }
+{
+    match specifier {
+        ExportSpecifier::ExportNamespaceSpecifier { name } => clear_name(name),
+        ExportSpecifier::ExportNamedSpecifier { exported, .. } => clear_option(exported),
+    }
+}
+
+// The names in a specifier with names of another module.
+fn clear_both(specifier: &mut ExportSpecifier)
+    ensures { words_aside (export_specifier_items role.Word 0 specifier.new) ≡ words_aside (export_specifier_items role.Word 0 specifier.old) }
+{
+    clear_orig(specifier);
+    clear_export(specifier);
+}
+
+// The name that a specifier takes from another module.
+fn clear_orig(specifier: &mut ExportSpecifier)
+    ensures { words_aside (export_specifier_items role.Word 0 specifier.new) ≡ words_aside (export_specifier_items role.Word 0 specifier.old) }
+{
+    match specifier {
+        ExportSpecifier::ExportNamespaceSpecifier { .. } => {}
+        ExportSpecifier::ExportNamedSpecifier { orig, .. } => clear_name(orig),
+    }
+}
+
+fn clear_option(name: &mut Option<ModuleExportName>)
+    ensures { words_aside (option_items (module_export_name_items role.Word 1) name.new) ≡ words_aside (option_items (module_export_name_items role.Word 1) name.old) }
+{
+    if let Some(name) = name {
+        clear_name(name);
+    }
+}
+
+fn clear_name(name: &mut ModuleExportName)
+    ensures { (field : ℕ) → words_aside (module_export_name_items role.Word field name.new) ≡ words_aside (module_export_name_items role.Word field name.old) }
+{
+    match name {
+        ModuleExportName::Ident(ident) => ident.ctxt = SyntaxContext::empty(),
+        ModuleExportName::Str(_) => {}
+    }
+}
