@@ -2,11 +2,11 @@
 
 use anyhow::{Context, Result, bail};
 use bundle_ast::{ExportMetadata, Module, ModuleItem};
-use bundle_restore::build_module;
 use bundle_form::{read_module, tree_value};
 use bundle_id::SyntaxContext;
-use bundle_name::FileName;
 use bundle_listing::pieces_of_module;
+use bundle_name::FileName;
+use bundle_restore::build_module;
 use bundle_scope::scope::{
     Contexts, ModuleKind, Renaming, occurrences, rename_all, resolve_scopes,
 };

@@ -75,7 +75,6 @@ number-none next (a ∷ given) b k x e at = by_test (λ j none there. number-non
     by_test rest false is none zero there = λ same. other-number a b is (same_Some a x there ∙ sym same)
     by_test rest false is none (suc j) there = rest j none there
 
-
 pub where-in : (given : List ℕ) (b k x : ℕ) → slice_get (given ++ b ∷ []) k ≡ Some x → (slice_get given k ≡ Some x) ⊎ ((k ≡ length given) × (b ≡ x))
 where-in [] b zero x at = inr (refl, same_Some b x at)
 where-in [] b (suc k) x at = absurd (none-some x at)

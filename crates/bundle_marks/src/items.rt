@@ -53,10 +53,7 @@ pub fn occurrences(alloc: Global, items: &[ModuleItem]) -> Result<Vec<Occurrence
 }
 
 // The marks of the items, with texts that are lent from them.
-fn lent_marks<'a>(
-    alloc: Global,
-    items: &'a [ModuleItem],
-) -> Result<Vec<lent::Mark<'a>>, AllocError>
+fn lent_marks<'a>(alloc: Global, items: &'a [ModuleItem]) -> Result<Vec<lent::Mark<'a>>, AllocError>
     ensures { IfOk result (λ marks. map lent_mark marks.items ≡ marks_of_lem (flat_map (module_item_items 0) items.now)) }
 {
     let list = pieces(alloc, items)?;
@@ -75,10 +72,7 @@ pub(crate) fn lent_occurrences<'a>(
 }
 
 // The marks with texts of their own at the occurrences.
-fn own_marks<'a>(
-    alloc: Global,
-    marks: &[lent::Mark<'a>],
-) -> Result<Vec<Mark<'a>>, AllocError>
+fn own_marks<'a>(alloc: Global, marks: &[lent::Mark<'a>]) -> Result<Vec<Mark<'a>>, AllocError>
     ensures { IfOk result (λ own. map mark_of own.items ≡ map lent_mark marks.now) }
 {
     let mut own = Vec::new(alloc);

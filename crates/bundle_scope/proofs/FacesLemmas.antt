@@ -1,5 +1,5 @@
 -- The same identifiers in other contexts.
-use Rattle.std.proofs.Common.{◌≡◌, ◌⊎◌, ℕ, Some, subst, Bool, false, not, List, [], ◌∷◌, length, map, bytes_eq, inl, inr, arith, refl, ap, sym, ◌∙◌}
+use Rattle.std.proofs.Common.{◌≡◌, ◌⊎◌, ℕ, Some, subst, false, not, List, [], ◌∷◌, length, map, bytes_eq, inl, inr, arith, refl, ap, sym, ◌∙◌}
 use Rattle.std.proofs.lemmas.Slice.Eq.{bytes_eq-Decides}
 use Rattle.bundle_piece.specs.Item.{Item}
 use Rattle.bundle_places.specs.Places.{Occurrence as Place, occurrences}

@@ -7,9 +7,9 @@ ghost use Rattle.bundle_lists.specs.Marks.{listed_of};
 ghost use Rattle.bundle_renaming.specs.Composed.{list_of};
 
 use bundle_ast::ModuleItem;
+use bundle_listing::pieces;
 use bundle_lists::{Occurrence, occurrences_of};
 use bundle_piece::Piece;
-use bundle_listing::pieces;
 use std::alloc::{AllocError, Global};
 
 /// The list of the items of a module, and its occurrences.

@@ -7,9 +7,9 @@ ghost use Rattle.bundle_scope.specs.Named.{RenamesBindings, RenamesKeywords};
 use crate::words::clear_words;
 use bundle_ast::Module;
 use bundle_denote::{ModuleKind, Reading, denotations};
+use bundle_listing::pieces;
 use bundle_name::Error;
 use bundle_naming::{Contexts, Names, changes_of, hygienic_names, keyword_names};
-use bundle_listing::pieces;
 use bundle_rewrite::rebuild_items;
 use std::alloc::Global;
 

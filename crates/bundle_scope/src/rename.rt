@@ -10,11 +10,11 @@ ghost use Rattle.bundle_renaming.specs.Composed.{list_of};
 ghost use Rattle.bundle_renaming.specs.Renamings.{unchanged};
 
 use crate::listing::listing_of;
-use bundle_renaming::Renaming;
 use bundle_ast::ModuleItem;
 use bundle_id::SyntaxContext;
 use bundle_lists::{Change, Name, Occurrence};
 use bundle_name::Error;
+use bundle_renaming::Renaming;
 use bundle_rewrite::rebuild_items;
 use bundle_tree::Id;
 use std::alloc::{AllocError, Global};

@@ -1,6 +1,6 @@
 -- The tree has the names, and the contexts of plain words count for nothing.
-use Rattle.std.proofs.Common.{◌≡◌, List, map, ap, ◌∙◌, subst}
-use Rattle.bundle_piece.specs.Item.{Item, item_of}
+use Rattle.std.proofs.Common.{map, ap, ◌∙◌, subst}
+use Rattle.bundle_piece.specs.Item.{item_of}
 use Rattle.bundle_places.specs.Scopes.{Es}
 use Rattle.bundle_places.specs.Declarations.{ByContext}
 use Rattle.bundle_terms.specs.Rebuilds.{rebuilt}

@@ -1,5 +1,5 @@
 -- The renaming is asked for the name.
-use Rattle.std.proofs.Common.{◌≡◌, unwrap_or, ap, sym, ◌∙◌}
+use Rattle.std.proofs.Common.{unwrap_or, ap, ◌∙◌}
 use Rattle.bundle_lists.specs.Marks.{ident_of}
 use Rattle.bundle_renaming.specs.Renamings.{unchanged}
 use Rattle.bundle_scope.proofs.RenameLemmas.{both}

@@ -8,7 +8,8 @@ use Rattle.bundle_scope.proofs.WordsLemmas.{words_set}
 use Rattle.bundle_scope.proofs.words.clear_exports.Goals as goal
 
 pub loop-place-preserved : goal.loop-place-preserved
-loop-place-preserved c =
-    (length-set _ _ _ ∙ c.loop-place.invariant.0,
-    words_set (export_specifier_items Reference 0) c.loop-place.specifiers.items c.loop-place.place c.clear_export.new.specifier _ (c.clear_export.ensures.own ∙ ap (λ old. words_aside (export_specifier_items Reference 0 old)) c.index_mut.ensures.value)
-    ∙ c.loop-place.invariant.1)
+loop-place-preserved c = (
+  length-set _ _ _ ∙ c.loop-place.invariant.0,
+  words_set (export_specifier_items Reference 0) c.loop-place.specifiers.items c.loop-place.place c.clear_export.new.specifier _ (c.clear_export.ensures.own ∙ ap (λ old. words_aside (export_specifier_items Reference 0 old)) c.index_mut.ensures.value)
+      ∙ c.loop-place.invariant.1,
+)

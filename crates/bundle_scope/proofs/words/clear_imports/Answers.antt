@@ -7,7 +7,8 @@ use Rattle.bundle_scope.proofs.WordsLemmas.{words_set}
 use Rattle.bundle_scope.proofs.words.clear_imports.Goals as goal
 
 pub loop-place-preserved : goal.loop-place-preserved
-loop-place-preserved c =
-    (length-set _ _ _ ∙ c.loop-place.invariant.0,
-    words_set (import_specifier_items 0) c.loop-place.specifiers.items c.loop-place.place c.clear_import.new.specifier _ (c.clear_import.ensures ∙ ap (λ old. words_aside (import_specifier_items 0 old)) c.index_mut.ensures.value)
-    ∙ c.loop-place.invariant.1)
+loop-place-preserved c = (
+  length-set _ _ _ ∙ c.loop-place.invariant.0,
+  words_set (import_specifier_items 0) c.loop-place.specifiers.items c.loop-place.place c.clear_import.new.specifier _ (c.clear_import.ensures ∙ ap (λ old. words_aside (import_specifier_items 0 old)) c.index_mut.ensures.value)
+      ∙ c.loop-place.invariant.1,
+)
