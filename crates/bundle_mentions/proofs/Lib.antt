@@ -1,3 +1,4 @@
+pub mod DependLemmas
 pub mod EventLemmas
 pub mod ListLemmas
 pub mod ProvideLemmas

@@ -58,6 +58,16 @@ module _ {X Y : Type 0} (f : X → Y) (p : X → Bool) where
         λ g. elim ((Contains-cons x xs g.0).0 g.1) [ inl s ↦ absurd (true≢false (sym g.2 ∙ (ap p (sym s) ∙ e))) | inr r ↦ ih.1 (g.0, r, g.2, g.3) ],
       )
 
+pub Contains-map : {X Y : Type 0} (f : X → Y) (xs : List X) (y : Y) → Contains (map f xs) y ↔ ((x : X) × Contains xs x × (f x ≡ y))
+Contains-map f [] y = (λ c. absurd (Contains-none y c), λ g. absurd (Contains-none g.0 g.1))
+Contains-map {X} f (x ∷ xs) y = step (Contains-map f xs y)
+  where
+    step : Contains (map f xs) y ↔ ((z : X) × Contains xs z × (f z ≡ y)) → Contains (map f (x ∷ xs)) y ↔ ((z : X) × Contains (x ∷ xs) z × (f z ≡ y))
+    step ih = (
+      λ c. elim ((Contains-cons (f x) (map f xs) y).0 c) [ inl s ↦ (x, (Contains-cons x xs x).1 (inl refl), s) | inr r ↦ let g = ih.0 r in (g.0, (Contains-cons x xs g.0).1 (inr g.1), g.2) ],
+      λ g. (Contains-cons (f x) (map f xs) y).1 (elim ((Contains-cons x xs g.0).0 g.1) [ inl s ↦ inl (ap f s ∙ g.2) | inr r ↦ inr (ih.1 (g.0, r, g.2)) ]),
+    )
+
 -- ---- what is found first
 pub find-filter : {X : Type 0} (p q : X → Bool) (xs : List X) → find p (filter q xs) ≡ find (λ x. q x && p x) xs
 find-filter p q [] = refl

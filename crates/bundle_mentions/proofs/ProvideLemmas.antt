@@ -62,7 +62,7 @@ module _ (g : Group) where
       pub denotes : by.top ≡ Some b
       pub is : one ≡ seen_of t by b
 
-    Is-from : (t : ℕ) (one : Seen) (at : ℕ) (by : Mention) → t ≡ one.item → one.binding ≡ b → IsAt 0 g.items one.item at by → seen_as one.item by ≡ Some one → Is t one
+    pub Is-from : (t : ℕ) (one : Seen) (at : ℕ) (by : Mention) → t ≡ one.item → one.binding ≡ b → IsAt 0 g.items one.item at by → seen_as one.item by ≡ Some one → Is t one
     Is-from t one at by e same there gives =
         let two = seen_as-is one.item by one gives in
         record {
@@ -73,7 +73,7 @@ module _ (g : Group) where
           is = two.1 ∙ (ap (λ k. seen_of one.item by k) same ∙ ap (λ k. seen_of k by b) (sym e));
         }
 
-    Is-refers : (t : ℕ) (one : Seen) (i : Is t one) → one.declares ≡ false → Refers g t b i.by
+    pub Is-refers : (t : ℕ) (one : Seen) (i : Is t one) → one.declares ≡ false → Refers g t b i.by
     Is-refers t one i e = record { at = i.at; there = i.there; denotes = i.denotes; refers = ap (λ (x : Seen). x.declares) (sym i.is) ∙ e }
 
     Is-declares : (t : ℕ) (one : Seen) (i : Is t one) → one.declares ≡ true → DeclaresAt g t b i.at i.by
@@ -82,9 +82,6 @@ module _ (g : Group) where
     -- the other way
     pub contained : (t at : ℕ) (by : Mention) → mention_at g t at ≡ Some by → by.top ≡ Some b → Contains (seen_from 0 g.items) (seen_of t by b)
     contained t at by there denotes = Contains-at 0 g.items t at by (seen_of t by b) ((IsAt-mention g.items t at by).1 there) (seen_as-from t by b denotes)
-
-    of_it : (t : ℕ) (by : Mention) → is_of b (seen_of t by b) ≡ true
-    of_it t by = eq-eqb b b refl
 
     -- ---- the first that declares it
     module _ (d : Seen) (f : FirstSeen declares_it 0 g.items d) where

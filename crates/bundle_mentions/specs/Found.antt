@@ -23,3 +23,13 @@ IsEnd providers bindings number t = (t ≢ number) × ((b : ℕ) × Contains bin
 -- these items are added but for this one
 abbrev pub AddsEnds : List ℕ → ℕ → List ℕ → List ℕ → Type 0
 AddsEnds items number old new = (t : ℕ) → Contains new t ↔ (Contains old t ⊎ ((t ≢ number) × Contains items t))
+
+-- these are the dependencies of item s, which refers to these bindings, and strongly to those
+pub record IsFound (providers : List (List ℕ)) (all strong : List ℕ) (s : ℕ) (found : List Dependency) : Type 0 where
+  pub strong_ones : (t : ℕ) → Contains found (record { item = t; is_weak = false }) ↔ (IsEnd providers all s t × IsEnd providers strong s t)
+  pub weak_ones : (t : ℕ) → Contains found (record { item = t; is_weak = true }) ↔ (IsEnd providers all s t × (IsEnd providers strong s t → ⊥))
+  pub ascending : IsStrictlyIncreasing (map (λ one. one.item) found)
+
+-- the same in lists for all items
+abbrev pub IsFoundAt : List (List ℕ) → List (List ℕ) → List (List ℕ) → ℕ → List (List Dependency) → Type 0
+IsFoundAt providers all strong s found = IsFound providers (slice_index_or all s []) (slice_index_or strong s []) s (slice_index_or found s [])

@@ -4,7 +4,7 @@ ghost use Rattle.std.specs.Prelude.{◌≡◌, ℕ, ◌<◌, ◌↔◌, IfOk, On
 ghost use Rattle.std.specs.List.Sorted.{IsStrictlyIncreasing};
 ghost use Rattle.bundle_terms.specs.Order.{Group};
 ghost use Rattle.bundle_mentions.specs.Seen.{seen_from};
-ghost use Rattle.bundle_mentions.specs.Found.{AddsEnds, AreFound, IsEnd};
+ghost use Rattle.bundle_mentions.specs.Found.{AddsEnds, AreFound, IsEnd, IsFound, IsFoundAt};
 ghost use Rattle.bundle_mentions.specs.Providing.{item_and_binding, is_free as is_free_lem, refers as refers_lem, refers_strongly as refers_strongly_lem};
 
 use crate::numbers::{is_among, once, rows_of};
@@ -28,14 +28,46 @@ pub fn dependencies_among(
     ensures exact { IfOk result (λ found. (g : Group) → seen.now ≡ seen_from 0 g.items → owners.now ≡ g.owners → length g.items ≡ length g.owners → All (λ one. one.binding < count) seen.now → AreFound g (map (λ v. v.items) found.items)) }
 {
     let providers = providers_of(alloc, seen, owners, count)?;
-    let all = rows_of(alloc, owners.len(), &referred(alloc, seen)?)?;
-    let strong = rows_of(alloc, owners.len(), &referred_strongly(alloc, seen, owners)?)?;
+    let references = referred(alloc, seen)?;
+    let all = rows_of(alloc, owners.len(), &references)?;
+    let strong_references = referred_strongly(alloc, seen, owners)?;
+    let strong = rows_of(alloc, owners.len(), &strong_references)?;
+    let found = all_dependencies(alloc, &providers, &all, &strong)?;
+    Ok(found)
+}
+
+// For each item what it depends on, by the bindings to which it refers and those to which it refers strongly.
+fn all_dependencies(
+    alloc: Global,
+    providers: &[Vec<usize>],
+    all: &[Vec<usize>],
+    strong: &[Vec<usize>],
+) -> Result<Vec<Vec<Dependency>>, AllocError>
+    requires { length strong.now ≡ length all.now }
+    ensures len { IfOk result (λ found. length found.items ≡ length all.now) }
+    ensures each { IfOk result (λ found. (s : ℕ) → s < length all.now → IsFoundAt (map (λ v. v.items) providers.now) (map (λ v. v.items) all.now) (map (λ v. v.items) strong.now) s (map (λ v. v.items) found.items)) }
+{
     let mut found = Vec::new(alloc);
-    for number in 0..owners.len() {
-        let all = ends_of(alloc, &providers, &all[number], number)?;
-        let strong = ends_of(alloc, &providers, &strong[number], number)?;
-        found.push(dependencies_in(alloc, &all, &strong)?)?;
+    for number in 0..all.len() {
+        let row = dependencies_of(alloc, providers, &all[number], &strong[number], number)?;
+        found.push(row)?;
     }
+    Ok(found)
+}
+
+// What an item depends on, by the bindings to which it refers and those to which it refers strongly.
+fn dependencies_of(
+    alloc: Global,
+    providers: &[Vec<usize>],
+    all: &[usize],
+    strong: &[usize],
+    number: usize,
+) -> Result<Vec<Dependency>, AllocError>
+    ensures { IfOk result (λ found. IsFound (map (λ v. v.items) providers.now) all.now strong.now number found.items) }
+{
+    let ends = ends_of(alloc, providers, all, number)?;
+    let strong_ends = ends_of(alloc, providers, strong, number)?;
+    let found = dependencies_in(alloc, &ends, &strong_ends)?;
     Ok(found)
 }
 
@@ -96,14 +128,27 @@ fn ends_of(
     ensures ascending { IfOk result (λ ends. IsStrictlyIncreasing ends.items) }
     ensures each { IfOk result (λ ends. (t : ℕ) → Contains ends.items t ↔ IsEnd (map (λ v. v.items) providers.now) bindings.now number t) }
 {
-    let bindings = once(Vec::from_slice(alloc, bindings)?);
+    let wanted = once(Vec::from_slice(alloc, bindings)?);
+    let ends = ends_by(alloc, providers, &wanted, number)?;
+    Ok(once(ends))
+}
+
+// The same in the order of the bindings; an item may stand there twice.
+fn ends_by(
+    alloc: Global,
+    providers: &[Vec<usize>],
+    bindings: &[usize],
+    number: usize,
+) -> Result<Vec<usize>, AllocError>
+    ensures { IfOk result (λ ends. (t : ℕ) → Contains ends.items t ↔ IsEnd (map (λ v. v.items) providers.now) bindings.now number t) }
+{
     let mut ends = Vec::new(alloc);
-    for binding in &bindings {
+    for binding in bindings {
         if *binding < providers.len() {
             add_ends(&mut ends, &providers[*binding], number)?;
         }
     }
-    Ok(once(ends))
+    Ok(ends)
 }
 
 // Adds the items other than this one.

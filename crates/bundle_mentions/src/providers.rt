@@ -29,7 +29,8 @@ pub(crate) fn providers_of(
     let filling = filling(alloc, seen, owners, &firsts)?;
     let fillers = firsts_of(alloc, &filling, count)?;
     let providing = providing(alloc, seen, owners, &firsts, &fillers)?;
-    rows_of(alloc, count, &providing)
+    let rows = rows_of(alloc, count, &providing)?;
+    Ok(rows)
 }
 
 // For each of so many bindings the first of these that denotes it.
