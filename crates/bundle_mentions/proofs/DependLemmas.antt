@@ -115,10 +115,18 @@ module _ (g : Group) (providers all strong : List (List ℕ)) (found : List (Lis
       }
 
   Strongly-from : (s b : ℕ) (by : Mention) → Refers g s b by → (by.later ≡ false) ⊎ IsFree g s → Leads strong s b
-  Strongly-from s b by r how = (strongly s b).1 (within s b by r, (Contains-map_filter item_and_binding (refers_strongly g.owners) (seen_from 0 g.items) (s, b)).1 (seen_of s by b, contained g b s r.at by r.there r.denotes, and_from (not by.declares) (not by.later || is_free (get_or g.owners s None)) (not_from_false by.declares r.refers) (elim how [
-    | inl l ↦ or_left (not by.later) (is_free (get_or g.owners s None)) (not_from_false by.later l)
-    | inr f ↦ or_right (not by.later) (is_free (get_or g.owners s None)) (ap is_free (get_or_from_slice_get g.owners s None None f))
-  ]), refl))
+  Strongly-from s b by r how = (strongly s b).1 (
+    within s b by r,
+    (Contains-map_filter item_and_binding (refers_strongly g.owners) (seen_from 0 g.items) (s, b)).1 (
+      seen_of s by b,
+      contained g b s r.at by r.there r.denotes,
+      and_from (not by.declares) (not by.later || is_free (get_or g.owners s None)) (not_from_false by.declares r.refers) (elim how [
+        | inl l ↦ or_left (not by.later) (is_free (get_or g.owners s None)) (not_from_false by.later l)
+        | inr f ↦ or_right (not by.later) (is_free (get_or g.owners s None)) (ap is_free (get_or_from_slice_get g.owners s None None f))
+      ]),
+      refl,
+    ),
+  )
 
   ends-of : (s t : ℕ) → IsEnd providers (get_or all s []) s t → Depends g s t
   ends-of s t e =

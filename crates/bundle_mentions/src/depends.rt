@@ -4,6 +4,7 @@ ghost use Rattle.std.specs.Prelude.{◌≡◌, ℕ, ◌<◌, ◌↔◌, IfOk, On
 ghost use Rattle.std.specs.List.Sorted.{IsStrictlyIncreasing};
 ghost use Rattle.bundle_terms.specs.Order.{Group};
 ghost use Rattle.bundle_mentions.specs.Seen.{seen_from};
+ghost use Rattle.bundle_mentions.specs.Renumbered.{IsRenumbered};
 ghost use Rattle.bundle_mentions.specs.Found.{AddsEnds, AreFound, IsEnd, IsFound, IsFoundAt};
 ghost use Rattle.bundle_mentions.specs.Providing.{item_and_binding, is_free as is_free_lem, refers as refers_lem, refers_strongly as refers_strongly_lem};
 
@@ -14,7 +15,8 @@ use bundle_sort::Dependency;
 use std::alloc::{AllocError, Global};
 
 /// For each item what it depends on, ascending and each once, where these are the identifiers of all items that
-/// denote one of so many bindings of the top, in their order, and each item's module or none.
+/// denote one of so many bindings of the top, in their order, and each item's module or none. How bindings are
+/// numbered changes nothing.
 ///
 /// An item depends on another where it refers to a binding that the other declares or sets up. The dependency is
 /// weak where the item is of a module and every such reference runs later. Refused only where memory runs out.
@@ -25,7 +27,7 @@ pub fn dependencies_among(
     count: usize,
 ) -> Result<Vec<Vec<Dependency>>, AllocError>
     ensures len { IfOk result (λ found. length found.items ≡ length owners.now) }
-    ensures exact { IfOk result (λ found. (g : Group) → seen.now ≡ seen_from 0 g.items → owners.now ≡ g.owners → length g.items ≡ length g.owners → All (λ one. one.binding < count) seen.now → AreFound g (map (λ v. v.items) found.items)) }
+    ensures exact { IfOk result (λ found. (g h : Group) → IsRenumbered g h → seen.now ≡ seen_from 0 h.items → owners.now ≡ h.owners → length h.items ≡ length h.owners → All (λ one. one.binding < count) seen.now → AreFound g (map (λ v. v.items) found.items)) }
 {
     let providers = providers_of(alloc, seen, owners, count)?;
     let references = referred(alloc, seen)?;

@@ -90,7 +90,12 @@ fn providing(
 {
     let mut pairs = Vec::new(alloc);
     for one in seen {
-        if provides(owners, known_of(firsts, *one), known_of(fillers, *one), *one) {
+        if provides(
+            owners,
+            known_of(firsts, *one),
+            known_of(fillers, *one),
+            *one,
+        ) {
             pairs.push((one.binding, one.item))?;
         }
     }
@@ -98,12 +103,7 @@ fn providing(
 }
 
 // Whether by an identifier its item declares the binding or sets it up.
-fn provides(
-    owners: &[Option<usize>],
-    first: Option<Seen>,
-    filler: Option<Seen>,
-    one: Seen,
-) -> bool
+fn provides(owners: &[Option<usize>], first: Option<Seen>, filler: Option<Seen>, one: Seen) -> bool
     ensures { result ≡ provides_lem owners.now first filler one }
 {
     one.declares || sets_up_after(owners, first, one) || is_beside(filler, one)
@@ -181,5 +181,9 @@ fn is_same_module(one: Option<usize>, other: Option<usize>) -> bool
 pub(crate) fn owner_of(owners: &[Option<usize>], item: usize) -> Option<usize>
     ensures { result ≡ slice_index_or owners.now item None }
 {
-    if item < owners.len() { owners[item] } else { None }
+    if item < owners.len() {
+        owners[item]
+    } else {
+        None
+    }
 }

@@ -28,15 +28,13 @@ pub(crate) struct Spot {
     pub(crate) declarator: Option<usize>,
 }
 
-/// An open node: where it begins, what is known of that place, whether it is a call of `Object.assign`, and
-/// whether it is a declarator with a value so far.
+/// An open node: where it begins, what is known of that place, and whether it is a call of `Object.assign`.
 #[derive(Clone, Copy)]
 pub(crate) struct Frame<'a> {
     pub(crate) node: Node<'a>,
     pub(crate) begins: usize,
     pub(crate) spot: Spot,
     pub(crate) is_object_assign: bool,
-    pub(crate) has_value: bool,
 }
 
 impl Spot {

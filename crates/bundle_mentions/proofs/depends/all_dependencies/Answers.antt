@@ -15,7 +15,7 @@ loop-number-preserved c =
     let strong_row : get_or (map (λ v. v.items) strong) n [] ≡ c.deref-in-loop-number.result.now = get_or-map (λ v. v.items) strong n c.index-strong-number.result [] (omega (arith, c.loop-number-test.true, c.requires)) ∙ (ap (λ v. v.items) (sym c.index-strong-number.is) ∙ sym c.deref-in-loop-number.ensures.value) in
     let row = c.in_ok-row.row.items in
     let here : IsFound providers (get_or (map (λ v. v.items) all) n []) (get_or (map (λ v. v.items) strong) n []) n row =
-        subst (λ (l : List ℕ). IsFound providers l (get_or (map (λ v. v.items) strong) n []) n row) (sym all_row) (subst (λ (l : List ℕ). IsFound providers c.deref.result.now l n row) (sym strong_row) c.in_ok-row.ensures) in
+    subst (λ (l : List ℕ). IsFound providers l (get_or (map (λ v. v.items) strong) n []) n row) (sym all_row) (subst (λ (l : List ℕ). IsFound providers c.deref.result.now l n row) (sym strong_row) c.in_ok-row.ensures) in
     record {
       len = ap length c.in_ok-push.ensures.items ∙ (length_push c.loop-number.found.items c.in_ok-row.row ∙ ap (λ k. k + 1) c.loop-number.invariant.len);
       each = found-push (λ s (found : List Dependency). IsFound providers (get_or (map (λ v. v.items) all) s []) (get_or (map (λ v. v.items) strong) s []) s found) (λ v. v.items) c.loop-number.found.items c.push.new.self.items c.in_ok-row.row n c.in_ok-push.ensures.items c.loop-number.invariant.len c.loop-number.invariant.each here;

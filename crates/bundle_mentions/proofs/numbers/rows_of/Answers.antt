@@ -26,7 +26,7 @@ loop-first-preserved c =
     let inv = c.loop-first.invariant in
     let lists = map (λ v. v.items) rows in
     elim c.if-first-len.branch [
-      | then-first-len+in_ok-push-2 w ↦ 
+      | then-first-len+in_ok-push-2 w ↦
           let j = (get_or pairs i (0, 0)).0 in
           let second = (get_or pairs i (0, 0)).1 in
           let v = w.push-then-first-len.new.self in
