@@ -135,13 +135,13 @@ module _ (R : ℕ → ℕ → Type 0) (g h : Group) (owners : h.owners ≡ g.own
 -- ---- groups that are renumbered
 -- the element at the same place of the other list
 module _ {X Y : Type 0} (R : X → Y → Type 0) where
-  zip-at : (xs : List X) (ys : List Y) (k : ℕ) (x : X) → AllZip R xs ys → slice_get xs k ≡ Some x → (y : Y) × (slice_get ys k ≡ Some y) × R x y
+  pub zip-at : (xs : List X) (ys : List Y) (k : ℕ) (x : X) → AllZip R xs ys → slice_get xs k ≡ Some x → (y : Y) × (slice_get ys k ≡ Some y) × R x y
   zip-at [] ys k x z e = absurd (none-some x e)
   zip-at (u ∷ xs) [] k x z e = absurd z
   zip-at (u ∷ xs) (v ∷ ys) zero x z e = (v, refl, subst (λ (w : X). R w v) (same_Some u x e) z.0)
   zip-at (u ∷ xs) (v ∷ ys) (suc k) x z e = zip-at xs ys k x z.1 e
 
-  zip-back : (xs : List X) (ys : List Y) (k : ℕ) (y : Y) → AllZip R xs ys → slice_get ys k ≡ Some y → (x : X) × (slice_get xs k ≡ Some x) × R x y
+  pub zip-back : (xs : List X) (ys : List Y) (k : ℕ) (y : Y) → AllZip R xs ys → slice_get ys k ≡ Some y → (x : X) × (slice_get xs k ≡ Some x) × R x y
   zip-back xs [] k y z e = absurd (none-some y e)
   zip-back [] (v ∷ ys) k y z e = absurd z
   zip-back (u ∷ xs) (v ∷ ys) zero y z e = (u, refl, subst (λ (w : Y). R u w) (same_Some v y e) z.0)

@@ -1,2 +1,4 @@
 pub mod Known
+pub mod Numbered
 pub mod Owners
+pub mod Told

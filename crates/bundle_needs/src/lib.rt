@@ -6,6 +6,6 @@ pub mod needs;
 pub(crate) mod seconds;
 pub(crate) mod seen;
 pub(crate) mod spot;
-pub(crate) mod walk;
+pub(crate) mod told;
 
 pub use needs::{ItemRange, dependencies};

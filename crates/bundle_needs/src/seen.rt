@@ -1,22 +1,16 @@
 //! The identifiers of the items of a list that denote a name of the top.
 
+ghost use Rattle.std.specs.Prelude.{◌≡◌};
+ghost use Rattle.bundle_places.specs.Places.{is_binding as is_binding_lem};
+
 use crate::needs::ItemRange;
 use crate::seconds::{reads_member, second_at, seconds_of};
-use crate::spot::Spot;
-use crate::walk::Walk;
+use crate::spot::{Frame, Spot};
+use crate::told::{Told, told_places};
 use bundle_denote::Denotations;
 use bundle_mentions::Seen;
 use bundle_piece::{Node, Piece, Role};
 use std::alloc::{AllocError, Global};
-
-// A list, what its occurrences denote, the number of its top scope, and what stands in the second fields.
-#[derive(Clone, Copy)]
-struct Source<'s, 'a> {
-    pieces: &'s [Piece<'a>],
-    denotations: &'s Denotations<'a>,
-    top: usize,
-    seconds: &'s [Option<usize>],
-}
 
 /// Those of a list, whose top bindings are those of the scope `top`.
 pub(crate) fn seen_in<'a>(
@@ -26,130 +20,169 @@ pub(crate) fn seen_in<'a>(
     top: usize,
     items: &[ItemRange],
 ) -> Result<Vec<Seen>, AllocError> {
-    let seconds = seconds_of(alloc, pieces)?;
-    let source = Source {
-        pieces,
-        denotations,
-        top,
-        seconds: &seconds,
-    };
-    let mut walk = Walk::new(alloc, pieces.len(), items)?;
+    let told = told_places(alloc, pieces, denotations, top)?;
     let mut seen = Vec::new(alloc);
-    for place in 0..pieces.len() {
-        walk.come_to(items, place);
-        step(source, &mut walk, &mut seen, place)?;
+    for (number, item) in items.iter().enumerate() {
+        let list = part_of(pieces, item.from, item.to);
+        let told = part_of(&told, item.from, item.to);
+        item_seen(alloc, &mut seen, list, told, number)?;
     }
     Ok(seen)
 }
 
-// Goes on by the element at a place.
-fn step<'s, 'a>(
-    source: Source<'s, 'a>,
-    walk: &mut Walk<'a>,
+// The elements from a place on, up to another.
+fn part_of<'s, T>(list: &'s [T], from: usize, to: usize) -> &'s [T] {
+    let to = to.min(list.len());
+    let from = from.min(to);
+    &list[from..to]
+}
+
+// Adds the identifiers of an item, which has this list and this number.
+fn item_seen<'a>(
+    alloc: Global,
     seen: &mut Vec<Seen>,
-    place: usize,
+    item: &[Piece<'a>],
+    told: &[Told],
+    number: usize,
 ) -> Result<(), AllocError> {
-    match source.pieces.get(place).copied() {
-        Some(Piece::Open { field, node }) => {
-            let calls_assign = node == Node::CallExpr && calls_assign(source, walk.count(), place);
-            walk.begin(place, field, node, calls_assign)?;
-        }
-        Some(Piece::Ident { field, role, .. }) => {
-            if role != Role::Word {
-                note(source, walk, seen, field, role)?;
-                walk.pass_occurrence();
+    let seconds = seconds_of(alloc, item)?;
+    let mut open: Vec<Frame<'a>> = Vec::new(alloc);
+    for (place, piece) in item.iter().enumerate() {
+        match *piece {
+            Piece::Open { field, node } => {
+                open.push(frame_at(item, told, &seconds, &open, place, field, node))?;
+            }
+            Piece::Ident { field, role, .. } => {
+                if let Some(binding) = binding_at(told, place, role) {
+                    seen.push(seen_at(item, &seconds, &open, number, binding, field, role))?;
+                }
+            }
+            Piece::Hole { .. } => {}
+            Piece::Close => {
+                open.pop();
             }
         }
-        Some(Piece::Hole { .. }) => {}
-        Some(Piece::Close) => walk.end(),
-        None => {}
     }
     Ok(())
 }
 
-// Notes the next occurrence, which stands in this field of the innermost open node, if it lies in an item and
-// denotes a binding of the top.
-fn note<'s, 'a>(
-    source: Source<'s, 'a>,
-    walk: &Walk<'a>,
-    seen: &mut Vec<Seen>,
+// The binding of the top that an identifier at a place denotes; a plain word denotes none.
+fn binding_at(told: &[Told], place: usize, role: Role) -> Option<usize> {
+    match role {
+        Role::Word => None,
+        _ => told_at(told, place).top,
+    }
+}
+
+// What is told of a place.
+fn told_at(told: &[Told], place: usize) -> Told {
+    if place < told.len() {
+        told[place]
+    } else {
+        Told {
+            top: None,
+            is_object: false,
+        }
+    }
+}
+
+// What is known of what stands in this field of the innermost of these open nodes.
+fn spot_at<'a>(open: &[Frame<'a>], field: u8) -> Spot {
+    match open.last() {
+        Some(frame) => Spot::inside(*frame, field),
+        None => Spot::outside(),
+    }
+}
+
+// The open node that begins at a place, in this field of the innermost one around it.
+fn frame_at<'a>(
+    item: &[Piece<'a>],
+    told: &[Told],
+    seconds: &[Option<usize>],
+    open: &[Frame<'a>],
+    place: usize,
+    field: u8,
+    node: Node<'a>,
+) -> Frame<'a> {
+    Frame {
+        node,
+        begins: place,
+        spot: spot_at(open, field),
+        is_object_assign: is_call(node) && calls_assign(item, told, seconds, place),
+    }
+}
+
+// Whether such a node is a call.
+fn is_call<'a>(node: Node<'a>) -> bool {
+    match node {
+        Node::CallExpr => true,
+        _ => false,
+    }
+}
+
+// Whether the callee of a call that begins at a place reads `assign` of an `Object` which nothing binds.
+fn calls_assign<'a>(
+    item: &[Piece<'a>],
+    told: &[Told],
+    seconds: &[Option<usize>],
+    place: usize,
+) -> bool {
+    if place >= item.len() || item.len() - place < 3 {
+        return false;
+    }
+    reads_member(item, seconds, place + 1, "assign") && told_at(told, place + 2).is_object
+}
+
+// An identifier that denotes a binding of the top, in this field of the innermost of these open nodes.
+fn seen_at<'a>(
+    item: &[Piece<'a>],
+    seconds: &[Option<usize>],
+    open: &[Frame<'a>],
+    number: usize,
+    binding: usize,
     field: u8,
     role: Role,
-) -> Result<(), AllocError> {
-    let binding = top_binding(source, walk.count());
-    if let (Some(item), Some(binding)) = (walk.item(), binding) {
-        let spot = walk.spot(field);
-        let is_prototype = field == 0 && is_prototype_read(source, walk.innermost());
-        seen.push(Seen {
-            item,
-            binding,
-            declares: role == Role::Binding,
-            is_later: spot.is_later,
-            fills: spot.is_assigned || spot.is_in_argument,
-            sets_up: spot.roots_chain || (is_prototype && spot.is_in_assign),
-            is_empty: role == Role::Binding && is_empty(source, spot),
-        })?;
-    }
-    Ok(())
-}
-
-// The binding that the occurrence with this number denotes, if it is one of the top.
-fn top_binding<'s, 'a>(source: Source<'s, 'a>, number: usize) -> Option<usize> {
-    let denoted = source.denotations.occurrences.get(number)?;
-    let binding = denoted.binding?;
-    let known = source.denotations.bindings.get(binding)?;
-    if known.scope == source.top {
-        Some(binding)
-    } else {
-        None
+) -> Seen {
+    let spot = spot_at(open, field);
+    let is_prototype = is_prototype_read(item, seconds, open, field);
+    Seen {
+        item: number,
+        binding,
+        declares: is_binding(role),
+        is_later: spot.is_later,
+        fills: spot.is_assigned || spot.is_in_argument,
+        sets_up: spot.roots_chain || (is_prototype && spot.is_in_assign),
+        is_empty: is_binding(role) && is_empty(seconds, spot),
     }
 }
 
-// Whether the node that begins at a place, if it is one of the item, reads the member `prototype`.
-fn is_prototype_read<'s, 'a>(source: Source<'s, 'a>, begins: Option<usize>) -> bool {
-    match begins {
-        Some(begins) => reads_member(source.pieces, source.seconds, begins, "prototype"),
+// Whether what stands in this field of the innermost of these open nodes is the `b` of a read `b.prototype`.
+fn is_prototype_read<'a>(
+    item: &[Piece<'a>],
+    seconds: &[Option<usize>],
+    open: &[Frame<'a>],
+    field: u8,
+) -> bool {
+    match open.last() {
+        Some(frame) => field == 0 && reads_member(item, seconds, frame.begins, "prototype"),
         None => false,
     }
 }
 
 // Whether the nearest declarator around has no value.
-fn is_empty<'s, 'a>(source: Source<'s, 'a>, spot: Spot) -> bool {
+fn is_empty(seconds: &[Option<usize>], spot: Spot) -> bool {
     match spot.declarator {
-        Some(begins) => second_at(source.seconds, begins).is_none(),
+        Some(begins) => second_at(seconds, begins).is_none(),
         None => false,
     }
 }
 
-// Whether the callee of a call that begins at a place reads `assign` of an `Object` which nothing binds, where
-// so many occurrences stand before.
-fn calls_assign<'s, 'a>(source: Source<'s, 'a>, count: usize, place: usize) -> bool {
-    let rest = source.pieces.get(place..).unwrap_or(&[]);
-    if rest.len() < 3 {
-        return false;
-    }
-    is_object(rest[2])
-        && is_global(source.denotations, count)
-        && reads_member(source.pieces, source.seconds, place + 1, "assign")
-}
-
-// Whether an element is an occurrence of `Object` with the context of what nothing binds.
-fn is_object<'a>(piece: Piece<'a>) -> bool {
-    match piece {
-        Piece::Ident {
-            sym,
-            ctxt,
-            role,
-            ..
-        } => role != Role::Word && ctxt == 1 && sym == "Object",
+// Whether a role binds a name.
+fn is_binding(role: Role) -> bool
+    ensures { result ≡ is_binding_lem role }
+{
+    match role {
+        Role::Binding => true,
         _ => false,
-    }
-}
-
-// Whether the occurrence with this number denotes a global.
-fn is_global<'a>(denotations: &Denotations<'a>, number: usize) -> bool {
-    match denotations.occurrences.get(number) {
-        Some(denoted) => denoted.binding.is_none(),
-        None => false,
     }
 }

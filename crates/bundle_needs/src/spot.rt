@@ -1,6 +1,6 @@
 //! What is known of a place by the nodes around it.
 
-ghost use Rattle.std.specs.Prelude.{◌≡◌, ◌≤◌, [], List};
+ghost use Rattle.std.specs.Prelude.{◌≡◌, [], List};
 ghost use Rattle.bundle_piece.specs.Item.{head_of};
 ghost use Rattle.bundle_places.specs.Deferred.{runs_later};
 ghost use Rattle.bundle_places.specs.Places.{Around};
@@ -54,15 +54,11 @@ impl Spot {
         }
     }
 
-    /// A place directly in this field of an open node, in an item that begins at `start`. Nodes around the item
-    /// do not count.
-    pub(crate) fn inside<'a>(frame: Frame<'a>, field: u8, start: usize) -> Spot
-        ensures known { (outer : List Around) → start ≤ frame.entry.begins → IsKnown frame.entry.spot outer → IsKnown result (path_in frame.entry field outer) }
-        ensures later { (outer : List Around) → start ≤ frame.entry.begins → frame.entry.spot.is_later ≡ runs_later outer → result.is_later ≡ runs_later (path_in frame.entry field outer) }
+    /// A place directly in this field of an open node.
+    pub(crate) fn inside<'a>(frame: Frame<'a>, field: u8) -> Spot
+        ensures known { (outer : List Around) → IsKnown frame.entry.spot outer → IsKnown result (path_in frame.entry field outer) }
+        ensures later { (outer : List Around) → frame.entry.spot.is_later ≡ runs_later outer → result.is_later ≡ runs_later (path_in frame.entry field outer) }
     {
-        if frame.begins < start {
-            return Spot::outside();
-        }
         let node = frame.node;
         let outer = frame.spot;
         let is_step = is_chain_step(node, field);
