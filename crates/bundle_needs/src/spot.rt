@@ -1,11 +1,13 @@
 //! What is known of a place by the nodes around it.
 
-ghost use Rattle.std.specs.Prelude.{◌≡◌, [], List};
-ghost use Rattle.bundle_piece.specs.Item.{head_of};
+ghost use Rattle.std.specs.Prelude.{◌≡◌, ℕ, [], List};
+ghost use Rattle.bundle_piece.specs.Item.{Item, head_of};
 ghost use Rattle.bundle_places.specs.Deferred.{runs_later};
 ghost use Rattle.bundle_places.specs.Places.{Around};
-ghost use Rattle.bundle_terms.specs.Order.{assigns as assigns_lem, is_any_call as is_any_call_lem, is_chain_step as is_chain_step_lem, is_parenthesis as is_parenthesis_lem, passes_assignments};
+ghost use Rattle.bundle_terms.specs.Order.{assigns as assigns_lem, has_no_value, is_declarator as is_declarator_lem, is_in_assign_of, is_any_call as is_any_call_lem, is_chain_step as is_chain_step_lem, is_parenthesis as is_parenthesis_lem, passes_assignments};
 ghost use Rattle.bundle_needs.specs.Known.{IsKnown, delays as delays_lem, path_in};
+ghost use Rattle.bundle_needs.specs.Open.{IsSpot, calls_assign, no_value_at};
+ghost use Rattle.bundle_needs.specs.declared.told.Told.{Told as ToldLem};
 
 use bundle_piece::Node;
 
@@ -40,8 +42,7 @@ pub(crate) struct Frame<'a> {
 impl Spot {
     /// A place outside all nodes.
     pub(crate) fn outside() -> Spot
-        ensures known { IsKnown result [] }
-        ensures later { result.is_later ≡ runs_later [] }
+        ensures { (item : List Item) (told : ℕ → ToldLem) → IsSpot item told result [] }
     {
         Spot {
             is_assigned: false,
@@ -58,6 +59,8 @@ impl Spot {
     pub(crate) fn inside<'a>(frame: Frame<'a>, field: u8) -> Spot
         ensures known { (outer : List Around) → IsKnown frame.entry.spot outer → IsKnown result (path_in frame.entry field outer) }
         ensures later { (outer : List Around) → frame.entry.spot.is_later ≡ runs_later outer → result.is_later ≡ runs_later (path_in frame.entry field outer) }
+        ensures assign { (item : List Item) (told : ℕ → ToldLem) (outer : List Around) → frame.entry.is_object_assign ≡ calls_assign item told (head_of frame.entry.node) frame.entry.begins → frame.entry.spot.is_in_assign ≡ is_in_assign_of (λ place. (told place).is_object) item outer → result.is_in_assign ≡ is_in_assign_of (λ place. (told place).is_object) item (path_in frame.entry field outer) }
+        ensures empty { (item : List Item) (outer : List Around) → no_value_at item frame.entry.spot.declarator ≡ has_no_value item outer → no_value_at item result.declarator ≡ has_no_value item (path_in frame.entry field outer) }
     {
         let node = frame.node;
         let outer = frame.spot;
@@ -78,11 +81,23 @@ impl Spot {
 }
 
 // Where the nearest declarator around what stands in an open node begins.
-fn declarator_in<'a>(frame: Frame<'a>) -> Option<usize> {
-    if frame.node == Node::VarDeclarator {
+fn declarator_in<'a>(frame: Frame<'a>) -> Option<usize>
+    ensures { (item : List Item) (field : ℕ) (outer : List Around) → no_value_at item frame.entry.spot.declarator ≡ has_no_value item outer → no_value_at item result ≡ has_no_value item (path_in frame.entry field outer) }
+{
+    if is_declarator(frame.node) {
         Some(frame.begins)
     } else {
         frame.spot.declarator
+    }
+}
+
+// Whether such a node is a declarator.
+fn is_declarator<'a>(node: Node<'a>) -> bool
+    ensures { result ≡ is_declarator_lem (head_of node.entry) }
+{
+    match node {
+        Node::VarDeclarator => true,
+        _ => false,
     }
 }
 
