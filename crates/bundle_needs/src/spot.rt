@@ -1,6 +1,6 @@
 //! What is known of a place by the nodes around it.
 
-ghost use Rattle.std.specs.Prelude.{◌≡◌, ℕ, [], List};
+ghost use Rattle.std.specs.Prelude.{◌≡◌, ◌||◌, ℕ, [], List};
 ghost use Rattle.bundle_piece.specs.Item.{Item, head_of};
 ghost use Rattle.bundle_places.specs.Deferred.{runs_later};
 ghost use Rattle.bundle_places.specs.Places.{Around};
@@ -72,12 +72,30 @@ impl Spot {
             is_assigned,
             ends_chain: ((is_step || is_parenthesis) && outer.ends_chain) || is_assigned,
             roots_chain: (is_step && outer.ends_chain) || (is_parenthesis && outer.roots_chain),
-            is_in_assign: (frame.is_object_assign && field == 1) || outer.is_in_assign,
+            is_in_assign: is_in_assign_in(frame, field),
             is_in_argument: (is_any_call(node) && field == 1) || outer.is_in_argument,
             is_later: is_later_in(frame, field),
             declarator: declarator_in(frame),
         }
     }
+}
+
+// Whether what stands in this field of an open node lies in an argument of a call of `Object.assign`.
+fn is_in_assign_in<'a>(frame: Frame<'a>, field: u8) -> bool
+    ensures { (item : List Item) (told : ℕ → ToldLem) (outer : List Around) → frame.entry.is_object_assign ≡ calls_assign item told (head_of frame.entry.node) frame.entry.begins → frame.entry.spot.is_in_assign ≡ is_in_assign_of (λ place. (told place).is_object) item outer → result ≡ is_in_assign_of (λ place. (told place).is_object) item (path_in frame.entry field outer) }
+{
+    if field == 1 {
+        either(frame.is_object_assign, frame.spot.is_in_assign)
+    } else {
+        frame.spot.is_in_assign
+    }
+}
+
+// Whether one of the two holds.
+fn either(one: bool, other: bool) -> bool
+    ensures { result ≡ (one || other) }
+{
+    one || other
 }
 
 // Where the nearest declarator around what stands in an open node begins.
