@@ -1,4 +1,5 @@
 pub mod EntryLemmas
+pub mod FrameLemmas
 pub mod LaterLemmas
 pub mod NumberLemmas
 pub mod ObjectLemmas

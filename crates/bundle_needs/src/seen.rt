@@ -1,7 +1,16 @@
 //! The identifiers of the items of a list that denote a name of the top.
 
-ghost use Rattle.std.specs.Prelude.{◌≡◌};
-ghost use Rattle.bundle_places.specs.Places.{is_binding as is_binding_lem};
+ghost use Rattle.std.specs.Prelude.{◌≡◌, ◌+◌, ◌<◌, ◌&&◌, ℕ, List, codes, length, map, reverse, slice_index_or};
+ghost use Rattle.bundle_piece.specs.Item.{Item, head_of, item_of};
+ghost use Rattle.bundle_places.specs.Places.{Around, in_field as path_in_field, is_binding as is_binding_lem};
+ghost use Rattle.bundle_terms.specs.Nodes.{node_at};
+ghost use Rattle.bundle_terms.specs.Entries.{is_call_head};
+ghost use Rattle.bundle_terms.specs.Reads.{property_of};
+ghost use Rattle.bundle_terms.specs.Order.{is_prototype_read as is_prototype_read_lem, is_text};
+ghost use Rattle.bundle_needs.specs.Told.{no_told};
+ghost use Rattle.bundle_needs.specs.declared.told.Told.{Told as ToldLem};
+ghost use Rattle.bundle_needs.specs.Seconds.{AreSeconds};
+ghost use Rattle.bundle_needs.specs.Open.{AreOpen, IsOpen, IsSpot};
 
 use crate::needs::ItemRange;
 use crate::seconds::{reads_member, second_at, seconds_of};
@@ -75,7 +84,9 @@ fn binding_at(told: &[Told], place: usize, role: Role) -> Option<usize> {
 }
 
 // What is told of a place.
-fn told_at(told: &[Told], place: usize) -> Told {
+fn told_at(told: &[Told], place: usize) -> Told
+    ensures { result ≡ slice_index_or told.now place no_told }
+{
     if place < told.len() {
         told[place]
     } else {
@@ -87,10 +98,13 @@ fn told_at(told: &[Told], place: usize) -> Told {
 }
 
 // What is known of what stands in this field of the innermost of these open nodes.
-fn spot_at<'a>(open: &[Frame<'a>], field: u8) -> Spot {
-    match open.last() {
-        Some(frame) => Spot::inside(*frame, field),
-        None => Spot::outside(),
+fn spot_at<'a>(open: &[Frame<'a>], field: u8) -> Spot
+    ensures { (item : List Item) (told : ℕ → ToldLem) (path : List Around) → AreOpen item told (reverse open.now) path → IsSpot item told result (path_in_field field path) }
+{
+    if open.len() > 0 {
+        Spot::inside(open[open.len() - 1], field)
+    } else {
+        Spot::outside()
     }
 }
 
@@ -103,17 +117,31 @@ fn frame_at<'a>(
     place: usize,
     field: u8,
     node: Node<'a>,
-) -> Frame<'a> {
+) -> Frame<'a>
+    requires { place < length item.now }
+    ensures { (path : List Around) → AreSeconds (map item_of item.now) seconds.now → AreOpen (map item_of item.now) (λ p. slice_index_or told.now p no_told) (reverse open.now) path → IsOpen (map item_of item.now) (λ p. slice_index_or told.now p no_told) result (record { head = head_of node.entry; begins = place; field = 0 }) (path_in_field field path) }
+{
+    let spot = spot_at(open, field);
+    let calls = calls_assign(item, told, seconds, place);
     Frame {
         node,
         begins: place,
-        spot: spot_at(open, field),
-        is_object_assign: is_call(node) && calls_assign(item, told, seconds, place),
+        spot,
+        is_object_assign: both(is_call(node), calls),
     }
 }
 
+// Whether both hold.
+fn both(one: bool, other: bool) -> bool
+    ensures { result ≡ (one && other) }
+{
+    one && other
+}
+
 // Whether such a node is a call.
-fn is_call<'a>(node: Node<'a>) -> bool {
+fn is_call<'a>(node: Node<'a>) -> bool
+    ensures { result ≡ is_call_head (head_of node.entry) }
+{
     match node {
         Node::CallExpr => true,
         _ => false,
@@ -126,11 +154,13 @@ fn calls_assign<'a>(
     told: &[Told],
     seconds: &[Option<usize>],
     place: usize,
-) -> bool {
-    if place >= item.len() || item.len() - place < 3 {
-        return false;
-    }
-    reads_member(item, seconds, place + 1, "assign") && told_at(told, place + 2).is_object
+) -> bool
+    requires { place < length item.now }
+    ensures { AreSeconds (map item_of item.now) seconds.now → result ≡ (is_text (codes "assign") (property_of (node_at (map item_of item.now) (place + 1))) && (slice_index_or told.now (place + 2) no_told).is_object) }
+{
+    let reads = reads_member(item, seconds, place + 1, "assign");
+    let base = told_at(told, place + 2);
+    both(reads, base.is_object)
 }
 
 // An identifier that denotes a binding of the top, in this field of the innermost of these open nodes.
@@ -162,10 +192,15 @@ fn is_prototype_read<'a>(
     seconds: &[Option<usize>],
     open: &[Frame<'a>],
     field: u8,
-) -> bool {
-    match open.last() {
-        Some(frame) => field == 0 && reads_member(item, seconds, frame.begins, "prototype"),
-        None => false,
+) -> bool
+    ensures { (told : ℕ → ToldLem) (path : List Around) → AreSeconds (map item_of item.now) seconds.now → AreOpen (map item_of item.now) told (reverse open.now) path → result ≡ is_prototype_read_lem (map item_of item.now) (path_in_field field path) }
+{
+    if open.len() > 0 {
+        let frame = open[open.len() - 1];
+        let reads = reads_member(item, seconds, frame.begins, "prototype");
+        both(field == 0, reads)
+    } else {
+        false
     }
 }
 
