@@ -1,5 +1,5 @@
 -- What items depend on, by what they refer to and which items declare that or set it up.
-use Rattle.std.proofs.Common.{◌≡◌, ◌≢◌, ℕ, ◌+◌, ◌<◌, ◌≤◌, ◌⊎◌, ◌↔◌, ◌&&◌, ◌||◌, Bool, true, false, not, Option, Some, None, List, [], ◌∷◌, ◌++◌, length, get_or, map, slice_get, Contains, All, refl, sym, ap, ◌∙◌, subst, inl, inr, arith}
+use Rattle.std.proofs.Common.{◌≡◌, ℕ, ◌+◌, ◌<◌, ◌⊎◌, ◌↔◌, ◌||◌, Bool, true, false, not, Option, Some, None, List, [], ◌∷◌, ◌++◌, length, get_or, map, slice_get, Contains, All, refl, sym, ap, ◌∙◌, subst, inl, inr, arith}
 use Rattle.std.specs.List.{filter}
 use Rattle.std.specs.Option.{option_and_then}
 use Rattle.std.specs.List.Sorted.{IsStrictlyIncreasing}
@@ -9,11 +9,11 @@ use Rattle.std.proofs.lemmas.List.{get_or_past, get_or_push, get_or_append_left,
 use Rattle.std.proofs.lemmas.List.Elements.{All-contains}
 use Rattle.bundle_sort.specs.declared.Dependency.{Dependency}
 use Rattle.bundle_sort.specs.Classes.{Leads}
-use Rattle.bundle_terms.specs.Order.{Mention, Group, IsFree, Refers, Provides, Depends, DependsAtOnce, IsStrong, IsWeak, mention_at}
+use Rattle.bundle_terms.specs.Order.{Mention, Group, IsFree, Refers, Provides, Depends, DependsAtOnce, IsStrong}
 use Rattle.bundle_mentions.specs.declared.seen.Seen.{Seen}
 use Rattle.bundle_mentions.specs.Seen.{seen_of, seen_from}
 use Rattle.bundle_mentions.specs.Providing.{item_and_binding, refers, refers_strongly, is_free}
-use Rattle.bundle_mentions.specs.Found.{HasFound, AreFound, IsEnd, IsFound, IsFoundAt}
+use Rattle.bundle_mentions.specs.Found.{AreFound, IsEnd, IsFound, IsFoundAt}
 use Rattle.bundle_mentions.proofs.ListLemmas.{Contains-none, Contains-map, Contains-map_filter}
 use Rattle.bundle_mentions.proofs.EventLemmas.{Stands-contained}
 use Rattle.bundle_mentions.proofs.ProvideLemmas.{Is-from, Is-refers, contained}

@@ -1,5 +1,5 @@
 -- Lists that are filtered, what is found in them first, and rows of numbers.
-use Rattle.std.proofs.Common.{◌≡◌, ◌≢◌, ℕ, zero, suc, ◌+◌, ◌<◌, ◌≤◌, ◌⊎◌, ◌↔◌, ◌&&◌, Bool, true, false, not, cond, Result, Ok, Err, Option, Some, None, List, [], ◌∷◌, ◌++◌, length, get_or, set, take, map, slice_get, Contains, refl, sym, ap, ◌∙◌, subst, inl, inr, eqb, arith}
+use Rattle.std.proofs.Common.{◌≡◌, ◌≢◌, ℕ, ◌+◌, ◌<◌, ◌≤◌, ◌⊎◌, ◌↔◌, ◌&&◌, Bool, true, false, not, cond, Result, Ok, Err, Option, Some, None, List, [], ◌∷◌, ◌++◌, length, get_or, set, take, map, Contains, refl, sym, ap, ◌∙◌, subst, inl, inr, eqb, arith}
 use Rattle.std.specs.List.{filter, find}
 use Rattle.std.specs.List.Sorted.{IsBinarySearchResult, IsStrictlyIncreasing}
 use Rattle.std.specs.Option.{is_some, option_or}

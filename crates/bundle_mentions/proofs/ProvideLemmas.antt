@@ -1,17 +1,17 @@
 -- Which items declare a binding or set it up, by the first identifier that declares it and the first that gives it a value.
-use Rattle.std.proofs.Common.{◌≡◌, ◌≢◌, ℕ, ◌+◌, ◌<◌, ◌≤◌, ◌⊎◌, ◌↔◌, ◌&&◌, ◌||◌, Bool, true, false, not, Option, Some, None, List, length, get_or, map, slice_get, Contains, All, refl, sym, ap, ◌∙◌, subst, inl, inr, eqb, ltb, arith}
+use Rattle.std.proofs.Common.{◌≡◌, ℕ, ◌<◌, ◌≤◌, ◌⊎◌, ◌↔◌, ◌&&◌, ◌||◌, Bool, true, false, not, Option, Some, None, List, length, get_or, map, slice_get, Contains, All, refl, sym, ap, ◌∙◌, subst, inl, inr, eqb, ltb, arith}
 use Rattle.std.specs.List.{filter, find}
 use Rattle.std.proofs.lemmas.Bool.{false≢true, cases_eq, cases_lt, eq-eqb, ne_eqb, and_right, eqb-true, ltb-true, lt-ltb, and_parts, and_from, or_cases, or_left, or_right, not-true, not_from_false}
 use Rattle.std.proofs.lemmas.Option.{none-some, same_Some, slice_get-get_or, get_or_from_slice_get}
 use Rattle.std.proofs.lemmas.List.{get_or_past}
 use Rattle.std.proofs.lemmas.List.Elements.{All-contains}
 use Rattle.bundle_sort.specs.Classes.{Leads}
-use Rattle.bundle_terms.specs.Order.{Mention, Group, IsOf, mention_at, Refers, DeclaresAt, Declares, DeclaresFirst, IsWithoutValue, Fills, SetsUpBy, by_member, by_prototype, by_value, SetsUp, Provides}
+use Rattle.bundle_terms.specs.Order.{Mention, Group, IsOf, mention_at, Refers, DeclaresAt, DeclaresFirst, IsWithoutValue, Fills, SetsUpBy, by_member, by_prototype, by_value, SetsUp, Provides}
 use Rattle.bundle_mentions.specs.declared.seen.Seen.{Seen}
 use Rattle.bundle_mentions.specs.Seen.{seen_of, seen_as, seen_from}
 use Rattle.bundle_mentions.specs.Providing.{is_same_module, is_later_beside, fills_after, sets_up_after, is_beside, provides, known_of, binding_and_item, is_of, declares}
 use Rattle.bundle_mentions.proofs.ListLemmas.{Contains-map_filter, find-filter, find_agree}
-use Rattle.bundle_mentions.proofs.EventLemmas.{IsAt, IsAt-mention, seen_as-is, seen_as-from, Stands, Stands-contained, Contains-at, FirstSeen, NoneSeen, seen_first}
+use Rattle.bundle_mentions.proofs.EventLemmas.{IsAt, IsAt-mention, seen_as-is, seen_as-from, Stands-contained, Contains-at, FirstSeen, seen_first}
 
 -- ---- modules
 same_module-of : (o p : Option ℕ) → is_same_module o p ≡ true → (m : ℕ) × (o ≡ Some m) × (p ≡ Some m)

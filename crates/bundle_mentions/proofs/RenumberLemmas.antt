@@ -1,11 +1,11 @@
 -- How the bindings of the top are numbered changes nothing.
-use Rattle.std.proofs.Common.{◌≡◌, ◌≢◌, ℕ, zero, suc, ◌<◌, ◌≤◌, ◌⊎◌, ◌↔◌, Bool, true, false, Option, Some, None, List, [], ◌∷◌, slice_get, refl, sym, ap, ◌∙◌, subst, inl, inr}
+use Rattle.std.proofs.Common.{◌≡◌, ℕ, zero, suc, Option, Some, None, List, [], ◌∷◌, slice_get, refl, sym, ap, ◌∙◌, subst, inl, inr}
 use Rattle.std.specs.List.{AllZip}
 use Rattle.std.specs.Option.{option_and_then}
 use Rattle.std.proofs.lemmas.Option.{none-some, same_Some}
 use Rattle.std.proofs.lemmas.List.Elements.{length_all_zip}
 use Rattle.bundle_sort.specs.declared.Dependency.{Dependency}
-use Rattle.bundle_terms.specs.Order.{Mention, Group, IsOf, IsFree, mention_at, Refers, DeclaresAt, Declares, DeclaresFirst, IsWithoutValue, Fills, SetsUpBy, by_member, by_prototype, by_value, SetsUp, Provides, Depends, DependsAtOnce, IsStrong, IsWeak}
+use Rattle.bundle_terms.specs.Order.{Mention, Group, IsOf, mention_at, Refers, DeclaresAt, Declares, DeclaresFirst, IsWithoutValue, Fills, SetsUpBy, by_member, by_prototype, by_value, Provides, Depends, DependsAtOnce, IsStrong}
 use Rattle.bundle_mentions.specs.Found.{AreFound}
 use Rattle.bundle_mentions.specs.Renumbered.{IsSameButTop, IsRenumbered}
 

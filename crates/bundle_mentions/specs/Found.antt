@@ -1,5 +1,5 @@
 -- The dependencies of items, as they are found.
-use Rattle.std.specs.Prelude.{◌≡◌, ◌≢◌, ◌⊎◌, ℕ, ◌<◌, ◌↔◌, Bool, true, false, List, [], length, slice_index_or, Contains, map}
+use Rattle.std.specs.Prelude.{◌≡◌, ◌≢◌, ◌⊎◌, ℕ, ◌↔◌, Bool, true, false, List, [], length, slice_index_or, Contains, map}
 use Rattle.std.specs.List.Sorted.{IsStrictlyIncreasing}
 use Rattle.bundle_sort.specs.Classes.{Leads}
 use Rattle.bundle_sort.specs.declared.Dependency.{Dependency}

@@ -1,6 +1,5 @@
 -- What the table tells of a place is what is denoted there.
-use Rattle.std.proofs.Common.{◌≡◌, ℕ, zero, suc, ◌+◌, ◌<◌, ◌≤◌, ◌⊎◌, ◌↔◌, ◌&&◌, Bool, true, false, not, cond, Option, Some, None, List, [], ◌∷◌, length, get_or, take, map, slice_get, fold, refl, sym, ap, ◌∙◌, subst, inl, inr, eqb, arith}
-use Rattle.std.specs.List.{AllZip}
+use Rattle.std.proofs.Common.{◌≡◌, ℕ, zero, suc, ◌+◌, ◌⊎◌, Bool, true, false, cond, Option, Some, None, List, [], ◌∷◌, take, map, slice_get, fold, refl, sym, ap, ◌∙◌, subst, inl, inr, eqb, arith}
 use Rattle.std.specs.Option.{option_map, option_and_then}
 use Rattle.std.proofs.lemmas.Bool.{cases_eq, eq-eqb, ne_eqb}
 use Rattle.std.proofs.lemmas.Option.{none-some, same_Some, slice_get-map}
@@ -19,7 +18,7 @@ use Rattle.bundle_denote.specs.Numbers.{numbered}
 use Rattle.bundle_denote.specs.Listed.{IsBinding, IsDenoted, IsEntry, IsTable, Tells}
 use Rattle.bundle_mentions.proofs.RenumberLemmas.{zip-at, zip-back}
 use Rattle.bundle_needs.specs.declared.told.Told.{Told}
-use Rattle.bundle_needs.specs.Told.{no_told, top_number, top_by, is_object, told_of, told_by, told_in, told_at}
+use Rattle.bundle_needs.specs.Told.{no_told, top_number, top_by, told_by, told_at}
 use Rattle.bundle_needs.specs.Numbered.{IsOnlyTop}
 
 -- ---- an occurrence stands at its place
@@ -139,11 +138,15 @@ module _ (tree : List Item) (table : Denotations) (top : ℕ) (is : IsTable ByCo
       by : (i.binding.scope ≡ top) ⊎ (i.binding.scope ≡ top → ⊥) → TopAt tree table top p
       by (inl g) =
           let is_top : scope ≡ Top = (only i.binding.scope scope i.in_scope).1 g in
-          inr (n, name, record {
-            told = t ∙ number (slice_get table.bindings.items n) i.at true (eq-eqb i.binding.scope top g);
-            denoted = f ∙ ap (λ (s : Scope). Some (e.Bound s name)) is_top;
-            binding = record { binding = i.binding; at = i.at; in_scope = i.in_scope ∙ ap (λ (s : Scope). Some s) is_top; named = i.named };
-          })
+          inr (
+            n,
+            name,
+            record {
+              told = t ∙ number (slice_get table.bindings.items n) i.at true (eq-eqb i.binding.scope top g);
+              denoted = f ∙ ap (λ (s : Scope). Some (e.Bound s name)) is_top;
+              binding = record { binding = i.binding; at = i.at; in_scope = i.in_scope ∙ ap (λ (s : Scope). Some s) is_top; named = i.named };
+            },
+          )
       by (inr ng) = inl (record {
         told = t ∙ number (slice_get table.bindings.items n) i.at false (ne_eqb i.binding.scope top ng);
         other = λ its g. ng ((only i.binding.scope scope i.in_scope).0 (let q : e.Bound scope name ≡ e.Bound Top its = same_Some (e.Bound scope name) (e.Bound Top its) (sym f ∙ g) in cc));
@@ -162,5 +165,5 @@ module _ (tree : List Item) (table : Denotations) (top : ℕ) (is : IsTable ByCo
           let known = entry_at p l.i l.entry l.at l.place in
           let on = stands_on tree p known.o known.stands in
           by_binding p l.entry.binding (e.denoted_of ByContext Es (declared ByContext Es tree) known.o) known.tells
-            (ap (λ (t : Told). t.top) (l.is ∙ ap (λ (x : Option Item). told_by x table top l.entry) on.at))
-            (ap (λ (x : Option Occurrence). option_map (e.denoted_of ByContext Es (declared ByContext Es tree)) x) known.stands)
+          (ap (λ (t : Told). t.top) (l.is ∙ ap (λ (x : Option Item). told_by x table top l.entry) on.at))
+          (ap (λ (x : Option Occurrence). option_map (e.denoted_of ByContext Es (declared ByContext Es tree)) x) known.stands)

@@ -1,5 +1,5 @@
 -- The innermost open node, and what stands in it.
-use Rattle.std.proofs.Common.{◌≡◌, ℕ, ◌+◌, ◌-◌, ◌<◌, ◌≤◌, ◌&&◌, Bool, false, List, [], ◌∷◌, length, get_or, reverse, refl, sym, ap, ◌∙◌, subst, eqb, arith}
+use Rattle.std.proofs.Common.{◌≡◌, ℕ, ◌-◌, ◌<◌, ◌≤◌, ◌&&◌, List, [], ◌∷◌, length, get_or, reverse, refl, sym, ap, ◌∙◌, subst, eqb, arith}
 use Rattle.std.specs.Prelude.{codes}
 use Rattle.std.proofs.lemmas.List.{get_or-reverse, length-reverse}
 use Rattle.bundle_piece.specs.Item.{Item, Head, head_of}
@@ -7,7 +7,7 @@ use Rattle.bundle_places.specs.Places.{Around, in_field}
 use Rattle.bundle_places.specs.Deferred.{runs_later}
 use Rattle.bundle_terms.specs.Nodes.{node_at}
 use Rattle.bundle_terms.specs.Reads.{property_of}
-use Rattle.bundle_terms.specs.Order.{has_no_value, is_in_assign_of, is_prototype_read, is_text}
+use Rattle.bundle_terms.specs.Order.{has_no_value, is_in_assign_of, is_text}
 use Rattle.bundle_needs.specs.declared.spot.Frame.{Frame}
 use Rattle.bundle_needs.specs.declared.spot.Spot.{Spot}
 use Rattle.bundle_needs.specs.declared.told.Told.{Told}
@@ -46,11 +46,11 @@ module _ (item : List Item) (told : ℕ → Told) where
     calls = o.calls ∙ (ap (λ (h : Head). calls_assign item told h node.begins) (sym o.head) ∙ ap (λ (b : ℕ). calls_assign item told (head_of frame.node) b) (sym o.begins))
 
     pub spot_made : (spot : Spot)
-      → ((out : List Around) → IsKnown frame.spot out → IsKnown spot (path_in frame field out))
-      → ((out : List Around) → frame.spot.is_later ≡ runs_later out → spot.is_later ≡ runs_later (path_in frame field out))
-      → ((its : List Item) (tells : ℕ → Told) (out : List Around) → frame.is_object_assign ≡ calls_assign its tells (head_of frame.node) frame.begins → frame.spot.is_in_assign ≡ is_in_assign_of (λ place. (tells place).is_object) its out → spot.is_in_assign ≡ is_in_assign_of (λ place. (tells place).is_object) its (path_in frame field out))
-      → ((its : List Item) (out : List Around) → no_value_at its frame.spot.declarator ≡ has_no_value its out → no_value_at its spot.declarator ≡ has_no_value its (path_in frame field out))
-      → IsSpot item told spot (in_field field (node ∷ outer))
+        → ((out : List Around) → IsKnown frame.spot out → IsKnown spot (path_in frame field out))
+        → ((out : List Around) → frame.spot.is_later ≡ runs_later out → spot.is_later ≡ runs_later (path_in frame field out))
+        → ((its : List Item) (tells : ℕ → Told) (out : List Around) → frame.is_object_assign ≡ calls_assign its tells (head_of frame.node) frame.begins → frame.spot.is_in_assign ≡ is_in_assign_of (λ place. (tells place).is_object) its out → spot.is_in_assign ≡ is_in_assign_of (λ place. (tells place).is_object) its (path_in frame field out))
+        → ((its : List Item) (out : List Around) → no_value_at its frame.spot.declarator ≡ has_no_value its out → no_value_at its spot.declarator ≡ has_no_value its (path_in frame field out))
+        → IsSpot item told spot (in_field field (node ∷ outer))
     spot_made spot known later assign empty = subst (λ (p : List Around). IsSpot item told spot p) around (record {
       known = known outer o.spot.known;
       later = later outer o.spot.later;

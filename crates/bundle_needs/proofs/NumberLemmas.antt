@@ -1,23 +1,21 @@
 -- The table numbers the bindings of the top one to one.
-use Rattle.std.proofs.Common.{◌≡◌, ℕ, zero, suc, ◌+◌, ◌<◌, ◌≤◌, ◌⊎◌, ◌↔◌, ◌&&◌, ◌||◌, Bool, true, false, Option, Some, None, List, [], ◌∷◌, ◌++◌, length, map, slice_get, Contains, refl, sym, ap, ◌∙◌, subst, inl, inr, eqb, arith}
+use Rattle.std.proofs.Common.{◌≡◌, ℕ, zero, suc, ◌+◌, ◌↔◌, ◌&&◌, ◌||◌, Bool, true, Option, Some, None, List, [], ◌∷◌, ◌++◌, map, slice_get, Contains, refl, sym, ap, ◌∙◌, subst, inl, inr, eqb}
 use Rattle.std.specs.List.{AllZip, filter, filter_map, flat_map, position}
 use Rattle.std.specs.Option.{option_map, option_and_then}
-use Rattle.std.specs.Str.{bytes_eq}
 use Rattle.std.specs.Prelude.{codes}
-use Rattle.std.proofs.lemmas.Bool.{true≢false}
 use Rattle.std.proofs.lemmas.Option.{none-some, same_Some, slice_get-map}
 use Rattle.std.proofs.lemmas.List.Elements.{Contains-append_left, Contains-append_right}
 use Rattle.bundle_piece.specs.Item.{Item}
-use Rattle.bundle_places.specs.Places.{Around, Occurrence, occurrence_at, occurrences}
-use Rattle.bundle_places.specs.Scopes.{Es, Scope, Top}
+use Rattle.bundle_places.specs.Places.{Around, Occurrence, occurrences}
+use Rattle.bundle_places.specs.Scopes.{Es, Top}
 use Rattle.bundle_places.specs.Declarations.{ByContext, Name}
-use Rattle.bundle_places.specs.Denotes.{Denoted, Bound, Global, denoted_at}
+use Rattle.bundle_places.specs.Denotes.{Denoted, Bound, denoted_at}
 use Rattle.bundle_terms.specs.Nodes.{node_at}
 use Rattle.bundle_terms.specs.Entries.{is_call_head}
 use Rattle.bundle_terms.specs.Reads.{property_of}
 use Rattle.bundle_terms.specs.Statements.{TopItem}
-use Rattle.bundle_terms.specs.Mentions.{same_denoted, each_denoted_once}
-use Rattle.bundle_terms.specs.Order.{Mention, Group, denoted_in, is_of_scope, is_text, is_in_assign_of, is_object_at, is_prototype_read, mention_at, mention_of, mentioned, group_of}
+use Rattle.bundle_terms.specs.Mentions.{same_denoted}
+use Rattle.bundle_terms.specs.Order.{Mention, denoted_in, is_of_scope, is_text, is_in_assign_of, is_object_at, is_prototype_read, mention_of, mentioned, group_of}
 use Rattle.bundle_denote.specs.declared.table.Binding.{Binding}
 use Rattle.bundle_denote.specs.declared.table.Denotations.{Denotations}
 use Rattle.bundle_denote.specs.Numbers.{numbered}
@@ -27,9 +25,9 @@ use Rattle.bundle_mentions.specs.Renumbered.{IsSameButTop, IsRenumbered}
 use Rattle.bundle_mentions.proofs.EventLemmas.{mention_in, Contains-given}
 use Rattle.bundle_needs.specs.declared.told.Told.{Told}
 use Rattle.bundle_needs.specs.Told.{told_at}
-use Rattle.bundle_needs.specs.Numbered.{IsOnlyTop, numbered_mention, numbered_row, numbered_group}
+use Rattle.bundle_needs.specs.Numbered.{IsOnlyTop, numbered_mention, numbered_group}
 use Rattle.bundle_needs.proofs.TopLemmas.{is_top-of, same-top, same-refl, Contains-filter, once-from, once-keeps, position-none, position-there, position-one}
-use Rattle.bundle_needs.proofs.EntryLemmas.{TopAt, IsTopAt, IsNoTopAt, top_at}
+use Rattle.bundle_needs.proofs.EntryLemmas.{TopAt, top_at}
 use Rattle.bundle_needs.proofs.ObjectLemmas.{object_at}
 
 -- ---- identifiers of items, by their numbers
@@ -131,13 +129,13 @@ module _ (tree : List Item) (table : Denotations) (top : ℕ) (is : IsTable ByCo
   same_both p q m n m' n' (both k x name e f g h) (neither a b) = ((λ w. absurd (none-some k (sym a ∙ (sym w ∙ e)))), λ w. absurd (none-some x (sym b ∙ (sym w ∙ f))))
   same_both p q m n m' n' (both k x name e f g h) (both k' x' name' e' f' g' h') = (
     λ w.
-      let same : k ≡ k' = same_Some k k' (sym e ∙ (w ∙ e')) in
-      let its = same_number name name' (position-one tops tops_of (Bound Top name) (Bound Top name') k' (g ∙ ap (λ j. Some j) same) g') in
-      f ∙ (ap (λ j. Some j) (is.one x x' Top name' (subst (λ (z : Name). IsBinding (map numbered table.scopes.items) table.bindings.items x Top z) its h) h') ∙ sym f'),
+        let same : k ≡ k' = same_Some k k' (sym e ∙ (w ∙ e')) in
+        let its = same_number name name' (position-one tops tops_of (Bound Top name) (Bound Top name') k' (g ∙ ap (λ j. Some j) same) g') in
+        f ∙ (ap (λ j. Some j) (is.one x x' Top name' (subst (λ (z : Name). IsBinding (map numbered table.scopes.items) table.bindings.items x Top z) its h) h') ∙ sym f'),
     λ w.
-      let same : x ≡ x' = same_Some x x' (sym f ∙ (w ∙ f')) in
-      let its = one_name x' name name' (subst (λ j. IsBinding (map numbered table.scopes.items) table.bindings.items j Top name) same h) h' in
-      e ∙ (sym g ∙ (ap (λ (z : Name). number (Some (Bound Top z))) its ∙ (g' ∙ sym e'))),
+        let same : x ≡ x' = same_Some x x' (sym f ∙ (w ∙ f')) in
+        let its = one_name x' name name' (subst (λ j. IsBinding (map numbered table.scopes.items) table.bindings.items j Top name) same h) h' in
+        e ∙ (sym g ∙ (ap (λ (z : Name). number (Some (Bound Top z))) its ∙ (g' ∙ sym e'))),
   )
 
   -- ---- the two groups

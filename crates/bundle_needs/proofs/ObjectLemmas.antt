@@ -1,9 +1,9 @@
 -- Where the table tells of the global `Object`, that is denoted.
-use Rattle.std.proofs.Common.{◌≡◌, ℕ, ◌⊎◌, ◌&&◌, Bool, true, false, not, cond, Option, Some, None, List, map, slice_get, refl, sym, ap, ◌∙◌, subst, inl, inr, eqb}
+use Rattle.std.proofs.Common.{◌≡◌, ℕ, ◌⊎◌, ◌&&◌, Bool, true, false, not, cond, Option, Some, None, List, map, refl, sym, ap, ◌∙◌, inl, inr, eqb}
 use Rattle.std.specs.Option.{is_some, option_map}
 use Rattle.std.specs.Prelude.{codes}
 use Rattle.std.specs.Str.{bytes_eq}
-use Rattle.std.proofs.lemmas.Bool.{true≢false, false≢true, and_parts, and_from}
+use Rattle.std.proofs.lemmas.Bool.{and_parts, and_from}
 use Rattle.std.proofs.lemmas.Option.{none-some, same_Some}
 use Rattle.std.proofs.lemmas.Slice.Eq.{bytes_eq-Decides}
 use Rattle.bundle_piece.specs.declared.piece.Role.TheVariants as r
@@ -12,7 +12,7 @@ use Rattle.bundle_piece.specs.Item.{Item}
 use Rattle.bundle_places.specs.Places.{Spot, Occurrence, occurrence_of, occurrence_at, spot_before}
 use Rattle.bundle_places.specs.Scopes.{Es, Scope, scopes_around}
 use Rattle.bundle_places.specs.Declarations.{ByContext, Declared, Name, name_of, declared, declaration_of}
-use Rattle.bundle_places.specs.Denotes.{Denoted, Bound, Global, without_context, bound_in, is_written_in, is_implied_in, implied, written_or_implied, denoted_by_context, own_or_found, denoted_of, denoted_at}
+use Rattle.bundle_places.specs.Denotes.{Denoted, Bound, Global, without_context, bound_in, is_written_in, is_implied_in, written_or_implied, denoted_by_context, own_or_found, denoted_of}
 use Rattle.std.specs.List.{find}
 use Rattle.bundle_terms.specs.Order.{is_global_named, is_of_nothing, is_object_at}
 use Rattle.bundle_denote.specs.declared.table.Binding.{Binding}

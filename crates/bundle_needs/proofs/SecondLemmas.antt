@@ -1,15 +1,15 @@
 -- The second field of a node, from its beginning on.
-use Rattle.std.proofs.Common.{◌≡◌, ℕ, zero, suc, ◌+◌, ◌<◌, ◌≤◌, ◌⊎◌, Bool, true, false, not, cond, Option, Some, None, List, [], ◌∷◌, ◌++◌, length, get_or, set, drop, slice_get, reverse, refl, sym, ap, ◌∙◌, subst, inl, inr, eqb, arith}
+use Rattle.std.proofs.Common.{◌≡◌, ℕ, zero, suc, ◌+◌, ◌<◌, ◌≤◌, Bool, true, false, not, cond, Option, Some, None, List, [], ◌∷◌, ◌++◌, length, get_or, set, drop, slice_get, reverse, refl, sym, ap, ◌∙◌, subst, inl, inr, eqb, arith}
 use Rattle.std.specs.List.{filter}
 use Rattle.std.specs.Option.{is_some, option_to_list}
 use Rattle.std.proofs.lemmas.Bool.{cases_eq}
-use Rattle.std.proofs.lemmas.Option.{none-some, same_Some, slice_get-get_or, slice_get_past}
+use Rattle.std.proofs.lemmas.Option.{none-some, same_Some}
 use Rattle.std.proofs.lemmas.List.{get_or-set_same, get_or-set_other, nil_from_length, reverse-append}
 use Rattle.bundle_piece.specs.Item as h
 use Rattle.bundle_piece.specs.Item.{Item, Head}
-use Rattle.bundle_terms.specs.Nodes.{Text, put_first, side_by_side, parts, begins_in, in_field, first_or_nothing, child, begins_with, node_at}
-use Rattle.bundle_terms.specs.Reads.{is_member, head_plain_word, plain_word, property_of}
-use Rattle.bundle_terms.specs.Order.{is_nothing, is_text}
+use Rattle.bundle_terms.specs.Nodes.{Text, put_first, side_by_side, begins_in, in_field, first_or_nothing, child, begins_with, node_at}
+use Rattle.bundle_terms.specs.Reads.{is_member, plain_word, property_of}
+use Rattle.bundle_terms.specs.Order.{is_nothing}
 use Rattle.bundle_needs.specs.Seconds.{AreTops, second_from, second_of, word_of, word_at, is_member_item}
 
 -- ---- a stack
@@ -73,7 +73,7 @@ module _ (items : List Item) where
   second_is (suc depth) p [] at = refl
   second_is zero p (h.Open field head ∷ rest) at =
       subst (λ (l : List (List Item)). FirstIs (cond (eqb field 1) (Some p) (second_from (suc zero) (p + 1) rest)) (filter (begins_in 1) l)) (sym (put_is (h.Open field head) (side_by_side (suc zero) rest))) (
-        taken field p (h.Open field head) (first_or_nothing (side_by_side (suc zero) rest)) (behind_first (side_by_side (suc zero) rest)) (second_from (suc zero) (p + 1) rest) (ap (λ k. slice_get items k) (let same : p ≡ p + 0 = omega arith in same) ∙ sym (at zero)) (eqb field 1) refl (second_is (suc zero) (p + 1) rest (λ k. at (suc k) ∙ ap (λ n. slice_get items n) (let same : p + suc k ≡ p + 1 + k = omega arith in same))))
+      taken field p (h.Open field head) (first_or_nothing (side_by_side (suc zero) rest)) (behind_first (side_by_side (suc zero) rest)) (second_from (suc zero) (p + 1) rest) (ap (λ k. slice_get items k) (let same : p ≡ p + 0 = omega arith in same) ∙ sym (at zero)) (eqb field 1) refl (second_is (suc zero) (p + 1) rest (λ k. at (suc k) ∙ ap (λ n. slice_get items n) (let same : p + suc k ≡ p + 1 + k = omega arith in same))))
   second_is zero p (h.Ident field symbol ctxt role ∷ rest) at =
       taken field p (h.Ident field symbol ctxt role) [] (side_by_side zero rest) (second_from zero (p + 1) rest) (ap (λ k. slice_get items k) (let same : p ≡ p + 0 = omega arith in same) ∙ sym (at zero)) (eqb field 1) refl (second_is zero (p + 1) rest (λ k. at (suc k) ∙ ap (λ n. slice_get items n) (let same : p + suc k ≡ p + 1 + k = omega arith in same)))
   second_is zero p (h.Hole field ∷ rest) at =

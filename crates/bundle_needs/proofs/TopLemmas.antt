@@ -1,9 +1,9 @@
 -- The bindings of the top that are mentioned, each once.
-use Rattle.std.proofs.Common.{◌≡◌, ℕ, ◌<◌, ◌≤◌, ◌⊎◌, ◌↔◌, ◌&&◌, Bool, true, false, not, cond, Option, Some, None, List, [], ◌∷◌, length, get_or, map, Contains, refl, sym, ap, ◌∙◌, subst, inl, inr, arith}
+use Rattle.std.proofs.Common.{◌≡◌, ℕ, ◌⊎◌, ◌↔◌, ◌&&◌, Bool, true, false, not, cond, Option, Some, None, List, [], ◌∷◌, length, get_or, Contains, refl, sym, ap, ◌∙◌, subst, inl, inr, arith}
 use Rattle.std.specs.List.{filter, position, position_or_len}
 use Rattle.std.specs.Str.{bytes_eq}
-use Rattle.std.proofs.lemmas.Bool.{true≢false, false≢true, cases_lt, eqb-true, eq-eqb, and_parts, and_from, lt-ltb, le-ltb, not_from_false, not-true}
-use Rattle.std.proofs.lemmas.List.{get_or_default, map-id}
+use Rattle.std.proofs.lemmas.Bool.{true≢false, false≢true, cases_lt, eqb-true, eq-eqb, and_parts, and_from, lt-ltb, le-ltb, not_from_false}
+use Rattle.std.proofs.lemmas.List.{map-id}
 use Rattle.std.proofs.lemmas.List.Elements.{Contains-get_or}
 use Rattle.std.proofs.lemmas.List.Quantifiers.{position-Some}
 use Rattle.std.proofs.lemmas.List.Sums.{fails_before_first, passes_at_first}
@@ -13,7 +13,7 @@ use Rattle.bundle_places.specs.Declarations.{Name}
 use Rattle.bundle_places.specs.Denotes.{Denoted, Bound, Global}
 use Rattle.bundle_terms.specs.Mentions.{same_context, same_denoted, each_denoted_once}
 use Rattle.bundle_terms.specs.Order.{is_of_scope}
-use Rattle.bundle_mentions.proofs.ListLemmas.{Contains-none, Contains-cons, Contains-map_filter}
+use Rattle.bundle_mentions.proofs.ListLemmas.{Contains-cons, Contains-map_filter}
 
 -- ---- what is of the top
 scope-top : (scope : Scope) → scope_order scope ≡ 1 → scope ≡ Top

@@ -1,5 +1,5 @@
 -- What the table of a list says of its places.
-use Rattle.std.specs.Prelude.{ℕ, ◌==◌, ◌&&◌, nat_eq, Bool, true, false, not, List, Option, Some, None, is_some, cond, slice_get, bytes_eq, codes, fold, option_and_then}
+use Rattle.std.specs.Prelude.{ℕ, ◌==◌, ◌&&◌, nat_eq, Bool, false, not, List, Option, Some, None, is_some, cond, slice_get, bytes_eq, codes, fold}
 use Rattle.bundle_piece.specs.Item as h
 use Rattle.bundle_piece.specs.Item.{Item}
 use Rattle.bundle_denote.specs.declared.table.Binding.{Binding}

@@ -102,7 +102,11 @@ fn push_none(stack: &mut Vec<Option<usize>>) -> Result<(), AllocError>
 pub(crate) fn second_at(seconds: &[Option<usize>], place: usize) -> Option<usize>
     ensures { result ≡ slice_index_or seconds.now place None }
 {
-    if place < seconds.len() { seconds[place] } else { None }
+    if place < seconds.len() {
+        seconds[place]
+    } else {
+        None
+    }
 }
 
 /// Whether a node begins at a place that reads the member with this name.

@@ -98,11 +98,11 @@ fn told_at(told: &[Told], place: usize) -> Told
 }
 
 // What is known of what stands in this field of the innermost of these open nodes.
-fn spot_at<'a>(open: &[Frame<'a>], field: u8) -> Spot
-    ensures { (item : List Item) (told : ℕ → ToldLem) (path : List Around) → AreOpen item told (reverse open.now) path → IsSpot item told result (path_in_field field path) }
+fn spot_at<'a>(frames: &[Frame<'a>], field: u8) -> Spot
+    ensures { (item : List Item) (told : ℕ → ToldLem) (path : List Around) → AreOpen item told (reverse frames.now) path → IsSpot item told result (path_in_field field path) }
 {
-    if open.len() > 0 {
-        Spot::inside(open[open.len() - 1], field)
+    if frames.len() > 0 {
+        Spot::inside(frames[frames.len() - 1], field)
     } else {
         Spot::outside()
     }
@@ -113,15 +113,15 @@ fn frame_at<'a>(
     item: &[Piece<'a>],
     told: &[Told],
     seconds: &[Option<usize>],
-    open: &[Frame<'a>],
+    frames: &[Frame<'a>],
     place: usize,
     field: u8,
     node: Node<'a>,
 ) -> Frame<'a>
     requires { place < length item.now }
-    ensures { (path : List Around) → AreSeconds (map item_of item.now) seconds.now → AreOpen (map item_of item.now) (λ p. slice_index_or told.now p no_told) (reverse open.now) path → IsOpen (map item_of item.now) (λ p. slice_index_or told.now p no_told) result (record { head = head_of node.entry; begins = place; field = 0 }) (path_in_field field path) }
+    ensures { (path : List Around) → AreSeconds (map item_of item.now) seconds.now → AreOpen (map item_of item.now) (λ p. slice_index_or told.now p no_told) (reverse frames.now) path → IsOpen (map item_of item.now) (λ p. slice_index_or told.now p no_told) result (record { head = head_of node.entry; begins = place; field = 0 }) (path_in_field field path) }
 {
-    let spot = spot_at(open, field);
+    let spot = spot_at(frames, field);
     let calls = calls_assign(item, told, seconds, place);
     Frame {
         node,
@@ -167,14 +167,14 @@ fn calls_assign<'a>(
 fn seen_at<'a>(
     item: &[Piece<'a>],
     seconds: &[Option<usize>],
-    open: &[Frame<'a>],
+    frames: &[Frame<'a>],
     number: usize,
     binding: usize,
     field: u8,
     role: Role,
 ) -> Seen {
-    let spot = spot_at(open, field);
-    let is_prototype = is_prototype_read(item, seconds, open, field);
+    let spot = spot_at(frames, field);
+    let is_prototype = is_prototype_read(item, seconds, frames, field);
     Seen {
         item: number,
         binding,
@@ -190,13 +190,13 @@ fn seen_at<'a>(
 fn is_prototype_read<'a>(
     item: &[Piece<'a>],
     seconds: &[Option<usize>],
-    open: &[Frame<'a>],
+    frames: &[Frame<'a>],
     field: u8,
 ) -> bool
-    ensures { (told : ℕ → ToldLem) (path : List Around) → AreSeconds (map item_of item.now) seconds.now → AreOpen (map item_of item.now) told (reverse open.now) path → result ≡ is_prototype_read_lem (map item_of item.now) (path_in_field field path) }
+    ensures { (told : ℕ → ToldLem) (path : List Around) → AreSeconds (map item_of item.now) seconds.now → AreOpen (map item_of item.now) told (reverse frames.now) path → result ≡ is_prototype_read_lem (map item_of item.now) (path_in_field field path) }
 {
-    if open.len() > 0 {
-        let frame = open[open.len() - 1];
+    if frames.len() > 0 {
+        let frame = frames[frames.len() - 1];
         let reads = reads_member(item, seconds, frame.begins, "prototype");
         both(field == 0, reads)
     } else {

@@ -115,11 +115,7 @@ fn is_object<'a>(piece: Piece<'a>) -> bool
     ensures { result ≡ is_object_lem (item_of piece.entry) }
 {
     match piece {
-        Piece::Ident {
-            sym,
-            ctxt,
-            ..
-        } => ctxt == 1 && sym == "Object",
+        Piece::Ident { sym, ctxt, .. } => ctxt == 1 && sym == "Object",
         _ => false,
     }
 }

@@ -1,5 +1,4 @@
-use Rattle.std.proofs.Common.{ℕ, ◌↔◌, List, Contains, map, sym, ◌∙◌, subst}
-use Rattle.bundle_mentions.specs.Found.{IsEnd}
+use Rattle.std.proofs.Common.{ℕ, ◌↔◌, List, Contains, map, sym, subst}
 use Rattle.bundle_mentions.proofs.ListLemmas.{IsEnd-same}
 use Rattle.bundle_mentions.proofs.depends.ends_of.Goals as goal
 

@@ -1,4 +1,4 @@
-use Rattle.std.proofs.Common.{◌≡◌, ℕ, ◌<◌, Option, None, List, length, get_or, sym, ap, ◌∙◌, arith}
+use Rattle.std.proofs.Common.{◌≡◌, ◌<◌, Option, None, List, length, get_or, sym, ap, ◌∙◌, arith}
 use Rattle.std.proofs.lemmas.List.{get_or_default, length-set}
 use Rattle.bundle_mentions.specs.declared.seen.Seen.{Seen}
 use Rattle.bundle_mentions.proofs.ListLemmas.{no_seen, none-from, some-from, firsts-puts, firsts-leaves}

@@ -1,4 +1,4 @@
-use Rattle.std.proofs.Common.{◌≡◌, ℕ, ◌<◌, ◌↔◌, Option, None, List, Contains, length, get_or, map, sym, ap, ◌∙◌, subst}
+use Rattle.std.proofs.Common.{ℕ, ◌<◌, ◌↔◌, Option, List, Contains, length, get_or, map, ap, ◌∙◌, subst}
 use Rattle.std.specs.List.{filter, find}
 use Rattle.bundle_sort.specs.Classes.{Leads}
 use Rattle.bundle_mentions.specs.declared.seen.Seen.{Seen}

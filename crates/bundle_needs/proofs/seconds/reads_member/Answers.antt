@@ -1,10 +1,9 @@
-use Rattle.std.proofs.Common.{◌≡◌, ℕ, ◌<◌, cond, Option, None, Some, List, length, get_or, map, slice_get, refl, sym, ap, ◌∙◌, arith}
+use Rattle.std.proofs.Common.{◌≡◌, ℕ, cond, Option, None, Some, length, map, slice_get, refl, sym, ap, ◌∙◌, arith}
 use Rattle.std.specs.Option.{option_map}
 use Rattle.std.proofs.lemmas.Option.{slice_get-map, slice_get_read}
 use Rattle.std.proofs.lemmas.List.{length-map}
-use Rattle.bundle_piece.specs.Item.{Item, item_of}
-use Rattle.bundle_terms.specs.Nodes.{Text, node_at}
-use Rattle.bundle_terms.specs.Reads.{property_of}
+use Rattle.bundle_piece.specs.Item.{item_of}
+use Rattle.bundle_terms.specs.Nodes.{Text}
 use Rattle.bundle_terms.specs.Order.{is_text}
 use Rattle.bundle_needs.specs.Seconds.{second_of, word_at}
 use Rattle.bundle_needs.proofs.SecondLemmas.{property_is}

@@ -1,4 +1,4 @@
-use Rattle.std.proofs.Common.{◌≡◌, ◌+◌, ◌&&◌, map, ap, ◌∙◌}
+use Rattle.std.proofs.Common.{◌+◌, ◌&&◌, map, ap, ◌∙◌}
 use Rattle.std.specs.Prelude.{codes}
 use Rattle.bundle_piece.specs.Item.{item_of}
 use Rattle.bundle_terms.specs.Nodes.{node_at}

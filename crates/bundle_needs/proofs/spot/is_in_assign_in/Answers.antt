@@ -1,6 +1,5 @@
-use Rattle.std.proofs.Common.{◌≡◌, ◌∙◌}
+use Rattle.std.proofs.Common.{◌∙◌}
 use Rattle.bundle_piece.specs.Item.{head_of}
-use Rattle.bundle_needs.specs.Known.{path_in}
 use Rattle.bundle_needs.proofs.OpenLemmas.{in_second, not_in_second}
 use Rattle.bundle_needs.proofs.spot.is_in_assign_in.Goals as goal
 

@@ -1,4 +1,4 @@
-use Rattle.std.proofs.Common.{◌≡◌, ℕ, ◌<◌, Option, Some, None, false, List, length, get_or, map, slice_get, set, refl, sym, ap, ◌∙◌, subst, arith}
+use Rattle.std.proofs.Common.{◌≡◌, Some, None, false, List, length, get_or, map, slice_get, refl, sym, ap, ◌∙◌, arith}
 use Rattle.std.specs.Option.{option_map}
 use Rattle.std.proofs.lemmas.Option.{slice_get-map, slice_get_read}
 use Rattle.std.proofs.lemmas.List.{length-map, length-set, take_all}
