@@ -1,2 +1,6 @@
 pub mod Known
+pub mod Numbered
+pub mod Open
 pub mod Owners
+pub mod Seconds
+pub mod Told

@@ -1,5 +1,5 @@
 -- To which module items belong.
-use Rattle.std.specs.Prelude.{ℕ, Bool}
+use Rattle.std.specs.Prelude.{ℕ, Bool, Option, Some, None, cond}
 use Rattle.bundle_needs.specs.declared.needs.ItemRange.{ItemRange}
 use Rattle.bundle_sort.specs.declared.SortItem.{SortItem}
 
@@ -10,3 +10,7 @@ owner_of item = (item.«module», item.is_free)
 -- the same of an item to sort
 abbrev pub sorted_owner_of : SortItem → ℕ × Bool
 sorted_owner_of item = (item.«module», item.is_free)
+
+-- the module of an item, or none where it is free
+abbrev pub module_of : ItemRange → Option ℕ
+module_of item = cond item.is_free None (Some item.«module»)

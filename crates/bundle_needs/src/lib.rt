@@ -2,10 +2,10 @@
 //! declares or sets up, and whether such a reference waits for a function to run.
 #![tactic(auto)]
 
-pub(crate) mod facts;
 pub mod needs;
-pub(crate) mod providers;
+pub(crate) mod seconds;
+pub(crate) mod seen;
 pub(crate) mod spot;
-pub(crate) mod walk;
+pub(crate) mod told;
 
 pub use needs::{ItemRange, dependencies};

@@ -1,11 +1,11 @@
 //! The dependencies between the items of a block.
 
-ghost use Rattle.std.specs.Prelude.{◌≡◌, IfOk, map};
-ghost use Rattle.bundle_needs.specs.Owners.{owner_of, sorted_owner_of};
+ghost use Rattle.std.specs.Prelude.{◌≡◌, IfOk, length, map};
+ghost use Rattle.bundle_needs.specs.Owners.{module_of as module_of_lem, owner_of, sorted_owner_of};
 
-use crate::facts::{Facts, Reference};
-use crate::providers::providers_of;
+use crate::seen::seen_in;
 use bundle_denote::Denotations;
+use bundle_mentions::dependencies_among;
 use bundle_piece::Piece;
 use bundle_sort::{Dependency, SortItem};
 use std::alloc::{AllocError, Global};
@@ -34,69 +34,51 @@ pub fn dependencies<'a>(
 ) -> Result<Vec<SortItem>, AllocError>
     ensures { IfOk result (λ sorted. map sorted_owner_of sorted.items ≡ map owner_of items.now) }
 {
-    let facts = Facts::of(alloc, pieces, denotations, top, items)?;
-    let providers = providers_of(alloc, &facts, items, denotations.bindings.len())?;
+    let seen = seen_in(alloc, pieces, denotations, top, items)?;
+    let owners = owners_of(alloc, items)?;
+    let found = dependencies_among(alloc, &seen, &owners, denotations.bindings.len())?;
+    sort_items(alloc, items, &found)
+}
+
+// The module of each item, or none.
+fn owners_of(alloc: Global, items: &[ItemRange]) -> Result<Vec<Option<usize>>, AllocError>
+    ensures { IfOk result (λ owners. owners.items ≡ map module_of_lem items.now) }
+{
+    let mut owners = Vec::new(alloc);
+    for item in items {
+        owners.push(module_of(*item))?;
+    }
+    Ok(owners)
+}
+
+// The module of an item, or none where it is free.
+fn module_of(item: ItemRange) -> Option<usize>
+    ensures { result ≡ module_of_lem item }
+{
+    if item.is_free {
+        None
+    } else {
+        Some(item.module)
+    }
+}
+
+// The items with these dependencies.
+fn sort_items(
+    alloc: Global,
+    items: &[ItemRange],
+    found: &[Vec<Dependency>],
+) -> Result<Vec<SortItem>, AllocError>
+    requires { length found.now ≡ length items.now }
+    ensures owners { IfOk result (λ sorted. map sorted_owner_of sorted.items ≡ map owner_of items.now) }
+    ensures found { IfOk result (λ sorted. map (λ one. one.dependencies.items) sorted.items ≡ map (λ v. v.items) found.now) }
+{
     let mut sorted = Vec::new(alloc);
     for (number, item) in items.iter().enumerate() {
-        let references = facts.references_of(number);
         sorted.push(SortItem {
             module: item.module,
             is_free: item.is_free,
-            dependencies: dependencies_of(alloc, &providers, references, number, item.is_free)?,
+            dependencies: Vec::from_slice(alloc, &found[number])?,
         })?;
     }
     Ok(sorted)
-}
-
-// What an item with these references depends on.
-fn dependencies_of(
-    alloc: Global,
-    providers: &[Vec<usize>],
-    references: &[Reference],
-    number: usize,
-    is_free: bool,
-) -> Result<Vec<Dependency>, AllocError> {
-    let mut ends = Vec::new(alloc);
-    for (binding, is_later) in firsts_of(alloc, references)? {
-        let is_weak = is_later && !is_free;
-        add_ends(&mut ends, providers, number, binding, is_weak)?;
-    }
-    let mut dependencies = Vec::new(alloc);
-    for (item, is_weak) in firsts_of(alloc, &ends)? {
-        dependencies.push(Dependency { item, is_weak })?;
-    }
-    Ok(dependencies)
-}
-
-// Adds the items other than this one that declare the binding or set it up.
-fn add_ends(
-    ends: &mut Vec<(usize, bool)>,
-    providers: &[Vec<usize>],
-    number: usize,
-    binding: usize,
-    is_weak: bool,
-) -> Result<(), AllocError> {
-    if let Some(items) = providers.get(binding) {
-        for item in items {
-            if *item != number {
-                ends.push((*item, is_weak))?;
-            }
-        }
-    }
-    Ok(())
-}
-
-// Each number of these pairs once, ascending, with `false` where it has it somewhere.
-fn firsts_of(alloc: Global, pairs: &[(usize, bool)]) -> Result<Vec<(usize, bool)>, AllocError> {
-    let mut sorted = Vec::from_slice(alloc, pairs)?;
-    sorted.sort_unstable();
-    let mut firsts: Vec<(usize, bool)> = Vec::new(alloc);
-    let mut last = None;
-    for (number, flag) in sorted {
-        if last != Some(number) {
-            last = Some(number);
-            firsts.push((number, flag))?;
-        }
-    }
-    Ok(firsts)
 }

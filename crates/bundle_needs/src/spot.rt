@@ -1,11 +1,13 @@
 //! What is known of a place by the nodes around it.
 
-ghost use Rattle.std.specs.Prelude.{◌≡◌, ◌≤◌, [], List};
-ghost use Rattle.bundle_piece.specs.Item.{head_of};
+ghost use Rattle.std.specs.Prelude.{◌≡◌, ◌||◌, ℕ, [], List};
+ghost use Rattle.bundle_piece.specs.Item.{Item, head_of};
 ghost use Rattle.bundle_places.specs.Deferred.{runs_later};
 ghost use Rattle.bundle_places.specs.Places.{Around};
-ghost use Rattle.bundle_terms.specs.Order.{assigns as assigns_lem, is_any_call as is_any_call_lem, is_chain_step as is_chain_step_lem, is_parenthesis as is_parenthesis_lem, passes_assignments};
+ghost use Rattle.bundle_terms.specs.Order.{assigns as assigns_lem, has_no_value, is_declarator as is_declarator_lem, is_in_assign_of, is_any_call as is_any_call_lem, is_chain_step as is_chain_step_lem, is_parenthesis as is_parenthesis_lem, passes_assignments};
 ghost use Rattle.bundle_needs.specs.Known.{IsKnown, delays as delays_lem, path_in};
+ghost use Rattle.bundle_needs.specs.Open.{IsSpot, calls_assign, no_value_at};
+ghost use Rattle.bundle_needs.specs.declared.told.Told.{Told as ToldLem};
 
 use bundle_piece::Node;
 
@@ -28,22 +30,19 @@ pub(crate) struct Spot {
     pub(crate) declarator: Option<usize>,
 }
 
-/// An open node: where it begins, what is known of that place, whether it is a call of `Object.assign`, and
-/// whether it is a declarator with a value so far.
+/// An open node: where it begins, what is known of that place, and whether it is a call of `Object.assign`.
 #[derive(Clone, Copy)]
 pub(crate) struct Frame<'a> {
     pub(crate) node: Node<'a>,
     pub(crate) begins: usize,
     pub(crate) spot: Spot,
     pub(crate) is_object_assign: bool,
-    pub(crate) has_value: bool,
 }
 
 impl Spot {
     /// A place outside all nodes.
     pub(crate) fn outside() -> Spot
-        ensures known { IsKnown result [] }
-        ensures later { result.is_later ≡ runs_later [] }
+        ensures { (item : List Item) (told : ℕ → ToldLem) → IsSpot item told result [] }
     {
         Spot {
             is_assigned: false,
@@ -56,15 +55,13 @@ impl Spot {
         }
     }
 
-    /// A place directly in this field of an open node, in an item that begins at `start`. Nodes around the item
-    /// do not count.
-    pub(crate) fn inside<'a>(frame: Frame<'a>, field: u8, start: usize) -> Spot
-        ensures known { (outer : List Around) → start ≤ frame.entry.begins → IsKnown frame.entry.spot outer → IsKnown result (path_in frame.entry field outer) }
-        ensures later { (outer : List Around) → start ≤ frame.entry.begins → frame.entry.spot.is_later ≡ runs_later outer → result.is_later ≡ runs_later (path_in frame.entry field outer) }
+    /// A place directly in this field of an open node.
+    pub(crate) fn inside<'a>(frame: Frame<'a>, field: u8) -> Spot
+        ensures known { (outer : List Around) → IsKnown frame.entry.spot outer → IsKnown result (path_in frame.entry field outer) }
+        ensures later { (outer : List Around) → frame.entry.spot.is_later ≡ runs_later outer → result.is_later ≡ runs_later (path_in frame.entry field outer) }
+        ensures assign { (item : List Item) (told : ℕ → ToldLem) (outer : List Around) → frame.entry.is_object_assign ≡ calls_assign item told (head_of frame.entry.node) frame.entry.begins → frame.entry.spot.is_in_assign ≡ is_in_assign_of (λ place. (told place).is_object) item outer → result.is_in_assign ≡ is_in_assign_of (λ place. (told place).is_object) item (path_in frame.entry field outer) }
+        ensures empty { (item : List Item) (outer : List Around) → no_value_at item frame.entry.spot.declarator ≡ has_no_value item outer → no_value_at item result.declarator ≡ has_no_value item (path_in frame.entry field outer) }
     {
-        if frame.begins < start {
-            return Spot::outside();
-        }
         let node = frame.node;
         let outer = frame.spot;
         let is_step = is_chain_step(node, field);
@@ -75,7 +72,7 @@ impl Spot {
             is_assigned,
             ends_chain: ((is_step || is_parenthesis) && outer.ends_chain) || is_assigned,
             roots_chain: (is_step && outer.ends_chain) || (is_parenthesis && outer.roots_chain),
-            is_in_assign: (frame.is_object_assign && field == 1) || outer.is_in_assign,
+            is_in_assign: is_in_assign_in(frame, field),
             is_in_argument: (is_any_call(node) && field == 1) || outer.is_in_argument,
             is_later: is_later_in(frame, field),
             declarator: declarator_in(frame),
@@ -83,12 +80,42 @@ impl Spot {
     }
 }
 
+// Whether what stands in this field of an open node lies in an argument of a call of `Object.assign`.
+fn is_in_assign_in<'a>(frame: Frame<'a>, field: u8) -> bool
+    ensures { (item : List Item) (told : ℕ → ToldLem) (outer : List Around) → frame.entry.is_object_assign ≡ calls_assign item told (head_of frame.entry.node) frame.entry.begins → frame.entry.spot.is_in_assign ≡ is_in_assign_of (λ place. (told place).is_object) item outer → result ≡ is_in_assign_of (λ place. (told place).is_object) item (path_in frame.entry field outer) }
+{
+    if field == 1 {
+        either(frame.is_object_assign, frame.spot.is_in_assign)
+    } else {
+        frame.spot.is_in_assign
+    }
+}
+
+// Whether one of the two holds.
+fn either(one: bool, other: bool) -> bool
+    ensures { result ≡ (one || other) }
+{
+    one || other
+}
+
 // Where the nearest declarator around what stands in an open node begins.
-fn declarator_in<'a>(frame: Frame<'a>) -> Option<usize> {
-    if frame.node == Node::VarDeclarator {
+fn declarator_in<'a>(frame: Frame<'a>) -> Option<usize>
+    ensures { (item : List Item) (field : ℕ) (outer : List Around) → no_value_at item frame.entry.spot.declarator ≡ has_no_value item outer → no_value_at item result ≡ has_no_value item (path_in frame.entry field outer) }
+{
+    if is_declarator(frame.node) {
         Some(frame.begins)
     } else {
         frame.spot.declarator
+    }
+}
+
+// Whether such a node is a declarator.
+fn is_declarator<'a>(node: Node<'a>) -> bool
+    ensures { result ≡ is_declarator_lem (head_of node.entry) }
+{
+    match node {
+        Node::VarDeclarator => true,
+        _ => false,
     }
 }
 

@@ -1,0 +1,4 @@
+pub mod Found
+pub mod Providing
+pub mod Renumbered
+pub mod Seen
