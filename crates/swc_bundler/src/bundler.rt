@@ -9,14 +9,14 @@ ghost use Rattle.bundle_kept.specs.Kept.{contents_of};
 ghost use Rattle.swc_bundler.specs.Loading.{files_on, AreKept};
 ghost use Rattle.swc_bundler.specs.Refusal.{IsRight};
 
-pub use crate::bundle::{Bundle, BundleKind};
+use crate::bundle::{Bundle, BundleKind};
 use crate::entry::{Call, module_of};
 use crate::library::Library;
 use crate::load::{LoadList, load_all};
 use crate::program::{Program, program_of};
 use crate::unlinked::Unlinked;
 use bundle_id::ModuleId;
-pub use bundle_name::config::{Config, ModuleType};
+use bundle_name::config::Config;
 use bundle_name::error::Error;
 use bundle_name::file_name::FileName;
 use bundle_tree::hook::Hook;

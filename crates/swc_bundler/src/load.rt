@@ -17,9 +17,9 @@ use bundle_kept::Request;
 use bundle_listing::pieces_of_module;
 use bundle_name::config::Config;
 use bundle_name::error::Error;
-pub use bundle_name::file_name::FileName;
+use bundle_name::file_name::FileName;
 use bundle_tables::tables_of;
-pub use bundle_tree::load::{Load, LoadError, ModuleData};
+use bundle_tree::load::Load;
 use bundle_tree::resolve::Resolve;
 use indexmap::IndexMap;
 use std::alloc::Global;
@@ -27,7 +27,7 @@ use std::alloc::Global;
 /// Files with their numbers, in the order in which they were met, and for each that was worked on the
 /// places of the files that its specifiers lead to.
 #[derive(Debug, Drop)]
-pub(crate) struct LoadList {
+pub struct LoadList {
     pub files: IndexMap<FileName, ModuleId>,
     pub requests: Vec<IndexMap<String, usize>>,
 }
@@ -66,7 +66,7 @@ impl LoadList {
 
 /// Loads the files of the entries and all files that they need, first in first out, and gives their list, which
 /// begins with those of the entries, of which these are the numbers. Each file on it is kept.
-pub(crate) fn load_all<L: Load + Drop, R: Resolve + Drop>(
+pub fn load_all<L: Load + Drop, R: Resolve + Drop>(
     library: &mut Library<L, R>,
     alloc: Global,
     entries: &[(String, FileName)],
