@@ -10,10 +10,11 @@ use Rattle.bundle_tree.specs.declared.load.LoadError.TheVariants.{Failed as Load
 use Rattle.bundle_tree.specs.declared.resolve.ResolveError.{ResolveError}
 use Rattle.bundle_tree.specs.declared.resolve.ResolveError.TheVariants.{Failed as ResolveFailed, OutOfMemory as ResolveNoMemory}
 use Rattle.bundle_kept.specs.declared.kept.Request.{Request}
-use Rattle.swc_bundler.specs.declared.unlinked.Unlinked.{Unlinked}
-use Rattle.swc_bundler.specs.declared.unlinked.Unlinked.TheVariants as u
+use Rattle.bundle_entry.specs.declared.unlinked.Unlinked.{Unlinked}
+use Rattle.bundle_entry.specs.declared.unlinked.Unlinked.TheVariants as u
 use Rattle.bundle_kept.specs.Kept.{asked_of}
-use Rattle.swc_bundler.specs.Refusal.{IsRight, error_of, load_refusal, resolve_refusal}
+use Rattle.bundle_entry.specs.Unlinked.{error_of}
+use Rattle.swc_bundler.specs.Refusal.{IsRight, load_refusal, resolve_refusal}
 use Rattle.bundle_kept.specs.Contents.{Asked, Contents, tree_of, target_of}
 use Rattle.bundle_kept.proofs.Keeping.{with_trees, with_targets}
 

@@ -10,31 +10,7 @@ use Rattle.bundle_tree.specs.declared.load.LoadError.TheVariants.{Failed as Load
 use Rattle.bundle_tree.specs.declared.resolve.ResolveError.{ResolveError}
 use Rattle.bundle_tree.specs.declared.resolve.ResolveError.TheVariants.{Failed as ResolveFailed, OutOfMemory as ResolveNoMemory}
 use Rattle.bundle_kept.specs.declared.kept.Request.{Request}
-use Rattle.swc_bundler.specs.declared.unlinked.Unlinked.{Unlinked}
-use Rattle.swc_bundler.specs.declared.unlinked.Unlinked.TheVariants as u
-use Rattle.bundle_name.specs.declared.error.Error.TheVariants as e
 use Rattle.bundle_kept.specs.Contents.{Contents, tree_of, target_of}
-
--- the refusal of a bundle where trees are not linked
-abbrev pub error_of : Unlinked → Error
-error_of u.OutOfMemory = e.OutOfMemory
-error_of (u.Hook file) = e.Hook file
-error_of (u.ContextsUsedUp file) = e.ContextsUsedUp file
-error_of (u.DoubledDeclaration file name) = e.DoubledDeclaration file name
-error_of (u.DoubledExport file name) = e.DoubledExport file name
-error_of (u.UndeclaredExport file name) = e.UndeclaredExport file name
-error_of (u.MissingExport file name) = e.MissingExport file name
-error_of (u.AmbiguousExport file name) = e.AmbiguousExport file name
-error_of (u.ExternalStarOnly file name) = e.ExternalStarOnly file name
-error_of (u.StarOfCommonJs file specifier) = e.StarOfCommonJs file specifier
-error_of (u.NamespaceOverExternalStar file) = e.NamespaceOverExternalStar file
-error_of (u.With file) = e.With file
-error_of (u.RequiredEsModule file specifier) = e.RequiredEsModule file specifier
-error_of (u.RequiredEntry file specifier) = e.RequiredEntry file specifier
-error_of (u.AwaitInCommonJs file) = e.AwaitInCommonJs file
-error_of (u.DoubledEntry file name) = e.DoubledEntry file name
-error_of (u.ExternalUnderIife file specifier) = e.ExternalUnderIife file specifier
-error_of (u.ArgumentsUnderIife file) = e.ArgumentsUnderIife file
 
 -- the refusal of a bundle where a file is not loaded
 abbrev pub load_refusal : FileName → LoadError → Error

@@ -10,11 +10,11 @@ ghost use Rattle.swc_bundler.specs.Loading.{files_on, AreKept};
 ghost use Rattle.swc_bundler.specs.Refusal.{IsRight};
 
 use crate::bundle::{Bundle, BundleKind};
-use crate::entry::{Call, module_of};
 use crate::library::Library;
+use crate::linked::module_on;
 use crate::load::{LoadList, load_all};
-use crate::program::{Program, program_of};
-use crate::unlinked::Unlinked;
+use crate::program::program_on;
+use bundle_entry::{Call, Program, Unlinked};
 use bundle_id::ModuleId;
 use bundle_name::config::Config;
 use bundle_name::error::Error;
@@ -142,21 +142,22 @@ fn linked_bundles<L: Load + Drop, R: Resolve + Drop>(
     requires { AreKept (contents_of library.now.kept) (files_on list.now) }
     ensures bundles { IfOk result (λ bundles. (names : List Name) → AllZip (IsNumbered names) entries.items ids.items → AllZip (IsBundleOf names) entries.items bundles.items) }
 {
-    let program = program_of(library, alloc, list, config)?;
-    bundles_of(alloc, library, &program, config, hook, entries, ids)
+    let program = program_on(library, alloc, list, config)?;
+    bundles_of(alloc, library, list, &program, config, hook, entries, ids)
 }
 
 // The same, given what the files say.
 fn bundles_of<'x, L: Load + Drop, R: Resolve + Drop>(
     alloc: Global,
     library: &Library<L, R>,
+    list: &LoadList,
     program: &Program<'x>,
     config: &Config,
     hook: &dyn Hook,
     entries: Vec<(String, FileName)>,
     ids: Vec<ModuleId>,
 ) -> Result<Vec<Bundle>, Unlinked>
-    requires { AreKept (contents_of library.now.kept) (files_on program.now.list.now) }
+    requires { AreKept (contents_of library.now.kept) (files_on list.now) }
     ensures bundles { IfOk result (λ bundles. (names : List Name) → AllZip (IsNumbered names) entries.items ids.items → AllZip (IsBundleOf names) entries.items bundles.items) }
 {
     let mut bundles = Vec::new(alloc);
@@ -167,7 +168,7 @@ fn bundles_of<'x, L: Load + Drop, R: Resolve + Drop>(
             config,
             entry: &file,
         };
-        let module = module_of(alloc, library, &call, hook, id)?;
+        let module = module_on(alloc, library, list, &call, hook, id)?;
         let kind = BundleKind::Named { name };
         bundles.push(Bundle { kind, id, module })?;
     }

@@ -4,14 +4,10 @@
 
 pub mod bundle;
 pub mod bundler;
-mod entry;
-mod fault;
-mod finish;
 mod library;
+mod linked;
 mod load;
-mod meta;
 mod program;
-mod unlinked;
 
 pub use bundle::{Bundle, BundleKind};
 pub use bundler::Bundler;

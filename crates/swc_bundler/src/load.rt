@@ -8,17 +8,13 @@ ghost use Rattle.bundle_kept.specs.Kept.{asked_of, contents_of};
 ghost use Rattle.swc_bundler.specs.Loading.{files_on, AreKept};
 ghost use Rattle.swc_bundler.specs.Refusal.{IsRight};
 
-use crate::fault::refuse_tree;
 use crate::library::Library;
-use crate::unlinked::Unlinked;
-use bundle_denote::{ModuleKind, Reading, denotations};
+use bundle_entry::{Unlinked, requests_of};
 use bundle_id::ModuleId;
 use bundle_kept::Request;
-use bundle_listing::pieces_of_module;
 use bundle_name::config::Config;
 use bundle_name::error::Error;
 use bundle_name::file_name::FileName;
-use bundle_tables::tables_of;
 use bundle_tree::load::Load;
 use bundle_tree::resolve::Resolve;
 use indexmap::IndexMap;
@@ -109,7 +105,7 @@ fn work_on<L: Load + Drop, R: Resolve + Drop>(
     ensures listed { OnOk result (Begins (files_on list.old) (files_on list.new)) }
 {
     library.load(alloc, file, config.max_modules)?;
-    let specifiers = requests_of(library, alloc, file, config)?;
+    let specifiers = kept_requests(library, alloc, file, config)?;
     let mut places = IndexMap::new(alloc);
     for specifier in specifiers {
         let place = place_of(library, alloc, list, file, &specifier)?;
@@ -167,7 +163,7 @@ fn target_of<L: Load + Drop, R: Resolve + Drop>(
 }
 
 // The texts of a kept module's requests, once it is seen to have no fault of its own.
-fn requests_of<L: Load + Drop, R: Resolve + Drop>(
+fn kept_requests<L: Load + Drop, R: Resolve + Drop>(
     library: &Library<L, R>,
     alloc: Global,
     file: &FileName,
@@ -176,17 +172,5 @@ fn requests_of<L: Load + Drop, R: Resolve + Drop>(
     requires { IsSome (tree_of (contents_of library.now.kept) (name_of file.now)) }
 {
     let loaded = library.module(file).unwrap();
-    let pieces = pieces_of_module(alloc, &loaded.module)?;
-    let names = denotations(alloc, pieces.as_slice(), ModuleKind::Es, Reading::BySymbol)?;
-    let external = config.external_modules.as_slice();
-    match tables_of(alloc, pieces.as_slice(), &names, config.require, external)? {
-        Ok(tables) => {
-            let mut texts = Vec::new(alloc);
-            for request in &tables.requests {
-                texts.push(String::from_str(alloc, *request)?)?;
-            }
-            Ok(texts)
-        }
-        Err(fault) => refuse_tree(alloc, file, fault),
-    }
+    requests_of(alloc, file, loaded, config)
 }

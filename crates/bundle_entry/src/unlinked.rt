@@ -48,7 +48,7 @@ pub enum Unlinked {
 
 impl From<AllocError> for Unlinked {
     ghost use Rattle.std.specs.Prelude.{◌≡◌};
-    ghost use Rattle.swc_bundler.specs.declared.unlinked.Unlinked.TheVariants.{OutOfMemory};
+    ghost use Rattle.bundle_entry.specs.declared.unlinked.Unlinked.TheVariants.{OutOfMemory};
 
     ghost from_gives = { λ _ refusal. refusal ≡ OutOfMemory };
 
@@ -59,7 +59,7 @@ impl From<AllocError> for Unlinked {
 
 impl<T: Drop> From<AllocFailed<T>> for Unlinked {
     ghost use Rattle.std.specs.Prelude.{◌≡◌};
-    ghost use Rattle.swc_bundler.specs.declared.unlinked.Unlinked.TheVariants.{OutOfMemory};
+    ghost use Rattle.bundle_entry.specs.declared.unlinked.Unlinked.TheVariants.{OutOfMemory};
 
     ghost from_gives = { λ _ refusal. refusal ≡ OutOfMemory };
 
@@ -70,7 +70,7 @@ impl<T: Drop> From<AllocFailed<T>> for Unlinked {
 
 impl From<Unlinked> for Error {
     ghost use Rattle.std.specs.Prelude.{◌≡◌};
-    ghost use Rattle.swc_bundler.specs.Refusal.{error_of};
+    ghost use Rattle.bundle_entry.specs.Unlinked.{error_of};
 
     ghost from_gives = { λ unlinked refusal. refusal ≡ error_of unlinked };
 

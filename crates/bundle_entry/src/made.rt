@@ -1,0 +1,158 @@
+//! The module that the modules of an entry make.
+
+use crate::entry::Call;
+use crate::finish::finished;
+use crate::meta::ReadMeta;
+use crate::reached::Reached;
+use crate::source::Source;
+use crate::unlinked::Unlinked;
+use bundle_ast::Module;
+use bundle_denote::{Denotations, ModuleKind, Reading, denotations};
+use bundle_id::ModuleId;
+use bundle_merge::{BundleParts, MergeError, Merged, Meta, Part, merge_modules};
+use bundle_name::file_name::FileName;
+use bundle_targets::Linking;
+use indexmap::IndexMap;
+use std::alloc::{AllocError, Global};
+
+// What the names of each CommonJS module denote, read as the body of a function.
+fn read_common_js<'p, 'x>(
+    alloc: Global,
+    call: &Call<'p, 'x>,
+    reached: &Reached,
+    linking: &Linking<'x>,
+) -> Result<Vec<Option<Denotations<'x>>>, AllocError> {
+    let mut kinds = Vec::new(alloc);
+    for module in 0..reached.places.len() {
+        let mut names = None;
+        if linking.is_common_js(module) {
+            if let Some(source) = source_at(call, reached, module) {
+                let pieces = source.pieces.as_slice();
+                names = Some(denotations(alloc, pieces, ModuleKind::Cjs, Reading::BySymbol)?);
+            }
+        }
+        kinds.push(names)?;
+    }
+    Ok(kinds)
+}
+
+/// The module that all modules make.
+pub fn made<'t, 'p: 't, 'x>(
+    alloc: Global,
+    call: &Call<'p, 'x>,
+    reached: &'t Reached,
+    linking: &'t Linking<'x>,
+    metas: &'t [Option<ReadMeta<'x>>],
+) -> Result<Module, Unlinked> {
+    let kinds = read_common_js(alloc, call, reached, linking)?;
+    let merged = merged_of(alloc, call, reached, linking, kinds.as_slice(), metas)?;
+    finished(alloc, &merged, call.config)
+}
+
+// The items that all modules make, where these are the names of the CommonJS ones.
+fn merged_of<'t, 'p: 't, 'x>(
+    alloc: Global,
+    call: &Call<'p, 'x>,
+    reached: &'t Reached,
+    linking: &'t Linking<'x>,
+    kinds: &'t [Option<Denotations<'x>>],
+    metas: &'t [Option<ReadMeta<'x>>],
+) -> Result<Merged<'x>, Unlinked> {
+    let mut parts = Vec::new(alloc);
+    for (module, leads) in reached.leads.iter().enumerate() {
+        if let Some(part) = part_of(call, reached, module, leads, kinds, metas) {
+            parts.push(part)?;
+        }
+    }
+    let bundle = BundleParts {
+        parts: parts.as_slice(),
+        linking,
+        blocks: reached.blocks.as_slice(),
+        files: call.program.count,
+    };
+    match merge_modules(alloc, &bundle) {
+        Ok(merged) => Ok(merged),
+        Err(MergeError::OutOfMemory) => Err(Unlinked::OutOfMemory),
+        Err(MergeError::ContextsUsedUp { module }) => refuse_contexts(call, reached, module),
+    }
+}
+
+// A module as it is merged with others.
+fn part_of<'t, 'p: 't, 'x>(
+    call: &Call<'p, 'x>,
+    reached: &Reached,
+    module: usize,
+    leads: &'t IndexMap<String, usize>,
+    kinds: &'t [Option<Denotations<'x>>],
+    metas: &'t [Option<ReadMeta<'x>>],
+) -> Option<Part<'t, 'x>> {
+    let source = source_at(call, reached, module)?;
+    let (_, id) = file_at(call, reached, module)?;
+    let denotations = match kinds.get(module) {
+        Some(Some(names)) => names,
+        _ => &source.names,
+    };
+    Some(Part {
+        items: source.items,
+        pieces: source.pieces.as_slice(),
+        denotations,
+        tables: &source.tables,
+        leads,
+        file: id.as_u32(),
+        meta: meta_at(metas, module),
+    })
+}
+
+// What `import.meta` holds in a module, if something does.
+fn meta_at<'t, 'x>(metas: &'t [Option<ReadMeta<'x>>], module: usize) -> Option<Meta<'t, 'x>> {
+    match metas.get(module) {
+        Some(Some(meta)) => Some(Meta {
+            properties: meta.properties,
+            pieces: meta.pieces.as_slice(),
+            denotations: &meta.names,
+        }),
+        _ => None,
+    }
+}
+
+// The refusal where contexts run out for a module's names or, without one, for those of the linker's own, which stand
+// in no file but the entry's.
+fn refuse_contexts<'p, 'x>(
+    call: &Call<'p, 'x>,
+    reached: &Reached,
+    module: Option<usize>,
+) -> Result<Merged<'x>, Unlinked> {
+    let file = match file_of(call, reached, module) {
+        Some(file) => file.clone()?,
+        None => call.entry.clone()?,
+    };
+    Err(Unlinked::ContextsUsedUp { file })
+}
+
+/// The source of a module, by its number.
+pub fn source_at<'t, 'p: 't, 'x>(
+    call: &Call<'p, 'x>,
+    reached: &Reached,
+    module: usize,
+) -> Option<&'t Source<'x>> {
+    call.program.sources.get(*reached.places.get(module)?)
+}
+
+/// The file of a module, by its number, and that file's number.
+pub fn file_at<'p, 'x>(
+    call: &Call<'p, 'x>,
+    reached: &Reached,
+    module: usize,
+) -> Option<(&'x FileName, &'x ModuleId)> {
+    call.program.files.get_index(*reached.places.get(module)?)
+}
+
+/// The file of a module, if there is one.
+pub fn file_of<'p, 'x>(
+    call: &Call<'p, 'x>,
+    reached: &Reached,
+    module: Option<usize>,
+) -> Option<&'x FileName> {
+    let (file, _) = file_at(call, reached, module?)?;
+    Some(file)
+}

@@ -1,0 +1,144 @@
+//! What the modules of a call say: of each file its list, what its names denote, and its tables; and which requests
+//! which.
+
+use crate::fault::refuse_tree;
+use crate::unlinked::Unlinked;
+use bundle_ast::ModuleItem;
+use bundle_denote::{Denotations, ModuleKind, Reading, denotations};
+use bundle_graph::graph::ModuleGraph;
+use bundle_id::ModuleId;
+use bundle_listing::pieces_of_module;
+use bundle_name::config::Config;
+use bundle_name::file_name::FileName;
+use bundle_piece::Piece;
+use bundle_tables::{Tables, tables_of};
+use bundle_tree::load::ModuleData;
+use indexmap::IndexMap;
+use std::alloc::{AllocError, Global};
+
+/// A file as it was read: the name that its loader gave it, its items, its list, what its names denote in an ES module, and its
+/// tables.
+#[derive(Drop)]
+pub struct Source<'x> {
+    pub given: &'x FileName,
+    pub items: &'x [ModuleItem],
+    pub pieces: Vec<Piece<'x>>,
+    pub names: Denotations<'x>,
+    pub tables: Tables<'x>,
+}
+
+/// The files of a call with their numbers, by their places: the places to which the requests of each lead, what was
+/// read of each, and how many numbers there are up to the last of theirs.
+#[derive(Drop)]
+pub struct Program<'x> {
+    pub files: &'x IndexMap<FileName, ModuleId>,
+    pub requests: &'x [IndexMap<String, usize>],
+    pub sources: Vec<Source<'x>>,
+    pub count: usize,
+    pub graph: ModuleGraph,
+    pub places: IndexMap<ModuleId, usize>,
+}
+
+/// Reads a module. Refused where it has a fault of its own, or memory runs out.
+pub fn source_of<'x>(
+    alloc: Global,
+    file: &FileName,
+    loaded: &'x ModuleData,
+    config: &Config,
+) -> Result<Source<'x>, Unlinked> {
+    let pieces = pieces_of_module(alloc, &loaded.module)?;
+    let names = denotations(alloc, pieces.as_slice(), ModuleKind::Es, Reading::BySymbol)?;
+    let external = config.external_modules.as_slice();
+    match tables_of(alloc, pieces.as_slice(), &names, config.require, external)? {
+        Ok(tables) => Ok(Source {
+            given: &loaded.file_name,
+            items: loaded.module.body.as_slice(),
+            pieces,
+            names,
+            tables,
+        }),
+        Err(fault) => refuse_tree(alloc, file, fault),
+    }
+}
+
+/// The texts of a module's requests, once it is seen to have no fault of its own.
+pub fn requests_of(
+    alloc: Global,
+    file: &FileName,
+    loaded: &ModuleData,
+    config: &Config,
+) -> Result<Vec<String>, Unlinked> {
+    let source = source_of(alloc, file, loaded, config)?;
+    let mut texts = Vec::new(alloc);
+    for request in &source.tables.requests {
+        texts.push(String::from_str(alloc, *request)?)?;
+    }
+    Ok(texts)
+}
+
+/// The files of a call, with what was read of each.
+pub fn program_of<'x>(
+    alloc: Global,
+    files: &'x IndexMap<FileName, ModuleId>,
+    requests: &'x [IndexMap<String, usize>],
+    sources: Vec<Source<'x>>,
+) -> Result<Program<'x>, AllocError> {
+    Ok(Program {
+        files,
+        requests,
+        sources,
+        count: count_of_files(files),
+        graph: graph_of(alloc, files, requests)?,
+        places: places_of(alloc, files)?,
+    })
+}
+
+// Which file requests which, in the order of the requests.
+fn graph_of(
+    alloc: Global,
+    files: &IndexMap<FileName, ModuleId>,
+    requests: &[IndexMap<String, usize>],
+) -> Result<ModuleGraph, AllocError> {
+    let mut graph = ModuleGraph::new(alloc);
+    for ((_, id), leads) in files.iter().zip(requests.iter()) {
+        graph.add_node(*id)?;
+        add_edges(&mut graph, *id, files, leads)?;
+    }
+    Ok(graph)
+}
+
+// Puts in where the requests of a file lead.
+fn add_edges(
+    graph: &mut ModuleGraph,
+    id: ModuleId,
+    files: &IndexMap<FileName, ModuleId>,
+    leads: &IndexMap<String, usize>,
+) -> Result<(), AllocError> {
+    for (_, place) in leads {
+        if let Some((_, requested)) = files.get_index(*place) {
+            graph.add_edge(id, *requested)?;
+        }
+    }
+    Ok(())
+}
+
+// The place of each file, by its number.
+fn places_of(
+    alloc: Global,
+    files: &IndexMap<FileName, ModuleId>,
+) -> Result<IndexMap<ModuleId, usize>, AllocError> {
+    let mut places = IndexMap::new(alloc);
+    for (place, (_, id)) in files.iter().enumerate() {
+        places.insert(*id, place)?;
+    }
+    Ok(places)
+}
+
+// How many numbers there are up to the last one of a file.
+fn count_of_files(files: &IndexMap<FileName, ModuleId>) -> usize {
+    let mut count: usize = 0;
+    for (_, id) in files {
+        count = count.max((id.as_u32() as usize).saturating_add(1));
+    }
+    count
+}
