@@ -1,6 +1,6 @@
 //! The items of a module, renamed.
 
-ghost use Rattle.std.specs.Prelude.{◌≡◌, false, IfOk, map, unwrap_or};
+ghost use Rattle.std.specs.Prelude.{◌≡◌, false, IfErr, IfOk, map, unwrap_or};
 ghost use Rattle.std.specs.Map.{lookup};
 ghost use Rattle.bundle_terms.specs.Rebuilds.{change_by as change_by_lem, ident_eq, renamed_all};
 ghost use Rattle.bundle_lists.specs.Changes.{change_of};
@@ -26,7 +26,8 @@ pub fn rename_all(
     items: &[ModuleItem],
     renaming: &Renaming,
 ) -> Result<Vec<ModuleItem>, Error>
-    ensures { IfOk result (λ made. list_of made.items ≡ renamed_all renaming.now (list_of items.now)) }
+    ensures renamed { IfOk result (λ made. list_of made.items ≡ renamed_all renaming.now (list_of items.now)) }
+    ensures refused { IfErr result (λ refusal. refusal ≡ Error.OutOfMemory) }
 {
     let listing = listing_of(alloc, items)?;
     let changes = changes_by(alloc, &listing.occurrences, renaming)?;

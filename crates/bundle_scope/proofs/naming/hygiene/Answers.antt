@@ -12,8 +12,8 @@ use Rattle.bundle_scope.specs.Named.{words_aside}
 use Rattle.bundle_scope.proofs.NamedLemmas.{called-is}
 use Rattle.bundle_scope.proofs.naming.hygiene.Goals as goal
 
-pub returns : goal.returns
-returns c = record {
+pub returns-clause-renamed : goal.returns-clause-renamed
+returns-clause-renamed c = record {
   table = c.in_ok-table.table;
   denotes = subst (λ tree. IsTable ByContext Es tree c.in_ok-table.table) (ap (map item_of) c.deref.ensures.value ∙ c.in_ok-list.ensures ∙ ap list_of c.as_slice-items.ensures.value) c.in_ok-table.ensures;
   names = c.in_ok-names.names;

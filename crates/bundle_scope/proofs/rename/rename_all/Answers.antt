@@ -6,7 +6,7 @@ use Rattle.bundle_renaming.specs.Composed.{list_of}
 use Rattle.bundle_scope.proofs.RenameLemmas.{renamed_all-is}
 use Rattle.bundle_scope.proofs.rename.rename_all.Goals as goal
 
-pub returns : goal.returns
-returns c =
+pub returns-clause-renamed : goal.returns-clause-renamed
+returns-clause-renamed c =
     c.in_ok-rebuild_items.ensures
     ∙ renamed_all-is (list_of c.args.items.now) c.args.renaming.now c.deref.result.now _ (ap (map listed_of) c.deref.ensures.value ∙ c.in_ok-listing.ensures.occurrences) (ap (map change_of) c.deref-2.ensures.value ∙ c.in_ok-changes.ensures)

@@ -6,7 +6,7 @@ use Rattle.swc_bundler.proofs.program.sources_on.Goals as goal
 pub loop-file-init : goal.loop-file-init
 loop-file-init g c = all_left (contents_of c.args.library.now.kept) _ _ c.into_iter-file-iterator.ensures.into_iter_gives.0 c.requires
 
-pub kept_source-requires : goal.source_of-requires
+pub kept_source-requires : goal.kept_source-requires
 kept_source-requires g c = first_kept (contents_of c.args.library.now.kept) _ _ _ c.loop-file.invariant c.in-Some.ensures.steps
 
 pub loop-file-preserved : goal.loop-file-preserved
