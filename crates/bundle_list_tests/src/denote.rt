@@ -2,7 +2,9 @@
 //! in field 1, `0=a` binds `a` in field 0, `0?a` refers to it, `1.a` is a word, and anything else ends a node. `a#2`
 //! is `a` with the context 2.
 
-use bundle_denote::{ModuleKind, Reading, ScopeKind, denotations, first_doubled};
+use bundle_denote::{
+    Denoted, Doubled, ModuleKind, Reading, Scope, ScopeKind, denotations, first_doubled,
+};
 use bundle_leaf::{ExportMetadata, VarDeclKind};
 use bundle_piece::{Node, Piece, Role};
 use std::alloc::{AllocError, Global};
@@ -18,33 +20,26 @@ struct Row {
     wanted: &'static str,
 }
 
-const LOOP_AND_BLOCK: &str =
-    "0:Module 0:ForStmt 0:let 1:VarDeclarator 0:BindingIdent 0=i ) ) ) 3:BlockStmt 0:let \
+const LOOP_AND_BLOCK: &str = "0:Module 0:ForStmt 0:let 1:VarDeclarator 0:BindingIdent 0=i ) ) ) 3:BlockStmt 0:let \
     1:VarDeclarator 0:BindingIdent 0=i ) ) ) ) ) )";
 
-const PARAMETER_AGAIN: &str =
-    "0:Module 0:FnDecl 0=f 1:Function 0:Param 0:BindingIdent 0=a ) ) 0:Param 0:AssignPat \
+const PARAMETER_AGAIN: &str = "0:Module 0:FnDecl 0=f 1:Function 0:Param 0:BindingIdent 0=a ) ) 0:Param 0:AssignPat \
     0:BindingIdent 0=g ) 1:ArrowExpr 1?a ) ) ) 1:BlockStmt 0:var 1:VarDeclarator 0:BindingIdent \
     0=a ) ) ) ) ) ) )";
 
-const FUNCTIONS_IN_A_BODY: &str =
-    "0:Module 0:FnDecl 0=f 1:Function 1:BlockStmt 0:FnDecl 0=g 1:Function 1:BlockStmt ) ) ) \
+const FUNCTIONS_IN_A_BODY: &str = "0:Module 0:FnDecl 0=f 1:Function 1:BlockStmt 0:FnDecl 0=g 1:Function 1:BlockStmt ) ) ) \
     0:FnDecl 0=g 1:Function 1:BlockStmt ) ) ) ) ) ) )";
 
-const CATCH_TWICE: &str =
-    "0:Module 0:TryStmt 0:BlockStmt ) 1:CatchClause 0:ArrayPat 0:BindingIdent 0=e ) \
+const CATCH_TWICE: &str = "0:Module 0:TryStmt 0:BlockStmt ) 1:CatchClause 0:ArrayPat 0:BindingIdent 0=e ) \
     0:BindingIdent 0=e ) ) 1:BlockStmt 0:let 1:VarDeclarator 0:BindingIdent 0=e ) ) ) ) ) ) )";
 
-const DEFAULT_NAMES: &str =
-    "0:Module 0:ExportDefaultExpr 0:Number ) ) 0:let 1:VarDeclarator 0:BindingIdent 0=d ) ) ) \
+const DEFAULT_NAMES: &str = "0:Module 0:ExportDefaultExpr 0:Number ) ) 0:let 1:VarDeclarator 0:BindingIdent 0=d ) ) ) \
     0:ExportDefaultDecl 0:FnExpr 0=d 1:Function 1:BlockStmt ) ) ) ) )";
 
-const WRAPPED: &str =
-    "0:Module 0:var 1:VarDeclarator 0:BindingIdent 0=module#5 ) ) ) 0?module#5 0?exports#3 \
+const WRAPPED: &str = "0:Module 0:var 1:VarDeclarator 0:BindingIdent 0=module#5 ) ) ) 0?module#5 0?exports#3 \
     0?require#1 0?arguments#4 0?arguments#1 )";
 
-const CONTEXTS: &str =
-    "0:Module 0:let 1:VarDeclarator 0:BindingIdent 0=x#2 ) ) 1:VarDeclarator 0:BindingIdent 0=x#3 \
+const CONTEXTS: &str = "0:Module 0:let 1:VarDeclarator 0:BindingIdent 0=x#2 ) ) 1:VarDeclarator 0:BindingIdent 0=x#3 \
     ) ) ) 0:BlockStmt 0:let 1:VarDeclarator 0:BindingIdent 0=x#4 ) ) ) 0?x#2 0?x#3 0?x#4 0?x#5 ) \
     0?x#4 )";
 
@@ -424,32 +419,23 @@ fn list_of<'a>(
     Ok(pieces)
 }
 
+fn occurrences_text(alloc: Global, occurrences: &[Denoted]) -> Result<String, AllocError> {
+    let mut text = String::new(alloc);
+    for denoted in occurrences {
+        match denoted.binding {
+            Some(number) => write!(text, "{number}")?,
+            None => text.push('-')?,
+        }
+        text.push_str(if denoted.declares { "! " } else { " " })?;
+    }
+    Ok(text)
+}
+
 fn denoted_text(alloc: Global, row: &Row) -> Result<String, AllocError> {
     let meta = NOTHING_NOTED;
     let pieces = list_of(alloc, row.pieces, &meta)?;
     let found = denotations(alloc, &pieces, row.kind, row.reading)?;
-    let mut shown = String::new(alloc);
-    for denoted in &found.occurrences {
-        let mark = if denoted.declares { "! " } else { " " };
-        match denoted.binding {
-            Some(number) => write!(shown, "{number}{mark}")?,
-            None => write!(shown, "-{mark}")?,
-        }
-    }
-    Ok(shown)
-}
-
-fn doubled_text(alloc: Global, row: &Row) -> Result<String, AllocError> {
-    let meta = NOTHING_NOTED;
-    let pieces = list_of(alloc, row.pieces, &meta)?;
-    match first_doubled(alloc, &pieces, row.kind)? {
-        Some(doubled) => {
-            let name = doubled.name;
-            let place = doubled.place;
-            format!(in alloc; "{name} {place}")
-        }
-        None => String::from_str(alloc, "none"),
-    }
+    occurrences_text(alloc, &found.occurrences)
 }
 
 #[test]
@@ -461,6 +447,20 @@ fn names_denote_bindings(rt: HostRuntime) -> Result<(), Fail> {
     Ok(())
 }
 
+fn declaration_text(alloc: Global, doubled: Option<Doubled>) -> Result<String, AllocError> {
+    match doubled {
+        Some(Doubled { place, name }) => format!(in alloc; "{name} {place}"),
+        None => String::from_str(alloc, "none"),
+    }
+}
+
+fn doubled_text(alloc: Global, row: &Row) -> Result<String, AllocError> {
+    let meta = NOTHING_NOTED;
+    let pieces = list_of(alloc, row.pieces, &meta)?;
+    let doubled = first_doubled(alloc, &pieces, row.kind)?;
+    declaration_text(alloc, doubled)
+}
+
 #[test]
 fn doubled_declarations_are_told(rt: HostRuntime) -> Result<(), Fail> {
     for row in &DOUBLED {
@@ -468,6 +468,37 @@ fn doubled_declarations_are_told(rt: HostRuntime) -> Result<(), Fail> {
         assert_eq!(rt; found.as_str(), row.wanted, "{}", row.name);
     }
     Ok(())
+}
+
+// Whether the scopes of the getter are a top, its parameters and its body.
+fn are_scopes_of_getter(scopes: &[Scope]) -> bool {
+    matches!(
+        scopes,
+        [
+            _,
+            Scope {
+                kind: ScopeKind::Parameters,
+                outer: Some(0),
+                begins: 1,
+                from: 5,
+                to: 8,
+                ..
+            },
+            Scope {
+                kind: ScopeKind::FunctionBody,
+                group: 1,
+                ..
+            },
+        ]
+    )
+}
+
+// Whether the first name stands at the top, and the second in the body.
+fn are_names_of_getter(occurrences: &[Denoted]) -> bool {
+    matches!(
+        occurrences,
+        [Denoted { scope: 0, .. }, Denoted { scope: 2, .. }]
+    )
 }
 
 // What the scopes cover, and how they are numbered: `({ get [k]() { x } })`.
@@ -480,16 +511,7 @@ fn getter_leaves_its_key_out(rt: HostRuntime) -> Result<(), Fail> {
         &meta,
     )?;
     let found = denotations(rt.alloc(), &pieces, ModuleKind::Es, Reading::BySymbol)?;
-    assert_eq!(rt; found.scopes.len(), 3);
-    let getter = found.scopes[1];
-    assert_eq!(rt; getter.kind, ScopeKind::Parameters);
-    assert_eq!(rt; getter.outer, Some(0));
-    assert_eq!(rt; (getter.begins, getter.from, getter.to), (1, 5, 8));
-    let body = found.scopes[2];
-    assert_eq!(rt; body.kind, ScopeKind::FunctionBody);
-    assert_eq!(rt; body.group, 1);
-    assert_eq!(rt; found.occurrences.len(), 2);
-    assert_eq!(rt; found.occurrences[0].scope, 0);
-    assert_eq!(rt; found.occurrences[1].scope, 2);
+    assert!(rt; are_scopes_of_getter(&found.scopes));
+    assert!(rt; are_names_of_getter(&found.occurrences));
     Ok(())
 }

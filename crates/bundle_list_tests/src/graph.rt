@@ -199,15 +199,14 @@ fn id(number: u32) -> ModuleId {
     ModuleId::from_u32(number)
 }
 
-fn modules_of(alloc: Global, row: &Modules) -> Result<ModuleGraph, AllocError> {
-    let mut graph = ModuleGraph::new(alloc);
+fn add_modules(graph: &mut ModuleGraph, row: &Modules) -> Result<(), AllocError> {
     for edge in row.edges {
         graph.add_edge(id(edge.0), id(edge.1))?;
     }
     for node in row.nodes {
         graph.add_node(id(*node))?;
     }
-    Ok(graph)
+    Ok(())
 }
 
 fn add_ids(text: &mut String, ids: &[ModuleId]) -> Result<(), AllocError> {
@@ -240,7 +239,8 @@ fn listed(alloc: Global, graph: &ModuleGraph, ask: Ask) -> Result<String, AllocE
 #[test]
 fn modules_are_listed(rt: HostRuntime) -> Result<(), Fail> {
     for row in &MODULES {
-        let graph = modules_of(rt.alloc(), row)?;
+        let mut graph = ModuleGraph::new(rt.alloc());
+        add_modules(&mut graph, row)?;
         for (ask, wanted) in row.wanted {
             let text = listed(rt.alloc(), &graph, *ask)?;
             assert_eq!(rt; text.as_str(), *wanted, "{}", row.name);
@@ -249,15 +249,14 @@ fn modules_are_listed(rt: HostRuntime) -> Result<(), Fail> {
     Ok(())
 }
 
-fn statements_of(alloc: Global, row: &Statements) -> Result<StmtDepGraph, AllocError> {
-    let mut graph = StmtDepGraph::new(alloc);
+fn add_statements(graph: &mut StmtDepGraph, row: &Statements) -> Result<(), AllocError> {
     for edge in row.edges {
         graph.add_edge(edge.0, edge.1, edge.2)?;
     }
     for node in row.nodes {
         graph.add_node(*node)?;
     }
-    Ok(graph)
+    Ok(())
 }
 
 fn answer(alloc: Global, graph: &StmtDepGraph, question: Question) -> Result<String, AllocError> {
@@ -282,7 +281,8 @@ fn answer(alloc: Global, graph: &StmtDepGraph, question: Question) -> Result<Str
 #[test]
 fn statements_are_found(rt: HostRuntime) -> Result<(), Fail> {
     for row in &STATEMENTS {
-        let graph = statements_of(rt.alloc(), row)?;
+        let mut graph = StmtDepGraph::new(rt.alloc());
+        add_statements(&mut graph, row)?;
         for (question, wanted) in row.wanted {
             let text = answer(rt.alloc(), &graph, *question)?;
             assert_eq!(rt; text.as_str(), *wanted, "{}", row.name);
@@ -291,11 +291,11 @@ fn statements_are_found(rt: HostRuntime) -> Result<(), Fail> {
     Ok(())
 }
 
-/// Of `count` nodes each leads to those after it, and to no other.
-fn expect_ascending_paths(rt: &impl Abort, graph: &StmtDepGraph, count: usize) {
+/// Of `count` nodes each leads to those after it, and in a ring to each.
+fn expect_paths(rt: &impl Abort, graph: &StmtDepGraph, count: usize, is_ring: bool) {
     for from in 0..count {
         for to in 0..count {
-            assert_eq!(rt; graph.has_a_path(from, to), from < to);
+            assert_eq!(rt; graph.has_a_path(from, to), is_ring || from < to);
         }
     }
 }
@@ -311,7 +311,7 @@ fn lengthen(
     if graph.add_edge(last, next, Always).is_err() {
         assert_eq!(rt; graph.node_count(), next);
         assert_eq!(rt; graph.edge_weight(last, next), None);
-        expect_ascending_paths(rt, graph, next);
+        expect_paths(rt, graph, next, false);
         graph.add_edge(last, next, Always)?;
     }
     Ok(())
@@ -321,14 +321,10 @@ fn lengthen(
 fn in_a_ring_each_node_leads_to_each(rt: HostRuntime) -> Result<(), Fail> {
     let mut ring = StmtDepGraph::new(rt.alloc());
     for last in 0..64usize {
-        ring.add_edge(last, last + 1, Always)?;
+        lengthen(&rt, &mut ring, last, last + 1)?;
     }
     ring.add_edge(64, 0, Maybe)?;
-    for from in 0..65usize {
-        for to in 0..65usize {
-            assert!(rt; ring.has_a_path(from, to));
-        }
-    }
+    expect_paths(&rt, &ring, 65, true);
     Ok(())
 }
 
@@ -342,7 +338,7 @@ fn a_refused_growth_leaves_statements_as_they_were(rt: HostRuntime) -> Result<()
     for last in 0..70usize {
         lengthen(&rt, &mut graph, last, last + 1)?;
     }
-    expect_ascending_paths(&rt, &graph, 71);
+    expect_paths(&rt, &graph, 71, false);
     Ok(())
 }
 

@@ -1,5 +1,8 @@
+//! Identifiers as they are called, the parties of a bundler, and what refusals say.
+
 ghost use Rattle.std.specs.Prelude.{◌≡◌, IfOk, string_bytes};
 
+use bundle_form::FormError;
 use bundle_leaf::Ident;
 use bundle_tree::{FileName, HookError, Id, LoadError, Resolve, ResolveError, SyntaxContext};
 use std::alloc::{AllocError, Global};
@@ -21,14 +24,13 @@ fn names_have_a_symbol_and_a_context(rt: HostRuntime) -> Result<(), Fail> {
     let x = id(rt.alloc(), "x", 2)?;
     assert_eq!(rt; x.sym(), "x");
     assert_eq!(rt; x.ctxt(), SyntaxContext::from_u32(2));
-    assert!(rt; x.is_word("x"));
-    assert!(rt; !x.is_word("xy"));
+    for (word, is_it) in [("x", true), ("xy", false)] {
+        assert_eq!(rt; x.is_word(word), is_it, "{word}");
+    }
     let shown = format!(in rt.alloc(); "{x:?}")?;
     assert_eq!(rt; shown.as_str(), "x#2");
-    assert_eq!(rt;
-        x.with_ctxt(SyntaxContext::empty()),
-        id(rt.alloc(), "x", 0)?
-    );
+    let plain = id(rt.alloc(), "x", 0)?;
+    assert_eq!(rt; x.with_ctxt(SyntaxContext::empty()), plain);
     Ok(())
 }
 
@@ -36,25 +38,50 @@ fn names_have_a_symbol_and_a_context(rt: HostRuntime) -> Result<(), Fail> {
 fn names_are_those_of_identifiers(rt: HostRuntime) -> Result<(), Fail> {
     let ident = id(rt.alloc(), "x", 2)?.into_ident();
     assert_eq!(rt; ident.sym.as_str(), "x");
+    for (ctxt, is_it) in [(2, true), (3, false)] {
+        let other = id(rt.alloc(), "x", ctxt)?;
+        assert_eq!(rt; other.is_ident(&ident), is_it, "{ctxt}");
+    }
     let x = Id::of(rt.alloc(), &ident)?;
     assert!(rt; x.is_ident(&ident));
-    assert!(rt; !id(rt.alloc(), "x", 3)?.is_ident(&ident));
     assert_eq!(rt; Id::from(ident), x);
     assert!(rt; Ident::from(x).ctxt == SyntaxContext::from_u32(2));
     Ok(())
 }
 
+// How the first stands to the second.
+fn order_of(first: &Id, second: &Id) -> &'static str {
+    if first < second {
+        "less"
+    } else if first > second {
+        "greater"
+    } else if first.cmp(second).is_eq() {
+        "equal"
+    } else {
+        "none of them"
+    }
+}
+
 #[test]
 fn names_are_ordered_by_symbol_and_then_context(rt: HostRuntime) -> Result<(), Fail> {
     let x = id(rt.alloc(), "x", 10)?;
-    assert!(rt; x < id(rt.alloc(), "x", 11)?);
-    assert!(rt; x > id(rt.alloc(), "w", 11)?);
-    assert!(rt; x < id(rt.alloc(), "xa", 9)?);
-    assert!(rt; x.cmp(&x.clone()?).is_eq());
+    let copy = x.clone()?;
+    assert_eq!(rt; order_of(&x, &copy), "equal");
+    for (sym, ctxt, wanted) in [("x", 11, "less"), ("w", 11, "greater"), ("xa", 9, "less")] {
+        let other = id(rt.alloc(), sym, ctxt)?;
+        assert_eq!(rt; order_of(&x, &other), wanted, "{sym}#{ctxt}");
+    }
+    Ok(())
+}
+
+#[test]
+fn names_are_found_in_sets(rt: HostRuntime) -> Result<(), Fail> {
     let mut known = HashSet::new(rt.alloc());
-    known.insert(x)?;
-    assert!(rt; known.contains(&id(rt.alloc(), "x", 10)?));
-    assert!(rt; !known.contains(&id(rt.alloc(), "x", 11)?));
+    known.insert(id(rt.alloc(), "x", 10)?)?;
+    for (ctxt, is_known) in [(10, true), (11, false)] {
+        let other = id(rt.alloc(), "x", ctxt)?;
+        assert_eq!(rt; known.contains(&other), is_known, "{ctxt}");
+    }
     Ok(())
 }
 
@@ -105,13 +132,16 @@ fn a_party_is_asked_through_a_reference(rt: HostRuntime) -> Result<(), Fail> {
 
 #[test]
 fn refusals_are_written_out(rt: HostRuntime) -> Result<(), Fail> {
-    let load = LoadError::Failed.to_string(rt.alloc())?;
-    assert_eq!(rt; load.as_str(), "the file cannot be loaded");
-    let resolve = ResolveError::Failed.to_string(rt.alloc())?;
-    assert_eq!(rt; resolve.as_str(), "the specifier leads to no file");
-    let hook = HookError::Failed.to_string(rt.alloc())?;
-    assert_eq!(rt; hook.as_str(), "the hook has no answer");
-    let memory = HookError::OutOfMemory.to_string(rt.alloc())?;
-    assert_eq!(rt; memory.as_str(), "out of memory");
+    let load = LoadError::Failed;
+    let resolve = ResolveError::Failed;
+    let hook = HookError::Failed;
+    let memory = HookError::OutOfMemory;
+    let form = FormError::from(AllocError);
+    let text = format!(in rt.alloc(); "{load}, {resolve}, {hook}, {memory}, {form}")?;
+    assert_eq!(rt;
+        text.as_str(),
+        "the file cannot be loaded, the specifier leads to no file, the hook has no answer, \
+         out of memory, out of memory"
+    );
     Ok(())
 }
