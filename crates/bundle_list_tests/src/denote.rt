@@ -470,35 +470,32 @@ fn doubled_declarations_are_told(rt: HostRuntime) -> Result<(), Fail> {
     Ok(())
 }
 
-// Whether the scopes of the getter are a top, its parameters and its body.
-fn are_scopes_of_getter(scopes: &[Scope]) -> bool {
+fn is_getter(scope: Scope) -> bool {
     matches!(
-        scopes,
-        [
-            _,
-            Scope {
-                kind: ScopeKind::Parameters,
-                outer: Some(0),
-                begins: 1,
-                from: 5,
-                to: 8,
-                ..
-            },
-            Scope {
-                kind: ScopeKind::FunctionBody,
-                group: 1,
-                ..
-            },
-        ]
+        scope,
+        Scope {
+            kind: ScopeKind::Parameters,
+            outer: Some(0),
+            begins: 1,
+            from: 5,
+            to: 8,
+            ..
+        }
     )
 }
 
-// Whether the first name stands at the top, and the second in the body.
+fn is_body_of_getter(scope: Scope) -> bool {
+    scope.kind == ScopeKind::FunctionBody && scope.group == 1
+}
+
+// Whether the scopes are a top, the getter and its body.
+fn are_scopes_of_getter(scopes: &[Scope]) -> bool {
+    scopes.len() == 3 && is_getter(scopes[1]) && is_body_of_getter(scopes[2])
+}
+
+// Whether the first of two names stands at the top, and the second in the body.
 fn are_names_of_getter(occurrences: &[Denoted]) -> bool {
-    matches!(
-        occurrences,
-        [Denoted { scope: 0, .. }, Denoted { scope: 2, .. }]
-    )
+    occurrences.len() == 2 && occurrences[0].scope == 0 && occurrences[1].scope == 2
 }
 
 // What the scopes cover, and how they are numbered: `({ get [k]() { x } })`.

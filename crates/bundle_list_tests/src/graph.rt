@@ -236,15 +236,30 @@ fn listed(alloc: Global, graph: &ModuleGraph, ask: Ask) -> Result<String, AllocE
     Ok(text)
 }
 
+fn modules_of(alloc: Global, row: &Modules) -> Result<ModuleGraph, AllocError> {
+    let mut graph = ModuleGraph::new(alloc);
+    add_modules(&mut graph, row)?;
+    Ok(graph)
+}
+
+fn expect_lists(
+    rt: &impl Abort,
+    alloc: Global,
+    graph: &ModuleGraph,
+    row: &Modules,
+) -> Result<(), AllocError> {
+    for (ask, wanted) in row.wanted {
+        let text = listed(alloc, graph, *ask)?;
+        assert_eq!(rt; text.as_str(), *wanted, "{}", row.name);
+    }
+    Ok(())
+}
+
 #[test]
 fn modules_are_listed(rt: HostRuntime) -> Result<(), Fail> {
     for row in &MODULES {
-        let mut graph = ModuleGraph::new(rt.alloc());
-        add_modules(&mut graph, row)?;
-        for (ask, wanted) in row.wanted {
-            let text = listed(rt.alloc(), &graph, *ask)?;
-            assert_eq!(rt; text.as_str(), *wanted, "{}", row.name);
-        }
+        let graph = modules_of(rt.alloc(), row)?;
+        expect_lists(&rt, rt.alloc(), &graph, row)?;
     }
     Ok(())
 }
@@ -278,15 +293,30 @@ fn answer(alloc: Global, graph: &StmtDepGraph, question: Question) -> Result<Str
     Ok(text)
 }
 
+fn statements_of(alloc: Global, row: &Statements) -> Result<StmtDepGraph, AllocError> {
+    let mut graph = StmtDepGraph::new(alloc);
+    add_statements(&mut graph, row)?;
+    Ok(graph)
+}
+
+fn expect_answers(
+    rt: &impl Abort,
+    alloc: Global,
+    graph: &StmtDepGraph,
+    row: &Statements,
+) -> Result<(), AllocError> {
+    for (question, wanted) in row.wanted {
+        let text = answer(alloc, graph, *question)?;
+        assert_eq!(rt; text.as_str(), *wanted, "{}", row.name);
+    }
+    Ok(())
+}
+
 #[test]
 fn statements_are_found(rt: HostRuntime) -> Result<(), Fail> {
     for row in &STATEMENTS {
-        let mut graph = StmtDepGraph::new(rt.alloc());
-        add_statements(&mut graph, row)?;
-        for (question, wanted) in row.wanted {
-            let text = answer(rt.alloc(), &graph, *question)?;
-            assert_eq!(rt; text.as_str(), *wanted, "{}", row.name);
-        }
+        let graph = statements_of(rt.alloc(), row)?;
+        expect_answers(&rt, rt.alloc(), &graph, row)?;
     }
     Ok(())
 }

@@ -3,6 +3,7 @@
 use bundle_kept::{Kept, Request};
 use bundle_name::FileName;
 use std::alloc::{AllocError, Global};
+use std::process::Abort;
 use std::test::Fail;
 
 fn real(alloc: Global, path: &str) -> Result<FileName, AllocError> {
@@ -20,11 +21,10 @@ fn number_of(alloc: Global, kept: &mut Kept<u32>, path: &str) -> Result<u32, Fai
     Ok(kept.id(&file)?.as_u32())
 }
 
-#[test]
-fn numbers_count_up_as_files_are_met(rt: HostRuntime) -> Result<(), Fail> {
-    let mut kept: Kept<u32> = Kept::new(rt.alloc());
+// Numbers count up as files are met.
+fn expect_numbers(rt: &impl Abort, alloc: Global, kept: &mut Kept<u32>) -> Result<(), Fail> {
     for (path, wanted) in [("b.js", 0), ("a.js", 1), ("b.js", 0)] {
-        let number = number_of(rt.alloc(), &mut kept, path)?;
+        let number = number_of(alloc, kept, path)?;
         assert_eq!(rt; number, wanted, "{path}");
     }
     Ok(())
@@ -42,12 +42,11 @@ fn tree_of(alloc: Global, kept: &Kept<u32>, path: &str) -> Result<Option<u32>, A
     Ok(kept.tree(&file).copied())
 }
 
-#[test]
-fn tree_is_found_by_its_file(rt: HostRuntime) -> Result<(), Fail> {
-    let mut kept: Kept<u32> = Kept::new(rt.alloc());
-    keep_tree(rt.alloc(), &mut kept, "a.js", 7)?;
+// A tree is found by its file.
+fn expect_tree(rt: &impl Abort, alloc: Global, kept: &mut Kept<u32>) -> Result<(), AllocError> {
+    keep_tree(alloc, kept, "a.js", 7)?;
     for (path, wanted) in [("a.js", Some(7)), ("b.js", None)] {
-        let tree = tree_of(rt.alloc(), &kept, path)?;
+        let tree = tree_of(alloc, kept, path)?;
         assert!(rt; tree == wanted, "{path}");
     }
     assert_eq!(rt; kept.count(), 1);
@@ -75,14 +74,26 @@ fn leads_to(kept: &Kept<u32>, request: &Request, wanted: Option<&str>) -> bool {
     }
 }
 
-#[test]
-fn target_is_found_by_its_request(rt: HostRuntime) -> Result<(), Fail> {
-    let mut kept: Kept<u32> = Kept::new(rt.alloc());
-    let request = asked(rt.alloc(), "a.js", "./b")?;
-    keep_target(rt.alloc(), &mut kept, request, "b.js")?;
+// A target is found by its request.
+fn expect_target(rt: &impl Abort, alloc: Global, kept: &mut Kept<u32>) -> Result<(), AllocError> {
+    let request = asked(alloc, "a.js", "./b")?;
+    keep_target(alloc, kept, request, "b.js")?;
     for (path, wanted) in [("a.js", Some("b.js")), ("b.js", None)] {
-        let request = asked(rt.alloc(), path, "./b")?;
-        assert!(rt; leads_to(&kept, &request, wanted), "{path}");
+        let request = asked(alloc, path, "./b")?;
+        assert!(rt; leads_to(kept, &request, wanted), "{path}");
     }
     Ok(())
+}
+
+fn expect_all(rt: &impl Abort, alloc: Global, kept: &mut Kept<u32>) -> Result<(), Fail> {
+    expect_numbers(rt, alloc, kept)?;
+    expect_tree(rt, alloc, kept)?;
+    expect_target(rt, alloc, kept)?;
+    Ok(())
+}
+
+#[test]
+fn what_is_kept_is_found_again(rt: HostRuntime) -> Result<(), Fail> {
+    let mut kept: Kept<u32> = Kept::new(rt.alloc());
+    expect_all(&rt, rt.alloc(), &mut kept)
 }

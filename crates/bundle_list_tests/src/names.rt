@@ -3,6 +3,7 @@
 use bundle_id::ModuleId;
 use bundle_name::{Config, Error, FileName, ModuleIdGenerator, ModuleType};
 use std::alloc::{AllocError, Global};
+use std::process::Abort;
 use std::test::Fail;
 
 fn real(alloc: Global, path: &str) -> Result<FileName, AllocError> {
@@ -68,19 +69,27 @@ fn has_file(generator: &ModuleIdGenerator, number: u32, wanted: Option<&str>) ->
     }
 }
 
+fn expect_numbers(
+    rt: &impl Abort,
+    alloc: Global,
+    generator: &mut ModuleIdGenerator,
+) -> Result<(), Fail> {
+    assert!(rt; known_number(alloc, generator, "a.js")?.is_none());
+    for (path, wanted) in [("a.js", [0, 2, 3]), ("b.js", [1, 4, 5]), ("a.js", [0, 2, 3])] {
+        let numbers = numbers_of(alloc, generator, path)?;
+        assert!(rt; numbers == wanted, "{path}");
+    }
+    assert!(rt; known_number(alloc, generator, "b.js")? == Some(1));
+    for (number, wanted) in [(1, Some("b.js")), (2, None)] {
+        assert!(rt; has_file(generator, number, wanted), "{number}");
+    }
+    Ok(())
+}
+
 #[test]
 fn numbers_count_up(rt: HostRuntime) -> Result<(), Fail> {
     let mut generator = ModuleIdGenerator::new(rt.alloc());
-    assert!(rt; known_number(rt.alloc(), &generator, "a.js")?.is_none());
-    for (path, wanted) in [("a.js", [0, 2, 3]), ("b.js", [1, 4, 5]), ("a.js", [0, 2, 3])] {
-        let numbers = numbers_of(rt.alloc(), &mut generator, path)?;
-        assert!(rt; numbers == wanted, "{path}");
-    }
-    assert!(rt; known_number(rt.alloc(), &generator, "b.js")? == Some(1));
-    for (number, wanted) in [(1, Some("b.js")), (2, None)] {
-        assert!(rt; has_file(&generator, number, wanted), "{number}");
-    }
-    Ok(())
+    expect_numbers(&rt, rt.alloc(), &mut generator)
 }
 
 #[test]
