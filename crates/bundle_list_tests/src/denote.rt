@@ -20,26 +20,33 @@ struct Row {
     wanted: &'static str,
 }
 
-const LOOP_AND_BLOCK: &str = "0:Module 0:ForStmt 0:let 1:VarDeclarator 0:BindingIdent 0=i ) ) ) 3:BlockStmt 0:let \
+const LOOP_AND_BLOCK: &str =
+    "0:Module 0:ForStmt 0:let 1:VarDeclarator 0:BindingIdent 0=i ) ) ) 3:BlockStmt 0:let \
     1:VarDeclarator 0:BindingIdent 0=i ) ) ) ) ) )";
 
-const PARAMETER_AGAIN: &str = "0:Module 0:FnDecl 0=f 1:Function 0:Param 0:BindingIdent 0=a ) ) 0:Param 0:AssignPat \
+const PARAMETER_AGAIN: &str =
+    "0:Module 0:FnDecl 0=f 1:Function 0:Param 0:BindingIdent 0=a ) ) 0:Param 0:AssignPat \
     0:BindingIdent 0=g ) 1:ArrowExpr 1?a ) ) ) 1:BlockStmt 0:var 1:VarDeclarator 0:BindingIdent \
     0=a ) ) ) ) ) ) )";
 
-const FUNCTIONS_IN_A_BODY: &str = "0:Module 0:FnDecl 0=f 1:Function 1:BlockStmt 0:FnDecl 0=g 1:Function 1:BlockStmt ) ) ) \
+const FUNCTIONS_IN_A_BODY: &str =
+    "0:Module 0:FnDecl 0=f 1:Function 1:BlockStmt 0:FnDecl 0=g 1:Function 1:BlockStmt ) ) ) \
     0:FnDecl 0=g 1:Function 1:BlockStmt ) ) ) ) ) ) )";
 
-const CATCH_TWICE: &str = "0:Module 0:TryStmt 0:BlockStmt ) 1:CatchClause 0:ArrayPat 0:BindingIdent 0=e ) \
+const CATCH_TWICE: &str =
+    "0:Module 0:TryStmt 0:BlockStmt ) 1:CatchClause 0:ArrayPat 0:BindingIdent 0=e ) \
     0:BindingIdent 0=e ) ) 1:BlockStmt 0:let 1:VarDeclarator 0:BindingIdent 0=e ) ) ) ) ) ) )";
 
-const DEFAULT_NAMES: &str = "0:Module 0:ExportDefaultExpr 0:Number ) ) 0:let 1:VarDeclarator 0:BindingIdent 0=d ) ) ) \
+const DEFAULT_NAMES: &str =
+    "0:Module 0:ExportDefaultExpr 0:Number ) ) 0:let 1:VarDeclarator 0:BindingIdent 0=d ) ) ) \
     0:ExportDefaultDecl 0:FnExpr 0=d 1:Function 1:BlockStmt ) ) ) ) )";
 
-const WRAPPED: &str = "0:Module 0:var 1:VarDeclarator 0:BindingIdent 0=module#5 ) ) ) 0?module#5 0?exports#3 \
+const WRAPPED: &str =
+    "0:Module 0:var 1:VarDeclarator 0:BindingIdent 0=module#5 ) ) ) 0?module#5 0?exports#3 \
     0?require#1 0?arguments#4 0?arguments#1 )";
 
-const CONTEXTS: &str = "0:Module 0:let 1:VarDeclarator 0:BindingIdent 0=x#2 ) ) 1:VarDeclarator 0:BindingIdent 0=x#3 \
+const CONTEXTS: &str =
+    "0:Module 0:let 1:VarDeclarator 0:BindingIdent 0=x#2 ) ) 1:VarDeclarator 0:BindingIdent 0=x#3 \
     ) ) ) 0:BlockStmt 0:let 1:VarDeclarator 0:BindingIdent 0=x#4 ) ) ) 0?x#2 0?x#3 0?x#4 0?x#5 ) \
     0?x#4 )";
 

@@ -32,8 +32,10 @@ fn expect_numbers(rt: &impl Abort, alloc: Global, kept: &mut Kept<u32>) -> Resul
 
 fn keep_tree(alloc: Global, kept: &mut Kept<u32>, path: &str, tree: u32) -> Result<(), AllocError> {
     let file = real(alloc, path)?;
-    kept.reserve_tree()?;
-    kept.keep_tree(file, tree);
+    if kept.tree(&file).is_none() {
+        kept.reserve_tree()?;
+        kept.keep_tree(file, tree);
+    }
     Ok(())
 }
 
@@ -60,8 +62,10 @@ fn keep_target(
     path: &str,
 ) -> Result<(), AllocError> {
     let file = real(alloc, path)?;
-    kept.reserve_target()?;
-    kept.keep_target(request, file);
+    if kept.target(&request).is_none() {
+        kept.reserve_target()?;
+        kept.keep_target(request, file);
+    }
     Ok(())
 }
 

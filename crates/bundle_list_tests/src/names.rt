@@ -75,7 +75,11 @@ fn expect_numbers(
     generator: &mut ModuleIdGenerator,
 ) -> Result<(), Fail> {
     assert!(rt; known_number(alloc, generator, "a.js")?.is_none());
-    for (path, wanted) in [("a.js", [0, 2, 3]), ("b.js", [1, 4, 5]), ("a.js", [0, 2, 3])] {
+    for (path, wanted) in [
+        ("a.js", [0, 2, 3]),
+        ("b.js", [1, 4, 5]),
+        ("a.js", [0, 2, 3]),
+    ] {
         let numbers = numbers_of(alloc, generator, path)?;
         assert!(rt; numbers == wanted, "{path}");
     }

@@ -1,6 +1,6 @@
 //! Trees as lists, lists as trees, and both as JSON.
 
-use bundle_ast::{ExportMetadata, Expr, Module};
+use bundle_ast::{ExportMetadata, Expr, Module, ModuleItem};
 use bundle_form::{FormError, read_module, read_properties, tree_value};
 use bundle_listing::{
     Node, Piece, Role, pieces, pieces_of_expr, pieces_of_module, pieces_of_properties,
@@ -8,7 +8,7 @@ use bundle_listing::{
 use bundle_marks::{marks, occurrences};
 use bundle_restore::{BuildError, build_module, build_properties};
 use serde_json::Value;
-use std::alloc::Global;
+use std::alloc::{AllocError, Global};
 use std::test::Fail;
 
 /// `export const [a, , ...b] = c ? f(...d) : class { static #e = 1; };`, with keys in ascending order and every
@@ -75,18 +75,23 @@ fn forms_are_read_as_lists(rt: HostRuntime) -> Result<(), Fail> {
     Ok(())
 }
 
+fn form_of(alloc: Global, list: &[Piece]) -> Result<String, Fail> {
+    let value = tree_value(alloc, list)?;
+    Ok(value.to_string(alloc)?)
+}
+
+fn form_again(alloc: Global, value: &Value) -> Result<String, Fail> {
+    let meta = ExportMetadata::default();
+    let list = read_module(alloc, value, &meta)?;
+    form_of(alloc, &list)
+}
+
 #[test]
 fn a_form_gives_a_list_and_the_list_the_form(rt: HostRuntime) -> Result<(), Fail> {
     let value = value_of(rt.alloc(), TEXT)?;
-    let meta = ExportMetadata::default();
-    let list = read_module(rt.alloc(), &value, &meta)?;
-    let text = form_of(rt.alloc(), &list)?;
+    let text = form_again(rt.alloc(), &value)?;
     assert_eq!(rt; text.as_str(), TEXT);
     Ok(())
-}
-
-fn form_of(alloc: Global, list: &[Piece]) -> Result<String, Fail> {
-    Ok(tree_value(alloc, list)?.to_string(alloc)?)
 }
 
 #[test]
@@ -103,12 +108,16 @@ fn a_list_is_written_with_every_field(rt: HostRuntime) -> Result<(), Fail> {
     Ok(())
 }
 
+fn module_in(alloc: Global, value: &Value) -> Result<Module, Fail> {
+    let meta = ExportMetadata::default();
+    let list = read_module(alloc, value, &meta)?;
+    Ok(build_module(alloc, &list)?)
+}
+
 /// The module that a form stands for.
 pub(crate) fn module_of(alloc: Global, form: &str) -> Result<Module, Fail> {
     let value = value_of(alloc, form)?;
-    let meta = ExportMetadata::default();
-    let list = read_module(alloc, &value, &meta)?;
-    Ok(build_module(alloc, list.as_slice())?)
+    module_in(alloc, &value)
 }
 
 /// The form of a module.
@@ -120,40 +129,60 @@ pub(crate) fn text_of(alloc: Global, module: &Module) -> Result<String, Fail> {
 #[test]
 fn the_smallest_trees_begin_and_end(rt: HostRuntime) -> Result<(), Fail> {
     let expr = Expr::ThisExpr;
-    let list = pieces_of_expr(rt.alloc(), &expr)?;
-    assert_eq!(rt; list.len(), 2);
+    let length = pieces_of_expr(rt.alloc(), &expr)?.len();
+    assert_eq!(rt; length, 2);
     let module = Module {
         body: Vec::new(rt.alloc()),
     };
-    let list = pieces_of_module(rt.alloc(), &module)?;
-    assert_eq!(rt; list.len(), 2);
+    let length = pieces_of_module(rt.alloc(), &module)?.len();
+    assert_eq!(rt; length, 2);
     Ok(())
+}
+
+fn length_of_items(alloc: Global, module: Module) -> Result<usize, Fail> {
+    let items = module.into_body();
+    Ok(pieces(alloc, &items)?.len())
+}
+
+// The lengths of a module's list and of that of its items.
+fn lengths_of(alloc: Global, value: &Value) -> Result<(usize, usize), Fail> {
+    let module = module_in(alloc, value)?;
+    let length = pieces_of_module(alloc, &module)?.len();
+    Ok((length, length_of_items(alloc, module)?))
 }
 
 // The tree of a list has that list, and without its beginning and its end it is that of its items.
 #[test]
 fn a_list_gives_a_tree_and_the_tree_the_list(rt: HostRuntime) -> Result<(), Fail> {
     let value = value_of(rt.alloc(), TEXT)?;
-    let length = length_of(rt.alloc(), &value, false)?;
-    let module = module_of(rt.alloc(), TEXT)?;
-    let again = pieces_of_module(rt.alloc(), &module)?.len();
-    assert_eq!(rt; again, length);
-    let items = module.into_body();
-    let of_items = pieces(rt.alloc(), &items)?.len();
-    assert_eq!(rt; of_items + 2, length);
+    let wanted = length_of(rt.alloc(), &value, false)?;
+    let (length, of_items) = lengths_of(rt.alloc(), &value)?;
+    assert_eq!(rt; length, wanted);
+    assert_eq!(rt; of_items.checked_add(2), Some(wanted));
     Ok(())
+}
+
+fn count_of_marks(alloc: Global, items: &[ModuleItem]) -> Result<usize, AllocError> {
+    Ok(marks(alloc, items)?.len())
+}
+
+// How many names there are, and whether the first binds `a`.
+fn names_of(alloc: Global, items: &[ModuleItem]) -> Result<(usize, bool), AllocError> {
+    let names = occurrences(alloc, items)?;
+    let first = names.as_slice().first();
+    let is_a = first.is_some_and(|name| name.binding && name.id.sym() == "a");
+    Ok((names.len(), is_a))
 }
 
 #[test]
 fn a_tree_has_its_marks(rt: HostRuntime) -> Result<(), Fail> {
     let module = module_of(rt.alloc(), TEXT)?;
     // Fifteen nodes, which begin and end, and a, b, c, f, d; no hole, no word.
-    let count = marks(rt.alloc(), &module.body)?.len();
+    let count = count_of_marks(rt.alloc(), &module.body)?;
     assert_eq!(rt; count, 35);
-    let names = occurrences(rt.alloc(), &module.body)?;
-    assert_eq!(rt; names.len(), 5);
-    let first = names.as_slice().first();
-    assert!(rt; first.is_some_and(|name| name.binding && name.id.sym() == "a"));
+    let (names, is_a) = names_of(rt.alloc(), &module.body)?;
+    assert_eq!(rt; names, 5);
+    assert!(rt; is_a);
     Ok(())
 }
 
@@ -165,10 +194,17 @@ fn what_is_no_tree_is_refused(rt: HostRuntime) {
         ctxt: 0,
         role: Role::Reference,
     };
-    for list in [[ident].as_slice(), [].as_slice()] {
+    for (name, list) in [("a name alone", [ident].as_slice()), ("nothing", &[])] {
         let refused = build_module(rt.alloc(), list);
-        assert!(rt; matches!(refused, Err(BuildError::Form)));
+        assert!(rt; matches!(refused, Err(BuildError::Form)), "{name}");
     }
+}
+
+// How many properties a list has, and how long the list of these is.
+fn properties_of(alloc: Global, list: &[Piece]) -> Result<(usize, usize), Fail> {
+    let props = build_properties(alloc, list)?;
+    let again = pieces_of_properties(alloc, &props)?.len();
+    Ok((props.len(), again))
 }
 
 #[test]
@@ -178,9 +214,8 @@ fn properties_are_read_one_by_one(rt: HostRuntime) -> Result<(), Fail> {
     let value = value_of(rt.alloc(), form)?;
     let meta = ExportMetadata::default();
     let list = read_properties(rt.alloc(), &value, &meta)?;
-    let props = build_properties(rt.alloc(), &list)?;
-    assert_eq!(rt; props.len(), 1);
-    let again = pieces_of_properties(rt.alloc(), &props)?.len();
-    assert_eq!(rt; again, list.len());
+    let (count, length) = properties_of(rt.alloc(), &list)?;
+    assert_eq!(rt; count, 1);
+    assert_eq!(rt; length, list.len());
     Ok(())
 }

@@ -7,6 +7,7 @@ use bundle_leaf::Ident;
 use bundle_tree::{FileName, HookError, Id, LoadError, Resolve, ResolveError, SyntaxContext};
 use std::alloc::{AllocError, Global};
 use std::collections::HashSet;
+use std::process::Abort;
 use std::test::Fail;
 
 fn text(alloc: Global, bytes: &str) -> Result<String, AllocError>
@@ -19,29 +20,36 @@ fn id(alloc: Global, sym: &str, ctxt: u32) -> Result<Id, AllocError> {
     Ok(Id::new(text(alloc, sym)?, SyntaxContext::from_u32(ctxt)))
 }
 
+fn expect_x(rt: &impl Abort, alloc: Global, x: &Id) -> Result<(), AllocError> {
+    for (word, wanted) in [("x", true), ("xy", false)] {
+        assert!(rt; x.is_word(word) == wanted, "{word}");
+    }
+    let shown = format!(in alloc; "{x:?}")?;
+    assert_eq!(rt; shown.as_str(), "x#2");
+    Ok(())
+}
+
 #[test]
 fn names_have_a_symbol_and_a_context(rt: HostRuntime) -> Result<(), Fail> {
     let x = id(rt.alloc(), "x", 2)?;
     assert_eq!(rt; x.sym(), "x");
     assert_eq!(rt; x.ctxt(), SyntaxContext::from_u32(2));
-    for (word, is_it) in [("x", true), ("xy", false)] {
-        assert_eq!(rt; x.is_word(word), is_it, "{word}");
-    }
-    let shown = format!(in rt.alloc(); "{x:?}")?;
-    assert_eq!(rt; shown.as_str(), "x#2");
+    expect_x(&rt, rt.alloc(), &x)?;
     let plain = id(rt.alloc(), "x", 0)?;
     assert_eq!(rt; x.with_ctxt(SyntaxContext::empty()), plain);
     Ok(())
+}
+
+fn is_ident_in(alloc: Global, ident: &Ident, ctxt: u32) -> Result<bool, AllocError> {
+    let other = id(alloc, "x", ctxt)?;
+    Ok(other.is_ident(ident))
 }
 
 #[test]
 fn names_are_those_of_identifiers(rt: HostRuntime) -> Result<(), Fail> {
     let ident = id(rt.alloc(), "x", 2)?.into_ident();
     assert_eq!(rt; ident.sym.as_str(), "x");
-    for (ctxt, is_it) in [(2, true), (3, false)] {
-        let other = id(rt.alloc(), "x", ctxt)?;
-        assert_eq!(rt; other.is_ident(&ident), is_it, "{ctxt}");
-    }
+    assert!(rt; !is_ident_in(rt.alloc(), &ident, 3)?);
     let x = Id::of(rt.alloc(), &ident)?;
     assert!(rt; x.is_ident(&ident));
     assert_eq!(rt; Id::from(ident), x);
@@ -62,14 +70,37 @@ fn order_of(first: &Id, second: &Id) -> &'static str {
     }
 }
 
+fn order_to(alloc: Global, x: &Id, sym: &str, ctxt: u32) -> Result<&'static str, AllocError> {
+    let other = id(alloc, sym, ctxt)?;
+    Ok(order_of(x, &other))
+}
+
+fn order_to_copy(x: &Id) -> Result<&'static str, AllocError> {
+    let copy = x.clone()?;
+    Ok(order_of(x, &copy))
+}
+
 #[test]
 fn names_are_ordered_by_symbol_and_then_context(rt: HostRuntime) -> Result<(), Fail> {
     let x = id(rt.alloc(), "x", 10)?;
-    let copy = x.clone()?;
-    assert_eq!(rt; order_of(&x, &copy), "equal");
+    assert_eq!(rt; order_to_copy(&x)?, "equal");
     for (sym, ctxt, wanted) in [("x", 11, "less"), ("w", 11, "greater"), ("xa", 9, "less")] {
-        let other = id(rt.alloc(), sym, ctxt)?;
-        assert_eq!(rt; order_of(&x, &other), wanted, "{sym}#{ctxt}");
+        let order = order_to(rt.alloc(), &x, sym, ctxt)?;
+        assert_eq!(rt; order, wanted, "{sym}#{ctxt}");
+    }
+    Ok(())
+}
+
+fn knows(alloc: Global, known: &HashSet<Id>, ctxt: u32) -> Result<bool, AllocError> {
+    let other = id(alloc, "x", ctxt)?;
+    Ok(known.contains(&other))
+}
+
+fn expect_known(rt: &impl Abort, alloc: Global, known: &mut HashSet<Id>) -> Result<(), AllocError> {
+    known.insert(id(alloc, "x", 10)?)?;
+    for (ctxt, wanted) in [(10, true), (11, false)] {
+        let is_known = knows(alloc, known, ctxt)?;
+        assert!(rt; is_known == wanted, "{ctxt}");
     }
     Ok(())
 }
@@ -77,11 +108,7 @@ fn names_are_ordered_by_symbol_and_then_context(rt: HostRuntime) -> Result<(), F
 #[test]
 fn names_are_found_in_sets(rt: HostRuntime) -> Result<(), Fail> {
     let mut known = HashSet::new(rt.alloc());
-    known.insert(id(rt.alloc(), "x", 10)?)?;
-    for (ctxt, is_known) in [(10, true), (11, false)] {
-        let other = id(rt.alloc(), "x", ctxt)?;
-        assert_eq!(rt; known.contains(&other), is_known, "{ctxt}");
-    }
+    expect_known(&rt, rt.alloc(), &mut known)?;
     Ok(())
 }
 
@@ -120,13 +147,23 @@ fn resolve_by<R: Resolve>(
     resolver.resolve(alloc, base, specifier)
 }
 
+// Whether the specifier leads to the file of its name; none where it leads to no file.
+fn is_found(alloc: Global, base: &FileName, specifier: &str) -> Result<Option<bool>, ResolveError> {
+    match resolve_by(&&AsWritten, alloc, base, specifier) {
+        Ok(FileName::Custom(name)) => Ok(Some(name.as_str() == specifier)),
+        Ok(_) => Ok(Some(false)),
+        Err(ResolveError::Failed) => Ok(None),
+        Err(error) => Err(error),
+    }
+}
+
 #[test]
 fn a_party_is_asked_through_a_reference(rt: HostRuntime) -> Result<(), Fail> {
     let base = FileName::Custom(text(rt.alloc(), "a.js")?);
-    let file = resolve_by(&&AsWritten, rt.alloc(), &base, "b.js")?;
-    assert!(rt; file == FileName::Custom(text(rt.alloc(), "b.js")?));
-    let refused = resolve_by(&&AsWritten, rt.alloc(), &base, "");
-    assert!(rt; matches!(refused, Err(ResolveError::Failed)));
+    for (specifier, wanted) in [("b.js", Some(true)), ("", None)] {
+        let found = is_found(rt.alloc(), &base, specifier)?;
+        assert!(rt; found == wanted, "{specifier:?}");
+    }
     Ok(())
 }
 

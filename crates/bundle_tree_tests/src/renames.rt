@@ -25,26 +25,36 @@ fn ident(alloc: Global, sym: &str) -> Result<Ident, AllocError> {
     })
 }
 
+fn with_other_names(alloc: Global, module: &Module) -> Result<Module, Fail> {
+    let idents = [ident(alloc, "f")?, ident(alloc, "y")?];
+    Ok(Module {
+        body: with_idents(alloc, &module.body, &idents)?,
+    })
+}
+
 #[test]
 fn identifiers_stand_in_turn(rt: HostRuntime) -> Result<(), Fail> {
     let module = module_of(rt.alloc(), SHORT)?;
-    let idents = [ident(rt.alloc(), "f")?, ident(rt.alloc(), "y")?];
-    let made = Module {
-        body: with_idents(rt.alloc(), &module.body, &idents)?,
-    };
+    let made = with_other_names(rt.alloc(), &module)?;
     let text = text_of(rt.alloc(), &made)?;
     assert_eq!(rt; text.as_str(), SPELLED_OUT);
     Ok(())
 }
 
+fn is_same_as_copy(alloc: Global, module: &Module) -> Result<bool, Fail> {
+    let copy = module.try_clone(alloc)?;
+    Ok(is_same(&module.body, &copy.body) && is_same_module(module, &copy))
+}
+
+fn is_like_other(alloc: Global, module: &Module) -> Result<bool, Fail> {
+    let other = module_of(alloc, SPELLED_OUT)?;
+    Ok(is_same(&module.body, &other.body) || is_same_module(module, &other))
+}
+
 #[test]
 fn a_copy_is_the_same(rt: HostRuntime) -> Result<(), Fail> {
     let module = module_of(rt.alloc(), SHORT)?;
-    let copy = module.try_clone(rt.alloc())?;
-    assert!(rt; is_same(&module.body, &copy.body));
-    assert!(rt; is_same_module(&module, &copy));
-    let other = module_of(rt.alloc(), SPELLED_OUT)?;
-    assert!(rt; !is_same(&module.body, &other.body));
-    assert!(rt; !is_same_module(&module, &other));
+    assert!(rt; is_same_as_copy(rt.alloc(), &module)?);
+    assert!(rt; !is_like_other(rt.alloc(), &module)?);
     Ok(())
 }
