@@ -194,10 +194,10 @@ fn what_is_no_tree_is_refused(rt: HostRuntime) {
         ctxt: 0,
         role: Role::Reference,
     };
-    for (name, list) in [("a name alone", [ident].as_slice()), ("nothing", &[])] {
-        let refused = build_module(rt.alloc(), list);
-        assert!(rt; matches!(refused, Err(BuildError::Form)), "{name}");
-    }
+    let refused = build_module(rt.alloc(), &[ident]);
+    assert!(rt; matches!(refused, Err(BuildError::Form)));
+    let refused = build_module(rt.alloc(), &[]);
+    assert!(rt; matches!(refused, Err(BuildError::Form)));
 }
 
 // How many properties a list has, and how long the list of these is.
