@@ -236,18 +236,14 @@ fn listed(alloc: Global, graph: &ModuleGraph, ask: Ask) -> Result<String, AllocE
     Ok(text)
 }
 
-fn modules_of(alloc: Global, row: &Modules) -> Result<ModuleGraph, AllocError> {
-    let mut graph = ModuleGraph::new(alloc);
-    add_modules(&mut graph, row)?;
-    Ok(graph)
-}
-
+// Adds what a row has to an empty graph, and asks it.
 fn expect_lists(
     rt: &impl Abort,
     alloc: Global,
-    graph: &ModuleGraph,
+    graph: &mut ModuleGraph,
     row: &Modules,
 ) -> Result<(), AllocError> {
+    add_modules(graph, row)?;
     for (ask, wanted) in row.wanted {
         let text = listed(alloc, graph, *ask)?;
         assert_eq!(rt; text.as_str(), *wanted, "{}", row.name);
@@ -255,11 +251,15 @@ fn expect_lists(
     Ok(())
 }
 
+fn expect_modules_of(rt: &impl Abort, alloc: Global, row: &Modules) -> Result<(), AllocError> {
+    let mut graph = ModuleGraph::new(alloc);
+    expect_lists(rt, alloc, &mut graph, row)
+}
+
 #[test]
 fn modules_are_listed(rt: HostRuntime) -> Result<(), Fail> {
     for row in &MODULES {
-        let graph = modules_of(rt.alloc(), row)?;
-        expect_lists(&rt, rt.alloc(), &graph, row)?;
+        expect_modules_of(&rt, rt.alloc(), row)?;
     }
     Ok(())
 }
@@ -293,18 +293,14 @@ fn answer(alloc: Global, graph: &StmtDepGraph, question: Question) -> Result<Str
     Ok(text)
 }
 
-fn statements_of(alloc: Global, row: &Statements) -> Result<StmtDepGraph, AllocError> {
-    let mut graph = StmtDepGraph::new(alloc);
-    add_statements(&mut graph, row)?;
-    Ok(graph)
-}
-
+// Adds what a row has to an empty graph, and asks it.
 fn expect_answers(
     rt: &impl Abort,
     alloc: Global,
-    graph: &StmtDepGraph,
+    graph: &mut StmtDepGraph,
     row: &Statements,
 ) -> Result<(), AllocError> {
+    add_statements(graph, row)?;
     for (question, wanted) in row.wanted {
         let text = answer(alloc, graph, *question)?;
         assert_eq!(rt; text.as_str(), *wanted, "{}", row.name);
@@ -312,11 +308,15 @@ fn expect_answers(
     Ok(())
 }
 
+fn expect_statements(rt: &impl Abort, alloc: Global, row: &Statements) -> Result<(), AllocError> {
+    let mut graph = StmtDepGraph::new(alloc);
+    expect_answers(rt, alloc, &mut graph, row)
+}
+
 #[test]
 fn statements_are_found(rt: HostRuntime) -> Result<(), Fail> {
     for row in &STATEMENTS {
-        let graph = statements_of(rt.alloc(), row)?;
-        expect_answers(&rt, rt.alloc(), &graph, row)?;
+        expect_statements(&rt, rt.alloc(), row)?;
     }
     Ok(())
 }
@@ -325,7 +325,7 @@ fn statements_are_found(rt: HostRuntime) -> Result<(), Fail> {
 fn expect_paths(rt: &impl Abort, graph: &StmtDepGraph, count: usize, is_ring: bool) {
     for from in 0..count {
         for to in 0..count {
-            assert_eq!(rt; graph.has_a_path(from, to), is_ring || from < to);
+            assert!(rt; graph.has_a_path(from, to) == (is_ring || from < to));
         }
     }
 }
