@@ -1,8 +1,325 @@
-use bundle_denote::{ModuleKind, Reading, ScopeKind, denotations, first_doubled};
+//! Tests of the scopes and of what names denote, over lists that are written as words: `1:BlockStmt` begins a node
+//! in field 1, `0=a` binds `a` in field 0, `0?a` refers to it, `1.a` is a word, and anything else ends a node. `a#2`
+//! is `a` with the context 2.
+
+use bundle_denote::{
+    Denoted, Doubled, ModuleKind, Reading, Scope, ScopeKind, denotations, first_doubled,
+};
 use bundle_leaf::{ExportMetadata, VarDeclKind};
 use bundle_piece::{Node, Piece, Role};
 use std::alloc::{AllocError, Global};
 use std::test::Fail;
+
+/// A list, how it is read, and what is wanted of it.
+struct Row {
+    /// Its JavaScript, or what it shows.
+    name: &'static str,
+    kind: ModuleKind,
+    reading: Reading,
+    pieces: &'static str,
+    wanted: &'static str,
+}
+
+const LOOP_AND_BLOCK: &str =
+    "0:Module 0:ForStmt 0:let 1:VarDeclarator 0:BindingIdent 0=i ) ) ) 3:BlockStmt 0:let \
+    1:VarDeclarator 0:BindingIdent 0=i ) ) ) ) ) )";
+
+const PARAMETER_AGAIN: &str =
+    "0:Module 0:FnDecl 0=f 1:Function 0:Param 0:BindingIdent 0=a ) ) 0:Param 0:AssignPat \
+    0:BindingIdent 0=g ) 1:ArrowExpr 1?a ) ) ) 1:BlockStmt 0:var 1:VarDeclarator 0:BindingIdent \
+    0=a ) ) ) ) ) ) )";
+
+const FUNCTIONS_IN_A_BODY: &str =
+    "0:Module 0:FnDecl 0=f 1:Function 1:BlockStmt 0:FnDecl 0=g 1:Function 1:BlockStmt ) ) ) \
+    0:FnDecl 0=g 1:Function 1:BlockStmt ) ) ) ) ) ) )";
+
+const CATCH_TWICE: &str =
+    "0:Module 0:TryStmt 0:BlockStmt ) 1:CatchClause 0:ArrayPat 0:BindingIdent 0=e ) \
+    0:BindingIdent 0=e ) ) 1:BlockStmt 0:let 1:VarDeclarator 0:BindingIdent 0=e ) ) ) ) ) ) )";
+
+const DEFAULT_NAMES: &str =
+    "0:Module 0:ExportDefaultExpr 0:Number ) ) 0:let 1:VarDeclarator 0:BindingIdent 0=d ) ) ) \
+    0:ExportDefaultDecl 0:FnExpr 0=d 1:Function 1:BlockStmt ) ) ) ) )";
+
+const WRAPPED: &str =
+    "0:Module 0:var 1:VarDeclarator 0:BindingIdent 0=module#5 ) ) ) 0?module#5 0?exports#3 \
+    0?require#1 0?arguments#4 0?arguments#1 )";
+
+const CONTEXTS: &str =
+    "0:Module 0:let 1:VarDeclarator 0:BindingIdent 0=x#2 ) ) 1:VarDeclarator 0:BindingIdent 0=x#3 \
+    ) ) ) 0:BlockStmt 0:let 1:VarDeclarator 0:BindingIdent 0=x#4 ) ) ) 0?x#2 0?x#3 0?x#4 0?x#5 ) \
+    0?x#4 )";
+
+/// For each occurrence the number of the binding that it denotes, or `-` for a global, and a `!` where it declares it.
+static DENOTED: [Row; 19] = [
+    // Parameters do not see the body.
+    Row {
+        name: "function f(a = () => x) { var x; return x; }",
+        kind: ModuleKind::Es,
+        reading: Reading::BySymbol,
+        pieces: "0:Module 0:FnDecl 0=f 1:Function 0:Param 0:AssignPat 0:BindingIdent 0=a ) 1:ArrowExpr 1?x ) \
+            ) ) 1:BlockStmt 0:var 1:VarDeclarator 0:BindingIdent 0=x ) ) ) 0:ReturnStmt 0?x ) ) ) ) )",
+        wanted: "0! 1! - 2! 2 ",
+    },
+    // A loop and its block are two.
+    Row {
+        name: "for (let i;;) { let i; }",
+        kind: ModuleKind::Es,
+        reading: Reading::BySymbol,
+        pieces: LOOP_AND_BLOCK,
+        wanted: "0! 1! ",
+    },
+    // A `var` is the parameter.
+    Row {
+        name: "function f(a, g = () => a) { var a; }",
+        kind: ModuleKind::Es,
+        reading: Reading::BySymbol,
+        pieces: PARAMETER_AGAIN,
+        wanted: "0! 1! 2! 1 1! ",
+    },
+    // Functions are one in a body.
+    Row {
+        name: "function f() { function g() {} function g() {} }",
+        kind: ModuleKind::Es,
+        reading: Reading::BySymbol,
+        pieces: FUNCTIONS_IN_A_BODY,
+        wanted: "0! 1! 1! ",
+    },
+    // The discriminant is outside.
+    Row {
+        name: "switch (x) { case 0: let x; }",
+        kind: ModuleKind::Es,
+        reading: Reading::BySymbol,
+        pieces: "0:Module 0:SwitchStmt 0?x 1:SwitchCase 0:Number ) 1:let 1:VarDeclarator 0:BindingIdent 0=x ) \
+            ) ) ) ) )",
+        wanted: "- 0! ",
+    },
+    // The names of classes are seen inside.
+    Row {
+        name: "(class C extends C {}); class D extends D {}",
+        kind: ModuleKind::Es,
+        reading: Reading::BySymbol,
+        pieces: "0:Module 0:ExprStmt 0:ParenExpr 0:ClassExpr 0=C 1:Class 0?C ) ) ) ) 0:ClassDecl 0=D 1:Class \
+            0?D ) ) )",
+        wanted: "0! 0 1! 1 ",
+    },
+    // A static block keeps its `var`.
+    Row {
+        name: "class A { static { var v; } } v;",
+        kind: ModuleKind::Es,
+        reading: Reading::BySymbol,
+        pieces: "0:Module 0:ClassDecl 0=A 1:Class 1:StaticBlock 0:BlockStmt 0:var 1:VarDeclarator \
+            0:BindingIdent 0=v ) ) ) ) ) ) ) 0:ExprStmt 0?v ) )",
+        wanted: "0! 1! - ",
+    },
+    // An import is seen in a function.
+    Row {
+        name: "import { x as z } from './a'; function f(a = () => x) { var x; return z; }",
+        kind: ModuleKind::Es,
+        reading: Reading::BySymbol,
+        pieces: "0:Module 0:ImportDecl 0:ImportNamedSpecifier 0=z 1.x ) 1:Str ) ) 0:FnDecl 0=f 1:Function \
+            0:Param 0:AssignPat 0:BindingIdent 0=a ) 1:ArrowExpr 1?x ) ) ) 1:BlockStmt 0:var \
+            1:VarDeclarator 0:BindingIdent 0=x ) ) ) 0:ReturnStmt 0?z ) ) ) ) )",
+        wanted: "0! 1! 2! - 3! 0 ",
+    },
+    // The head of a loop is seen in its body.
+    Row {
+        name: "import { x as y } from './a'; for (let x of y) { use(x); }",
+        kind: ModuleKind::Es,
+        reading: Reading::BySymbol,
+        pieces: "0:Module 0:ImportDecl 0:ImportNamedSpecifier 0=y 1.x ) 1:Str ) ) 0:ForOfStmt 1:let \
+            1:VarDeclarator 0:BindingIdent 0=x ) ) ) 2?y 3:BlockStmt 0:ExprStmt 0:CallExpr 0?use \
+            1:ExprOrSpread 1?x ) ) ) ) ) )",
+        wanted: "0! 1! 0 - 1 ",
+    },
+    // A function has `arguments` of its own.
+    Row {
+        name: "function f() { var arguments; arguments; }",
+        kind: ModuleKind::Es,
+        reading: Reading::BySymbol,
+        pieces: "0:Module 0:FnDecl 0=f 1:Function 1:BlockStmt 0:var 1:VarDeclarator 0:BindingIdent \
+            0=arguments ) ) ) 0:ExprStmt 0?arguments ) ) ) ) )",
+        wanted: "0! 1! 1 ",
+    },
+    // And an arrow has none.
+    Row {
+        name: "function f() { () => arguments; } arguments;",
+        kind: ModuleKind::Es,
+        reading: Reading::BySymbol,
+        pieces: "0:Module 0:FnDecl 0=f 1:Function 1:BlockStmt 0:ArrowExpr 1?arguments ) ) ) ) 0?arguments )",
+        wanted: "0! 1 - ",
+    },
+    // A function as the body of an `if` belongs to the block around it.
+    Row {
+        name: "{ if (0) function g() {} g; } g;",
+        kind: ModuleKind::Es,
+        reading: Reading::BySymbol,
+        pieces: "0:Module 0:BlockStmt 0:IfStmt 1:FnDecl 0=g 1:Function 1:BlockStmt ) ) ) ) 0?g ) 0?g )",
+        wanted: "0! 0 - ",
+    },
+    // A doubled parameter of a catch is one.
+    Row {
+        name: "try {} catch ([e, e]) { let e; }",
+        kind: ModuleKind::Es,
+        reading: Reading::BySymbol,
+        pieces: CATCH_TWICE,
+        wanted: "0! 0! 1! ",
+    },
+    // The names of default exports are at the top.
+    Row {
+        name: "export default 1; let d; export default function d() {}",
+        kind: ModuleKind::Es,
+        reading: Reading::BySymbol,
+        pieces: DEFAULT_NAMES,
+        wanted: "1! 1! ",
+    },
+    // A parameter of a CommonJS module, one that is declared again, and the `arguments` of the module.
+    Row {
+        name: "var module; module; exports; require; arguments; arguments; by symbol",
+        kind: ModuleKind::Cjs,
+        reading: Reading::BySymbol,
+        pieces: WRAPPED,
+        wanted: "0! 0 1 - 2 2 ",
+    },
+    // The same by symbol and context.
+    Row {
+        name: "var module; module; exports; require; arguments; arguments; by context",
+        kind: ModuleKind::Cjs,
+        reading: Reading::ByContext,
+        pieces: WRAPPED,
+        wanted: "2! 2 1 - 3 - ",
+    },
+    // By symbol and context two names of one scope have one symbol, and an inner one is passed over.
+    Row {
+        name: "let x, x; { let x; x; x; x; x; } x; by context",
+        kind: ModuleKind::Es,
+        reading: Reading::ByContext,
+        pieces: CONTEXTS,
+        wanted: "0! 1! 2! 0 1 2 - - ",
+    },
+    // The same by symbol.
+    Row {
+        name: "let x, x; { let x; x; x; x; x; } x; by symbol",
+        kind: ModuleKind::Es,
+        reading: Reading::BySymbol,
+        pieces: CONTEXTS,
+        wanted: "0! 0! 1! 1 1 1 1 0 ",
+    },
+    // Nodes that end too often, or not at all.
+    Row {
+        name: "a list of no tree",
+        kind: ModuleKind::Es,
+        reading: Reading::BySymbol,
+        pieces: ") 0=a ) 0:let 1:VarDeclarator 0=a 0:Function 0?a 0?b",
+        wanted: "0 0! 0 - ",
+    },
+];
+
+/// The name that is doubled first, and its place.
+static DOUBLED: [Row; 12] = [
+    // A `var` passes a block.
+    Row {
+        name: "{ let a; { var a; } }",
+        kind: ModuleKind::Es,
+        reading: Reading::BySymbol,
+        pieces: "0:Module 0:BlockStmt 0:let 1:VarDeclarator 0:BindingIdent 0=a ) ) ) 0:BlockStmt 0:var \
+            1:VarDeclarator 0:BindingIdent 0=a ) ) ) ) ) )",
+        wanted: "a 13",
+    },
+    // A `var` passes a catch.
+    Row {
+        name: "try {} catch (e) { var e; }",
+        kind: ModuleKind::Es,
+        reading: Reading::BySymbol,
+        pieces: "0:Module 0:TryStmt 0:BlockStmt ) 1:CatchClause 0:BindingIdent 0=e ) 1:BlockStmt 0:var \
+            1:VarDeclarator 0:BindingIdent 0=e ) ) ) ) ) ) )",
+        wanted: "e 12",
+    },
+    // A `var` passes a loop.
+    Row {
+        name: "for (let i;;) { var i; }",
+        kind: ModuleKind::Es,
+        reading: Reading::BySymbol,
+        pieces: "0:Module 0:ForStmt 0:let 1:VarDeclarator 0:BindingIdent 0=i ) ) ) 3:BlockStmt 0:var \
+            1:VarDeclarator 0:BindingIdent 0=i ) ) ) ) ) )",
+        wanted: "i 13",
+    },
+    // A loop and its block are two.
+    Row {
+        name: "for (let i;;) { let i; }",
+        kind: ModuleKind::Es,
+        reading: Reading::BySymbol,
+        pieces: LOOP_AND_BLOCK,
+        wanted: "none",
+    },
+    // A `let` beside a parameter.
+    Row {
+        name: "function f(a) { let a; }",
+        kind: ModuleKind::Es,
+        reading: Reading::BySymbol,
+        pieces: "0:Module 0:FnDecl 0=f 1:Function 0:Param 0:BindingIdent 0=a ) ) 1:BlockStmt 0:let \
+            1:VarDeclarator 0:BindingIdent 0=a ) ) ) ) ) ) )",
+        wanted: "a 13",
+    },
+    // A `var` is the parameter.
+    Row {
+        name: "function f(a, g = () => a) { var a; }",
+        kind: ModuleKind::Es,
+        reading: Reading::BySymbol,
+        pieces: PARAMETER_AGAIN,
+        wanted: "none",
+    },
+    // Functions are not doubled in a body.
+    Row {
+        name: "function f() { function g() {} function g() {} }",
+        kind: ModuleKind::Es,
+        reading: Reading::BySymbol,
+        pieces: FUNCTIONS_IN_A_BODY,
+        wanted: "none",
+    },
+    // But in a block.
+    Row {
+        name: "{ function g() {} function g() {} }",
+        kind: ModuleKind::Es,
+        reading: Reading::BySymbol,
+        pieces: "0:Module 0:BlockStmt 0:FnDecl 0=g 1:Function 1:BlockStmt ) ) ) 0:FnDecl 0=g 1:Function \
+            1:BlockStmt ) ) ) ) )",
+        wanted: "g 10",
+    },
+    // A doubled parameter of a catch is one, and the `let` is not.
+    Row {
+        name: "try {} catch ([e, e]) { let e; }",
+        kind: ModuleKind::Es,
+        reading: Reading::BySymbol,
+        pieces: CATCH_TWICE,
+        wanted: "e 17",
+    },
+    // The names of default exports are at the top.
+    Row {
+        name: "export default 1; let d; export default function d() {}",
+        kind: ModuleKind::Es,
+        reading: Reading::BySymbol,
+        pieces: DEFAULT_NAMES,
+        wanted: "d 14",
+    },
+    // Two nameless defaults: the second begins where it is doubled.
+    Row {
+        name: "export default 1; export default function () {}",
+        kind: ModuleKind::Es,
+        reading: Reading::BySymbol,
+        pieces: "0:Module 0:ExportDefaultExpr 0:Number ) ) 0:ExportDefaultDecl 0:FnExpr 1:Function \
+            1:BlockStmt ) ) ) ) )",
+        wanted: "default 5",
+    },
+    // A parameter of a CommonJS module.
+    Row {
+        name: "let module;",
+        kind: ModuleKind::Cjs,
+        reading: Reading::BySymbol,
+        pieces: "0:Module 0:let 1:VarDeclarator 0:BindingIdent 0=module ) ) ) )",
+        wanted: "module 4",
+    },
+];
 
 const NOTHING_NOTED: ExportMetadata = ExportMetadata {
     injected: false,
@@ -65,19 +382,12 @@ fn function_of<'a>(name: &str) -> Node<'a> {
 
 // An identifier that is written as its symbol, or as symbol and context.
 fn ident_of<'a>(field: u8, word: &'a str, role: Role) -> Piece<'a> {
-    match word.split_once('#') {
-        None => Piece::Ident {
-            field,
-            sym: word,
-            ctxt: 0,
-            role,
-        },
-        Some((sym, ctxt)) => Piece::Ident {
-            field,
-            sym,
-            ctxt: ctxt.parse::<u32>().unwrap_or(0),
-            role,
-        },
+    let (sym, ctxt) = word.split_once('#').unwrap_or((word, "0"));
+    Piece::Ident {
+        field,
+        sym,
+        ctxt: ctxt.parse::<u32>().unwrap_or(0),
+        role,
     }
 }
 
@@ -85,8 +395,6 @@ fn field_of(word: &str) -> u8 {
     word.parse::<u8>().unwrap_or(0)
 }
 
-// A piece: `1:BlockStmt` begins a node in field 1, `0=a` binds `a` in field 0, `0?a` refers to it, `1.a` is a
-// word, and anything else ends a node.
 fn piece_of<'a>(word: &'a str, meta: &'a ExportMetadata) -> Piece<'a> {
     if let Some((field, name)) = word.split_once(':') {
         return Piece::Open {
@@ -118,305 +426,83 @@ fn list_of<'a>(
     Ok(pieces)
 }
 
-// The number of the binding of each occurrence, or `-` for a global; a `!` is behind those that declare it.
-fn shown(
-    alloc: Global,
-    text: &str,
-    kind: ModuleKind,
-    reading: Reading,
-) -> Result<String, AllocError> {
-    let meta = NOTHING_NOTED;
-    let pieces = list_of(alloc, text, &meta)?;
-    let found = denotations(alloc, &pieces, kind, reading)?;
-    let mut shown = String::new(alloc);
-    for denoted in &found.occurrences {
-        let mark = if denoted.declares { "! " } else { " " };
+fn occurrences_text(alloc: Global, occurrences: &[Denoted]) -> Result<String, AllocError> {
+    let mut text = String::new(alloc);
+    for denoted in occurrences {
         match denoted.binding {
-            Some(number) => write!(shown, "{number}{mark}")?,
-            None => write!(shown, "-{mark}")?,
+            Some(number) => write!(text, "{number}")?,
+            None => text.push('-')?,
         }
+        text.push_str(if denoted.declares { "! " } else { " " })?;
     }
-    Ok(shown)
+    Ok(text)
 }
 
-// The same for an ECMAScript module by its symbols.
-fn by_symbol(alloc: Global, text: &str) -> Result<String, AllocError> {
-    shown(alloc, text, ModuleKind::Es, Reading::BySymbol)
-}
-
-// The name that is doubled first, and its place.
-fn doubled(alloc: Global, text: &str, kind: ModuleKind) -> Result<String, AllocError> {
+fn denoted_text(alloc: Global, row: &Row) -> Result<String, AllocError> {
     let meta = NOTHING_NOTED;
-    let pieces = list_of(alloc, text, &meta)?;
-    match first_doubled(alloc, &pieces, kind)? {
-        Some(doubled) => {
-            let name = doubled.name;
-            let place = doubled.place;
-            format!(in alloc; "{name} {place}")
-        }
+    let pieces = list_of(alloc, row.pieces, &meta)?;
+    let found = denotations(alloc, &pieces, row.kind, row.reading)?;
+    occurrences_text(alloc, &found.occurrences)
+}
+
+#[test]
+fn names_denote_bindings(rt: HostRuntime) -> Result<(), Fail> {
+    for row in &DENOTED {
+        let found = denoted_text(rt.alloc(), row)?;
+        assert_eq!(rt; found.as_str(), row.wanted, "{}", row.name);
+    }
+    Ok(())
+}
+
+fn declaration_text(alloc: Global, doubled: Option<Doubled>) -> Result<String, AllocError> {
+    match doubled {
+        Some(Doubled { place, name }) => format!(in alloc; "{name} {place}"),
         None => String::from_str(alloc, "none"),
     }
 }
 
-// `function f(a = () => x) { var x; return x; }`
+fn doubled_text(alloc: Global, row: &Row) -> Result<String, AllocError> {
+    let meta = NOTHING_NOTED;
+    let pieces = list_of(alloc, row.pieces, &meta)?;
+    let doubled = first_doubled(alloc, &pieces, row.kind)?;
+    declaration_text(alloc, doubled)
+}
+
 #[test]
-fn parameters_do_not_see_the_body(rt: HostRuntime) -> Result<(), Fail> {
-    let found = by_symbol(
-        rt.alloc(),
-        "0:Module 0:FnDecl 0=f 1:Function 0:Param 0:AssignPat 0:BindingIdent 0=a ) 1:ArrowExpr 1?x ) ) ) \
-         1:BlockStmt 0:var 1:VarDeclarator 0:BindingIdent 0=x ) ) ) 0:ReturnStmt 0?x ) ) ) ) )",
-    )?;
-    assert_eq!(rt; found.as_str(), "0! 1! - 2! 2 ");
+fn doubled_declarations_are_told(rt: HostRuntime) -> Result<(), Fail> {
+    for row in &DOUBLED {
+        let found = doubled_text(rt.alloc(), row)?;
+        assert_eq!(rt; found.as_str(), row.wanted, "{}", row.name);
+    }
     Ok(())
 }
 
-// `{ let a; { var a; } }`
-#[test]
-fn var_passes_a_block(rt: HostRuntime) -> Result<(), Fail> {
-    let found = doubled(
-        rt.alloc(),
-        "0:Module 0:BlockStmt 0:let 1:VarDeclarator 0:BindingIdent 0=a ) ) ) \
-         0:BlockStmt 0:var 1:VarDeclarator 0:BindingIdent 0=a ) ) ) ) ) )",
-        ModuleKind::Es,
-    )?;
-    assert_eq!(rt; found.as_str(), "a 13");
-    Ok(())
+fn is_getter(scope: Scope) -> bool {
+    matches!(
+        scope,
+        Scope {
+            kind: ScopeKind::Parameters,
+            outer: Some(0),
+            begins: 1,
+            from: 5,
+            to: 8,
+            ..
+        }
+    )
 }
 
-// `try {} catch (e) { var e; }`
-#[test]
-fn var_passes_a_catch(rt: HostRuntime) -> Result<(), Fail> {
-    let found = doubled(
-        rt.alloc(),
-        "0:Module 0:TryStmt 0:BlockStmt ) 1:CatchClause 0:BindingIdent 0=e ) \
-         1:BlockStmt 0:var 1:VarDeclarator 0:BindingIdent 0=e ) ) ) ) ) ) )",
-        ModuleKind::Es,
-    )?;
-    assert_eq!(rt; found.as_str(), "e 12");
-    Ok(())
+fn is_body_of_getter(scope: Scope) -> bool {
+    scope.kind == ScopeKind::FunctionBody && scope.group == 1
 }
 
-// `for (let i;;) { var i; }`
-#[test]
-fn var_passes_a_loop(rt: HostRuntime) -> Result<(), Fail> {
-    let found = doubled(
-        rt.alloc(),
-        "0:Module 0:ForStmt 0:let 1:VarDeclarator 0:BindingIdent 0=i ) ) ) \
-         3:BlockStmt 0:var 1:VarDeclarator 0:BindingIdent 0=i ) ) ) ) ) )",
-        ModuleKind::Es,
-    )?;
-    assert_eq!(rt; found.as_str(), "i 13");
-    Ok(())
+// Whether the scopes are a top, the getter and its body.
+fn are_scopes_of_getter(scopes: &[Scope]) -> bool {
+    scopes.len() == 3 && is_getter(scopes[1]) && is_body_of_getter(scopes[2])
 }
 
-// `for (let i;;) { let i; }`
-#[test]
-fn loop_and_block_are_two(rt: HostRuntime) -> Result<(), Fail> {
-    let text = "0:Module 0:ForStmt 0:let 1:VarDeclarator 0:BindingIdent 0=i ) ) ) \
-                3:BlockStmt 0:let 1:VarDeclarator 0:BindingIdent 0=i ) ) ) ) ) )";
-    let found = doubled(rt.alloc(), text, ModuleKind::Es)?;
-    assert_eq!(rt; found.as_str(), "none");
-    let found = by_symbol(rt.alloc(), text)?;
-    assert_eq!(rt; found.as_str(), "0! 1! ");
-    Ok(())
-}
-
-// `function f(a) { let a; }`
-#[test]
-fn let_beside_a_parameter(rt: HostRuntime) -> Result<(), Fail> {
-    let found = doubled(
-        rt.alloc(),
-        "0:Module 0:FnDecl 0=f 1:Function 0:Param 0:BindingIdent 0=a ) ) \
-         1:BlockStmt 0:let 1:VarDeclarator 0:BindingIdent 0=a ) ) ) ) ) ) )",
-        ModuleKind::Es,
-    )?;
-    assert_eq!(rt; found.as_str(), "a 13");
-    Ok(())
-}
-
-// `function f(a, g = () => a) { var a; }`
-#[test]
-fn var_is_the_parameter(rt: HostRuntime) -> Result<(), Fail> {
-    let text = "0:Module 0:FnDecl 0=f 1:Function 0:Param 0:BindingIdent 0=a ) ) \
-                0:Param 0:AssignPat 0:BindingIdent 0=g ) 1:ArrowExpr 1?a ) ) ) \
-                1:BlockStmt 0:var 1:VarDeclarator 0:BindingIdent 0=a ) ) ) ) ) ) )";
-    let found = by_symbol(rt.alloc(), text)?;
-    assert_eq!(rt; found.as_str(), "0! 1! 2! 1 1! ");
-    let found = doubled(rt.alloc(), text, ModuleKind::Es)?;
-    assert_eq!(rt; found.as_str(), "none");
-    Ok(())
-}
-
-// `function f() { function g() {} function g() {} }`, and the same in a block.
-#[test]
-fn functions_are_doubled_in_bodies_alone(rt: HostRuntime) -> Result<(), Fail> {
-    let text =
-        "0:Module 0:FnDecl 0=f 1:Function 1:BlockStmt 0:FnDecl 0=g 1:Function 1:BlockStmt ) ) ) \
-                0:FnDecl 0=g 1:Function 1:BlockStmt ) ) ) ) ) ) )";
-    let found = doubled(rt.alloc(), text, ModuleKind::Es)?;
-    assert_eq!(rt; found.as_str(), "none");
-    let found = by_symbol(rt.alloc(), text)?;
-    assert_eq!(rt; found.as_str(), "0! 1! 1! ");
-    let text = "0:Module 0:BlockStmt 0:FnDecl 0=g 1:Function 1:BlockStmt ) ) ) \
-                0:FnDecl 0=g 1:Function 1:BlockStmt ) ) ) ) )";
-    let found = doubled(rt.alloc(), text, ModuleKind::Es)?;
-    assert_eq!(rt; found.as_str(), "g 10");
-    Ok(())
-}
-
-// `switch (x) { case 0: let x; }`
-#[test]
-fn discriminant_is_outside(rt: HostRuntime) -> Result<(), Fail> {
-    let found = by_symbol(
-        rt.alloc(),
-        "0:Module 0:SwitchStmt 0?x 1:SwitchCase 0:Number ) \
-         1:let 1:VarDeclarator 0:BindingIdent 0=x ) ) ) ) ) )",
-    )?;
-    assert_eq!(rt; found.as_str(), "- 0! ");
-    Ok(())
-}
-
-// `(class C extends C {}); class D extends D {}`
-#[test]
-fn class_names_are_seen_inside(rt: HostRuntime) -> Result<(), Fail> {
-    let found = by_symbol(
-        rt.alloc(),
-        "0:Module 0:ExprStmt 0:ParenExpr 0:ClassExpr 0=C 1:Class 0?C ) ) ) ) \
-         0:ClassDecl 0=D 1:Class 0?D ) ) )",
-    )?;
-    assert_eq!(rt; found.as_str(), "0! 0 1! 1 ");
-    Ok(())
-}
-
-// `class A { static { var v; } } v;`
-#[test]
-fn static_block_keeps_its_var(rt: HostRuntime) -> Result<(), Fail> {
-    let found = by_symbol(
-        rt.alloc(),
-        "0:Module 0:ClassDecl 0=A 1:Class 1:StaticBlock 0:BlockStmt 0:var 1:VarDeclarator 0:BindingIdent \
-         0=v ) ) ) ) ) ) ) 0:ExprStmt 0?v ) )",
-    )?;
-    assert_eq!(rt; found.as_str(), "0! 1! - ");
-    Ok(())
-}
-
-// `import { x as z } from './a'; function f(a = () => x) { var x; return z; }`
-#[test]
-fn import_is_seen_in_a_function(rt: HostRuntime) -> Result<(), Fail> {
-    let found = by_symbol(
-        rt.alloc(),
-        "0:Module 0:ImportDecl 0:ImportNamedSpecifier 0=z 1.x ) 1:Str ) ) \
-         0:FnDecl 0=f 1:Function 0:Param 0:AssignPat 0:BindingIdent 0=a ) 1:ArrowExpr 1?x ) ) ) \
-         1:BlockStmt 0:var 1:VarDeclarator 0:BindingIdent 0=x ) ) ) 0:ReturnStmt 0?z ) ) ) ) )",
-    )?;
-    assert_eq!(rt; found.as_str(), "0! 1! 2! - 3! 0 ");
-    Ok(())
-}
-
-// `import { x as y } from './a'; for (let x of y) { use(x); }`
-#[test]
-fn loop_head_is_seen_in_the_body(rt: HostRuntime) -> Result<(), Fail> {
-    let found = by_symbol(
-        rt.alloc(),
-        "0:Module 0:ImportDecl 0:ImportNamedSpecifier 0=y 1.x ) 1:Str ) ) \
-         0:ForOfStmt 1:let 1:VarDeclarator 0:BindingIdent 0=x ) ) ) 2?y \
-         3:BlockStmt 0:ExprStmt 0:CallExpr 0?use 1:ExprOrSpread 1?x ) ) ) ) ) )",
-    )?;
-    assert_eq!(rt; found.as_str(), "0! 1! 0 - 1 ");
-    Ok(())
-}
-
-// `function f() { var arguments; arguments; }` and `function f() { () => arguments; } arguments;`
-#[test]
-fn arguments_of_its_own(rt: HostRuntime) -> Result<(), Fail> {
-    let found = by_symbol(
-        rt.alloc(),
-        "0:Module 0:FnDecl 0=f 1:Function 1:BlockStmt 0:var 1:VarDeclarator 0:BindingIdent 0=arguments ) ) ) \
-         0:ExprStmt 0?arguments ) ) ) ) )",
-    )?;
-    assert_eq!(rt; found.as_str(), "0! 1! 1 ");
-    let found = by_symbol(
-        rt.alloc(),
-        "0:Module 0:FnDecl 0=f 1:Function 1:BlockStmt 0:ArrowExpr 1?arguments ) ) ) ) 0?arguments )",
-    )?;
-    assert_eq!(rt; found.as_str(), "0! 1 - ");
-    Ok(())
-}
-
-// A function as the body of an `if` belongs to the block around it.
-#[test]
-fn function_without_a_block(rt: HostRuntime) -> Result<(), Fail> {
-    let found = by_symbol(
-        rt.alloc(),
-        "0:Module 0:BlockStmt 0:IfStmt 1:FnDecl 0=g 1:Function 1:BlockStmt ) ) ) ) 0?g ) 0?g )",
-    )?;
-    assert_eq!(rt; found.as_str(), "0! 0 - ");
-    Ok(())
-}
-
-// `try {} catch ([e, e]) { let e; }`
-#[test]
-fn doubled_catch_parameter_is_one(rt: HostRuntime) -> Result<(), Fail> {
-    let text = "0:Module 0:TryStmt 0:BlockStmt ) 1:CatchClause 0:ArrayPat 0:BindingIdent 0=e ) \
-                0:BindingIdent 0=e ) ) 1:BlockStmt 0:let 1:VarDeclarator 0:BindingIdent 0=e ) ) ) ) ) ) )";
-    let found = by_symbol(rt.alloc(), text)?;
-    assert_eq!(rt; found.as_str(), "0! 0! 1! ");
-    let found = doubled(rt.alloc(), text, ModuleKind::Es)?;
-    assert_eq!(rt; found.as_str(), "e 17");
-    Ok(())
-}
-
-// `export default 1; let d; export default function d() {}`
-#[test]
-fn default_names_are_at_the_top(rt: HostRuntime) -> Result<(), Fail> {
-    let text =
-        "0:Module 0:ExportDefaultExpr 0:Number ) ) 0:let 1:VarDeclarator 0:BindingIdent 0=d ) ) ) \
-                0:ExportDefaultDecl 0:FnExpr 0=d 1:Function 1:BlockStmt ) ) ) ) )";
-    let found = by_symbol(rt.alloc(), text)?;
-    assert_eq!(rt; found.as_str(), "1! 1! ");
-    let found = doubled(rt.alloc(), text, ModuleKind::Es)?;
-    assert_eq!(rt; found.as_str(), "d 14");
-    Ok(())
-}
-
-// Two nameless defaults: the second begins where it is doubled.
-#[test]
-fn nameless_defaults_are_doubled(rt: HostRuntime) -> Result<(), Fail> {
-    let found = doubled(
-        rt.alloc(),
-        "0:Module 0:ExportDefaultExpr 0:Number ) ) 0:ExportDefaultDecl 0:FnExpr 1:Function 1:BlockStmt ) ) ) ) )",
-        ModuleKind::Es,
-    )?;
-    assert_eq!(rt; found.as_str(), "default 5");
-    Ok(())
-}
-
-// A parameter of a CommonJS module, one that is declared again, and the `arguments` of the module.
-#[test]
-fn wrapper_has_parameters(rt: HostRuntime) -> Result<(), Fail> {
-    let text = "0:Module 0:var 1:VarDeclarator 0:BindingIdent 0=module#5 ) ) ) \
-                0?module#5 0?exports#3 0?require#1 0?arguments#4 0?arguments#1 )";
-    let found = shown(rt.alloc(), text, ModuleKind::Cjs, Reading::BySymbol)?;
-    assert_eq!(rt; found.as_str(), "0! 0 1 - 2 2 ");
-    let found = shown(rt.alloc(), text, ModuleKind::Cjs, Reading::ByContext)?;
-    assert_eq!(rt; found.as_str(), "2! 2 1 - 3 - ");
-    let text = "0:Module 0:let 1:VarDeclarator 0:BindingIdent 0=module ) ) ) )";
-    let found = doubled(rt.alloc(), text, ModuleKind::Cjs)?;
-    assert_eq!(rt; found.as_str(), "module 4");
-    Ok(())
-}
-
-// By symbol and context two names of one scope have one symbol, and an inner one is passed over.
-#[test]
-fn contexts_tell_names_apart(rt: HostRuntime) -> Result<(), Fail> {
-    let text =
-        "0:Module 0:let 1:VarDeclarator 0:BindingIdent 0=x#2 ) ) 1:VarDeclarator 0:BindingIdent 0=x#3 ) ) ) \
-                0:BlockStmt 0:let 1:VarDeclarator 0:BindingIdent 0=x#4 ) ) ) 0?x#2 0?x#3 0?x#4 0?x#5 ) 0?x#4 )";
-    let found = shown(rt.alloc(), text, ModuleKind::Es, Reading::ByContext)?;
-    assert_eq!(rt; found.as_str(), "0! 1! 2! 0 1 2 - - ");
-    let found = by_symbol(rt.alloc(), text)?;
-    assert_eq!(rt; found.as_str(), "0! 0! 1! 1 1 1 1 0 ");
-    Ok(())
+// Whether the first of two names stands at the top, and the second in the body.
+fn are_names_of_getter(occurrences: &[Denoted]) -> bool {
+    occurrences.len() == 2 && occurrences[0].scope == 0 && occurrences[1].scope == 2
 }
 
 // What the scopes cover, and how they are numbered: `({ get [k]() { x } })`.
@@ -429,27 +515,7 @@ fn getter_leaves_its_key_out(rt: HostRuntime) -> Result<(), Fail> {
         &meta,
     )?;
     let found = denotations(rt.alloc(), &pieces, ModuleKind::Es, Reading::BySymbol)?;
-    assert_eq!(rt; found.scopes.len(), 3);
-    let getter = found.scopes[1];
-    assert_eq!(rt; getter.kind, ScopeKind::Parameters);
-    assert_eq!(rt; getter.outer, Some(0));
-    assert_eq!(rt; (getter.begins, getter.from, getter.to), (1, 5, 8));
-    let body = found.scopes[2];
-    assert_eq!(rt; body.kind, ScopeKind::FunctionBody);
-    assert_eq!(rt; body.group, 1);
-    assert_eq!(rt; found.occurrences.len(), 2);
-    assert_eq!(rt; found.occurrences[0].scope, 0);
-    assert_eq!(rt; found.occurrences[1].scope, 2);
-    Ok(())
-}
-
-// Nodes that end too often, or not at all.
-#[test]
-fn list_of_no_tree(rt: HostRuntime) -> Result<(), Fail> {
-    let found = by_symbol(
-        rt.alloc(),
-        ") 0=a ) 0:let 1:VarDeclarator 0=a 0:Function 0?a 0?b",
-    )?;
-    assert_eq!(rt; found.as_str(), "0 0! 0 - ");
+    assert!(rt; are_scopes_of_getter(&found.scopes));
+    assert!(rt; are_names_of_getter(&found.occurrences));
     Ok(())
 }

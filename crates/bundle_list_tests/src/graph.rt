@@ -1,266 +1,333 @@
-//! Tests of what no clause says: that each call succeeds, and what known graphs give.
+//! Tests of what no clause says: that each call succeeds, and what known graphs give. What leads to what in long
+//! chains is compared by `bundle_calls`.
 
 use bundle_graph::graph::{ModuleGraph, closure, cycles, order};
+use bundle_graph::sort::EdgeDirection::{Incoming, Outgoing};
+use bundle_graph::sort::Required::{Always, Maybe};
 use bundle_graph::sort::{EdgeDirection, Required, StmtDepGraph};
 use bundle_id::ModuleId;
 use std::alloc::{AllocError, Global};
 use std::process::Abort;
 use std::test::Fail;
 
-const MAIN: u32 = 0;
+/// A graph of modules, and what is wanted of it.
+struct Modules {
+    name: &'static str,
+    /// The requests, in the order in which they are added.
+    edges: &'static [(u32, u32)],
+    /// The modules that are added after them.
+    nodes: &'static [u32],
+    wanted: &'static [(Ask, &'static str)],
+}
 
-const ROUTER: u32 = 1;
+/// What is asked of a graph of modules.
+#[derive(Clone, Copy)]
+enum Ask {
+    /// What the module requests.
+    Requests(u32),
+    /// What is reached from the module.
+    Closure(u32),
+    /// The same in the order in which it is listed.
+    Order(u32),
+    /// The blocks of what is reached from the module.
+    Cycles(u32),
+}
 
-const PAGE1: u32 = 2;
+static MODULES: [Modules; 8] = [
+    Modules {
+        name: "an application whose two pages need data, and whose data needs the entry",
+        edges: &[(0, 1), (1, 2), (1, 3), (2, 4), (3, 4), (4, 0)],
+        nodes: &[],
+        wanted: &[
+            (Ask::Cycles(0), "[4 2 3 1 0 ]"),
+            (Ask::Order(0), "4 2 3 1 0 "),
+        ],
+    },
+    Modules {
+        name: "dependencies are listed first",
+        edges: &[(0, 2), (0, 1), (1, 3), (2, 3), (9, 0)],
+        nodes: &[],
+        wanted: &[(Ask::Order(0), "3 2 1 0 ")],
+    },
+    Modules {
+        name: "a closure is ascending",
+        edges: &[(5, 9), (9, 2), (2, 7), (8, 5)],
+        nodes: &[],
+        wanted: &[(Ask::Closure(5), "2 5 7 9 ")],
+    },
+    Modules {
+        name: "blocks stand in the order of their last members",
+        edges: &[(0, 1), (1, 0), (0, 2), (2, 3), (3, 2)],
+        nodes: &[],
+        wanted: &[(Ask::Cycles(0), "[3 2 ][1 0 ]")],
+    },
+    Modules {
+        name: "a module that requests itself is a block",
+        edges: &[(0, 1), (1, 1), (0, 2)],
+        nodes: &[],
+        wanted: &[(Ask::Cycles(0), "[1 ]")],
+    },
+    Modules {
+        name: "modules on no cycle are no block",
+        edges: &[(0, 1), (1, 2), (0, 2)],
+        nodes: &[],
+        wanted: &[(Ask::Cycles(0), "")],
+    },
+    Modules {
+        name: "requests keep the order of adding, each once",
+        edges: &[(0, 3), (0, 1), (1, 2), (0, 3), (0, 2)],
+        nodes: &[],
+        wanted: &[(Ask::Requests(0), "3 1 2 "), (Ask::Requests(3), "")],
+    },
+    Modules {
+        name: "a module that is added, or is not there, requests nothing",
+        edges: &[],
+        nodes: &[7],
+        wanted: &[
+            (Ask::Requests(7), ""),
+            (Ask::Requests(8), ""),
+            (Ask::Order(7), "7 "),
+        ],
+    },
+];
 
-const PAGE2: u32 = 3;
+/// A graph of statements, and what is wanted of it.
+struct Statements {
+    name: &'static str,
+    /// The dependencies, in the order in which they are added.
+    edges: &'static [(usize, usize, Required)],
+    /// The statements that are added after them.
+    nodes: &'static [usize],
+    wanted: &'static [(Question, &'static str)],
+}
 
-const DATA: u32 = 4;
+/// What is asked of a graph of statements.
+#[derive(Clone, Copy)]
+enum Question {
+    /// How many nodes it has.
+    Count,
+    /// Whether the first leads to the second.
+    Path(usize, usize),
+    /// How the first depends on the second.
+    Weight(usize, usize),
+    /// What the node depends on, or what depends on it.
+    Neighbors(usize, EdgeDirection),
+}
 
-/// An application whose two pages need data, and whose data needs the entry.
-const APPLICATION: [(u32, u32); 6] = [
-    (MAIN, ROUTER),
-    (ROUTER, PAGE1),
-    (ROUTER, PAGE2),
-    (PAGE1, DATA),
-    (PAGE2, DATA),
-    (DATA, MAIN),
+static STATEMENTS: [Statements; 9] = [
+    Statements {
+        name: "a path takes edges that were added in any order",
+        edges: &[(2, 3, Always), (0, 1, Always), (1, 2, Always)],
+        nodes: &[],
+        wanted: &[
+            (Question::Path(0, 3), "true"),
+            (Question::Path(3, 0), "false"),
+            (Question::Path(0, 0), "false"),
+        ],
+    },
+    Statements {
+        name: "the largest number is a node like any other",
+        edges: &[],
+        nodes: &[usize::MAX, 0],
+        wanted: &[
+            (Question::Count, "2"),
+            (Question::Path(0, usize::MAX), "false"),
+            (Question::Path(usize::MAX, 0), "false"),
+        ],
+    },
+    Statements {
+        name: "`Always` stays over `Maybe`",
+        edges: &[(0, 1, Always), (0, 1, Maybe)],
+        nodes: &[],
+        wanted: &[
+            (Question::Weight(0, 1), "Always"),
+            (Question::Weight(1, 0), "none"),
+        ],
+    },
+    Statements {
+        name: "`Maybe` alone",
+        edges: &[(0, 1, Maybe)],
+        nodes: &[],
+        wanted: &[(Question::Weight(0, 1), "Maybe")],
+    },
+    Statements {
+        name: "`Maybe` becomes `Always`",
+        edges: &[(0, 1, Maybe), (0, 1, Always)],
+        nodes: &[],
+        wanted: &[(Question::Weight(0, 1), "Always")],
+    },
+    Statements {
+        name: "dependencies are given ascending",
+        edges: &[
+            (4, 9, Always),
+            (4, 1, Always),
+            (2, 4, Always),
+            (4, 6, Always),
+        ],
+        nodes: &[],
+        wanted: &[(Question::Neighbors(4, Outgoing), "1 6 9 ")],
+    },
+    Statements {
+        name: "dependents are given ascending",
+        edges: &[
+            (9, 4, Always),
+            (1, 4, Always),
+            (4, 2, Always),
+            (6, 4, Always),
+        ],
+        nodes: &[],
+        wanted: &[(Question::Neighbors(4, Incoming), "1 6 9 ")],
+    },
+    Statements {
+        name: "a node that is not there has no neighbors",
+        edges: &[(0, 1, Always)],
+        nodes: &[],
+        wanted: &[
+            (Question::Neighbors(5, Outgoing), ""),
+            (Question::Neighbors(5, Incoming), ""),
+        ],
+    },
+    Statements {
+        name: "each node counts once",
+        edges: &[(3, 4, Always), (4, 3, Always), (3, 3, Always)],
+        nodes: &[4, 5],
+        wanted: &[(Question::Count, "3")],
+    },
 ];
 
 fn id(number: u32) -> ModuleId {
     ModuleId::from_u32(number)
 }
 
-/// Modules with these requests, added in this order.
-fn modules(alloc: Global, edges: &[(u32, u32)]) -> Result<ModuleGraph, AllocError> {
-    let mut graph = ModuleGraph::new(alloc);
-    for edge in edges {
+fn add_modules(graph: &mut ModuleGraph, row: &Modules) -> Result<(), AllocError> {
+    for edge in row.edges {
         graph.add_edge(id(edge.0), id(edge.1))?;
     }
-    Ok(graph)
+    for node in row.nodes {
+        graph.add_node(id(*node))?;
+    }
+    Ok(())
 }
 
-/// Statements with these dependencies, added in this order.
-fn statements(alloc: Global, edges: &[(usize, usize)]) -> Result<StmtDepGraph, AllocError> {
+fn add_ids(text: &mut String, ids: &[ModuleId]) -> Result<(), AllocError> {
+    for id in ids {
+        write!(text, "{id} ")?;
+    }
+    Ok(())
+}
+
+fn add_blocks(text: &mut String, blocks: &[Vec<ModuleId>]) -> Result<(), AllocError> {
+    for block in blocks {
+        text.push('[')?;
+        add_ids(text, block)?;
+        text.push(']')?;
+    }
+    Ok(())
+}
+
+fn listed(alloc: Global, graph: &ModuleGraph, ask: Ask) -> Result<String, AllocError> {
+    let mut text = String::new(alloc);
+    match ask {
+        Ask::Requests(module) => add_ids(&mut text, graph.deps_of(id(module)))?,
+        Ask::Closure(module) => add_ids(&mut text, &closure(alloc, graph, id(module))?)?,
+        Ask::Order(module) => add_ids(&mut text, &order(alloc, graph, id(module))?)?,
+        Ask::Cycles(module) => add_blocks(&mut text, &cycles(alloc, graph, id(module))?)?,
+    }
+    Ok(text)
+}
+
+// Adds what a row has to an empty graph, and asks it.
+fn expect_lists(
+    rt: &impl Abort,
+    alloc: Global,
+    graph: &mut ModuleGraph,
+    row: &Modules,
+) -> Result<(), AllocError> {
+    add_modules(graph, row)?;
+    for (ask, wanted) in row.wanted {
+        let text = listed(alloc, graph, *ask)?;
+        assert_eq!(rt; text.as_str(), *wanted, "{}", row.name);
+    }
+    Ok(())
+}
+
+fn expect_modules_of(rt: &impl Abort, alloc: Global, row: &Modules) -> Result<(), AllocError> {
+    let mut graph = ModuleGraph::new(alloc);
+    expect_lists(rt, alloc, &mut graph, row)
+}
+
+#[test]
+fn modules_are_listed(rt: HostRuntime) -> Result<(), Fail> {
+    for row in &MODULES {
+        expect_modules_of(&rt, rt.alloc(), row)?;
+    }
+    Ok(())
+}
+
+fn add_statements(graph: &mut StmtDepGraph, row: &Statements) -> Result<(), AllocError> {
+    for edge in row.edges {
+        graph.add_edge(edge.0, edge.1, edge.2)?;
+    }
+    for node in row.nodes {
+        graph.add_node(*node)?;
+    }
+    Ok(())
+}
+
+fn answer(alloc: Global, graph: &StmtDepGraph, question: Question) -> Result<String, AllocError> {
+    let mut text = String::new(alloc);
+    match question {
+        Question::Count => write!(text, "{}", graph.node_count())?,
+        Question::Path(from, to) => write!(text, "{}", graph.has_a_path(from, to))?,
+        Question::Weight(from, to) => match graph.edge_weight(from, to) {
+            Some(Always) => text.push_str("Always")?,
+            Some(Maybe) => text.push_str("Maybe")?,
+            None => text.push_str("none")?,
+        },
+        Question::Neighbors(node, direction) => {
+            for neighbor in graph.neighbors_directed(node, direction)? {
+                write!(text, "{neighbor} ")?;
+            }
+        }
+    }
+    Ok(text)
+}
+
+// Adds what a row has to an empty graph, and asks it.
+fn expect_answers(
+    rt: &impl Abort,
+    alloc: Global,
+    graph: &mut StmtDepGraph,
+    row: &Statements,
+) -> Result<(), AllocError> {
+    add_statements(graph, row)?;
+    for (question, wanted) in row.wanted {
+        let text = answer(alloc, graph, *question)?;
+        assert_eq!(rt; text.as_str(), *wanted, "{}", row.name);
+    }
+    Ok(())
+}
+
+fn expect_statements(rt: &impl Abort, alloc: Global, row: &Statements) -> Result<(), AllocError> {
     let mut graph = StmtDepGraph::new(alloc);
-    for edge in edges {
-        graph.add_edge(edge.0, edge.1, Required::Always)?;
+    expect_answers(rt, alloc, &mut graph, row)
+}
+
+#[test]
+fn statements_are_found(rt: HostRuntime) -> Result<(), Fail> {
+    for row in &STATEMENTS {
+        expect_statements(&rt, rt.alloc(), row)?;
     }
-    Ok(graph)
-}
-
-fn expect_modules(rt: &impl Abort, ids: &[ModuleId], want: &[u32]) {
-    assert_eq!(rt; ids.len(), want.len());
-    for (id, number) in ids.iter().zip(want) {
-        assert_eq!(rt; id.as_u32(), *number);
-    }
-}
-
-fn expect_block(rt: &impl Abort, blocks: &[Vec<ModuleId>], at: usize, want: &[u32]) {
-    assert!(rt; at < blocks.len());
-    expect_modules(rt, blocks[at].as_slice(), want);
-}
-
-#[test]
-fn an_application_is_one_block(rt: HostRuntime) -> Result<(), Fail> {
-    let graph = modules(rt.alloc(), &APPLICATION)?;
-    let blocks = cycles(rt.alloc(), &graph, id(MAIN))?;
-    assert_eq!(rt; blocks.len(), 1);
-    expect_block(
-        &rt,
-        blocks.as_slice(),
-        0,
-        &[DATA, PAGE1, PAGE2, ROUTER, MAIN],
-    );
     Ok(())
 }
 
-#[test]
-fn an_application_is_listed_from_its_data_to_its_entry(rt: HostRuntime) -> Result<(), Fail> {
-    let graph = modules(rt.alloc(), &APPLICATION)?;
-    let list = order(rt.alloc(), &graph, id(MAIN))?;
-    expect_modules(&rt, list.as_slice(), &[DATA, PAGE1, PAGE2, ROUTER, MAIN]);
-    Ok(())
-}
-
-#[test]
-fn dependencies_are_listed_first(rt: HostRuntime) -> Result<(), Fail> {
-    let graph = modules(rt.alloc(), &[(0, 2), (0, 1), (1, 3), (2, 3), (9, 0)])?;
-    let list = order(rt.alloc(), &graph, id(0))?;
-    expect_modules(&rt, list.as_slice(), &[3, 2, 1, 0]);
-    Ok(())
-}
-
-#[test]
-fn a_closure_is_ascending(rt: HostRuntime) -> Result<(), Fail> {
-    let graph = modules(rt.alloc(), &[(5, 9), (9, 2), (2, 7), (8, 5)])?;
-    let all = closure(rt.alloc(), &graph, id(5))?;
-    expect_modules(&rt, all.as_slice(), &[2, 5, 7, 9]);
-    Ok(())
-}
-
-#[test]
-fn blocks_stand_in_the_order_of_their_last_members(rt: HostRuntime) -> Result<(), Fail> {
-    let graph = modules(rt.alloc(), &[(0, 1), (1, 0), (0, 2), (2, 3), (3, 2)])?;
-    let blocks = cycles(rt.alloc(), &graph, id(0))?;
-    assert_eq!(rt; blocks.len(), 2);
-    expect_block(&rt, blocks.as_slice(), 0, &[3, 2]);
-    expect_block(&rt, blocks.as_slice(), 1, &[1, 0]);
-    Ok(())
-}
-
-#[test]
-fn a_module_that_requests_itself_is_a_block(rt: HostRuntime) -> Result<(), Fail> {
-    let graph = modules(rt.alloc(), &[(0, 1), (1, 1), (0, 2)])?;
-    let blocks = cycles(rt.alloc(), &graph, id(0))?;
-    assert_eq!(rt; blocks.len(), 1);
-    expect_block(&rt, blocks.as_slice(), 0, &[1]);
-    Ok(())
-}
-
-#[test]
-fn modules_on_no_cycle_are_no_block(rt: HostRuntime) -> Result<(), Fail> {
-    let graph = modules(rt.alloc(), &[(0, 1), (1, 2), (0, 2)])?;
-    let blocks = cycles(rt.alloc(), &graph, id(0))?;
-    assert_eq!(rt; blocks.len(), 0);
-    Ok(())
-}
-
-#[test]
-fn requests_keep_the_order_of_adding_each_once(rt: HostRuntime) -> Result<(), Fail> {
-    let graph = modules(rt.alloc(), &[(0, 3), (0, 1), (1, 2), (0, 3), (0, 2)])?;
-    expect_modules(&rt, graph.deps_of(id(0)), &[3, 1, 2]);
-    expect_modules(&rt, graph.deps_of(id(3)), &[]);
-    Ok(())
-}
-
-#[test]
-fn a_module_that_is_added_or_is_not_there_requests_nothing(rt: HostRuntime) -> Result<(), Fail> {
-    let mut graph = ModuleGraph::new(rt.alloc());
-    graph.add_node(id(7))?;
-    expect_modules(&rt, graph.deps_of(id(7)), &[]);
-    expect_modules(&rt, graph.deps_of(id(8)), &[]);
-    let list = order(rt.alloc(), &graph, id(7))?;
-    expect_modules(&rt, list.as_slice(), &[7]);
-    Ok(())
-}
-
-#[test]
-fn a_path_takes_edges_that_were_added_in_any_order(rt: HostRuntime) -> Result<(), Fail> {
-    let graph = statements(rt.alloc(), &[(2, 3), (0, 1), (1, 2)])?;
-    assert!(rt; graph.has_a_path(0, 3));
-    assert!(rt; !graph.has_a_path(3, 0));
-    assert!(rt; !graph.has_a_path(0, 0));
-    Ok(())
-}
-
-/// A chain of edges from each of `count` nodes to the next, in one of two orders of adding.
-fn chain(alloc: Global, count: usize, from_last: bool) -> Result<StmtDepGraph, AllocError> {
-    let mut graph = StmtDepGraph::new(alloc);
-    graph.add_node(0)?;
-    for at in 1..count {
-        let end = if from_last { count - at } else { at };
-        graph.add_edge(end - 1, end, Required::Always)?;
-    }
-    Ok(graph)
-}
-
-/// Of `count` nodes each leads to those after it, and to no other.
-fn expect_ascending_paths(rt: &impl Abort, graph: &StmtDepGraph, count: usize) {
+/// Of `count` nodes each leads to those after it, and in a ring to each.
+fn expect_paths(rt: &impl Abort, graph: &StmtDepGraph, count: usize, is_ring: bool) {
     for from in 0..count {
         for to in 0..count {
-            assert_eq!(rt; graph.has_a_path(from, to), from < to);
+            assert!(rt; graph.has_a_path(from, to) == (is_ring || from < to));
         }
     }
-}
-
-#[test]
-fn in_a_chain_each_node_leads_to_those_after_it(rt: HostRuntime) -> Result<(), Fail> {
-    for count in [1usize, 63, 64, 65, 129, 200] {
-        for from_last in [true, false] {
-            let graph = chain(rt.alloc(), count, from_last)?;
-            assert_eq!(rt; graph.node_count(), count);
-            expect_ascending_paths(&rt, &graph, count);
-        }
-    }
-    Ok(())
-}
-
-#[test]
-fn in_a_ring_each_node_leads_to_each(rt: HostRuntime) -> Result<(), Fail> {
-    let mut ring = chain(rt.alloc(), 65, false)?;
-    ring.add_edge(64, 0, Required::Maybe)?;
-    for from in 0..65usize {
-        for to in 0..65usize {
-            assert!(rt; ring.has_a_path(from, to));
-        }
-    }
-    Ok(())
-}
-
-#[test]
-fn the_largest_number_is_a_node_like_any_other(rt: HostRuntime) -> Result<(), Fail> {
-    let mut graph = StmtDepGraph::new(rt.alloc());
-    graph.add_node(usize::MAX)?;
-    graph.add_node(0)?;
-    assert_eq!(rt; graph.node_count(), 2);
-    assert!(rt; !graph.has_a_path(0, usize::MAX));
-    assert!(rt; !graph.has_a_path(usize::MAX, 0));
-    Ok(())
-}
-
-#[test]
-fn always_stays_over_maybe(rt: HostRuntime) -> Result<(), Fail> {
-    let mut graph = statements(rt.alloc(), &[(0, 1)])?;
-    graph.add_edge(0, 1, Required::Maybe)?;
-    assert_eq!(rt; graph.edge_weight(0, 1), Some(Required::Always));
-    assert_eq!(rt; graph.edge_weight(1, 0), None);
-    Ok(())
-}
-
-#[test]
-fn maybe_becomes_always(rt: HostRuntime) -> Result<(), Fail> {
-    let mut graph = StmtDepGraph::new(rt.alloc());
-    graph.add_edge(0, 1, Required::Maybe)?;
-    assert_eq!(rt; graph.edge_weight(0, 1), Some(Required::Maybe));
-    graph.add_edge(0, 1, Required::Always)?;
-    assert_eq!(rt; graph.edge_weight(0, 1), Some(Required::Always));
-    Ok(())
-}
-
-#[test]
-fn dependencies_are_given_ascending(rt: HostRuntime) -> Result<(), Fail> {
-    let graph = statements(rt.alloc(), &[(4, 9), (4, 1), (2, 4), (4, 6)])?;
-    let ends = graph.neighbors_directed(4, EdgeDirection::Outgoing)?;
-    assert_eq!(rt; ends.as_slice(), [1usize, 6, 9].as_slice());
-    Ok(())
-}
-
-#[test]
-fn dependents_are_given_ascending(rt: HostRuntime) -> Result<(), Fail> {
-    let graph = statements(rt.alloc(), &[(9, 4), (1, 4), (4, 2), (6, 4)])?;
-    let starts = graph.neighbors_directed(4, EdgeDirection::Incoming)?;
-    assert_eq!(rt; starts.as_slice(), [1usize, 6, 9].as_slice());
-    Ok(())
-}
-
-#[test]
-fn a_node_that_is_not_there_has_no_neighbors(rt: HostRuntime) -> Result<(), Fail> {
-    let graph = statements(rt.alloc(), &[(0, 1)])?;
-    let ends = graph.neighbors_directed(5, EdgeDirection::Outgoing)?;
-    assert_eq!(rt; ends.len(), 0);
-    let starts = graph.neighbors_directed(5, EdgeDirection::Incoming)?;
-    assert_eq!(rt; starts.len(), 0);
-    Ok(())
-}
-
-#[test]
-fn each_node_counts_once(rt: HostRuntime) -> Result<(), Fail> {
-    let mut graph = statements(rt.alloc(), &[(3, 4), (4, 3), (3, 3)])?;
-    graph.add_node(4)?;
-    graph.add_node(5)?;
-    assert_eq!(rt; graph.node_count(), 3);
-    Ok(())
 }
 
 /// Makes a chain of statements longer. Where the memory is refused, the chain stands as it was, and
@@ -271,12 +338,23 @@ fn lengthen(
     last: usize,
     next: usize,
 ) -> Result<(), AllocError> {
-    if graph.add_edge(last, next, Required::Always).is_err() {
+    if graph.add_edge(last, next, Always).is_err() {
         assert_eq!(rt; graph.node_count(), next);
         assert_eq!(rt; graph.edge_weight(last, next), None);
-        expect_ascending_paths(rt, graph, next);
-        graph.add_edge(last, next, Required::Always)?;
+        expect_paths(rt, graph, next, false);
+        graph.add_edge(last, next, Always)?;
     }
+    Ok(())
+}
+
+#[test]
+fn in_a_ring_each_node_leads_to_each(rt: HostRuntime) -> Result<(), Fail> {
+    let mut ring = StmtDepGraph::new(rt.alloc());
+    for last in 0..64usize {
+        lengthen(&rt, &mut ring, last, last + 1)?;
+    }
+    ring.add_edge(64, 0, Maybe)?;
+    expect_paths(&rt, &ring, 65, true);
     Ok(())
 }
 
@@ -290,8 +368,15 @@ fn a_refused_growth_leaves_statements_as_they_were(rt: HostRuntime) -> Result<()
     for last in 0..70usize {
         lengthen(&rt, &mut graph, last, last + 1)?;
     }
-    expect_ascending_paths(&rt, &graph, 71);
+    expect_paths(&rt, &graph, 71, false);
     Ok(())
+}
+
+fn expect_modules(rt: &impl Abort, ids: &[ModuleId], want: &[u32]) {
+    assert_eq!(rt; ids.len(), want.len());
+    for (id, number) in ids.iter().zip(want) {
+        assert_eq!(rt; id.as_u32(), *number);
+    }
 }
 
 /// Each module up to `last` requests the next one alone, and `last` requests nothing.

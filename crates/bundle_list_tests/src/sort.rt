@@ -3,7 +3,6 @@
 
 use bundle_sort::{Dependency, SortItem, sort_items};
 use std::alloc::{AllocError, Global};
-use std::process::Abort;
 use std::test::Fail;
 
 /// Items and the order that the stack read by its letter gives them.
@@ -20,7 +19,15 @@ struct Row {
 }
 
 /// Items as they stand in bundles.
-static WORKED: [Row; 10] = [
+static WORKED: [Row; 11] = [
+    // No items.
+    Row {
+        modules: &[],
+        free: 0,
+        strong: &[],
+        weak: &[],
+        order: &[],
+    },
     // use(a); | const a = new A(); const b = 1; | use(b); class A {}
     Row {
         modules: &[0, 1, 1, 2, 2],
@@ -359,31 +366,13 @@ fn add_dependencies(
     Ok(())
 }
 
-fn expect_orders(rt: &impl Abort, alloc: Global, rows: &[Row]) -> Result<(), AllocError> {
-    for row in rows {
-        let items = items_of(alloc, row)?;
-        let order = sort_items(alloc, &items)?;
-        assert!(rt; order.as_slice() == row.order);
+#[test]
+fn rows_are_sorted(rt: HostRuntime) -> Result<(), Fail> {
+    for row in WORKED.iter().chain(&RANDOM) {
+        let items = items_of(rt.alloc(), row)?;
+        let order = sort_items(rt.alloc(), &items)?;
+        assert_eq!(rt; order.as_slice(), row.order);
     }
-    Ok(())
-}
-
-#[test]
-fn worked_rows(rt: HostRuntime) -> Result<(), Fail> {
-    expect_orders(&rt, rt.alloc(), &WORKED)?;
-    Ok(())
-}
-
-#[test]
-fn random_rows(rt: HostRuntime) -> Result<(), Fail> {
-    expect_orders(&rt, rt.alloc(), &RANDOM)?;
-    Ok(())
-}
-
-#[test]
-fn no_items(rt: HostRuntime) -> Result<(), Fail> {
-    let order = sort_items(rt.alloc(), &[])?;
-    assert!(rt; order.is_empty());
     Ok(())
 }
 
