@@ -15,7 +15,7 @@ use serde_json::Value;
 use std::alloc::{AllocError, Global};
 use std::cell::{Cell, RefCell};
 use std::test::Fail;
-use swc_bundler::{Bundle, Bundler};
+use swc_bundler::Bundler;
 
 /// `export const x = 1;`
 const A: &str =
@@ -196,98 +196,76 @@ fn an_empty_list_asks_nobody(rt: HostRuntime) -> Result<(), Fail> {
     Ok(())
 }
 
-/// Calls with the entry `main.js`, and what they answer, a line each: `bundle` where it is that of the two modules, or
-/// the number of the refusal and the file; and whom they asked for, and how often the resolver.
-struct Row {
-    name: &'static str,
-    failures: u32,
-    max_modules: u32,
-    calls: u32,
-    wanted: &'static str,
-}
-
-static ROWS: [Row; 4] = [
-    Row {
-        name: "a constant stands before its use",
-        failures: 0,
-        max_modules: 9,
-        calls: 1,
-        wanted: "bundle\n main.js a.js, 1",
-    },
-    Row {
-        name: "what is kept is not asked for again",
-        failures: 0,
-        max_modules: 9,
-        calls: 2,
-        wanted: "bundle\nbundle\n main.js a.js, 1",
-    },
-    Row {
-        name: "no more modules are kept than allowed",
-        failures: 0,
-        max_modules: 1,
-        calls: 2,
-        wanted: "4 a.js\n4 a.js\n main.js, 1",
-    },
-    Row {
-        name: "a loader that fails once is asked again",
-        failures: 1,
-        max_modules: 9,
-        calls: 2,
-        wanted: "1 a.js\nbundle\n main.js a.js a.js, 1",
-    },
-];
-
-// Adds what a call answered.
-fn add_answer(
-    alloc: Global,
-    text: &mut String,
-    answer: &Result<Vec<Bundle>, Error>,
-) -> Result<(), AllocError> {
-    match answer {
-        Ok(bundles) => {
-            let written = bundles_text(alloc, bundles.as_slice())?;
-            let is_wanted = written.as_str() == BUNDLE;
-            text.push_str(if is_wanted {
-                "bundle"
-            } else {
-                written.as_str()
-            })?;
-        }
-        Err(Error::Load { file }) => write!(text, "1 {file}")?,
-        Err(Error::TooManyModules { file }) => write!(text, "4 {file}")?,
-        Err(_) => text.push_str("another refusal")?,
-    }
-    text.push_str("\n")
-}
-
-// What the calls of a row answer.
-fn answered(alloc: Global, row: &Row) -> Result<String, AllocError> {
-    let shelf = Shelf::new(alloc, row.failures);
+#[test]
+fn a_constant_stands_before_its_use(rt: HostRuntime) -> Result<(), Fail> {
+    let shelf = Shelf::new(rt.alloc(), 0);
     let paths = Paths {
         asked: Cell::new(0),
     };
-    let hook = Box::new(alloc, NoProperties)?;
-    let config = settings(alloc, row.max_modules);
-    let mut bundler = Bundler::new(alloc, &shelf, &paths, config, hook);
-    let mut text = String::new(alloc);
-    for _ in 0..row.calls {
-        let answer = bundler.bundle(alloc, entries(alloc)?);
-        add_answer(alloc, &mut text, &answer)?;
-    }
-    let asked = shelf.asked()?;
-    let resolved = paths.asked.get();
-    format!(in alloc; "{text}{asked}, {resolved}")
+    let hook = Box::new(rt.alloc(), NoProperties)?;
+    let config = settings(rt.alloc(), 9);
+    let mut bundler = Bundler::new(rt.alloc(), &shelf, &paths, config, hook);
+    let bundles = bundler.bundle(rt.alloc(), entries(rt.alloc())?)?;
+    let text = bundles_text(rt.alloc(), bundles.as_slice())?;
+    assert_eq!(rt; text.as_str(), BUNDLE);
+    assert_eq!(rt; shelf.asked()?.as_str(), " main.js a.js");
+    assert_eq!(rt; paths.asked.get(), 1);
+    Ok(())
 }
 
 #[test]
-fn calls_are_answered(rt: HostRuntime) -> Result<(), Fail> {
-    for row in &ROWS {
-        assert_eq!(rt;
-            answered(rt.alloc(), row)?.as_str(),
-            row.wanted,
-            "{}",
-            row.name
-        );
-    }
+fn what_is_kept_is_not_asked_for_again(rt: HostRuntime) -> Result<(), Fail> {
+    let shelf = Shelf::new(rt.alloc(), 0);
+    let paths = Paths {
+        asked: Cell::new(0),
+    };
+    let hook = Box::new(rt.alloc(), NoProperties)?;
+    let config = settings(rt.alloc(), 9);
+    let mut bundler = Bundler::new(rt.alloc(), &shelf, &paths, config, hook);
+    let _ = bundler.bundle(rt.alloc(), entries(rt.alloc())?)?;
+    let bundles = bundler.bundle(rt.alloc(), entries(rt.alloc())?)?;
+    let text = bundles_text(rt.alloc(), bundles.as_slice())?;
+    assert_eq!(rt; text.as_str(), BUNDLE);
+    assert_eq!(rt; shelf.asked()?.as_str(), " main.js a.js");
+    assert_eq!(rt; paths.asked.get(), 1);
+    Ok(())
+}
+
+#[test]
+fn no_more_modules_are_kept_than_allowed(rt: HostRuntime) -> Result<(), Fail> {
+    let shelf = Shelf::new(rt.alloc(), 0);
+    let paths = Paths {
+        asked: Cell::new(0),
+    };
+    let hook = Box::new(rt.alloc(), NoProperties)?;
+    let config = settings(rt.alloc(), 1);
+    let mut bundler = Bundler::new(rt.alloc(), &shelf, &paths, config, hook);
+    let file = real(rt.alloc(), "a.js")?;
+    let first = bundler.bundle(rt.alloc(), entries(rt.alloc())?);
+    assert!(rt; matches!(&first, Err(Error::TooManyModules { file: named }) if *named == file));
+    assert_eq!(rt; shelf.asked()?.as_str(), " main.js");
+    let second = bundler.bundle(rt.alloc(), entries(rt.alloc())?);
+    assert!(rt; matches!(&second, Err(Error::TooManyModules { file: named }) if *named == file));
+    assert_eq!(rt; shelf.asked()?.as_str(), " main.js");
+    Ok(())
+}
+
+#[test]
+fn a_loader_that_fails_once_is_asked_again(rt: HostRuntime) -> Result<(), Fail> {
+    let shelf = Shelf::new(rt.alloc(), 1);
+    let paths = Paths {
+        asked: Cell::new(0),
+    };
+    let hook = Box::new(rt.alloc(), NoProperties)?;
+    let config = settings(rt.alloc(), 9);
+    let mut bundler = Bundler::new(rt.alloc(), &shelf, &paths, config, hook);
+    let file = real(rt.alloc(), "a.js")?;
+    let first = bundler.bundle(rt.alloc(), entries(rt.alloc())?);
+    assert!(rt; matches!(&first, Err(Error::Load { file: named }) if *named == file));
+    let bundles = bundler.bundle(rt.alloc(), entries(rt.alloc())?)?;
+    let text = bundles_text(rt.alloc(), bundles.as_slice())?;
+    assert_eq!(rt; text.as_str(), BUNDLE);
+    assert_eq!(rt; shelf.asked()?.as_str(), " main.js a.js a.js");
+    assert_eq!(rt; paths.asked.get(), 1);
     Ok(())
 }

@@ -3,6 +3,10 @@
 #![tactic(auto)]
 
 #[cfg(test)]
+mod equality;
+#[cfg(test)]
+mod forms;
+#[cfg(test)]
 mod leaves;
 #[cfg(test)]
 mod lists;
