@@ -1,9 +1,8 @@
 -- The items of a list, one range more.
-use Rattle.std.proofs.Common.{◌≡◌, ℕ, zero, suc, ◌+◌, ◌-◌, ◌<◌, ◌≤◌, ◌⊎◌, Option, Some, None, List, [], ◌∷◌, ◌++◌, length, get_or, map, take, drop, slice_get, min, cond, eqb, Bool, true, false, All, refl, sym, ap, ◌∙◌, subst, inl, inr, append_assoc, append-nil, arith}
-use Rattle.std.specs.List.{cons_option, filter_map, slice_range}
-use Rattle.std.proofs.lemmas.Bool.{cases_lt}
+use Rattle.std.proofs.Common.{◌≡◌, ℕ, suc, ◌+◌, ◌-◌, ◌<◌, ◌⊎◌, Option, Some, None, List, [], ◌∷◌, ◌++◌, length, get_or, map, take, drop, slice_get, cond, eqb, Bool, true, false, All, refl, sym, ap, ◌∙◌, subst, inl, inr, append_assoc, append-nil, arith}
+use Rattle.std.specs.List.{filter_map, slice_range}
 use Rattle.std.proofs.lemmas.Option.{none-some, same_Some, slice_get_within}
-use Rattle.std.proofs.lemmas.List.{map-append, take_more, take_all, drop_all, length-take-le, length-drop, length-map, take-map, drop-map}
+use Rattle.std.proofs.lemmas.List.{map-append, take_more, length-take-le, length-map, take-map, drop-map}
 use Rattle.std.proofs.lemmas.List.Elements.{All-nil, All-append}
 use Rattle.bundle_piece.specs.Item.{Item}
 use Rattle.bundle_places.specs.Places.{occurrences}

@@ -1,7 +1,7 @@
 -- The identifiers of an item that are seen, one after the other.
-use Rattle.std.proofs.Common.{◌≡◌, ℕ, zero, suc, ◌+◌, ◌&&◌, ◌||◌, ◌<◌, Bool, true, not, Option, Some, None, List, [], ◌∷◌, ◌++◌, length, map, take, slice_get, fold, All, refl, sym, ap, ◌∙◌, subst, arith}
+use Rattle.std.proofs.Common.{◌≡◌, ℕ, zero, suc, ◌+◌, ◌&&◌, ◌||◌, ◌<◌, Bool, Option, Some, None, List, [], ◌∷◌, ◌++◌, map, take, slice_get, fold, All, refl, sym, ap, ◌∙◌, arith}
 use Rattle.std.specs.List.{cons_option, filter_map}
-use Rattle.std.specs.Option.{option_map, option_and_then, option_to_list}
+use Rattle.std.specs.Option.{option_map, option_to_list}
 use Rattle.std.proofs.lemmas.Option.{none-some, same_Some}
 use Rattle.std.proofs.lemmas.List.{map-append}
 use Rattle.std.proofs.lemmas.List.Elements.{filter_map-append, All-nil, All-cons}
@@ -9,7 +9,7 @@ use Rattle.bundle_piece.specs.declared.piece.Role.{Role}
 use Rattle.bundle_piece.specs.declared.piece.Role.TheVariants as r
 use Rattle.bundle_piece.specs.Item as h
 use Rattle.bundle_piece.specs.Item.{Item}
-use Rattle.bundle_places.specs.Places.{Around, Spot, past, start, spot_before, in_field, is_binding, Occurrence, occurrence_of, occurrences_from, occurrences}
+use Rattle.bundle_places.specs.Places.{Spot, past, start, spot_before, in_field, is_binding, Occurrence, occurrence_of, occurrences_from, occurrences}
 use Rattle.bundle_places.specs.Deferred.{runs_later}
 use Rattle.bundle_terms.specs.Order.{is_assigned, is_in_argument, roots_chain, is_prototype_read, is_in_assign_of, has_no_value}
 use Rattle.bundle_mentions.specs.declared.seen.Seen.{Seen}

@@ -1,5 +1,5 @@
 -- The items that are cut off a list, and the identifiers that are seen in them.
-use Rattle.std.specs.Prelude.{ℕ, List, Option, Some, None, map, filter_map, option_and_then, slice_range}
+use Rattle.std.specs.Prelude.{ℕ, List, Option, None, map, filter_map, option_and_then, slice_range}
 use Rattle.bundle_piece.specs.declared.piece.Role.{Role}
 use Rattle.bundle_piece.specs.declared.piece.Role.TheVariants as r
 use Rattle.bundle_piece.specs.Item.{Item}

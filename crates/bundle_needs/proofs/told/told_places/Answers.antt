@@ -1,8 +1,8 @@
-use Rattle.std.proofs.Common.{◌≡◌, List, length, get_or, map, sym, ap, ◌∙◌, arith}
+use Rattle.std.proofs.Common.{◌≡◌, List, length, map, sym, ap, ◌∙◌, arith}
 use Rattle.std.proofs.lemmas.List.{length-map}
 use Rattle.bundle_piece.specs.Item.{item_of}
 use Rattle.bundle_denote.specs.declared.table.Denoted.{Denoted}
-use Rattle.bundle_needs.specs.Told.{no_told, told_in}
+use Rattle.bundle_needs.specs.Told.{told_in}
 use Rattle.bundle_needs.proofs.ToldLemmas.{told_all}
 use Rattle.bundle_needs.proofs.told.told_places.Goals as goal
 

@@ -3,7 +3,7 @@ use Rattle.std.specs.Option.{option_map, option_to_list}
 use Rattle.std.proofs.lemmas.Option.{slice_get-map, slice_get_read}
 use Rattle.std.proofs.lemmas.List.{length-map, take_all}
 use Rattle.bundle_piece.specs.Item.{Item, item_of}
-use Rattle.bundle_places.specs.Places.{Around, Spot, Occurrence, past, path_past, occurrence_of, occurrences, spot_before}
+use Rattle.bundle_places.specs.Places.{Spot, path_past, occurrence_of, occurrences, spot_before}
 use Rattle.bundle_places.proofs.PlacesLemmas.{spot_before-next}
 use Rattle.bundle_mentions.specs.declared.seen.Seen.{Seen}
 use Rattle.bundle_needs.specs.declared.spot.Frame.{Frame}
