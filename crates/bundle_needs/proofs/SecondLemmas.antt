@@ -129,17 +129,7 @@ module _ (items : List Item) where
   property_by None p = None
   property_by (Some x) p = cond (is_member_item x) (word_at items (second_of items p)) None
 
-  past : (n : ℕ) (xs : List Item) → slice_get xs n ≡ None → drop n xs ≡ []
-  past zero [] f = refl
-  past zero (x ∷ xs) f = absurd (none-some x (sym f))
-  past (suc n) [] f = refl
-  past (suc n) (x ∷ xs) f = past n xs f
-
-  -- nothing is in the second field past the end
-  pub nothing_past : (p : ℕ) → slice_get items p ≡ None → is_nothing (in_field 1 (node_at items p)) ≡ true
-  nothing_past p e = ap (λ (l : List Item). is_nothing (in_field 1 (first_or_nothing (side_by_side zero l)))) (past p items e)
-
-  -- whether something is there, by the first element
+  -- whether nothing is there, by the first element
   pub nothing_is : (p : ℕ) (x : Item) → slice_get items p ≡ Some x → is_nothing (in_field 1 (node_at items p)) ≡ nothing_by x (second_of items p)
   nothing_is p (h.Open field head) e = nothing_second p field head e
   nothing_is p (h.Ident field symbol ctxt role) e = ap (λ (l : List Item). is_nothing (in_field 1 (first_or_nothing (side_by_side zero l)))) (drop_next p items (h.Ident field symbol ctxt role) e)
@@ -148,6 +138,12 @@ module _ (items : List Item) where
 
   first_none : (p : ℕ) → slice_get items p ≡ None → property_of (node_at items p) ≡ None
   first_none p e = ap (λ (l : List Item). property_of (first_or_nothing (side_by_side zero l))) (past p items e)
+    where
+      past : (n : ℕ) (xs : List Item) → slice_get xs n ≡ None → drop n xs ≡ []
+      past zero [] f = refl
+      past zero (x ∷ xs) f = absurd (none-some x (sym f))
+      past (suc n) [] f = refl
+      past (suc n) (x ∷ xs) f = past n xs f
 
   pub property_is : (p : ℕ) (o : Option Item) → slice_get items p ≡ o → property_of (node_at items p) ≡ property_by o p
   property_is p None e = first_none p e

@@ -1,5 +1,5 @@
 -- The identifiers of an item that are seen, one after the other.
-use Rattle.std.proofs.Common.{◌≡◌, ℕ, zero, suc, ◌+◌, ◌&&◌, ◌||◌, ◌<◌, Bool, Option, Some, None, List, [], ◌∷◌, ◌++◌, map, take, slice_get, fold, All, refl, sym, ap, ◌∙◌, arith}
+use Rattle.std.proofs.Common.{◌≡◌, ℕ, zero, suc, ◌+◌, ◌<◌, Option, Some, None, List, [], ◌∷◌, ◌++◌, map, take, slice_get, fold, All, refl, sym, ap, ◌∙◌, arith}
 use Rattle.std.specs.List.{cons_option, filter_map}
 use Rattle.std.specs.Option.{option_map, option_to_list}
 use Rattle.std.proofs.lemmas.Option.{none-some, same_Some}
@@ -9,9 +9,7 @@ use Rattle.bundle_piece.specs.declared.piece.Role.{Role}
 use Rattle.bundle_piece.specs.declared.piece.Role.TheVariants as r
 use Rattle.bundle_piece.specs.Item as h
 use Rattle.bundle_piece.specs.Item.{Item}
-use Rattle.bundle_places.specs.Places.{Spot, past, start, spot_before, in_field, is_binding, Occurrence, occurrence_of, occurrences_from, occurrences}
-use Rattle.bundle_places.specs.Deferred.{runs_later}
-use Rattle.bundle_terms.specs.Order.{is_assigned, is_in_argument, roots_chain, is_prototype_read, is_in_assign_of, has_no_value}
+use Rattle.bundle_places.specs.Places.{Spot, past, start, spot_before, in_field, Occurrence, occurrence_of, occurrences_from, occurrences}
 use Rattle.bundle_mentions.specs.declared.seen.Seen.{Seen}
 use Rattle.bundle_mentions.specs.Seen.{seen_of, seen_as}
 use Rattle.bundle_needs.specs.declared.told.Told.{Told}
@@ -53,24 +51,6 @@ module _ (number : ℕ) (told : ℕ → Told) (item : List Item) where
       ∙ ap (λ (l : List Seen). seen_among number told item (occurrences (take k item)) ++ l) (among-one (occurrence_of (spot_before item k) x))))
 
   -- ---- one identifier
-  abbrev seen_with : ℕ → Bool → Bool → Bool → Bool → Bool → Seen
-  seen_with binding d l f s e = record { item = number; binding = binding; declares = d; is_later = l; fills = f; sets_up = s; is_empty = e }
-
-  pub seen_same : (binding : ℕ) (o : Occurrence) (d l f s e : Bool)
-      → d ≡ is_binding o.role
-      → l ≡ runs_later o.path
-      → f ≡ (is_assigned o.path || is_in_argument o.path)
-      → s ≡ (roots_chain o.path || (is_prototype_read item o.path && is_in_assign_of (λ place. (told place).is_object) item o.path))
-      → e ≡ (is_binding o.role && has_no_value item o.path)
-      → seen_with binding d l f s e ≡ seen_of number (numbered_mention told item o) binding
-  seen_same binding o d l f s e pd pl pf ps pe =
-      let m = numbered_mention told item o in
-      ap (λ x. seen_with binding x l f s e) pd
-      ∙ (ap (λ x. seen_with binding m.declares x f s e) pl
-      ∙ (ap (λ x. seen_with binding m.declares m.later x s e) pf
-      ∙ (ap (λ x. seen_with binding m.declares m.later (m.assigned || m.argument) x e) ps
-      ∙ ap (λ x. seen_with binding m.declares m.later (m.assigned || m.argument) (m.chain || m.prototype) x) pe)))
-
   abbrev occurring : Spot → ℕ → List ℕ → ℕ → Role → Occurrence
   occurring at field symbol ctxt role = record { place = at.place; sym = symbol; ctxt = ctxt; role = role; path = in_field field at.path }
 
@@ -80,13 +60,7 @@ module _ (number : ℕ) (told : ℕ → Told) (item : List Item) where
   top_here : (at : Spot) (place : ℕ) (top : Option ℕ) (o : Occurrence) → at.place ≡ place → top ≡ (told place).top → seen_top o top ≡ seen_top o (told at.place).top
   top_here at place top o q e = ap (λ t. seen_top o t) (e ∙ ap (λ p. (told p).top) (sym q))
 
-  -- an identifier that denotes no binding of the top is not seen
-  pub unseen : (at : Spot) (place field : ℕ) (symbol : List ℕ) (ctxt : ℕ) (role : Role) → at.place ≡ place → None ≡ top_in role (told place) → None ≡ seen_by number told item (occurrence_of at (h.Ident field symbol ctxt role))
-  unseen at place field symbol ctxt r.Binding q e = top_here at place None (occurring at field symbol ctxt r.Binding) q e
-  unseen at place field symbol ctxt r.Reference q e = top_here at place None (occurring at field symbol ctxt r.Reference) q e
-  unseen at place field symbol ctxt r.Word q e = refl
-
-  -- and one that denotes one is
+  -- one that denotes a binding of the top
   pub seen_once : (at : Spot) (place field : ℕ) (symbol : List ℕ) (ctxt : ℕ) (role : Role) (binding : ℕ) (one : Seen)
       → at.place ≡ place
       → Some binding ≡ top_in role (told place)

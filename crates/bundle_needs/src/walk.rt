@@ -1,8 +1,8 @@
 //! The identifiers of the items of a list that denote a name of the top.
 
-ghost use Rattle.std.specs.Prelude.{◌≡◌, ◌<◌, ◌++◌, ◌∷◌, List, IfOk, OnOk, drop, length, map, reverse, slice_index_or, slice_range};
+ghost use Rattle.std.specs.Prelude.{◌≡◌, ℕ, ◌<◌, ◌++◌, ◌∷◌, List, IfOk, OnOk, drop, length, map, reverse, slice_index_or, slice_range};
 ghost use Rattle.std.specs.Option.{option_to_list};
-ghost use Rattle.bundle_piece.specs.Item.{item_of};
+ghost use Rattle.bundle_piece.specs.Item.{Item, item_of};
 ghost use Rattle.bundle_places.specs.Places.{Around, outer_path, path_past};
 ghost use Rattle.bundle_mentions.specs.Seen.{seen_from};
 ghost use Rattle.bundle_needs.specs.Cut.{cut_items, seen_of_item};
@@ -11,8 +11,6 @@ ghost use Rattle.bundle_needs.specs.Told.{no_told, told_at};
 ghost use Rattle.bundle_needs.specs.declared.told.Told.{Told as ToldLem};
 ghost use Rattle.bundle_needs.specs.Seconds.{AreSeconds};
 ghost use Rattle.bundle_needs.specs.Open.{AreOpen};
-ghost use Rattle.bundle_piece.specs.Item.{Item};
-ghost use Rattle.std.specs.Prelude.{ℕ};
 
 use crate::needs::ItemRange;
 use crate::seconds::seconds_of;
