@@ -8,10 +8,9 @@ ghost use Rattle.bundle_terms.specs.Order.{group_of};
 ghost use Rattle.bundle_terms.specs.Parts.{tree_of_items};
 ghost use Rattle.bundle_terms.specs.Sorting.{group_of_items};
 ghost use Rattle.bundle_terms.specs.Statements.{top_items};
-ghost use Rattle.bundle_denote.specs.Listed.{IsTable};
+ghost use Rattle.bundle_denote.specs.Listed.{IsOnlyTop, IsTable};
 ghost use Rattle.bundle_mentions.specs.Found.{AreFound};
 ghost use Rattle.bundle_needs.specs.Cut.{cut_items, dependencies_of};
-ghost use Rattle.bundle_needs.specs.Numbered.{IsOnlyTop};
 ghost use Rattle.bundle_needs.specs.Owners.{module_of as module_of_lem, owner_of, sorted_owner_of};
 
 use crate::walk::seen_in;
