@@ -1,3 +1,6 @@
+pub mod OwnerLemmas
+pub mod WeightLemmas
+pub mod GroupLemmas
 pub mod EdgeLemmas
 pub mod JoinLemmas
 pub mod NodeLemmas
