@@ -1,3 +1,4 @@
+pub mod NodesLemmas
 pub mod OwnerLemmas
 pub mod WeightLemmas
 pub mod GroupLemmas

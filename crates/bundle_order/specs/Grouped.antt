@@ -5,7 +5,6 @@ use Rattle.bundle_piece.specs.Item as h
 use Rattle.bundle_piece.specs.Item.{Item, item_of}
 use Rattle.bundle_places.specs.Declarations.{ByContext}
 use Rattle.bundle_places.specs.Scopes.{Top}
-use Rattle.bundle_terms.specs.Nodes.{parts}
 use Rattle.bundle_terms.specs.Order as o
 use Rattle.bundle_terms.specs.Order.{group_of}
 use Rattle.bundle_terms.specs.Parts.{tree_of_items}
@@ -45,7 +44,3 @@ ArePast ranges k n = (i : ℕ) (a : ℕ × ℕ) → i < k → slice_get ranges i
 abbrev pub owner_at : ℕ → ℕ → Option (ℕ × ℕ) → Option ℕ
 owner_at n k None = None
 owner_at n k (Some range) = if nat_le range.0 n && nat_lt n range.1 then Some k else None
-
--- each list is that of one node, so that they are the nodes that stand in their module
-abbrev pub AreWhole : List (List Item) → Type 0
-AreWhole lists = parts (tree_of_items (flat lists)) ≡ lists

@@ -3,9 +3,8 @@
 ghost use Rattle.std.specs.Prelude.{◌≡◌, ◌≢◌, ℕ, ◌<◌, ◌≤◌, ◌↔◌, [], ◌∷◌, IfOk, IfErr, IsTrue, OnOk, Some, length, map, slice_get};
 ghost use Rattle.bundle_piece.specs.Item.{item_of};
 ghost use Rattle.bundle_pieces.specs.Tree.{module_item_items};
-ghost use Rattle.bundle_terms.specs.Sorting.{AreDependencies, IsDependency, owners_by};
-ghost use Rattle.bundle_graph.specs.Statements.{weight};
-ghost use Rattle.bundle_order.specs.Grouped.{AreAscending, ArePast, AreWhole, IsGroup, ends_of, group_placed, owner_at};
+ghost use Rattle.bundle_terms.specs.Sorting.{AreDependencies, owners_by};
+ghost use Rattle.bundle_order.specs.Grouped.{AreAscending, ArePast, IsGroup, ends_of, owner_at};
 ghost use Rattle.bundle_order.specs.Items.{how_required, AreApart, AreBetween, AreNodes, Grows, IsGraphOf};
 
 use crate::group::{Group, lists_of};
@@ -30,8 +29,7 @@ pub fn calc_deps(
 ) -> Result<StmtDepGraph, Error>
     ensures nodes { IfOk result (λ graph. AreNodes graph (length items.now)) }
     ensures edges { IfOk result (λ graph. AreBetween graph (length items.now)) }
-    ensures weights { IfOk result (λ graph. AreAscending (map ends_of modules.now) → (s t : ℕ) → IsDependency (group_placed (map (module_item_items 0) items.now) (owners_by (map ends_of modules.now) 0 (map (module_item_items 0) items.now))) s t (weight graph s t)) }
-    ensures dependencies { IfOk result (λ graph. AreAscending (map ends_of modules.now) → AreWhole (map (module_item_items 0) items.now) → AreDependencies (map (module_item_items 0) items.now) (map ends_of modules.now) graph) }
+    ensures dependencies { IfOk result (λ graph. AreAscending (map ends_of modules.now) → AreDependencies (map (module_item_items 0) items.now) (map ends_of modules.now) graph) }
     ensures refused { IfErr result (λ refusal. refusal ≡ Error.OutOfMemory) }
 {
     let lists = lists_of(alloc, items)?;
