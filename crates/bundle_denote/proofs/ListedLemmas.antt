@@ -17,7 +17,7 @@ use Rattle.bundle_denote.specs.declared.walk.Occurrence.{Occurrence}
 use Rattle.bundle_denote.specs.declared.walk.Walk.{Walk}
 use Rattle.bundle_denote.specs.declared.denote.Search.{Search}
 use Rattle.bundle_denote.specs.Numbers.{Numbered, numbered, AreAround, Keeps}
-use Rattle.bundle_denote.specs.Chains.{scope_at, AreInOrder, IsOnce}
+use Rattle.bundle_denote.specs.Chains.{scope_at, top_number, AreInOrder, IsOnce, IsOnlyTopOf}
 use Rattle.bundle_denote.specs.Bound.{Key, Says}
 use Rattle.bundle_denote.specs.Walked.{IsSeen}
 use Rattle.bundle_denote.specs.Steps.{scopes_of, names_of, IsWhole}
@@ -25,7 +25,7 @@ use Rattle.bundle_denote.specs.Ready.{IsBindingOf, Matches, binding_name}
 use Rattle.bundle_denote.specs.Searched.{keys_of, IsReady, AreOwn, DenotesSeen, IsMade, IsSearchedTo, Searches}
 use Rattle.bundle_denote.specs.Listed.{IsBinding, IsDenoted, IsEntry, Tells, IsTable, copied_from, copy_of}
 use Rattle.bundle_denote.proofs.ZipLemmas.{AllZip-at, AllZip-at_second}
-use Rattle.bundle_denote.proofs.OutwardLemmas.{same-scope}
+use Rattle.bundle_denote.proofs.OutwardLemmas.{same-scope, only-top}
 use Rattle.bundle_denote.proofs.SearchLemmas.{says-keeps, own-keeps}
 use Rattle.bundle_denote.proofs.LoopLemmas.{take-next}
 
@@ -85,6 +85,7 @@ table-whole reading kind items walk of search table whole searched same_scopes s
   denotes = subst (λ (l : List Numbered). AllZip (Tells l table.bindings.items) table.occurrences.items (e.denotations reading kind items)) scopes_are (entries-tell reading kind walk (d.declared reading kind items) (keys_of search) table.bindings.items matches table.occurrences.items walk.occurrences.items (p.occurrences items) searched.made whole.seen);
   declared = λ i x at. let found = searched.own i x at in (found.0, subst (λ (l : List Numbered). IsBinding l table.bindings.items found.0 (o.home_of (d.declared reading kind items) x) x.name) scopes_are (binding-said (scopes_of walk) (names_of walk) table.bindings.items (keys_of search) matches (Some found.0) (e.Bound (o.home_of (d.declared reading kind items) x) x.name) found.2));
   one = λ i j scope name first second. one-binding (scopes_of walk) (names_of walk) table.bindings.items (keys_of search) whole.order whole.once searched.ready.once matches i j scope name (subst (λ (l : List Numbered). IsBinding l table.bindings.items i scope name) (sym scopes_are) first) (subst (λ (l : List Numbered). IsBinding l table.bindings.items j scope name) (sym scopes_are) second);
+  top = subst (λ (l : List Numbered). IsOnlyTopOf l (top_number kind)) scopes_are (subst (λ n. IsOnlyTopOf (scopes_of walk) n) whole.top (only-top (scopes_of walk) walk.top kind whole.order whole.outermost));
 }
   where
     scopes_are : scopes_of walk ≡ map numbered table.scopes.items

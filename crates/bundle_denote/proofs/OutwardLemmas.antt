@@ -6,7 +6,7 @@ use Rattle.std.proofs.lemmas.Bool.{cases_order}
 use Rattle.std.proofs.lemmas.Option.{none-some, same_Some}
 use Rattle.bundle_places.specs.Scopes as s
 use Rattle.bundle_denote.specs.Numbers.{Numbered, AreAround}
-use Rattle.bundle_denote.specs.Chains.{scope_at, outwards, AreInOrder}
+use Rattle.bundle_denote.specs.Chains.{scope_at, outwards, AreInOrder, IsOnlyTopOf}
 
 -- from nothing on there is nothing
 pub outwards-none : (scopes : List Numbered) (more : ℕ) → outwards scopes more None ≡ []
@@ -56,3 +56,18 @@ same-scope scopes ordered i j a b at_i at_j same =
     let one = entry-at scopes i a at_i in
     let two = entry-at scopes j b at_j in
     same-number scopes ordered i j one.0 two.0 one.1 two.1 (ap s.scope_order one.2 ∙ same ∙ sym (ap s.scope_order two.2))
+
+-- the first of the scopes around is that with the number
+first-at : (scopes : List Numbered) (number : ℕ) (scope : s.Scope) (outer : List s.Scope) → AreAround scopes (Some number) (scope ∷ outer) → scope_at scopes number ≡ Some scope
+first-at scopes number scope outer known = ap (option_map (λ (x : Numbered). x.scope)) known.1 ∙ ap (λ x. Some x) known.2
+
+top-at : (scopes : List Numbered) (top : ℕ) (kind : s.ModuleKind) → AreAround scopes (Some top) (s.outermost kind) → scope_at scopes top ≡ Some s.Top
+top-at scopes top s.Es known = first-at scopes top s.Top [] known
+top-at scopes top s.Cjs known = first-at scopes top s.Top (s.Wrapper ∷ []) known
+
+-- the top has one number
+pub only-top : (scopes : List Numbered) (top : ℕ) (kind : s.ModuleKind) → AreInOrder scopes → AreAround scopes (Some top) (s.outermost kind) → IsOnlyTopOf scopes top
+only-top scopes top kind ordered known number scope at = (
+  λ e. same-scope scopes ordered number top scope s.Top at (top-at scopes top kind known) (ap s.scope_order e),
+  λ e. same_Some scope s.Top (sym at ∙ (ap (λ n. scope_at scopes n) e ∙ top-at scopes top kind known)),
+)

@@ -171,6 +171,7 @@ whole-keeps reading kind items old new whole keeps once same_scopes same_top sam
       declared = subst (λ l. AllZip (IsDeclared (scopes_of new) (names_of new)) l all) (sym same_declarations) (subst (λ (t : List Numbered). AllZip (IsDeclared t (names_of new)) old.declarations.items all) (sym same_scopes) (AllZip-weaker (IsDeclared (scopes_of old) (names_of old)) (IsDeclared (scopes_of old) (names_of new)) (λ a b x. record { place = x.place; name = keeps a.name b.name x.name; by = x.by; around = x.around }) old.declarations.items all whole.declared));
       seen = subst (λ l. AllZip (IsSeen (scopes_of new) (names_of new) reading kind all) l (p.occurrences items)) (sym same_occurrences) (subst (λ (t : List Numbered). AllZip (IsSeen t (names_of new) reading kind all) old.occurrences.items (p.occurrences items)) (sym same_scopes) (AllZip-weaker (IsSeen (scopes_of old) (names_of old) reading kind all) (IsSeen (scopes_of old) (names_of new) reading kind all) (λ a b x. record { place = x.place; name = keeps a.name (d.name_of reading b.sym b.ctxt) x.name; around = x.around; declaration = x.declaration; declares = x.declares }) old.occurrences.items (p.occurrences items) whole.seen));
       outermost = subst (λ (t : List Numbered). AreAround t (Some new.top) (s.outermost kind)) (sym same_scopes) (subst (λ n. AreAround (scopes_of old) (Some n) (s.outermost kind)) (sym same_top) whole.outermost);
+      top = same_top ∙ whole.top;
       order = subst AreInOrder (sym same_scopes) whole.order;
       once = once whole.once;
     }

@@ -1,5 +1,5 @@
 -- The scopes of a table by their numbers, and those around one of them.
-use Rattle.std.specs.Prelude.{◌≡◌, ◌<◌, ℕ, zero, suc, Bool as Truth, false, List, [], ◌∷◌, Option, Some, None, option_map, option_and_then, unwrap_or, slice_get, find, length}
+use Rattle.std.specs.Prelude.{◌≡◌, ◌<◌, ◌↔◌, ℕ, zero, suc, Bool as Truth, false, List, [], ◌∷◌, Option, Some, None, option_map, option_and_then, unwrap_or, slice_get, find, length}
 use Rattle.std.specs.List.{AllZip}
 use Rattle.bundle_places.specs.Scopes as s
 use Rattle.bundle_denote.specs.Numbers.{Numbered}
@@ -11,6 +11,15 @@ scope_at scopes number = option_map (λ (x : Numbered). x.scope) (slice_get scop
 -- the number of the scope around it
 abbrev pub outer_at : List Numbered → ℕ → Option ℕ
 outer_at scopes number = option_and_then (λ (x : Numbered). x.outer) (slice_get scopes number)
+
+-- the number of the scope of a module's top
+abbrev pub top_number : s.ModuleKind → ℕ
+top_number s.Es = 0
+top_number s.Cjs = 1
+
+-- the scope with this number is the only one that is the top
+abbrev pub IsOnlyTopOf : List Numbered → ℕ → Type 0
+IsOnlyTopOf scopes top = (number : ℕ) (scope : s.Scope) → scope_at scopes number ≡ Some scope → (scope ≡ s.Top) ↔ (number ≡ top)
 
 -- whether the scope with a number passes a test
 abbrev pub passes : (s.Scope → Truth) → List Numbered → ℕ → Truth

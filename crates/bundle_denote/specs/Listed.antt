@@ -13,7 +13,7 @@ use Rattle.bundle_denote.specs.declared.table.Denotations.{Denotations}
 use Rattle.bundle_denote.specs.declared.table.Doubled.{Doubled}
 use Rattle.bundle_denote.specs.declared.walk.Occurrence.{Occurrence as Seen}
 use Rattle.bundle_denote.specs.Numbers.{Numbered, numbered, AreAround}
-use Rattle.bundle_denote.specs.Chains.{scope_at}
+use Rattle.bundle_denote.specs.Chains.{scope_at, top_number, IsOnlyTopOf}
 use Rattle.bundle_denote.specs.Ready.{binding_name}
 
 -- the binding with this number is that of the name in the scope
@@ -40,12 +40,17 @@ pub record IsEntry (scopes : List Numbered) (reading : Reading) (kind : ModuleKi
 abbrev pub Tells : List Numbered → List Binding → Denoted → e.Denoted → Type 0
 Tells scopes bindings entry denoted = IsDenoted scopes bindings entry.binding denoted
 
--- the table has an entry for each occurrence of a list, in their order, and says what each denotes; each declared name has a binding, and no two bindings are one
+-- the scope with this number is the only one of the table that is the top
+abbrev pub IsOnlyTop : Denotations → ℕ → Type 0
+IsOnlyTop table top = IsOnlyTopOf (map numbered table.scopes.items) top
+
+-- the table has an entry for each occurrence of a list, in their order, and says what each denotes; each declared name has a binding, and no two bindings are one; the top has its number
 pub record IsTable (reading : Reading) (kind : ModuleKind) (items : List Item) (table : Denotations) : Type 0 where
   pub occurrences : AllZip (IsEntry (map numbered table.scopes.items) reading kind) table.occurrences.items (occurrences items)
   pub denotes : AllZip (Tells (map numbered table.scopes.items) table.bindings.items) table.occurrences.items (e.denotations reading kind items)
   pub declared : (i : ℕ) (x : Declared) → slice_get (declared reading kind items) i ≡ Some x → (number : ℕ) × IsBinding (map numbered table.scopes.items) table.bindings.items number (home_of (declared reading kind items) x) x.name
   pub one : (i j : ℕ) (scope : Scope) (name : Name) → IsBinding (map numbered table.scopes.items) table.bindings.items i scope name → IsBinding (map numbered table.scopes.items) table.bindings.items j scope name → i ≡ j
+  pub top : IsOnlyTop table (top_number kind)
 
 -- the place of a declaration and the symbol of its name
 abbrev pub place_and_symbol : Declared → ℕ × List ℕ

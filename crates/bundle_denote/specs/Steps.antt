@@ -13,7 +13,7 @@ use Rattle.bundle_denote.specs.declared.walk.Open.{Open}
 use Rattle.bundle_denote.specs.declared.walk.Walk.{Walk}
 use Rattle.bundle_denote.specs.Kinds.{kind_as, reading_as, kind_named, kind_made, way_in, way_of_variable}
 use Rattle.bundle_denote.specs.Numbers.{Numbered, AreAround, numbered, in_scope, name_as, Keeps}
-use Rattle.bundle_denote.specs.Chains.{AreInOrder, IsOnce}
+use Rattle.bundle_denote.specs.Chains.{AreInOrder, IsOnce, top_number}
 use Rattle.bundle_denote.specs.Walked.{IsAt, IsDeclared, IsSeen, IsDefault, scope_in, declared_as, IsTidy, StaysOnce}
 
 -- the scopes and the names of a walk
@@ -100,5 +100,6 @@ pub record IsWhole (walk : Walk) (reading : d.Reading) (kind : s.ModuleKind) (it
   pub declared : AllZip (IsDeclared (scopes_of walk) (names_of walk)) walk.declarations.items (d.declared reading kind items)
   pub seen : AllZip (IsSeen (scopes_of walk) (names_of walk) reading kind (d.declared reading kind items)) walk.occurrences.items (p.occurrences items)
   pub outermost : AreAround (scopes_of walk) (Some walk.top) (s.outermost kind)
+  pub top : walk.top ≡ top_number kind
   pub order : AreInOrder (scopes_of walk)
   pub once : IsOnce (names_of walk)

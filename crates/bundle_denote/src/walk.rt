@@ -6,6 +6,7 @@ ghost use Rattle.bundle_piece.specs.Item.{Item, head_of, item_of};
 ghost use Rattle.bundle_places.specs.Places.{is_binding};
 ghost use Rattle.bundle_places.specs.Scopes.{block_in as block_in_lem, exports_default};
 ghost use Rattle.bundle_places.specs.Declarations.{is_pattern as is_pattern_lem, is_loop_head as is_loop_head_lem, name_of as name_of_lem};
+ghost use Rattle.bundle_denote.specs.Chains.{top_number};
 ghost use Rattle.bundle_denote.specs.Kinds.{kind_as, kind_made, kind_named, reading_as, scope_as, way_in as way_in_lem, way_of_variable as way_of_variable_lem};
 ghost use Rattle.bundle_denote.specs.Steps.{Begins, Ends, Goes, IsTidyAt, IsWalkAt, IsWhole, Occurs};
 ghost use Rattle.bundle_denote.specs.Numbers.{Keeps, name_as, numbered, in_scope};
@@ -100,6 +101,7 @@ impl<'a> Walk<'a> {
         ensures at { IfOk result (λ walk. (items : List Item) → IsWalkAt walk items 0) }
         ensures tidy { IfOk result (λ walk. IsTidyAt walk 0) }
         ensures kind { IfOk result (λ walk. walk.kind ≡ kind) }
+        ensures top { IfOk result (λ walk. walk.top ≡ top_number (kind_as kind)) }
         ensures reading { IfOk result (λ walk. walk.reading ≡ reading) }
     {
         match kind {
@@ -113,6 +115,7 @@ impl<'a> Walk<'a> {
         ensures at { IfOk result (λ walk. (items : List Item) → IsWalkAt walk items 0) }
         ensures tidy { IfOk result (λ walk. IsTidyAt walk 0) }
         ensures kind { IfOk result (λ walk. walk.kind ≡ ModuleKind.Es) }
+        ensures top { IfOk result (λ walk. walk.top ≡ 0) }
         ensures reading { IfOk result (λ walk. walk.reading ≡ reading) }
     {
         let mut scopes = Vec::new(alloc);
@@ -136,6 +139,7 @@ impl<'a> Walk<'a> {
         ensures at { IfOk result (λ walk. (items : List Item) → IsWalkAt walk items 0) }
         ensures tidy { IfOk result (λ walk. IsTidyAt walk 0) }
         ensures kind { IfOk result (λ walk. walk.kind ≡ ModuleKind.Cjs) }
+        ensures top { IfOk result (λ walk. walk.top ≡ 1) }
         ensures reading { IfOk result (λ walk. walk.reading ≡ reading) }
     {
         let mut scopes = Vec::new(alloc);

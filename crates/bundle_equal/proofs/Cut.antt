@@ -5,6 +5,7 @@ use Rattle.bundle_piece.specs.Item.{Item, Head}
 use Rattle.bundle_piece.specs.declared.piece.Role.{Role}
 use Rattle.std.specs.List.{flat_map}
 use Rattle.bundle_pieces.specs.Tree.{node, option_items}
+use Rattle.bundle_terms.specs.Nodes.{put_first, side_by_side}
 
 abbrev keep : Item → List Item × List Item → List Item × List Item
 keep it cut = (it ∷ cut.0, cut.1)
@@ -25,9 +26,23 @@ cut field (suc depth) (h.Close ∷ rest) = keep h.Close (cut field depth rest)
 abbrev before : List Item → List Item × List Item → List Item × List Item
 before xs cut = (xs ++ cut.0, cut.1)
 
+-- these elements in front of the first of the nodes
+abbrev pub put_all : List Item → List (List Item) → List (List Item)
+put_all [] nodes = nodes
+put_all (x ∷ xs) nodes = put_first x (put_all xs nodes)
+
+put_all-append : (xs ys : List Item) (nodes : List (List Item)) → put_all (xs ++ ys) nodes ≡ put_all xs (put_all ys nodes)
+put_all-append [] ys nodes = refl
+put_all-append (x ∷ xs) ys nodes = ap (put_first x) (put_all-append xs ys nodes)
+
+put_all-cons : (xs node : List Item) (more : List (List Item)) → put_all xs (node ∷ more) ≡ (xs ++ node) ∷ more
+put_all-cons [] node more = refl
+put_all-cons (x ∷ xs) node more = ap (put_first x) (put_all-cons xs node more)
+
 -- whole nodes, identifiers and holes, in whatever field
 pub record Whole (xs : List Item) : Type 0 where
   pub inside : (field depth : ℕ) (rest : List Item) → cut field (suc depth) (xs ++ rest) ≡ before xs (cut field (suc depth) rest)
+  pub nodes : (depth : ℕ) (rest : List Item) → side_by_side (suc depth) (xs ++ rest) ≡ put_all xs (side_by_side (suc depth) rest)
 
 -- the same where all of them stand in one field
 pub record Row (field : ℕ) (xs : List Item) : Type 0 where
@@ -37,7 +52,7 @@ pub record Row (field : ℕ) (xs : List Item) : Type 0 where
 
 pub nothing : (field : ℕ) → Row field []
 unfolding cut
-nothing field = record { whole = record { inside = λ f d rest. refl }; taken = λ rest. refl; left = λ other apart rest ends. ends }
+nothing field = record { whole = record { inside = λ f d rest. refl; nodes = λ d rest. refl }; taken = λ rest. refl; left = λ other apart rest ends. ends }
 
 pub eqb_self : (n : ℕ) → eqb n n ≡ true
 eqb_self n = Prim.search (arith, tests)
@@ -46,6 +61,7 @@ pub whole_and : {xs ys : List Item} → Whole xs → Whole ys → Whole (xs ++ y
 whole_and {xs} {ys} x y = record {
   inside = λ f d rest.
       ap (cut f (suc d)) (append_assoc xs ys rest) ∙ (x.inside f d (ys ++ rest) ∙ (ap (before xs) (y.inside f d rest) ∙ ap (λ list. (list, (cut f (suc d) rest).1)) (sym (append_assoc xs ys (cut f (suc d) rest).0))));
+  nodes = λ d rest. ap (side_by_side (suc d)) (append_assoc xs ys rest) ∙ (x.nodes d (ys ++ rest) ∙ (ap (put_all xs) (y.nodes d rest) ∙ sym (put_all-append xs ys (side_by_side (suc d) rest))));
 }
 
 pub and_then : {field : ℕ} {xs ys : List Item} → Row field xs → Row field ys → Row field (xs ++ ys)
@@ -58,7 +74,7 @@ and_then {field} {xs} {ys} x y = record {
 pub ident : (field : ℕ) (sym : List ℕ) (ctxt : ℕ) (role : Role) → Row field (h.Ident field sym ctxt role ∷ [])
 unfolding cut
 ident field sym ctxt role = record {
-  whole = record { inside = λ f d rest. refl };
+  whole = record { inside = λ f d rest. refl; nodes = λ d rest. refl };
   taken = λ rest. ap (λ same. cond same (keep (h.Ident field sym ctxt role) (cut field 0 rest)) ([], h.Ident field sym ctxt role ∷ rest)) (eqb_self field);
   left = λ other apart rest ends. ap (λ same. cond same (keep (h.Ident field sym ctxt role) (cut other 0 rest)) ([], h.Ident field sym ctxt role ∷ rest)) apart;
 }
@@ -66,7 +82,7 @@ ident field sym ctxt role = record {
 pub hole : (field : ℕ) → Row field (h.Hole field ∷ [])
 unfolding cut
 hole field = record {
-  whole = record { inside = λ f d rest. refl };
+  whole = record { inside = λ f d rest. refl; nodes = λ d rest. refl };
   taken = λ rest. ap (λ same. cond same (keep (h.Hole field) (cut field 0 rest)) ([], h.Hole field ∷ rest)) (eqb_self field);
   left = λ other apart rest ends. ap (λ same. cond same (keep (h.Hole field) (cut other 0 rest)) ([], h.Hole field ∷ rest)) apart;
 }
@@ -78,10 +94,16 @@ deeper head f d field {xs} x rest =
     ∙ (ap (keep (h.Open field head)) (x.inside f d (h.Close ∷ rest))
     ∙ ap (λ list. (h.Open field head ∷ list, (cut f d rest).1)) (sym (append_assoc xs (h.Close ∷ []) (cut f d rest).0)))
 
+deeper_nodes : (head : Head) (d field : ℕ) {xs : List Item} → Whole xs → (rest : List Item) → side_by_side (suc d) (node field head xs ++ rest) ≡ put_all (node field head xs) (side_by_side (suc d) rest)
+deeper_nodes head d field {xs} x rest =
+    ap (λ list. put_first (h.Open field head) (side_by_side (suc (suc d)) list)) (append_assoc xs (h.Close ∷ []) rest)
+    ∙ (ap (put_first (h.Open field head)) (x.nodes (suc d) (h.Close ∷ rest))
+    ∙ ap (put_first (h.Open field head)) (sym (put_all-append xs (h.Close ∷ []) (side_by_side (suc d) rest))))
+
 pub node_row : (field : ℕ) (head : Head) {xs : List Item} → Whole xs → Row field (node field head xs)
 unfolding cut
 node_row field head {xs} x = record {
-  whole = record { inside = λ f d rest. deeper head f (suc d) field x rest };
+  whole = record { inside = λ f d rest. deeper head f (suc d) field x rest; nodes = λ d rest. deeper_nodes head d field x rest };
   taken = λ rest. ap (λ same. cond same (keep (h.Open field head) (cut field 1 ((xs ++ h.Close ∷ []) ++ rest))) ([], node field head xs ++ rest)) (eqb_self field) ∙ deeper head field 0 field x rest;
   left = λ other apart rest ends. ap (λ same. cond same (keep (h.Open field head) (cut other 1 ((xs ++ h.Close ∷ []) ++ rest))) ([], node field head xs ++ rest)) apart;
 }
@@ -126,18 +148,25 @@ first_of field (h.Close ∷ rest) = (h.Close ∷ [], rest)
 -- one node, identifier or hole
 pub record Single (xs : List Item) : Type 0 where
   pub first : (field : ℕ) (rest : List Item) → cut field 0 rest ≡ ([], rest) → first_of field (xs ++ rest) ≡ (xs, rest)
+  pub beside : (rest : List Item) → side_by_side zero (xs ++ rest) ≡ xs ∷ side_by_side zero rest
 
 pub single_ident : (f : ℕ) (sym : List ℕ) (ctxt : ℕ) (role : Role) → Single (h.Ident f sym ctxt role ∷ [])
 unfolding first_of
-single_ident f sym ctxt role = record { first = λ field rest ends. refl }
+single_ident f sym ctxt role = record { first = λ field rest ends. refl; beside = λ rest. refl }
 
 pub single_hole : (f : ℕ) → Single (h.Hole f ∷ [])
 unfolding first_of
-single_hole f = record { first = λ field rest ends. refl }
+single_hole f = record { first = λ field rest ends. refl; beside = λ rest. refl }
+
+beside_node : (f : ℕ) (head : Head) {xs : List Item} → Whole xs → (rest : List Item) → side_by_side zero (node f head xs ++ rest) ≡ node f head xs ∷ side_by_side zero rest
+beside_node f head {xs} x rest =
+    ap (λ list. put_first (h.Open f head) (side_by_side (suc zero) list)) (append_assoc xs (h.Close ∷ []) rest)
+    ∙ (ap (put_first (h.Open f head)) (x.nodes zero (h.Close ∷ rest))
+    ∙ ap (put_first (h.Open f head)) (put_all-cons xs (h.Close ∷ []) (side_by_side zero rest)))
 
 pub single_node : (f : ℕ) (head : Head) {xs : List Item} → Whole xs → Single (node f head xs)
 unfolding first_of
-single_node f head {xs} x = record { first = λ field rest ends. deeper head field 0 f x rest ∙ (ap (before (node f head xs)) ends ∙ ap (λ list. (list, rest)) (append-nil (node f head xs))) }
+single_node f head {xs} x = record { first = λ field rest ends. deeper head field 0 f x rest ∙ (ap (before (node f head xs)) ends ∙ ap (λ list. (list, rest)) (append-nil (node f head xs))); beside = λ rest. beside_node f head x rest }
 
 eqb_suc : (n : ℕ) → eqb n (suc n) ≡ false
 eqb_suc n = Prim.search (arith, tests)

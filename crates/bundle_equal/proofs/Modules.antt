@@ -369,7 +369,8 @@ decl_single field (i_module_decl.ExportDefaultDecl decl) = single_node field _ (
 decl_single field (i_module_decl.ExportDefaultExpr expr) = single_node field _ (rows.expr_row 0 expr).whole
 decl_single field (i_module_decl.ExportAll src meta) = single_node field _ (rows.str_row 0 src).whole
 
-item_single : (field : ℕ) (it : v_module_item.ModuleItem) → Single (k.module_item_items field it)
+-- the list of an item is one node
+pub item_single : (field : ℕ) (it : v_module_item.ModuleItem) → Single (k.module_item_items field it)
 item_single field (i_module_item.ModuleDecl it) = decl_single field it
 item_single field (i_module_item.Stmt it) = stmt_single field it
 

@@ -15,11 +15,10 @@ use Rattle.bundle_denote.specs.declared.table.Binding.{Binding}
 use Rattle.bundle_denote.specs.declared.table.Denoted.{Denoted}
 use Rattle.bundle_denote.specs.declared.table.Denotations.{Denotations}
 use Rattle.bundle_denote.specs.Numbers.{numbered}
-use Rattle.bundle_denote.specs.Listed.{IsBinding, IsDenoted, IsEntry, IsTable, Tells}
+use Rattle.bundle_denote.specs.Listed.{IsBinding, IsDenoted, IsEntry, IsOnlyTop, IsTable, Tells}
 use Rattle.bundle_mentions.proofs.RenumberLemmas.{zip-at, zip-back}
 use Rattle.bundle_needs.specs.declared.told.Told.{Told}
 use Rattle.bundle_needs.specs.Told.{no_told, top_number, top_by, told_by, told_at}
-use Rattle.bundle_needs.specs.Numbered.{IsOnlyTop}
 
 -- ---- an occurrence stands at its place
 fold_past-place : (s : Spot) (items : List Item) (k : ℕ) (item : Item) → slice_get items k ≡ Some item → (fold past s (take k items)).place ≡ s.place + k

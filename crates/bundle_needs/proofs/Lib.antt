@@ -4,6 +4,9 @@ pub mod LaterLemmas
 pub mod NumberLemmas
 pub mod ObjectLemmas
 pub mod OpenLemmas
+pub mod RangeLemmas
 pub mod SecondLemmas
+pub mod SeenLemmas
 pub mod ToldLemmas
 pub mod TopLemmas
+pub mod WalkLemmas

@@ -19,13 +19,13 @@ use Rattle.bundle_terms.specs.Order.{Mention, denoted_in, is_of_scope, is_text, 
 use Rattle.bundle_denote.specs.declared.table.Binding.{Binding}
 use Rattle.bundle_denote.specs.declared.table.Denotations.{Denotations}
 use Rattle.bundle_denote.specs.Numbers.{numbered}
-use Rattle.bundle_denote.specs.Listed.{IsBinding, IsTable}
+use Rattle.bundle_denote.specs.Listed.{IsBinding, IsOnlyTop, IsTable}
 use Rattle.bundle_denote.specs.Ready.{binding_name}
 use Rattle.bundle_mentions.specs.Renumbered.{IsSameButTop, IsRenumbered}
 use Rattle.bundle_mentions.proofs.EventLemmas.{mention_in, Contains-given}
 use Rattle.bundle_needs.specs.declared.told.Told.{Told}
 use Rattle.bundle_needs.specs.Told.{told_at}
-use Rattle.bundle_needs.specs.Numbered.{IsOnlyTop, numbered_mention, numbered_group}
+use Rattle.bundle_needs.specs.Numbered.{numbered_mention, numbered_group}
 use Rattle.bundle_needs.proofs.TopLemmas.{is_top-of, same-top, same-refl, Contains-filter, once-from, once-keeps, position-none, position-there, position-one}
 use Rattle.bundle_needs.proofs.EntryLemmas.{TopAt, top_at}
 use Rattle.bundle_needs.proofs.ObjectLemmas.{object_at}

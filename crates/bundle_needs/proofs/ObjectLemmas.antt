@@ -18,10 +18,9 @@ use Rattle.bundle_terms.specs.Order.{is_global_named, is_of_nothing, is_object_a
 use Rattle.bundle_denote.specs.declared.table.Binding.{Binding}
 use Rattle.bundle_denote.specs.declared.table.Denotations.{Denotations}
 use Rattle.bundle_denote.specs.Numbers.{Numbered, numbered}
-use Rattle.bundle_denote.specs.Listed.{IsDenoted, IsTable}
+use Rattle.bundle_denote.specs.Listed.{IsDenoted, IsOnlyTop, IsTable}
 use Rattle.bundle_needs.specs.declared.told.Told.{Told}
 use Rattle.bundle_needs.specs.Told.{no_told, is_object, told_by, told_at}
-use Rattle.bundle_needs.specs.Numbered.{IsOnlyTop}
 use Rattle.bundle_needs.proofs.EntryLemmas.{stands_on, last_entry, Last, NoEntry, entry_at, no_occurrence}
 
 same_bool : (a b : Bool) → (a ≡ true → b ≡ true) → (b ≡ true → a ≡ true) → a ≡ b

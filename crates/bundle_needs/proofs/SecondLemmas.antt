@@ -10,7 +10,7 @@ use Rattle.bundle_piece.specs.Item.{Item, Head}
 use Rattle.bundle_terms.specs.Nodes.{Text, put_first, side_by_side, begins_in, in_field, first_or_nothing, child, begins_with, node_at}
 use Rattle.bundle_terms.specs.Reads.{is_member, plain_word, property_of}
 use Rattle.bundle_terms.specs.Order.{is_nothing}
-use Rattle.bundle_needs.specs.Seconds.{AreTops, second_from, second_of, word_of, word_at, is_member_item}
+use Rattle.bundle_needs.specs.Seconds.{AreTops, second_from, second_of, word_of, word_at, is_member_item, nothing_by}
 
 -- ---- a stack
 pub reverse_push : (stack : List (Option ℕ)) (x : Option ℕ) → reverse (stack ++ x ∷ []) ≡ x ∷ reverse stack
@@ -128,6 +128,13 @@ module _ (items : List Item) where
   abbrev pub property_by : Option Item → ℕ → Option Text
   property_by None p = None
   property_by (Some x) p = cond (is_member_item x) (word_at items (second_of items p)) None
+
+  -- whether nothing is there, by the first element
+  pub nothing_is : (p : ℕ) (x : Item) → slice_get items p ≡ Some x → is_nothing (in_field 1 (node_at items p)) ≡ nothing_by x (second_of items p)
+  nothing_is p (h.Open field head) e = nothing_second p field head e
+  nothing_is p (h.Ident field symbol ctxt role) e = ap (λ (l : List Item). is_nothing (in_field 1 (first_or_nothing (side_by_side zero l)))) (drop_next p items (h.Ident field symbol ctxt role) e)
+  nothing_is p (h.Hole field) e = ap (λ (l : List Item). is_nothing (in_field 1 (first_or_nothing (side_by_side zero l)))) (drop_next p items (h.Hole field) e)
+  nothing_is p h.Close e = ap (λ (l : List Item). is_nothing (in_field 1 (first_or_nothing (side_by_side zero l)))) (drop_next p items h.Close e)
 
   first_none : (p : ℕ) → slice_get items p ≡ None → property_of (node_at items p) ≡ None
   first_none p e = ap (λ (l : List Item). property_of (first_or_nothing (side_by_side zero l))) (past p items e)

@@ -1,3 +1,4 @@
+pub mod Cut
 pub mod Known
 pub mod Numbered
 pub mod Open

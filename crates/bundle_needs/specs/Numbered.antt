@@ -1,19 +1,11 @@
 -- The group of the items of a list, where the bindings of the top are numbered as the table does.
-use Rattle.std.specs.Prelude.{◌≡◌, ◌↔◌, ℕ, ◌+◌, ◌&&◌, List, Option, Some, map}
+use Rattle.std.specs.Prelude.{ℕ, ◌+◌, ◌&&◌, List, Option, map}
 use Rattle.bundle_piece.specs.Item.{Item}
 use Rattle.bundle_places.specs.Places.{Occurrence, occurrences, is_binding}
-use Rattle.bundle_places.specs.Scopes.{Scope, Top}
 use Rattle.bundle_places.specs.Deferred.{runs_later}
 use Rattle.bundle_terms.specs.Statements.{TopItem}
 use Rattle.bundle_terms.specs.Order.{Mention, Group, is_assigned, is_in_argument, roots_chain, is_prototype_read, is_in_assign_of, has_no_value}
-use Rattle.bundle_denote.specs.declared.table.Denotations.{Denotations}
-use Rattle.bundle_denote.specs.Numbers.{numbered}
-use Rattle.bundle_denote.specs.Chains.{scope_at}
 use Rattle.bundle_needs.specs.declared.told.Told.{Told}
-
--- the scope with this number is the only one that is the top
-abbrev pub IsOnlyTop : Denotations → ℕ → Type 0
-IsOnlyTop table top = (number : ℕ) (scope : Scope) → scope_at (map numbered table.scopes.items) number ≡ Some scope → (scope ≡ Top) ↔ (number ≡ top)
 
 -- an identifier of an item with these elements, where this is told of its places
 abbrev pub numbered_mention : (ℕ → Told) → List Item → Occurrence → Mention

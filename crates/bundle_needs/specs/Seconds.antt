@@ -1,5 +1,5 @@
 -- Where what stands in the second field of a node begins.
-use Rattle.std.specs.Prelude.{◌≡◌, ℕ, Bool, false, zero, suc, ◌+◌, ◌<◌, nat_eq, List, [], ◌∷◌, Option, Some, None, cond, drop, length, slice_get, slice_index_or, reverse}
+use Rattle.std.specs.Prelude.{◌≡◌, ℕ, Bool, true, false, not, is_some, zero, suc, ◌+◌, ◌<◌, nat_eq, List, [], ◌∷◌, Option, Some, None, cond, drop, length, slice_get, slice_index_or, reverse}
 use Rattle.bundle_piece.specs.Item as h
 use Rattle.bundle_piece.specs.Item.{Item, Head}
 use Rattle.bundle_terms.specs.Nodes.{Text}
@@ -47,3 +47,10 @@ is_member_item _ = false
 -- a place, if it is of the second field
 abbrev pub noted : ℕ → ℕ → Option ℕ → Option ℕ
 noted field place other = cond (nat_eq field 1) (Some place) other
+
+-- whether nothing is in the second field of the node that begins with an element, where this stands first in it
+abbrev pub nothing_by : Item → Option ℕ → Bool
+nothing_by (h.Open field head) second = not (is_some second)
+nothing_by (h.Ident field sym ctxt role) second = true
+nothing_by (h.Hole field) second = true
+nothing_by h.Close second = true

@@ -7,5 +7,6 @@ pub(crate) mod seconds;
 pub(crate) mod seen;
 pub(crate) mod spot;
 pub(crate) mod told;
+pub(crate) mod walk;
 
 pub use needs::{ItemRange, dependencies};

@@ -1,9 +1,19 @@
 //! The dependencies between the items of a block.
 
-ghost use Rattle.std.specs.Prelude.{◌≡◌, IfOk, length, map};
+ghost use Rattle.std.specs.Prelude.{◌≡◌, IfOk, List, length, map};
+ghost use Rattle.bundle_piece.specs.Item.{Item, item_of};
+ghost use Rattle.bundle_places.specs.Scopes.{Es, Top};
+ghost use Rattle.bundle_places.specs.Declarations.{ByContext};
+ghost use Rattle.bundle_terms.specs.Order.{group_of};
+ghost use Rattle.bundle_terms.specs.Parts.{tree_of_items};
+ghost use Rattle.bundle_terms.specs.Sorting.{group_of_items};
+ghost use Rattle.bundle_terms.specs.Statements.{top_items};
+ghost use Rattle.bundle_denote.specs.Listed.{IsOnlyTop, IsTable};
+ghost use Rattle.bundle_mentions.specs.Found.{AreFound};
+ghost use Rattle.bundle_needs.specs.Cut.{cut_items, dependencies_of};
 ghost use Rattle.bundle_needs.specs.Owners.{module_of as module_of_lem, owner_of, sorted_owner_of};
 
-use crate::seen::seen_in;
+use crate::walk::seen_in;
 use bundle_denote::Denotations;
 use bundle_mentions::dependencies_among;
 use bundle_piece::Piece;
@@ -32,12 +42,15 @@ pub fn dependencies<'a>(
     top: usize,
     items: &[ItemRange],
 ) -> Result<Vec<SortItem>, AllocError>
-    ensures { IfOk result (λ sorted. map sorted_owner_of sorted.items ≡ map owner_of items.now) }
+    ensures owners { IfOk result (λ sorted. map sorted_owner_of sorted.items ≡ map owner_of items.now) }
+    ensures found { IfOk result (λ sorted. IsTable ByContext Es (map item_of pieces.now) denotations.now → IsOnlyTop denotations.now top → AreFound (group_of ByContext Top (map item_of pieces.now) (cut_items (map item_of pieces.now) items.now) (map module_of_lem items.now)) (map dependencies_of sorted.items)) }
+    ensures whole { IfOk result (λ sorted. (all : List Item) → map item_of pieces.now ≡ tree_of_items all → cut_items (map item_of pieces.now) items.now ≡ top_items (map item_of pieces.now) → IsTable ByContext Es (map item_of pieces.now) denotations.now → IsOnlyTop denotations.now top → AreFound (group_of_items all (map module_of_lem items.now)) (map dependencies_of sorted.items)) }
 {
     let seen = seen_in(alloc, pieces, denotations, top, items)?;
     let owners = owners_of(alloc, items)?;
     let found = dependencies_among(alloc, &seen, &owners, denotations.bindings.len())?;
-    sort_items(alloc, items, &found)
+    let sorted = sort_items(alloc, items, &found)?;
+    Ok(sorted)
 }
 
 // The module of each item, or none.
@@ -70,7 +83,7 @@ fn sort_items(
 ) -> Result<Vec<SortItem>, AllocError>
     requires { length found.now ≡ length items.now }
     ensures owners { IfOk result (λ sorted. map sorted_owner_of sorted.items ≡ map owner_of items.now) }
-    ensures found { IfOk result (λ sorted. map (λ one. one.dependencies.items) sorted.items ≡ map (λ v. v.items) found.now) }
+    ensures found { IfOk result (λ sorted. map dependencies_of sorted.items ≡ map (λ v. v.items) found.now) }
 {
     let mut sorted = Vec::new(alloc);
     for (number, item) in items.iter().enumerate() {

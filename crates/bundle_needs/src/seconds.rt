@@ -2,10 +2,10 @@
 
 ghost use Rattle.std.specs.Prelude.{◌≡◌, ℕ, zero, suc, ◌+◌, [], ◌∷◌, List, Some, None, IfOk, OnOk, map, reverse, slice_index_or};
 ghost use Rattle.bundle_piece.specs.Item.{Item, item_of};
-ghost use Rattle.bundle_terms.specs.Order.{is_text};
-ghost use Rattle.bundle_terms.specs.Nodes.{node_at};
+ghost use Rattle.bundle_terms.specs.Order.{is_nothing, is_text};
+ghost use Rattle.bundle_terms.specs.Nodes.{in_field, node_at};
 ghost use Rattle.bundle_terms.specs.Reads.{plain_word, property_of};
-ghost use Rattle.bundle_needs.specs.Seconds.{AreSeconds, AreTops, is_member_item, noted, second_from, word_at};
+ghost use Rattle.bundle_needs.specs.Seconds.{AreSeconds, AreTops, is_member_item, noted, nothing_by, second_from, word_at};
 
 use bundle_piece::{Node, Piece};
 use std::alloc::{AllocError, Global};
@@ -106,6 +106,31 @@ pub(crate) fn second_at(seconds: &[Option<usize>], place: usize) -> Option<usize
         seconds[place]
     } else {
         None
+    }
+}
+
+/// Whether nothing is in the second field of the node that begins at a place.
+pub(crate) fn has_no_second<'a>(
+    pieces: &[Piece<'a>],
+    seconds: &[Option<usize>],
+    place: usize,
+) -> bool
+    ensures { AreSeconds (map item_of pieces.now) seconds.now → result ≡ is_nothing (in_field 1 (node_at (map item_of pieces.now) place)) }
+{
+    if place < pieces.len() {
+        has_nothing(pieces[place], second_at(seconds, place))
+    } else {
+        true
+    }
+}
+
+// Whether nothing is in the second field of the node that begins with an element, where this stands first in it.
+fn has_nothing<'a>(piece: Piece<'a>, second: Option<usize>) -> bool
+    ensures { result ≡ nothing_by (item_of piece.entry) second }
+{
+    match piece {
+        Piece::Open { .. } => second.is_none(),
+        _ => true,
     }
 }
 

@@ -1,82 +1,54 @@
-//! The identifiers of the items of a list that denote a name of the top.
+//! What is seen at a place of an item: an identifier that denotes a name of the top, or a node that begins.
 
 ghost use Rattle.std.specs.Prelude.{◌≡◌, ◌+◌, ◌<◌, ◌&&◌, ℕ, List, codes, length, map, reverse, slice_index_or};
 ghost use Rattle.bundle_piece.specs.Item.{Item, head_of, item_of};
-ghost use Rattle.bundle_places.specs.Places.{Around, in_field as path_in_field, is_binding as is_binding_lem};
+ghost use Rattle.bundle_places.specs.Places.{Around, Occurrence, Spot as Place, in_field as path_in_field, is_binding as is_binding_lem, occurrence_of};
 ghost use Rattle.bundle_terms.specs.Nodes.{node_at};
 ghost use Rattle.bundle_terms.specs.Entries.{is_call_head};
 ghost use Rattle.bundle_terms.specs.Reads.{property_of};
 ghost use Rattle.bundle_terms.specs.Order.{is_prototype_read as is_prototype_read_lem, is_text};
+ghost use Rattle.bundle_mentions.specs.Seen.{seen_of};
+ghost use Rattle.bundle_needs.specs.Cut.{seen_by, top_in};
+ghost use Rattle.bundle_needs.specs.Numbered.{numbered_mention};
 ghost use Rattle.bundle_needs.specs.Told.{no_told};
 ghost use Rattle.bundle_needs.specs.declared.told.Told.{Told as ToldLem};
 ghost use Rattle.bundle_needs.specs.Seconds.{AreSeconds};
-ghost use Rattle.bundle_needs.specs.Open.{AreOpen, IsOpen, IsSpot};
+ghost use Rattle.bundle_needs.specs.Open.{AreOpen, IsOpen, IsSpot, no_value_at};
 
-use crate::needs::ItemRange;
-use crate::seconds::{reads_member, second_at, seconds_of};
-use crate::spot::{Frame, Spot};
-use crate::told::{Told, told_places};
-use bundle_denote::Denotations;
+use crate::seconds::{has_no_second, reads_member};
+use crate::spot::{Frame, Spot, both, either};
+use crate::told::Told;
 use bundle_mentions::Seen;
 use bundle_piece::{Node, Piece, Role};
-use std::alloc::{AllocError, Global};
 
-/// Those of a list, whose top bindings are those of the scope `top`.
-pub(crate) fn seen_in<'a>(
-    alloc: Global,
-    pieces: &[Piece<'a>],
-    denotations: &Denotations<'a>,
-    top: usize,
-    items: &[ItemRange],
-) -> Result<Vec<Seen>, AllocError> {
-    let told = told_places(alloc, pieces, denotations, top)?;
-    let mut seen = Vec::new(alloc);
-    for (number, item) in items.iter().enumerate() {
-        let list = part_of(pieces, item.from, item.to);
-        let told = part_of(&told, item.from, item.to);
-        item_seen(alloc, &mut seen, list, told, number)?;
-    }
-    Ok(seen)
-}
-
-// The elements from a place on, up to another.
-fn part_of<'s, T>(list: &'s [T], from: usize, to: usize) -> &'s [T] {
-    let to = to.min(list.len());
-    let from = from.min(to);
-    &list[from..to]
-}
-
-// Adds the identifiers of an item, which has this list and this number.
-fn item_seen<'a>(
-    alloc: Global,
-    seen: &mut Vec<Seen>,
+/// What an element at a place is seen as, which stands in these open nodes of an item, if it denotes a binding of
+/// the top.
+pub(crate) fn seen_here<'a>(
     item: &[Piece<'a>],
     told: &[Told],
+    seconds: &[Option<usize>],
+    frames: &[Frame<'a>],
     number: usize,
-) -> Result<(), AllocError> {
-    let seconds = seconds_of(alloc, item)?;
-    let mut open: Vec<Frame<'a>> = Vec::new(alloc);
-    for (place, piece) in item.iter().enumerate() {
-        match *piece {
-            Piece::Open { field, node } => {
-                open.push(frame_at(item, told, &seconds, &open, place, field, node))?;
-            }
-            Piece::Ident { field, role, .. } => {
-                if let Some(binding) = binding_at(told, place, role) {
-                    seen.push(seen_at(item, &seconds, &open, number, binding, field, role))?;
-                }
-            }
-            Piece::Hole { .. } => {}
-            Piece::Close => {
-                open.pop();
-            }
-        }
+    place: usize,
+    piece: Piece<'a>,
+) -> Option<Seen>
+    ensures { (at : Place) → at.place ≡ place → AreSeconds (map item_of item.now) seconds.now → AreOpen (map item_of item.now) (λ p. slice_index_or told.now p no_told) (reverse frames.now) at.path → result ≡ seen_by number (λ p. slice_index_or told.now p no_told) (map item_of item.now) (occurrence_of at (item_of piece.entry)) }
+{
+    match piece {
+        Piece::Ident { field, role, .. } => match binding_at(told, place, role) {
+            None => None,
+            Some(binding) => Some(seen_at(item, seconds, frames, number, binding, field, role)),
+        },
+        Piece::Open { .. } => None,
+        Piece::Hole { .. } => None,
+        Piece::Close => None,
     }
-    Ok(())
 }
 
 // The binding of the top that an identifier at a place denotes; a plain word denotes none.
-fn binding_at(told: &[Told], place: usize, role: Role) -> Option<usize> {
+fn binding_at(told: &[Told], place: usize, role: Role) -> Option<usize>
+    ensures { result ≡ top_in role (slice_index_or told.now place no_told) }
+{
     match role {
         Role::Word => None,
         _ => told_at(told, place).top,
@@ -108,8 +80,8 @@ fn spot_at<'a>(frames: &[Frame<'a>], field: u8) -> Spot
     }
 }
 
-// The open node that begins at a place, in this field of the innermost one around it.
-fn frame_at<'a>(
+/// The open node that begins at a place, in this field of the innermost one around it.
+pub(crate) fn frame_at<'a>(
     item: &[Piece<'a>],
     told: &[Told],
     seconds: &[Option<usize>],
@@ -129,13 +101,6 @@ fn frame_at<'a>(
         spot,
         is_object_assign: both(is_call(node), calls),
     }
-}
-
-// Whether both hold.
-fn both(one: bool, other: bool) -> bool
-    ensures { result ≡ (one && other) }
-{
-    one && other
 }
 
 // Whether such a node is a call.
@@ -172,17 +137,20 @@ fn seen_at<'a>(
     binding: usize,
     field: u8,
     role: Role,
-) -> Seen {
+) -> Seen
+    ensures { (told : ℕ → ToldLem) (path : List Around) (o : Occurrence) → AreSeconds (map item_of item.now) seconds.now → AreOpen (map item_of item.now) told (reverse frames.now) path → o.role ≡ role → o.path ≡ path_in_field field path → result ≡ seen_of number (numbered_mention told (map item_of item.now) o) binding }
+{
     let spot = spot_at(frames, field);
+    let declares = is_binding(role);
     let is_prototype = is_prototype_read(item, seconds, frames, field);
     Seen {
         item: number,
         binding,
-        declares: is_binding(role),
+        declares,
         is_later: spot.is_later,
-        fills: spot.is_assigned || spot.is_in_argument,
-        sets_up: spot.roots_chain || (is_prototype && spot.is_in_assign),
-        is_empty: is_binding(role) && is_empty(seconds, spot),
+        fills: either(spot.is_assigned, spot.is_in_argument),
+        sets_up: either(spot.roots_chain, both(is_prototype, spot.is_in_assign)),
+        is_empty: both(declares, is_empty(item, seconds, spot)),
     }
 }
 
@@ -205,9 +173,11 @@ fn is_prototype_read<'a>(
 }
 
 // Whether the nearest declarator around has no value.
-fn is_empty(seconds: &[Option<usize>], spot: Spot) -> bool {
+fn is_empty<'a>(item: &[Piece<'a>], seconds: &[Option<usize>], spot: Spot) -> bool
+    ensures { AreSeconds (map item_of item.now) seconds.now → result ≡ no_value_at (map item_of item.now) spot.declarator }
+{
     match spot.declarator {
-        Some(begins) => second_at(seconds, begins).is_none(),
+        Some(begins) => has_no_second(item, seconds, begins),
         None => false,
     }
 }

@@ -1,6 +1,6 @@
 //! What is known of a place by the nodes around it.
 
-ghost use Rattle.std.specs.Prelude.{◌≡◌, ◌||◌, ℕ, [], List};
+ghost use Rattle.std.specs.Prelude.{◌≡◌, ◌||◌, ◌&&◌, ℕ, [], List};
 ghost use Rattle.bundle_piece.specs.Item.{Item, head_of};
 ghost use Rattle.bundle_places.specs.Deferred.{runs_later};
 ghost use Rattle.bundle_places.specs.Places.{Around};
@@ -91,11 +91,18 @@ fn is_in_assign_in<'a>(frame: Frame<'a>, field: u8) -> bool
     }
 }
 
-// Whether one of the two holds.
-fn either(one: bool, other: bool) -> bool
+/// Whether one of the two holds.
+pub(crate) fn either(one: bool, other: bool) -> bool
     ensures { result ≡ (one || other) }
 {
     one || other
+}
+
+/// Whether both hold.
+pub(crate) fn both(one: bool, other: bool) -> bool
+    ensures { result ≡ (one && other) }
+{
+    one && other
 }
 
 // Where the nearest declarator around what stands in an open node begins.

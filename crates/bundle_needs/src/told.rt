@@ -1,14 +1,7 @@
 //! What the table of a list says of its places.
 
-ghost use Rattle.std.specs.Prelude.{◌≡◌, ℕ, ◌<◌, IfOk, List, Option, length, map, slice_index_or};
+ghost use Rattle.std.specs.Prelude.{◌≡◌, ℕ, ◌<◌, IfOk, length, map, slice_index_or};
 ghost use Rattle.bundle_piece.specs.Item.{item_of};
-ghost use Rattle.bundle_places.specs.Scopes.{Es, Top};
-ghost use Rattle.bundle_places.specs.Declarations.{ByContext};
-ghost use Rattle.bundle_terms.specs.Statements.{TopItem};
-ghost use Rattle.bundle_terms.specs.Order.{group_of};
-ghost use Rattle.bundle_denote.specs.Listed.{IsTable};
-ghost use Rattle.bundle_mentions.specs.Renumbered.{IsRenumbered};
-ghost use Rattle.bundle_needs.specs.Numbered.{IsOnlyTop, numbered_group};
 ghost use Rattle.bundle_needs.specs.Told.{is_object as is_object_lem, no_told, told_at as told_at_lem, told_in, told_of as told_of_lem, top_of as top_of_lem};
 
 use bundle_denote::{Denotations, Denoted};
@@ -32,7 +25,6 @@ pub(crate) fn told_places<'a>(
 ) -> Result<Vec<Told>, AllocError>
     ensures len { IfOk result (λ told. length told.items ≡ length pieces.now) }
     ensures each { IfOk result (λ told. (p : ℕ) → slice_index_or told.items p no_told ≡ told_at_lem (map item_of pieces.now) denotations.now top p) }
-    ensures numbered { IfOk result (λ told. IsTable ByContext Es (map item_of pieces.now) denotations.now → IsOnlyTop denotations.now top → (items : List TopItem) (owners : List (Option ℕ)) → IsRenumbered (group_of ByContext Top (map item_of pieces.now) items owners) (numbered_group (λ p. slice_index_or told.items p no_told) items owners)) }
 {
     let fresh = nothing_told(alloc, pieces.len())?;
     let told = tell(fresh, pieces, denotations, top, &denotations.occurrences);

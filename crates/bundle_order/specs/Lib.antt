@@ -1,3 +1,4 @@
+pub mod Grouped
 pub mod Items
 pub use Rattle.bundle_graph.specs.Bits
 pub use Rattle.bundle_graph.specs.Blocks

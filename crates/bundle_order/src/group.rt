@@ -1,6 +1,11 @@
 //! Items that are to stand in one order: their list as that of a module, and where each stands in it.
 
-ghost use Rattle.std.specs.Prelude.{◌≡◌, ◌+◌, [], IfOk, OnOk, length};
+ghost use Rattle.std.specs.Prelude.{◌≡◌, ℕ, ◌+◌, ◌<◌, ◌++◌, ◌∷◌, [], IfOk, List, OnOk, Option, length, map, slice_range};
+ghost use Rattle.bundle_piece.specs.Item.{Item, item_of};
+ghost use Rattle.bundle_pieces.specs.Tree.{module_item_items};
+ghost use Rattle.bundle_mentions.specs.Found.{AreFound};
+ghost use Rattle.bundle_needs.specs.Cut.{dependencies_of};
+ghost use Rattle.bundle_order.specs.Grouped.{IsGroup, group_placed};
 
 use bundle_ast::ModuleItem;
 use bundle_denote::{ModuleKind, Reading, denotations};
@@ -20,7 +25,8 @@ pub(crate) struct Group<'a> {
 impl<'a> Group<'a> {
     /// No items.
     pub(crate) fn new(alloc: Global) -> Result<Group<'a>, AllocError>
-        ensures { IfOk result (λ group. group.ranges.items ≡ []) }
+        ensures ranges { IfOk result (λ group. group.ranges.items ≡ []) }
+        ensures group { IfOk result (λ group. IsGroup group [] []) }
     {
         let mut list = Vec::new(alloc);
         list.push(Piece::Open {
@@ -34,31 +40,30 @@ impl<'a> Group<'a> {
     }
 
     /// Adds an item, which has this list: one of a module, or a free one.
-    pub(crate) fn add(
-        &mut self,
-        item: &[Piece<'a>],
-        module: Option<usize>,
-    ) -> Result<(), AllocError>
-        ensures { OnOk result (length self.new.ranges.items ≡ length self.old.ranges.items + 1) }
+    pub(crate) fn add(&mut self, item: &[Piece<'a>], owner: Option<usize>) -> Result<(), AllocError>
+        ensures len { OnOk result (length self.new.ranges.items ≡ length self.old.ranges.items + 1) }
+        ensures group { OnOk result ((lists : List (List Item)) (owners : List (Option ℕ)) → IsGroup self.old lists owners → IsGroup self.new (lists ++ map item_of item.now ∷ []) (owners ++ owner ∷ [])) }
     {
         let from = self.list.len();
         self.list.extend_from_slice(item)?;
         self.ranges.push(ItemRange {
             from,
             to: self.list.len(),
-            module: module.unwrap_or(0),
-            is_free: module.is_none(),
+            module: owner.unwrap_or(0),
+            is_free: owner.is_none(),
         })?;
         Ok(())
     }
 
     /// What the items depend on.
     pub(crate) fn dependencies(mut self, alloc: Global) -> Result<Vec<SortItem>, AllocError>
-        ensures { IfOk result (λ items. length items.items ≡ length self.entry.ranges.items) }
+        ensures len { IfOk result (λ items. length items.items ≡ length self.entry.ranges.items) }
+        ensures found { IfOk result (λ items. (lists : List (List Item)) (owners : List (Option ℕ)) → IsGroup self.entry lists owners → AreFound (group_placed lists owners) (map dependencies_of items.items)) }
     {
         self.list.push(Piece::Close)?;
         let table = denotations(alloc, &self.list, ModuleKind::Es, Reading::ByContext)?;
-        dependencies(alloc, &self.list, &table, 0, &self.ranges)
+        let sorted = dependencies(alloc, &self.list, &table, 0, &self.ranges)?;
+        Ok(sorted)
     }
 }
 
@@ -67,13 +72,29 @@ pub(crate) fn lists_of<'a>(
     alloc: Global,
     items: &'a [ModuleItem],
 ) -> Result<Vec<Vec<Piece<'a>>>, AllocError>
-    ensures { IfOk result (λ lists. length lists.items ≡ length items.now) }
+    ensures len { IfOk result (λ lists. length lists.items ≡ length items.now) }
+    ensures lists { IfOk result (λ lists. map (λ v. map item_of v.items) lists.items ≡ map (module_item_items 0) items.now) }
 {
     let mut lists = Vec::new(alloc);
     for place in 0..items.len() {
-        lists.push(pieces(alloc, &items[place..place + 1])?)?;
+        let list = list_of(alloc, items, place)?;
+        lists.push(list)?;
     }
     Ok(lists)
+}
+
+// The list of the item at a place.
+fn list_of<'a>(
+    alloc: Global,
+    items: &'a [ModuleItem],
+    place: usize,
+) -> Result<Vec<Piece<'a>>, AllocError>
+    requires { place < length items.now }
+    ensures { IfOk result (λ list. map item_of list.items ∷ [] ≡ map (module_item_items 0) (slice_range items.now place (place + 1))) }
+{
+    let one = &items[place..place + 1];
+    let list = pieces(alloc, one)?;
+    Ok(list)
 }
 
 /// Whether the linker noted the item as its own.

@@ -1,6 +1,10 @@
 //! What items depend on, as a graph.
 
-ghost use Rattle.std.specs.Prelude.{◌≡◌, ◌≢◌, ◌<◌, ◌↔◌, [], ◌∷◌, IfOk, IfErr, IsTrue, OnOk, length};
+ghost use Rattle.std.specs.Prelude.{◌≡◌, ◌≢◌, ℕ, ◌<◌, ◌≤◌, ◌↔◌, [], ◌∷◌, IfOk, IfErr, IsTrue, OnOk, Some, length, map, slice_get};
+ghost use Rattle.bundle_piece.specs.Item.{item_of};
+ghost use Rattle.bundle_pieces.specs.Tree.{module_item_items};
+ghost use Rattle.bundle_terms.specs.Sorting.{AreDependencies, owners_by};
+ghost use Rattle.bundle_order.specs.Grouped.{AreAscending, ArePast, IsGroup, ends_of, owner_at};
 ghost use Rattle.bundle_order.specs.Items.{how_required, AreApart, AreBetween, AreNodes, Grows, IsGraphOf};
 
 use crate::group::{Group, lists_of};
@@ -25,6 +29,7 @@ pub fn calc_deps(
 ) -> Result<StmtDepGraph, Error>
     ensures nodes { IfOk result (λ graph. AreNodes graph (length items.now)) }
     ensures edges { IfOk result (λ graph. AreBetween graph (length items.now)) }
+    ensures dependencies { IfOk result (λ graph. AreAscending (map ends_of modules.now) → AreDependencies (map (module_item_items 0) items.now) (map ends_of modules.now) graph) }
     ensures refused { IfErr result (λ refusal. refusal ≡ Error.OutOfMemory) }
 {
     let lists = lists_of(alloc, items)?;
@@ -39,24 +44,36 @@ fn group_by<'a>(
     lists: &[Vec<Piece<'a>>],
     modules: &[Range<usize>],
 ) -> Result<Group<'a>, AllocError>
-    ensures { IfOk result (λ group. length group.ranges.items ≡ length lists.now) }
+    ensures len { IfOk result (λ group. length group.ranges.items ≡ length lists.now) }
+    ensures group { IfOk result (λ group. AreAscending (map ends_of modules.now) → IsGroup group (map (λ v. map item_of v.items) lists.now) (owners_by (map ends_of modules.now) 0 (map (λ v. map item_of v.items) lists.now))) }
 {
     let mut group = Group::new(alloc)?;
     let mut module = 0usize;
     for (number, item) in lists.iter().enumerate() {
-        for range in modules.get(module..).unwrap_or(&[]) {
-            if number < range.end {
-                break;
-            }
-            module = module.saturating_add(1);
-        }
+        module = range_from(modules, module, number);
         group.add(item, module_at(modules, module, number))?;
     }
     Ok(group)
 }
 
-// The number of this module, where its range holds the item.
-fn module_at(modules: &[Range<usize>], module: usize, number: usize) -> Option<usize> {
+// The first range from one on that does not end before a number.
+fn range_from(modules: &[Range<usize>], first: usize, number: usize) -> usize
+    requires { first ≤ length modules.now }
+    ensures within { result ≤ length modules.now }
+    ensures past { ArePast (map ends_of modules.now) first number → ArePast (map ends_of modules.now) result number }
+    ensures at { (range : ℕ × ℕ) → slice_get (map ends_of modules.now) result ≡ Some range → number < range.1 }
+{
+    let mut at = first;
+    while at < modules.len() && modules[at].end <= number {
+        at += 1;
+    }
+    at
+}
+
+// The number of this range, where it holds the item.
+fn module_at(modules: &[Range<usize>], module: usize, number: usize) -> Option<usize>
+    ensures { result ≡ owner_at number «module» (slice_get (map ends_of modules.now) «module») }
+{
     let range = modules.get(module)?;
     if range.start <= number && number < range.end {
         Some(module)

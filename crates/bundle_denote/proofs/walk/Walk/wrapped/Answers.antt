@@ -12,6 +12,9 @@ returns-clause-at c =
     let one = c.in_ok-wrapper.ensures.items ∙ ap (λ l. map numbered l ++ record { scope = s.Wrapper; outer = None } ∷ []) c.new-scopes.ensures.items in
     λ items. begins_wrapped (reading_as c.args.reading) items _ _ _ c.in_ok-module.module c.in_ok-exports.exports _ _ c.in_ok-wrapper.wrapper c.in_ok-top.top c.outermost.result c.new-2.result.items (c.in_ok-top.ensures.items ∙ ap (λ l. l ++ record { scope = s.Top; outer = Some c.in_ok-wrapper.wrapper } ∷ []) one) (c.in_ok-wrapper.ensures.number ∙ ap (λ l. length (map numbered l)) c.new-scopes.ensures.items) (c.in_ok-top.ensures.number ∙ ap length one) c.in_ok-module.ensures.declaration c.in_ok-exports.ensures.keeps c.in_ok-exports.ensures.declaration (c.in_ok-push-2.ensures.items ∙ ap (λ l. l ++ c.in_ok-exports.exports ∷ []) (c.in_ok-push.ensures.items ∙ ap (λ l. l ++ c.in_ok-module.module ∷ []) c.new-declarations.ensures.items)) c.new.ensures.items c.new-2.ensures.items c.outermost.ensures.node c.outermost.ensures.way c.outermost.ensures.variable c.outermost.ensures.around c.outermost.ensures.own
 
+pub returns-clause-top : goal.returns-clause-top
+returns-clause-top c = c.in_ok-top.ensures.number ∙ ap length (c.in_ok-wrapper.ensures.items ∙ ap (λ l. map numbered l ++ record { scope = s.Wrapper; outer = None } ∷ []) c.new-scopes.ensures.items)
+
 pub returns-clause-tidy : goal.returns-clause-tidy
 returns-clause-tidy c =
     let one = c.in_ok-wrapper.ensures.items ∙ ap (λ l. map numbered l ++ record { scope = s.Wrapper; outer = None } ∷ []) c.new-scopes.ensures.items in
