@@ -1,4 +1,4 @@
-//! Rows of trees, and what is listed of them.
+//! A row, and what is written for it.
 
 ghost use Rattle.std.specs.Prelude.{◌≡◌, Some, IfOk, codes, option_copied};
 ghost use Rattle.serde_json.specs.Find.{get};

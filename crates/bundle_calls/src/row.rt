@@ -1,4 +1,4 @@
-//! Rows of calls, and what the calls give.
+//! What the calls give for a row.
 //!
 //! - `resolve`: the identifiers of `module` once it is resolved, and the next context, or the refusal. `kind` is
 //!   `Es` or `Cjs`.
@@ -13,7 +13,7 @@ use crate::sorting::{dependencies_text, sorted_text};
 use crate::trees::{
     contexts, id_at, list, module_of, modules_of, occurrences_text, renaming_of, text, tree_text,
 };
-use anyhow::{Context, Result, bail};
+use anyhow::{Result, bail};
 use bundle_ast::Module;
 use bundle_name::Error;
 use bundle_scope::finalize::{KeywordRenamer, hygiene};
@@ -22,15 +22,8 @@ use serde_json::Value;
 use std::alloc::Global;
 use std::collections::BTreeMap;
 
-/// What is written for a row: its name and what the call gives.
-pub(crate) fn call_text(alloc: Global, row: &Value) -> Result<String> {
-    let name = text(row, "name")?;
-    let given = given_text(alloc, row).context(format_args!("row {name:?}"))?;
-    Ok(format!(in alloc; "{name}\n{given}\n")?)
-}
-
-// What the call of a row gives.
-fn given_text(alloc: Global, row: &Value) -> Result<String> {
+/// What is written for a row.
+pub(crate) fn answer(alloc: Global, row: &Value) -> Result<String> {
     match text(row, "call")? {
         "resolve" => resolved(alloc, row),
         "finish" => finished(alloc, row),
