@@ -5,3 +5,9 @@ pub mod GroupLemmas
 pub mod EdgeLemmas
 pub mod JoinLemmas
 pub mod NodeLemmas
+pub mod ArrangeLemmas
+pub mod BridgeLemmas
+pub mod FoundLemmas
+pub mod NumberingLemmas
+pub mod TogetherLemmas
+pub mod SortedLemmas

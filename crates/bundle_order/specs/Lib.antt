@@ -1,5 +1,8 @@
+pub mod Arranged
 pub mod Grouped
 pub mod Items
+pub mod Numbering
+pub mod Owned
 pub use Rattle.bundle_graph.specs.Bits
 pub use Rattle.bundle_graph.specs.Blocks
 pub use Rattle.bundle_graph.specs.Modules

@@ -1,6 +1,8 @@
 //! Values moved into another order.
 
-ghost use Rattle.std.specs.Prelude.{◌≡◌, ◌<◌, IsPermutation, OnErr, OnOk, vec_len};
+ghost use Rattle.std.specs.Prelude.{◌≡◌, ◌≢◌, ◌<◌, ℕ, IfOk, IsPermutation, List, OnErr, OnOk, length, slice_index, vec_len};
+ghost use Rattle.std.specs.List.{swap};
+ghost use Rattle.bundle_order.specs.Arranged.{AreArranged, AreSwapped, IsArrangement, IsInverse, IsShuffled};
 
 use std::alloc::{AllocError, Global};
 
@@ -12,20 +14,20 @@ pub(crate) fn arrange<T>(
     order: &[usize],
 ) -> Result<(), AllocError>
     ensures moved { OnOk result (IsPermutation values.old.items values.new.items) }
+    ensures arranged { OnOk result (IsArrangement order.now (length values.old.items) → AreArranged order.now values.old.items values.new.items) }
     ensures stays { OnErr result (values.new.items ≡ values.old.items) }
 {
     let mut shuffle = Shuffle::new(alloc, values.len())?;
     for (place, wanted) in order.iter().enumerate() {
-        let found = shuffle.place_of(*wanted);
-        exchange(values, place, found);
-        shuffle.swap(place, found);
+        shuffle.bring(values, place, *wanted);
     }
     Ok(())
 }
 
 // What stands at two places changes places; a place that is none stays alone.
 fn exchange<T>(values: &mut Vec<T>, a: usize, b: usize)
-    ensures { IsPermutation values.old.items values.new.items }
+    ensures moved { IsPermutation values.old.items values.new.items }
+    ensures swapped { a < length values.old.items → b < length values.old.items → values.new.items ≡ swap values.old.items a b }
 {
     if a < values.len() && b < values.len() {
         values.swap(a, b);
@@ -42,33 +44,31 @@ struct Shuffle {
 
 impl Shuffle {
     // Nothing has moved.
-    fn new(alloc: Global, count: usize) -> Result<Shuffle, AllocError> {
-        let numbers = (0..count).collect::<Vec<usize>>(alloc)?;
-        let places = numbers.clone()?;
+    fn new(alloc: Global, count: usize) -> Result<Shuffle, AllocError>
+        ensures inverse { IfOk result (λ shuffle. IsInverse shuffle.numbers.items shuffle.places.items count) }
+        ensures still { IfOk result (λ shuffle. (k : ℕ) → k < count → slice_index shuffle.numbers.items k ≡ k) }
+    {
+        let mut numbers = Vec::new(alloc);
+        let mut places = Vec::new(alloc);
+        for number in 0..count {
+            numbers.push(number)?;
+            places.push(number)?;
+        }
         Ok(Shuffle { numbers, places })
     }
 
-    // Where what has this number stands; a number that nothing has is no place.
-    fn place_of(&self, number: usize) -> usize {
-        match self.places.get(number) {
-            Some(place) => *place,
-            None => number,
-        }
-    }
-
-    // What stands at two places changes places.
-    fn swap(&mut self, a: usize, b: usize) {
-        self.place_at(a, b);
-        self.place_at(b, a);
-        exchange(&mut self.numbers, a, b);
-    }
-
-    // What has the number at this place stands there now.
-    fn place_at(&mut self, from: usize, to: usize) {
-        if let Some(number) = self.numbers.get(from) {
-            if let Some(place) = self.places.get_mut(*number) {
-                *place = to;
-            }
+    // Brings to a place what was numbered so at first, and puts what stands there in its place.
+    fn bring<T>(&mut self, values: &mut Vec<T>, place: usize, wanted: usize)
+        ensures moved { IsPermutation values.old.items values.new.items }
+        ensures shuffled { (first : List T) → IsShuffled self.old first values.old.items → place < length first → wanted < length first → IsShuffled self.new first values.new.items }
+        ensures brought { (first : List T) → IsShuffled self.old first values.old.items → place < length first → wanted < length first → AreSwapped self.old.numbers.items self.new.numbers.items place (slice_index self.old.places.items wanted) }
+    {
+        if place < self.numbers.len() && wanted < self.places.len() {
+            let found = self.places[wanted];
+            let number = self.numbers[place];
+            exchange(values, place, found);
+            exchange(&mut self.numbers, place, found);
+            exchange(&mut self.places, number, wanted);
         }
     }
 }

@@ -1,12 +1,15 @@
 //! Items that are to stand in one order: their list as that of a module, and where each stands in it.
 
-ghost use Rattle.std.specs.Prelude.{◌≡◌, ℕ, ◌+◌, ◌<◌, ◌++◌, ◌∷◌, [], IfOk, List, OnOk, Option, length, map, slice_range};
+ghost use Rattle.std.specs.Prelude.{◌≡◌, ℕ, ◌+◌, ◌<◌, ◌++◌, ◌∷◌, [], All, IfOk, List, OnOk, Option, length, map, slice_range};
 ghost use Rattle.bundle_piece.specs.Item.{Item, item_of};
 ghost use Rattle.bundle_pieces.specs.Tree.{module_item_items};
 ghost use Rattle.bundle_mentions.specs.Found.{AreFound};
 ghost use Rattle.bundle_needs.specs.Cut.{dependencies_of};
 ghost use Rattle.bundle_order.specs.Grouped.{IsGroup, group_placed};
+ghost use Rattle.bundle_order.specs.Numbering.{numbered_at};
+ghost use Rattle.bundle_order.specs.Owned.{owner_of};
 
+use crate::number::Place;
 use bundle_ast::ModuleItem;
 use bundle_denote::{ModuleKind, Reading, denotations};
 use bundle_listing::pieces;
@@ -58,6 +61,7 @@ impl<'a> Group<'a> {
     /// What the items depend on.
     pub(crate) fn dependencies(mut self, alloc: Global) -> Result<Vec<SortItem>, AllocError>
         ensures len { IfOk result (λ items. length items.items ≡ length self.entry.ranges.items) }
+        ensures owned { IfOk result (λ items. (lists : List (List Item)) (owners : List (Option ℕ)) → IsGroup self.entry lists owners → map owner_of items.items ≡ owners) }
         ensures found { IfOk result (λ items. (lists : List (List Item)) (owners : List (Option ℕ)) → IsGroup self.entry lists owners → AreFound (group_placed lists owners) (map dependencies_of items.items)) }
     {
         self.list.push(Piece::Close)?;
@@ -65,6 +69,22 @@ impl<'a> Group<'a> {
         let sorted = dependencies(alloc, &self.list, &table, 0, &self.ranges)?;
         Ok(sorted)
     }
+}
+
+/// The items at these places, each with its module.
+pub(crate) fn group_at<'a>(
+    alloc: Global,
+    lists: &[Vec<Piece<'a>>],
+    places: &[Place],
+) -> Result<Group<'a>, AllocError>
+    requires { All (λ place. place.at < length lists.now) places.now }
+    ensures { IfOk result (λ group. let numbered = map (numbered_at (map (λ v. map item_of v.items) lists.now)) places.now in IsGroup group (map (λ one. one.0) numbered) (map (λ one. one.1) numbered)) }
+{
+    let mut group = Group::new(alloc)?;
+    for place in places {
+        group.add(&lists[place.at], place.owner)?;
+    }
+    Ok(group)
 }
 
 /// The list of each of these items.
@@ -95,22 +115,4 @@ fn list_of<'a>(
     let one = &items[place..place + 1];
     let list = pieces(alloc, one)?;
     Ok(list)
-}
-
-/// Whether the linker noted the item as its own.
-pub(crate) fn is_injected<'a>(item: &[Piece<'a>]) -> bool {
-    match item.first() {
-        Some(Piece::Open { node, .. }) => is_noted(*node),
-        _ => false,
-    }
-}
-
-fn is_noted<'a>(node: Node<'a>) -> bool {
-    match node {
-        Node::VarDecl { meta, .. }
-        | Node::ImportDecl { meta }
-        | Node::NamedExport { meta }
-        | Node::ExportAll { meta } => meta.injected,
-        _ => false,
-    }
 }

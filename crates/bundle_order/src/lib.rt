@@ -4,6 +4,7 @@
 mod arrange;
 mod group;
 mod needs;
+mod number;
 pub mod sort;
 mod sorting;
 

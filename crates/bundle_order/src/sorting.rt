@@ -1,10 +1,15 @@
 //! The sort of statements.
 
-ghost use Rattle.std.specs.Prelude.{◌≡◌, IfErr, IfOk, IsPermutation};
+ghost use Rattle.std.specs.Prelude.{◌≡◌, ℕ, ◌++◌, IfErr, IfOk, IsPermutation, List, OnErr, OnOk, length, map};
 ghost use Rattle.std.specs.List.{flat_map};
+ghost use Rattle.bundle_piece.specs.Item.{Item};
+ghost use Rattle.bundle_pieces.specs.Tree.{module_item_items};
+ghost use Rattle.bundle_terms.specs.Sorting.{IsSorted, numbered_items};
+ghost use Rattle.bundle_order.specs.Numbering.{IsSortedBy, owners_of};
 
 use crate::arrange::arrange;
-use crate::group::{Group, is_injected, lists_of};
+use crate::group::{group_at, lists_of};
+use crate::number::{places_by, places_of};
 use bundle_ast::{Module, ModuleItem};
 use bundle_name::Error;
 use bundle_sort::sort_items;
@@ -14,7 +19,8 @@ use std::alloc::{AllocError, Global};
 /// item that the linker noted as its own is free: its module's order does not bind it. Refused only where memory
 /// runs out.
 pub fn sort_stmts(alloc: Global, modules: Vec<Vec<ModuleItem>>) -> Result<Vec<ModuleItem>, Error>
-    ensures sorted { IfOk result (λ sorted. IsPermutation (flat_map (λ items. items.items) modules.items) sorted.items) }
+    ensures sorted { IfOk result (λ sorted. IsSorted (map (λ items. map (module_item_items 0) items.items) modules.items) (map (module_item_items 0) sorted.items)) }
+    ensures moved { IfOk result (λ sorted. IsPermutation (flat_map (λ items. items.items) modules.items) sorted.items) }
     ensures refused { IfErr result (λ refusal. refusal ≡ Error.OutOfMemory) }
 {
     let owners = owners_in(alloc, &modules);
@@ -27,14 +33,24 @@ pub fn sort_stmts(alloc: Global, modules: Vec<Vec<ModuleItem>>) -> Result<Vec<Mo
 }
 
 // The numbers of the modules of the items.
-fn owners_in(alloc: Global, modules: &[Vec<ModuleItem>]) -> Result<Vec<usize>, AllocError> {
+fn owners_in(alloc: Global, modules: &[Vec<ModuleItem>]) -> Result<Vec<usize>, AllocError>
+    ensures { IfOk result (λ owners. owners.items ≡ owners_of 0 (map (λ v. v.items) modules.now)) }
+{
     let mut owners = Vec::new(alloc);
     for (number, items) in modules.iter().enumerate() {
-        for _ in 0..items.len() {
-            owners.push(number)?;
-        }
+        add_owner(&mut owners, number, items)?;
     }
     Ok(owners)
+}
+
+// Adds the number of a module for each of its items.
+fn add_owner(owners: &mut Vec<usize>, number: usize, items: &[ModuleItem]) -> Result<(), AllocError>
+    ensures { OnOk result (owners.new.items ≡ owners.old.items ++ map (λ item. number) items.now) }
+{
+    for _ in 0..items.len() {
+        owners.push(number)?;
+    }
+    Ok(())
 }
 
 // All items, as they stand. They are let go of as modules, which a call does.
@@ -58,42 +74,16 @@ fn joined(alloc: Global, modules: Vec<Vec<ModuleItem>>) -> Result<Module, AllocE
     Ok(all)
 }
 
-// The places of the items in the order in which they are to stand.
-fn order_of(
-    alloc: Global,
-    items: &[ModuleItem],
-    owners: &[usize],
-) -> Result<Vec<usize>, AllocError> {
-    let items = lists_of(alloc, items)?;
-    let mut group = Group::new(alloc)?;
-    let mut places = Vec::new(alloc);
-    for (place, (item, owner)) in items.iter().zip(owners).enumerate() {
-        if !is_injected(item) {
-            group.add(item, Some(*owner))?;
-            places.push(place)?;
-        }
-    }
-    for (place, item) in items.iter().enumerate() {
-        if is_injected(item) {
-            group.add(item, None)?;
-            places.push(place)?;
-        }
-    }
-    order_by(alloc, group, &places)
-}
-
-// The places of the items of a group, sorted.
-fn order_by<'a>(
-    alloc: Global,
-    group: Group<'a>,
-    places: &[usize],
-) -> Result<Vec<usize>, AllocError> {
+// The places of the items in the order in which they are to stand, where these are the numbers of their modules.
+fn order_of(alloc: Global, items: &[ModuleItem], owners: &[usize]) -> Result<Vec<usize>, AllocError>
+    requires { length owners.now ≡ length items.now }
+    ensures { IfOk result (λ order. (modules : List (List (List Item))) → map (module_item_items 0) items.now ≡ flat_map (λ items. items) modules → owners.now ≡ owners_of 0 modules → IsSortedBy modules (map (module_item_items 0) items.now) order.items) }
+{
+    let lists = lists_of(alloc, items)?;
+    let places = places_of(alloc, &lists, owners)?;
+    let group = group_at(alloc, &lists, &places)?;
     let needs = group.dependencies(alloc)?;
-    let mut order = Vec::new(alloc);
-    for number in sort_items(alloc, &needs)? {
-        if let Some(place) = places.get(number) {
-            order.push(*place)?;
-        }
-    }
+    let numbers = sort_items(alloc, &needs)?;
+    let order = places_by(alloc, &places, &numbers)?;
     Ok(order)
 }
