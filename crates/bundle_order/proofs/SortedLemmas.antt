@@ -2,7 +2,7 @@
 use Rattle.std.proofs.Common.{◌≡◌, ◌↔◌, ℕ, zero, suc, ◌+◌, ◌<◌, Vec, Global, List, [], ◌∷◌, ◌++◌, Option, Some, length, get_or, map, slice_get, Contains, refl, sym, ap, ◌∙◌, subst, append_assoc, append-nil, inl, inr, arith}
 use Rattle.std.specs.List.{AllZip, flat_map}
 use Rattle.std.specs.Option.{option_map}
-use Rattle.std.proofs.lemmas.Option.{slice_get-map, slice_get-get_or}
+use Rattle.std.proofs.lemmas.Option.{get_or_from_slice_get, slice_get-map, slice_get-get_or}
 use Rattle.std.proofs.lemmas.List.{length-append, length-map, map-append, get_or_default}
 use Rattle.bundle_ast.specs.declared.module.ModuleItem.{ModuleItem}
 use Rattle.bundle_piece.specs.Item.{Item}
@@ -171,3 +171,32 @@ IsSorted-all modules joined sorted owners order is owned by arranged =
     let all = map lists_in modules in
     let s = by all (ap (λ (l : List ModuleItem). map list_of l) is ∙ joined-lists modules) (owned ∙ owners-lists 0 modules) in
     IsSorted-arranged all joined order sorted s (arranged (subst (λ n. IsArrangement order n) (length-map joined list_of) s.whole))
+
+-- ---- one module alone
+one-owner : (items : List ModuleItem) → map (λ (item : ModuleItem). 0) items ≡ owners_of 0 (map list_of items ∷ [])
+one-owner [] = refl
+one-owner (x ∷ items) = ap (λ (l : List ℕ). 0 ∷ l) (one-owner items)
+
+pub own-owners : (items : List ModuleItem) (owners : List ℕ) → owners ≡ [] ++ map (λ item. 0) items → owners ≡ owners_of 0 (map (module_item_items 0) items ∷ [])
+own-owners items owners e = e ∙ one-owner items
+
+pub own-long : (items : List ModuleItem) → length (owners_of 0 (map (module_item_items 0) items ∷ [])) ≡ length items
+own-long items = length-owners 0 (map list_of items ∷ []) ∙ (ap length (append-nil (map list_of items)) ∙ length-map items list_of)
+
+listed-so : (items : List ModuleItem) (places : List Place) (sorted : List ModuleItem) → AllZip (λ n value. slice_get items n ≡ Some value) (map at_of places) sorted → map list_of sorted ≡ map first_of (map (numbered_at (map list_of items)) places)
+listed-so items [] [] z = refl
+listed-so items [] (v ∷ sorted) z = absurd z
+listed-so items (p ∷ places) [] z = absurd z
+listed-so items (p ∷ places) (v ∷ sorted) z =
+    let here : get_or (map list_of items) p.at [] ≡ list_of v = get_or_from_slice_get (map list_of items) p.at (list_of v) [] (slice_get-map list_of items p.at ∙ ap (λ (o : Option ModuleItem). option_map list_of o) z.0) in
+    ap (λ (l : List Item). l ∷ map list_of sorted) (sym here) ∙ ap (λ (l : List (List Item)). get_or (map list_of items) p.at [] ∷ l) (listed-so items places sorted z.1)
+
+pub own-listed : (items sorted : List ModuleItem) (order : List ℕ) → order ≡ map at_of (all_places (map (module_item_items 0) items) (owners_of 0 (map (module_item_items 0) items ∷ []))) → (IsArrangement order (length items) → AreArranged order items sorted) → map (module_item_items 0) sorted ≡ map (λ one. one.0) (numbered_items (map (module_item_items 0) items ∷ []))
+own-listed items sorted order is arranged =
+    let lists = map list_of items in
+    let owners = owners_of 0 (lists ∷ []) in
+    let len : length owners ≡ length lists = length-owners 0 (lists ∷ []) ∙ ap length (append-nil lists) in
+    let whole = subst (λ n. IsArrangement (map at_of (all_places lists owners)) n) (length-map items list_of) (IsArrangement-places lists owners len) in
+    let z = subst (λ (l : List ℕ). AreArranged l items sorted) is (arranged (subst (λ (l : List ℕ). IsArrangement l (length items)) (sym is) whole)) in
+    listed-so items (all_places lists owners) sorted z
+    ∙ ap (λ (l : List Numbered). map first_of l) (ap (λ (l : List (List Item)). map (numbered_at l) (all_places l owners)) (sym (append-nil lists)) ∙ all-read (lists ∷ []))

@@ -128,3 +128,10 @@ fn at_number(places: &[Place], number: usize) -> usize
 {
     places[number].at
 }
+
+/// The places of items, in the order of their numbers.
+pub(crate) fn ats_of(alloc: Global, places: &[Place]) -> Result<Vec<usize>, AllocError>
+    ensures { IfOk result (λ order. order.items ≡ map at_of places.now) }
+{
+    places.iter().map(|place| place.at).collect(alloc)
+}

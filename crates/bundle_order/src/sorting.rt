@@ -1,15 +1,15 @@
 //! The sort of statements.
 
-ghost use Rattle.std.specs.Prelude.{◌≡◌, ℕ, ◌++◌, IfErr, IfOk, IsPermutation, List, OnErr, OnOk, length, map};
+ghost use Rattle.std.specs.Prelude.{◌≡◌, ℕ, ◌++◌, ◌∷◌, [], IfErr, IfOk, IsPermutation, List, OnErr, OnOk, length, map};
 ghost use Rattle.std.specs.List.{flat_map};
 ghost use Rattle.bundle_piece.specs.Item.{Item};
 ghost use Rattle.bundle_pieces.specs.Tree.{module_item_items};
 ghost use Rattle.bundle_terms.specs.Sorting.{IsSorted, numbered_items};
-ghost use Rattle.bundle_order.specs.Numbering.{IsSortedBy, owners_of};
+ghost use Rattle.bundle_order.specs.Numbering.{IsSortedBy, all_places, at_of, owners_of};
 
 use crate::arrange::arrange;
 use crate::group::{group_at, lists_of};
-use crate::number::{places_by, places_of};
+use crate::number::{ats_of, places_by, places_of};
 use bundle_ast::{Module, ModuleItem};
 use bundle_name::Error;
 use bundle_sort::sort_items;
@@ -30,6 +30,31 @@ pub fn sort_stmts(alloc: Global, modules: Vec<Vec<ModuleItem>>) -> Result<Vec<Mo
     let order = order_of(alloc, joined.body.as_slice(), &owners)?;
     arrange(alloc, &mut joined.body, &order)?;
     Ok(joined.into_body())
+}
+
+/// The items of one module in their order, and then those that the linker noted as its own. Refused only where
+/// memory runs out.
+pub fn in_own_order(alloc: Global, items: Vec<ModuleItem>) -> Result<Vec<ModuleItem>, Error>
+    ensures listed { IfOk result (λ listed. map (module_item_items 0) listed.items ≡ map (λ one. one.0) (numbered_items (map (module_item_items 0) items.items ∷ []))) }
+    ensures moved { IfOk result (λ listed. IsPermutation items.items listed.items) }
+    ensures refused { IfErr result (λ refusal. refusal ≡ Error.OutOfMemory) }
+{
+    let mut all = Module { body: items };
+    let order = own_order_of(alloc, all.body.as_slice())?;
+    arrange(alloc, &mut all.body, &order)?;
+    Ok(all.into_body())
+}
+
+// The places of the items of one module, the free ones last.
+fn own_order_of(alloc: Global, items: &[ModuleItem]) -> Result<Vec<usize>, AllocError>
+    ensures { IfOk result (λ order. order.items ≡ map at_of (all_places (map (module_item_items 0) items.now) (owners_of 0 (map (module_item_items 0) items.now ∷ [])))) }
+{
+    let lists = lists_of(alloc, items)?;
+    let mut owners = Vec::new(alloc);
+    add_owner(&mut owners, 0, items)?;
+    let places = places_of(alloc, &lists, &owners)?;
+    let order = ats_of(alloc, &places)?;
+    Ok(order)
 }
 
 // The numbers of the modules of the items.
