@@ -1,7 +1,6 @@
 -- A good order of items of which all dependencies were found is a good order of their group.
-use Rattle.std.proofs.Common.{◌≡◌, ◌↔◌, Bool, true, false, cond, ℕ, ◌<◌, ◌≤◌, List, [], length, map, slice_get, Contains, Option, Some, None, refl, sym, ap, ◌∙◌, subst, arith}
+use Rattle.std.proofs.Common.{◌≡◌, ◌↔◌, Bool, true, false, cond, ℕ, ◌<◌, List, map, slice_get, Contains, Option, Some, None, refl, sym, ap, ◌∙◌, subst, arith}
 use Rattle.std.specs.Option.{option_map}
-use Rattle.std.proofs.lemmas.Bool.{false≢true}
 use Rattle.std.proofs.lemmas.Option.{none-some, same_Some, slice_get-map}
 use Rattle.std.proofs.lemmas.List.{length-map}
 use Rattle.bundle_graph.specs.Walks.{Path}
@@ -12,7 +11,7 @@ use Rattle.bundle_sort.specs.Items as i
 use Rattle.bundle_sort.specs.Items.{Names, to_need, to_earlier}
 use Rattle.bundle_terms.specs.Order as o
 use Rattle.bundle_terms.specs.Order.{Group, IsStrong, IsWeak, by_need, by_own_order}
-use Rattle.bundle_mentions.specs.Found.{AreFound, HasFound}
+use Rattle.bundle_mentions.specs.Found.{AreFound}
 use Rattle.bundle_needs.specs.Cut.{dependencies_of}
 use Rattle.bundle_order.specs.Owned.{AreTogether, owner_of}
 use Rattle.bundle_order.proofs.FoundLemmas.{has, Depends-forth, Depends-back}

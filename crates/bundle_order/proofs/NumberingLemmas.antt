@@ -1,15 +1,13 @@
 -- The places of items in their numbering.
-use Rattle.std.proofs.Common.{◌≡◌, ◌≢◌, ◌↔◌, ◌⊎◌, ℕ, zero, suc, ◌+◌, ◌-◌, ◌<◌, ◌≤◌, Bool, true, false, not, cond, nat_eq, List, [], ◌∷◌, ◌++◌, Option, Some, None, length, get_or, map, take, slice_get, Contains, refl, sym, ap, ◌∙◌, subst, append_assoc, append-nil, inl, inr, eq-eqb, arith}
-use Rattle.std.specs.List.{All, AllZip, IsDistinct, filter, flat_map}
-use Rattle.std.specs.Option.{option_map}
-use Rattle.std.proofs.lemmas.Bool.{cases_lt, cases_eq, cases_Bool, false≢true}
-use Rattle.std.proofs.lemmas.Option.{slice_get-map, slice_get-get_or, same_Some}
+use Rattle.std.proofs.Common.{◌≡◌, ◌≢◌, ◌↔◌, ◌⊎◌, ℕ, zero, suc, ◌+◌, ◌<◌, ◌≤◌, Bool, true, false, not, cond, nat_eq, List, [], ◌∷◌, ◌++◌, length, get_or, map, take, Contains, refl, sym, ap, ◌∙◌, subst, append_assoc, inl, inr, eq-eqb, arith}
+use Rattle.std.specs.List.{All, IsDistinct, filter, flat_map}
+use Rattle.std.proofs.lemmas.Bool.{cases_lt, cases_eq, false≢true}
 use Rattle.std.proofs.lemmas.List.{length-append, length-map, map-append, get_or-map, get_or_default, length-take-le, take_more}
 use Rattle.std.proofs.lemmas.List.Elements.{Contains-append_left, Contains-append_right, Contains-append_cases}
 use Rattle.std.proofs.lemmas.Map.Keys.{apart_from_distinct}
 use Rattle.bundle_piece.specs.Item.{Item}
 use Rattle.bundle_mentions.proofs.ListLemmas.{Contains-none, Contains-cons}
-use Rattle.bundle_terms.specs.Sorting.{Numbered, flat, free_items, is_injected, numbered_items, owned_items}
+use Rattle.bundle_terms.specs.Sorting.{Numbered, free_items, is_injected, numbered_items, owned_items}
 use Rattle.bundle_order.specs.declared.number.Place.{Place}
 use Rattle.bundle_order.specs.Arranged.{IsArrangement}
 use Rattle.bundle_order.specs.Owned.{owner_by}

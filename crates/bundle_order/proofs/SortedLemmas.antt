@@ -3,7 +3,7 @@ use Rattle.std.proofs.Common.{◌≡◌, ◌↔◌, ℕ, zero, suc, ◌+◌, ◌
 use Rattle.std.specs.List.{AllZip, flat_map}
 use Rattle.std.specs.Option.{option_map}
 use Rattle.std.proofs.lemmas.Option.{get_or_from_slice_get, slice_get-map, slice_get-get_or}
-use Rattle.std.proofs.lemmas.List.{length-append, length-map, map-append, get_or_default}
+use Rattle.std.proofs.lemmas.List.{length-map, map-append, get_or_default}
 use Rattle.bundle_ast.specs.declared.module.ModuleItem.{ModuleItem}
 use Rattle.bundle_piece.specs.Item.{Item}
 use Rattle.bundle_pieces.specs.Tree.{module_item_items}
@@ -16,7 +16,7 @@ use Rattle.bundle_terms.specs.Parts.{tree_of_items}
 use Rattle.bundle_terms.specs.Sorting.{IsSorted, Numbered, flat, group_of_items, numbered_items}
 use Rattle.bundle_terms.specs.Statements.{placed}
 use Rattle.bundle_mentions.specs.Found.{AreFound}
-use Rattle.bundle_mentions.proofs.ListLemmas.{Contains-none, Contains-cons}
+use Rattle.bundle_mentions.proofs.ListLemmas.{Contains-cons}
 use Rattle.bundle_needs.specs.Cut.{dependencies_of}
 use Rattle.bundle_order.specs.declared.number.Place.{Place}
 use Rattle.bundle_order.specs.Arranged.{AreArranged, IsArrangement}

@@ -1,20 +1,14 @@
 -- The graph of items of which all dependencies were found has just these.
-use Rattle.std.proofs.Common.{◌≡◌, Bool, true, false, ℕ, zero, suc, ◌<◌, List, [], ◌∷◌, length, get_or, map, slice_get, Contains, Option, Some, None, is_some, refl, sym, ap, ◌∙◌, subst, inl, inr, arith}
-use Rattle.std.specs.Option.{option_and_then}
+use Rattle.std.proofs.Common.{◌≡◌, Bool, true, false, ℕ, List, map, Option, Some, None, is_some, refl, sym, ap, ◌∙◌}
 use Rattle.std.proofs.lemmas.Bool.{false≢true}
-use Rattle.std.proofs.lemmas.Option.{none-some, same_Some, slice_get_within}
-use Rattle.std.proofs.lemmas.List.{length-map}
 use Rattle.bundle_graph.specs.Statements.{Statements, weight}
 use Rattle.bundle_graph.specs.declared.sort.Required.{Required}
 use Rattle.bundle_graph.specs.declared.sort.Required.TheVariants.{Always, Maybe}
-use Rattle.bundle_sort.specs.declared.Dependency.{Dependency}
 use Rattle.bundle_sort.specs.declared.SortItem.{SortItem}
 use Rattle.bundle_sort.specs.Items.{Names}
-use Rattle.bundle_terms.specs.Order as o
-use Rattle.bundle_terms.specs.Order.{Group, Mention, mention_at, IsStrong, IsWeak, by_member, by_prototype, by_value, SetsUpBy}
+use Rattle.bundle_terms.specs.Order.{Group, IsWeak}
 use Rattle.bundle_terms.specs.Sorting.{IsDependency}
-use Rattle.bundle_mentions.specs.Found.{AreFound, HasFound}
-use Rattle.bundle_mentions.proofs.ListLemmas.{Contains-none}
+use Rattle.bundle_mentions.specs.Found.{AreFound}
 use Rattle.bundle_needs.specs.Cut.{dependencies_of}
 use Rattle.bundle_order.specs.Items.{IsGraphOf}
 use Rattle.bundle_order.proofs.FoundLemmas.{has, names}

@@ -1,6 +1,5 @@
 -- One more value stands in order.
-use Rattle.std.proofs.Common.{◌≡◌, ◌+◌, length, get_or, refl, sym, subst, arith}
-use Rattle.std.specs.List.Sorted.{IsPermutation}
+use Rattle.std.proofs.Common.{◌≡◌, length, get_or, refl, subst, arith}
 use Rattle.std.proofs.lemmas.List.Sorted.{IsPermutation-trans}
 use Rattle.bundle_order.proofs.ArrangeLemmas.{IsArrangedTo, IsArrangedTo-more, AreArranged-all}
 use Rattle.bundle_order.proofs.arrange.arrange.Goals as goal

@@ -1,5 +1,5 @@
 -- One more item was added.
-use Rattle.std.proofs.Common.{◌≡◌, ℕ, ◌+◌, ◌<◌, ◌++◌, ◌∷◌, [], Vec, Global, Option, List, length, get_or, map, take, refl, sym, ap, ◌∙◌, subst}
+use Rattle.std.proofs.Common.{◌≡◌, ℕ, ◌+◌, ◌<◌, ◌++◌, ◌∷◌, [], Vec, Global, Option, List, length, get_or, map, take, sym, ap, ◌∙◌, subst}
 use Rattle.std.proofs.lemmas.List.{get_or-map, map-append, take_all, take_more}
 use Rattle.bundle_piece.specs.declared.piece.Piece.{Piece}
 use Rattle.bundle_piece.specs.Item.{Item, item_of}

@@ -1,6 +1,5 @@
 -- The places are in the order in which the items are sorted.
-use Rattle.std.proofs.Common.{◌≡◌, ◌↔◌, ◌<◌, ℕ, All, Vec, Global, Option, List, Contains, length, get_or, map, sym, ap, ◌∙◌, subst, arith}
-use Rattle.std.specs.List.{flat_map}
+use Rattle.std.proofs.Common.{◌≡◌, ◌<◌, ℕ, All, Vec, Global, List, Contains, length, get_or, map, sym, ap, ◌∙◌, subst, arith}
 use Rattle.std.proofs.lemmas.List.{length-map}
 use Rattle.bundle_ast.specs.declared.module.ModuleItem.{ModuleItem}
 use Rattle.bundle_piece.specs.declared.piece.Piece.{Piece}
@@ -11,7 +10,7 @@ use Rattle.bundle_sort.specs.Items.{IsGoodOrder}
 use Rattle.bundle_terms.specs.Sorting.{Numbered}
 use Rattle.bundle_order.specs.declared.number.Place.{Place}
 use Rattle.bundle_order.specs.Grouped.{IsGroup}
-use Rattle.bundle_order.specs.Numbering.{all_places, at_of, numbered_at, owners_of}
+use Rattle.bundle_order.specs.Numbering.{all_places, at_of, numbered_at}
 use Rattle.bundle_order.specs.Owned.{owner_of}
 use Rattle.bundle_order.proofs.NumberingLemmas.{all-within}
 use Rattle.bundle_order.proofs.SortedLemmas.{IsSortedBy-order}

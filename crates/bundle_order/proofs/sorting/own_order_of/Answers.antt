@@ -1,11 +1,10 @@
-use Rattle.std.proofs.Common.{◌≡◌, ◌++◌, Vec, Global, ℕ, List, [], ◌∷◌, length, map, ap, ◌∙◌, arith}
-use Rattle.std.proofs.lemmas.List.{length-map}
+use Rattle.std.proofs.Common.{◌≡◌, ◌++◌, Vec, Global, ℕ, List, length, map, ap, ◌∙◌, arith}
 use Rattle.bundle_ast.specs.declared.module.ModuleItem.{ModuleItem}
 use Rattle.bundle_piece.specs.declared.piece.Piece.{Piece}
 use Rattle.bundle_piece.specs.Item.{Item, item_of}
 use Rattle.bundle_pieces.specs.Tree.{module_item_items}
 use Rattle.bundle_order.specs.declared.number.Place.{Place}
-use Rattle.bundle_order.specs.Numbering.{all_places, at_of, owners_of}
+use Rattle.bundle_order.specs.Numbering.{all_places, at_of}
 use Rattle.bundle_order.proofs.SortedLemmas.{own-long, own-owners}
 use Rattle.bundle_order.proofs.sorting.own_order_of.Goals as goal
 

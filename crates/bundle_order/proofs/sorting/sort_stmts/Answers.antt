@@ -5,7 +5,6 @@ use Rattle.bundle_ast.specs.declared.module.ModuleItem.{ModuleItem}
 use Rattle.bundle_piece.specs.Item.{Item}
 use Rattle.bundle_pieces.specs.Tree.{module_item_items}
 use Rattle.bundle_terms.specs.Sorting.{IsSorted}
-use Rattle.bundle_order.specs.Arranged.{AreArranged, IsArrangement}
 use Rattle.bundle_order.specs.Numbering.{IsSortedBy, owners_of}
 use Rattle.bundle_order.proofs.SortedLemmas.{IsSorted-all, as-long}
 use Rattle.bundle_order.proofs.sorting.sort_stmts.Goals as goal

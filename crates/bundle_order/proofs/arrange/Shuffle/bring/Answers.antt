@@ -1,5 +1,5 @@
 -- What is wanted was brought to its place.
-use Rattle.std.proofs.Common.{◌≡◌, ◌<◌, length, get_or, arith}
+use Rattle.std.proofs.Common.{arith}
 use Rattle.std.proofs.lemmas.List.{get_or_read}
 use Rattle.bundle_order.proofs.ArrangeLemmas.{IsShuffled-brought, AreSwapped-brought}
 use Rattle.bundle_order.proofs.arrange.Shuffle.bring.Goals as goal
