@@ -1,0 +1,4 @@
+mod GroupLemmas
+mod KeptLemmas
+mod PutLemmas
+mod RestLemmas
