@@ -8,7 +8,8 @@ use Rattle.std.specs.declared.vec.Vec.{Vec}
 use Rattle.std.specs.declared.alloc.Global.{Global}
 use Rattle.indexmap.specs.IndexMap.{insert_entry}
 use Rattle.std.proofs.lemmas.Option.{same_Some}
-use Rattle.bundle_parts.specs.Parts.{Groups, Owned, put, put_any, owned}
+use Rattle.bundle_parts.specs.Groups.{Groups, put, put_any, owned}
+use Rattle.bundle_parts.specs.Parts.{Owned}
 use Rattle.bundle_parts.specs.Held.{group}
 
 module _ {A : Type 0} where

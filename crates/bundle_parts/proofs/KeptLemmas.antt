@@ -7,7 +7,7 @@ use Rattle.std.specs.Map.Calls.{RetainsPairs}
 use Rattle.std.specs.declared.vec.Vec.{Vec}
 use Rattle.std.specs.declared.alloc.Global.{Global}
 use Rattle.bundle_parts.specs.Held.{group}
-use Rattle.bundle_parts.specs.Parts.{IsKept, IsSifted, is_any}
+use Rattle.bundle_parts.specs.Groups.{IsKept, IsSifted, is_any}
 
 -- whether there is an item, by their number
 pub any_from : {A : Type 0} (xs : List A) (n : ℕ) → n ≡ length xs → not (n == 0) ≡ is_any xs

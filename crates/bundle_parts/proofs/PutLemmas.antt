@@ -1,10 +1,11 @@
 -- Items that are put one by one, and those that are first put together.
 use Rattle.std.proofs.Common.{◌≡◌, ℕ, nat_eq, Bool, true, false, List, [], ◌∷◌, ◌++◌, refl, sym, ap, ◌∙◌, append_assoc, eqb-true, eq-eqb, if◌then◌else◌}
 use Rattle.std.proofs.lemmas.Bool.{false≢true}
-use Rattle.bundle_parts.specs.Parts.{Groups, Owned, put, put_all, put_each}
+use Rattle.bundle_parts.specs.Groups.{Groups, IsTidy, has, put, put_all, put_each}
+use Rattle.bundle_parts.specs.Parts.{Owned}
 
 -- two numbers that differ do so in either order
-turned : (m n : ℕ) → nat_eq m n ≡ false → nat_eq n m ≡ false
+pub turned : (m n : ℕ) → nat_eq m n ≡ false → nat_eq n m ≡ false
 turned m n apart = step (nat_eq n m) refl
   where
     step : (b : Bool) → nat_eq n m ≡ b → b ≡ false
@@ -12,16 +13,6 @@ turned m n apart = step (nat_eq n m) refl
     step false is = refl
 
 module _ {A : Type 0} where
-  -- whether a module has a place
-  abbrev pub has : Groups A → ℕ → Bool
-  has [] m = false
-  has ((n, items) ∷ rest) m = if nat_eq m n then true else has rest m
-
-  -- each module has one place, and an item there
-  abbrev pub IsTidy : Groups A → Type 0
-  IsTidy [] = Unit {0}
-  IsTidy ((m, items) ∷ rest) = (has rest m ≡ false) × (items ≡ [] → ⊥) × IsTidy rest
-
   -- what is put for one module, then more for it
   pub put-put : (groups : Groups A) (m : ℕ) (xs ys : List A) → put (put groups m xs) m ys ≡ put groups m (xs ++ ys)
   put-put [] m xs ys = step (nat_eq m m) (eq-eqb m m refl)
@@ -99,10 +90,10 @@ module _ {A : Type 0} where
           ∙ ap (λ k. put (put_all (put groups n (y ∷ ys)) rest) k (x ∷ [])) (sym same)
       step false is ih = ih
 
-  some-none : (x : A) (xs : List A) → x ∷ xs ≡ [] → ⊥
+  pub some-none : (x : A) (xs : List A) → x ∷ xs ≡ [] → ⊥
   some-none x xs e = cc
 
-  pushed-none : (xs : List A) (x : A) → xs ++ x ∷ [] ≡ [] → ⊥
+  pub pushed-none : (xs : List A) (x : A) → xs ++ x ∷ [] ≡ [] → ⊥
   pushed-none [] x e = some-none x [] e
   pushed-none (y ∷ ys) x e = some-none y (ys ++ x ∷ []) e
 

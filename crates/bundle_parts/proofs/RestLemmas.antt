@@ -5,7 +5,7 @@ use Rattle.std.specs.Map.Iter.{TakesFirst}
 use Rattle.std.specs.declared.vec.Vec.{Vec}
 use Rattle.std.specs.declared.alloc.Global.{Global}
 use Rattle.bundle_parts.specs.Held.{group}
-use Rattle.bundle_parts.specs.Parts.{owned}
+use Rattle.bundle_parts.specs.Groups.{owned}
 use Rattle.bundle_parts.specs.Rest.{rest_of_part}
 use Rattle.bundle_parts.specs.declared.iter.PartIter.{PartIter}
 

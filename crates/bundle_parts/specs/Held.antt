@@ -3,7 +3,7 @@ use Rattle.std.specs.Prelude.{◌≡◌, ℕ, Bool, List, Result, Ok, map}
 use Rattle.std.specs.Borrow.{Bor}
 use Rattle.std.specs.declared.alloc.Global.{Global}
 use Rattle.std.specs.declared.vec.Vec.{Vec}
-use Rattle.bundle_parts.specs.Parts.{Groups}
+use Rattle.bundle_parts.specs.Groups.{Groups}
 use Rattle.bundle_parts.specs.declared.part.Part.{Part}
 
 -- a module with its items
@@ -21,3 +21,7 @@ Asks calls m item answer = (given : Bor _) × (given.now ≡ item) × calls m gi
 -- a call for a module and these items may answer those
 abbrev pub Answers : {A E : Type 0} → (ℕ → Bor (List A) → Result (Vec A Global) E → Type 0) → ℕ → List A → List A → Type 0
 Answers calls m items answer = (given : Bor (List _)) × (got : Vec _ Global) × (given.now ≡ items) × calls m given (Ok got) × (got.items ≡ answer)
+
+-- a call for a module and an item may answer that item
+abbrev pub Replies : {A E : Type 0} → (ℕ → Bor A → Result A E → Type 0) → ℕ → A → A → Type 0
+Replies calls m item answer = (given : Bor _) × (given.now ≡ item) × calls m given (Ok answer)

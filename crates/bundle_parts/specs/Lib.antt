@@ -1,3 +1,4 @@
+pub mod Groups
 pub mod Held
 pub mod Parts
 pub mod Rest

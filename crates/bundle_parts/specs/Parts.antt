@@ -1,88 +1,103 @@
--- Items by module: what stands in front, the bodies, and what stands behind. Each part holds its items by modules, as
--- these first came into it.
-use Rattle.std.specs.Prelude.{◌≡◌, ℕ, nat_eq, Bool, true, false, List, [], ◌∷◌, ◌++◌, map, if◌then◌else◌}
-use Rattle.std.specs.List.{flat_map}
-
--- items by module: each module with its own
-abbrev pub Groups : Type 0 → Type 0
-Groups A = List (ℕ × List A)
+-- Lists of items by module, of whatever kind: what stands in front, the bodies, and what stands behind. Each part holds
+-- pairs of a module and an item, by modules as these first came into it.
+use Rattle.std.specs.Prelude.{◌≡◌, ℕ, ◌==◌, nat_eq, not, Bool, true, false, List, [], ◌∷◌, ◌++◌, map, filter, if◌then◌else◌}
+use Rattle.std.specs.List.{AllZip}
 
 -- an item with its module
 abbrev pub Owned : Type 0 → Type 0
 Owned A = ℕ × A
 
--- the items of modules in turn, each with its module
-abbrev pub owned : {A : Type 0} → Groups A → List (Owned A)
-owned groups = flat_map (λ group. map (λ item. (group.0, item)) group.1) groups
+-- the items of other modules
+abbrev pub others : {A : Type 0} → ℕ → List (Owned A) → List (Owned A)
+others m pairs = filter (λ pair. if nat_eq pair.0 m then false else true) pairs
 
--- more items, behind the last one of their module; at the end where the module has none
-abbrev pub put : {A : Type 0} → Groups A → ℕ → List A → Groups A
-put [] m items = (m, items) ∷ []
-put ((n, its) ∷ rest) m items = if nat_eq m n then (n, its ++ items) ∷ rest else (n, its) ∷ put rest m items
+-- the items by modules, as these first come, each module's in their order
+abbrev pub by_modules : {A : Type 0} → List (Owned A) → List (Owned A)
+by_modules [] = []
+by_modules ((m, item) ∷ rest) = (m, item) ∷ (filter (λ pair. nat_eq pair.0 m) rest ++ others m (by_modules rest))
 
--- the same, where there may be none: a module without items has no place
-abbrev pub put_any : {A : Type 0} → Groups A → ℕ → List A → Groups A
-put_any groups m [] = groups
-put_any groups m (item ∷ items) = put groups m (item ∷ items)
+-- the items of a module
+abbrev pub items_in : {A : Type 0} → List (Owned A) → ℕ → List A
+items_in pairs m = map (λ pair. pair.1) (filter (λ pair. nat_eq pair.0 m) pairs)
 
--- all items of b behind those of a
-abbrev pub put_all : {A : Type 0} → Groups A → Groups A → Groups A
-put_all a [] = a
-put_all a ((m, items) ∷ rest) = put_all (put_any a m items) rest
-
--- each of these items behind the last one of its module, in turn
-abbrev pub put_each : {A : Type 0} → Groups A → List (Owned A) → Groups A
-put_each groups [] = groups
-put_each groups ((m, item) ∷ rest) = put_each (put groups m (item ∷ [])) rest
+-- items, as those of a module
+abbrev pub owned_by : {A : Type 0} → ℕ → List A → List (Owned A)
+owned_by m items = map (λ item. (m, item)) items
 
 -- the three parts
 pub record Held (A : Type 0) : Type 0 where
-  pub prepended : Groups A
-  pub bodies : Groups A
-  pub appended : Groups A
+  pub prepended : List (Owned A)
+  pub bodies : List (Owned A)
+  pub appended : List (Owned A)
 
 -- nothing
 abbrev pub nothing : {A : Type 0} → Held A
 nothing = record { prepended = []; bodies = []; appended = [] }
 
--- each part of b behind the same part of a
-abbrev pub joined : {A : Type 0} → Held A → Held A → Held A
-joined a b = record {
-  prepended = put_all a.prepended b.prepended;
-  bodies = put_all a.bodies b.bodies;
-  appended = put_all a.appended b.appended;
-}
+-- the items of one module, as its body
+abbrev pub held_by : {A : Type 0} → ℕ → List A → Held A
+held_by m items = record { prepended = []; bodies = owned_by m items; appended = [] }
 
 -- all items, in the order in which they are gone through: the parts in turn
 abbrev pub in_order : {A : Type 0} → Held A → List (Owned A)
-in_order held = owned held.prepended ++ (owned held.bodies ++ owned held.appended)
+in_order held = held.prepended ++ (held.bodies ++ held.appended)
 
--- `to` has, in the place of each module's items, what is answered for them, behind what was `done`
-abbrev pub IsMapped : {A : Type 0} → (ℕ → List A → List A → Type 0) → Groups A → Groups A → Groups A → Type 0
-IsMapped answers done [] to = to ≡ done
-IsMapped answers done ((m, items) ∷ rest) to = (answer : List _) × answers m items answer × IsMapped answers (put_any done m answer) rest to
+-- one more item, behind the last one of its module; at the end where the module has none
+abbrev pub put_last : {A : Type 0} → List (Owned A) → Owned A → List (Owned A)
+put_last pairs one = by_modules (pairs ++ one ∷ [])
 
--- each part of `to` has, in the place of each module's items in the same part of `from`, what is answered for them
-abbrev pub IsMappedInParts : {A : Type 0} → (ℕ → List A → List A → Type 0) → Held A → Held A → Type 0
-IsMappedInParts answers from to =
-    IsMapped answers [] from.prepended to.prepended × IsMapped answers [] from.bodies to.bodies × IsMapped answers [] from.appended to.appended
+-- more items, each behind the last one of its module, in turn
+abbrev pub put_in_turn : {A : Type 0} → List (Owned A) → List (Owned A) → List (Owned A)
+put_in_turn pairs [] = pairs
+put_in_turn pairs (one ∷ rest) = put_in_turn (put_last pairs one) rest
 
--- whether there is an item
-abbrev pub is_any : {A : Type 0} → List A → Bool
-is_any [] = false
-is_any (item ∷ items) = true
+-- each part of b behind the same part of a
+abbrev pub joined : {A : Type 0} → Held A → Held A → Held A
+joined a b = record {
+  prepended = by_modules (a.prepended ++ b.prepended);
+  bodies = by_modules (a.bodies ++ b.bodies);
+  appended = by_modules (a.appended ++ b.appended);
+}
 
--- of these items those are kept for which the answer is true
-abbrev pub IsSifted : {A : Type 0} → (A → Bool → Type 0) → List A → List A → Type 0
-IsSifted asks [] kept = kept ≡ []
-IsSifted asks (item ∷ items) kept = (answer : Bool) × (rest : List _) × asks item answer × IsSifted asks items rest × (kept ≡ (if answer then item ∷ rest else rest))
+-- the numbers in their order, each once, where it stands first
+abbrev pub once : List ℕ → List ℕ
+once [] = []
+once (n ∷ rest) = n ∷ filter (λ m. not (n == m)) (once rest)
 
--- of the items of each module those are kept for which the answer is true; a module of which none is kept has no place
-abbrev pub IsKept : {A : Type 0} → (ℕ → A → Bool → Type 0) → Groups A → Groups A → Type 0
-IsKept asks [] to = to ≡ []
-IsKept asks ((m, items) ∷ rest) to =
-    (kept : List _) × (others : Groups _) × IsSifted (asks m) items kept × IsKept asks rest others × (to ≡ (if is_any kept then (m, kept) ∷ others else others))
+-- the modules of a part, as they first came into it
+abbrev pub modules_in : {A : Type 0} → List (Owned A) → List ℕ
+modules_in pairs = once (map (λ pair. pair.0) pairs)
 
--- the same in each part
-abbrev pub IsKeptInParts : {A : Type 0} → (ℕ → A → Bool → Type 0) → Held A → Held A → Type 0
-IsKeptInParts asks from to = IsKept asks from.prepended to.prepended × IsKept asks from.bodies to.bodies × IsKept asks from.appended to.appended
+-- something holds of each part before and after
+pub record HoldsOfParts {A : Type 0} (Holds : List (Owned A) → List (Owned A) → Type 0) (before after : Held A) : Type 0 where
+  pub prepended : Holds before.prepended after.prepended
+  pub bodies : Holds before.bodies after.bodies
+  pub appended : Holds before.appended after.appended
+
+-- `ListsAnswered May pairs modules new`: for each of these modules, its list of items is replaced by what may be answered to it
+pub data ListsAnswered {A : Type 0} (May : ℕ → List A → List A → Type 0) (pairs : List (Owned A)) : List ℕ → List (Owned A) → Type 0 where
+  over : ListsAnswered May pairs [] []
+  next : {m : ℕ} {rest : List ℕ} {new : List (Owned A)} (answer : List A) → May m (items_in pairs m) answer → ListsAnswered May pairs rest new → ListsAnswered May pairs (m ∷ rest) (owned_by m answer ++ new)
+
+-- each module's list of items in each part is replaced by an answer
+abbrev pub MapsLists : {A : Type 0} → (ℕ → List A → List A → Type 0) → Held A → Held A → Type 0
+MapsLists May before after = HoldsOfParts (λ old new. ListsAnswered May old (modules_in old) new) before after
+
+-- an item of the same module, as may be answered
+pub record ItemAnswered {A : Type 0} (May : ℕ → A → A → Type 0) (old new : Owned A) : Type 0 where
+  pub same : new.0 ≡ old.0
+  pub answered : May old.0 old.1 new.1
+
+-- each item is replaced by an answer
+abbrev pub MapsItems : {A : Type 0} → (ℕ → A → A → Type 0) → Held A → Held A → Type 0
+MapsItems May before after = HoldsOfParts (AllZip (ItemAnswered May)) before after
+
+-- `Retained May old new`: an item for which true is answered stays, and one for which false is answered goes
+pub data Retained {A : Type 0} (May : ℕ → A → Bool → Type 0) : List (Owned A) → List (Owned A) → Type 0 where
+  over : Retained May [] []
+  stays : {one : Owned A} {old new : List (Owned A)} → May one.0 one.1 true → Retained May old new → Retained May (one ∷ old) (one ∷ new)
+  goes : {one : Owned A} {old new : List (Owned A)} → May one.0 one.1 false → Retained May old new → Retained May (one ∷ old) new
+
+-- the items stay for which true is answered
+abbrev pub Retains : {A : Type 0} → (ℕ → A → Bool → Type 0) → Held A → Held A → Type 0
+Retains May before after = HoldsOfParts (Retained May) before after

@@ -2,7 +2,8 @@
 use Rattle.std.specs.Prelude.{ℕ, List, ◌++◌, map}
 use Rattle.std.specs.Borrow.{Bor}
 use Rattle.bundle_parts.specs.Held.{group}
-use Rattle.bundle_parts.specs.Parts.{Owned, owned}
+use Rattle.bundle_parts.specs.Groups.{owned}
+use Rattle.bundle_parts.specs.Parts.{Owned}
 use Rattle.bundle_parts.specs.declared.iter.PartIter.{PartIter}
 
 -- the items that are left of the module at hand, and then those of the modules behind it

@@ -4,7 +4,7 @@ ghost use Rattle.std.specs.Prelude.{◌≡◌, [], ◌++◌, length};
 ghost use Rattle.std.specs.Iterator.{at_most};
 ghost use Rattle.std.specs.Map.Iter.{TakesFirst};
 ghost use Rattle.bundle_parts.specs.Held.{groups_of};
-ghost use Rattle.bundle_parts.specs.Parts.{owned};
+ghost use Rattle.bundle_parts.specs.Groups.{owned};
 ghost use Rattle.bundle_parts.specs.Rest.{rest_of_part, deref_owned};
 
 use crate::part::Part;

@@ -1,12 +1,16 @@
 //! One part of what a linker holds.
 
 ghost use Rattle.std.specs.Prelude.{◌≡◌, [], ◌∷◌, ◌++◌, map, IfOk, OnOk, OnErr};
-ghost use Rattle.bundle_parts.specs.Held.{Answers, Asks, groups_of};
-ghost use Rattle.bundle_parts.specs.Parts.{IsKept, IsMapped, IsSifted, is_any, owned, put, put_any, put_all, put_each};
+ghost use Rattle.bundle_parts.specs.Held.{Answers, Asks, Replies, groups_of};
+ghost use Rattle.bundle_parts.specs.Groups.{IsKept, IsMapped, IsSifted, ItemsAnswered, count_of, cut, is_any, owned, put, put_any, put_all, put_each, undone};
+ghost use Rattle.std.specs.List.{AllZip};
 
 use bundle_id::ModuleId;
 use indexmap::IndexMap;
 use std::alloc::{AllocError, Global};
+
+// A module, and how many items it had before it got more, if it had a place.
+pub(crate) type Noted = (ModuleId, Option<usize>);
 
 /// Items by module, as the modules first came. No module stands there without an item.
 #[derive(Drop)]
@@ -68,27 +72,81 @@ impl<T: Drop> Part<T> {
         Ok(())
     }
 
-    /// Sees to it that there is room for the items of another part behind those that are here.
-    pub(crate) fn reserve(&mut self, other: &Part<T>) -> Result<(), AllocError>
-        ensures same { groups_of self.new ≡ groups_of self.old }
+    // How many items a module has, if it has a place.
+    fn count_of(&self, id: ModuleId) -> Option<usize>
+        ensures { result ≡ count_of (groups_of self.now) id }
     {
-        self.modules.reserve(other.modules.len())?;
-        for (id, more) in &other.modules {
-            if let Some(items) = self.modules.get_mut(id) {
-                items.reserve(more.len())?;
+        match self.modules.get(&id) {
+            Some(items) => Some(items.len()),
+            None => None,
+        }
+    }
+
+    // Leaves that many items of a module; where it had no place, it has none again.
+    fn cut(&mut self, id: ModuleId, count: Option<usize>)
+        ensures { groups_of self.new ≡ cut (groups_of self.old) id count }
+    {
+        match count {
+            Some(count) => {
+                if let Some(items) = self.modules.get_mut(&id) {
+                    items.truncate(count);
+                }
             }
+            None => {
+                self.modules.shift_remove(&id);
+            }
+        }
+    }
+
+    // Adds items behind the last one of their module, and notes how many it had.
+    fn extend_noted(
+        &mut self,
+        id: ModuleId,
+        items: Vec<T>,
+        log: &mut Vec<Noted>,
+    ) -> Result<(), AllocError>
+        ensures put { OnOk result (groups_of self.new ≡ put_any (groups_of self.old) id items.items) }
+        ensures undone { undone log.new.items (groups_of self.new) ≡ undone log.old.items (groups_of self.old) }
+    {
+        log.push((id, self.count_of(id)))?;
+        self.extend(id, items)
+    }
+
+    // Adds the items of another part behind those that are here, and notes what was there.
+    fn append_noted(&mut self, other: Part<T>, log: &mut Vec<Noted>) -> Result<(), AllocError>
+        ensures put { OnOk result (groups_of self.new ≡ put_all (groups_of self.old) (groups_of other)) }
+        ensures undone { undone log.new.items (groups_of self.new) ≡ undone log.old.items (groups_of self.old) }
+    {
+        for (id, items) in other.modules {
+            self.extend_noted(id, items, log)?;
         }
         Ok(())
     }
 
-    /// Adds the items of another part behind those that are here. Where room was made for them, this is not refused.
-    pub(crate) fn append(&mut self, other: Part<T>) -> Result<(), AllocError>
-        ensures { OnOk result (groups_of self.new ≡ put_all (groups_of self.old) (groups_of other)) }
+    /// Adds the items of another part behind those that are here, and gives what takes them back.
+    pub(crate) fn append(&mut self, other: Part<T>) -> Result<Vec<Noted>, AllocError>
+        ensures put { OnOk result (groups_of self.new ≡ put_all (groups_of self.old) (groups_of other)) }
+        ensures undone { IfOk result (λ log. undone log.items (groups_of self.new) ≡ groups_of self.old) }
+        ensures refused { OnErr result (groups_of self.new ≡ groups_of self.old) }
     {
-        for (id, items) in other.modules {
-            self.extend(id, items)?;
+        let mut log = Vec::new(*self.modules.allocator());
+        match self.append_noted(other, &mut log) {
+            Ok(()) => Ok(log),
+            Err(refusal) => {
+                self.take_back(log);
+                Err(refusal)
+            }
         }
-        Ok(())
+    }
+
+    /// Takes back what was added, the last first.
+    pub(crate) fn take_back(&mut self, log: Vec<Noted>)
+        ensures { groups_of self.new ≡ undone log.items (groups_of self.old) }
+    {
+        let mut rest = log;
+        while let Some(noted) = rest.pop() {
+            self.cut(noted.0, noted.1);
+        }
     }
 
     /// The part in which what `f` answers stands in the place of each module's items.
@@ -101,6 +159,22 @@ impl<T: Drop> Part<T> {
         let mut mapped = Part::new(*self.modules.allocator());
         for (id, items) in &self.modules {
             let answer = f(*id, items.as_slice())?;
+            mapped.extend(*id, answer)?;
+        }
+        Ok(mapped)
+    }
+
+    /// The part in which what `f` answers stands in the place of each item.
+    pub(crate) fn mapped_items<F, E: From<AllocError> + Drop>(&self, f: &F) -> Result<Part<T>, E>
+    where
+        F: Fn(ModuleId, &T) -> Result<T, E>,
+        requires { F.IsAlwaysCallable f.now }
+        ensures { IfOk result (λ mapped. IsMapped (ItemsAnswered (Replies (F.post f.now))) [] (groups_of self.now) (groups_of mapped)) }
+    {
+        let alloc = *self.modules.allocator();
+        let mut mapped = Part::new(alloc);
+        for (id, items) in &self.modules {
+            let answer = replies(alloc, f, *id, items.as_slice())?;
             mapped.extend(*id, answer)?;
         }
         Ok(mapped)
@@ -126,6 +200,28 @@ impl<T: Drop> Part<T> {
         }
         Ok(())
     }
+}
+
+// What `f` answers for each item of a module.
+fn replies<T: Drop, F, E: From<AllocError> + Drop>(
+    alloc: Global,
+    f: &F,
+    id: ModuleId,
+    items: &[T],
+) -> Result<Vec<T>, E>
+where
+    F: Fn(ModuleId, &T) -> Result<T, E>,
+    requires { F.IsAlwaysCallable f.now }
+    ensures { IfOk result (λ replies. AllZip (Replies (F.post f.now) id) items.now replies.items) }
+{
+    let mut replies = Vec::new(alloc);
+    for item in items {
+        let reply = f(id, item)?;
+        if let Err(refusal) = replies.push(reply) {
+            return Err(AllocError::from(refusal).into());
+        }
+    }
+    Ok(replies)
 }
 
 // Keeps the items of a module for which `f` answers true, and tells whether there are any.

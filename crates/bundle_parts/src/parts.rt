@@ -1,8 +1,9 @@
 //! What a linker holds while it makes one module of several.
 
-ghost use Rattle.std.specs.Prelude.{◌≡◌, [], ◌∷◌, map, IfOk, OnOk, OnErr};
-ghost use Rattle.bundle_parts.specs.Held.{Answers, Asks};
-ghost use Rattle.bundle_parts.specs.Parts.{IsKeptInParts, IsMappedInParts, in_order, joined, nothing, put, put_any, put_each};
+ghost use Rattle.std.specs.Prelude.{◌≡◌, map, IfOk, OnOk, OnErr};
+ghost use Rattle.bundle_parts.specs.Groups.{put_all};
+ghost use Rattle.bundle_parts.specs.Held.{Answers, Asks, Replies, groups_of};
+ghost use Rattle.bundle_parts.specs.Parts.{MapsItems, MapsLists, Retains, held_by, in_order, joined, nothing, put_in_turn, put_last};
 
 use crate::iter::Iter;
 use crate::part::Part;
@@ -20,12 +21,15 @@ pub struct Parts<T> {
 }
 
 impl<T> Model for Parts<T> {
+    ghost use Rattle.bundle_parts.specs.Groups.{IsTidy, owned};
     ghost use Rattle.bundle_parts.specs.Parts.{Held};
     ghost use Rattle.bundle_parts.specs.Held.{groups_of};
 
     ghost Value = { Held T };
 
-    ghost view = { λ parts. record { prepended = groups_of parts.prepended; bodies = groups_of parts.bodies; appended = groups_of parts.appended } };
+    ghost view = { λ parts. record { prepended = owned (groups_of parts.prepended); bodies = owned (groups_of parts.bodies); appended = owned (groups_of parts.appended) } };
+
+    ghost invariant = { λ parts. IsTidy (groups_of parts.prepended) × IsTidy (groups_of parts.bodies) × IsTidy (groups_of parts.appended) };
 }
 
 impl<T: Drop> Parts<T> {
@@ -42,7 +46,7 @@ impl<T: Drop> Parts<T> {
 
     /// The items of one module, as its body.
     pub fn from(alloc: Global, id: ModuleId, items: Vec<T>) -> Result<Parts<T>, AllocError>
-        ensures { IfOk result (λ parts. parts ≡ record nothing { bodies = put_any [] id items.items }) }
+        ensures { IfOk result (λ parts. parts ≡ held_by id items.items) }
     {
         let mut parts = Parts::empty(alloc);
         parts.bodies.extend(id, items)?;
@@ -52,7 +56,7 @@ impl<T: Drop> Parts<T> {
     /// Adds an item in front, behind those that are there. Refused only where memory runs out, and then nothing is
     /// added.
     pub fn prepend(&mut self, id: ModuleId, item: T) -> Result<(), AllocError>
-        ensures put { OnOk result (self.new ≡ record self.old { prepended = put self.old.prepended id (item ∷ []) }) }
+        ensures put { OnOk result (self.new ≡ record self.old { prepended = put_last self.old.prepended (id, item) }) }
         ensures refused { OnErr result (self.new ≡ self.old) }
     {
         self.prepended.push(id, item)
@@ -60,7 +64,7 @@ impl<T: Drop> Parts<T> {
 
     /// Adds an item behind. Refused only where memory runs out, and then nothing is added.
     pub fn append(&mut self, id: ModuleId, item: T) -> Result<(), AllocError>
-        ensures put { OnOk result (self.new ≡ record self.old { appended = put self.old.appended id (item ∷ []) }) }
+        ensures put { OnOk result (self.new ≡ record self.old { appended = put_last self.old.appended (id, item) }) }
         ensures refused { OnErr result (self.new ≡ self.old) }
     {
         self.appended.push(id, item)
@@ -68,28 +72,32 @@ impl<T: Drop> Parts<T> {
 
     /// Adds items behind, each in turn. Refused only where memory runs out, and then nothing is added.
     pub fn append_all(&mut self, items: Vec<(ModuleId, T)>) -> Result<(), AllocError>
-        ensures put { OnOk result (self.new ≡ record self.old { appended = put_each self.old.appended items.items }) }
+        ensures put { OnOk result (self.new ≡ record self.old { appended = put_in_turn self.old.appended items.items }) }
+        ensures refused { OnErr result (self.new ≡ self.old) }
     {
-        let more = Part::collected(self.allocator(), items)?;
-        self.appended.reserve(&more)?;
-        self.appended.append(more)
+        let more = Part::collected(*self.appended.modules.allocator(), items)?;
+        self.appended.append(more)?;
+        Ok(())
     }
 
     /// Adds each part of others behind the same part. Refused only where memory runs out, and then nothing is added.
     pub fn push_all(&mut self, other: Parts<T>) -> Result<(), AllocError>
         ensures put { OnOk result (self.new ≡ joined self.old other) }
+        ensures refused { OnErr result (self.new ≡ self.old) }
     {
-        self.prepended.reserve(&other.prepended)?;
-        self.bodies.reserve(&other.bodies)?;
-        self.appended.reserve(&other.appended)?;
         let Parts {
             prepended,
             bodies,
             appended,
         } = other;
-        self.prepended.append(prepended)?;
-        self.bodies.append(bodies)?;
-        self.appended.append(appended)
+        let first = self.prepended.append(prepended)?;
+        match append_both(&mut self.bodies, bodies, &mut self.appended, appended) {
+            Ok(()) => Ok(()),
+            Err(refusal) => {
+                self.prepended.take_back(first);
+                Err(refusal)
+            }
+        }
     }
 
     /// All items, each with the number of its module: the parts in turn.
@@ -99,18 +107,13 @@ impl<T: Drop> Parts<T> {
         Iter::new(&self.prepended, &self.bodies, &self.appended)
     }
 
-    // What the parts are made with.
-    fn allocator(&self) -> Global {
-        *self.bodies.modules.allocator()
-    }
-
     /// Puts what `f` answers in the place of each module's items, part by part. Where `f` refuses this does so too,
     /// and nothing changes.
     pub fn map_any_items<F, E: From<AllocError> + Drop>(&mut self, f: &F) -> Result<(), E>
     where
         F: Fn(ModuleId, &[T]) -> Result<Vec<T>, E>,
         requires { F.IsAlwaysCallable f.now }
-        ensures answered { OnOk result (IsMappedInParts (Answers (F.post f.now)) self.old self.new) }
+        ensures answered { OnOk result (MapsLists (Answers (F.post f.now)) self.old self.new) }
         ensures refused { OnErr result (self.new ≡ self.old) }
     {
         let prepended = self.prepended.mapped(f)?;
@@ -124,12 +127,31 @@ impl<T: Drop> Parts<T> {
         Ok(())
     }
 
+    /// Puts what `f` answers in the place of each item. Where `f` refuses this does so too, and nothing changes.
+    pub fn map_items_mut<F, E: From<AllocError> + Drop>(&mut self, f: &F) -> Result<(), E>
+    where
+        F: Fn(ModuleId, &T) -> Result<T, E>,
+        requires { F.IsAlwaysCallable f.now }
+        ensures answered { OnOk result (MapsItems (Replies (F.post f.now)) self.old self.new) }
+        ensures refused { OnErr result (self.new ≡ self.old) }
+    {
+        let prepended = self.prepended.mapped_items(f)?;
+        let bodies = self.bodies.mapped_items(f)?;
+        let appended = self.appended.mapped_items(f)?;
+        *self = Parts {
+            prepended,
+            bodies,
+            appended,
+        };
+        Ok(())
+    }
+
     /// Keeps the items for which `f` answers true.
     pub fn retain_mut<F>(&mut self, f: &F)
     where
         F: Fn(ModuleId, &T) -> bool,
         requires { F.IsAlwaysCallable f.now }
-        ensures { IsKeptInParts (Asks (F.post f.now)) self.old self.new }
+        ensures { Retains (Asks (F.post f.now)) self.old self.new }
     {
         self.prepended.retain(f);
         self.bodies.retain(f);
@@ -140,7 +162,7 @@ impl<T: Drop> Parts<T> {
     pub fn into_items(self) -> Result<Vec<T>, AllocError>
         ensures { IfOk result (λ items. items.items ≡ map (λ o. o.1) (in_order self)) }
     {
-        let mut items = Vec::new(self.allocator());
+        let mut items = Vec::new(*self.bodies.modules.allocator());
         let Parts {
             prepended,
             bodies,
@@ -150,5 +172,27 @@ impl<T: Drop> Parts<T> {
         bodies.move_into(&mut items)?;
         appended.move_into(&mut items)?;
         Ok(items)
+    }
+}
+
+// Adds items behind those of two parts; where it is refused, nothing is added.
+fn append_both<T: Drop>(
+    a: &mut Part<T>,
+    more_of_a: Part<T>,
+    b: &mut Part<T>,
+    more_of_b: Part<T>,
+) -> Result<(), AllocError>
+    ensures first { OnOk result (groups_of a.new ≡ put_all (groups_of a.old) (groups_of more_of_a)) }
+    ensures second { OnOk result (groups_of b.new ≡ put_all (groups_of b.old) (groups_of more_of_b)) }
+    ensures same { OnErr result (groups_of a.new ≡ groups_of a.old) }
+    ensures unchanged { OnErr result (groups_of b.new ≡ groups_of b.old) }
+{
+    let noted = a.append(more_of_a)?;
+    match b.append(more_of_b) {
+        Ok(_) => Ok(()),
+        Err(refusal) => {
+            a.take_back(noted);
+            Err(refusal)
+        }
     }
 }

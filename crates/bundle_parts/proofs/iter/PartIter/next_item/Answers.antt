@@ -2,7 +2,7 @@ use Rattle.std.proofs.Common.{◌++◌, List, ap, sym, ◌∙◌}
 use Rattle.std.specs.Prelude.{map}
 use Rattle.std.proofs.lemmas.List.{nil_from_length}
 use Rattle.bundle_parts.specs.Held.{group}
-use Rattle.bundle_parts.specs.Parts.{owned}
+use Rattle.bundle_parts.specs.Groups.{owned}
 use Rattle.bundle_parts.proofs.RestLemmas.{rest-none}
 use Rattle.bundle_parts.proofs.iter.PartIter.next_item.Goals as goal
 

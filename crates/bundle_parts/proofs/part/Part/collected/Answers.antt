@@ -1,7 +1,7 @@
 use Rattle.std.proofs.Common.{sym, ap, ◌∙◌}
 use Rattle.std.proofs.lemmas.List.{nil_from_length}
 use Rattle.bundle_parts.specs.Held.{groups_of}
-use Rattle.bundle_parts.specs.Parts.{put_each}
+use Rattle.bundle_parts.specs.Groups.{put_each}
 use Rattle.bundle_parts.proofs.part.Part.collected.Goals as goal
 
 pub loop-pair-preserved : goal.loop-pair-preserved

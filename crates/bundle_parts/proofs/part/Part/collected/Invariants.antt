@@ -1,5 +1,5 @@
 use Rattle.std.proofs.Common.{◌≡◌, []}
-use Rattle.bundle_parts.specs.Parts.{put_each}
+use Rattle.bundle_parts.specs.Groups.{put_each}
 use Rattle.bundle_parts.specs.Held.{groups_of}
 use Rattle.bundle_parts.proofs.part.Part.collected.Given as goal
 

@@ -2,7 +2,7 @@ use Rattle.std.proofs.Common.{refl, subst, sym}
 use Rattle.std.specs.Prelude.{map}
 use Rattle.std.specs.Map.Iter.{deref_pair}
 use Rattle.std.proofs.lemmas.Map.Iter.{rest_more}
-use Rattle.bundle_parts.specs.Parts.{IsMapped}
+use Rattle.bundle_parts.specs.Groups.{IsMapped}
 use Rattle.bundle_parts.specs.Held.{Answers, group, groups_of}
 use Rattle.bundle_parts.proofs.part.Part.mapped.Goals as goal
 

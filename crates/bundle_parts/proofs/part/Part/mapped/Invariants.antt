@@ -1,6 +1,6 @@
 use Rattle.std.proofs.Common.{[]}
 use Rattle.std.specs.Prelude.{map}
-use Rattle.bundle_parts.specs.Parts.{IsMapped}
+use Rattle.bundle_parts.specs.Groups.{IsMapped}
 use Rattle.bundle_parts.specs.Held.{Answers, group, groups_of}
 use Rattle.bundle_parts.proofs.part.Part.mapped.Given as goal
 

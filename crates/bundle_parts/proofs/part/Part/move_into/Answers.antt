@@ -1,7 +1,7 @@
 use Rattle.std.proofs.Common.{◌++◌, append_assoc, ap, sym, ◌∙◌}
 use Rattle.std.specs.Prelude.{map}
 use Rattle.std.proofs.lemmas.Map.Iter.{rest_more}
-use Rattle.bundle_parts.specs.Parts.{owned}
+use Rattle.bundle_parts.specs.Groups.{owned}
 use Rattle.bundle_parts.specs.Held.{group}
 use Rattle.bundle_parts.proofs.GroupLemmas.{owned-cons}
 use Rattle.bundle_parts.proofs.part.Part.move_into.Goals as goal

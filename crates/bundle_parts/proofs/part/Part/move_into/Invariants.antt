@@ -1,6 +1,6 @@
 use Rattle.std.proofs.Common.{◌≡◌, ◌++◌}
 use Rattle.std.specs.Prelude.{map}
-use Rattle.bundle_parts.specs.Parts.{owned}
+use Rattle.bundle_parts.specs.Groups.{owned}
 use Rattle.bundle_parts.specs.Held.{group, groups_of}
 use Rattle.bundle_parts.proofs.part.Part.move_into.Given as goal
 

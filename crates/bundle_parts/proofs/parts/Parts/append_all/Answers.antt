@@ -1,24 +1,21 @@
-use Rattle.std.proofs.Common.{[], ap, ◌∙◌}
-use Rattle.std.proofs.lemmas.Result.{on_ok_weaker}
+use Rattle.std.proofs.Common.{[], List, ap, subst, sym, ◌∙◌}
+use Rattle.bundle_parts.specs.Groups.{Groups, IsTidy, owned, put_all}
 use Rattle.bundle_parts.specs.Held.{groups_of}
-use Rattle.bundle_parts.specs.Parts.{Groups, Held, put_all}
+use Rattle.bundle_parts.specs.Parts.{Held, Owned, put_in_turn}
+use Rattle.bundle_parts.proofs.OwnedLemmas.{IsTidy-all, turn-each}
 use Rattle.bundle_parts.proofs.PutLemmas.{put_each-all}
 use Rattle.bundle_parts.proofs.parts.Parts.append_all.Goals as goal
 
-pub returns : goal.returns
-returns g c =
-    let now = c.args.self.now in
-    let more = groups_of c.in_ok-more.more in
-    record {
-      put =
-          on_ok_weaker c.append.result
-          (λ e.
-          ap (λ (h : Held _). record h { appended = groups_of c.append.new.self }) c.self.view_is
-          ∙ ap (λ (l : Groups _). record now { appended = l })
-          (e
-          ∙ ap (λ (l : Groups _). put_all l more) c.reserve.ensures.same
-          ∙ ap (λ (h : Held _). put_all h.appended more) c.self.view_is
-          ∙ ap (λ (l : Groups _). put_all now.appended l) c.in_ok-more.ensures
-          ∙ put_each-all now.appended [] c.args.items.items tt))
-          c.append.ensures;
-    }
+pub invariant_of-self-2 : goal.invariant_of-self-2
+invariant_of-self-2 g c =
+    let tidy = c.self.invariant in
+    (tidy.0, tidy.1, subst (λ (h : Groups _). IsTidy h) (sym c.in_ok-append.ensures.put) (IsTidy-all (groups_of c.self.inside.appended) (groups_of c.in_ok-more.more) tidy.2))
+
+pub returns-clause-put : goal.returns-clause-put
+returns-clause-put g c =
+    let before = groups_of c.self.inside.appended in
+    let items = c.args.items.items in
+    let put = c.in_ok-append.ensures.put ∙ ap (put_all before) c.in_ok-more.ensures ∙ put_each-all before [] items tt in
+    ap (λ (h : Held _). record h { appended = owned (groups_of c.append.new.self) }) c.self.view_is
+    ∙ ap (λ (l : List (Owned _)). record c.args.self.now { appended = l })
+    (ap owned put ∙ sym (turn-each before items c.self.invariant.2) ∙ ap (λ (h : Held _). put_in_turn h.appended items) c.self.view_is)
