@@ -1,0 +1,4 @@
+pub mod Groups
+pub mod Held
+pub mod Parts
+pub mod Rest

@@ -1,0 +1,15 @@
+-- What an iterator over the items of a part has left.
+use Rattle.std.specs.Prelude.{ℕ, List, ◌++◌, map}
+use Rattle.std.specs.Borrow.{Bor}
+use Rattle.bundle_parts.specs.Held.{group}
+use Rattle.bundle_parts.specs.Groups.{owned}
+use Rattle.bundle_parts.specs.Parts.{Owned}
+use Rattle.bundle_parts.specs.declared.iter.PartIter.{PartIter}
+
+-- the items that are left of the module at hand, and then those of the modules behind it
+abbrev pub rest_of_part : {A : Type 0} → PartIter A → List (Owned A)
+rest_of_part i = map (λ item. (i.id, item)) i.items.now ++ owned (map group i.groups)
+
+-- a module with one of its items, as an iterator lends it
+abbrev pub deref_owned : {A : Type 0} → ℕ × Bor A → Owned A
+deref_owned p = (p.0, p.1.now)
