@@ -1,0 +1,72 @@
+//! The refusal for each fault that stands in a tree or between modules.
+
+ghost use Rattle.std.specs.Prelude.{◌≡◌, IfOk, IsTrue, List, Contains};
+ghost use Rattle.bundle_name.specs.FileName.{Name, name_of};
+ghost use Rattle.bundle_piece.specs.Item.{Item};
+ghost use Rattle.bundle_tables.specs.declared.table.TreeFault.TheVariants as f;
+ghost use Rattle.bundle_terms.specs.Bundle.{is_with};
+ghost use Rattle.bundle_terms.specs.Nodes.{has_head};
+ghost use Rattle.bundle_link.specs.Refusals.{IsTreeRefusal, IsLinkRefusal};
+
+use bundle_name::{Error, FileName};
+use bundle_tables::TreeFault;
+use bundle_targets::{Fault, FaultKind};
+use std::alloc::{AllocError, Global};
+
+/// The refusal for a fault of the tree of a file.
+pub(crate) fn tree_refusal<'a>(
+    alloc: Global,
+    file: &FileName,
+    fault: TreeFault<'a>,
+) -> Result<Error, AllocError>
+    ensures { IfOk result (λ refusal. (tree : List Item) → (fault.entry ≡ f.With → IsTrue (has_head is_with tree)) → IsTreeRefusal (name_of file.now) tree refusal) }
+{
+    let file = file.clone()?;
+    Ok(match fault {
+        TreeFault::DoubledExport { name } => Error::DoubledExport {
+            file,
+            name: String::from_str(alloc, name)?,
+        },
+        TreeFault::UndeclaredExport { name } => Error::UndeclaredExport {
+            file,
+            name: String::from_str(alloc, name)?,
+        },
+        TreeFault::With => Error::With { file },
+    })
+}
+
+/// The refusal for a fault that linking finds in a file.
+pub(crate) fn link_refusal<'a>(
+    alloc: Global,
+    file: &FileName,
+    fault: Fault<'a>,
+) -> Result<Error, AllocError>
+    ensures { IfOk result (λ refusal. (files : List Name) → Contains files (name_of file.now) → IsLinkRefusal files refusal) }
+{
+    let file = file.clone()?;
+    let name = String::from_str(alloc, fault.name)?;
+    Ok(match fault.kind {
+        FaultKind::RequiredEntry => Error::RequiredEntry {
+            file,
+            specifier: name,
+        },
+        FaultKind::RequiredEsModule => Error::RequiredEsModule {
+            file,
+            specifier: name,
+        },
+        FaultKind::AwaitInCommonJs => Error::AwaitInCommonJs { file },
+        FaultKind::StarOfCommonJs => Error::StarOfCommonJs {
+            file,
+            specifier: name,
+        },
+        FaultKind::MissingExport => Error::MissingExport { file, name },
+        FaultKind::AmbiguousExport => Error::AmbiguousExport { file, name },
+        FaultKind::ExternalStarOnly => Error::ExternalStarOnly { file, name },
+        FaultKind::NamespaceOverExternalStar => Error::NamespaceOverExternalStar { file },
+        FaultKind::ExternalUnderIife => Error::ExternalUnderIife {
+            file,
+            specifier: name,
+        },
+        FaultKind::ArgumentsUnderIife => Error::ArgumentsUnderIife { file },
+    })
+}

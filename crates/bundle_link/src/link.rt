@@ -1,0 +1,214 @@
+//! The modules of one bundle, linked.
+
+ghost use Rattle.std.specs.Prelude.{◌≡◌, IfOk, IfErr, nat_eq, false};
+ghost use Rattle.indexmap.specs.IndexSet.{contains};
+ghost use Rattle.bundle_link.specs.Refusals.{IsRefusalOfOne, IsLinkRefusal, files_of};
+
+use crate::fault::link_refusal;
+use crate::tables::read;
+use crate::target::resolution_of;
+pub use crate::target::{Resolution, Target};
+pub use crate::transformed::TransformedModule;
+use bundle_graph::graph::{ModuleGraph, order};
+use bundle_id::ModuleId;
+use bundle_name::{Config, Error, ModuleType};
+use bundle_tables::Tables;
+use bundle_targets::{LinkModule, Linking, Setting};
+use indexmap::{IndexMap, IndexSet};
+use std::alloc::{AllocError, Global};
+
+/// Tells what each name of the modules of a bundle stands for, which of the modules are CommonJS, and what is wrong
+/// with them.
+#[derive(Drop)]
+pub struct Linker<'a> {
+    alloc: Global,
+    modules: Vec<TransformedModule<'a>>,
+    /// The numbers of the modules, in their order.
+    ids: IndexSet<ModuleId>,
+    linking: Linking<'a>,
+}
+
+impl<'a> Linker<'a> {
+    /// Links the modules of the bundle of an entry.
+    ///
+    /// The caller sees to it that the numbers of the modules differ, and that the entry and all that the modules
+    /// request are among them. Refused where a tree has a fault of its own, and where memory runs out.
+    pub fn new(
+        alloc: Global,
+        entry: ModuleId,
+        modules: Vec<TransformedModule<'a>>,
+        config: &Config,
+    ) -> Result<Linker<'a>, Error>
+        ensures modules { IfOk result (λ linker. linker.modules ≡ modules.entry) }
+        ensures refused { IfErr result (IsRefusalOfOne modules.entry.items) }
+    {
+        let ids = ids_of(alloc, &modules)?;
+        let tables = tables_of_all(alloc, &modules, config)?;
+        let leads = leads_of_all(alloc, &modules, &ids)?;
+        let list = list_of(alloc, &ids, &tables, &leads, entry)?;
+        let linked = linked_modules(alloc, &tables, &leads)?;
+        let place = ids.get_index_of(&entry).unwrap_or(ids.len());
+        let linking = Linking::new(alloc, &linked, &list, place, setting_of(config))?;
+        Ok(Linker {
+            alloc,
+            modules,
+            ids,
+            linking,
+        })
+    }
+
+    /// What a module gives for a name (ECMA-262, 16.2.1.6.3 ResolveExport). Nothing is given for the name of a module
+    /// that is not there.
+    pub fn resolve_export(&self, id: ModuleId, name: &str) -> Result<Resolution, AllocError>
+        ensures absent { contains nat_eq self.now.ids id ≡ false → IfOk result (λ resolution. resolution ≡ Resolution.None) }
+    {
+        match self.ids.get_index_of(&id) {
+            Some(place) => {
+                let found = self.linking.resolve(place, name)?;
+                resolution_of(self.alloc, &self.ids, found)
+            }
+            None => Ok(Resolution::None),
+        }
+    }
+
+    /// Whether a module is CommonJS in this bundle. It takes no memory.
+    pub fn is_cjs(&self, id: ModuleId) -> bool
+        ensures absent { contains nat_eq self.now.ids id ≡ false → result ≡ false }
+    {
+        match self.ids.get_index_of(&id) {
+            Some(place) => self.linking.is_common_js(place),
+            None => false,
+        }
+    }
+
+    /// Whether the object of a module's namespace is meant. It takes no memory.
+    pub fn should_be_wrapped_with_a_fn(&self, id: ModuleId) -> bool
+        ensures absent { contains nat_eq self.now.ids id ≡ false → result ≡ false }
+    {
+        match self.ids.get_index_of(&id) {
+            Some(place) => self.linking.is_object_meant(place),
+            None => false,
+        }
+    }
+
+    /// Refuses modules that cannot be linked, by the first fault: a literal call of `require` that is of the entry,
+    /// and one of an ECMAScript module; an `await` in a CommonJS module; a star of one; a name that is asked for and
+    /// not given once; a namespace object whose names are not known; where the bundle is one function's call,
+    /// an external, and an `arguments` that nothing binds. Each is judged of all modules before the next.
+    pub fn check(&self) -> Result<(), Error>
+        ensures refused { IfErr result (IsLinkRefusal (files_of self.now.modules.items)) }
+    {
+        let fault = match self.linking.call_fault() {
+            Some(fault) => fault,
+            None => match self.linking.link_fault() {
+                Some(fault) => fault,
+                None => return Ok(()),
+            },
+        };
+        match self.modules.get(fault.module) {
+            Some(module) => Err(link_refusal(self.alloc, &module.file_name, fault)?),
+            None => Ok(()),
+        }
+    }
+}
+
+fn setting_of(config: &Config) -> Setting {
+    Setting {
+        require: config.require,
+        iife: config.module == ModuleType::Iife,
+    }
+}
+
+// The numbers of modules.
+fn ids_of<'a>(
+    alloc: Global,
+    modules: &[TransformedModule<'a>],
+) -> Result<IndexSet<ModuleId>, AllocError> {
+    let mut ids = IndexSet::new(alloc);
+    for module in modules {
+        ids.insert(module.id)?;
+    }
+    Ok(ids)
+}
+
+// The tables of modules.
+fn tables_of_all<'a>(
+    alloc: Global,
+    modules: &[TransformedModule<'a>],
+    config: &Config,
+) -> Result<Vec<Tables<'a>>, Error>
+    ensures { IfErr result (IsRefusalOfOne modules.now) }
+{
+    let mut tables = Vec::new(alloc);
+    for module in modules {
+        tables.push(read(alloc, &module.file_name, module.tree, config)?)?;
+    }
+    Ok(tables)
+}
+
+// For each module the places of those to which its requests lead.
+fn leads_of_all<'a>(
+    alloc: Global,
+    modules: &[TransformedModule<'a>],
+    ids: &IndexSet<ModuleId>,
+) -> Result<Vec<IndexMap<String, usize>>, AllocError> {
+    let mut leads = Vec::new(alloc);
+    for module in modules {
+        leads.push(leads_of(alloc, module, ids)?)?;
+    }
+    Ok(leads)
+}
+
+fn leads_of<'a>(
+    alloc: Global,
+    module: &TransformedModule<'a>,
+    ids: &IndexSet<ModuleId>,
+) -> Result<IndexMap<String, usize>, AllocError> {
+    let mut leads = IndexMap::new(alloc);
+    for (specifier, id) in &module.deps {
+        if let Some(place) = ids.get_index_of(id) {
+            leads.insert(specifier.clone()?, place)?;
+        }
+    }
+    Ok(leads)
+}
+
+// The places of the modules that the entry reaches, in post-order of their requests.
+fn list_of<'a>(
+    alloc: Global,
+    ids: &IndexSet<ModuleId>,
+    tables: &[Tables<'a>],
+    leads: &[IndexMap<String, usize>],
+    entry: ModuleId,
+) -> Result<Vec<usize>, AllocError> {
+    let mut graph = ModuleGraph::new(alloc);
+    for ((id, tables), leads) in ids.iter().zip(tables).zip(leads) {
+        graph.add_node(*id)?;
+        for request in &tables.requests {
+            if let Some(place) = leads.get(*request) {
+                if let Some(requested) = ids.get_index(*place) {
+                    graph.add_edge(*id, *requested)?;
+                }
+            }
+        }
+    }
+    let mut list = Vec::new(alloc);
+    for id in &order(alloc, &graph, entry)? {
+        if let Some(place) = ids.get_index_of(id) {
+            list.push(place)?;
+        }
+    }
+    Ok(list)
+}
+
+fn linked_modules<'t, 'a>(
+    alloc: Global,
+    tables: &'t [Tables<'a>],
+    leads: &'t [IndexMap<String, usize>],
+) -> Result<Vec<LinkModule<'t, 'a>>, AllocError> {
+    let mut modules = Vec::new(alloc);
+    for (tables, leads) in tables.iter().zip(leads) {
+        modules.push(LinkModule { tables, leads })?;
+    }
+    Ok(modules)
+}

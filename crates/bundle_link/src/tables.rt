@@ -1,0 +1,197 @@
+//! What a module as it was loaded asks for, imports and exports (ECMA-262, 16.2.2 and 16.2.3).
+//!
+//! The three tables refuse the same modules, by the first fault of the tree in this order: a name that is
+//! exported twice, an exported name that the module's top does not bind, a `with` statement.
+
+ghost use Rattle.std.specs.Prelude.{◌≡◌, IfOk, IfErr, OnOk, false, map, string_bytes};
+ghost use Rattle.bundle_name.specs.FileName.{name_of};
+ghost use Rattle.bundle_pieces.specs.Tree.{module_items};
+ghost use Rattle.bundle_terms.specs.Bundle.{is_with};
+ghost use Rattle.bundle_terms.specs.Nodes.{has_head, Text};
+ghost use Rattle.bundle_link.specs.Owned.{import_read, import_says, export_read, export_says, name_says, taken_of};
+ghost use Rattle.bundle_link.specs.Refusals.{IsTreeRefusal};
+
+use crate::fault::tree_refusal;
+use bundle_ast::Module;
+use bundle_denote::{ModuleKind, Reading, denotations};
+use bundle_listing::pieces_of_module;
+use bundle_name::{Config, Error, FileName};
+use bundle_tables::{Export, Import as Read, Origin, Tables, Taken, tables_of};
+use indexmap::IndexMap;
+use std::alloc::{AllocError, Global};
+
+/// What an import or an export takes of another module.
+#[derive(Drop, PartialEq, Eq, Debug)]
+pub enum ImportName {
+    /// One of its names. A default import takes the name `default`.
+    Named(String),
+    /// Its namespace.
+    Whole,
+}
+
+/// An import: the name that it binds, the module that it asks for, and what it takes of that module.
+#[derive(Drop, PartialEq, Eq, Debug)]
+pub struct Import {
+    pub local: String,
+    pub specifier: String,
+    pub name: ImportName,
+}
+
+/// Where an exported name comes from. One that was imported by name is given on, and one that `import * as` binds
+/// is local.
+#[derive(Drop, PartialEq, Eq, Debug)]
+pub enum ExportEntry {
+    /// From this name of the module's own top.
+    Local(String),
+    /// From another module.
+    Indirect { specifier: String, name: ImportName },
+}
+
+/// The exports of a module: those with a name, and the modules that it exports as a whole, each once.
+#[derive(Drop)]
+pub struct Exports {
+    pub items: IndexMap<String, ExportEntry>,
+    pub stars: Vec<String>,
+}
+
+/// What a module asks to be loaded, each text once: what its imports and exports ask for, in the order of the
+/// source, and then its literal calls of `require`, where the settings link them. External texts are left out.
+pub fn requests_of(
+    alloc: Global,
+    file: &FileName,
+    module: &Module,
+    config: &Config,
+) -> Result<Vec<String>, Error>
+    ensures refused { IfErr result (IsTreeRefusal (name_of file.now) (module_items 0 «module».now)) }
+    ensures faultless { OnOk result (has_head is_with (module_items 0 «module».now) ≡ false) }
+{
+    let tables = read(alloc, file, module, config)?;
+    Ok(owned_texts(alloc, &tables.requests)?)
+}
+
+/// What a module imports, in the order of the source.
+pub fn imports_of(
+    alloc: Global,
+    file: &FileName,
+    module: &Module,
+    config: &Config,
+) -> Result<Vec<Import>, Error>
+    ensures refused { IfErr result (IsTreeRefusal (name_of file.now) (module_items 0 «module».now)) }
+    ensures faultless { OnOk result (has_head is_with (module_items 0 «module».now) ≡ false) }
+{
+    let tables = read(alloc, file, module, config)?;
+    Ok(owned_imports(alloc, &tables.imports)?)
+}
+
+/// What a module exports, in the order of the source.
+pub fn exports_of(
+    alloc: Global,
+    file: &FileName,
+    module: &Module,
+    config: &Config,
+) -> Result<Exports, Error>
+    ensures refused { IfErr result (IsTreeRefusal (name_of file.now) (module_items 0 «module».now)) }
+    ensures faultless { OnOk result (has_head is_with (module_items 0 «module».now) ≡ false) }
+{
+    let tables = read(alloc, file, module, config)?;
+    Ok(owned_exports(alloc, &tables)?)
+}
+
+/// The tables of a module, read as an ECMAScript module. Refused where the tree has a fault.
+pub(crate) fn read<'a>(
+    alloc: Global,
+    file: &FileName,
+    module: &'a Module,
+    config: &Config,
+) -> Result<Tables<'a>, Error>
+    ensures refused { IfErr result (IsTreeRefusal (name_of file.now) (module_items 0 «module».now)) }
+    ensures faultless { OnOk result (has_head is_with (module_items 0 «module».now) ≡ false) }
+{
+    let pieces = pieces_of_module(alloc, module)?;
+    let names = denotations(alloc, &pieces, ModuleKind::Es, Reading::BySymbol)?;
+    match tables_of(
+        alloc,
+        &pieces,
+        &names,
+        config.require,
+        &config.external_modules,
+    )? {
+        Ok(tables) => Ok(tables),
+        Err(fault) => Err(tree_refusal(alloc, file, fault)?),
+    }
+}
+
+// The texts, each as a text of its own.
+fn owned_texts<'a>(alloc: Global, texts: &[&'a str]) -> Result<Vec<String>, AllocError>
+    ensures { IfOk result (λ owned. map (λ text. string_bytes text) owned.items ≡ map (λ text. text.now) texts.now) }
+{
+    let mut owned = Vec::new(alloc);
+    for text in texts {
+        owned.push(String::from_str(alloc, *text)?)?;
+    }
+    Ok(owned)
+}
+
+// The imports, with texts of their own.
+fn owned_imports<'a>(alloc: Global, imports: &[Read<'a>]) -> Result<Vec<Import>, AllocError>
+    ensures { IfOk result (λ owned. map import_says owned.items ≡ map import_read imports.now) }
+{
+    let mut owned = Vec::new(alloc);
+    for import in imports {
+        owned.push(owned_import(alloc, *import)?)?;
+    }
+    Ok(owned)
+}
+
+fn owned_import<'a>(alloc: Global, import: Read<'a>) -> Result<Import, AllocError>
+    ensures { IfOk result (λ owned. import_says owned ≡ import_read import.entry) }
+{
+    Ok(Import {
+        local: String::from_str(alloc, import.local)?,
+        specifier: String::from_str(alloc, import.specifier)?,
+        name: import_name(alloc, import.taken)?,
+    })
+}
+
+fn import_name<'a>(alloc: Global, taken: Taken<'a>) -> Result<ImportName, AllocError>
+    ensures { IfOk result (λ name. name_says name ≡ taken_of taken.entry) }
+{
+    Ok(match taken {
+        Taken::Named(name) => ImportName::Named(String::from_str(alloc, name)?),
+        Taken::Whole => ImportName::Whole,
+    })
+}
+
+// The exports, with texts of their own.
+fn owned_exports<'a>(alloc: Global, tables: &Tables<'a>) -> Result<Exports, AllocError>
+    ensures { IfOk result (λ owned. map (λ text. string_bytes text) owned.stars.items ≡ map (λ text. text.now) tables.now.stars.items) }
+{
+    let items = owned_items(alloc, &tables.exports)?;
+    let stars = owned_texts(alloc, &tables.stars)?;
+    Ok(Exports { items, stars })
+}
+
+// The exports that have a name.
+fn owned_items<'a>(
+    alloc: Global,
+    exports: &[Export<'a>],
+) -> Result<IndexMap<String, ExportEntry>, AllocError> {
+    let mut items = IndexMap::new(alloc);
+    for export in exports {
+        let name = String::from_str(alloc, export.name)?;
+        items.insert(name, export_entry(alloc, export.origin)?)?;
+    }
+    Ok(items)
+}
+
+fn export_entry<'a>(alloc: Global, origin: Origin<'a>) -> Result<ExportEntry, AllocError>
+    ensures { IfOk result (λ entry. (name : Text) → export_says name entry ≡ export_read name origin.entry) }
+{
+    Ok(match origin {
+        Origin::Local { name } => ExportEntry::Local(String::from_str(alloc, name)?),
+        Origin::Indirect { specifier, taken } => ExportEntry::Indirect {
+            specifier: String::from_str(alloc, specifier)?,
+            name: import_name(alloc, taken)?,
+        },
+    })
+}
