@@ -1,5 +1,5 @@
 -- What is given in a program is what is given by numbers, and so an answer by numbers tells what a name is linked to.
-use Rattle.std.proofs.Common.{◌≡◌, ◌≢◌, ℕ, true, List, Option, Some, sym, ap, ◌∙◌, subst}
+use Rattle.std.proofs.Common.{◌⊎◌, ◌≡◌, ◌≢◌, ℕ, true, List, Option, Some, sym, ap, ◌∙◌, subst}
 use Rattle.std.specs.Prelude.{slice_get}
 use Rattle.std.proofs.lemmas.Option.{same_Some}
 use Rattle.bundle_terms.specs.Nodes.{Text}
@@ -7,8 +7,9 @@ use Rattle.bundle_terms.specs.Statements.{default_name}
 use Rattle.bundle_terms.specs.Entries.{has_own_entry}
 use Rattle.bundle_terms.specs.Program.{Program, tree_of}
 use Rattle.bundle_terms.specs.Linking.{Target, Origin, Gives, declaration, namespace_import, taken, given_on, starred, Linked, IsMissing}
-use Rattle.bundle_links.specs.declared.answer.Answer.TheVariants.{Missing, One}
+use Rattle.bundle_links.specs.declared.answer.Answer.TheVariants.{Missing, One, Two}
 use Rattle.bundle_links.specs.Graph.{Spot, Graph}
+use Rattle.bundle_terms.specs.Tables.{AreTwo}
 use Rattle.bundle_links.specs.Given.{Given, itself, led, starred as by_star, IsAnswer}
 use Rattle.bundle_links.specs.Linked.{Value, OwnGives, own_declaration, own_namespace, own_taken, OwnLeads, IsGraphOf}
 
@@ -89,4 +90,19 @@ module _ (p : Program) (names : List Text) (values : List Value) (g : Graph) (w 
           only = λ other its given. let b = given_by given n named in
               let equal : (other, its) ≡ (t, origin) = same_Some (other, its) (t, origin) (sym b.is ∙ ap (slice_get values) (right.all b.v b.given) ∙ at) in
               (ap (λ (value : Value). value.0) equal, ap (λ (value : Value). value.1) equal);
+        }
+
+    -- values of two numbers differ in the target or in the origin
+    pub are_two : (a b : ℕ) (first second : Value) → slice_get values a ≡ Some first → slice_get values b ≡ Some second → ((first.0 ≢ second.0) ⊎ (first.1 ≢ second.1)) → IsAnswer g (m, n) (Two a b) → AreTwo p m x first.0 second.0
+    are_two a b first second at_a at_b differ right =
+        let r = given_as right.kept.0 x named in
+        let s = given_as right.kept.1 x named in
+        let same_a : (r.t, r.origin) ≡ first = same_Some (r.t, r.origin) first (sym r.is ∙ at_a) in
+        let same_b : (s.t, s.origin) ≡ second = same_Some (s.t, s.origin) second (sym s.is ∙ at_b) in
+        record {
+          of_a = first.1;
+          of_b = second.1;
+          gives_a = subst (λ (value : Value). Gives p m x value.0 value.1) same_a r.given;
+          gives_b = subst (λ (value : Value). Gives p m x value.0 value.1) same_b s.given;
+          differ = differ;
         }

@@ -1,5 +1,5 @@
 -- The search for what is given for a name is exact.
-use Rattle.std.proofs.Common.{◌≡◌, ◌≢◌, ℕ, zero, suc, ◌+◌, ◌<◌, ◌≤◌, ◌==◌, Bool, true, false, ◌⊎◌, inl, inr, List, [], ◌∷◌, ◌++◌, Some, None, Contains, length, take, get_or, refl, sym, ap, ap₂, ◌∙◌, subst, eqb-true, eq-eqb, if◌then◌else◌, arith}
+use Rattle.std.proofs.Common.{◌≡◌, ◌≢◌, ℕ, zero, suc, ◌+◌, ◌<◌, ◌≤◌, ◌==◌, Bool, true, false, ◌⊎◌, inl, inr, List, Option, [], ◌∷◌, ◌++◌, Some, None, Contains, length, take, get_or, refl, sym, ap, ap₂, ◌∙◌, subst, is_some, unwrap_or, eqb-true, eq-eqb, if◌then◌else◌, arith}
 use Rattle.std.specs.Prelude.{slice_get}
 use Rattle.std.specs.List.{list_any}
 use Rattle.std.specs.Map.{lookup}
@@ -10,7 +10,8 @@ use Rattle.std.proofs.lemmas.Bool.{false≢true, cases_lt, and_from, and_parts, 
 use Rattle.bundle_links.specs.declared.links.Own.TheVariants.{Gives, Leads, Nothing}
 use Rattle.bundle_links.specs.declared.answer.Answer.{Answer}
 use Rattle.bundle_links.specs.declared.answer.Answer.TheVariants.{Missing, One, Two}
-use Rattle.bundle_links.specs.Graph.{Spot, Graph, own_of, stars_of, same_spot}
+use Rattle.bundle_links.specs.declared.links.Own.{Own}
+use Rattle.bundle_links.specs.Graph.{Spot, Graph, own_of, stars_of, same_spot, PutsOwn}
 use Rattle.bundle_links.specs.Answers.{with_more, with_all, is_two, Has}
 use Rattle.bundle_links.specs.Given.{Given, itself, led, starred, IsAnswer, AreAnswers, IsIn, Adds, IsPast, Steps, Searching}
 use Rattle.bundle_links.proofs.AnswerLemmas.{Has-more, Has-kept, IsKept-more, Has-all_kept, Has-all, IsKept-all}
@@ -270,3 +271,22 @@ Adds-stars old met stars i name h adds = subst (λ l. Adds old (λ (at : Spot). 
 
 pub Adds-none : (old : List Spot) (stars : List ℕ) (name : ℕ) → Adds old (λ at. Contains (take 0 stars) at.0 × (at.1 ≡ name)) old
 Adds-none old stars name = record { stays = λ i at e. e; there = λ at none. absurd (omega (arith, none.0.1)); no_more = λ at h. inl h }
+
+-- ---- entries that are noted
+pub PutsOwn-there : (old : Graph) (at : Spot) (own : Own) → is_some (own_of old at) ≡ true → PutsOwn old at own old
+PutsOwn-there old at own there other = by (same_spot at other) refl
+  where
+    filled : (o : Option Own) → is_some o ≡ true → o ≡ Some (unwrap_or o own)
+    filled None e = absurd (false≢true e)
+    filled (Some x) e = refl
+
+    by : (b : Bool) → same_spot at other ≡ b → own_of old other ≡ (if b then Some (unwrap_or (own_of old at) own) else own_of old other)
+    by true is = ap (own_of old) (sym (same_spot-true at other is)) ∙ filled (own_of old at) there
+    by false is = refl
+
+pub PutsOwn-new : (old new : Graph) (at : Spot) (own : Own) → is_some (own_of old at) ≡ false → ((q : Spot) → own_of new q ≡ (if same_spot at q then Some own else own_of old q)) → PutsOwn old at own new
+PutsOwn-new old new at own none reads other = reads other ∙ ap (λ (x : Own). if same_spot at other then Some x else own_of old other) (empty (own_of old at) none)
+  where
+    empty : (o : Option Own) → is_some o ≡ false → own ≡ unwrap_or o own
+    empty None e = refl
+    empty (Some x) e = absurd (false≢true (sym e))
