@@ -1,3 +1,4 @@
 pub mod AnswerLemmas
 pub mod SearchLemmas
 pub mod LinkedLemmas
+pub mod StarLemmas
