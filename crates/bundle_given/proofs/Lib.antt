@@ -2,3 +2,4 @@ pub mod AnswerLemmas
 pub mod SearchLemmas
 pub mod LinkedLemmas
 pub mod StarLemmas
+pub mod FarLemmas

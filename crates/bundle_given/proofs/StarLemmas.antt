@@ -1,5 +1,5 @@
 -- An external is starred by a module exactly if a path of stars leads to one that stars it itself; a CommonJS module has no exports, so it ends such a path.
-use Rattle.std.proofs.Common.{◌≡◌, ℕ, Bool, true, false, not, ◌&&◌, ◌||◌, List, [], ◌∷◌, ◌++◌, Some, refl, sym, ap, ◌∙◌}
+use Rattle.std.proofs.Common.{◌≡◌, ℕ, Bool, true, false, not, ◌||◌, List, [], ◌∷◌, ◌++◌, Some, refl, sym, ap, ◌∙◌}
 use Rattle.std.specs.Prelude.{Contains, IsTrue, flat_map}
 use Rattle.std.specs.List.{list_any}
 use Rattle.std.proofs.lemmas.Bool.{false≢true, and_parts}
@@ -8,7 +8,7 @@ use Rattle.bundle_piece.specs.Item.{Item, Head}
 use Rattle.bundle_graph.specs.Walks.{Reaches, itself, along}
 use Rattle.bundle_terms.specs.Nodes.{Text, begins_with}
 use Rattle.bundle_terms.specs.Statements.{TopItem, top_items}
-use Rattle.bundle_terms.specs.Entries.{ImportEntry, ExportEntry, Star, is_module_declaration, exports_by, exports_of_item, exports_of, imports_of, is_script}
+use Rattle.bundle_terms.specs.Entries.{ImportEntry, Star, is_module_declaration, exports_by, exports_of_item, exports_of, imports_of, is_script}
 use Rattle.bundle_terms.specs.Program.{Program, tree_of, resolves, is_external}
 use Rattle.bundle_terms.specs.Linking.{exports, HasExternalStar, own, through, IsCommonJs}
 
@@ -30,10 +30,10 @@ pub record EndsOutside (p : Program) (m : ℕ) (s : Text) : Type 0 where
   pub outside : StarsOutside p last s
 
 pub star_path : {p : Program} {m : ℕ} {s : Text} → HasExternalStar p m s → EndsOutside p m s
-star_path {m = m} (own stands external) = record { last = m; path = itself; outside = record { stands = stands; external = external; }; }
+star_path {m = m} (own stands external) = record { last = m; path = itself; outside = record { stands = stands; external = external } }
 star_path (through {r = r} stands leads more) =
     let end = star_path more in
-    record { last = end.last; path = along (record { specifier = r; stands = stands; leads = leads; }) end.path; outside = end.outside; }
+    record { last = end.last; path = along (record { specifier = r; stands = stands; leads = leads }) end.path; outside = end.outside }
 
 pub star_along : {p : Program} {m d : ℕ} (s : Text) → Reaches (StarsModule p) m d → StarsOutside p d s → HasExternalStar p m s
 star_along s itself outside = own outside.stands outside.external
