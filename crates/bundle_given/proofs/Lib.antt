@@ -3,3 +3,4 @@ pub mod SearchLemmas
 pub mod LinkedLemmas
 pub mod StarLemmas
 pub mod FarLemmas
+pub mod KindLemmas
