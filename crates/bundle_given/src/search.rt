@@ -39,13 +39,6 @@ impl Search {
         }
     }
 
-    /// The answer for a name of a module, if it was found before.
-    pub fn known(&self, at: (usize, usize)) -> Option<Answer>
-        ensures { IfSome result (λ answer. IsAnswer self.now at answer) }
-    {
-        self.answers.get(&at).copied()
-    }
-
     /// The answer for a name of a module. It is not noted.
     pub fn found(&self, alloc: Global, at: (usize, usize)) -> Result<Answer, AllocError>
         ensures { IfOk result (λ answer. IsAnswer self.now at answer) }
@@ -58,7 +51,7 @@ impl Search {
         ensures right { IfOk result (λ answer. IsAnswer self.old at answer) }
         ensures same { self.new ≡ self.old }
     {
-        if let Some(answer) = self.known(at) {
+        if let Some(answer) = self.answers.get(&at).copied() {
             return Ok(answer);
         }
         let answer = self.found(alloc, at)?;
