@@ -1,0 +1,6 @@
+pub mod AnswerLemmas
+pub mod SearchLemmas
+pub mod LinkedLemmas
+pub mod StarLemmas
+pub mod FarLemmas
+pub mod KindLemmas

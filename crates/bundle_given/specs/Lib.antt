@@ -1,0 +1,4 @@
+pub mod Graph
+pub mod Answers
+pub mod Given
+pub mod Linked

@@ -1,0 +1,10 @@
+//! What names of modules stand for, over numbers: a search along entries and stars that stops at two.
+#![tactic(auto)]
+
+mod answer;
+mod links;
+mod search;
+
+pub use answer::Answer;
+pub use links::{Links, Own};
+pub use search::Search;
