@@ -6,9 +6,9 @@ use Rattle.bundle_name.specs.FileName.{Name}
 use Rattle.bundle_name.specs.declared.error.Error.{Error}
 use Rattle.bundle_tree.specs.declared.load.ModuleData.{ModuleData}
 use Rattle.bundle_kept.specs.Contents.{Contents, Grows}
-use Rattle.swc_bundler.specs.Bundler.{IsBundleOf}
-use Rattle.swc_bundler.specs.Refusal.{IsRight}
-use Rattle.swc_bundler.specs.declared.bundle.Bundle.{Bundle}
+use Rattle.bundle_bundler.specs.Bundler.{IsBundleOf}
+use Rattle.bundle_bundler.specs.Refusal.{IsRight}
+use Rattle.bundle_bundler.specs.declared.bundle.Bundle.{Bundle}
 use Rattle.bundle_document.specs.Bundles.{IsCompactTextOf, IsTextOf}
 use Rattle.bundle_document.specs.Parties.{MayLoad, LeadsTo}
 use Rattle.bundle_document.specs.declared.document.Document.{Document}

@@ -1,0 +1,4 @@
+pub mod Finding
+pub mod Loading
+pub mod Refusing
+pub mod Numbered

@@ -1,0 +1,3 @@
+pub mod Bundler
+pub mod Loading
+pub mod Refusal
