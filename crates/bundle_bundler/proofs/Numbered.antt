@@ -1,58 +1,76 @@
--- Numbers of the entries' files stay as more files get numbers.
-use Rattle.std.proofs.Common.{◌≡◌, ℕ, ◌+◌, ◌<◌, List, [], ◌∷◌, ◌++◌, take, length, get_or, ◌⊎◌, inl, inr, refl, sym, ap, subst, ◌∙◌, append-nil, append_assoc, suc, arith}
+-- Numbers of the entries' files stay as what is kept grows.
+use Rattle.std.proofs.Common.{◌≡◌, ℕ, ◌+◌, ◌<◌, List, [], ◌∷◌, ◌++◌, take, length, get_or, map, Contains, ◌⊎◌, inl, inr, refl, sym, ap, subst, ◌∙◌, append-nil, append_assoc, suc, zero, arith}
 use Rattle.std.proofs.lemmas.List.{take_more}
+use Rattle.std.proofs.lemmas.List.Elements.{Contains-get_or}
 use Rattle.std.proofs.lemmas.Slice.Zip.{all_zipped_more}
 use Rattle.std.specs.List.{AllZip}
 use Rattle.std.specs.declared.alloc.Global.{Global}
 use Rattle.std.specs.declared.string.String.{String}
 use Rattle.bundle_name.specs.FileName.{Name, name_of}
 use Rattle.bundle_name.specs.declared.file_name.FileName.{FileName}
-use Rattle.bundle_kept.specs.Contents.{Begins}
-use Rattle.bundle_bundler.specs.Bundler.{IsNumbered, IsBundleOf}
+use Rattle.bundle_terms.specs.Kept.{Kept, Stays}
+use Rattle.bundle_bundler.specs.Bundler.{files_of, HasNumber, IsNamedAndNumbered}
 use Rattle.bundle_bundler.specs.declared.bundle.Bundle.{Bundle}
 use Rattle.bundle_bundler.specs.declared.bundle.BundleKind.TheVariants.{Named}
-use Rattle.bundle_bundler.proofs.Finding.{still_numbered}
+use Rattle.bundle_bundler.proofs.Growing.{still_numbered}
 
-pub all_still_numbered : (old new : List Name) → Begins old new → (entries : List (String Global × FileName)) (ids : List ℕ) → AllZip (IsNumbered old) entries ids → AllZip (IsNumbered new) entries ids
-all_still_numbered old new grown [] [] is = tt
-all_still_numbered old new grown [] (id ∷ ids) is = absurd is
-all_still_numbered old new grown (entry ∷ entries) [] is = absurd is
-all_still_numbered old new grown (entry ∷ entries) (id ∷ ids) is =
-    (still_numbered old new id (name_of entry.1) grown is.0, all_still_numbered old new grown entries ids is.1)
+pub all_still_numbered : (old new : Kept) → Stays old new → (entries : List (String Global × FileName)) (ids : List ℕ) → AllZip (HasNumber old) entries ids → AllZip (HasNumber new) entries ids
+all_still_numbered old new stays [] [] is = tt
+all_still_numbered old new stays [] (id ∷ ids) is = absurd is
+all_still_numbered old new stays (entry ∷ entries) [] is = absurd is
+all_still_numbered old new stays (entry ∷ entries) (id ∷ ids) is =
+    (still_numbered old new stays (name_of entry.1) id is.0, all_still_numbered old new stays entries ids is.1)
 
 -- one more file has a number
-pub numbered_more : (old new : List Name) → Begins old new → (entries : List (String Global × FileName)) (ids more : List ℕ) (i id : ℕ) (entry : String Global × FileName) → i < length entries → get_or entries i entry ≡ entry → more ≡ ids ++ id ∷ [] → AllZip (IsNumbered old) (take i entries) ids → IsNumbered new entry id → AllZip (IsNumbered new) (take (i + 1) entries) more
-numbered_more old new grown entries ids more i id entry within at is before numbered =
-    let all : AllZip (IsNumbered new) (take i entries ++ entry ∷ []) (ids ++ id ∷ []) = all_zipped_more (IsNumbered new) (take i entries) ids entry id (all_still_numbered old new grown (take i entries) ids before) numbered in
+pub numbered_more : (old new : Kept) → Stays old new → (entries : List (String Global × FileName)) (ids more : List ℕ) (i id : ℕ) (entry : String Global × FileName) → i < length entries → get_or entries i entry ≡ entry → more ≡ ids ++ id ∷ [] → AllZip (HasNumber old) (take i entries) ids → HasNumber new entry id → AllZip (HasNumber new) (take (i + 1) entries) more
+numbered_more old new stays entries ids more i id entry within at is before numbered =
+    let all : AllZip (HasNumber new) (take i entries ++ entry ∷ []) (ids ++ id ∷ []) = all_zipped_more (HasNumber new) (take i entries) ids entry id (all_still_numbered old new stays (take i entries) ids before) numbered in
     let front : take (i + 1) entries ≡ take i entries ++ entry ∷ [] = take_more entries i entry within ∙ ap (λ x. take i entries ++ x ∷ []) at in
-    subst (λ xs. AllZip (IsNumbered new) xs more) (sym front) (subst (λ ys. AllZip (IsNumbered new) (take i entries ++ entry ∷ []) ys) (sym is) all)
+    subst (λ xs. AllZip (HasNumber new) xs more) (sym front) (subst (λ ys. AllZip (HasNumber new) (take i entries ++ entry ∷ []) ys) (sym is) all)
+
+-- the file of an entry is one of the entries' files
+read_at : {X Y : Type 0} (f : X → Y) (xs : List X) (i : ℕ) (x : X) → get_or (map f xs) i (f x) ≡ f (get_or xs i x)
+read_at f [] i x = refl
+read_at f (y ∷ ys) zero x = refl
+read_at f (y ∷ ys) (suc i) x = read_at f ys i x
+
+long : {X Y : Type 0} (f : X → Y) (xs : List X) → length (map f xs) ≡ length xs
+long f [] = refl
+long f (x ∷ xs) = ap suc (long f xs)
+
+pub entry_listed : (entries : List (String Global × FileName)) (i : ℕ) (entry : String Global × FileName) → i < length entries → get_or entries i entry ≡ entry → Contains (files_of entries) (name_of entry.1)
+entry_listed entries i entry within at =
+    let file : String Global × FileName → Name = λ e. name_of e.1 in
+    let count : length (files_of entries) ≡ length entries = long file entries in
+    let inside : i < length (files_of entries) = omega (arith, within, count) in
+    subst (Contains (files_of entries)) (read_at file entries i entry ∙ ap file at) (Contains-get_or (files_of entries) i (file entry) inside)
 
 -- Bundles of entries that stand in turn.
 
 -- where no number is left, no entry is
-no_entry : (names : List Name) (rest : List (String Global × FileName)) → AllZip (IsNumbered names) rest [] → rest ≡ []
-no_entry names [] all = refl
-no_entry names (entry ∷ rest) all = absurd all
+no_entry : (kept : Kept) (rest : List (String Global × FileName)) → AllZip (HasNumber kept) rest [] → rest ≡ []
+no_entry kept [] all = refl
+no_entry kept (entry ∷ rest) all = absurd all
 
 -- these are the bundles so far of entries of which these are left, with these numbers
-abbrev pub AreSoFar : List Name → (entries rest : List (String Global × FileName)) → List ℕ → List Bundle → Type 0
-AreSoFar names entries rest ids bundles =
-    AllZip (IsNumbered names) rest ids × ((more : List Bundle) → AllZip (IsBundleOf names) rest more → AllZip (IsBundleOf names) entries (bundles ++ more))
+abbrev pub AreSoFar : Kept → (entries rest : List (String Global × FileName)) → List ℕ → List Bundle → Type 0
+AreSoFar kept entries rest ids bundles =
+    AllZip (HasNumber kept) rest ids × ((more : List Bundle) → AllZip (IsNamedAndNumbered kept) rest more → AllZip (IsNamedAndNumbered kept) entries (bundles ++ more))
 
 -- where nothing is left, they are all
-pub bundles_all : (names : List Name) (entries rest : List (String Global × FileName)) (ids : List ℕ) (bundles : List Bundle) → (rest ≡ []) ⊎ (ids ≡ []) → AreSoFar names entries rest ids bundles → AllZip (IsBundleOf names) entries bundles
-bundles_all names entries rest ids bundles over so_far =
-    let none : rest ≡ [] = elim over [ inl is ↦ is | inr is ↦ no_entry names rest (subst (λ xs. AllZip (IsNumbered names) rest xs) is so_far.0) ] in
-    subst (λ xs. AllZip (IsBundleOf names) entries xs) (append-nil bundles) (so_far.1 [] (subst (λ xs. AllZip (IsBundleOf names) xs []) (sym none) tt))
+pub bundles_all : (kept : Kept) (entries rest : List (String Global × FileName)) (ids : List ℕ) (bundles : List Bundle) → (rest ≡ []) ⊎ (ids ≡ []) → AreSoFar kept entries rest ids bundles → AllZip (IsNamedAndNumbered kept) entries bundles
+bundles_all kept entries rest ids bundles over so_far =
+    let none : rest ≡ [] = elim over [ inl is ↦ is | inr is ↦ no_entry kept rest (subst (λ xs. AllZip (HasNumber kept) rest xs) is so_far.0) ] in
+    subst (λ xs. AllZip (IsNamedAndNumbered kept) entries xs) (append-nil bundles) (so_far.1 [] (subst (λ xs. AllZip (IsNamedAndNumbered kept) xs []) (sym none) tt))
 
 -- one more
-pub bundles_more : (names : List Name) (entries rest left : List (String Global × FileName)) (ids numbers : List ℕ) (bundles made : List Bundle) (entry : String Global × FileName) (id : ℕ) (bundle : Bundle)
+pub bundles_more : (kept : Kept) (entries rest left : List (String Global × FileName)) (ids numbers : List ℕ) (bundles made : List Bundle) (entry : String Global × FileName) (id : ℕ) (bundle : Bundle)
     → rest ≡ entry ∷ left → ids ≡ id ∷ numbers → made ≡ bundles ++ bundle ∷ [] → bundle.kind ≡ Named entry.0 → bundle.id ≡ id
-    → AreSoFar names entries rest ids bundles → AreSoFar names entries left numbers made
-bundles_more names entries rest left ids numbers bundles made entry id bundle is_rest is_ids is_made named numbered so_far =
-    let all : AllZip (IsNumbered names) (entry ∷ left) (id ∷ numbers) = subst (λ xs. AllZip (IsNumbered names) xs (id ∷ numbers)) is_rest (subst (λ xs. AllZip (IsNumbered names) rest xs) is_ids so_far.0) in
-    let its : IsBundleOf names entry bundle = (named, subst (λ n. IsNumbered names entry n) (sym numbered) all.0) in
-    (all.1, λ more are. subst (λ xs. AllZip (IsBundleOf names) entries (xs ++ more)) (sym is_made) (subst (λ xs. AllZip (IsBundleOf names) entries xs) (sym (append_assoc bundles (bundle ∷ []) more)) (so_far.1 (bundle ∷ more) (subst (λ xs. AllZip (IsBundleOf names) xs (bundle ∷ more)) (sym is_rest) (its, are)))))
+    → AreSoFar kept entries rest ids bundles → AreSoFar kept entries left numbers made
+bundles_more kept entries rest left ids numbers bundles made entry id bundle is_rest is_ids is_made named numbered so_far =
+    let all : AllZip (HasNumber kept) (entry ∷ left) (id ∷ numbers) = subst (λ xs. AllZip (HasNumber kept) xs (id ∷ numbers)) is_rest (subst (λ xs. AllZip (HasNumber kept) rest xs) is_ids so_far.0) in
+    let its : IsNamedAndNumbered kept entry bundle = (named, subst (λ n. HasNumber kept entry n) (sym numbered) all.0) in
+    (all.1, λ more are. subst (λ xs. AllZip (IsNamedAndNumbered kept) entries (xs ++ more)) (sym is_made) (subst (λ xs. AllZip (IsNamedAndNumbered kept) entries xs) (sym (append_assoc bundles (bundle ∷ []) more)) (so_far.1 (bundle ∷ more) (subst (λ xs. AllZip (IsNamedAndNumbered kept) xs (bundle ∷ more)) (sym is_rest) (its, are)))))
 
 -- Lists that are counted.
 
@@ -67,5 +85,5 @@ none_left [] n counted none = refl
 none_left (x ∷ xs) n counted none = let no : ⊥ = omega arith in absurd no
 
 -- the same of the same entries
-pub numbered_along : (names : List Name) (xs ys : List (String Global × FileName)) (ids : List ℕ) → xs ≡ ys → AllZip (IsNumbered names) xs ids → AllZip (IsNumbered names) ys ids
-numbered_along names xs ys ids same all = subst (λ entries. AllZip (IsNumbered names) entries ids) same all
+pub numbered_along : (kept : Kept) (xs ys : List (String Global × FileName)) (ids : List ℕ) → xs ≡ ys → AllZip (HasNumber kept) xs ids → AllZip (HasNumber kept) ys ids
+numbered_along kept xs ys ids same all = subst (λ entries. AllZip (HasNumber kept) entries ids) same all

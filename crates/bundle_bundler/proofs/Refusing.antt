@@ -1,5 +1,5 @@
 -- Why each refusal of the library is right.
-use Rattle.std.proofs.Common.{◌≡◌, ℕ, Bool, true, false, List, [], ◌∷◌, ◌++◌, None, Result, Ok, Err, IsOk, refl, sym, ap, subst, ◌∙◌, true≢false}
+use Rattle.std.proofs.Common.{◌≡◌, ℕ, ◌<◌, length, Bool, true, false, List, [], ◌∷◌, ◌++◌, None, Result, Ok, Err, IsOk, refl, sym, ap, subst, ◌∙◌, true≢false}
 use Rattle.std.specs.Prelude.{IfOk, IfErr}
 use Rattle.std.specs.String.{string_bytes}
 use Rattle.bundle_name.specs.FileName.{Name, name_of}
@@ -12,62 +12,99 @@ use Rattle.bundle_tree.specs.declared.resolve.ResolveError.TheVariants.{Failed a
 use Rattle.bundle_kept.specs.declared.kept.Request.{Request}
 use Rattle.bundle_entry.specs.declared.unlinked.Unlinked.{Unlinked}
 use Rattle.bundle_entry.specs.declared.unlinked.Unlinked.TheVariants as u
+use Rattle.bundle_tree.specs.declared.load.ModuleData.{ModuleData}
+use Rattle.bundle_terms.specs.Entries.{Settings}
+use Rattle.bundle_terms.specs.Faults.{Parties}
+use Rattle.bundle_terms.specs.Judging as j
+use Rattle.bundle_terms.specs.Kept.{Asked, Kept, kept_file, kept_module}
+use Rattle.bundle_name.specs.declared.error.Error.TheVariants as e
 use Rattle.bundle_kept.specs.Kept.{asked_of}
+use Rattle.bundle_bundler.specs.Kept.{kept_as, IsKept, IsMet}
 use Rattle.bundle_entry.specs.Unlinked.{error_of}
-use Rattle.bundle_bundler.specs.Refusal.{IsRight, load_refusal, resolve_refusal}
-use Rattle.bundle_kept.specs.Contents.{Asked, Contents, tree_of, target_of}
-use Rattle.bundle_kept.proofs.Keeping.{with_trees, with_targets}
+use Rattle.bundle_bundler.specs.Refusal.{load_refusal, resolve_refusal, IsRefusedLoading, IsTold}
+use Rattle.bundle_bundler.proofs.Growing.{with_resolved, with_trees}
 
 -- a success is no refusal
 no_err : {T E : Type 0} (r : Result T E) (P : E → Type 0) → IsOk r → IfErr r P
 no_err (Ok x) P is = tt
 no_err (Err e) P is = absurd (true≢false (sym is))
 
-module _ {M : Type 0} (may_fail_load : Name → Type 0) (may_fail_resolve : Name → List ℕ → Type 0) (max_modules : ℕ) where
-  -- the refusal of a load is right
-  pub load_right : {T : Type 0} (c r d : Contents M) (n : Name) (file : FileName) (loaded : Result M LoadError) (result : Result T Error)
-      → tree_of c n ≡ None → name_of file ≡ n → r ≡ c → (loaded ≡ Err LoadFailed → may_fail_load n)
-      → IfOk loaded (λ tree. IsOk result × (d ≡ with_trees r (r.trees ++ (name_of file, tree) ∷ [])))
+module _ (may_fail_load : Name → Type 0) (may_fail_resolve : Name → List ℕ → Type 0) (max_modules : ℕ) where
+  -- the refusal of a load tells what is there
+  pub load_right : {T : Type 0} (c r d : Kept) (n : Name) (file : FileName) (loaded : Result ModuleData LoadError) (result : Result T Error)
+      → IsMet c n → kept_module c n ≡ None → length c.trees < max_modules → name_of file ≡ n → r ≡ c → (loaded ≡ Err LoadFailed → may_fail_load n)
+      → IfOk loaded (λ tree. IsOk result × (d ≡ with_trees r (r.trees ++ (name_of file, kept_as tree) ∷ [])))
       → IfErr loaded (λ e. (result ≡ Err (load_refusal file e)) × (d ≡ r))
-      → IfErr result (IsRight may_fail_load may_fail_resolve max_modules d)
-  load_right c r d n file (Ok tree) result none named same fails given refused = no_err result _ given.0
-  load_right c r d n file (Err LoadFailed) result none named same fails given refused =
-      let absent : tree_of d (name_of file) ≡ None = ap (λ (x : Contents M). tree_of x (name_of file)) (refused.1 ∙ same) ∙ ap (tree_of c) named ∙ none in
-      subst (λ x. IfErr x (IsRight may_fail_load may_fail_resolve max_modules d)) (sym refused.0) (absent, subst may_fail_load (sym named) (fails refl))
-  load_right c r d n file (Err LoadNoMemory) result none named same fails given refused =
-      subst (λ x. IfErr x (IsRight may_fail_load may_fail_resolve max_modules d)) (sym refused.0) tt
+      → IfErr result (IsTold may_fail_load may_fail_resolve max_modules d)
+  load_right c r d n file (Ok tree) result met none room named same fails given refused = no_err result _ given.0
+  load_right c r d n file (Err LoadFailed) result met none room named same fails given refused =
+      let is : d ≡ c = refused.1 ∙ same in
+      let told : IsMet c n × (kept_module c n ≡ None) × (length c.trees < max_modules) × may_fail_load n = (met, none, room, fails refl) in
+      let named_so : IsTold may_fail_load may_fail_resolve max_modules c (load_refusal file LoadFailed) =
+      subst (λ (m : Name). IsMet c m × (kept_module c m ≡ None) × (length c.trees < max_modules) × may_fail_load m) (sym named) told in
+      subst (λ x. IfErr x (IsTold may_fail_load may_fail_resolve max_modules d)) (sym refused.0) (subst (λ (x : Kept). IsTold may_fail_load may_fail_resolve max_modules x (load_refusal file LoadFailed)) (sym is) named_so)
+  load_right c r d n file (Err LoadNoMemory) result met none room named same fails given refused =
+      subst (λ x. IfErr x (IsTold may_fail_load may_fail_resolve max_modules d)) (sym refused.0) tt
 
-  -- the refusal of a request is right
-  pub resolve_right : {T : Type 0} (c r d : Contents M) (n : Name) (bytes : List ℕ) (request : Request) (resolved : Result FileName ResolveError) (result : Result T Error)
-      → target_of c (n, bytes) ≡ None → asked_of request ≡ (n, bytes) → r ≡ c → (resolved ≡ Err ResolveFailed → may_fail_resolve n bytes)
-      → IfOk resolved (λ file. IsOk result × (d ≡ with_targets r (r.targets ++ (asked_of request, name_of file) ∷ [])))
-      → IfErr resolved (λ e. (result ≡ Err (resolve_refusal request e)) × (d ≡ r))
-      → IfErr result (IsRight may_fail_load may_fail_resolve max_modules d)
-  resolve_right c r d n bytes request (Ok file) result none said same fails given refused = no_err result _ given.0
-  resolve_right c r d n bytes request (Err ResolveFailed) result none said same fails given refused =
-      let absent : target_of d (asked_of request) ≡ None = ap (λ (x : Contents M). target_of x (asked_of request)) (refused.1 ∙ same) ∙ ap (target_of c) said ∙ none in
-      let may : may_fail_resolve (name_of request.file) (string_bytes request.specifier) = subst (λ (a : Asked). may_fail_resolve a.0 a.1) (sym said) (fails refl) in
-      subst (λ x. IfErr x (IsRight may_fail_load may_fail_resolve max_modules d)) (sym refused.0) (absent, may)
-  resolve_right c r d n bytes request (Err ResolveNoMemory) result none said same fails given refused =
-      subst (λ x. IfErr x (IsRight may_fail_load may_fail_resolve max_modules d)) (sym refused.0) tt
+  -- the refusal of a request tells what is there
+  pub resolve_right : {T : Type 0} (c r d : Kept) (asked : Asked) (bytes : List ℕ) (request : Request) (answer : Result FileName ResolveError) (result : Result T Error)
+      → IsKept c asked.file → kept_file c asked ≡ None → asked_of request ≡ asked → r ≡ c → bytes ≡ asked.specifier → (answer ≡ Err ResolveFailed → may_fail_resolve asked.file bytes)
+      → IfOk answer (λ file. IsOk result × (d ≡ with_resolved r (r.resolved ++ (asked_of request, name_of file) ∷ [])))
+      → IfErr answer (λ e. (result ≡ Err (resolve_refusal request e)) × (d ≡ r))
+      → IfErr result (IsTold may_fail_load may_fail_resolve max_modules d)
+  resolve_right c r d asked bytes request (Ok file) result kept none said same spelled fails given refused = no_err result _ given.0
+  resolve_right c r d asked bytes request (Err ResolveFailed) result kept none said same spelled fails given refused =
+      let is : d ≡ c = refused.1 ∙ same in
+      let told : IsKept c asked.file × (kept_file c asked ≡ None) × may_fail_resolve asked.file asked.specifier = (kept, none, subst (may_fail_resolve asked.file) spelled (fails refl)) in
+      let said_so : IsTold may_fail_load may_fail_resolve max_modules c (resolve_refusal request ResolveFailed) =
+      subst (λ (a : Asked). IsKept c a.file × (kept_file c a ≡ None) × may_fail_resolve a.file a.specifier) (sym said) told in
+      subst (λ x. IfErr x (IsTold may_fail_load may_fail_resolve max_modules d)) (sym refused.0) (subst (λ (x : Kept). IsTold may_fail_load may_fail_resolve max_modules x (resolve_refusal request ResolveFailed)) (sym is) said_so)
+  resolve_right c r d asked bytes request (Err ResolveNoMemory) result kept none said same spelled fails given refused =
+      subst (λ x. IfErr x (IsTold may_fail_load may_fail_resolve max_modules d)) (sym refused.0) tt
 
   -- a refusal to link is right
-  pub unlinked_right : (c : Contents M) (u : Unlinked) (e : Error) → e ≡ error_of u → IsRight may_fail_load may_fail_resolve max_modules c e
-  unlinked_right c u.OutOfMemory e is = subst (IsRight may_fail_load may_fail_resolve max_modules c) (sym is) tt
-  unlinked_right c (u.Hook file) e is = subst (IsRight may_fail_load may_fail_resolve max_modules c) (sym is) tt
-  unlinked_right c (u.ContextsUsedUp file) e is = subst (IsRight may_fail_load may_fail_resolve max_modules c) (sym is) tt
-  unlinked_right c (u.DoubledDeclaration file name) e is = subst (IsRight may_fail_load may_fail_resolve max_modules c) (sym is) tt
-  unlinked_right c (u.DoubledExport file name) e is = subst (IsRight may_fail_load may_fail_resolve max_modules c) (sym is) tt
-  unlinked_right c (u.UndeclaredExport file name) e is = subst (IsRight may_fail_load may_fail_resolve max_modules c) (sym is) tt
-  unlinked_right c (u.MissingExport file name) e is = subst (IsRight may_fail_load may_fail_resolve max_modules c) (sym is) tt
-  unlinked_right c (u.AmbiguousExport file name) e is = subst (IsRight may_fail_load may_fail_resolve max_modules c) (sym is) tt
-  unlinked_right c (u.ExternalStarOnly file name) e is = subst (IsRight may_fail_load may_fail_resolve max_modules c) (sym is) tt
-  unlinked_right c (u.StarOfCommonJs file specifier) e is = subst (IsRight may_fail_load may_fail_resolve max_modules c) (sym is) tt
-  unlinked_right c (u.NamespaceOverExternalStar file) e is = subst (IsRight may_fail_load may_fail_resolve max_modules c) (sym is) tt
-  unlinked_right c (u.With file) e is = subst (IsRight may_fail_load may_fail_resolve max_modules c) (sym is) tt
-  unlinked_right c (u.RequiredEsModule file specifier) e is = subst (IsRight may_fail_load may_fail_resolve max_modules c) (sym is) tt
-  unlinked_right c (u.RequiredEntry file specifier) e is = subst (IsRight may_fail_load may_fail_resolve max_modules c) (sym is) tt
-  unlinked_right c (u.AwaitInCommonJs file) e is = subst (IsRight may_fail_load may_fail_resolve max_modules c) (sym is) tt
-  unlinked_right c (u.DoubledEntry file name) e is = subst (IsRight may_fail_load may_fail_resolve max_modules c) (sym is) tt
-  unlinked_right c (u.ExternalUnderIife file specifier) e is = subst (IsRight may_fail_load may_fail_resolve max_modules c) (sym is) tt
-  unlinked_right c (u.ArgumentsUnderIife file) e is = subst (IsRight may_fail_load may_fail_resolve max_modules c) (sym is) tt
+  pub unlinked_right : (c : Kept) (u : Unlinked) (e : Error) → e ≡ error_of u → IsTold may_fail_load may_fail_resolve max_modules c e
+  unlinked_right c u.OutOfMemory e is = subst (IsTold may_fail_load may_fail_resolve max_modules c) (sym is) tt
+  unlinked_right c (u.Hook file) e is = subst (IsTold may_fail_load may_fail_resolve max_modules c) (sym is) tt
+  unlinked_right c (u.ContextsUsedUp file) e is = subst (IsTold may_fail_load may_fail_resolve max_modules c) (sym is) tt
+  unlinked_right c (u.DoubledDeclaration file name) e is = subst (IsTold may_fail_load may_fail_resolve max_modules c) (sym is) tt
+  unlinked_right c (u.DoubledExport file name) e is = subst (IsTold may_fail_load may_fail_resolve max_modules c) (sym is) tt
+  unlinked_right c (u.UndeclaredExport file name) e is = subst (IsTold may_fail_load may_fail_resolve max_modules c) (sym is) tt
+  unlinked_right c (u.MissingExport file name) e is = subst (IsTold may_fail_load may_fail_resolve max_modules c) (sym is) tt
+  unlinked_right c (u.AmbiguousExport file name) e is = subst (IsTold may_fail_load may_fail_resolve max_modules c) (sym is) tt
+  unlinked_right c (u.ExternalStarOnly file name) e is = subst (IsTold may_fail_load may_fail_resolve max_modules c) (sym is) tt
+  unlinked_right c (u.StarOfCommonJs file specifier) e is = subst (IsTold may_fail_load may_fail_resolve max_modules c) (sym is) tt
+  unlinked_right c (u.NamespaceOverExternalStar file) e is = subst (IsTold may_fail_load may_fail_resolve max_modules c) (sym is) tt
+  unlinked_right c (u.With file) e is = subst (IsTold may_fail_load may_fail_resolve max_modules c) (sym is) tt
+  unlinked_right c (u.RequiredEsModule file specifier) e is = subst (IsTold may_fail_load may_fail_resolve max_modules c) (sym is) tt
+  unlinked_right c (u.RequiredEntry file specifier) e is = subst (IsTold may_fail_load may_fail_resolve max_modules c) (sym is) tt
+  unlinked_right c (u.AwaitInCommonJs file) e is = subst (IsTold may_fail_load may_fail_resolve max_modules c) (sym is) tt
+  unlinked_right c (u.DoubledEntry file name) e is = subst (IsTold may_fail_load may_fail_resolve max_modules c) (sym is) tt
+  unlinked_right c (u.ExternalUnderIife file specifier) e is = subst (IsTold may_fail_load may_fail_resolve max_modules c) (sym is) tt
+  unlinked_right c (u.ArgumentsUnderIife file) e is = subst (IsTold may_fail_load may_fail_resolve max_modules c) (sym is) tt
+
+-- what is told of a call is a refusal of the definitions
+pub told_refused : (parties : Parties) (settings : Settings) (kept : Kept) (error : Error)
+    → IsTold parties.may_fail_to_load (λ file specifier. parties.may_fail_to_resolve (record { file = file; specifier = specifier })) settings.most_modules kept error → IsRefusedLoading parties settings kept error
+told_refused parties settings kept (e.Load file) told = (told.0, j.fails told.1 told.2 told.3)
+told_refused parties settings kept (e.Resolve file specifier) told = (told.0, j.fails told.1 told.2)
+told_refused parties settings kept (e.TooManyModules file) told = (told.0, j.no_room told.1 told.2)
+told_refused parties settings kept e.NotYet told = tt
+told_refused parties settings kept e.OutOfMemory told = tt
+told_refused parties settings kept (e.Hook file) told = tt
+told_refused parties settings kept (e.ContextsUsedUp file) told = tt
+told_refused parties settings kept (e.DoubledDeclaration file name) told = tt
+told_refused parties settings kept (e.DoubledExport file name) told = tt
+told_refused parties settings kept (e.UndeclaredExport file name) told = tt
+told_refused parties settings kept (e.MissingExport file name) told = tt
+told_refused parties settings kept (e.AmbiguousExport file name) told = tt
+told_refused parties settings kept (e.ExternalStarOnly file name) told = tt
+told_refused parties settings kept (e.StarOfCommonJs file specifier) told = tt
+told_refused parties settings kept (e.NamespaceOverExternalStar file) told = tt
+told_refused parties settings kept (e.With file) told = tt
+told_refused parties settings kept (e.RequiredEsModule file specifier) told = tt
+told_refused parties settings kept (e.RequiredEntry file specifier) told = tt
+told_refused parties settings kept (e.AwaitInCommonJs file) told = tt
+told_refused parties settings kept (e.DoubledEntry file name) told = tt
+told_refused parties settings kept (e.ExternalUnderIife file specifier) told = tt
+told_refused parties settings kept (e.ArgumentsUnderIife file) told = tt

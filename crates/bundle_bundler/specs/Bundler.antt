@@ -1,16 +1,21 @@
--- What a bundle is, as far as its name and its number go.
-use Rattle.std.specs.Prelude.{◌≡◌, ℕ, List, Some, slice_get}
+-- What a bundler is made of, and what a bundle of an entry is, as far as its name and its number go.
+use Rattle.std.specs.Prelude.{◌≡◌, ℕ, List, Some, map}
 use Rattle.std.specs.declared.alloc.Global.{Global}
 use Rattle.std.specs.declared.string.String.{String}
 use Rattle.bundle_name.specs.FileName.{Name, name_of}
 use Rattle.bundle_name.specs.declared.file_name.FileName.{FileName}
+use Rattle.bundle_terms.specs.Kept.{Kept, number_in}
 use Rattle.bundle_bundler.specs.declared.bundle.Bundle.{Bundle}
 use Rattle.bundle_bundler.specs.declared.bundle.BundleKind.TheVariants.{Named}
 
--- a file's number is its place among the files that have one
-abbrev pub IsNumbered : List Name → String Global × FileName → ℕ → Type 0
-IsNumbered ids entry id = slice_get ids id ≡ Some (name_of entry.1)
+-- the files of entries
+abbrev pub files_of : List (String Global × FileName) → List Name
+files_of entries = map (λ entry. name_of entry.1) entries
 
--- a bundle is made for an entry, a name and a file: it is named so, and has the number of the file
-abbrev pub IsBundleOf : List Name → String Global × FileName → Bundle → Type 0
-IsBundleOf ids entry bundle = (bundle.kind ≡ Named entry.0) × IsNumbered ids entry bundle.id
+-- the number of an entry's file
+abbrev pub HasNumber : Kept → String Global × FileName → ℕ → Type 0
+HasNumber kept entry id = number_in kept (name_of entry.1) ≡ Some id
+
+-- a bundle is named as its entry, and has the number of its file
+abbrev pub IsNamedAndNumbered : Kept → String Global × FileName → Bundle → Type 0
+IsNamedAndNumbered kept entry bundle = (bundle.kind ≡ Named entry.0) × HasNumber kept entry bundle.id

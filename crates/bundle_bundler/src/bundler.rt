@@ -2,12 +2,11 @@
 
 ghost use Rattle.std.specs.Prelude.{◌≡◌, ℕ, List, [], IsOk, IfOk, IfErr};
 ghost use Rattle.std.specs.List.{AllZip};
-ghost use Rattle.bundle_name.specs.FileName.{Name};
-ghost use Rattle.bundle_bundler.specs.Bundler.{IsBundleOf, IsNumbered};
-ghost use Rattle.bundle_kept.specs.Contents.{Advances, Grows};
-ghost use Rattle.bundle_kept.specs.Kept.{contents_of};
-ghost use Rattle.bundle_bundler.specs.Loading.{files_on, AreKept};
-ghost use Rattle.bundle_bundler.specs.Refusal.{IsRight};
+ghost use Rattle.bundle_terms.specs.Kept.{nothing_kept, GrowsTo, Kept, Stays};
+ghost use Rattle.bundle_bundler.specs.Bundler.{files_of, HasNumber, IsNamedAndNumbered};
+ghost use Rattle.bundle_bundler.specs.Kept.{answers_of, kept_of, parties_of, settings_of, Advances};
+ghost use Rattle.bundle_bundler.specs.Loading.{files_on, AreKept, AreMet};
+ghost use Rattle.bundle_bundler.specs.Refusal.{IsRefusedLoading, IsTold};
 
 use crate::bundle::{Bundle, BundleKind};
 use crate::library::Library;
@@ -37,7 +36,7 @@ pub struct Bundler<L: Load, R: Resolve> {
 impl<L: Load + Drop, R: Resolve + Drop> Bundler<L, R> {
     /// A bundler that keeps nothing yet. It takes no memory.
     pub fn new(alloc: Global, loader: L, resolver: R, config: Config, hook: Box<dyn Hook>) -> Self
-        ensures empty { contents_of result.library.kept ≡ record { ids = []; trees = []; targets = [] } }
+        ensures empty { kept_of result.library.kept ≡ nothing_kept }
         ensures loader { result.library.loader ≡ loader }
         ensures resolver { result.library.resolver ≡ resolver }
         ensures config { result.config ≡ config }
@@ -62,27 +61,22 @@ impl<L: Load + Drop, R: Resolve + Drop> Bundler<L, R> {
         alloc: Global,
         entries: Vec<(String, FileName)>,
     ) -> Result<Vec<Bundle>, Error>
-        ensures grows { Grows (L.may_load self.old.library.loader) (R.may_resolve self.old.library.resolver) (contents_of self.old.library.kept) (contents_of self.new.library.kept) }
+        ensures grows { GrowsTo (answers_of (L.may_load self.old.library.loader) (R.may_resolve self.old.library.resolver)) (files_of entries.items) (kept_of self.old.library.kept) (kept_of self.new.library.kept) }
+        ensures stays { Stays (kept_of self.old.library.kept) (kept_of self.new.library.kept) }
         ensures loader { self.new.library.loader ≡ self.old.library.loader }
         ensures resolver { self.new.library.resolver ≡ self.old.library.resolver }
         ensures config { self.new.config ≡ self.old.config }
         ensures hook { self.new.hook ≡ self.old.hook }
-        ensures bundles { IfOk result (λ bundles. AllZip (IsBundleOf (contents_of self.new.library.kept).ids) entries.items bundles.items) }
-        ensures refused { IfErr result (IsRight (L.may_fail_load self.new.library.loader) (R.may_fail_resolve self.new.library.resolver) self.new.config.max_modules (contents_of self.new.library.kept)) }
+        ensures bundles { IfOk result (λ bundles. AllZip (IsNamedAndNumbered (kept_of self.new.library.kept)) entries.items bundles.items) }
+        ensures refused { IfErr result (IsRefusedLoading (parties_of (L.may_load self.old.library.loader) (L.may_fail_load self.old.library.loader) (R.may_resolve self.old.library.resolver) (R.may_fail_resolve self.old.library.resolver) (may_give self.old.hook) (may_fail_hook self.old.hook)) (settings_of self.old.config) (kept_of self.new.library.kept)) }
         ensures no_entry { entries.items ≡ [] → IsOk result × (self.new ≡ self.old) }
     {
         if entries.is_empty() {
             return Ok(Vec::new(alloc));
         }
         refuse_doubled_entry(alloc, entries.as_slice())?;
-        let ids = numbers_of(&mut self.library, alloc, entries.as_slice())?;
-        let list = load_all(
-            &mut self.library,
-            alloc,
-            entries.as_slice(),
-            ids.as_slice(),
-            &self.config,
-        )?;
+        let (list, ids) = numbered(&mut self.library, alloc, entries.as_slice())?;
+        let list = load_all(&mut self.library, alloc, list, &self.config)?;
         let library = &self.library;
         Ok(linked_bundles(
             alloc,
@@ -111,22 +105,25 @@ fn refuse_doubled_entry(alloc: Global, entries: &[(String, FileName)]) -> Result
     Ok(())
 }
 
-// The numbers of the entries' files, in their order.
-fn numbers_of<L: Load + Drop, R: Resolve + Drop>(
+// The list of the entries' files, and their numbers in the order of the entries.
+fn numbered<L: Load + Drop, R: Resolve + Drop>(
     library: &mut Library<L, R>,
     alloc: Global,
     entries: &[(String, FileName)],
-) -> Result<Vec<ModuleId>, Error>
-    ensures numbered { IfOk result (λ ids. AllZip (IsNumbered (contents_of library.new.kept).ids) entries.now ids.items) }
-    ensures kept { Advances L.may_load R.may_resolve library.old.loader library.new.loader library.old.resolver library.new.resolver (contents_of library.old.kept) (contents_of library.new.kept) }
-    ensures refused { (max_modules : ℕ) → IfErr result (IsRight (L.may_fail_load library.new.loader) (R.may_fail_resolve library.new.resolver) max_modules (contents_of library.new.kept)) }
+) -> Result<(LoadList, Vec<ModuleId>), Error>
+    ensures numbered { IfOk result (λ made. AllZip (HasNumber (kept_of library.new.kept)) entries.now made.1.items) }
+    ensures met { IfOk result (λ made. AreMet (kept_of library.new.kept) (files_on made.0)) }
+    ensures grows { Advances L.may_load R.may_resolve (files_of entries.now) library.old.loader library.new.loader library.old.resolver library.new.resolver (kept_of library.old.kept) (kept_of library.new.kept) }
+    ensures refused { (max_modules : ℕ) → IfErr result (IsTold (L.may_fail_load library.new.loader) (R.may_fail_resolve library.new.resolver) max_modules (kept_of library.new.kept)) }
 {
+    let mut list = LoadList::new(alloc);
     let mut ids = Vec::new(alloc);
     for (_, file) in entries {
         let id = library.id(file)?;
+        list.place(file, id)?;
         ids.push(id)?;
     }
-    Ok(ids)
+    Ok((list, ids))
 }
 
 // A bundle for each entry, where these are the numbers of their files, and all that they need is on the list.
@@ -139,8 +136,8 @@ fn linked_bundles<L: Load + Drop, R: Resolve + Drop>(
     entries: Vec<(String, FileName)>,
     ids: Vec<ModuleId>,
 ) -> Result<Vec<Bundle>, Unlinked>
-    requires { AreKept (contents_of library.now.kept) (files_on list.now) }
-    ensures bundles { IfOk result (λ bundles. (names : List Name) → AllZip (IsNumbered names) entries.items ids.items → AllZip (IsBundleOf names) entries.items bundles.items) }
+    requires { AreKept (kept_of library.now.kept) (files_on list.now) }
+    ensures bundles { IfOk result (λ bundles. (kept : Kept) → AllZip (HasNumber kept) entries.items ids.items → AllZip (IsNamedAndNumbered kept) entries.items bundles.items) }
 {
     let program = program_on(library, alloc, list, config)?;
     bundles_of(alloc, library, list, &program, config, hook, entries, ids)
@@ -157,8 +154,8 @@ fn bundles_of<'x, L: Load + Drop, R: Resolve + Drop>(
     entries: Vec<(String, FileName)>,
     ids: Vec<ModuleId>,
 ) -> Result<Vec<Bundle>, Unlinked>
-    requires { AreKept (contents_of library.now.kept) (files_on list.now) }
-    ensures bundles { IfOk result (λ bundles. (names : List Name) → AllZip (IsNumbered names) entries.items ids.items → AllZip (IsBundleOf names) entries.items bundles.items) }
+    requires { AreKept (kept_of library.now.kept) (files_on list.now) }
+    ensures bundles { IfOk result (λ bundles. (kept : Kept) → AllZip (HasNumber kept) entries.items ids.items → AllZip (IsNamedAndNumbered kept) entries.items bundles.items) }
 {
     let mut bundles = Vec::new(alloc);
     for (entry, id) in entries.into_iter().zip(ids) {

@@ -1,6 +1,6 @@
 //! The module of an entry.
 
-ghost use Rattle.bundle_kept.specs.Kept.{contents_of};
+ghost use Rattle.bundle_bundler.specs.Kept.{kept_of};
 ghost use Rattle.bundle_bundler.specs.Loading.{files_on, AreKept};
 
 use crate::library::Library;
@@ -26,7 +26,7 @@ pub fn module_on<'p, 'x, L: Load + Drop, R: Resolve + Drop>(
     hook: &dyn Hook,
     entry: ModuleId,
 ) -> Result<Module, Unlinked>
-    requires { AreKept (contents_of library.now.kept) (files_on list.now) }
+    requires { AreKept (kept_of library.now.kept) (files_on list.now) }
 {
     let linked = linked_entry(alloc, call, entry)?;
     let answers = ask_all(alloc, call, hook, &linked)?;
@@ -55,7 +55,7 @@ fn answered_module<'y, L: Load + Drop, R: Resolve + Drop>(
     entry: ModuleId,
     answers: &'y [Answer],
 ) -> Result<Module, Unlinked>
-    requires { AreKept (contents_of library.now.kept) (files_on list.now) }
+    requires { AreKept (kept_of library.now.kept) (files_on list.now) }
 {
     let program = program_on(library, alloc, list, config)?;
     let call = Call {

@@ -1,12 +1,13 @@
 //! The load list: the files that an entry needs, in the order in which they are met.
 
-ghost use Rattle.std.specs.Prelude.{◌≡◌, ℕ, slice_get, Some, IsSome, IfOk, IfErr, OnOk};
+ghost use Rattle.std.specs.Prelude.{◌≡◌, ℕ, slice_get, [], List, Some, IsSome, IfOk, IfErr, OnOk};
 ghost use Rattle.std.specs.Option.{option_map};
-ghost use Rattle.bundle_name.specs.FileName.{name_of};
-ghost use Rattle.bundle_kept.specs.Contents.{Advances, Begins, target_of as target_in, tree_of};
-ghost use Rattle.bundle_kept.specs.Kept.{asked_of, contents_of};
-ghost use Rattle.bundle_bundler.specs.Loading.{files_on, AreKept};
-ghost use Rattle.bundle_bundler.specs.Refusal.{IsRight};
+ghost use Rattle.bundle_name.specs.FileName.{Name, name_of};
+ghost use Rattle.bundle_terms.specs.Kept.{kept_file};
+ghost use Rattle.bundle_kept.specs.Kept.{asked_of};
+ghost use Rattle.bundle_bundler.specs.Kept.{kept_of, Advances, IsKept, IsMet};
+ghost use Rattle.bundle_bundler.specs.Loading.{files_on, AreKept, AreMet, Begins, IsPlaced};
+ghost use Rattle.bundle_bundler.specs.Refusal.{IsTold};
 
 use crate::library::Library;
 use bundle_entry::{Unlinked, requests_of};
@@ -29,9 +30,19 @@ pub struct LoadList {
 }
 
 impl LoadList {
+    /// A list without files. It takes no memory.
+    pub(crate) fn new(alloc: Global) -> LoadList
+        ensures { files_on result ≡ [] }
+    {
+        LoadList {
+            files: IndexMap::new(alloc),
+            requests: Vec::new(alloc),
+        }
+    }
+
     /// The place of a file, which goes last where it has none yet.
-    fn place(&mut self, file: &FileName, id: ModuleId) -> Result<usize, Unlinked>
-        ensures { Begins (files_on self.old) (files_on self.new) }
+    pub(crate) fn place(&mut self, file: &FileName, id: ModuleId) -> Result<usize, Unlinked>
+        ensures { IsPlaced (files_on self.old) (name_of file.now) (files_on self.new) }
     {
         if let Some(place) = self.files.get_index_of(file) {
             return Ok(place);
@@ -60,26 +71,20 @@ impl LoadList {
     }
 }
 
-/// Loads the files of the entries and all files that they need, first in first out, and gives their list, which
-/// begins with those of the entries, of which these are the numbers. Each file on it is kept.
-pub fn load_all<L: Load + Drop, R: Resolve + Drop>(
+/// Loads the files on a list and all files that they need, first in first out, and gives the list of all. Each file on it
+/// is kept.
+pub(crate) fn load_all<L: Load + Drop, R: Resolve + Drop>(
     library: &mut Library<L, R>,
     alloc: Global,
-    entries: &[(String, FileName)],
-    ids: &[ModuleId],
+    list: LoadList,
     config: &Config,
 ) -> Result<LoadList, Error>
-    ensures kept { Advances L.may_load R.may_resolve library.old.loader library.new.loader library.old.resolver library.new.resolver (contents_of library.old.kept) (contents_of library.new.kept) }
-    ensures refused { IfErr result (IsRight (L.may_fail_load library.new.loader) (R.may_fail_resolve library.new.resolver) config.now.max_modules (contents_of library.new.kept)) }
-    ensures loaded { IfOk result (λ list. AreKept (contents_of library.new.kept) (files_on list)) }
+    requires { AreMet (kept_of library.old.kept) (files_on list) }
+    ensures grows { (entries : List Name) → Advances L.may_load R.may_resolve entries library.old.loader library.new.loader library.old.resolver library.new.resolver (kept_of library.old.kept) (kept_of library.new.kept) }
+    ensures refused { IfErr result (IsTold (L.may_fail_load library.new.loader) (R.may_fail_resolve library.new.resolver) config.now.max_modules (kept_of library.new.kept)) }
+    ensures loaded { IfOk result (λ list. AreKept (kept_of library.new.kept) (files_on list)) }
 {
-    let mut list = LoadList {
-        files: IndexMap::new(alloc),
-        requests: Vec::new(alloc),
-    };
-    for ((_, file), id) in entries.iter().zip(ids) {
-        list.place(file, *id)?;
-    }
+    let mut list = list;
     // A list of files is shorter than that.
     for place in 0..usize::MAX {
         let Some(file) = list.file_at(place)? else {
@@ -99,10 +104,13 @@ fn work_on<L: Load + Drop, R: Resolve + Drop>(
     file: &FileName,
     config: &Config,
 ) -> Result<(), Error>
-    ensures kept { Advances L.may_load R.may_resolve library.old.loader library.new.loader library.old.resolver library.new.resolver (contents_of library.old.kept) (contents_of library.new.kept) }
-    ensures refused { IfErr result (IsRight (L.may_fail_load library.new.loader) (R.may_fail_resolve library.new.resolver) config.now.max_modules (contents_of library.new.kept)) }
-    ensures loaded { OnOk result (IsSome (tree_of (contents_of library.new.kept) (name_of file.now))) }
-    ensures listed { OnOk result (Begins (files_on list.old) (files_on list.new)) }
+    requires met { AreMet (kept_of library.old.kept) (files_on list.old) }
+    requires listed { IsMet (kept_of library.old.kept) (name_of file.now) }
+    ensures grows { (entries : List Name) → Advances L.may_load R.may_resolve entries library.old.loader library.new.loader library.old.resolver library.new.resolver (kept_of library.old.kept) (kept_of library.new.kept) }
+    ensures refused { IfErr result (IsTold (L.may_fail_load library.new.loader) (R.may_fail_resolve library.new.resolver) config.now.max_modules (kept_of library.new.kept)) }
+    ensures loaded { OnOk result (IsKept (kept_of library.new.kept) (name_of file.now)) }
+    ensures met { OnOk result (AreMet (kept_of library.new.kept) (files_on list.new)) }
+    ensures begins { OnOk result (Begins (files_on list.old) (files_on list.new)) }
 {
     library.load(alloc, file, config.max_modules)?;
     let specifiers = kept_requests(library, alloc, file, config)?;
@@ -133,9 +141,12 @@ fn place_of<L: Load + Drop, R: Resolve + Drop>(
     file: &FileName,
     specifier: &String,
 ) -> Result<usize, Error>
-    ensures kept { Advances L.may_load R.may_resolve library.old.loader library.new.loader library.old.resolver library.new.resolver (contents_of library.old.kept) (contents_of library.new.kept) }
-    ensures refused { (max_modules : ℕ) → IfErr result (IsRight (L.may_fail_load library.new.loader) (R.may_fail_resolve library.new.resolver) max_modules (contents_of library.new.kept)) }
-    ensures listed { OnOk result (Begins (files_on list.old) (files_on list.new)) }
+    requires met { AreMet (kept_of library.old.kept) (files_on list.old) }
+    requires loaded { IsKept (kept_of library.old.kept) (name_of file.now) }
+    ensures grows { (entries : List Name) → Advances L.may_load R.may_resolve entries library.old.loader library.new.loader library.old.resolver library.new.resolver (kept_of library.old.kept) (kept_of library.new.kept) }
+    ensures refused { (max_modules : ℕ) → IfErr result (IsTold (L.may_fail_load library.new.loader) (R.may_fail_resolve library.new.resolver) max_modules (kept_of library.new.kept)) }
+    ensures met { OnOk result (AreMet (kept_of library.new.kept) (files_on list.new)) }
+    ensures begins { OnOk result (Begins (files_on list.old) (files_on list.new)) }
 {
     let request = request_of(file, specifier)?;
     library.resolve(alloc, &request)?;
@@ -144,7 +155,9 @@ fn place_of<L: Load + Drop, R: Resolve + Drop>(
     Ok(list.place(&target, id)?)
 }
 
-fn request_of(file: &FileName, specifier: &String) -> Result<Request, Unlinked> {
+fn request_of(file: &FileName, specifier: &String) -> Result<Request, Unlinked>
+    ensures { IfOk result (λ request. name_of request.file ≡ name_of file.now) }
+{
     Ok(Request {
         file: file.clone()?,
         specifier: specifier.clone()?,
@@ -156,7 +169,8 @@ fn target_of<L: Load + Drop, R: Resolve + Drop>(
     library: &Library<L, R>,
     request: &Request,
 ) -> Result<FileName, Unlinked>
-    requires { IsSome (target_in (contents_of library.now.kept) (asked_of request.now)) }
+    requires { IsSome (kept_file (kept_of library.now.kept) (asked_of request.now)) }
+    ensures { IfOk result (λ file. kept_file (kept_of library.now.kept) (asked_of request.now) ≡ Some (name_of file)) }
 {
     let target = library.target(request).unwrap();
     Ok(target.clone()?)
@@ -169,7 +183,7 @@ fn kept_requests<L: Load + Drop, R: Resolve + Drop>(
     file: &FileName,
     config: &Config,
 ) -> Result<Vec<String>, Unlinked>
-    requires { IsSome (tree_of (contents_of library.now.kept) (name_of file.now)) }
+    requires { IsKept (kept_of library.now.kept) (name_of file.now) }
 {
     let loaded = library.module(file).unwrap();
     requests_of(alloc, file, loaded, config)

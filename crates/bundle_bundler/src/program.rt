@@ -1,9 +1,7 @@
 //! What the files of a load list say.
 
-ghost use Rattle.std.specs.Prelude.{IsSome};
 ghost use Rattle.bundle_name.specs.FileName.{name_of};
-ghost use Rattle.bundle_kept.specs.Contents.{tree_of};
-ghost use Rattle.bundle_kept.specs.Kept.{contents_of};
+ghost use Rattle.bundle_bundler.specs.Kept.{kept_of, IsKept};
 ghost use Rattle.bundle_bundler.specs.Loading.{files_on, AreKept};
 
 use crate::library::Library;
@@ -22,7 +20,7 @@ pub fn program_on<'x, L: Load + Drop, R: Resolve + Drop>(
     list: &'x LoadList,
     config: &Config,
 ) -> Result<Program<'x>, Unlinked>
-    requires { AreKept (contents_of library.now.kept) (files_on list.now) }
+    requires { AreKept (kept_of library.now.kept) (files_on list.now) }
 {
     let sources = sources_on(library, alloc, list, config)?;
     Ok(program_of(alloc, &list.files, list.requests.as_slice(), sources)?)
@@ -35,7 +33,7 @@ fn sources_on<'x, L: Load + Drop, R: Resolve + Drop>(
     list: &'x LoadList,
     config: &Config,
 ) -> Result<Vec<Source<'x>>, Unlinked>
-    requires { AreKept (contents_of library.now.kept) (files_on list.now) }
+    requires { AreKept (kept_of library.now.kept) (files_on list.now) }
 {
     let mut sources = Vec::new(alloc);
     for (file, _) in &list.files {
@@ -51,7 +49,7 @@ fn kept_source<'x, L: Load + Drop, R: Resolve + Drop>(
     file: &'x FileName,
     config: &Config,
 ) -> Result<Source<'x>, Unlinked>
-    requires { IsSome (tree_of (contents_of library.now.kept) (name_of file.now)) }
+    requires { IsKept (kept_of library.now.kept) (name_of file.now) }
 {
     let loaded = library.module(file).unwrap();
     source_of(alloc, file, loaded, config)
