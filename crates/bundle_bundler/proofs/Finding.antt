@@ -57,14 +57,14 @@ none_is (Some x) is = cc
 -- what a look-up among trees finds is kept, and what it does not find is not
 module _ (test : Name → Bool) (trees : List (Name × ModuleData)) where
   pub seen_same : (result : Option (Bor ModuleData)) (is : Bool) → option_map (λ (loaded : Bor ModuleData). loaded.now) result ≡ lookup test trees → is ≡ is_some result → is ≡ false → lookup test trees ≡ None
-  seen_same result is value some no = sym value ∙ read_none (λ (loaded : Bor ModuleData). loaded.now) result (none_is result (sym some ∙ no))
+  seen_same result is value some never = sym value ∙ read_none (λ (loaded : Bor ModuleData). loaded.now) result (none_is result (sym some ∙ never))
 
   pub none_if : lookup test trees ≡ None → lookup test (map (λ (e : Name × ModuleData). (e.0, kept_as e.1)) trees) ≡ None
   none_if none = lookup-read kept_as test trees ∙ read_none kept_as (lookup test trees) none
 
   pub kept_if : (result : Option (Bor ModuleData)) (is : Bool) → option_map (λ (loaded : Bor ModuleData). loaded.now) result ≡ lookup test trees → is ≡ is_some result → is ≡ true → IsSome (lookup test (map (λ (e : Name × ModuleData). (e.0, kept_as e.1)) trees))
-  kept_if result is value some yes =
-      ap is_some (lookup-read kept_as test trees) ∙ same_some kept_as (lookup test trees) ∙ ap is_some (sym value) ∙ same_some (λ (loaded : Bor ModuleData). loaded.now) result ∙ sym some ∙ yes
+  kept_if result is value some there =
+      ap is_some (lookup-read kept_as test trees) ∙ same_some kept_as (lookup test trees) ∙ ap is_some (sym value) ∙ same_some (λ (loaded : Bor ModuleData). loaded.now) result ∙ sym some ∙ there
 
 asked_eq-refl : (a : Asked) → asked_eq a a ≡ true
 asked_eq-refl a = ap (λ x. x && bytes_eq a.specifier a.specifier) (name_eq_equiv.refl a.file) ∙ (bytes_eq-Decides a.specifier a.specifier).1 refl

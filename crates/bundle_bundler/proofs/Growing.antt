@@ -1,5 +1,5 @@
 -- How what is kept grows, step by step.
-use Rattle.std.proofs.Common.{◌≡◌, ℕ, ◌+◌, ◌<◌, ◌≤◌, Bool, true, false, cond, not, eqb, nat_lt, List, [], ◌∷◌, ◌++◌, length, get_or, map, slice_get, position, Contains, Option, Some, None, Result, Ok, Err, IsOk, OnOk, OnErr, refl, sym, ap, subst, ◌∙◌, ◌⊎◌, inl, inr, arith, lt-ltb, length-append}
+use Rattle.std.proofs.Common.{◌≡◌, ℕ, suc, ◌+◌, ◌<◌, ◌≤◌, Bool, true, false, cond, not, eqb, nat_lt, List, [], ◌∷◌, ◌++◌, length, get_or, map, slice_get, position, Contains, Option, Some, None, Result, Ok, Err, IsOk, OnOk, OnErr, refl, sym, ap, subst, ◌∙◌, ◌⊎◌, inl, inr, arith, lt-ltb, length-append}
 use Rattle.std.specs.Prelude.{IfOk, IfErr}
 use Rattle.std.specs.List.{position_or_len}
 use Rattle.std.specs.Map.{lookup}
@@ -44,6 +44,14 @@ read_trees trees = map (λ (e : Name × ModuleData). (e.0, kept_as e.1)) trees
 -- the same where all parts are
 pub kept_same : (c d : Kept) → d.names ≡ c.names → d.trees ≡ c.trees → d.resolved ≡ c.resolved → d ≡ c
 kept_same c d a b e = λ i. record { names = a i; trees = b i; resolved = e i }
+
+as_many : (trees : List (Name × ModuleData)) → length (read_trees trees) ≡ length trees
+as_many [] = refl
+as_many (e ∷ es) = ap suc (as_many es)
+
+-- there is room for one more
+pub has_room : (trees : List (Name × ModuleData)) (count most : ℕ) → count ≡ length trees → count < most → length (read_trees trees) < most
+has_room trees count most is less = subst (λ (n : ℕ). n < most) (is ∙ sym (as_many trees)) less
 
 module _ (answers : Answers) (entries : List Name) where
   -- nothing is new
@@ -127,12 +135,12 @@ numbered_is_met c file (Err e) is = tt
 -- The steps.
 
 -- what holds, holds on success
-holds : {T E : Type 0} (r : Result T E) (P : Type 0) → P → OnOk r P
+pub holds : {T E : Type 0} (r : Result T E) (P : Type 0) → P → OnOk r P
 holds (Ok x) P p = p
 holds (Err e) P p = tt
 
 -- of what is refused, nothing is owed
-refused_owes : {T E : Type 0} (r : Result T E) (e : E) (P : Type 0) → r ≡ Err e → OnOk r P
+pub refused_owes : {T E : Type 0} (r : Result T E) (e : E) (P : Type 0) → r ≡ Err e → OnOk r P
 refused_owes r e P is = subst (λ x. OnOk x P) (sym is) tt
 
 -- what a look-up that finds something found

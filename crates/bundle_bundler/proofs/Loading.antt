@@ -75,6 +75,9 @@ below_more (suc i) (suc n) below =
 pub none_met : (c : Kept) → AreMet c []
 none_met c = λ place file at. cc
 
+pub none_met_of : (c : Kept) (files : List Name) → files ≡ [] → AreMet c files
+none_met_of c files none = subst (AreMet c) (sym none) (none_met c)
+
 -- what was met stays met, and so does a list with one more file that was met
 pub still_all_met : (c d : Kept) → Stays c d → (files : List Name) → AreMet c files → AreMet d files
 still_all_met c d stays files met = λ place file at. still_met c d stays file (met place file at)

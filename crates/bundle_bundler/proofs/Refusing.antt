@@ -1,6 +1,9 @@
 -- Why each refusal of the library is right.
 use Rattle.std.proofs.Common.{◌≡◌, ℕ, ◌<◌, length, Bool, true, false, List, [], ◌∷◌, ◌++◌, None, Result, Ok, Err, IsOk, refl, sym, ap, subst, ◌∙◌, true≢false}
 use Rattle.std.specs.Prelude.{IfOk, IfErr}
+use Rattle.std.specs.Result.{IsErrAnd}
+use Rattle.bundle_ast.specs.declared.expr.Expr.{Expr}
+use Rattle.bundle_ast.specs.declared.prop.KeyValueProp.{KeyValueProp}
 use Rattle.std.specs.String.{string_bytes}
 use Rattle.bundle_name.specs.FileName.{Name, name_of}
 use Rattle.bundle_name.specs.declared.error.Error.{Error}
@@ -19,9 +22,10 @@ use Rattle.bundle_terms.specs.Judging as j
 use Rattle.bundle_terms.specs.Kept.{Asked, Kept, kept_file, kept_module}
 use Rattle.bundle_name.specs.declared.error.Error.TheVariants as e
 use Rattle.bundle_kept.specs.Kept.{asked_of}
-use Rattle.bundle_bundler.specs.Kept.{kept_as, IsKept, IsMet}
+use Rattle.bundle_bundler.specs.Kept.{kept_as, parties_of, IsKept, IsMet}
 use Rattle.bundle_entry.specs.Unlinked.{error_of}
 use Rattle.bundle_bundler.specs.Refusal.{load_refusal, resolve_refusal, IsRefusedLoading, IsTold}
+use Rattle.bundle_bundler.proofs.Finding.{handed_on}
 use Rattle.bundle_bundler.proofs.Growing.{with_resolved, with_trees}
 
 -- a success is no refusal
@@ -89,7 +93,6 @@ pub told_refused : (parties : Parties) (settings : Settings) (kept : Kept) (erro
 told_refused parties settings kept (e.Load file) told = (told.0, j.fails told.1 told.2 told.3)
 told_refused parties settings kept (e.Resolve file specifier) told = (told.0, j.fails told.1 told.2)
 told_refused parties settings kept (e.TooManyModules file) told = (told.0, j.no_room told.1 told.2)
-told_refused parties settings kept e.NotYet told = tt
 told_refused parties settings kept e.OutOfMemory told = tt
 told_refused parties settings kept (e.Hook file) told = tt
 told_refused parties settings kept (e.ContextsUsedUp file) told = tt
@@ -108,3 +111,13 @@ told_refused parties settings kept (e.AwaitInCommonJs file) told = tt
 told_refused parties settings kept (e.DoubledEntry file name) told = tt
 told_refused parties settings kept (e.ExternalUnderIife file specifier) told = tt
 told_refused parties settings kept (e.ArgumentsUnderIife file) told = tt
+
+-- a refusal that is handed on is one of the definitions, also where the parties are called otherwise now
+module _ {T L R : Type 0} (may_load : Name → ModuleData → Type 0) (may_resolve : Name → List ℕ → Name → Type 0) (may_give : Name → Bool → List (KeyValueProp Expr) → Type 0) (may_fail_hook : Name → Bool → Type 0) where
+  pub refused_of : (fail_load : L → Name → Type 0) (fail_resolve : R → Name → List ℕ → Type 0) (l l1 : L) (r r1 : R) (settings : Settings) (kept : Kept) (result : Result T Error) (error : Error)
+      → l1 ≡ l → r1 ≡ r → IsErrAnd result (λ x. x ≡ error) → IsTold (fail_load l1) (fail_resolve r1) settings.most_modules kept error
+      → IfErr result (IsRefusedLoading (parties_of may_load (fail_load l) may_resolve (fail_resolve r) may_give may_fail_hook) settings kept)
+  refused_of fail_load fail_resolve l l1 r r1 settings kept result error same_loader same_resolver is told =
+      let by_loader : IsTold (fail_load l) (fail_resolve r1) settings.most_modules kept error = subst (λ (x : L). IsTold (fail_load x) (fail_resolve r1) settings.most_modules kept error) same_loader told in
+      let by_both : IsTold (fail_load l) (fail_resolve r) settings.most_modules kept error = subst (λ (x : R). IsTold (fail_load l) (fail_resolve x) settings.most_modules kept error) same_resolver by_loader in
+      handed_on result error _ is (told_refused (parties_of may_load (fail_load l) may_resolve (fail_resolve r) may_give may_fail_hook) settings kept error by_both)

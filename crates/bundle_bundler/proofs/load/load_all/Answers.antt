@@ -11,8 +11,8 @@ use Rattle.bundle_bundler.proofs.load.load_all.Goals as goal
 pub loop-place-init : goal.loop-place-init
 loop-place-init g c = (λ entries. advances_refl _ _ entries _ _ (kept_of c.args.library.now.kept), c.requires, none_before (kept_of c.args.library.now.kept) _)
 
-pub work_on-requires-listed : goal.work_on-requires-listed
-work_on-requires-listed g c = c.loop-place.invariant.1 c.loop-place.place (name_of c.in-Some.file) (sym c.in_ok-file.ensures ∙ ap (option_map name_of) c.in-Some.is)
+pub work_on-requires : goal.work_on-requires
+work_on-requires g c = record { met = c.loop-place.invariant.1; listed = c.loop-place.invariant.1 c.loop-place.place (name_of c.in-Some.file) (sym c.in_ok-file.ensures ∙ ap (option_map name_of) c.in-Some.is) }
 
 pub returns-in_err-work_on-clause-grows : goal.returns-in_err-work_on-clause-grows
 returns-in_err-work_on-clause-grows g c = λ entries. advances_trans _ _ entries _ _ _ _ _ _ _ _ _ (c.loop-place.invariant.0 entries) (c.in_err-work_on.ensures.grows entries)
