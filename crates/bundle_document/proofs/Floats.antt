@@ -9,7 +9,7 @@ use Rattle.serde_json.specs.Written.{has_float, items_have_float, members_have_f
 use Rattle.bundle_form.specs.Form.{Tree, ident, hole, node, Fields, no_fields, in_field, Trees, no_trees, tree, Field, Scalar, text, optional_text, truth, given, name, fields, scalars, with_scalar, with_scalars, in_shape, written, with_fields, each_written}
 use Rattle.bundle_form.specs.declared.layout.Shape.{Shape}
 use Rattle.bundle_form.specs.declared.layout.Shape.TheVariants as s
-use Rattle.swc_bundler.specs.declared.bundle.Bundle.{Bundle}
+use Rattle.bundle_bundler.specs.declared.bundle.Bundle.{Bundle}
 use Rattle.bundle_document.specs.Bundles.{object_of, objects_of, IsObjectOf, IsTreeOf}
 
 none : (a b : Bool) → a ≡ false → b ≡ false → (a || b) ≡ false

@@ -1,14 +1,16 @@
 -- What the program answers to a document.
-use Rattle.std.specs.Prelude.{ℕ, List, [], ◌++◌, codes, decimal}
+use Rattle.std.specs.Prelude.{ℕ, Bool, List, [], ◌++◌, codes, decimal}
 use Rattle.std.specs.List.{AllZip}
 use Rattle.bundle_name.specs.Error.{number_of, variant_name}
 use Rattle.bundle_name.specs.FileName.{Name}
 use Rattle.bundle_name.specs.declared.error.Error.{Error}
-use Rattle.bundle_tree.specs.declared.load.ModuleData.{ModuleData}
-use Rattle.bundle_kept.specs.Contents.{Contents, Grows}
-use Rattle.swc_bundler.specs.Bundler.{IsBundleOf}
-use Rattle.swc_bundler.specs.Refusal.{IsRight}
-use Rattle.swc_bundler.specs.declared.bundle.Bundle.{Bundle}
+use Rattle.bundle_ast.specs.declared.expr.Expr.{Expr}
+use Rattle.bundle_ast.specs.declared.prop.KeyValueProp.{KeyValueProp}
+use Rattle.bundle_terms.specs.Kept.{GrowsTo, Kept, nothing_kept}
+use Rattle.bundle_bundler.specs.Bundler.{files_of, IsNamedAndNumbered}
+use Rattle.bundle_bundler.specs.Kept.{answers_of, parties_of, settings_of}
+use Rattle.bundle_bundler.specs.Refusal.{IsRefusedLoading}
+use Rattle.bundle_bundler.specs.declared.bundle.Bundle.{Bundle}
 use Rattle.bundle_document.specs.Bundles.{IsCompactTextOf, IsTextOf}
 use Rattle.bundle_document.specs.Parties.{MayLoad, LeadsTo}
 use Rattle.bundle_document.specs.declared.document.Document.{Document}
@@ -17,15 +19,15 @@ use Rattle.bundle_document.specs.declared.document.Document.{Document}
 unfoldable pub line_of : Error → List ℕ
 line_of refusal = codes "error " ++ decimal (number_of refusal) ++ codes ": " ++ variant_name refusal ++ codes "\n"
 
--- what a bundler may come to keep that kept nothing, by answers of the program's loader and its resolver
-abbrev pub IsKept : Contents ModuleData → Type 0
-IsKept kept = Grows MayLoad (λ base. LeadsTo) (record { ids = []; trees = []; targets = [] }) kept
+-- what a bundler may come to keep of a document's files that kept nothing, by answers of the program's loader and its resolver
+abbrev pub IsKept : Document → Kept → Type 0
+IsKept document kept = GrowsTo (answers_of MayLoad (λ base. LeadsTo)) (files_of document.entries.items) nothing_kept kept
 
 -- these are one by one the bundles of a document's entries
 pub record AreBundlesOf (document : Document) (bundles : List Bundle) : Type 0 where
-  pub kept : Contents ModuleData
-  pub is_kept : IsKept kept
-  pub each : AllZip (IsBundleOf kept.ids) document.entries.items bundles
+  pub kept : Kept
+  pub is_kept : IsKept document kept
+  pub each : AllZip (IsNamedAndNumbered kept) document.entries.items bundles
 
 -- the text of the bundles of a document's entries
 pub record IsAnswer (document : Document) (text : List ℕ) : Type 0 where
@@ -34,8 +36,10 @@ pub record IsAnswer (document : Document) (text : List ℕ) : Type 0 where
   pub has_objects : IsTextOf bundles text
   pub is_compact : IsCompactTextOf bundles text
 
--- a refusal of a document's bundles that is right: the loader may fail for any file, the resolver where a specifier leads to none
+-- a refusal of a document's bundles that is right: the loader may fail for any file, the resolver where a specifier leads to none, the hook as it says
 pub record IsRefusal (document : Document) (refusal : Error) : Type 0 where
-  pub kept : Contents ModuleData
-  pub is_kept : IsKept kept
-  pub right : IsRight (λ file. Unit {0}) (λ base specifier. (file : Name) → ¬ LeadsTo specifier file) document.config.max_modules kept refusal
+  pub may_give : Name → Bool → List (KeyValueProp Expr) → Type 0
+  pub may_fail_hook : Name → Bool → Type 0
+  pub kept : Kept
+  pub is_kept : IsKept document kept
+  pub right : IsRefusedLoading (parties_of MayLoad (λ file. Unit {0}) (λ base. LeadsTo) (λ base specifier. (file : Name) → ¬ LeadsTo specifier file) may_give may_fail_hook) (settings_of document.config) kept refusal

@@ -7,9 +7,9 @@ use Rattle.serde_json.specs.View.{items_of}
 use Rattle.serde_json.specs.Written.{compact_text, IsInOrder}
 use Rattle.bundle_pieces.specs.Tree.{module_items}
 use Rattle.bundle_form.specs.Form.{Tree, node, tree_items, written, IsFormWritten, IsLaidOut}
-use Rattle.swc_bundler.specs.declared.bundle.Bundle.{Bundle}
-use Rattle.swc_bundler.specs.declared.bundle.BundleKind.{BundleKind}
-use Rattle.swc_bundler.specs.declared.bundle.BundleKind.TheVariants.{Named, Dynamic, Lib}
+use Rattle.bundle_bundler.specs.declared.bundle.Bundle.{Bundle}
+use Rattle.bundle_bundler.specs.declared.bundle.BundleKind.{BundleKind}
+use Rattle.bundle_bundler.specs.declared.bundle.BundleKind.TheVariants.{Named, Dynamic, Lib}
 
 -- the name of a bundle; what a call of `import` loads has none
 abbrev pub name_in : BundleKind → List ℕ

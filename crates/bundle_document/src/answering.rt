@@ -14,7 +14,7 @@ use bundle_name::error::Error;
 use bundle_tree::hook::Hook;
 use std::alloc::{AllocError, Global};
 use std::io::Write;
-use swc_bundler::Bundler;
+use bundle_bundler::Bundler;
 
 /// Bundles what a document asks for and writes the text of the bundles, with a line feed behind it.
 ///

@@ -9,7 +9,7 @@ use bundle_listing::pieces_of_module;
 use bundle_name::error::Error;
 use serde_json::{Value, json};
 use std::alloc::{AllocError, Global};
-use swc_bundler::{Bundle, BundleKind};
+use bundle_bundler::{Bundle, BundleKind};
 
 /// The JSON text of the bundles: an array with an object for each, in their order, which has its number
 /// as a text, its kind, its module and its name. Refused only for memory. Each bundle is to be of the

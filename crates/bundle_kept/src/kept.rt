@@ -1,11 +1,12 @@
 //! What a bundler keeps from one call to the next.
 
-ghost use Rattle.std.specs.Prelude.{◌≡◌, ◌<◌, ◌++◌, ◌∷◌, [], length, slice_get, Some, None, IfOk, IfErr, OnOk, OnErr, option_copied, Contains};
+ghost use Rattle.std.specs.Prelude.{◌≡◌, ◌<◌, ◌++◌, ◌∷◌, [], length, position, Some, None, IfOk, IfErr, OnOk, OnErr, option_copied, Contains};
+ghost use Rattle.std.specs.Map.{lookup};
 ghost use Rattle.std.specs.Option.{option_map};
-ghost use Rattle.bundle_name.specs.FileName.{name_of};
+ghost use Rattle.bundle_name.specs.FileName.{name_of, name_eq};
 ghost use Rattle.bundle_name.specs.ModuleIdGenerator.{IsRefusal};
-ghost use Rattle.bundle_kept.specs.Contents.{Begins, tree_of, target_of};
-ghost use Rattle.bundle_kept.specs.Kept.{asked_of, contents_of, target_room, tree_room};
+ghost use Rattle.bundle_terms.specs.Kept.{asked_eq};
+ghost use Rattle.bundle_kept.specs.Kept.{asked_of, names_in, trees_in, resolved_in, target_room, tree_room};
 
 use bundle_id::ModuleId;
 use bundle_name::{Error, FileName, ModuleIdGenerator};
@@ -30,7 +31,9 @@ pub struct Kept<M> {
 impl<M: Drop> Kept<M> {
     /// Nothing kept. It takes no memory.
     pub fn new(alloc: Global) -> Self
-        ensures { contents_of result ≡ record { ids = []; trees = []; targets = [] } }
+        ensures names { names_in result ≡ [] }
+        ensures trees { trees_in result ≡ [] }
+        ensures resolved { resolved_in result ≡ [] }
     {
         Kept {
             ids: ModuleIdGenerator::new(alloc),
@@ -41,15 +44,14 @@ impl<M: Drop> Kept<M> {
 
     /// The number of a file, a new one where it has none.
     pub fn id(&mut self, file: &FileName) -> Result<ModuleId, Error>
-        ensures numbered { IfOk result (λ id. slice_get (contents_of self.new).ids id ≡ Some (name_of file.now)) }
-        ensures known { Contains (contents_of self.old).ids (name_of file.now) → (contents_of self.new).ids ≡ (contents_of self.old).ids }
-        ensures added { OnOk result (¬ Contains (contents_of self.old).ids (name_of file.now) → (contents_of self.new).ids ≡ (contents_of self.old).ids ++ name_of file.now ∷ []) }
-        ensures unchanged { OnErr result ((contents_of self.new).ids ≡ (contents_of self.old).ids) }
-        ensures ids { Begins (contents_of self.old).ids (contents_of self.new).ids }
-        ensures trees { (contents_of self.new).trees ≡ (contents_of self.old).trees }
-        ensures targets { (contents_of self.new).targets ≡ (contents_of self.old).targets }
-        ensures refused { IfErr result (IsRefusal (contents_of self.new).ids (name_of file.now)) }
-        ensures absent { OnErr result (¬ Contains (contents_of self.new).ids (name_of file.now)) }
+        ensures numbered { IfOk result (λ id. position (name_eq (name_of file.now)) (names_in self.new) ≡ Some id) }
+        ensures known { Contains (names_in self.old) (name_of file.now) → names_in self.new ≡ names_in self.old }
+        ensures added { OnOk result (¬ Contains (names_in self.old) (name_of file.now) → names_in self.new ≡ names_in self.old ++ name_of file.now ∷ []) }
+        ensures unchanged { OnErr result (names_in self.new ≡ names_in self.old) }
+        ensures trees { trees_in self.new ≡ trees_in self.old }
+        ensures resolved { resolved_in self.new ≡ resolved_in self.old }
+        ensures refused { IfErr result (IsRefusal (names_in self.new) (name_of file.now)) }
+        ensures absent { OnErr result (¬ Contains (names_in self.new) (name_of file.now)) }
     {
         let (id, _, _) = self.ids.generate(file)?;
         Ok(id)
@@ -57,14 +59,14 @@ impl<M: Drop> Kept<M> {
 
     /// How many trees are kept.
     pub fn count(&self) -> usize
-        ensures { result ≡ length (contents_of self.now).trees }
+        ensures { result ≡ length (trees_in self.now) }
     {
         self.trees.len()
     }
 
     /// The tree of a file, if it is kept.
     pub fn tree(&self, file: &FileName) -> Option<&M>
-        ensures { option_copied result ≡ tree_of (contents_of self.now) (name_of file.now) }
+        ensures { option_copied result ≡ lookup (name_eq (name_of file.now)) (trees_in self.now) }
     {
         self.trees.get(file)
     }
@@ -72,7 +74,9 @@ impl<M: Drop> Kept<M> {
     /// Makes room for one more tree.
     pub fn reserve_tree(&mut self) -> Result<(), AllocError>
         ensures room { OnOk result (0 < tree_room self.new) }
-        ensures same { contents_of self.new ≡ contents_of self.old }
+        ensures names { names_in self.new ≡ names_in self.old }
+        ensures trees { trees_in self.new ≡ trees_in self.old }
+        ensures resolved { resolved_in self.new ≡ resolved_in self.old }
     {
         self.trees.reserve(1)
     }
@@ -80,15 +84,17 @@ impl<M: Drop> Kept<M> {
     /// Keeps the tree of a file that has none. There is room for it, so that it is never refused.
     pub fn keep_tree(&mut self, file: FileName, tree: M)
         requires room { 0 < tree_room self.old }
-        requires absent { tree_of (contents_of self.old) (name_of file) ≡ None }
-        ensures { contents_of self.new ≡ record (contents_of self.old) { trees = (contents_of self.old).trees ++ (name_of file, tree) ∷ [] } }
+        requires absent { lookup (name_eq (name_of file)) (trees_in self.old) ≡ None }
+        ensures names { names_in self.new ≡ names_in self.old }
+        ensures trees { trees_in self.new ≡ trees_in self.old ++ (name_of file, tree) ∷ [] }
+        ensures resolved { resolved_in self.new ≡ resolved_in self.old }
     {
         let _ = self.trees.insert(file, tree);
     }
 
     /// The file that a request leads to, if it is kept.
     pub fn target(&self, request: &Request) -> Option<&FileName>
-        ensures { option_map (λ file. name_of file.now) result ≡ target_of (contents_of self.now) (asked_of request.now) }
+        ensures { option_map (λ file. name_of file.now) result ≡ lookup (asked_eq (asked_of request.now)) (resolved_in self.now) }
     {
         self.targets.get(request)
     }
@@ -96,7 +102,9 @@ impl<M: Drop> Kept<M> {
     /// Makes room for one more request.
     pub fn reserve_target(&mut self) -> Result<(), AllocError>
         ensures room { OnOk result (0 < target_room self.new) }
-        ensures same { contents_of self.new ≡ contents_of self.old }
+        ensures names { names_in self.new ≡ names_in self.old }
+        ensures trees { trees_in self.new ≡ trees_in self.old }
+        ensures resolved { resolved_in self.new ≡ resolved_in self.old }
     {
         self.targets.reserve(1)
     }
@@ -105,8 +113,10 @@ impl<M: Drop> Kept<M> {
     /// refused.
     pub fn keep_target(&mut self, request: Request, file: FileName)
         requires room { 0 < target_room self.old }
-        requires absent { target_of (contents_of self.old) (asked_of request) ≡ None }
-        ensures { contents_of self.new ≡ record (contents_of self.old) { targets = (contents_of self.old).targets ++ (asked_of request, name_of file) ∷ [] } }
+        requires absent { lookup (asked_eq (asked_of request)) (resolved_in self.old) ≡ None }
+        ensures names { names_in self.new ≡ names_in self.old }
+        ensures trees { trees_in self.new ≡ trees_in self.old }
+        ensures resolved { resolved_in self.new ≡ resolved_in self.old ++ (asked_of request, name_of file) ∷ [] }
     {
         let _ = self.targets.insert(request, file);
     }

@@ -15,7 +15,7 @@ use serde_json::Value;
 use std::alloc::{AllocError, Global};
 use std::cell::{Cell, RefCell};
 use std::test::Fail;
-use swc_bundler::Bundler;
+use bundle_bundler::Bundler;
 
 /// `export const x = 1;`
 const A: &str =

@@ -1,4 +1,0 @@
-pub mod Finding
-pub mod Loading
-pub mod Refusing
-pub mod Numbered

@@ -1,3 +1,0 @@
-pub mod Bundler
-pub mod Loading
-pub mod Refusal

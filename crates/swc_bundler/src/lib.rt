@@ -1,13 +1,47 @@
-//! A linker of ECMAScript modules: it loads the modules that an entry needs, each once, and makes one
-//! module of them.
+//! The linker as its users see it: every public item at its path. What each does is said where it is defined;
+//! nothing is defined here.
 #![tactic(auto)]
 
-pub mod bundle;
-pub mod bundler;
-mod library;
-mod linked;
-mod load;
-mod program;
+pub use bundle_ast as ast;
+pub use bundle_copy::TryClone;
+pub use bundle_marks as marks;
+pub use bundle_name::error::Error;
+pub use bundle_order::{graph, sort};
+pub use bundle_scope::scope;
+pub use bundle_tree::{hook, resolve};
 
-pub use bundle::{Bundle, BundleKind};
-pub use bundler::Bundler;
+/// Contexts, the names of bindings, and the numbers of modules.
+pub mod id {
+    pub use bundle_id::{ModuleId, SyntaxContext};
+    pub use bundle_name::ModuleIdGenerator;
+    pub use bundle_tree::Id;
+}
+
+/// Files, and who gives their modules.
+pub mod load {
+    pub use bundle_name::FileName;
+    pub use bundle_tree::{Load, LoadError, ModuleData};
+}
+
+/// What one module asks of others and gives them.
+pub mod tables {
+    pub use bundle_link::{
+        ExportEntry, Exports, Import, ImportName, exports_of, imports_of, requests_of,
+    };
+}
+
+/// What the names of modules stand for.
+pub mod link {
+    pub use bundle_link::{Linker, Resolution, Target, TransformedModule};
+}
+
+/// The last steps to a bundle: no keyword and no clash of names.
+pub mod finalize {
+    pub use bundle_scope::finalize::{KeywordRenamer, hygiene};
+}
+
+/// The bundler, its settings and what it gives.
+pub mod bundler {
+    pub use bundle_bundler::{Bundle, BundleKind, Bundler};
+    pub use bundle_name::{Config, ModuleType};
+}

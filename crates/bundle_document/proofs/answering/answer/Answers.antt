@@ -8,7 +8,7 @@ use Rattle.bundle_document.proofs.answering.answer.Goals as goal
 -- a refusal stands where the line is its own, and the want of memory where it is that one's
 the_one : {P : Error → Type 0} (document : Document) (refusal : Error) → IsRefusal document refusal → P refusal ⊎ P OutOfMemory → (told : Error) × IsRefusal document told × P told
 the_one document refusal right (inl line) = (refusal, right, line)
-the_one document refusal right (inr line) = (OutOfMemory, record { kept = right.kept; is_kept = right.is_kept; right = tt }, line)
+the_one document refusal right (inr line) = (OutOfMemory, record { may_give = right.may_give; may_fail_hook = right.may_fail_hook; kept = right.kept; is_kept = right.is_kept; right = tt }, line)
 
 pub returns-clause-refused : goal.returns-clause-refused
 returns-clause-refused g c = λ _. the_one c.args.document c.in-Err.refusal c.in-Err.ensures.refused c.report.ensures.line

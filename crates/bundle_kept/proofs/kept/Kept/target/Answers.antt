@@ -3,7 +3,7 @@ use Rattle.std.proofs.Common.{◌∙◌, ap, Bor}
 use Rattle.std.specs.Option.{option_map}
 use Rattle.bundle_name.specs.FileName.{name_of}
 use Rattle.bundle_name.specs.declared.file_name.FileName.{FileName}
-use Rattle.bundle_kept.specs.Contents.{asked_eq}
+use Rattle.bundle_terms.specs.Kept.{asked_eq}
 use Rattle.bundle_kept.specs.Kept.{asked_of}
 use Rattle.bundle_kept.proofs.Keeping.{lookup-said, option_map-step}
 use Rattle.bundle_kept.proofs.kept.Kept.target.Goals as goal

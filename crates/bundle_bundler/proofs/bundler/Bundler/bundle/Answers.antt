@@ -1,0 +1,88 @@
+-- What is kept grows by the numbers of the entries' files, and then by all that is loaded; these files keep their numbers.
+use Rattle.std.proofs.Common.{refl, ◌∙◌}
+use Rattle.bundle_terms.specs.Kept as k
+use Rattle.bundle_entry.specs.Unlinked.{error_of}
+use Rattle.bundle_bundler.specs.Bundler.{files_of}
+use Rattle.bundle_bundler.specs.Kept.{kept_of, settings_of}
+use Rattle.bundle_bundler.proofs.Growing.{advances_stays, advances_trans}
+use Rattle.bundle_bundler.proofs.Numbered.{advances_for, all_still_numbered, numbered_along}
+use Rattle.bundle_bundler.proofs.Refusing.{refused_of, unlinked_right}
+use Rattle.bundle_bundler.proofs.bundler.Bundler.bundle.Goals as goal
+
+pub returns-then-is_empty-clause-grows : goal.returns-then-is_empty-clause-grows
+returns-then-is_empty-clause-grows g c = k.same
+
+pub returns-in_err-refuse_doubled_entry-clause-grows : goal.returns-in_err-refuse_doubled_entry-clause-grows
+returns-in_err-refuse_doubled_entry-clause-grows g c = k.same
+
+pub returns-in_err-list-clause-stays : goal.returns-in_err-list-clause-stays
+returns-in_err-list-clause-stays g c =
+    advances_stays _ _ (files_of c.args.entries.items) _ _ _ _ (kept_of c.args.self.now.library.kept) (kept_of c.numbered.new.library.kept) (advances_for _ _ c.as_slice-2.result.now c.args.entries.items _ _ _ _ (kept_of c.args.self.now.library.kept) (kept_of c.numbered.new.library.kept) c.as_slice-2.ensures.value c.in_err-list.ensures.grows)
+
+pub returns-in_err-list-clause-refused : goal.returns-in_err-list-clause-refused
+returns-in_err-list-clause-refused g c =
+    refused_of _ _ _ _ (g.L.Load.may_fail_load) (g.R.Resolve.may_fail_resolve) c.args.self.now.library.loader c.numbered.new.library.loader c.args.self.now.library.resolver c.numbered.new.library.resolver (settings_of c.args.self.now.config) (kept_of c.numbered.new.library.kept) _ _ c.in_err-list.ensures.grows.loader c.in_err-list.ensures.grows.resolver c.from_residual-in_err-list.ensures.1
+        (c.in_err-list.ensures.refused c.args.self.now.config.max_modules)
+
+pub returns-in_err-list-2-clause-grows : goal.returns-in_err-list-2-clause-grows
+returns-in_err-list-2-clause-grows g c =
+    (advances_trans _ _ (files_of c.args.entries.items) _ _ _ _ _ _ _ (kept_of c.numbered.new.library.kept) (kept_of c.load_all.new.library.kept) (advances_for _ _ c.as_slice-2.result.now c.args.entries.items _ _ _ _ (kept_of c.args.self.now.library.kept) (kept_of c.numbered.new.library.kept) c.as_slice-2.ensures.value c.in_ok-list.ensures.grows) (c.in_err-list-2.ensures.grows (files_of c.args.entries.items))).grows
+
+pub returns-in_err-list-2-clause-stays : goal.returns-in_err-list-2-clause-stays
+returns-in_err-list-2-clause-stays g c =
+    advances_stays _ _ (files_of c.args.entries.items) _ _ _ _ (kept_of c.args.self.now.library.kept) (kept_of c.load_all.new.library.kept) (advances_trans _ _ (files_of c.args.entries.items) _ _ _ _ _ _ _ (kept_of c.numbered.new.library.kept) (kept_of c.load_all.new.library.kept) (advances_for _ _ c.as_slice-2.result.now c.args.entries.items _ _ _ _ (kept_of c.args.self.now.library.kept) (kept_of c.numbered.new.library.kept) c.as_slice-2.ensures.value c.in_ok-list.ensures.grows) (c.in_err-list-2.ensures.grows (files_of c.args.entries.items)))
+
+pub returns-in_err-list-2-clause-loader : goal.returns-in_err-list-2-clause-loader
+returns-in_err-list-2-clause-loader g c =
+    (c.in_err-list-2.ensures.grows (files_of c.args.entries.items)).loader ∙ c.in_ok-list.ensures.grows.loader
+
+pub returns-in_err-list-2-clause-resolver : goal.returns-in_err-list-2-clause-resolver
+returns-in_err-list-2-clause-resolver g c =
+    (c.in_err-list-2.ensures.grows (files_of c.args.entries.items)).resolver ∙ c.in_ok-list.ensures.grows.resolver
+
+pub returns-in_err-linked_bundles-clause-grows : goal.returns-in_err-linked_bundles-clause-grows
+returns-in_err-linked_bundles-clause-grows g c =
+    (advances_trans _ _ (files_of c.args.entries.items) _ _ _ _ _ _ _ (kept_of c.numbered.new.library.kept) (kept_of c.load_all.new.library.kept) (advances_for _ _ c.as_slice-2.result.now c.args.entries.items _ _ _ _ (kept_of c.args.self.now.library.kept) (kept_of c.numbered.new.library.kept) c.as_slice-2.ensures.value c.in_ok-list.ensures.grows) (c.in_ok-list-2.ensures.grows (files_of c.args.entries.items))).grows
+
+pub returns-in_err-linked_bundles-clause-stays : goal.returns-in_err-linked_bundles-clause-stays
+returns-in_err-linked_bundles-clause-stays g c =
+    advances_stays _ _ (files_of c.args.entries.items) _ _ _ _ (kept_of c.args.self.now.library.kept) (kept_of c.load_all.new.library.kept) (advances_trans _ _ (files_of c.args.entries.items) _ _ _ _ _ _ _ (kept_of c.numbered.new.library.kept) (kept_of c.load_all.new.library.kept) (advances_for _ _ c.as_slice-2.result.now c.args.entries.items _ _ _ _ (kept_of c.args.self.now.library.kept) (kept_of c.numbered.new.library.kept) c.as_slice-2.ensures.value c.in_ok-list.ensures.grows) (c.in_ok-list-2.ensures.grows (files_of c.args.entries.items)))
+
+pub returns-in_err-linked_bundles-clause-loader : goal.returns-in_err-linked_bundles-clause-loader
+returns-in_err-linked_bundles-clause-loader g c =
+    (c.in_ok-list-2.ensures.grows (files_of c.args.entries.items)).loader ∙ c.in_ok-list.ensures.grows.loader
+
+pub returns-in_err-linked_bundles-clause-resolver : goal.returns-in_err-linked_bundles-clause-resolver
+returns-in_err-linked_bundles-clause-resolver g c =
+    (c.in_ok-list-2.ensures.grows (files_of c.args.entries.items)).resolver ∙ c.in_ok-list.ensures.grows.resolver
+
+pub returns-clause-grows : goal.returns-clause-grows
+returns-clause-grows g c =
+    (advances_trans _ _ (files_of c.args.entries.items) _ _ _ _ _ _ _ (kept_of c.numbered.new.library.kept) (kept_of c.load_all.new.library.kept) (advances_for _ _ c.as_slice-2.result.now c.args.entries.items _ _ _ _ (kept_of c.args.self.now.library.kept) (kept_of c.numbered.new.library.kept) c.as_slice-2.ensures.value c.in_ok-list.ensures.grows) (c.in_ok-list-2.ensures.grows (files_of c.args.entries.items))).grows
+
+pub returns-clause-stays : goal.returns-clause-stays
+returns-clause-stays g c =
+    advances_stays _ _ (files_of c.args.entries.items) _ _ _ _ (kept_of c.args.self.now.library.kept) (kept_of c.load_all.new.library.kept) (advances_trans _ _ (files_of c.args.entries.items) _ _ _ _ _ _ _ (kept_of c.numbered.new.library.kept) (kept_of c.load_all.new.library.kept) (advances_for _ _ c.as_slice-2.result.now c.args.entries.items _ _ _ _ (kept_of c.args.self.now.library.kept) (kept_of c.numbered.new.library.kept) c.as_slice-2.ensures.value c.in_ok-list.ensures.grows) (c.in_ok-list-2.ensures.grows (files_of c.args.entries.items)))
+
+pub returns-clause-loader : goal.returns-clause-loader
+returns-clause-loader g c =
+    (c.in_ok-list-2.ensures.grows (files_of c.args.entries.items)).loader ∙ c.in_ok-list.ensures.grows.loader
+
+pub returns-clause-resolver : goal.returns-clause-resolver
+returns-clause-resolver g c =
+    (c.in_ok-list-2.ensures.grows (files_of c.args.entries.items)).resolver ∙ c.in_ok-list.ensures.grows.resolver
+
+pub returns-in_err-list-2-clause-refused : goal.returns-in_err-list-2-clause-refused
+returns-in_err-list-2-clause-refused g c =
+    refused_of _ _ _ _ (g.L.Load.may_fail_load) (g.R.Resolve.may_fail_resolve) c.args.self.now.library.loader c.load_all.new.library.loader c.args.self.now.library.resolver c.load_all.new.library.resolver (settings_of c.args.self.now.config) (kept_of c.load_all.new.library.kept) _ _ ((c.in_err-list-2.ensures.grows (files_of c.args.entries.items)).loader ∙ c.in_ok-list.ensures.grows.loader) ((c.in_err-list-2.ensures.grows (files_of c.args.entries.items)).resolver ∙ c.in_ok-list.ensures.grows.resolver) c.from_residual-in_err-list-2.ensures.1
+        (c.in_err-list-2.ensures.refused)
+
+pub returns-in_err-linked_bundles-clause-refused : goal.returns-in_err-linked_bundles-clause-refused
+returns-in_err-linked_bundles-clause-refused g c =
+    refused_of _ _ _ _ (g.L.Load.may_fail_load) (g.R.Resolve.may_fail_resolve) c.args.self.now.library.loader c.load_all.new.library.loader c.args.self.now.library.resolver c.load_all.new.library.resolver (settings_of c.args.self.now.config) (kept_of c.load_all.new.library.kept) _ _ ((c.in_ok-list-2.ensures.grows (files_of c.args.entries.items)).loader ∙ c.in_ok-list.ensures.grows.loader) ((c.in_ok-list-2.ensures.grows (files_of c.args.entries.items)).resolver ∙ c.in_ok-list.ensures.grows.resolver) c.from_residual-in_err-linked_bundles.ensures.1
+        (unlinked_right (g.L.Load.may_fail_load c.load_all.new.library.loader) (g.R.Resolve.may_fail_resolve c.load_all.new.library.resolver) _ (kept_of c.load_all.new.library.kept) c.in_err-linked_bundles.field-0.0 (error_of c.in_err-linked_bundles.field-0.0) refl)
+
+pub returns-clause-bundles : goal.returns-clause-bundles
+returns-clause-bundles g c =
+    c.in_ok-linked_bundles.ensures.bundles (kept_of c.load_all.new.library.kept) (all_still_numbered (kept_of c.numbered.new.library.kept) (kept_of c.load_all.new.library.kept) (advances_stays _ _ (files_of c.args.entries.items) _ _ _ _ _ _ (c.in_ok-list-2.ensures.grows (files_of c.args.entries.items))) c.args.entries.items c.in_ok-list.ids.items
+        (numbered_along (kept_of c.numbered.new.library.kept) _ _ _ c.as_slice-2.ensures.value c.in_ok-list.ensures.numbered))

@@ -1,0 +1,40 @@
+-- What is kept grows by the number of each file, the files before it keep theirs, and those on the list were met.
+use Rattle.std.proofs.Common.{[], inl, subst, sym}
+use Rattle.std.specs.List.{AllZip}
+use Rattle.bundle_name.specs.FileName.{name_of}
+use Rattle.bundle_bundler.specs.Bundler.{files_of, HasNumber}
+use Rattle.bundle_bundler.specs.Kept.{kept_of}
+use Rattle.bundle_bundler.specs.Loading.{files_on}
+use Rattle.bundle_bundler.proofs.Finding.{handed_on}
+use Rattle.bundle_bundler.proofs.Growing.{advances_refl, advances_stays, advances_trans}
+use Rattle.bundle_bundler.proofs.Loading.{all_met_placed, none_met_of, still_all_met}
+use Rattle.bundle_bundler.proofs.Numbered.{entry_listed, numbered_more}
+use Rattle.bundle_bundler.proofs.bundler.numbered.Goals as goal
+
+pub loop-file-init : goal.loop-file-init
+loop-file-init g c = (advances_refl _ _ (files_of c.args.entries.now) _ _ (kept_of c.args.library.now.kept), subst (λ ids. AllZip (HasNumber (kept_of c.args.library.now.kept)) [] ids) (sym c.new-ids.ensures.items) tt, none_met_of (kept_of c.args.library.now.kept) (files_on c.new-list.result) c.new-list.ensures)
+
+pub returns-in_err-id-clause-grows : goal.returns-in_err-id-clause-grows
+returns-in_err-id-clause-grows g c =
+    advances_trans _ _ (files_of c.args.entries.now) _ _ _ _ _ _ _ _ _ c.loop-file.invariant.0 (c.in_err-id.ensures.grows (files_of c.args.entries.now) (inl (entry_listed c.args.entries.now c.loop-file.file-index _ c.loop-file-test.true (sym c.loop-file-item.is))))
+
+pub returns-in_err-id-clause-refused : goal.returns-in_err-id-clause-refused
+returns-in_err-id-clause-refused g c m = handed_on _ _ _ c.from_residual.ensures.1 (c.in_err-id.ensures.refused m)
+
+pub returns-in_err-place-clause-grows : goal.returns-in_err-place-clause-grows
+returns-in_err-place-clause-grows g c =
+    advances_trans _ _ (files_of c.args.entries.now) _ _ _ _ _ _ _ _ _ c.loop-file.invariant.0 (c.in_ok-id.ensures.grows (files_of c.args.entries.now) (inl (entry_listed c.args.entries.now c.loop-file.file-index _ c.loop-file-test.true (sym c.loop-file-item.is))))
+
+pub returns-in_err-push-clause-grows : goal.returns-in_err-push-clause-grows
+returns-in_err-push-clause-grows g c =
+    advances_trans _ _ (files_of c.args.entries.now) _ _ _ _ _ _ _ _ _ c.loop-file.invariant.0 (c.in_ok-id.ensures.grows (files_of c.args.entries.now) (inl (entry_listed c.args.entries.now c.loop-file.file-index _ c.loop-file-test.true (sym c.loop-file-item.is))))
+
+pub loop-file-preserved : goal.loop-file-preserved
+loop-file-preserved g c =
+    let step = c.in_ok-id.ensures.grows (files_of c.args.entries.now) (inl (entry_listed c.args.entries.now c.loop-file.file-index _ c.loop-file-test.true (sym c.loop-file-item.is))) in
+    let stays = advances_stays _ _ (files_of c.args.entries.now) _ _ _ _ (kept_of c.loop-file.library.kept) (kept_of c.id.new.self.kept) step in
+    (
+      advances_trans _ _ (files_of c.args.entries.now) _ _ _ _ _ _ _ _ _ c.loop-file.invariant.0 step,
+      numbered_more _ _ stays c.args.entries.now c.loop-file.ids.items _ c.loop-file.file-index _ _ c.loop-file-test.true (sym c.loop-file-item.is) c.in_ok-push.ensures.items c.loop-file.invariant.1 c.in_ok-id.ensures.numbered,
+      all_met_placed (kept_of c.id.new.self.kept) (files_on c.loop-file.list) (files_on c.place.new.self) _ c.in_ok-place.ensures (still_all_met _ _ stays (files_on c.loop-file.list) c.loop-file.invariant.2) c.in_ok-id.ensures.met,
+    )

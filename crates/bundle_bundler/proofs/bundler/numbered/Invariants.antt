@@ -1,0 +1,13 @@
+-- What was kept is still kept, the files before the index have these numbers, and those on the list were met.
+use Rattle.std.proofs.Common.{take}
+use Rattle.std.specs.List.{AllZip}
+use Rattle.bundle_bundler.specs.Bundler.{files_of, HasNumber}
+use Rattle.bundle_bundler.specs.Kept.{kept_of, Advances}
+use Rattle.bundle_bundler.specs.Loading.{files_on, AreMet}
+use Rattle.bundle_bundler.proofs.bundler.numbered.Given as goal
+
+abbrev pub invariant-loop-file : goal.invariant-loop-file
+invariant-loop-file g l =
+    Advances g.L.Load.may_load g.R.Resolve.may_resolve (files_of l.entries) l.initial.library.loader l.library.loader l.initial.library.resolver l.library.resolver (kept_of l.initial.library.kept) (kept_of l.library.kept)
+    × AllZip (HasNumber (kept_of l.library.kept)) (take l.file-index l.entries) l.ids.items
+    × AreMet (kept_of l.library.kept) (files_on l.list)

@@ -1,0 +1,15 @@
+-- What a look-up among trees finds is kept.
+use Rattle.std.proofs.Common.{◌∙◌, ap, sym}
+use Rattle.std.specs.Option.{is_some}
+use Rattle.bundle_name.specs.FileName.{name_of, name_eq}
+use Rattle.bundle_kept.specs.Kept.{trees_in}
+use Rattle.bundle_bundler.specs.Kept.{kept_as}
+use Rattle.bundle_bundler.proofs.Finding.{kept_if, none_if, none_is, seen_same}
+use Rattle.bundle_bundler.proofs.library.Library.has.Goals as goal
+
+pub returns : goal.returns
+returns g c = record {
+  kept = λ is. kept_if (name_eq (name_of c.args.file.now)) (trees_in c.args.self.now.kept) c.tree.result c.is_some.result c.tree.ensures c.is_some.ensures is;
+  none = λ is. none_if (name_eq (name_of c.args.file.now)) (trees_in c.args.self.now.kept) (seen_same (name_eq (name_of c.args.file.now)) (trees_in c.args.self.now.kept) c.tree.result c.is_some.result c.tree.ensures c.is_some.ensures is);
+  absent = λ is. seen_same (name_eq (name_of c.args.file.now)) (trees_in c.args.self.now.kept) c.tree.result c.is_some.result c.tree.ensures c.is_some.ensures is;
+}

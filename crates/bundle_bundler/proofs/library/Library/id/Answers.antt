@@ -1,0 +1,17 @@
+-- A file that gets its number was met, and what is kept grows by it.
+use Rattle.std.proofs.Common.{refl, ap, map}
+use Rattle.bundle_name.specs.FileName.{Name, name_of}
+use Rattle.bundle_tree.specs.declared.load.ModuleData.{ModuleData}
+use Rattle.bundle_bundler.specs.Kept.{kept_of}
+use Rattle.bundle_bundler.proofs.Growing.{id_grows, numbered_is_met, read_trees}
+use Rattle.bundle_bundler.proofs.library.Library.id.Goals as goal
+
+pub returns-clause-met : goal.returns-clause-met
+returns-clause-met g c = numbered_is_met (kept_of c.id.new.self) (name_of c.args.file.now) c.id.result c.id.ensures.numbered
+
+pub returns-clause-grows : goal.returns-clause-grows
+returns-clause-grows g c = λ entries due. record {
+  loader = refl;
+  resolver = refl;
+  grows = id_grows _ _ entries (kept_of c.args.self.now.kept) (kept_of c.id.new.self) (name_of c.args.file.now) c.id.result c.id.ensures.known c.id.ensures.added c.id.ensures.unchanged (ap read_trees c.id.ensures.trees) c.id.ensures.resolved due;
+}

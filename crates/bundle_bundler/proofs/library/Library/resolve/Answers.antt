@@ -1,0 +1,35 @@
+-- The file that was just kept for a request is found, and what is kept has grown by it.
+use Rattle.std.proofs.Common.{refl}
+use Rattle.bundle_kept.specs.Kept.{asked_of}
+use Rattle.bundle_bundler.specs.Kept.{kept_of}
+use Rattle.bundle_bundler.proofs.Finding.{asked_same, target_found}
+use Rattle.bundle_bundler.proofs.Growing.{advances_along, advances_refl, resolve_grows}
+use Rattle.bundle_bundler.proofs.Refusing.{resolve_right}
+use Rattle.bundle_bundler.proofs.library.Library.resolve.Goals as goal
+
+pub returns-clause-there : goal.returns-clause-there
+returns-clause-there g c =
+    target_found _ _ (asked_of c.args.request.now) _ _ _ (asked_same _ _ _ _ c.in_ok-clone.ensures.cases c.in_ok-clone-2.ensures.cases) c.keep_resolved.ensures.given c.keep_resolved.ensures.refused
+
+pub returns-clause-grows : goal.returns-clause-grows
+returns-clause-grows g c = λ entries. record {
+  loader = refl;
+  resolver = refl;
+  grows = resolve_grows _ _ entries _ _ _ (asked_of c.args.request.now) _ _ _ _ c.requires (c.leads.ensures.none c.if-leads.false) (asked_same _ _ _ _ c.in_ok-clone.ensures.cases c.in_ok-clone-2.ensures.cases) c.in_ok-reserve_target.ensures.same c.as_str.ensures.value c.resolve-resolved.ensures.answer c.keep_resolved.ensures.given c.keep_resolved.ensures.refused;
+}
+
+pub returns-clause-refused : goal.returns-clause-refused
+returns-clause-refused g c = λ max_modules.
+    resolve_right (g.L.Load.may_fail_load c.args.self.now.loader) (g.R.Resolve.may_fail_resolve c.args.self.now.resolver) max_modules _ _ _ (asked_of c.args.request.now) _ _ _ _ c.requires (c.leads.ensures.none c.if-leads.false) (asked_same _ _ _ _ c.in_ok-clone.ensures.cases c.in_ok-clone-2.ensures.cases) c.in_ok-reserve_target.ensures.same c.as_str.ensures.value c.resolve-resolved.ensures.failure c.keep_resolved.ensures.given c.keep_resolved.ensures.refused
+
+pub returns-then-leads-clause-grows : goal.returns-then-leads-clause-grows
+returns-then-leads-clause-grows g c = λ entries. advances_refl _ _ entries _ _ (kept_of c.args.self.now.kept)
+
+pub returns-in_err-clone-clause-grows : goal.returns-in_err-clone-clause-grows
+returns-in_err-clone-clause-grows g c = λ entries. advances_refl _ _ entries _ _ (kept_of c.args.self.now.kept)
+
+pub returns-in_err-clone-2-clause-grows : goal.returns-in_err-clone-2-clause-grows
+returns-in_err-clone-2-clause-grows g c = λ entries. advances_refl _ _ entries _ _ (kept_of c.args.self.now.kept)
+
+pub returns-in_err-reserve_target-clause-grows : goal.returns-in_err-reserve_target-clause-grows
+returns-in_err-reserve_target-clause-grows g c = λ entries. advances_along _ _ entries _ _ (kept_of c.args.self.now.kept) (kept_of c.reserve_target.new.kept) c.in_err-reserve_target.ensures.same

@@ -1,0 +1,40 @@
+-- What is kept grows by the resolver's answer, and then by the number of the file.
+use Rattle.std.proofs.Common.{[], inr}
+use Rattle.bundle_name.specs.FileName.{name_of}
+use Rattle.bundle_kept.specs.Kept.{asked_of}
+use Rattle.bundle_bundler.specs.Kept.{kept_of}
+use Rattle.bundle_bundler.specs.Loading.{files_on}
+use Rattle.bundle_bundler.proofs.Finding.{handed_on}
+use Rattle.bundle_bundler.proofs.Growing.{advances_refl, advances_stays, advances_trans}
+use Rattle.bundle_bundler.proofs.Loading.{all_met_placed, begins_placed, still_all_met}
+use Rattle.bundle_bundler.proofs.load.place_of.Goals as goal
+
+pub returns-in_err-request-clause-grows : goal.returns-in_err-request-clause-grows
+returns-in_err-request-clause-grows g c = λ entries. advances_refl _ _ entries _ _ (kept_of c.args.library.now.kept)
+
+pub returns-in_err-resolve-clause-refused : goal.returns-in_err-resolve-clause-refused
+returns-in_err-resolve-clause-refused g c m = handed_on _ _ _ c.from_residual-in_err-resolve.ensures.1 (c.in_err-resolve.ensures.refused m)
+
+pub returns-in_err-id-clause-grows : goal.returns-in_err-id-clause-grows
+returns-in_err-id-clause-grows g c = λ entries.
+    advances_trans _ _ entries _ _ _ _ _ _ _ _ _ (c.in_ok-resolve.ensures.grows entries) (c.in_err-id.ensures.grows entries (inr (asked_of c.in_ok-request.request, c.in_ok-target.ensures)))
+
+pub returns-in_err-id-clause-refused : goal.returns-in_err-id-clause-refused
+returns-in_err-id-clause-refused g c m = handed_on _ _ _ c.from_residual-in_err-id.ensures.1 (c.in_err-id.ensures.refused m)
+
+pub returns-in_err-place-clause-grows : goal.returns-in_err-place-clause-grows
+returns-in_err-place-clause-grows g c = λ entries.
+    advances_trans _ _ entries _ _ _ _ _ _ _ _ _ (c.in_ok-resolve.ensures.grows entries) (c.in_ok-id.ensures.grows entries (inr (asked_of c.in_ok-request.request, c.in_ok-target.ensures)))
+
+pub returns-clause-grows : goal.returns-clause-grows
+returns-clause-grows g c = λ entries.
+    advances_trans _ _ entries _ _ _ _ _ _ _ _ _ (c.in_ok-resolve.ensures.grows entries) (c.in_ok-id.ensures.grows entries (inr (asked_of c.in_ok-request.request, c.in_ok-target.ensures)))
+
+pub returns-clause-met : goal.returns-clause-met
+returns-clause-met g c =
+    let grown = advances_trans _ _ [] _ _ _ _ _ _ _ _ _ (c.in_ok-resolve.ensures.grows []) (c.in_ok-id.ensures.grows [] (inr (asked_of c.in_ok-request.request, c.in_ok-target.ensures))) in
+    let stays = advances_stays _ _ [] _ _ _ _ (kept_of c.args.library.now.kept) (kept_of c.id.new.self.kept) grown in
+    all_met_placed (kept_of c.id.new.self.kept) (files_on c.args.list.now) (files_on c.place.new.self) (name_of c.in_ok-target.target) c.in_ok-place.ensures (still_all_met _ _ stays (files_on c.args.list.now) c.requires.met) c.in_ok-id.ensures.met
+
+pub returns-clause-begins : goal.returns-clause-begins
+returns-clause-begins g c = begins_placed _ _ _ c.in_ok-place.ensures

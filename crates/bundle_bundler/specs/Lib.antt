@@ -1,0 +1,4 @@
+pub mod Kept
+pub mod Bundler
+pub mod Loading
+pub mod Refusal

@@ -1,0 +1,173 @@
+//! The bundler.
+
+ghost use Rattle.std.specs.Prelude.{◌≡◌, ℕ, List, [], IsOk, IfOk, IfErr};
+ghost use Rattle.std.specs.List.{AllZip};
+ghost use Rattle.bundle_terms.specs.Kept.{nothing_kept, GrowsTo, Kept, Stays};
+ghost use Rattle.bundle_bundler.specs.Bundler.{files_of, HasNumber, IsNamedAndNumbered};
+ghost use Rattle.bundle_bundler.specs.Kept.{answers_of, kept_of, parties_of, settings_of, Advances};
+ghost use Rattle.bundle_bundler.specs.Loading.{files_on, AreKept, AreMet};
+ghost use Rattle.bundle_bundler.specs.Refusal.{IsRefusedLoading, IsTold};
+
+use crate::bundle::{Bundle, BundleKind};
+use crate::library::Library;
+use crate::linked::module_on;
+use crate::load::{LoadList, load_all};
+use crate::program::program_on;
+use bundle_entry::{Call, Program, Unlinked};
+use bundle_id::ModuleId;
+use bundle_name::config::Config;
+use bundle_name::error::Error;
+use bundle_name::file_name::FileName;
+use bundle_tree::hook::Hook;
+use bundle_tree::load::Load;
+use bundle_tree::resolve::Resolve;
+use indexmap::IndexSet;
+use std::alloc::Global;
+
+/// Makes bundles. It keeps the numbers of files, the modules that were loaded and the files that their
+/// specifiers lead to, so that no module is loaded twice.
+#[derive(Drop)]
+pub struct Bundler<L: Load, R: Resolve> {
+    library: Library<L, R>,
+    config: Config,
+    hook: Box<dyn Hook>,
+}
+
+impl<L: Load + Drop, R: Resolve + Drop> Bundler<L, R> {
+    /// A bundler that keeps nothing yet. It takes no memory.
+    pub fn new(alloc: Global, loader: L, resolver: R, config: Config, hook: Box<dyn Hook>) -> Self
+        ensures empty { kept_of result.library.kept ≡ nothing_kept }
+        ensures loader { result.library.loader ≡ loader }
+        ensures resolver { result.library.resolver ≡ resolver }
+        ensures config { result.config ≡ config }
+        ensures hook { result.hook ≡ hook }
+    {
+        Bundler {
+            library: Library::new(alloc, loader, resolver),
+            config,
+            hook,
+        }
+    }
+
+    /// A bundle for each entry, a name and a file, in their order. Nobody is asked where there is no entry.
+    ///
+    /// What a bundle of an entry holds stands in `docs/DEFINITIONS.md`, and so does why there may be none, and
+    /// which refusal comes first.
+    ///
+    /// What was kept stays kept, after a refusal too, and what comes to it are answers of the loader and
+    /// the resolver. A module is asked for only where it is not kept.
+    pub fn bundle(
+        &mut self,
+        alloc: Global,
+        entries: Vec<(String, FileName)>,
+    ) -> Result<Vec<Bundle>, Error>
+        ensures grows { GrowsTo (answers_of (L.may_load self.old.library.loader) (R.may_resolve self.old.library.resolver)) (files_of entries.items) (kept_of self.old.library.kept) (kept_of self.new.library.kept) }
+        ensures stays { Stays (kept_of self.old.library.kept) (kept_of self.new.library.kept) }
+        ensures loader { self.new.library.loader ≡ self.old.library.loader }
+        ensures resolver { self.new.library.resolver ≡ self.old.library.resolver }
+        ensures config { self.new.config ≡ self.old.config }
+        ensures hook { self.new.hook ≡ self.old.hook }
+        ensures bundles { IfOk result (λ bundles. AllZip (IsNamedAndNumbered (kept_of self.new.library.kept)) entries.items bundles.items) }
+        ensures refused { IfErr result (IsRefusedLoading (parties_of (L.may_load self.old.library.loader) (L.may_fail_load self.old.library.loader) (R.may_resolve self.old.library.resolver) (R.may_fail_resolve self.old.library.resolver) (may_give self.old.hook) (may_fail_hook self.old.hook)) (settings_of self.old.config) (kept_of self.new.library.kept)) }
+        ensures no_entry { entries.items ≡ [] → IsOk result × (self.new ≡ self.old) }
+    {
+        if entries.is_empty() {
+            return Ok(Vec::new(alloc));
+        }
+        refuse_doubled_entry(alloc, entries.as_slice())?;
+        let (list, ids) = numbered(&mut self.library, alloc, entries.as_slice())?;
+        let list = load_all(&mut self.library, alloc, list, &self.config)?;
+        let library = &self.library;
+        Ok(linked_bundles(
+            alloc,
+            library,
+            &list,
+            &self.config,
+            &*self.hook,
+            entries,
+            ids,
+        )?)
+    }
+}
+
+// Refuses two entries of one name or one file.
+fn refuse_doubled_entry(alloc: Global, entries: &[(String, FileName)]) -> Result<(), Unlinked> {
+    let mut names = IndexSet::new(alloc);
+    let mut files = IndexSet::new(alloc);
+    for (name, file) in entries {
+        if !names.insert(name.as_str())? || !files.insert(file)? {
+            return Err(Unlinked::DoubledEntry {
+                file: file.clone()?,
+                name: name.clone()?,
+            });
+        }
+    }
+    Ok(())
+}
+
+// The list of the entries' files, and their numbers in the order of the entries.
+fn numbered<L: Load + Drop, R: Resolve + Drop>(
+    library: &mut Library<L, R>,
+    alloc: Global,
+    entries: &[(String, FileName)],
+) -> Result<(LoadList, Vec<ModuleId>), Error>
+    ensures numbered { IfOk result (λ made. AllZip (HasNumber (kept_of library.new.kept)) entries.now made.1.items) }
+    ensures met { IfOk result (λ made. AreMet (kept_of library.new.kept) (files_on made.0)) }
+    ensures grows { Advances L.may_load R.may_resolve (files_of entries.now) library.old.loader library.new.loader library.old.resolver library.new.resolver (kept_of library.old.kept) (kept_of library.new.kept) }
+    ensures refused { (max_modules : ℕ) → IfErr result (IsTold (L.may_fail_load library.new.loader) (R.may_fail_resolve library.new.resolver) max_modules (kept_of library.new.kept)) }
+{
+    let mut list = LoadList::new(alloc);
+    let mut ids = Vec::new(alloc);
+    for (_, file) in entries {
+        let id = library.id(file)?;
+        list.place(file, id)?;
+        ids.push(id)?;
+    }
+    Ok((list, ids))
+}
+
+// A bundle for each entry, where these are the numbers of their files, and all that they need is on the list.
+fn linked_bundles<L: Load + Drop, R: Resolve + Drop>(
+    alloc: Global,
+    library: &Library<L, R>,
+    list: &LoadList,
+    config: &Config,
+    hook: &dyn Hook,
+    entries: Vec<(String, FileName)>,
+    ids: Vec<ModuleId>,
+) -> Result<Vec<Bundle>, Unlinked>
+    requires { AreKept (kept_of library.now.kept) (files_on list.now) }
+    ensures bundles { IfOk result (λ bundles. (kept : Kept) → AllZip (HasNumber kept) entries.items ids.items → AllZip (IsNamedAndNumbered kept) entries.items bundles.items) }
+{
+    let program = program_on(library, alloc, list, config)?;
+    bundles_of(alloc, library, list, &program, config, hook, entries, ids)
+}
+
+// The same, given what the files say.
+fn bundles_of<'x, L: Load + Drop, R: Resolve + Drop>(
+    alloc: Global,
+    library: &Library<L, R>,
+    list: &LoadList,
+    program: &Program<'x>,
+    config: &Config,
+    hook: &dyn Hook,
+    entries: Vec<(String, FileName)>,
+    ids: Vec<ModuleId>,
+) -> Result<Vec<Bundle>, Unlinked>
+    requires { AreKept (kept_of library.now.kept) (files_on list.now) }
+    ensures bundles { IfOk result (λ bundles. (kept : Kept) → AllZip (HasNumber kept) entries.items ids.items → AllZip (IsNamedAndNumbered kept) entries.items bundles.items) }
+{
+    let mut bundles = Vec::new(alloc);
+    for (entry, id) in entries.into_iter().zip(ids) {
+        let (name, file) = entry;
+        let call = Call {
+            program,
+            config,
+            entry: &file,
+        };
+        let module = module_on(alloc, library, list, &call, hook, id)?;
+        let kind = BundleKind::Named { name };
+        bundles.push(Bundle { kind, id, module })?;
+    }
+    Ok(bundles)
+}

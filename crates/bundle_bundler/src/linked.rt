@@ -1,0 +1,68 @@
+//! The module of an entry.
+
+ghost use Rattle.bundle_bundler.specs.Kept.{kept_of};
+ghost use Rattle.bundle_bundler.specs.Loading.{files_on, AreKept};
+
+use crate::library::Library;
+use crate::load::LoadList;
+use crate::program::program_on;
+use bundle_ast::Module;
+use bundle_entry::{Answer, Call, Unlinked, ask_all, linked_entry, module_of, module_with_answers};
+use bundle_id::ModuleId;
+use bundle_name::config::Config;
+use bundle_name::file_name::FileName;
+use bundle_tree::hook::Hook;
+use bundle_tree::load::Load;
+use bundle_tree::resolve::Resolve;
+use std::alloc::Global;
+
+/// The module of an entry. Where the hook answers for a module, all is read once more, so that what is read and what
+/// the hook answered are lent for one time.
+pub fn module_on<'p, 'x, L: Load + Drop, R: Resolve + Drop>(
+    alloc: Global,
+    library: &Library<L, R>,
+    list: &LoadList,
+    call: &Call<'p, 'x>,
+    hook: &dyn Hook,
+    entry: ModuleId,
+) -> Result<Module, Unlinked>
+    requires { AreKept (kept_of library.now.kept) (files_on list.now) }
+{
+    let linked = linked_entry(alloc, call, entry)?;
+    let answers = ask_all(alloc, call, hook, &linked)?;
+    if answers.is_empty() {
+        return module_of(alloc, call, &linked);
+    }
+    let (config, file) = (call.config, call.entry);
+    answered_module(
+        alloc,
+        library,
+        list,
+        config,
+        file,
+        entry,
+        answers.as_slice(),
+    )
+}
+
+// The module of an entry that has no fault, with what the hook answered.
+fn answered_module<'y, L: Load + Drop, R: Resolve + Drop>(
+    alloc: Global,
+    library: &'y Library<L, R>,
+    list: &'y LoadList,
+    config: &Config,
+    file: &FileName,
+    entry: ModuleId,
+    answers: &'y [Answer],
+) -> Result<Module, Unlinked>
+    requires { AreKept (kept_of library.now.kept) (files_on list.now) }
+{
+    let program = program_on(library, alloc, list, config)?;
+    let call = Call {
+        program: &program,
+        config,
+        entry: file,
+    };
+    let linked = linked_entry(alloc, &call, entry)?;
+    module_with_answers(alloc, &call, &linked, answers)
+}

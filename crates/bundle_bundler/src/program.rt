@@ -1,0 +1,56 @@
+//! What the files of a load list say.
+
+ghost use Rattle.bundle_name.specs.FileName.{name_of};
+ghost use Rattle.bundle_bundler.specs.Kept.{kept_of, IsKept};
+ghost use Rattle.bundle_bundler.specs.Loading.{files_on, AreKept};
+
+use crate::library::Library;
+use crate::load::LoadList;
+use bundle_entry::{Program, Source, Unlinked, program_of, source_of};
+use bundle_name::config::Config;
+use bundle_name::file_name::FileName;
+use bundle_tree::load::Load;
+use bundle_tree::resolve::Resolve;
+use std::alloc::Global;
+
+/// Reads the files of a load list, which are kept.
+pub fn program_on<'x, L: Load + Drop, R: Resolve + Drop>(
+    library: &'x Library<L, R>,
+    alloc: Global,
+    list: &'x LoadList,
+    config: &Config,
+) -> Result<Program<'x>, Unlinked>
+    requires { AreKept (kept_of library.now.kept) (files_on list.now) }
+{
+    let sources = sources_on(library, alloc, list, config)?;
+    Ok(program_of(alloc, &list.files, list.requests.as_slice(), sources)?)
+}
+
+// What was read of each file.
+fn sources_on<'x, L: Load + Drop, R: Resolve + Drop>(
+    library: &'x Library<L, R>,
+    alloc: Global,
+    list: &'x LoadList,
+    config: &Config,
+) -> Result<Vec<Source<'x>>, Unlinked>
+    requires { AreKept (kept_of library.now.kept) (files_on list.now) }
+{
+    let mut sources = Vec::new(alloc);
+    for (file, _) in &list.files {
+        sources.push(kept_source(library, alloc, file, config)?)?;
+    }
+    Ok(sources)
+}
+
+// Reads a file, which is kept.
+fn kept_source<'x, L: Load + Drop, R: Resolve + Drop>(
+    library: &'x Library<L, R>,
+    alloc: Global,
+    file: &'x FileName,
+    config: &Config,
+) -> Result<Source<'x>, Unlinked>
+    requires { IsKept (kept_of library.now.kept) (name_of file.now) }
+{
+    let loaded = library.module(file).unwrap();
+    source_of(alloc, file, loaded, config)
+}

@@ -1,8 +1,0 @@
--- The files that are left are kept.
-use Rattle.bundle_kept.specs.Kept.{contents_of}
-use Rattle.swc_bundler.specs.Loading.{AreKept}
-use Rattle.swc_bundler.proofs.Loading.{names_of_entries}
-use Rattle.swc_bundler.proofs.program.sources_on.Given as goal
-
-abbrev pub invariant-loop-file : goal.invariant-loop-file
-invariant-loop-file g l = AreKept (contents_of l.library.kept) (names_of_entries l.file-iterator)
