@@ -4,6 +4,7 @@
 
 pub use bundle_ast as ast;
 pub use bundle_copy::TryClone;
+pub use bundle_link::{link, tables};
 pub use bundle_marks as marks;
 pub use bundle_name::error::Error;
 pub use bundle_order::{graph, sort};
@@ -21,18 +22,6 @@ pub mod id {
 pub mod load {
     pub use bundle_name::FileName;
     pub use bundle_tree::{Load, LoadError, ModuleData};
-}
-
-/// What one module asks of others and gives them.
-pub mod tables {
-    pub use bundle_link::{
-        ExportEntry, Exports, Import, ImportName, exports_of, imports_of, requests_of,
-    };
-}
-
-/// What the names of modules stand for.
-pub mod link {
-    pub use bundle_link::{Linker, Resolution, Target, TransformedModule};
 }
 
 /// The last steps to a bundle: no keyword and no clash of names.
