@@ -13,11 +13,9 @@ use Rattle.bundle_name.specs.declared.file_name.FileName.{FileName}
 use Rattle.bundle_tree.specs.declared.load.LoadError.{LoadError}
 use Rattle.bundle_tree.specs.declared.load.ModuleData.{ModuleData}
 use Rattle.bundle_tree.specs.declared.resolve.ResolveError.{ResolveError}
-use Rattle.bundle_terms.specs.Program.{Loaded}
 use Rattle.bundle_terms.specs.Kept.{Asked, Kept, asked_eq, kept_file, kept_module}
 use Rattle.bundle_kept.specs.declared.kept.Request.{Request}
 use Rattle.bundle_kept.specs.Kept.{asked_of}
-use Rattle.bundle_kept.proofs.Keeping.{option_map-step}
 use Rattle.bundle_bundler.specs.Kept.{kept_as, IsKept}
 use Rattle.bundle_bundler.specs.Refusal.{load_refusal, resolve_refusal}
 use Rattle.bundle_bundler.proofs.Growing.{holds, refused_owes, with_resolved, with_trees}

@@ -1,8 +1,7 @@
 -- What stands on a load list was met and is kept, and stays so.
-use Rattle.std.proofs.Common.{◌≡◌, ℕ, ◌+◌, ◌<◌, ◌≤◌, ◌^◌, suc, zero, Bool, true, false, List, [], ◌∷◌, ◌++◌, length, map, slice_get, Option, Some, None, refl, sym, ap, subst, ◌∙◌, ◌⊎◌, inl, inr, arith, if◌then◌else◌, append_assoc}
+use Rattle.std.proofs.Common.{◌≡◌, ℕ, ◌+◌, ◌<◌, ◌≤◌, ◌^◌, suc, zero, Bool, true, false, List, [], ◌∷◌, ◌++◌, length, map, slice_get, Some, None, refl, sym, ap, subst, ◌∙◌, ◌⊎◌, inl, inr, arith, if◌then◌else◌, append_assoc}
 use Rattle.std.proofs.lemmas.List.{append-nil}
 use Rattle.std.proofs.lemmas.Option.{slice_get_within, same_Some}
-use Rattle.std.specs.Option.{option_map}
 use Rattle.indexmap.specs.IndexMap.{insert_entry}
 use Rattle.bundle_name.specs.FileName.{Name, name_of}
 use Rattle.bundle_name.specs.declared.file_name.FileName.{FileName}
@@ -103,8 +102,8 @@ kept_before_more c d stays xs ys begins n file here kept before = λ place it be
     elim (below_more place n below) [
       | inl less ↦ (let inside : place < length xs = omega (arith, less, within) in still_kept c d stays it (before place it less (sym (front_at xs begins.0 place inside) ∙ along)))
       | inr e ↦ (let inside : place < length xs = omega (arith, e, within) in
-        let that : Some file ≡ Some it = sym here ∙ sym (ap (slice_get xs) e) ∙ sym (front_at xs begins.0 place inside) ∙ along in
-        subst (IsKept d) (same_Some file it that) kept)
+          let that : Some file ≡ Some it = sym here ∙ sym (ap (slice_get xs) e) ∙ sym (front_at xs begins.0 place inside) ∙ along in
+          subst (IsKept d) (same_Some file it that) kept)
     ]
 
 -- where no file stands at the place, all are kept

@@ -1,10 +1,9 @@
 -- Why each refusal of the library is right.
-use Rattle.std.proofs.Common.{◌≡◌, ℕ, ◌<◌, length, Bool, true, false, List, [], ◌∷◌, ◌++◌, None, Result, Ok, Err, IsOk, refl, sym, ap, subst, ◌∙◌, true≢false}
+use Rattle.std.proofs.Common.{◌≡◌, ℕ, ◌<◌, length, Bool, List, [], ◌∷◌, ◌++◌, None, Result, Ok, Err, IsOk, refl, sym, subst, ◌∙◌, true≢false}
 use Rattle.std.specs.Prelude.{IfOk, IfErr}
 use Rattle.std.specs.Result.{IsErrAnd}
 use Rattle.bundle_ast.specs.declared.expr.Expr.{Expr}
 use Rattle.bundle_ast.specs.declared.prop.KeyValueProp.{KeyValueProp}
-use Rattle.std.specs.String.{string_bytes}
 use Rattle.bundle_name.specs.FileName.{Name, name_of}
 use Rattle.bundle_name.specs.declared.error.Error.{Error}
 use Rattle.bundle_name.specs.declared.file_name.FileName.{FileName}

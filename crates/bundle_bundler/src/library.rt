@@ -66,7 +66,12 @@ impl<L: Load + Drop, R: Resolve + Drop> Library<L, R> {
     }
 
     /// Sees to it that the module of a file is kept. The loader is asked only where it is not.
-    pub(crate) fn load(&mut self, alloc: Global, file: &FileName, max_modules: u32) -> Result<(), Error>
+    pub(crate) fn load(
+        &mut self,
+        alloc: Global,
+        file: &FileName,
+        max_modules: u32,
+    ) -> Result<(), Error>
         requires { IsMet (kept_of self.old.kept) (name_of file.now) }
         ensures there { OnOk result (IsKept (kept_of self.new.kept) (name_of file.now)) }
         ensures grows { (entries : List Name) → Advances L.may_load R.may_resolve entries self.old.loader self.new.loader self.old.resolver self.new.resolver (kept_of self.old.kept) (kept_of self.new.kept) }

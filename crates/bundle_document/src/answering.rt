@@ -10,11 +10,11 @@ use crate::document::Document;
 use crate::parties::{DocumentLoader, DocumentResolver};
 use crate::text::bundles_text;
 use crate::writing::{refuse, write_line};
+use bundle_bundler::Bundler;
 use bundle_name::error::Error;
 use bundle_tree::hook::Hook;
 use std::alloc::{AllocError, Global};
 use std::io::Write;
-use bundle_bundler::Bundler;
 
 /// Bundles what a document asks for and writes the text of the bundles, with a line feed behind it.
 ///

@@ -4,12 +4,12 @@ ghost use Rattle.std.specs.Prelude.{◌≡◌, string_bytes, IfOk, IfErr};
 ghost use Rattle.serde_json.specs.View.{view};
 ghost use Rattle.bundle_document.specs.Bundles.{name_in, object_of, IsCompactTextOf, IsObjectOf, IsTextOf};
 
+use bundle_bundler::{Bundle, BundleKind};
 use bundle_form::tree_value;
 use bundle_listing::pieces_of_module;
 use bundle_name::error::Error;
 use serde_json::{Value, json};
 use std::alloc::{AllocError, Global};
-use bundle_bundler::{Bundle, BundleKind};
 
 /// The JSON text of the bundles: an array with an object for each, in their order, which has its number
 /// as a text, its kind, its module and its name. Refused only for memory. Each bundle is to be of the

@@ -78,6 +78,7 @@ absent_nowhere names name absent =
   where
     never : length names < length names → ⊥
     never less = omega (arith, less)
+
     other : (k : ℕ) → k < length names → name_eq name (get_or names k name) ≡ true → ⊥
     other k less same =
         let is : name ≡ get_or names k name = (name_eq-Decides name (get_or names k name)).0 same in

@@ -1,7 +1,6 @@
 -- What is kept grows by the number of each file, the files before it keep theirs, and those on the list were met.
 use Rattle.std.proofs.Common.{[], inl, subst, sym}
 use Rattle.std.specs.List.{AllZip}
-use Rattle.bundle_name.specs.FileName.{name_of}
 use Rattle.bundle_bundler.specs.Bundler.{files_of, HasNumber}
 use Rattle.bundle_bundler.specs.Kept.{kept_of}
 use Rattle.bundle_bundler.specs.Loading.{files_on}
@@ -32,8 +31,7 @@ returns-in_err-push-clause-grows g c =
 pub loop-file-preserved : goal.loop-file-preserved
 loop-file-preserved g c =
     let step = c.in_ok-id.ensures.grows (files_of c.args.entries.now) (inl (entry_listed c.args.entries.now c.loop-file.file-index _ c.loop-file-test.true (sym c.loop-file-item.is))) in
-    let stays = advances_stays _ _ (files_of c.args.entries.now) _ _ _ _ (kept_of c.loop-file.library.kept) (kept_of c.id.new.self.kept) step in
-    (
+    let stays = advances_stays _ _ (files_of c.args.entries.now) _ _ _ _ (kept_of c.loop-file.library.kept) (kept_of c.id.new.self.kept) step in (
       advances_trans _ _ (files_of c.args.entries.now) _ _ _ _ _ _ _ _ _ c.loop-file.invariant.0 step,
       numbered_more _ _ stays c.args.entries.now c.loop-file.ids.items _ c.loop-file.file-index _ _ c.loop-file-test.true (sym c.loop-file-item.is) c.in_ok-push.ensures.items c.loop-file.invariant.1 c.in_ok-id.ensures.numbered,
       all_met_placed (kept_of c.id.new.self.kept) (files_on c.loop-file.list) (files_on c.place.new.self) _ c.in_ok-place.ensures (still_all_met _ _ stays (files_on c.loop-file.list) c.loop-file.invariant.2) c.in_ok-id.ensures.met,

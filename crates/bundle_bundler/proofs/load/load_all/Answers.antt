@@ -1,5 +1,5 @@
 -- What is kept grows with each file that is worked on, and that file is kept from then on.
-use Rattle.std.proofs.Common.{[], refl, sym, ap, ◌∙◌}
+use Rattle.std.proofs.Common.{[], sym, ap, ◌∙◌}
 use Rattle.std.specs.Option.{option_map}
 use Rattle.bundle_name.specs.FileName.{name_of}
 use Rattle.bundle_bundler.specs.Kept.{kept_of}
@@ -22,13 +22,12 @@ returns-in_default-clause-loaded g c =
     all_kept (kept_of c.loop-place.library.kept) (files_on c.loop-place.list) c.loop-place.place (sym c.in_ok-file.ensures ∙ ap (option_map name_of) c.in_default.is) c.loop-place.invariant.2
 
 pub loop-place-preserved : goal.loop-place-preserved
-loop-place-preserved g c =
-    (
-      λ entries. advances_trans _ _ entries _ _ _ _ _ _ _ _ _ (c.loop-place.invariant.0 entries) (c.in_ok-work_on.ensures.grows entries),
-      c.in_ok-work_on.ensures.met,
-      kept_before_more (kept_of c.loop-place.library.kept) (kept_of c.work_on.new.library.kept) (advances_stays _ _ [] _ _ _ _ _ _ (c.in_ok-work_on.ensures.grows [])) (files_on c.loop-place.list) (files_on c.work_on.new.list) c.in_ok-work_on.ensures.begins
+loop-place-preserved g c = (
+  λ entries. advances_trans _ _ entries _ _ _ _ _ _ _ _ _ (c.loop-place.invariant.0 entries) (c.in_ok-work_on.ensures.grows entries),
+  c.in_ok-work_on.ensures.met,
+  kept_before_more (kept_of c.loop-place.library.kept) (kept_of c.work_on.new.library.kept) (advances_stays _ _ [] _ _ _ _ _ _ (c.in_ok-work_on.ensures.grows [])) (files_on c.loop-place.list) (files_on c.work_on.new.list) c.in_ok-work_on.ensures.begins
       c.loop-place.place (name_of c.in-Some.file) (sym c.in_ok-file.ensures ∙ ap (option_map name_of) c.in-Some.is) c.in_ok-work_on.ensures.loaded c.loop-place.invariant.2,
-    )
+)
 
 pub returns-clause-loaded : goal.returns-clause-loaded
 returns-clause-loaded g c =

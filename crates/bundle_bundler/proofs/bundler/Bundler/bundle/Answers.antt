@@ -22,7 +22,7 @@ returns-in_err-list-clause-stays g c =
 pub returns-in_err-list-clause-refused : goal.returns-in_err-list-clause-refused
 returns-in_err-list-clause-refused g c =
     refused_of _ _ _ _ (g.L.Load.may_fail_load) (g.R.Resolve.may_fail_resolve) c.args.self.now.library.loader c.numbered.new.library.loader c.args.self.now.library.resolver c.numbered.new.library.resolver (settings_of c.args.self.now.config) (kept_of c.numbered.new.library.kept) _ _ c.in_err-list.ensures.grows.loader c.in_err-list.ensures.grows.resolver c.from_residual-in_err-list.ensures.1
-        (c.in_err-list.ensures.refused c.args.self.now.config.max_modules)
+    (c.in_err-list.ensures.refused c.args.self.now.config.max_modules)
 
 pub returns-in_err-list-2-clause-grows : goal.returns-in_err-list-2-clause-grows
 returns-in_err-list-2-clause-grows g c =
@@ -75,14 +75,14 @@ returns-clause-resolver g c =
 pub returns-in_err-list-2-clause-refused : goal.returns-in_err-list-2-clause-refused
 returns-in_err-list-2-clause-refused g c =
     refused_of _ _ _ _ (g.L.Load.may_fail_load) (g.R.Resolve.may_fail_resolve) c.args.self.now.library.loader c.load_all.new.library.loader c.args.self.now.library.resolver c.load_all.new.library.resolver (settings_of c.args.self.now.config) (kept_of c.load_all.new.library.kept) _ _ ((c.in_err-list-2.ensures.grows (files_of c.args.entries.items)).loader ∙ c.in_ok-list.ensures.grows.loader) ((c.in_err-list-2.ensures.grows (files_of c.args.entries.items)).resolver ∙ c.in_ok-list.ensures.grows.resolver) c.from_residual-in_err-list-2.ensures.1
-        (c.in_err-list-2.ensures.refused)
+    (c.in_err-list-2.ensures.refused)
 
 pub returns-in_err-linked_bundles-clause-refused : goal.returns-in_err-linked_bundles-clause-refused
 returns-in_err-linked_bundles-clause-refused g c =
     refused_of _ _ _ _ (g.L.Load.may_fail_load) (g.R.Resolve.may_fail_resolve) c.args.self.now.library.loader c.load_all.new.library.loader c.args.self.now.library.resolver c.load_all.new.library.resolver (settings_of c.args.self.now.config) (kept_of c.load_all.new.library.kept) _ _ ((c.in_ok-list-2.ensures.grows (files_of c.args.entries.items)).loader ∙ c.in_ok-list.ensures.grows.loader) ((c.in_ok-list-2.ensures.grows (files_of c.args.entries.items)).resolver ∙ c.in_ok-list.ensures.grows.resolver) c.from_residual-in_err-linked_bundles.ensures.1
-        (unlinked_right (g.L.Load.may_fail_load c.load_all.new.library.loader) (g.R.Resolve.may_fail_resolve c.load_all.new.library.resolver) _ (kept_of c.load_all.new.library.kept) c.in_err-linked_bundles.field-0.0 (error_of c.in_err-linked_bundles.field-0.0) refl)
+    (unlinked_right (g.L.Load.may_fail_load c.load_all.new.library.loader) (g.R.Resolve.may_fail_resolve c.load_all.new.library.resolver) _ (kept_of c.load_all.new.library.kept) c.in_err-linked_bundles.field-0.0 (error_of c.in_err-linked_bundles.field-0.0) refl)
 
 pub returns-clause-bundles : goal.returns-clause-bundles
 returns-clause-bundles g c =
     c.in_ok-linked_bundles.ensures.bundles (kept_of c.load_all.new.library.kept) (all_still_numbered (kept_of c.numbered.new.library.kept) (kept_of c.load_all.new.library.kept) (advances_stays _ _ (files_of c.args.entries.items) _ _ _ _ _ _ (c.in_ok-list-2.ensures.grows (files_of c.args.entries.items))) c.args.entries.items c.in_ok-list.ids.items
-        (numbered_along (kept_of c.numbered.new.library.kept) _ _ _ c.as_slice-2.ensures.value c.in_ok-list.ensures.numbered))
+    (numbered_along (kept_of c.numbered.new.library.kept) _ _ _ c.as_slice-2.ensures.value c.in_ok-list.ensures.numbered))

@@ -1,10 +1,7 @@
 -- What a look-up among trees finds is kept.
-use Rattle.std.proofs.Common.{◌∙◌, ap, sym}
-use Rattle.std.specs.Option.{is_some}
 use Rattle.bundle_name.specs.FileName.{name_of, name_eq}
 use Rattle.bundle_kept.specs.Kept.{trees_in}
-use Rattle.bundle_bundler.specs.Kept.{kept_as}
-use Rattle.bundle_bundler.proofs.Finding.{kept_if, none_if, none_is, seen_same}
+use Rattle.bundle_bundler.proofs.Finding.{kept_if, none_if, seen_same}
 use Rattle.bundle_bundler.proofs.library.Library.has.Goals as goal
 
 pub returns : goal.returns

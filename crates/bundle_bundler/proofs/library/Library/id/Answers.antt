@@ -1,7 +1,6 @@
 -- A file that gets its number was met, and what is kept grows by it.
-use Rattle.std.proofs.Common.{refl, ap, map}
-use Rattle.bundle_name.specs.FileName.{Name, name_of}
-use Rattle.bundle_tree.specs.declared.load.ModuleData.{ModuleData}
+use Rattle.std.proofs.Common.{refl, ap}
+use Rattle.bundle_name.specs.FileName.{name_of}
 use Rattle.bundle_bundler.specs.Kept.{kept_of}
 use Rattle.bundle_bundler.proofs.Growing.{id_grows, numbered_is_met, read_trees}
 use Rattle.bundle_bundler.proofs.library.Library.id.Goals as goal

@@ -21,7 +21,7 @@ returns-clause-grows g c = λ entries. record {
 pub returns-clause-refused : goal.returns-clause-refused
 returns-clause-refused g c =
     load_right (g.L.Load.may_fail_load c.args.self.now.loader) (g.R.Resolve.may_fail_resolve c.args.self.now.resolver) _ _ _ _ (name_of c.args.file.now) _ _ _ c.requires (c.has.ensures.none c.if-has.false)
-        (has_room (trees_in c.args.self.now.kept) _ _ c.count.ensures c.if-count-max_modules.false) c.in_ok-name.ensures.cases c.in_ok-reserve_tree.ensures.same c.load-loaded.ensures.failure c.keep_loaded.ensures.given c.keep_loaded.ensures.refused
+    (has_room (trees_in c.args.self.now.kept) _ _ c.count.ensures c.if-count-max_modules.false) c.in_ok-name.ensures.cases c.in_ok-reserve_tree.ensures.same c.load-loaded.ensures.failure c.keep_loaded.ensures.given c.keep_loaded.ensures.refused
 
 pub returns-then-has-clause-grows : goal.returns-then-has-clause-grows
 returns-then-has-clause-grows g c = λ entries. advances_refl _ _ entries _ _ (kept_of c.args.self.now.kept)

@@ -1,5 +1,4 @@
 -- A file that is put on the list goes last.
-use Rattle.std.proofs.Common.{inr}
 use Rattle.bundle_name.specs.FileName.{name_of}
 use Rattle.bundle_bundler.proofs.Loading.{placed}
 use Rattle.bundle_bundler.proofs.load.LoadList.place.Goals as goal
