@@ -1,6 +1,7 @@
 //! The bundler and what it asks its parties, who write down what they are asked.
 
 use bundle_ast::KeyValueProp;
+use bundle_bundler::Bundler;
 use bundle_document::bundles_text;
 use bundle_form::read_module;
 use bundle_leaf::kind::ExportMetadata;
@@ -15,7 +16,6 @@ use serde_json::Value;
 use std::alloc::{AllocError, Global};
 use std::cell::{Cell, RefCell};
 use std::test::Fail;
-use bundle_bundler::Bundler;
 
 /// `export const x = 1;`
 const A: &str =
