@@ -36,10 +36,8 @@ pub record IsAnswer (document : Document) (text : List ℕ) : Type 0 where
   pub has_objects : IsTextOf bundles text
   pub is_compact : IsCompactTextOf bundles text
 
--- a refusal of a document's bundles that is right: the loader may fail for any file, the resolver where a specifier leads to none, the hook as it says
-pub record IsRefusal (document : Document) (refusal : Error) : Type 0 where
-  pub may_give : Name → Bool → List (KeyValueProp Expr) → Type 0
-  pub may_fail_hook : Name → Bool → Type 0
+-- a refusal of a document's bundles that is right, where the hook may give this and may fail there: the loader may fail for any file, the resolver where a specifier leads to none
+pub record IsRefusal (may_give : Name → Bool → List (KeyValueProp Expr) → Type 0) (may_fail_hook : Name → Bool → Type 0) (document : Document) (refusal : Error) : Type 0 where
   pub kept : Kept
   pub is_kept : IsKept document kept
   pub right : IsRefusedLoading (parties_of MayLoad (λ file. Unit {0}) (λ base. LeadsTo) (λ base specifier. (file : Name) → ¬ LeadsTo specifier file) may_give may_fail_hook) (settings_of document.config) kept refusal
