@@ -1,4 +1,5 @@
 pub mod Kept
+pub mod Library
 pub mod Bundler
 pub mod Loading
 pub mod Refusal

@@ -3,10 +3,11 @@
 ghost use Rattle.std.specs.Prelude.{◌≡◌, ℕ, List, [], IsOk, IfOk, IfErr};
 ghost use Rattle.std.specs.List.{AllZip};
 ghost use Rattle.bundle_terms.specs.Kept.{nothing_kept, GrowsTo, Kept, Stays};
-ghost use Rattle.bundle_bundler.specs.Bundler.{files_of, HasNumber, IsNamedAndNumbered};
-ghost use Rattle.bundle_bundler.specs.Kept.{answers_of, kept_of, parties_of, settings_of, Advances};
+ghost use Rattle.bundle_bundler.specs.Bundler.{config_of, files_of, hook_of, kept_by, loader_of, resolver_of, HasNumber, IsNamedAndNumbered};
+ghost use Rattle.bundle_bundler.specs.Kept.{answers_of, kept_of, parties_of, settings_of};
+ghost use Rattle.bundle_bundler.specs.Library.{IsToldOf, MovesOn};
 ghost use Rattle.bundle_bundler.specs.Loading.{files_on, AreKept, AreMet};
-ghost use Rattle.bundle_bundler.specs.Refusal.{IsRefusedLoading, IsTold};
+ghost use Rattle.bundle_bundler.specs.Refusal.{IsRefusedLoading};
 
 use crate::bundle::{Bundle, BundleKind};
 use crate::library::Library;
@@ -36,11 +37,11 @@ pub struct Bundler<L: Load, R: Resolve> {
 impl<L: Load + Drop, R: Resolve + Drop> Bundler<L, R> {
     /// A bundler that keeps nothing yet. It takes no memory.
     pub fn new(alloc: Global, loader: L, resolver: R, config: Config, hook: Box<dyn Hook>) -> Self
-        ensures empty { kept_of result.library.kept ≡ nothing_kept }
-        ensures loader { result.library.loader ≡ loader }
-        ensures resolver { result.library.resolver ≡ resolver }
-        ensures config { result.config ≡ config }
-        ensures hook { result.hook ≡ hook }
+        ensures empty { kept_by result ≡ nothing_kept }
+        ensures loader { loader_of result ≡ loader }
+        ensures resolver { resolver_of result ≡ resolver }
+        ensures config { config_of result ≡ config }
+        ensures hook { hook_of result ≡ hook }
     {
         Bundler {
             library: Library::new(alloc, loader, resolver),
@@ -61,14 +62,23 @@ impl<L: Load + Drop, R: Resolve + Drop> Bundler<L, R> {
         alloc: Global,
         entries: Vec<(String, FileName)>,
     ) -> Result<Vec<Bundle>, Error>
-        ensures grows { GrowsTo (answers_of (L.may_load self.old.library.loader) (R.may_resolve self.old.library.resolver)) (files_of entries.items) (kept_of self.old.library.kept) (kept_of self.new.library.kept) }
-        ensures stays { Stays (kept_of self.old.library.kept) (kept_of self.new.library.kept) }
-        ensures loader { self.new.library.loader ≡ self.old.library.loader }
-        ensures resolver { self.new.library.resolver ≡ self.old.library.resolver }
-        ensures config { self.new.config ≡ self.old.config }
-        ensures hook { self.new.hook ≡ self.old.hook }
-        ensures bundles { IfOk result (λ bundles. AllZip (IsNamedAndNumbered (kept_of self.new.library.kept)) entries.items bundles.items) }
-        ensures refused { IfErr result (IsRefusedLoading (parties_of (L.may_load self.old.library.loader) (L.may_fail_load self.old.library.loader) (R.may_resolve self.old.library.resolver) (R.may_fail_resolve self.old.library.resolver) (may_give self.old.hook) (may_fail_hook self.old.hook)) (settings_of self.old.config) (kept_of self.new.library.kept)) }
+        ensures grows { GrowsTo
+            (answers_of (L.may_load (loader_of self.old)) (R.may_resolve (resolver_of self.old)))
+            (files_of entries.items)
+            (kept_by self.old)
+            (kept_by self.new) }
+        ensures stays { Stays (kept_by self.old) (kept_by self.new) }
+        ensures loader { loader_of self.new ≡ loader_of self.old }
+        ensures resolver { resolver_of self.new ≡ resolver_of self.old }
+        ensures config { config_of self.new ≡ config_of self.old }
+        ensures hook { hook_of self.new ≡ hook_of self.old }
+        ensures bundles { IfOk result (λ bundles.
+            AllZip (IsNamedAndNumbered (kept_by self.new)) entries.items bundles.items) }
+        ensures refused { IfErr result (IsRefusedLoading (parties_of
+            (L.may_load (loader_of self.old)) (L.may_fail_load (loader_of self.old))
+            (R.may_resolve (resolver_of self.old)) (R.may_fail_resolve (resolver_of self.old))
+            (may_give (hook_of self.old)) (may_fail_hook (hook_of self.old)))
+            (settings_of (config_of self.old)) (kept_by self.new)) }
         ensures no_entry { entries.items ≡ [] → IsOk result × (self.new ≡ self.old) }
     {
         if entries.is_empty() {
@@ -113,8 +123,8 @@ fn numbered<L: Load + Drop, R: Resolve + Drop>(
 ) -> Result<(LoadList, Vec<ModuleId>), Error>
     ensures numbered { IfOk result (λ made. AllZip (HasNumber (kept_of library.new.kept)) entries.now made.1.items) }
     ensures met { IfOk result (λ made. AreMet (kept_of library.new.kept) (files_on made.0)) }
-    ensures grows { Advances L.may_load R.may_resolve (files_of entries.now) library.old.loader library.new.loader library.old.resolver library.new.resolver (kept_of library.old.kept) (kept_of library.new.kept) }
-    ensures refused { (max_modules : ℕ) → IfErr result (IsTold (L.may_fail_load library.new.loader) (R.may_fail_resolve library.new.resolver) max_modules (kept_of library.new.kept)) }
+    ensures grows { MovesOn L.may_load R.may_resolve (files_of entries.now) library.old library.new }
+    ensures refused { (max_modules : ℕ) → IfErr result (IsToldOf L.may_fail_load R.may_fail_resolve max_modules library.new) }
 {
     let mut list = LoadList::new(alloc);
     let mut ids = Vec::new(alloc);

@@ -6,8 +6,9 @@ ghost use Rattle.std.specs.Option.{option_map};
 ghost use Rattle.bundle_name.specs.FileName.{Name, name_of, name_eq};
 ghost use Rattle.bundle_terms.specs.Kept.{asked_eq, kept_file, kept_module, nothing_kept, number_in};
 ghost use Rattle.bundle_kept.specs.Kept.{asked_of, resolved_in, target_room, tree_room, trees_in};
-ghost use Rattle.bundle_bundler.specs.Kept.{kept_as, kept_of, Advances, IsKept, IsMet, MayBeMet};
-ghost use Rattle.bundle_bundler.specs.Refusal.{load_refusal, resolve_refusal, IsTold};
+ghost use Rattle.bundle_bundler.specs.Kept.{kept_as, kept_of, IsKept, IsMet, MayBeMet};
+ghost use Rattle.bundle_bundler.specs.Library.{IsToldOf, MovesOn};
+ghost use Rattle.bundle_bundler.specs.Refusal.{load_refusal, resolve_refusal};
 
 use bundle_id::ModuleId;
 use bundle_kept::{Kept, Request};
@@ -43,8 +44,9 @@ impl<L: Load + Drop, R: Resolve + Drop> Library<L, R> {
     pub(crate) fn id(&mut self, file: &FileName) -> Result<ModuleId, Error>
         ensures numbered { IfOk result (λ id. number_in (kept_of self.new.kept) (name_of file.now) ≡ Some id) }
         ensures met { OnOk result (IsMet (kept_of self.new.kept) (name_of file.now)) }
-        ensures grows { (entries : List Name) → MayBeMet (kept_of self.old.kept) (name_of file.now) entries → Advances L.may_load R.may_resolve entries self.old.loader self.new.loader self.old.resolver self.new.resolver (kept_of self.old.kept) (kept_of self.new.kept) }
-        ensures refused { (max_modules : ℕ) → IfErr result (IsTold (L.may_fail_load self.new.loader) (R.may_fail_resolve self.new.resolver) max_modules (kept_of self.new.kept)) }
+        ensures grows { (entries : List Name) → MayBeMet (kept_of self.old.kept) (name_of file.now) entries →
+            MovesOn L.may_load R.may_resolve entries self.old self.new }
+        ensures refused { (max_modules : ℕ) → IfErr result (IsToldOf L.may_fail_load R.may_fail_resolve max_modules self.new) }
     {
         self.kept.id(file)
     }
@@ -74,8 +76,8 @@ impl<L: Load + Drop, R: Resolve + Drop> Library<L, R> {
     ) -> Result<(), Error>
         requires { IsMet (kept_of self.old.kept) (name_of file.now) }
         ensures there { OnOk result (IsKept (kept_of self.new.kept) (name_of file.now)) }
-        ensures grows { (entries : List Name) → Advances L.may_load R.may_resolve entries self.old.loader self.new.loader self.old.resolver self.new.resolver (kept_of self.old.kept) (kept_of self.new.kept) }
-        ensures refused { IfErr result (IsTold (L.may_fail_load self.new.loader) (R.may_fail_resolve self.new.resolver) max_modules (kept_of self.new.kept)) }
+        ensures grows { (entries : List Name) → MovesOn L.may_load R.may_resolve entries self.old self.new }
+        ensures refused { IfErr result (IsToldOf L.may_fail_load R.may_fail_resolve max_modules self.new) }
     {
         if self.has(file) {
             return Ok(());
@@ -109,8 +111,8 @@ impl<L: Load + Drop, R: Resolve + Drop> Library<L, R> {
     pub(crate) fn resolve(&mut self, alloc: Global, request: &Request) -> Result<(), Error>
         requires { IsKept (kept_of self.old.kept) (name_of request.now.file) }
         ensures there { OnOk result (IsSome (kept_file (kept_of self.new.kept) (asked_of request.now))) }
-        ensures grows { (entries : List Name) → Advances L.may_load R.may_resolve entries self.old.loader self.new.loader self.old.resolver self.new.resolver (kept_of self.old.kept) (kept_of self.new.kept) }
-        ensures refused { (max_modules : ℕ) → IfErr result (IsTold (L.may_fail_load self.new.loader) (R.may_fail_resolve self.new.resolver) max_modules (kept_of self.new.kept)) }
+        ensures grows { (entries : List Name) → MovesOn L.may_load R.may_resolve entries self.old self.new }
+        ensures refused { (max_modules : ℕ) → IfErr result (IsToldOf L.may_fail_load R.may_fail_resolve max_modules self.new) }
     {
         if self.leads(request) {
             return Ok(());

@@ -5,9 +5,9 @@ ghost use Rattle.std.specs.Option.{option_map};
 ghost use Rattle.bundle_name.specs.FileName.{Name, name_of};
 ghost use Rattle.bundle_terms.specs.Kept.{kept_file};
 ghost use Rattle.bundle_kept.specs.Kept.{asked_of};
-ghost use Rattle.bundle_bundler.specs.Kept.{kept_of, Advances, IsKept, IsMet};
+ghost use Rattle.bundle_bundler.specs.Kept.{kept_of, IsKept, IsMet};
+ghost use Rattle.bundle_bundler.specs.Library.{IsToldOf, MovesOn};
 ghost use Rattle.bundle_bundler.specs.Loading.{files_on, AreKept, AreMet, Begins, IsPlaced};
-ghost use Rattle.bundle_bundler.specs.Refusal.{IsTold};
 
 use crate::library::Library;
 use bundle_entry::{Unlinked, requests_of};
@@ -80,8 +80,8 @@ pub(crate) fn load_all<L: Load + Drop, R: Resolve + Drop>(
     config: &Config,
 ) -> Result<LoadList, Error>
     requires { AreMet (kept_of library.old.kept) (files_on list) }
-    ensures grows { (entries : List Name) → Advances L.may_load R.may_resolve entries library.old.loader library.new.loader library.old.resolver library.new.resolver (kept_of library.old.kept) (kept_of library.new.kept) }
-    ensures refused { IfErr result (IsTold (L.may_fail_load library.new.loader) (R.may_fail_resolve library.new.resolver) config.now.max_modules (kept_of library.new.kept)) }
+    ensures grows { (entries : List Name) → MovesOn L.may_load R.may_resolve entries library.old library.new }
+    ensures refused { IfErr result (IsToldOf L.may_fail_load R.may_fail_resolve config.now.max_modules library.new) }
     ensures loaded { IfOk result (λ list. AreKept (kept_of library.new.kept) (files_on list)) }
 {
     let mut list = list;
@@ -106,8 +106,8 @@ fn work_on<L: Load + Drop, R: Resolve + Drop>(
 ) -> Result<(), Error>
     requires met { AreMet (kept_of library.old.kept) (files_on list.old) }
     requires listed { IsMet (kept_of library.old.kept) (name_of file.now) }
-    ensures grows { (entries : List Name) → Advances L.may_load R.may_resolve entries library.old.loader library.new.loader library.old.resolver library.new.resolver (kept_of library.old.kept) (kept_of library.new.kept) }
-    ensures refused { IfErr result (IsTold (L.may_fail_load library.new.loader) (R.may_fail_resolve library.new.resolver) config.now.max_modules (kept_of library.new.kept)) }
+    ensures grows { (entries : List Name) → MovesOn L.may_load R.may_resolve entries library.old library.new }
+    ensures refused { IfErr result (IsToldOf L.may_fail_load R.may_fail_resolve config.now.max_modules library.new) }
     ensures loaded { OnOk result (IsKept (kept_of library.new.kept) (name_of file.now)) }
     ensures met { OnOk result (AreMet (kept_of library.new.kept) (files_on list.new)) }
     ensures begins { OnOk result (Begins (files_on list.old) (files_on list.new)) }
@@ -143,8 +143,8 @@ fn place_of<L: Load + Drop, R: Resolve + Drop>(
 ) -> Result<usize, Error>
     requires met { AreMet (kept_of library.old.kept) (files_on list.old) }
     requires loaded { IsKept (kept_of library.old.kept) (name_of file.now) }
-    ensures grows { (entries : List Name) → Advances L.may_load R.may_resolve entries library.old.loader library.new.loader library.old.resolver library.new.resolver (kept_of library.old.kept) (kept_of library.new.kept) }
-    ensures refused { (max_modules : ℕ) → IfErr result (IsTold (L.may_fail_load library.new.loader) (R.may_fail_resolve library.new.resolver) max_modules (kept_of library.new.kept)) }
+    ensures grows { (entries : List Name) → MovesOn L.may_load R.may_resolve entries library.old library.new }
+    ensures refused { (max_modules : ℕ) → IfErr result (IsToldOf L.may_fail_load R.may_fail_resolve max_modules library.new) }
     ensures met { OnOk result (AreMet (kept_of library.new.kept) (files_on list.new)) }
     ensures begins { OnOk result (Begins (files_on list.old) (files_on list.new)) }
 {
