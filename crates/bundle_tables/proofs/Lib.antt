@@ -1,1 +1,4 @@
 pub mod HeadLemmas
+pub mod ImportLemmas
+pub mod LengthLemmas
+pub mod PartLemmas

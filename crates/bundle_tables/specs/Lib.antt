@@ -1,1 +1,4 @@
 pub mod Heads
+pub mod Lengths
+pub mod Parted
+pub mod TablesOf

@@ -1,7 +1,14 @@
 //! What the top items of a module import and export.
 
-use crate::nodes::{is_in_pattern, is_module_declaration};
+ghost use Rattle.std.specs.Prelude.{◌≡◌, map, IfOk};
+ghost use Rattle.bundle_piece.specs.Item.{item_of};
+ghost use Rattle.bundle_terms.specs.Entries.{imports_of as imports_of_lem};
+ghost use Rattle.bundle_tables.specs.TablesOf.{has_declaration as has_declaration_lem, import_entry_of};
+
+use crate::imports::{has_declaration, imports_of};
+use crate::nodes::is_in_pattern;
 use crate::outline::Outline;
+use crate::parts::{Part, top_items};
 use crate::table::{Export, Import, Origin, Source, Taken};
 use bundle_piece::{Node, Piece, Role};
 use indexmap::{IndexMap, IndexSet};
@@ -17,56 +24,87 @@ pub struct Listed<'a> {
     pub is_string: bool,
 }
 
-/// What a module imports and exports.
+/// What a module imports and gives.
 #[derive(Drop)]
 pub struct Entries<'a> {
     pub imports: Vec<Import<'a>>,
     /// The first import of each name that imports bind.
     pub locals: IndexMap<&'a str, Import<'a>>,
-    pub exports: Vec<Export<'a>>,
-    pub stars: IndexSet<&'a str>,
-    pub sources: Vec<Source<'a>>,
-    pub listed: Vec<Listed<'a>>,
+    pub given: Given<'a>,
     /// It has an import or export declaration.
     pub is_declared_module: bool,
 }
 
+/// What a module gives, and what it asks for.
+#[derive(Drop)]
+pub struct Given<'a> {
+    pub exports: Vec<Export<'a>>,
+    pub stars: IndexSet<&'a str>,
+    pub sources: Vec<Source<'a>>,
+    pub listed: Vec<Listed<'a>>,
+}
+
 /// What a module imports and exports. `external` are the texts that are external.
+#[tactic(auto, using(std::proofs::lemmas::Grind::common_steps, crate::proofs::ImportLemmas::imports_placed, crate::proofs::ImportLemmas::declared_placed))]
 pub fn entries_of<'a>(
     alloc: Global,
     outline: &Outline<'_, 'a>,
     external: &IndexSet<&str>,
-) -> Result<Entries<'a>, AllocError> {
-    let mut entries = Entries {
-        imports: Vec::new(alloc),
-        locals: IndexMap::new(alloc),
+) -> Result<Entries<'a>, AllocError>
+    ensures imports { IfOk result (λ entries. map import_entry_of entries.imports.items ≡ imports_of_lem (map item_of outline.now.pieces.now)) }
+    ensures declared { IfOk result (λ entries. entries.is_declared_module ≡ has_declaration_lem (map item_of outline.now.pieces.now)) }
+{
+    let tops = top_items(alloc, outline.pieces)?;
+    let imports = imports_of(alloc, &tops)?;
+    let is_declared_module = has_declaration(&tops);
+    let locals = locals_of(alloc, &imports)?;
+    let given = given_by(alloc, outline, &tops, external, &locals)?;
+    Ok(Entries {
+        imports,
+        locals,
+        given,
+        is_declared_module,
+    })
+}
+
+// The first import of each name that imports bind.
+fn locals_of<'a>(
+    alloc: Global,
+    imports: &[Import<'a>],
+) -> Result<IndexMap<&'a str, Import<'a>>, AllocError> {
+    let mut locals = IndexMap::new(alloc);
+    for import in imports {
+        if !(&locals).contains_key(&import.local) {
+            locals.insert(import.local, *import)?;
+        }
+    }
+    Ok(locals)
+}
+
+// What the top items of a module give and ask for.
+fn given_by<'a>(
+    alloc: Global,
+    outline: &Outline<'_, 'a>,
+    tops: &[Part<'_, 'a>],
+    external: &IndexSet<&str>,
+    locals: &IndexMap<&'a str, Import<'a>>,
+) -> Result<Given<'a>, AllocError> {
+    let mut given = Given {
         exports: Vec::new(alloc),
         stars: IndexSet::new(alloc),
         sources: Vec::new(alloc),
         listed: Vec::new(alloc),
-        is_declared_module: false,
     };
-    let items = outline.parts(alloc, 0)?;
-    for item in &items {
-        if let Some(node) = outline.node_at(*item) {
-            if is_module_declaration(node) {
-                entries.is_declared_module = true;
-                entries.add_source(outline, *item, node, external)?;
-                entries.add_imports(alloc, outline, *item, node)?;
-            }
+    for top in tops {
+        if let Some(node) = outline.node_at(top.start) {
+            given.add_source(outline, top.start, node, external)?;
+            given.add_exports(alloc, outline, top.start, node, locals)?;
         }
     }
-    if entries.is_declared_module {
-        for item in &items {
-            if let Some(node) = outline.node_at(*item) {
-                entries.add_exports(alloc, outline, *item, node)?;
-            }
-        }
-    }
-    Ok(entries)
+    Ok(given)
 }
 
-impl<'a> Entries<'a> {
+impl<'a> Given<'a> {
     // Adds what an item asks for.
     fn add_source(
         &mut self,
@@ -89,34 +127,6 @@ impl<'a> Entries<'a> {
         Ok(())
     }
 
-    // Adds what an import declaration binds.
-    fn add_imports(
-        &mut self,
-        alloc: Global,
-        outline: &Outline<'_, 'a>,
-        place: usize,
-        node: Node<'a>,
-    ) -> Result<(), AllocError> {
-        if let Node::ImportDecl { .. } = node {
-            let specifier = outline.text_in(place, 1);
-            for part in &outline.parts_in(alloc, place, 0)? {
-                if let Some(head) = outline.node_at(*part) {
-                    let import = import_at(outline, *part, head, specifier);
-                    self.add_import(import)?;
-                }
-            }
-        }
-        Ok(())
-    }
-
-    fn add_import(&mut self, import: Import<'a>) -> Result<(), AllocError> {
-        self.imports.push(import)?;
-        if !self.locals.contains_key(&import.local) {
-            self.locals.insert(import.local, import)?;
-        }
-        Ok(())
-    }
-
     // Adds what an item exports.
     fn add_exports(
         &mut self,
@@ -124,10 +134,11 @@ impl<'a> Entries<'a> {
         outline: &Outline<'_, 'a>,
         place: usize,
         node: Node<'a>,
+        locals: &IndexMap<&'a str, Import<'a>>,
     ) -> Result<(), AllocError> {
         match node {
             Node::ExportDecl => self.add_declared(alloc, outline, place),
-            Node::NamedExport { .. } => self.add_list(alloc, outline, place),
+            Node::NamedExport { .. } => self.add_list(alloc, outline, place, locals),
             Node::ExportDefaultDecl => {
                 let name = default_declared(outline, place);
                 self.add_local(DEFAULT, name, place)
@@ -211,6 +222,7 @@ impl<'a> Entries<'a> {
         alloc: Global,
         outline: &Outline<'_, 'a>,
         place: usize,
+        locals: &IndexMap<&'a str, Import<'a>>,
     ) -> Result<(), AllocError> {
         let source = match outline.child(place, 1) {
             Some(child) => outline.string_at(child),
@@ -219,7 +231,7 @@ impl<'a> Entries<'a> {
         for part in &outline.parts_in(alloc, place, 0)? {
             match source {
                 Some(specifier) => self.add_from(outline, *part, specifier)?,
-                None => self.add_here(outline, *part)?,
+                None => self.add_here(outline, *part, locals)?,
             }
         }
         Ok(())
@@ -247,14 +259,19 @@ impl<'a> Entries<'a> {
     }
 
     // Adds a specifier of an export list without `from`; `* as n` says nothing there.
-    fn add_here(&mut self, outline: &Outline<'_, 'a>, place: usize) -> Result<(), AllocError> {
+    fn add_here(
+        &mut self,
+        outline: &Outline<'_, 'a>,
+        place: usize,
+        locals: &IndexMap<&'a str, Import<'a>>,
+    ) -> Result<(), AllocError> {
         let Some(Node::ExportNamedSpecifier) = outline.node_at(place) else {
             return Ok(());
         };
         self.add_listed(outline, place)?;
         let of = outline.text_in(place, 0);
         let name = outline.renamed_text(place);
-        let origin = self.given_on(of);
+        let origin = given_on(locals, of);
         self.exports.push(Export {
             name,
             origin,
@@ -274,22 +291,22 @@ impl<'a> Entries<'a> {
         }
         Ok(())
     }
+}
 
-    // Where a name of the module comes from: what was imported by name is given on, all else is local.
-    fn given_on(&self, of: &'a str) -> Origin<'a> {
-        match self.locals.get(&of) {
-            Some(
-                Import {
-                    specifier,
-                    taken: Taken::Named(x),
-                    ..
-                },
-            ) => Origin::Indirect {
-                specifier: *specifier,
-                taken: Taken::Named(*x),
+// Where a name of the module comes from: what was imported by name is given on, all else is local.
+fn given_on<'a>(locals: &IndexMap<&'a str, Import<'a>>, of: &'a str) -> Origin<'a> {
+    match locals.get(&of) {
+        Some(
+            Import {
+                specifier,
+                taken: Taken::Named(x),
+                ..
             },
-            _ => Origin::Local { name: of },
-        }
+        ) => Origin::Indirect {
+            specifier: *specifier,
+            taken: Taken::Named(*x),
+        },
+        _ => Origin::Local { name: of },
     }
 }
 
@@ -300,26 +317,6 @@ fn asked_by<'a>(outline: &Outline<'_, 'a>, place: usize, node: Node<'a>) -> Opti
         Node::NamedExport { .. } => outline.string_at(outline.child(place, 1)?),
         Node::ExportAll { .. } => Some(outline.text_in(place, 0)),
         _ => None,
-    }
-}
-
-// What an import specifier imports.
-fn import_at<'a>(
-    outline: &Outline<'_, 'a>,
-    place: usize,
-    node: Node<'a>,
-    specifier: &'a str,
-) -> Import<'a> {
-    let taken = match node {
-        Node::ImportStarAsSpecifier => Taken::Whole,
-        Node::ImportDefaultSpecifier => Taken::Named(DEFAULT),
-        _ => Taken::Named(outline.renamed_text(place)),
-    };
-    Import {
-        local: outline.text_in(place, 0),
-        specifier,
-        taken,
-        place,
     }
 }
 

@@ -3,8 +3,10 @@
 #![tactic(auto)]
 
 mod entries;
+mod imports;
 mod nodes;
 mod outline;
+mod parts;
 pub mod table;
 pub mod tables;
 mod walk;

@@ -1,13 +1,14 @@
 //! The tables of a module from its list.
 
-ghost use Rattle.std.specs.Prelude.{◌≡◌, false, true, IsTrue, IfOk, IfErr, Some, None, map};
+ghost use Rattle.std.specs.Prelude.{◌≡◌, false, true, IsTrue, IfOk, IfErr, Some, None, map, not, ◌&&◌};
 ghost use Rattle.bundle_piece.specs.Item.{item_of};
+ghost use Rattle.bundle_tables.specs.TablesOf.{import_entry_of};
 ghost use Rattle.bundle_tables.specs.declared.table.TreeFault.TheVariants as f;
-ghost use Rattle.bundle_terms.specs.Entries.{has_import_meta as has_import_meta_lem};
+ghost use Rattle.bundle_terms.specs.Entries.{has_import_meta as has_import_meta_lem, imports_of as imports_of_lem, is_script as is_script_lem};
 ghost use Rattle.bundle_terms.specs.Bundle.{is_with};
 ghost use Rattle.bundle_terms.specs.Nodes.{has_head};
 
-use crate::entries::{Entries, entries_of};
+use crate::entries::{Entries, Given, entries_of};
 use crate::nodes::{has_import_meta, has_with};
 use crate::outline::Outline;
 use crate::table::{RequireCall, Tables, TreeFault};
@@ -34,6 +35,10 @@ pub fn tables_of<'a>(
 ) -> Result<Result<Tables<'a>, TreeFault<'a>>, AllocError>
     ensures meta { IfOk result (λ answer. IfOk answer (λ tables.
         tables.has_import_meta ≡ has_import_meta_lem (map item_of pieces.now))) }
+    ensures imports { IfOk result (λ answer. IfOk answer (λ tables.
+        map import_entry_of tables.imports.items ≡ imports_of_lem (map item_of pieces.now))) }
+    ensures script { IfOk result (λ answer. IfOk answer (λ tables.
+        tables.is_script ≡ is_script_lem (map item_of pieces.now))) }
     ensures none { IfOk result (λ answer. IfOk answer (λ tables. has_head is_with (map item_of pieces.now) ≡ false)) }
     ensures stands { IfOk result (λ answer. IfErr answer (λ fault. fault ≡ f.With → IsTrue (has_head is_with (map item_of pieces.now)))) }
 {
@@ -83,7 +88,7 @@ fn first_fault<'a>(
 // The first name that an earlier export has.
 fn doubled_name<'a>(alloc: Global, entries: &Entries<'a>) -> Result<Option<&'a str>, AllocError> {
     let mut names = IndexSet::new(alloc);
-    for export in &entries.exports {
+    for export in &entries.given.exports {
         if names.contains(&export.name) {
             return Ok(Some(export.name));
         }
@@ -98,7 +103,7 @@ fn undeclared_name<'a>(
     denotations: &Denotations<'a>,
     entries: &Entries<'a>,
 ) -> Result<Option<&'a str>, AllocError> {
-    if entries.listed.is_empty() {
+    if entries.given.listed.is_empty() {
         return Ok(None);
     }
     let mut bound = IndexSet::new(alloc);
@@ -107,7 +112,7 @@ fn undeclared_name<'a>(
             bound.insert(binding.sym)?;
         }
     }
-    for listed in &entries.listed {
+    for listed in &entries.given.listed {
         if listed.is_string || !bound.contains(&listed.name) {
             return Ok(Some(listed.name));
         }
@@ -124,18 +129,22 @@ fn joined<'a>(
     require: bool,
     external: &IndexSet<&str>,
 ) -> Result<Tables<'a>, AllocError>
-    ensures { IfOk result (λ tables. tables.has_import_meta ≡ has_import_meta) }
+    ensures meta { IfOk result (λ tables. tables.has_import_meta ≡ has_import_meta) }
+    ensures imports { IfOk result (λ tables. tables.imports.items ≡ entries.entry.imports.items) }
+    ensures script { IfOk result (λ tables. tables.is_script ≡ (not entries.entry.is_declared_module && not has_import_meta)) }
 {
     let calls = linked_calls(alloc, &found, require, external)?;
-    let requests = requests(alloc, &entries, calls.as_slice())?;
-    let stars = entries.stars.iter().copied().collect(alloc)?;
     let is_script = !entries.is_declared_module && !has_import_meta;
+    let imports = entries.imports;
+    let given = entries.given;
+    let requests = requests(alloc, &given, calls.as_slice())?;
+    let stars = given.stars.iter().copied().collect(alloc)?;
     Ok(Tables {
         requests,
-        imports: entries.imports,
-        exports: entries.exports,
+        imports,
+        exports: given.exports,
         stars,
-        sources: entries.sources,
+        sources: given.sources,
         calls,
         uses: found.uses,
         reads: found.reads,
@@ -168,11 +177,11 @@ fn linked_calls<'a>(
 // What a module asks to be loaded.
 fn requests<'a>(
     alloc: Global,
-    entries: &Entries<'a>,
+    given: &Given<'a>,
     calls: &[RequireCall<'a>],
 ) -> Result<Vec<&'a str>, AllocError> {
     let mut texts = IndexSet::new(alloc);
-    for source in &entries.sources {
+    for source in &given.sources {
         if !source.is_external {
             texts.insert(source.specifier)?;
         }
