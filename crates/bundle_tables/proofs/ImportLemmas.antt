@@ -67,19 +67,11 @@ each_placed f start (node ∷ more) = ap (λ l. f node ++ l) (each_placed f (sta
 
 any_placed : (test : List Item → Bool) (start : ℕ) (nodes : List (List Item)) → list_any (λ top. test top.items) (placed start nodes) ≡ list_any test nodes
 any_placed test start [] = refl
-any_placed test start (node ∷ more) = step (test node) (any_placed test (start + length node) more)
-  where
-    step : (b : Bool) → list_any (λ top. test top.items) (placed (start + length node) more) ≡ list_any test more → ◌≡◌ {A = Bool} (elim b [ true ↦ true | false ↦ list_any (λ top. test top.items) (placed (start + length node) more) ]) (elim b [ true ↦ true | false ↦ list_any test more ])
-    step true same = refl
-    step false same = same
+any_placed test start (node ∷ more) = ap (λ b. test node || b) (any_placed test (start + length node) more)
 
 any_parts : (test : List Item → Bool) (tops : List Part) → list_any (λ top. test (part_items top)) tops ≡ list_any test (map part_items tops)
 any_parts test [] = refl
-any_parts test (top ∷ more) = step (test (part_items top)) (any_parts test more)
-  where
-    step : (b : Bool) → list_any (λ top. test (part_items top)) more ≡ list_any test (map part_items more) → ◌≡◌ {A = Bool} (elim b [ true ↦ true | false ↦ list_any (λ top. test (part_items top)) more ]) (elim b [ true ↦ true | false ↦ list_any test (map part_items more) ])
-    step true same = refl
-    step false same = same
+any_parts test (top ∷ more) = ap (λ b. test (part_items top) || b) (any_parts test more)
 
 -- the imports of a module, where these are its top items
 pub imports_placed : (tree : List Item) (tops : List (List Item)) → tops ≡ parts tree → flat_map imports_of_item tops ≡ imports_of tree

@@ -82,9 +82,9 @@ nodes-found all found part rest more n begins long there behind before =
     let items : List Item = map item_of rest in
     let done : List (List Item) = map (λ (one : Bor (List Piece)). map item_of one.now) found in
     let first : take (length_of_first zero items) items ≡ map item_of part.now =
-        ap (λ k. take k items) (sym long) ∙ take-map item_of n rest ∙ ap (map item_of) (sym there) in
+    ap (λ k. take k items) (sym long) ∙ take-map item_of n rest ∙ ap (map item_of) (sym there) in
     let left : drop (length_of_first zero items) items ≡ map item_of more =
-        ap (λ k. drop k items) (sym long) ∙ drop-map item_of n rest ∙ ap (map item_of) (sym behind) in
+    ap (λ k. drop k items) (sym long) ∙ drop-map item_of n rest ∙ ap (map item_of) (sym behind) in
     before
     ∙ ap (λ (nodes : List (List Item)). done ++ nodes) (nodes-first items begins ∙ ap (λ (node : List Item). node ∷ side_by_side zero (drop (length_of_first zero items) items)) first ∙ ap (λ (l : List Item). map item_of part.now ∷ side_by_side zero l) left)
     ∙ sym (append_assoc done (map item_of part.now ∷ []) (side_by_side zero (map item_of more)))

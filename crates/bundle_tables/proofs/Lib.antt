@@ -1,4 +1,7 @@
+pub mod ExportLemmas
 pub mod HeadLemmas
 pub mod ImportLemmas
 pub mod LengthLemmas
+pub mod LocalLemmas
+pub mod OnceLemmas
 pub mod PartLemmas

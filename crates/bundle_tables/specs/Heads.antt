@@ -12,3 +12,18 @@ begins_here test _ = false
 abbrev pub is_import : Head → Bool
 is_import (h.ImportDecl meta) = true
 is_import _ = false
+
+-- whether such a node is a declaration of variables
+abbrev pub is_variables : Head → Bool
+is_variables (h.VarDecl kind meta) = true
+is_variables _ = false
+
+-- whether such a node is `* as n` of an export list
+abbrev pub is_namespace_specifier : Head → Bool
+is_namespace_specifier h.ExportNamespaceSpecifier = true
+is_namespace_specifier _ = false
+
+-- whether such a node is `x as y` of an export list
+abbrev pub is_named_specifier : Head → Bool
+is_named_specifier h.ExportNamedSpecifier = true
+is_named_specifier _ = false

@@ -16,10 +16,7 @@ use bundle_piece::{Node, Piece};
 use std::alloc::{AllocError, Global};
 
 /// The imports of a module's top items, in the order of the source.
-pub fn imports_of<'a>(
-    alloc: Global,
-    tops: &[Part<'_, 'a>],
-) -> Result<Vec<Import<'a>>, AllocError>
+pub fn imports_of<'a>(alloc: Global, tops: &[Part<'_, 'a>]) -> Result<Vec<Import<'a>>, AllocError>
     ensures { IfOk result (λ imports. map import_entry_of imports.items ≡ flat_map imports_of_item (map part_items tops.now)) }
 {
     let mut imports = Vec::new(alloc);
@@ -53,7 +50,12 @@ fn begins_import(pieces: &[Piece]) -> bool
     ensures { result ≡ begins_with is_import (map item_of pieces.now) }
 {
     match pieces.first() {
-        Some(Piece::Open { node: Node::ImportDecl { .. }, .. }) => true,
+        Some(
+            Piece::Open {
+                node: Node::ImportDecl { .. },
+                ..
+            },
+        ) => true,
         _ => false,
     }
 }

@@ -41,13 +41,14 @@ pub fn side_by_side<'p, 'a>(
 }
 
 /// The nodes that lie directly in a node.
-pub fn parts<'p, 'a>(
-    alloc: Global,
-    node: Part<'p, 'a>,
-) -> Result<Vec<Part<'p, 'a>>, AllocError>
+pub fn parts<'p, 'a>(alloc: Global, node: Part<'p, 'a>) -> Result<Vec<Part<'p, 'a>>, AllocError>
     ensures { IfOk result (λ found. map part_items found.items ≡ parts_lem (part_items node.entry)) }
 {
-    side_by_side(alloc, node.start.saturating_add(1), behind_first(node.pieces))
+    side_by_side(
+        alloc,
+        node.start.saturating_add(1),
+        behind_first(node.pieces),
+    )
 }
 
 /// The top items of a module.
@@ -93,23 +94,40 @@ fn add_in_field<'p, 'a>(
 pub fn child<'p, 'a>(node: &'p [Piece<'a>], field: u8) -> &'p [Piece<'a>]
     ensures { map item_of result.now ≡ child_lem field (map item_of node.now) }
 {
-    first_in(behind_first(node), field)
+    first_in(behind_first(node), field).pieces
 }
 
-// The first node of a list in this field; the empty list where there is none.
-fn first_in<'p, 'a>(pieces: &'p [Piece<'a>], field: u8) -> &'p [Piece<'a>]
-    ensures { map item_of result.now ≡ first_or_nothing (filter (begins_in_lem field) (side_by_side_lem zero (map item_of pieces.now))) }
+/// The first of these nodes, with its place; the empty list where there is none.
+pub fn child_of<'p, 'a>(node: Part<'p, 'a>, field: u8) -> Part<'p, 'a>
+    ensures { part_items result ≡ child_lem field (part_items node.entry) }
+{
+    let found = first_in(behind_first(node.pieces), field);
+    Part {
+        start: node.start.saturating_add(1).saturating_add(found.start),
+        pieces: found.pieces,
+    }
+}
+
+// The first node of a list in this field, with its place; the empty list where there is none.
+fn first_in<'p, 'a>(pieces: &'p [Piece<'a>], field: u8) -> Part<'p, 'a>
+    ensures { part_items result ≡ first_or_nothing (filter (begins_in_lem field) (side_by_side_lem zero (map item_of pieces.now))) }
 {
     let mut at = 0usize;
     'each: while begins_node(behind(pieces, at)) {
         let rest = behind(pieces, at);
         let length = part_length(rest);
         if begins_in(rest, field) {
-            return &rest[..length];
+            return Part {
+                start: at,
+                pieces: &rest[..length],
+            };
         }
         at += length;
     }
-    &pieces[..0]
+    Part {
+        start: 0,
+        pieces: &pieces[..0],
+    }
 }
 
 // The list from a place on.
@@ -204,8 +222,18 @@ pub fn name_of<'a>(pieces: &[Piece<'a>]) -> Option<&'a str>
     ensures { option_map (λ text. text.now) result ≡ name_of_lem (map item_of pieces.now) }
 {
     match pieces.first() {
-        Some(Piece::Open { node: Node::Str { value, .. }, .. }) => Some(*value),
-        Some(Piece::Open { node: Node::IdentName { sym }, .. }) => Some(*sym),
+        Some(
+            Piece::Open {
+                node: Node::Str { value, .. },
+                ..
+            },
+        ) => Some(*value),
+        Some(
+            Piece::Open {
+                node: Node::IdentName { sym },
+                ..
+            },
+        ) => Some(*sym),
         Some(Piece::Ident { sym, .. }) => Some(*sym),
         _ => None,
     }
@@ -216,7 +244,12 @@ pub fn string_of<'a>(pieces: &[Piece<'a>]) -> Option<&'a str>
     ensures { option_map (λ text. text.now) result ≡ string_of_lem (map item_of pieces.now) }
 {
     match pieces.first() {
-        Some(Piece::Open { node: Node::Str { value, .. }, .. }) => Some(*value),
+        Some(
+            Piece::Open {
+                node: Node::Str { value, .. },
+                ..
+            },
+        ) => Some(*value),
         _ => None,
     }
 }

@@ -1,12 +1,15 @@
 //! The tables of a module from its list.
 
-ghost use Rattle.std.specs.Prelude.{◌≡◌, false, true, IsTrue, IfOk, IfErr, Some, None, map, not, ◌&&◌};
+ghost use Rattle.std.specs.Prelude.{◌≡◌, false, true, IsTrue, IfOk, IfErr, Some, None, filter, map, not, string_bytes, ◌&&◌};
+ghost use Rattle.std.specs.List.{flat_map};
 ghost use Rattle.bundle_piece.specs.Item.{item_of};
-ghost use Rattle.bundle_tables.specs.TablesOf.{import_entry_of};
+ghost use Rattle.bundle_tables.specs.Sources.{asked, told_external, HasTexts};
+ghost use Rattle.bundle_tables.specs.TablesOf.{export_entry_of, import_entry_of};
+ghost use Rattle.bundle_terms.specs.Tables.{is_star, star_of};
 ghost use Rattle.bundle_tables.specs.declared.table.TreeFault.TheVariants as f;
-ghost use Rattle.bundle_terms.specs.Entries.{has_import_meta as has_import_meta_lem, imports_of as imports_of_lem, is_script as is_script_lem};
+ghost use Rattle.bundle_terms.specs.Entries.{declared_requests, exports_of as exports_of_lem, has_import_meta as has_import_meta_lem, imports_of as imports_of_lem, is_script as is_script_lem};
 ghost use Rattle.bundle_terms.specs.Bundle.{is_with};
-ghost use Rattle.bundle_terms.specs.Nodes.{has_head};
+ghost use Rattle.bundle_terms.specs.Nodes.{each_once, has_head};
 
 use crate::entries::{Entries, Given, entries_of};
 use crate::nodes::{has_import_meta, has_with};
@@ -26,6 +29,7 @@ const TOP: usize = 0;
 ///
 /// `denotations` are those of the list as an ECMAScript module, by symbol. `require` says whether literal
 /// calls of `require` are linked, and `external` which texts are external.
+#[tactic(auto, using(std::proofs::lemmas::Grind::common_steps, crate::proofs::ExportLemmas::told_all))]
 pub fn tables_of<'a>(
     alloc: Global,
     pieces: &[Piece<'a>],
@@ -37,6 +41,12 @@ pub fn tables_of<'a>(
         tables.has_import_meta ≡ has_import_meta_lem (map item_of pieces.now))) }
     ensures imports { IfOk result (λ answer. IfOk answer (λ tables.
         map import_entry_of tables.imports.items ≡ imports_of_lem (map item_of pieces.now))) }
+    ensures exports { IfOk result (λ answer. IfOk answer (λ tables.
+        map export_entry_of tables.exports.items ≡ filter (λ entry. not (is_star entry)) (exports_of_lem (map item_of pieces.now)))) }
+    ensures stars { IfOk result (λ answer. IfOk answer (λ tables.
+        map (λ star. star.now) tables.stars.items ≡ each_once (flat_map star_of (exports_of_lem (map item_of pieces.now))))) }
+    ensures sources { IfOk result (λ answer. IfOk answer (λ tables.
+        map asked tables.sources.items ≡ map (told_external (map string_bytes external.now)) (declared_requests (map item_of pieces.now)))) }
     ensures script { IfOk result (λ answer. IfOk answer (λ tables.
         tables.is_script ≡ is_script_lem (map item_of pieces.now))) }
     ensures none { IfOk result (λ answer. IfOk answer (λ tables. has_head is_with (map item_of pieces.now) ≡ false)) }
@@ -55,7 +65,9 @@ pub fn tables_of<'a>(
 }
 
 // The texts, each once.
-fn texts<'t>(alloc: Global, list: &'t [String]) -> Result<IndexSet<&'t str>, AllocError> {
+fn texts<'t>(alloc: Global, list: &'t [String]) -> Result<IndexSet<&'t str>, AllocError>
+    ensures { IfOk result (λ texts. HasTexts texts (map string_bytes list.now)) }
+{
     let mut texts = IndexSet::new(alloc);
     for text in list {
         texts.insert(text.as_str())?;
@@ -131,6 +143,9 @@ fn joined<'a>(
 ) -> Result<Tables<'a>, AllocError>
     ensures meta { IfOk result (λ tables. tables.has_import_meta ≡ has_import_meta) }
     ensures imports { IfOk result (λ tables. tables.imports.items ≡ entries.entry.imports.items) }
+    ensures exports { IfOk result (λ tables. tables.exports.items ≡ entries.entry.given.exports.items) }
+    ensures sources { IfOk result (λ tables. tables.sources.items ≡ entries.entry.given.sources.items) }
+    ensures stars { IfOk result (λ tables. tables.stars.items ≡ entries.entry.given.stars.keys) }
     ensures script { IfOk result (λ tables. tables.is_script ≡ (not entries.entry.is_declared_module && not has_import_meta)) }
 {
     let calls = linked_calls(alloc, &found, require, external)?;

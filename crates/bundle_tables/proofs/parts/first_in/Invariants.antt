@@ -7,7 +7,7 @@ abbrev pub invariant-each : goal.invariant-each
 invariant-each l =
     record {
       within : l.at ≤ length l.pieces;
-      first : first_from l.field l.pieces ≡ first_from l.field (drop l.at l.pieces)
+      first : first_from l.field l.pieces ≡ first_from l.field (drop l.at l.pieces);
     }
 
 abbrev pub decreases-each : goal.decreases-each

@@ -9,7 +9,7 @@ abbrev pub invariant-each : goal.invariant-each
 invariant-each l =
     record {
       within : l.at ≤ length l.pieces;
-      parts : side_by_side zero (map item_of l.pieces) ≡ map part_items l.found.items ++ side_by_side zero (map item_of (drop l.at l.pieces))
+      parts : side_by_side zero (map item_of l.pieces) ≡ map part_items l.found.items ++ side_by_side zero (map item_of (drop l.at l.pieces));
     }
 
 abbrev pub decreases-each : goal.decreases-each
