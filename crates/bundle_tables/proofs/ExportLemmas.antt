@@ -3,14 +3,12 @@ use Rattle.std.proofs.Common.{◌≡◌, ℕ, zero, suc, ◌+◌, Bool, true, fa
 use Rattle.std.specs.Prelude.{if◌then◌else◌, filter, not}
 use Rattle.std.specs.List.{flat_map}
 use Rattle.std.proofs.lemmas.List.{map-append}
-use Rattle.bundle_piece.specs.declared.piece.Role.{Role}
-use Rattle.bundle_piece.specs.declared.piece.Role.TheVariants.{Binding}
 use Rattle.bundle_piece.specs.Item as h
 use Rattle.bundle_piece.specs.Item.{Item, Head}
 use Rattle.bundle_terms.specs.Nodes.{Text, begins_with, child, in_field, parts, string_of, each_once}
 use Rattle.bundle_terms.specs.Entries as e
 use Rattle.bundle_terms.specs.Entries.{Named, Whole}
-use Rattle.bundle_terms.specs.Statements.{placed, top_items}
+use Rattle.bundle_terms.specs.Statements.{placed}
 use Rattle.bundle_tables.specs.Exported.{bound_at, depth_in, export_by, locals_named, named_by, named_by_head, named_declared, named_here, named_in_list}
 use Rattle.bundle_tables.specs.Heads.{is_named_specifier, is_namespace_specifier, is_variables}
 use Rattle.bundle_tables.specs.Lengths.{head_at}

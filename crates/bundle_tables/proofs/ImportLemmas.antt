@@ -1,12 +1,12 @@
 -- What a top item imports, by its head.
-use Rattle.std.proofs.Common.{◌≡◌, ℕ, ◌+◌, Bool, true, false, List, [], ◌∷◌, ◌++◌, Option, Some, None, length, refl, ap, sym, ◌∙◌, map}
+use Rattle.std.proofs.Common.{◌≡◌, ℕ, ◌+◌, Bool, true, false, List, [], ◌∷◌, ◌++◌, Some, None, length, refl, ap, sym, ◌∙◌, map}
 use Rattle.std.specs.Prelude.{◌||◌}
 use Rattle.std.specs.List.{flat_map, list_any}
 use Rattle.bundle_piece.specs.Item as h
 use Rattle.bundle_piece.specs.Item.{Item, Head}
 use Rattle.bundle_terms.specs.Nodes.{Text, in_field, parts, begins_with}
-use Rattle.bundle_terms.specs.Statements.{placed, top_items}
-use Rattle.bundle_terms.specs.Entries.{ImportEntry, import_entry, imports_by, imports_of, imports_of_item, text_in, is_module_declaration}
+use Rattle.bundle_terms.specs.Statements.{placed}
+use Rattle.bundle_terms.specs.Entries.{import_entry, imports_by, imports_of, imports_of_item, text_in, is_module_declaration}
 use Rattle.bundle_tables.specs.declared.parts.Part.{Part}
 use Rattle.bundle_tables.specs.Heads.{is_import}
 use Rattle.bundle_tables.specs.Lengths.{head_at}

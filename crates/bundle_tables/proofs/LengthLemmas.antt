@@ -1,5 +1,5 @@
 -- A list is the first node and those behind it.
-use Rattle.std.proofs.Common.{◌≡◌, ℕ, zero, suc, ◌+◌, ◌≤◌, ◌<◌, Bool, true, false, List, [], ◌∷◌, ◌++◌, Option, Some, None, take, drop, length, get_or, append_assoc, Bor, refl, ap, sym, ◌∙◌, arith, map}
+use Rattle.std.proofs.Common.{◌≡◌, ℕ, zero, suc, ◌+◌, ◌≤◌, ◌<◌, true, false, List, [], ◌∷◌, ◌++◌, Option, Some, None, take, drop, length, get_or, append_assoc, Bor, refl, ap, sym, ◌∙◌, arith, map}
 use Rattle.std.proofs.lemmas.List.{drop-map, map-append, take-map}
 use Rattle.std.proofs.Math.Seq.{drop-cons}
 use Rattle.bundle_piece.specs.declared.piece.Piece.{Piece}

@@ -1,10 +1,9 @@
 -- What is found among the parts of a list, the first one and those behind it.
-use Rattle.std.proofs.Common.{◌≡◌, ℕ, zero, suc, ◌+◌, ◌≤◌, ◌<◌, Bool, true, false, List, [], ◌∷◌, ◌++◌, Option, Some, None, take, drop, length, append_assoc, append-nil, refl, ap, sym, ◌∙◌, arith, map}
+use Rattle.std.proofs.Common.{◌≡◌, ℕ, zero, suc, ◌+◌, ◌<◌, Bool, true, false, List, [], ◌∷◌, ◌++◌, take, drop, append_assoc, append-nil, refl, ap, sym, ◌∙◌, arith, map}
 use Rattle.std.specs.Prelude.{filter, if◌then◌else◌}
 use Rattle.std.specs.List.{flat_map}
 use Rattle.std.proofs.lemmas.List.{drop-drop, drop-map, map-append, take-map}
 use Rattle.bundle_piece.specs.declared.piece.Piece.{Piece}
-use Rattle.bundle_piece.specs.Item as h
 use Rattle.bundle_piece.specs.Item.{Item, item_of}
 use Rattle.bundle_terms.specs.Nodes.{side_by_side, begins_in, first_or_nothing}
 use Rattle.bundle_tables.specs.Lengths.{length_of_first, begins_node, kept_in}

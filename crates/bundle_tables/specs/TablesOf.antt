@@ -1,5 +1,5 @@
 -- What a table says of the list of a module: its fields are what the definitions of imports, exports and requests give.
-use Rattle.std.specs.Prelude.{◌≡◌, ◌||◌, Bool, true, false, List, [], ◌∷◌, codes, filter, map}
+use Rattle.std.specs.Prelude.{◌≡◌, ◌||◌, Bool, List, [], ◌∷◌, codes, map}
 use Rattle.std.specs.List.{flat_map, list_any}
 use Rattle.bundle_piece.specs.Item.{Item, Head}
 use Rattle.bundle_terms.specs.Nodes.{Text, has_text, each_once, begins_with}
@@ -14,7 +14,6 @@ use Rattle.bundle_tables.specs.declared.table.Origin.{Origin}
 use Rattle.bundle_tables.specs.declared.table.Origin.TheVariants as o
 use Rattle.bundle_tables.specs.declared.table.Export.{Export}
 use Rattle.bundle_tables.specs.declared.table.RequireCall.{RequireCall}
-use Rattle.bundle_tables.specs.declared.table.Source.{Source}
 use Rattle.bundle_tables.specs.declared.table.Tables.{Tables}
 
 -- what a `Taken` stands for

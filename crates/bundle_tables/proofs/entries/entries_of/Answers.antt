@@ -1,7 +1,6 @@
 -- The exports of the top items are those of the module, by its imports.
-use Rattle.std.proofs.Common.{◌≡◌, List, ap, ◌∙◌, map}
-use Rattle.bundle_piece.specs.Item.{Item, item_of}
-use Rattle.bundle_terms.specs.Nodes.{parts}
+use Rattle.std.proofs.Common.{◌≡◌, ap, ◌∙◌, map}
+use Rattle.bundle_piece.specs.Item.{item_of}
 use Rattle.bundle_terms.specs.Entries.{import_of, imports_of}
 use Rattle.bundle_tables.specs.Exported.{import_by}
 use Rattle.bundle_tables.specs.Parted.{part_items}

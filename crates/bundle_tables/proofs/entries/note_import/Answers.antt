@@ -1,5 +1,5 @@
 -- A new name is noted, and one that was noted stays.
-use Rattle.std.proofs.Common.{rules, sym, ◌∙◌}
+use Rattle.std.proofs.Common.{rules}
 use Rattle.bundle_tables.proofs.LocalLemmas.{finds_kept, finds_noted}
 use Rattle.bundle_tables.proofs.entries.note_import.Goals as goal
 

@@ -1,5 +1,5 @@
 -- The name of one element goes behind those before it.
-use Rattle.std.proofs.Common.{◌≡◌, ◌+◌, ◌++◌, ◌∷◌, [], ap, sym, ◌∙◌, arith, map, drop, get_or, append-nil}
+use Rattle.std.proofs.Common.{◌+◌, ◌++◌, ◌∷◌, [], ap, sym, ◌∙◌, arith, map, drop, get_or, append-nil}
 use Rattle.bundle_piece.specs.Item.{item_of}
 use Rattle.bundle_terms.specs.Entries.{names_bound}
 use Rattle.bundle_tables.specs.Exported.{locals_named, text_list}

@@ -1,5 +1,5 @@
 -- The first node is in the field, or it is passed.
-use Rattle.std.proofs.Common.{map, ◌≡◌, ap, sym, ◌∙◌, rules, arith}
+use Rattle.std.proofs.Common.{map, ap, sym, ◌∙◌, arith}
 use Rattle.bundle_piece.specs.Item.{item_of}
 use Rattle.bundle_tables.specs.Lengths.{begins_node}
 use Rattle.bundle_tables.proofs.PartLemmas.{first_from, first-here, first-moved, first-none}

@@ -1,5 +1,5 @@
 -- Each node is found in turn.
-use Rattle.std.proofs.Common.{map, ◌≡◌, ap, sym, ◌∙◌, rules, arith}
+use Rattle.std.proofs.Common.{map, ap, sym, ◌∙◌, rules, arith}
 use Rattle.bundle_piece.specs.Item.{item_of}
 use Rattle.bundle_tables.specs.Lengths.{begins_node}
 use Rattle.bundle_tables.proofs.PartLemmas.{parts-found, parts-all}
