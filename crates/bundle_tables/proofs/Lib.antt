@@ -5,3 +5,4 @@ pub mod LengthLemmas
 pub mod LocalLemmas
 pub mod OnceLemmas
 pub mod PartLemmas
+pub mod SourceLemmas

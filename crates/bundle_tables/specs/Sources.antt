@@ -1,5 +1,5 @@
 -- What a top item asks for.
-use Rattle.std.specs.Prelude.{◌≡◌, Bool, List, [], ◌∷◌, bytes_eq}
+use Rattle.std.specs.Prelude.{◌≡◌, Bool, List, [], ◌∷◌, bytes_eq, flat_map, if◌then◌else◌}
 use Rattle.std.specs.Borrow.{Bor}
 use Rattle.bundle_piece.specs.Item as h
 use Rattle.bundle_piece.specs.Item.{Item, Head}
@@ -23,6 +23,13 @@ HasTexts set texts = (x : Text) → contains_by (λ k. bytes_eq x k.now) set ≡
 -- what a `Source` asks for, and whether that is external
 abbrev pub asked : Source → Text × Bool
 asked source = (source.specifier.now, source.is_external)
+
+-- what is asked for by these and is not external
+abbrev pub unexternal_one : Source → List Text
+unexternal_one source = if source.is_external then [] else source.specifier.now ∷ []
+
+abbrev pub unexternal : List Source → List Text
+unexternal sources = flat_map unexternal_one sources
 
 -- what `export * from` asks for, at a top item with this head
 abbrev pub star_by : Head → List Item → List Text
