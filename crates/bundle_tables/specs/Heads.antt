@@ -1,5 +1,5 @@
 -- Which elements of a list begin nodes of a kind.
-use Rattle.std.specs.Prelude.{Bool, false}
+use Rattle.std.specs.Prelude.{Bool, true, false}
 use Rattle.bundle_piece.specs.Item as h
 use Rattle.bundle_piece.specs.Item.{Item, Head}
 
@@ -7,3 +7,23 @@ use Rattle.bundle_piece.specs.Item.{Item, Head}
 abbrev pub begins_here : (Head → Bool) → Item → Bool
 begins_here test (h.Open field head) = test head
 begins_here test _ = false
+
+-- whether such a node is an import declaration
+abbrev pub is_import : Head → Bool
+is_import (h.ImportDecl meta) = true
+is_import _ = false
+
+-- whether such a node is a declaration of variables
+abbrev pub is_variables : Head → Bool
+is_variables (h.VarDecl kind meta) = true
+is_variables _ = false
+
+-- whether such a node is `* as n` of an export list
+abbrev pub is_namespace_specifier : Head → Bool
+is_namespace_specifier h.ExportNamespaceSpecifier = true
+is_namespace_specifier _ = false
+
+-- whether such a node is `x as y` of an export list
+abbrev pub is_named_specifier : Head → Bool
+is_named_specifier h.ExportNamedSpecifier = true
+is_named_specifier _ = false

@@ -3,8 +3,12 @@
 #![tactic(auto)]
 
 mod entries;
+mod exports;
+mod imports;
 mod nodes;
 mod outline;
+mod parts;
+mod sources;
 pub mod table;
 pub mod tables;
 mod walk;

@@ -1,5 +1,7 @@
 //! Where the nodes of a list end, and what lies in which field of them.
 
+ghost use Rattle.std.specs.Prelude.{◌≡◌, IfOk};
+
 use bundle_piece::{Node, Piece};
 use std::alloc::{AllocError, Global};
 
@@ -12,7 +14,9 @@ pub struct Outline<'p, 'a> {
 
 impl<'p, 'a> Outline<'p, 'a> {
     /// Notes where the nodes of a list end.
-    pub fn new(alloc: Global, pieces: &'p [Piece<'a>]) -> Result<Outline<'p, 'a>, AllocError> {
+    pub fn new(alloc: Global, pieces: &'p [Piece<'a>]) -> Result<Outline<'p, 'a>, AllocError>
+        ensures { IfOk result (λ outline. outline.pieces.now ≡ pieces.now) }
+    {
         let mut ends = Vec::new(alloc);
         let mut open = Vec::new(alloc);
         for (place, piece) in pieces.iter().enumerate() {

@@ -1,16 +1,20 @@
 //! The tables of a module from its list.
 
-ghost use Rattle.std.specs.Prelude.{◌≡◌, false, true, IsTrue, IfOk, IfErr, Some, None, map};
+ghost use Rattle.std.specs.Prelude.{◌≡◌, false, true, IsTrue, IfOk, IfErr, Some, None, filter, map, not, string_bytes, ◌&&◌, ◌++◌, ◌∷◌, [], List, OnOk};
+ghost use Rattle.std.specs.List.{flat_map};
 ghost use Rattle.bundle_piece.specs.Item.{item_of};
+ghost use Rattle.bundle_tables.specs.Sources.{asked, told_external, unexternal, unexternal_one, HasTexts};
+ghost use Rattle.bundle_tables.specs.TablesOf.{export_entry_of, import_entry_of};
+ghost use Rattle.bundle_terms.specs.Tables.{is_star, star_of};
 ghost use Rattle.bundle_tables.specs.declared.table.TreeFault.TheVariants as f;
-ghost use Rattle.bundle_terms.specs.Entries.{has_import_meta as has_import_meta_lem};
+ghost use Rattle.bundle_terms.specs.Entries.{declared_requests, exports_of as exports_of_lem, has_import_meta as has_import_meta_lem, imports_of as imports_of_lem, is_script as is_script_lem};
 ghost use Rattle.bundle_terms.specs.Bundle.{is_with};
-ghost use Rattle.bundle_terms.specs.Nodes.{has_head};
+ghost use Rattle.bundle_terms.specs.Nodes.{each_once, has_head, has_text, Text};
 
-use crate::entries::{Entries, entries_of};
+use crate::entries::{Entries, Given, entries_of};
 use crate::nodes::{has_import_meta, has_with};
 use crate::outline::Outline;
-use crate::table::{RequireCall, Tables, TreeFault};
+use crate::table::{RequireCall, Source, Tables, TreeFault};
 use crate::walk::{Found, found_in};
 use bundle_denote::Denotations;
 use bundle_piece::Piece;
@@ -25,6 +29,7 @@ const TOP: usize = 0;
 ///
 /// `denotations` are those of the list as an ECMAScript module, by symbol. `require` says whether literal
 /// calls of `require` are linked, and `external` which texts are external.
+#[tactic(auto, using(std::proofs::lemmas::Grind::common_steps, crate::proofs::ExportLemmas::told_all))]
 pub fn tables_of<'a>(
     alloc: Global,
     pieces: &[Piece<'a>],
@@ -34,6 +39,18 @@ pub fn tables_of<'a>(
 ) -> Result<Result<Tables<'a>, TreeFault<'a>>, AllocError>
     ensures meta { IfOk result (λ answer. IfOk answer (λ tables.
         tables.has_import_meta ≡ has_import_meta_lem (map item_of pieces.now))) }
+    ensures imports { IfOk result (λ answer. IfOk answer (λ tables.
+        map import_entry_of tables.imports.items ≡ imports_of_lem (map item_of pieces.now))) }
+    ensures exports { IfOk result (λ answer. IfOk answer (λ tables.
+        map export_entry_of tables.exports.items ≡ filter (λ entry. not (is_star entry)) (exports_of_lem (map item_of pieces.now)))) }
+    ensures stars { IfOk result (λ answer. IfOk answer (λ tables.
+        map (λ star. star.now) tables.stars.items ≡ each_once (flat_map star_of (exports_of_lem (map item_of pieces.now))))) }
+    ensures sources { IfOk result (λ answer. IfOk answer (λ tables.
+        map asked tables.sources.items ≡ map (told_external (map string_bytes external.now)) (declared_requests (map item_of pieces.now)))) }
+    ensures requests { IfOk result (λ answer. IfOk answer (λ tables.
+        map (λ request. request.now) tables.requests.items ≡ each_once (filter (λ s. not (has_text s (map string_bytes external.now))) (declared_requests (map item_of pieces.now)) ++ map (λ call. call.specifier.now) tables.calls.items))) }
+    ensures script { IfOk result (λ answer. IfOk answer (λ tables.
+        tables.is_script ≡ is_script_lem (map item_of pieces.now))) }
     ensures none { IfOk result (λ answer. IfOk answer (λ tables. has_head is_with (map item_of pieces.now) ≡ false)) }
     ensures stands { IfOk result (λ answer. IfErr answer (λ fault. fault ≡ f.With → IsTrue (has_head is_with (map item_of pieces.now)))) }
 {
@@ -50,7 +67,9 @@ pub fn tables_of<'a>(
 }
 
 // The texts, each once.
-fn texts<'t>(alloc: Global, list: &'t [String]) -> Result<IndexSet<&'t str>, AllocError> {
+fn texts<'t>(alloc: Global, list: &'t [String]) -> Result<IndexSet<&'t str>, AllocError>
+    ensures { IfOk result (λ texts. HasTexts texts (map string_bytes list.now)) }
+{
     let mut texts = IndexSet::new(alloc);
     for text in list {
         texts.insert(text.as_str())?;
@@ -83,7 +102,7 @@ fn first_fault<'a>(
 // The first name that an earlier export has.
 fn doubled_name<'a>(alloc: Global, entries: &Entries<'a>) -> Result<Option<&'a str>, AllocError> {
     let mut names = IndexSet::new(alloc);
-    for export in &entries.exports {
+    for export in &entries.given.exports {
         if names.contains(&export.name) {
             return Ok(Some(export.name));
         }
@@ -98,7 +117,7 @@ fn undeclared_name<'a>(
     denotations: &Denotations<'a>,
     entries: &Entries<'a>,
 ) -> Result<Option<&'a str>, AllocError> {
-    if entries.listed.is_empty() {
+    if entries.given.listed.is_empty() {
         return Ok(None);
     }
     let mut bound = IndexSet::new(alloc);
@@ -107,7 +126,7 @@ fn undeclared_name<'a>(
             bound.insert(binding.sym)?;
         }
     }
-    for listed in &entries.listed {
+    for listed in &entries.given.listed {
         if listed.is_string || !bound.contains(&listed.name) {
             return Ok(Some(listed.name));
         }
@@ -124,18 +143,27 @@ fn joined<'a>(
     require: bool,
     external: &IndexSet<&str>,
 ) -> Result<Tables<'a>, AllocError>
-    ensures { IfOk result (λ tables. tables.has_import_meta ≡ has_import_meta) }
+    ensures meta { IfOk result (λ tables. tables.has_import_meta ≡ has_import_meta) }
+    ensures imports { IfOk result (λ tables. tables.imports.items ≡ entries.entry.imports.items) }
+    ensures exports { IfOk result (λ tables. tables.exports.items ≡ entries.entry.given.exports.items) }
+    ensures requests { IfOk result (λ tables. map (λ request. request.now) tables.requests.items
+        ≡ each_once (unexternal entries.entry.given.sources.items ++ map (λ call. call.specifier.now) tables.calls.items)) }
+    ensures sources { IfOk result (λ tables. tables.sources.items ≡ entries.entry.given.sources.items) }
+    ensures stars { IfOk result (λ tables. tables.stars.items ≡ entries.entry.given.stars.keys) }
+    ensures script { IfOk result (λ tables. tables.is_script ≡ (not entries.entry.is_declared_module && not has_import_meta)) }
 {
     let calls = linked_calls(alloc, &found, require, external)?;
-    let requests = requests(alloc, &entries, calls.as_slice())?;
-    let stars = entries.stars.iter().copied().collect(alloc)?;
     let is_script = !entries.is_declared_module && !has_import_meta;
+    let imports = entries.imports;
+    let given = entries.given;
+    let requests = requests(alloc, &given, calls.as_slice())?;
+    let stars = given.stars.iter().copied().collect(alloc)?;
     Ok(Tables {
         requests,
-        imports: entries.imports,
-        exports: entries.exports,
+        imports,
+        exports: given.exports,
         stars,
-        sources: entries.sources,
+        sources: given.sources,
         calls,
         uses: found.uses,
         reads: found.reads,
@@ -165,20 +193,41 @@ fn linked_calls<'a>(
     Ok(calls)
 }
 
-// What a module asks to be loaded.
+// What a module asks to be loaded: what is not external, and the literal calls that are linked, each text once.
 fn requests<'a>(
     alloc: Global,
-    entries: &Entries<'a>,
+    given: &Given<'a>,
     calls: &[RequireCall<'a>],
-) -> Result<Vec<&'a str>, AllocError> {
+) -> Result<Vec<&'a str>, AllocError>
+    ensures { IfOk result (λ requests. map (λ request. request.now) requests.items
+        ≡ each_once (unexternal given.now.sources.items ++ map (λ call. call.specifier.now) calls.now)) }
+{
     let mut texts = IndexSet::new(alloc);
-    for source in &entries.sources {
-        if !source.is_external {
-            texts.insert(source.specifier)?;
-        }
+    for source in &given.sources {
+        add_request(&mut texts, *source)?;
     }
     for call in calls {
-        texts.insert(call.specifier)?;
+        add_called(&mut texts, *call)?;
     }
     texts.iter().copied().collect(alloc)
+}
+
+// Adds what an import or an export asks for, unless it is external.
+fn add_request<'a>(texts: &mut IndexSet<&'a str>, source: Source<'a>) -> Result<(), AllocError>
+    ensures { (seen : List Text) → map (λ key. key.now) texts.old.keys ≡ each_once seen →
+        OnOk result (map (λ key. key.now) texts.new.keys ≡ each_once (seen ++ unexternal_one source.entry)) }
+{
+    if !source.is_external {
+        texts.insert(source.specifier)?;
+    }
+    Ok(())
+}
+
+// Adds what a literal call asks for.
+fn add_called<'a>(texts: &mut IndexSet<&'a str>, call: RequireCall<'a>) -> Result<(), AllocError>
+    ensures { (seen : List Text) → map (λ key. key.now) texts.old.keys ≡ each_once seen →
+        OnOk result (map (λ key. key.now) texts.new.keys ≡ each_once (seen ++ call.entry.specifier.now ∷ [])) }
+{
+    texts.insert(call.specifier)?;
+    Ok(())
 }

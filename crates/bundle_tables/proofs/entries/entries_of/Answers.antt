@@ -1,0 +1,21 @@
+-- The exports of the top items are those of the module, by its imports.
+use Rattle.std.proofs.Common.{◌≡◌, ap, ◌∙◌, map}
+use Rattle.bundle_piece.specs.Item.{item_of}
+use Rattle.bundle_terms.specs.Entries.{import_of, imports_of}
+use Rattle.bundle_tables.specs.Exported.{import_by}
+use Rattle.bundle_tables.specs.Parted.{part_items}
+use Rattle.bundle_tables.specs.TablesOf.{import_entry_of}
+use Rattle.bundle_tables.proofs.ExportLemmas.{exports_placed, imports_found}
+use Rattle.bundle_tables.proofs.ImportLemmas.{imports_placed}
+use Rattle.bundle_tables.proofs.entries.entries_of.Goals as goal
+
+pub returns-clause-exports : goal.returns-clause-exports
+returns-clause-exports c =
+    let tree = map item_of c.args.outline.now.pieces.now in
+    let found = import_by c.in_ok-locals.locals in
+    let imports = map import_entry_of c.in_ok-imports.imports.items in
+    let are : imports ≡ imports_of tree = c.in_ok-imports.ensures ∙ imports_placed tree _ (ap (map part_items) c.deref.ensures.value ∙ c.in_ok-tops.ensures) in
+    c.in_ok-exports_of.ensures
+    ∙ exports_placed found tree _
+    (imports_found found imports tree are (λ x. c.in_ok-locals.ensures x ∙ ap (λ l. import_of (map import_entry_of l) x) c.deref-3.ensures.value))
+    (ap (map part_items) c.deref-4.ensures.value ∙ c.in_ok-tops.ensures)
