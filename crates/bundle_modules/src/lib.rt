@@ -1,0 +1,7 @@
+//! The modules of a bundle while they become one: their items by module.
+#![tactic(auto)]
+
+pub mod modules;
+
+pub use bundle_parts::Iter;
+pub use modules::Modules;
