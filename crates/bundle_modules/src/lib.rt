@@ -2,6 +2,7 @@
 #![tactic(auto)]
 
 pub mod modules;
+mod sort;
 
 pub use bundle_parts::Iter;
 pub use modules::Modules;
