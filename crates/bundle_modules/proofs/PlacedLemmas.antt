@@ -92,7 +92,7 @@ module _ (pairs : List Owned) where
   numbers-all k [] = refl
   numbers-all k (m ∷ members) =
       ap (λ (l : List ℕ). l ++ numbers_from (k + 1) (map (places_of owners) members))
-        (const-map (tree_at trees) k (places_of owners m) ∙ ap (map (λ (item : List Item). k)) (items-of m))
+      (const-map (tree_at trees) k (places_of owners m) ∙ ap (map (λ (item : List Item). k)) (items-of m))
       ∙ ap (λ (l : List ℕ). map (λ (item : List Item). k) (items_in pairs m) ++ l) (numbers-all (k + 1) members)
 
   -- ---- blocks
@@ -127,9 +127,9 @@ module _ (pairs : List Owned) where
       by false e =
           let l = z.lone e in
           let own : map (tree_at trees) block.places.items ≡ items_in pairs l.0 =
-              joins ∙ (ap (λ (ms : List ℕ). flat_map (λ (items : List (List Item)). items) (map (items_in pairs) ms)) l.1 ∙ append-nil (items_in pairs l.0)) in
+          joins ∙ (ap (λ (ms : List ℕ). flat_map (λ (items : List (List Item)). items) (map (items_in pairs) ms)) l.1 ∙ append-nil (items_in pairs l.0)) in
           let listed : map (tree_at trees) order ≡ map first_of (numbered_items (items_in pairs l.0 ∷ [])) =
-              is.lone e ∙ ap (λ (items : List (List Item)). map first_of (numbered_items (items ∷ []))) own in
+          is.lone e ∙ ap (λ (items : List (List Item)). map first_of (numbered_items (items ∷ []))) own in
           subst (λ (ms : List ℕ). SortsBlock g (items_in pairs) ms (map (tree_at trees) order)) (sym l.1)
           (subst (λ (s : List (List Item)). SortsBlock g (items_in pairs) (l.0 ∷ []) s) (sym listed) (lone l.2))
 
@@ -277,14 +277,16 @@ module _ (g : Modules) (entry : ℕ) (pairs : List Owned) where
       let owners = map owner_of pairs in
       let put = y.0 (map (items_in pairs) members) (ap (map (tree_at (map tree_of pairs))) z.0.places ∙ items-all pairs members) (z.0.numbers ∙ numbers-all pairs 0 members) in
       let places = block.places.items in
-      let single : IsOnce places = subst (λ (l : List ℕ). IsOnce l) (sym z.0.places) (all-once owners members once.0) in
-      (record {
-        same = λ p. (
-          λ c. subst (λ (l : List ℕ). Contains l p) z.0.places (picked-in places put.numbers put.whole p (subst (λ (l : List ℕ). Contains l p) put.picked c)),
-          λ c. subst (λ (l : List ℕ). Contains l p) (sym put.picked) (picked-has places put.numbers put.whole p (subst (λ (l : List ℕ). Contains l p) (sym z.0.places) c)),
-        );
-        once = subst (λ (l : List ℕ). IsOnce l) (sym put.picked) (picked-once places put.numbers put.whole single);
-      }, rearranged blocks plans orders once.1 z.1 y.1)
+      let single : IsOnce places = subst (λ (l : List ℕ). IsOnce l) (sym z.0.places) (all-once owners members once.0) in (
+        record {
+          same = λ p. (
+            λ c. subst (λ (l : List ℕ). Contains l p) z.0.places (picked-in places put.numbers put.whole p (subst (λ (l : List ℕ). Contains l p) put.picked c)),
+            λ c. subst (λ (l : List ℕ). Contains l p) (sym put.picked) (picked-has places put.numbers put.whole p (subst (λ (l : List ℕ). Contains l p) (sym z.0.places) c)),
+          );
+          once = subst (λ (l : List ℕ). IsOnce l) (sym put.picked) (picked-once places put.numbers put.whole single);
+        },
+        rearranged blocks plans orders once.1 z.1 y.1,
+      )
 
   has-any : (xs : List ℕ) (q : ℕ) → list_any (eqb q) xs ≡ true → Contains xs q
   has-any xs q e = Contains-place xs q (place-in xs q e)
@@ -296,8 +298,8 @@ module _ (g : Modules) (entry : ℕ) (pairs : List Owned) where
   long : (order : List ℕ) (count : ℕ) → IsWhole order count → length order ≡ count
   long order count w =
       let up = length-le_from_distinct_below order count
-          (IsDistinct-from_apart eqb order (λ i j d l m. apart i j d l m))
-          (λ q e. (w.all q).0 (has-any order q e)) in
+      (IsDistinct-from_apart eqb order (λ i j d l m. apart i j d l m))
+      (λ q e. (w.all q).0 (has-any order q e)) in
       let down = le-length_from_below order count (λ q l. any-has order q ((w.all q).1 l)) in
       omega (arith, up, down)
     where
@@ -323,9 +325,9 @@ module _ (g : Modules) (entry : ℕ) (pairs : List Owned) where
       let once = members-once owners g entry p.list p.is_list p.blocks p.are_blocks in
       let so : order ≡ joined orders ++ left_of owners p.list = is ∙ ap (λ (l : List ℕ). joined orders ++ l) p.left in
       let all : IsWhole order (length pairs) =
-          subst (λ n. IsWhole order n) (length-map pairs owner_of)
-          (subst (λ (l : List ℕ). IsWhole l (length owners)) (sym so)
-          (whole-order owners g entry p.list p.is_list p.blocks p.are_blocks orders (rearranged p.blocks plan.blocks.items orders once p.planned y))) in
+      subst (λ n. IsWhole order n) (length-map pairs owner_of)
+      (subst (λ (l : List ℕ). IsWhole l (length owners)) (sym so)
+      (whole-order owners g entry p.list p.is_list p.blocks p.are_blocks orders (rearranged p.blocks plan.blocks.items orders once p.planned y))) in
       record {
         long = long order (length pairs) all;
         whole = arrangement order (length pairs) all;

@@ -18,15 +18,15 @@ returns c = λ modules joins owned.
     let order = c.in_ok-order.order.items in
     let d = drawn c.args.items.now places c.requires.within in
     let same : map listed c.deref-2.result.now ≡ map (module_item_items 0) d.0 =
-        ap (map listed) c.deref-2.ensures.value
-        ∙ (c.in_ok-lists.ensures
-        ∙ (ap (map (tree_at trees)) c.deref.ensures.value
-        ∙ sym d.1)) in
+    ap (map listed) c.deref-2.ensures.value
+    ∙ (c.in_ok-lists.ensures
+    ∙ (ap (map (tree_at trees)) c.deref.ensures.value
+    ∙ sym d.1)) in
     let ordered = c.in_ok-order.ensures d.0 modules same (d.1 ∙ joins) owned in
     put-ordered trees block modules d.0 order c.in_ok-picked.picked.items d.1 ordered
     (λ all.
     c.in_ok-picked.ensures
-      (subst (λ (l : List ℕ). All (λ n. n < length c.deref-3.result.now) l) (sym c.deref-4.ensures.value)
-      (subst (λ (l : List ℕ). All (λ n. n < length l) order) (sym c.deref-3.ensures.value) all))
+    (subst (λ (l : List ℕ). All (λ n. n < length c.deref-3.result.now) l) (sym c.deref-4.ensures.value)
+    (subst (λ (l : List ℕ). All (λ n. n < length l) order) (sym c.deref-3.ensures.value) all))
     ∙ (ap (λ (l : List ℕ). map (λ n. slice_index l n) c.deref-4.result.now) c.deref-3.ensures.value
     ∙ ap (map (λ n. slice_index places n)) c.deref-4.ensures.value))

@@ -16,13 +16,14 @@ loop-block-preserved c =
     let x = c.block-item.result in
     let was = c.loop-block.invariant in
     let more : take (i + 1) blocks ≡ take i blocks ++ x ∷ [] =
-        ap (take (i + 1)) (sym c.deref-block-items.ensures.value)
-        ∙ (take_more here i x c.loop-block-test.true
-        ∙ (ap (λ (y : Block). take i here ++ y ∷ []) (sym c.block-item.is)
-        ∙ ap (λ (l : List Block). take i l ++ x ∷ []) c.deref-block-items.ensures.value)) in
-    (was.0 ++ c.in_ok-places.places.items ∷ [],
-    subst (λ (l : List Block). AllZip puts l (was.0 ++ c.in_ok-places.places.items ∷ [])) (sym more) (zip-push puts (take i blocks) was.0 x c.in_ok-places.places.items was.1 c.in_ok-places.ensures),
-    c.in_ok-extend_from_slice.ensures.items
-    ∙ (ap (λ (l : List ℕ). c.loop-block.order.items ++ l) c.deref.ensures.value
-    ∙ (ap (λ (l : List ℕ). l ++ c.in_ok-places.places.items) was.2
-    ∙ sym (flat-push (λ (l : List ℕ). l) was.0 c.in_ok-places.places.items))))
+    ap (take (i + 1)) (sym c.deref-block-items.ensures.value)
+    ∙ (take_more here i x c.loop-block-test.true
+    ∙ (ap (λ (y : Block). take i here ++ y ∷ []) (sym c.block-item.is)
+    ∙ ap (λ (l : List Block). take i l ++ x ∷ []) c.deref-block-items.ensures.value)) in (
+      was.0 ++ c.in_ok-places.places.items ∷ [],
+      subst (λ (l : List Block). AllZip puts l (was.0 ++ c.in_ok-places.places.items ∷ [])) (sym more) (zip-push puts (take i blocks) was.0 x c.in_ok-places.places.items was.1 c.in_ok-places.ensures),
+      c.in_ok-extend_from_slice.ensures.items
+          ∙ (ap (λ (l : List ℕ). c.loop-block.order.items ++ l) c.deref.ensures.value
+          ∙ (ap (λ (l : List ℕ). l ++ c.in_ok-places.places.items) was.2
+          ∙ sym (flat-push (λ (l : List ℕ). l) was.0 c.in_ok-places.places.items))),
+    )
