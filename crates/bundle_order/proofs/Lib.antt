@@ -5,7 +5,6 @@ pub mod GroupLemmas
 pub mod EdgeLemmas
 pub mod JoinLemmas
 pub mod NodeLemmas
-pub mod ArrangeLemmas
 pub mod BridgeLemmas
 pub mod FoundLemmas
 pub mod NumberingLemmas

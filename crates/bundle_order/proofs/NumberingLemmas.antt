@@ -9,7 +9,7 @@ use Rattle.bundle_piece.specs.Item.{Item}
 use Rattle.bundle_mentions.proofs.ListLemmas.{Contains-none, Contains-cons}
 use Rattle.bundle_terms.specs.Sorting.{Numbered, free_items, is_injected, numbered_items, owned_items}
 use Rattle.bundle_order.specs.declared.number.Place.{Place}
-use Rattle.bundle_order.specs.Arranged.{IsArrangement}
+use Rattle.bundle_arrange.specs.Arranged.{IsArrangement}
 use Rattle.bundle_order.specs.Owned.{owner_by}
 use Rattle.bundle_order.specs.Numbering.{all_places, at_of, chosen_places, is_chosen, numbered_at, owners_of, place_of}
 

@@ -1,5 +1,5 @@
 -- The order of the places of items sorts them.
-use Rattle.std.proofs.Common.{◌≡◌, ◌↔◌, ℕ, zero, suc, ◌+◌, ◌<◌, Vec, Global, List, [], ◌∷◌, ◌++◌, Option, Some, length, get_or, map, slice_get, Contains, refl, sym, ap, ◌∙◌, subst, append_assoc, append-nil, inl, inr, arith}
+use Rattle.std.proofs.Common.{◌≡◌, ◌↔◌, ℕ, zero, suc, ◌+◌, ◌<◌, Vec, Global, List, [], ◌∷◌, ◌++◌, Option, Some, length, get_or, map, replicate, slice_get, Contains, refl, sym, ap, ◌∙◌, subst, append_assoc, append-nil, inl, inr, arith}
 use Rattle.std.specs.List.{AllZip, flat_map}
 use Rattle.std.specs.Option.{option_map}
 use Rattle.std.proofs.lemmas.Option.{get_or_from_slice_get, slice_get-map, slice_get-get_or}
@@ -19,9 +19,9 @@ use Rattle.bundle_mentions.specs.Found.{AreFound}
 use Rattle.bundle_mentions.proofs.ListLemmas.{Contains-cons}
 use Rattle.bundle_needs.specs.Cut.{dependencies_of}
 use Rattle.bundle_order.specs.declared.number.Place.{Place}
-use Rattle.bundle_order.specs.Arranged.{AreArranged, IsArrangement}
+use Rattle.bundle_arrange.specs.Arranged.{AreArranged, IsArrangement}
 use Rattle.bundle_order.specs.Grouped.{group_placed}
-use Rattle.bundle_order.specs.Numbering.{IsSortedBy, all_places, at_of, numbered_at, owners_of}
+use Rattle.bundle_order.specs.Numbering.{IsOwnOrder, IsSortedBy, all_places, at_of, numbered_at, owners_of}
 use Rattle.bundle_order.specs.Owned.{AreTogether, owner_of}
 use Rattle.bundle_order.proofs.BridgeLemmas.{IsGoodOrder-of_group}
 use Rattle.bundle_order.proofs.NodesLemmas.{whole}
@@ -173,30 +173,37 @@ IsSorted-all modules joined sorted owners order is owned by arranged =
     IsSorted-arranged all joined order sorted s (arranged (subst (λ n. IsArrangement order n) (length-map joined list_of) s.whole))
 
 -- ---- one module alone
-one-owner : (items : List ModuleItem) → map (λ (item : ModuleItem). 0) items ≡ owners_of 0 (map list_of items ∷ [])
-one-owner [] = refl
-one-owner (x ∷ items) = ap (λ (l : List ℕ). 0 ∷ l) (one-owner items)
+read-so : (lists : List (List Item)) (places : List Place) → map (λ at. get_or lists at []) (map at_of places) ≡ map first_of (map (numbered_at lists) places)
+read-so lists [] = refl
+read-so lists (p ∷ places) = ap (λ (l : List (List Item)). get_or lists p.at [] ∷ l) (read-so lists places)
 
-pub own-owners : (items : List ModuleItem) (owners : List ℕ) → owners ≡ [] ++ map (λ item. 0) items → owners ≡ owners_of 0 (map (module_item_items 0) items ∷ [])
-own-owners items owners e = e ∙ one-owner items
+pub IsOwnOrder-places : (lists : List (List Item)) (owners : List ℕ) → owners ≡ owners_of 0 (lists ∷ []) → (order : List ℕ) → order ≡ map at_of (all_places lists owners) → IsOwnOrder lists order
+IsOwnOrder-places lists owners owned order is =
+    let places = all_places lists owners in
+    let len : length owners ≡ length lists = ap length owned ∙ (length-owners 0 (lists ∷ []) ∙ ap length (append-nil lists)) in
+    record {
+      listed = ap (map (λ at. get_or lists at [])) is
+          ∙ (read-so lists places
+          ∙ ap (λ (l : List Numbered). map first_of l)
+          (ap (λ (l : List ℕ). map (numbered_at lists) (all_places lists l)) owned
+          ∙ (ap (λ (l : List (List Item)). map (numbered_at l) (all_places l (owners_of 0 (lists ∷ [])))) (sym (append-nil lists))
+          ∙ all-read (lists ∷ []))));
+      whole = subst (λ (l : List ℕ). IsArrangement l (length lists)) (sym is) (IsArrangement-places lists owners len);
+    }
 
-pub own-long : (items : List ModuleItem) → length (owners_of 0 (map (module_item_items 0) items ∷ [])) ≡ length items
-own-long items = length-owners 0 (map list_of items ∷ []) ∙ (ap length (append-nil (map list_of items)) ∙ length-map items list_of)
+-- the number of one module, for each of its items
+pub same-owner : (lists : List (List Item)) → replicate (length lists) 0 ≡ owners_of 0 (lists ∷ [])
+same-owner [] = refl
+same-owner (x ∷ lists) = ap (λ (l : List ℕ). 0 ∷ l) (same-owner lists)
 
-listed-so : (items : List ModuleItem) (places : List Place) (sorted : List ModuleItem) → AllZip (λ n value. slice_get items n ≡ Some value) (map at_of places) sorted → map list_of sorted ≡ map first_of (map (numbered_at (map list_of items)) places)
+listed-so : (items sorted : List ModuleItem) (order : List ℕ) → AllZip (λ n value. slice_get items n ≡ Some value) order sorted → map list_of sorted ≡ map (λ at. get_or (map list_of items) at []) order
 listed-so items [] [] z = refl
-listed-so items [] (v ∷ sorted) z = absurd z
-listed-so items (p ∷ places) [] z = absurd z
-listed-so items (p ∷ places) (v ∷ sorted) z =
-    let here : get_or (map list_of items) p.at [] ≡ list_of v = get_or_from_slice_get (map list_of items) p.at (list_of v) [] (slice_get-map list_of items p.at ∙ ap (λ (o : Option ModuleItem). option_map list_of o) z.0) in
-    ap (λ (l : List Item). l ∷ map list_of sorted) (sym here) ∙ ap (λ (l : List (List Item)). get_or (map list_of items) p.at [] ∷ l) (listed-so items places sorted z.1)
+listed-so items (v ∷ sorted) [] z = absurd z
+listed-so items [] (n ∷ order) z = absurd z
+listed-so items (v ∷ sorted) (n ∷ order) z =
+    let here : get_or (map list_of items) n [] ≡ list_of v = get_or_from_slice_get (map list_of items) n (list_of v) [] (slice_get-map list_of items n ∙ ap (λ (o : Option ModuleItem). option_map list_of o) z.0) in
+    ap (λ (l : List Item). l ∷ map list_of sorted) (sym here) ∙ ap (λ (l : List (List Item)). get_or (map list_of items) n [] ∷ l) (listed-so items sorted order z.1)
 
-pub own-listed : (items sorted : List ModuleItem) (order : List ℕ) → order ≡ map at_of (all_places (map (module_item_items 0) items) (owners_of 0 (map (module_item_items 0) items ∷ []))) → (IsArrangement order (length items) → AreArranged order items sorted) → map (module_item_items 0) sorted ≡ map (λ one. one.0) (numbered_items (map (module_item_items 0) items ∷ []))
-own-listed items sorted order is arranged =
-    let lists = map list_of items in
-    let owners = owners_of 0 (lists ∷ []) in
-    let len : length owners ≡ length lists = length-owners 0 (lists ∷ []) ∙ ap length (append-nil lists) in
-    let whole = subst (λ n. IsArrangement (map at_of (all_places lists owners)) n) (length-map items list_of) (IsArrangement-places lists owners len) in
-    let z = subst (λ (l : List ℕ). AreArranged l items sorted) is (arranged (subst (λ (l : List ℕ). IsArrangement l (length items)) (sym is) whole)) in
-    listed-so items (all_places lists owners) sorted z
-    ∙ ap (λ (l : List Numbered). map first_of l) (ap (λ (l : List (List Item)). map (numbered_at l) (all_places l owners)) (sym (append-nil lists)) ∙ all-read (lists ∷ []))
+pub own-listed : (items sorted : List ModuleItem) (order : List ℕ) → IsOwnOrder (map (module_item_items 0) items) order → (IsArrangement order (length items) → AreArranged order items sorted) → map (module_item_items 0) sorted ≡ map (λ one. one.0) (numbered_items (map (module_item_items 0) items ∷ []))
+own-listed items sorted order own arranged =
+    listed-so items sorted order (arranged (subst (λ n. IsArrangement order n) (length-map items list_of) own.whole)) ∙ own.listed

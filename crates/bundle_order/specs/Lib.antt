@@ -1,4 +1,3 @@
-pub mod Arranged
 pub mod Grouped
 pub mod Items
 pub mod Numbering

@@ -5,7 +5,7 @@ use Rattle.bundle_piece.specs.Item.{Item}
 use Rattle.bundle_terms.specs.Order.{IsGoodOrder}
 use Rattle.bundle_terms.specs.Sorting.{Numbered, flat, group_of_items, is_injected, numbered_items}
 use Rattle.bundle_order.specs.declared.number.Place.{Place}
-use Rattle.bundle_order.specs.Arranged.{IsArrangement}
+use Rattle.bundle_arrange.specs.Arranged.{IsArrangement}
 use Rattle.bundle_order.specs.Owned.{owner_by}
 
 -- the number of its module for each item of a list of modules, counted from k on
@@ -46,4 +46,9 @@ pub record IsSortedBy (modules : List (List (List Item))) (items : List (List It
   pub numbers : List ℕ
   pub good : IsGoodOrder (group_of_items (flat (map (λ one. one.0) (numbered_items modules))) (map (λ one. one.1) (numbered_items modules))) numbers
   pub each : AllZip (λ n at. option_map (λ one. one.0) (slice_get (numbered_items modules) n) ≡ slice_get items at) numbers order
+  pub whole : IsArrangement order (length items)
+
+-- the order of the places of a module's items is their own, with the free ones last
+pub record IsOwnOrder (items : List (List Item)) (order : List ℕ) : Type 0 where
+  pub listed : map (λ at. slice_index_or items at []) order ≡ map (λ one. one.0) (numbered_items (items ∷ []))
   pub whole : IsArrangement order (length items)

@@ -5,14 +5,13 @@ ghost use Rattle.std.specs.List.{flat_map};
 ghost use Rattle.bundle_piece.specs.Item.{Item};
 ghost use Rattle.bundle_pieces.specs.Tree.{module_item_items};
 ghost use Rattle.bundle_terms.specs.Sorting.{IsSorted, numbered_items};
-ghost use Rattle.bundle_order.specs.Numbering.{IsSortedBy, all_places, at_of, owners_of};
+ghost use Rattle.bundle_order.specs.Numbering.{IsOwnOrder, IsSortedBy, owners_of};
 
-use crate::arrange::arrange;
-use crate::group::{group_at, lists_of};
-use crate::number::{ats_of, places_by, places_of};
+use crate::block::{own_places, sorted_places};
+use crate::group::lists_of;
+use bundle_arrange::arrange;
 use bundle_ast::{Module, ModuleItem};
 use bundle_name::Error;
-use bundle_sort::sort_items;
 use std::alloc::{AllocError, Global};
 
 /// The items of all modules in one order, each once: after what they need, and in the order of their module. An
@@ -47,14 +46,10 @@ pub fn in_own_order(alloc: Global, items: Vec<ModuleItem>) -> Result<Vec<ModuleI
 
 // The places of the items of one module, the free ones last.
 fn own_order_of(alloc: Global, items: &[ModuleItem]) -> Result<Vec<usize>, AllocError>
-    ensures { IfOk result (λ order. order.items ≡ map at_of (all_places (map (module_item_items 0) items.now) (owners_of 0 (map (module_item_items 0) items.now ∷ [])))) }
+    ensures { IfOk result (λ order. IsOwnOrder (map (module_item_items 0) items.now) order.items) }
 {
     let lists = lists_of(alloc, items)?;
-    let mut owners = Vec::new(alloc);
-    add_owner(&mut owners, 0, items)?;
-    let places = places_of(alloc, &lists, &owners)?;
-    let order = ats_of(alloc, &places)?;
-    Ok(order)
+    own_places(alloc, &lists)
 }
 
 // The numbers of the modules of the items.
@@ -105,10 +100,6 @@ fn order_of(alloc: Global, items: &[ModuleItem], owners: &[usize]) -> Result<Vec
     ensures { IfOk result (λ order. (modules : List (List (List Item))) → map (module_item_items 0) items.now ≡ flat_map (λ items. items) modules → owners.now ≡ owners_of 0 modules → IsSortedBy modules (map (module_item_items 0) items.now) order.items) }
 {
     let lists = lists_of(alloc, items)?;
-    let places = places_of(alloc, &lists, owners)?;
-    let group = group_at(alloc, &lists, &places)?;
-    let needs = group.dependencies(alloc)?;
-    let numbers = sort_items(alloc, &needs)?;
-    let order = places_by(alloc, &places, &numbers)?;
+    let order = sorted_places(alloc, &lists, owners)?;
     Ok(order)
 }

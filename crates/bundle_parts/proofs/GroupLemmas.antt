@@ -1,8 +1,9 @@
 -- What a write to the items of a module, and a new module, are among the items by module.
 use Rattle.std.proofs.Common.{◌≡◌, ℕ, nat_eq, Bool, true, false, cond, List, [], ◌∷◌, ◌++◌, Some, None, refl, sym, ap, ◌∙◌, if◌then◌else◌}
-use Rattle.std.specs.Prelude.{◌==◌, map, length, vec_len}
+use Rattle.std.specs.Prelude.{◌==◌, ◌+◌, map, length, vec_len}
 use Rattle.std.proofs.Common.{eq-eqb}
 use Rattle.std.proofs.lemmas.Bool.{false≢true}
+use Rattle.std.proofs.lemmas.List.{length-append, length-map}
 use Rattle.std.specs.Map.{lookup, set_value}
 use Rattle.std.specs.declared.vec.Vec.{Vec}
 use Rattle.std.specs.declared.alloc.Global.{Global}
@@ -58,3 +59,7 @@ module _ {A : Type 0} where
   pub owned-cons : (m : ℕ) (items : List A) (rest : Groups A) → map (λ (o : Owned A). o.1) (owned ((m, items) ∷ rest)) ≡ items ++ map (λ (o : Owned A). o.1) (owned rest)
   owned-cons m [] rest = refl
   owned-cons m (x ∷ xs) rest = ap (λ l. x ∷ l) (owned-cons m xs rest)
+
+  -- how many items there are
+  pub length-owned : (m : ℕ) (items : List A) (rest : Groups A) → length (owned ((m, items) ∷ rest)) ≡ length items + length (owned rest)
+  length-owned m items rest = length-append (map (λ (x : A). (m, x)) items) (owned rest) ∙ ap (λ n. n + length (owned rest)) (length-map items (λ (x : A). (m, x)))

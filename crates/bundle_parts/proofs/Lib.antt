@@ -3,6 +3,7 @@ mod EitherLemmas
 mod GroupLemmas
 mod KeptLemmas
 mod OwnedLemmas
+mod PourLemmas
 mod PutLemmas
 mod RestLemmas
 mod UndoLemmas

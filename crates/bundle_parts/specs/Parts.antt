@@ -1,7 +1,8 @@
 -- Lists of items by module, of whatever kind: what stands in front, the bodies, and what stands behind. Each part holds
 -- pairs of a module and an item, by modules as these first came into it.
-use Rattle.std.specs.Prelude.{◌≡◌, ℕ, ◌==◌, nat_eq, not, Bool, true, false, List, [], ◌∷◌, ◌++◌, map, filter, if◌then◌else◌}
+use Rattle.std.specs.Prelude.{◌≡◌, ℕ, ◌==◌, nat_eq, not, Bool, true, false, List, [], ◌∷◌, ◌++◌, map, filter, length, IsPermutation, if◌then◌else◌}
 use Rattle.std.specs.List.{AllZip}
+use Rattle.bundle_arrange.specs.Arranged.{AreArranged, IsArrangement}
 
 -- an item with its module
 abbrev pub Owned : Type 0 → Type 0
@@ -41,6 +42,17 @@ held_by m items = record { prepended = []; bodies = owned_by m items; appended =
 -- all items, in the order in which they are gone through: the parts in turn
 abbrev pub in_order : {A : Type 0} → Held A → List (Owned A)
 in_order held = held.prepended ++ (held.bodies ++ held.appended)
+
+-- the items in that order, without their modules
+abbrev pub items_of : {A : Type 0} → Held A → List A
+items_of held = map (λ pair. pair.1) (in_order held)
+
+-- all items are put into this order of their places, as the body of a module
+pub record IsArrangedAs {A : Type 0} (m : ℕ) (order : List ℕ) (before after : Held A) : Type 0 where
+  pub items : List A
+  pub is : after ≡ held_by m items
+  pub moved : IsPermutation (items_of before) items
+  pub arranged : IsArrangement order (length (items_of before)) → AreArranged order (items_of before) items
 
 -- one more item, behind the last one of its module; at the end where the module has none
 abbrev pub put_last : {A : Type 0} → List (Owned A) → Owned A → List (Owned A)

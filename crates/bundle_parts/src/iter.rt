@@ -5,7 +5,7 @@ ghost use Rattle.std.specs.Iterator.{at_most};
 ghost use Rattle.std.specs.Map.Iter.{TakesFirst};
 ghost use Rattle.bundle_parts.specs.Held.{groups_of};
 ghost use Rattle.bundle_parts.specs.Groups.{owned};
-ghost use Rattle.bundle_parts.specs.Rest.{rest_of_part, deref_owned};
+ghost use Rattle.bundle_parts.specs.Rest.{deref_owned, rest_behind, rest_of_part};
 
 use crate::part::Part;
 use bundle_id::ModuleId;
@@ -16,19 +16,20 @@ use std::marker::Model;
 /// of what is left.
 #[derive(Drop)]
 pub struct Iter<'a, T> {
-    prepended: PartIter<'a, T>,
-    bodies: PartIter<'a, T>,
-    appended: PartIter<'a, T>,
+    /// The part that is gone through, and those behind it.
+    part: PartIter<'a, T>,
+    bodies: Option<&'a Part<T>>,
+    appended: Option<&'a Part<T>>,
 }
 
 impl<'a, T> Model for Iter<'a, T> {
     ghost use Rattle.std.specs.Prelude.{List, ◌++◌};
     ghost use Rattle.bundle_parts.specs.Parts.{Owned};
-    ghost use Rattle.bundle_parts.specs.Rest.{rest_of_part};
+    ghost use Rattle.bundle_parts.specs.Rest.{rest_behind, rest_of_part};
 
     ghost Value = { List (Owned T) };
 
-    ghost view = { λ i. rest_of_part i.prepended ++ (rest_of_part i.bodies ++ rest_of_part i.appended) };
+    ghost view = { λ i. rest_of_part i.part ++ (rest_behind i.bodies ++ rest_behind i.appended) };
 }
 
 impl<'a, T: Drop> Iter<'a, T> {
@@ -40,9 +41,9 @@ impl<'a, T: Drop> Iter<'a, T> {
         ensures { result ≡ owned (groups_of prepended.now) ++ (owned (groups_of bodies.now) ++ owned (groups_of appended.now)) }
     {
         Iter {
-            prepended: PartIter::new(prepended),
-            bodies: PartIter::new(bodies),
-            appended: PartIter::new(appended),
+            part: PartIter::new(prepended),
+            bodies: Some(bodies),
+            appended: Some(appended),
         }
     }
 }
@@ -55,13 +56,15 @@ impl<'a, T: Drop> Iterator for Iter<'a, T> {
     ghost remaining = { λ s. at_most (length s) };
 
     fn next(&mut self) -> Option<(ModuleId, &'a T)> {
-        if let Some(pair) = self.prepended.next_item() {
+        if let Some(pair) = self.part.next_item() {
             return Some(pair);
         }
-        if let Some(pair) = self.bodies.next_item() {
+        self.part.begin(self.bodies.take());
+        if let Some(pair) = self.part.next_item() {
             return Some(pair);
         }
-        self.appended.next_item()
+        self.part.begin(self.appended.take());
+        self.part.next_item()
     }
 }
 
@@ -83,6 +86,16 @@ impl<'a, T: Drop> PartIter<'a, T> {
             id: ModuleId::from_u32(0),
             items: &[],
             groups: part.modules.iter(),
+        }
+    }
+
+    // Goes on to another part, if there is one, where nothing is left.
+    fn begin(&mut self, part: Option<&'a Part<T>>)
+        requires { rest_of_part self.old ≡ [] }
+        ensures { rest_of_part self.new ≡ rest_behind part.entry }
+    {
+        if let Some(part) = part {
+            *self = PartIter::new(part);
         }
     }
 

@@ -1,9 +1,10 @@
 //! One part of what a linker holds.
 
-ghost use Rattle.std.specs.Prelude.{◌≡◌, [], ◌∷◌, ◌++◌, map, IfOk, OnOk, OnErr};
+ghost use Rattle.std.specs.Prelude.{◌≡◌, ◌+◌, ◌^◌, ◌<◌, ◌≤◌, [], ◌∷◌, ◌++◌, map, length, vec_len, vec_capacity, IfOk, OnOk, OnErr, SomeIff};
 ghost use Rattle.bundle_parts.specs.Held.{Answers, Asks, Replies, groups_of};
 ghost use Rattle.bundle_parts.specs.Groups.{IsKept, IsMapped, IsSifted, ItemsAnswered, count_of, cut, is_any, owned, put, put_any, put_all, put_each, undone};
 ghost use Rattle.std.specs.List.{AllZip};
+ghost use Rattle.indexmap.specs.IndexMap.{spare};
 
 use bundle_id::ModuleId;
 use indexmap::IndexMap;
@@ -26,6 +27,16 @@ impl<T: Drop> Part<T> {
         Part {
             modules: IndexMap::new(alloc),
         }
+    }
+
+    /// No items, with room for those of one module.
+    pub(crate) fn with_room(alloc: Global) -> Result<Part<T>, AllocError>
+        ensures empty { IfOk result (λ part. groups_of part ≡ []) }
+        ensures room { IfOk result (λ part. 0 < spare part.modules) }
+    {
+        Ok(Part {
+            modules: IndexMap::with_capacity(alloc, 1)?,
+        })
     }
 
     /// These items, each behind the last one of its module.
@@ -188,6 +199,43 @@ impl<T: Drop> Part<T> {
         ensures { IsKept (Asks (F.post f.now)) (groups_of self.old) (groups_of self.new) }
     {
         self.modules.retain(|id, items| sift(f, *id, items));
+    }
+
+    /// How many items there are besides so many, if a number holds it.
+    pub(crate) fn count(&self, besides: usize) -> Option<usize>
+        ensures { SomeIff result (besides + length (owned (groups_of self.now)) < 2 ^ 64) (besides + length (owned (groups_of self.now))) }
+    {
+        let mut count = besides;
+        for (_, items) in &self.modules {
+            match count.checked_add(items.len()) {
+                Some(sum) => count = sum,
+                None => return None,
+            }
+        }
+        Some(count)
+    }
+
+    /// Puts these items of one module where none are, and there is room for one module. It takes no memory.
+    pub(crate) fn fill(&mut self, id: ModuleId, items: Vec<T>)
+        requires empty { groups_of self.old ≡ [] }
+        requires room { 0 < spare self.old.modules }
+        ensures { groups_of self.new ≡ put_any [] id items.items }
+    {
+        if !items.is_empty() {
+            let _room = self.modules.insert(id, items);
+        }
+    }
+
+    /// Puts the items behind these, module by module, where there is room. It takes no memory.
+    pub(crate) fn pour(self, all: &mut Vec<T>)
+        requires { vec_len all.old + length (owned (groups_of self)) ≤ vec_capacity all.old }
+        ensures items { all.new.items ≡ all.old.items ++ map (λ o. o.1) (owned (groups_of self)) }
+        ensures room { vec_capacity all.old ≤ vec_capacity all.new }
+    {
+        for (_, items) in self.modules {
+            let mut items = items;
+            let _room = all.append(&mut items);
+        }
     }
 
     /// Puts the items behind these, module by module.

@@ -1,15 +1,18 @@
 //! What a linker holds while it makes one module of several.
 
-ghost use Rattle.std.specs.Prelude.{◌≡◌, map, IfOk, OnOk, OnErr};
+ghost use Rattle.std.specs.Prelude.{◌≡◌, ◌≢◌, ◌↔◌, ◌+◌, ◌^◌, ◌<◌, ◌≤◌, ◌++◌, IsTrue, length, vec_len, vec_capacity, IfOk, OnOk, OnErr, SomeIff, []};
+ghost use Rattle.indexmap.specs.IndexMap.{spare};
 ghost use Rattle.bundle_parts.specs.Groups.{put_all};
 ghost use Rattle.bundle_parts.specs.Held.{Answers, Asks, Replies, groups_of};
-ghost use Rattle.bundle_parts.specs.Parts.{MapsItems, MapsLists, Retains, held_by, in_order, joined, nothing, put_in_turn, put_last};
+ghost use Rattle.bundle_parts.specs.Parts.{IsArrangedAs, MapsItems, MapsLists, Retains, held_by, in_order, items_of, joined, nothing, put_in_turn, put_last};
 
 use crate::iter::Iter;
 use crate::part::Part;
+use bundle_arrange::Shuffle;
 use bundle_id::ModuleId;
 use std::alloc::{AllocError, Global};
 use std::marker::Model;
+use std::mem;
 
 /// Items of modules, in three parts: those in front, the bodies, and those behind. Each part holds its items by
 /// modules, as these first came into it.
@@ -158,9 +161,86 @@ impl<T: Drop> Parts<T> {
         self.appended.retain(f);
     }
 
+    /// Puts all items into this order of their places in turn, as the body of one module. An order that has not as
+    /// many places as there are items changes nothing. Refused only where memory runs out, and then nothing changes.
+    pub fn arrange(&mut self, id: ModuleId, order: &[usize]) -> Result<(), AllocError>
+        ensures arranged { OnOk result (length order.now ≡ length (items_of self.old) → IsArrangedAs id order.now self.old self.new) }
+        ensures other { OnOk result (length order.now ≢ length (items_of self.old) → self.new ≡ self.old) }
+        ensures refused { OnErr result (self.new ≡ self.old) }
+    {
+        if self.is_count(order.len()) {
+            return self.put_in_order(id, order);
+        }
+        Ok(())
+    }
+
+    // Whether there are so many items.
+    fn is_count(&self, count: usize) -> bool
+        ensures { IsTrue result ↔ (count ≡ length (items_of self.now)) }
+    {
+        match self.count() {
+            Some(items) => items == count,
+            None => false,
+        }
+    }
+
+    // How many items there are, if a number holds it.
+    fn count(&self) -> Option<usize>
+        ensures { SomeIff result (length (items_of self.now) < 2 ^ 64) (length (items_of self.now)) }
+    {
+        let prepended = self.prepended.count(0)?;
+        let count = self.bodies.count(prepended)?;
+        self.appended.count(count)
+    }
+
+    // Puts all items into an order of as many places.
+    fn put_in_order(&mut self, id: ModuleId, order: &[usize]) -> Result<(), AllocError>
+        requires { length order.now ≡ length (items_of self.old) }
+        ensures arranged { OnOk result (IsArrangedAs id order.now self.old self.new) }
+        ensures refused { OnErr result (self.new ≡ self.old) }
+    {
+        let alloc = *self.bodies.modules.allocator();
+        let shuffle = Shuffle::new(alloc, order.len())?;
+        let mut items = Vec::with_capacity(alloc, order.len())?;
+        let body = Part::with_room(alloc)?;
+        self.pour(&mut items);
+        shuffle.arrange(&mut items, order);
+        self.fill(body, id, items);
+        Ok(())
+    }
+
+    // Moves all items behind these, where there is room.
+    fn pour(&mut self, all: &mut Vec<T>)
+        requires { vec_len all.old + length (items_of self.old) ≤ vec_capacity all.old }
+        ensures items { all.new.items ≡ all.old.items ++ items_of self.old }
+        ensures none { self.new ≡ nothing }
+    {
+        let empty = Parts::empty(*self.bodies.modules.allocator());
+        let Parts {
+            prepended,
+            bodies,
+            appended,
+        } = mem::replace(self, empty);
+        prepended.pour(all);
+        bodies.pour(all);
+        appended.pour(all);
+    }
+
+    // Puts these items of one module, where none are, into a part without items that has room for one module.
+    fn fill(&mut self, body: Part<T>, id: ModuleId, items: Vec<T>)
+        requires none { self.old ≡ nothing }
+        requires empty { groups_of body ≡ [] }
+        requires room { 0 < spare body.modules }
+        ensures { self.new ≡ held_by id items.items }
+    {
+        let mut bodies = body;
+        bodies.fill(id, items);
+        self.bodies = bodies;
+    }
+
     /// The items in turn, without their modules.
     pub fn into_items(self) -> Result<Vec<T>, AllocError>
-        ensures { IfOk result (λ items. items.items ≡ map (λ o. o.1) (in_order self)) }
+        ensures { IfOk result (λ items. items.items ≡ items_of self) }
     {
         let mut items = Vec::new(*self.bodies.modules.allocator());
         let Parts {

@@ -1,0 +1,4 @@
+pub mod Merged
+pub mod Places
+pub mod Plan
+pub mod Rows

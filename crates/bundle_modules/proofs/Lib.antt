@@ -1,0 +1,3 @@
+mod PlacedLemmas
+mod SortLemmas
+mod TreeLemmas

@@ -1,0 +1,8 @@
+//! The modules of a bundle while they become one: their items by module.
+#![tactic(auto)]
+
+pub mod modules;
+mod sort;
+
+pub use bundle_parts::Iter;
+pub use modules::Modules;
