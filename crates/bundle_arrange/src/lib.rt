@@ -78,3 +78,18 @@ fn exchange<T>(values: &mut Vec<T>, a: usize, b: usize)
         values.swap(a, b);
     }
 }
+
+#[cfg(test)]
+mod tests {
+    use super::*;
+    use std::test::Fail;
+
+    #[test]
+    fn values_are_put_in_order(rt: HostRuntime) -> Result<(), Fail> {
+        let alloc = rt.alloc();
+        let mut values = vec![in alloc; 'a', 'b', 'c', 'd']?;
+        arrange(alloc, &mut values, &[2, 0, 3, 1])?;
+        assert_eq!(rt; values.as_slice(), ['c', 'a', 'd', 'b'].as_slice());
+        Ok(())
+    }
+}

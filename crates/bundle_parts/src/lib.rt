@@ -7,3 +7,6 @@ pub mod parts;
 
 pub use iter::Iter;
 pub use parts::Parts;
+
+#[cfg(test)]
+mod tests;
