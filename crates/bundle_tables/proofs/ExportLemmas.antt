@@ -8,15 +8,15 @@ use Rattle.bundle_piece.specs.Item.{Item, Head}
 use Rattle.bundle_terms.specs.Nodes.{Text, begins_with, child, in_field, parts, string_of, each_once}
 use Rattle.bundle_terms.specs.Entries as e
 use Rattle.bundle_terms.specs.Entries.{Named, Whole}
+use Rattle.bundle_terms.specs.Faults.{is_named_specifier}
 use Rattle.bundle_terms.specs.Statements.{placed}
 use Rattle.bundle_tables.specs.Exported.{bound_at, depth_in, export_by, locals_named, named_by, named_by_head, named_declared, named_here, named_in_list}
-use Rattle.bundle_tables.specs.Heads.{is_named_specifier, is_namespace_specifier, is_variables}
+use Rattle.bundle_tables.specs.Heads.{is_namespace_specifier, is_variables}
 use Rattle.bundle_tables.specs.Lengths.{head_at}
 use Rattle.bundle_terms.specs.Tables.{is_star, star_of}
 use Rattle.std.specs.Borrow.{Bor}
 use Rattle.indexmap.specs.IndexSet.{IndexSet}
 use Rattle.bundle_tables.specs.Sources.{has_external, star_by, star_in, told_external, HasTexts}
-use Rattle.bundle_tables.specs.TablesOf.{named_entry}
 
 same_head : (a b : Head) → Some a ≡ Some b → a ≡ b
 same_head a b e = cc
@@ -127,6 +127,12 @@ here_specifier imports (h.Hole field ∷ rest) = refl
 here_specifier imports (h.Close ∷ rest) = refl
 
 -- The entries that have a name, of those of the definition.
+
+-- an entry that has a name, by itself; a star has none
+abbrev named_entry : e.ExportEntry → List e.ExportEntry
+named_entry (e.Local name of) = e.Local name of ∷ []
+named_entry (e.Indirect name specifier taken) = e.Indirect name specifier taken ∷ []
+named_entry (e.Star specifier) = []
 
 named_append : (a b : List e.ExportEntry) → flat_map named_entry (a ++ b) ≡ flat_map named_entry a ++ flat_map named_entry b
 named_append [] b = refl

@@ -7,7 +7,7 @@ use Rattle.bundle_piece.specs.Item.{Item, Head}
 use Rattle.bundle_terms.specs.Nodes.{Text, begins_with, child, in_field, string_of}
 use Rattle.bundle_terms.specs.Entries as e
 use Rattle.bundle_terms.specs.Statements.{default_name}
-use Rattle.bundle_tables.specs.Heads.{is_named_specifier}
+use Rattle.bundle_terms.specs.Faults.{is_named_specifier}
 use Rattle.bundle_tables.specs.TablesOf.{import_entry_of}
 use Rattle.bundle_tables.specs.declared.table.Import.{Import}
 use Rattle.indexmap.specs.IndexMap.{IndexMap, get_by}

@@ -22,8 +22,3 @@ is_variables _ = false
 abbrev pub is_namespace_specifier : Head → Bool
 is_namespace_specifier h.ExportNamespaceSpecifier = true
 is_namespace_specifier _ = false
-
--- whether such a node is `x as y` of an export list
-abbrev pub is_named_specifier : Head → Bool
-is_named_specifier h.ExportNamedSpecifier = true
-is_named_specifier _ = false

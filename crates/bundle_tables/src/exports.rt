@@ -7,7 +7,8 @@ ghost use Rattle.bundle_terms.specs.Nodes.{begins_with, child as child_lem, in_f
 ghost use Rattle.bundle_terms.specs.Entries as e;
 ghost use Rattle.bundle_terms.specs.Entries.{default_declared as default_declared_lem, given_on, names_bound, entry_from as entry_from_lem};
 ghost use Rattle.bundle_tables.specs.Exported.{bound_at as bound_at_lem, depth_in, export_by, import_by, locals_named, named_by, named_by_head, named_declared, named_here, named_in_list, text_list};
-ghost use Rattle.bundle_tables.specs.Heads.{is_named_specifier, is_namespace_specifier, is_variables};
+ghost use Rattle.bundle_terms.specs.Faults.{is_named_specifier};
+ghost use Rattle.bundle_tables.specs.Heads.{is_namespace_specifier, is_variables};
 ghost use Rattle.bundle_tables.specs.Parted.{part_items};
 ghost use Rattle.bundle_tables.specs.TablesOf.{entry_by_origin, export_entry_of};
 

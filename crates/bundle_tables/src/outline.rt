@@ -54,39 +54,6 @@ impl<'p, 'a> Outline<'p, 'a> {
         }
     }
 
-    /// The places at which the nodes begin that lie directly in a node.
-    pub fn parts(&self, alloc: Global, place: usize) -> Result<Vec<usize>, AllocError> {
-        let mut parts = Vec::new(alloc);
-        if self.node_at(place).is_none() {
-            return Ok(parts);
-        }
-        let mut at = place.saturating_add(1);
-        for _ in 0..self.pieces.len() {
-            if self.field_at(at).is_none() {
-                break;
-            }
-            parts.push(at)?;
-            at = self.end_of(at);
-        }
-        Ok(parts)
-    }
-
-    /// The places at which the nodes begin that lie directly in a node, in this field.
-    pub fn parts_in(
-        &self,
-        alloc: Global,
-        place: usize,
-        field: u8,
-    ) -> Result<Vec<usize>, AllocError> {
-        let mut parts = Vec::new(alloc);
-        for part in &self.parts(alloc, place)? {
-            if self.field_at(*part) == Some(field) {
-                parts.push(*part)?;
-            }
-        }
-        Ok(parts)
-    }
-
     /// The place of the first node that lies directly in a node, in this field.
     pub fn child(&self, place: usize, field: u8) -> Option<usize> {
         let _node = self.node_at(place)?;
@@ -111,22 +78,6 @@ impl<'p, 'a> Outline<'p, 'a> {
         }
     }
 
-    /// The text of the name at a place: an identifier, a word or a string.
-    pub fn name_at(&self, place: usize) -> Option<&'a str> {
-        match self.pieces.get(place)? {
-            Piece::Open {
-                node: Node::Str { value, .. },
-                ..
-            } => Some(*value),
-            Piece::Open {
-                node: Node::IdentName { sym },
-                ..
-            } => Some(*sym),
-            Piece::Ident { sym, .. } => Some(*sym),
-            _ => None,
-        }
-    }
-
     /// The text of the string at a place.
     pub fn string_at(&self, place: usize) -> Option<&'a str> {
         match self.pieces.get(place)? {
@@ -136,24 +87,6 @@ impl<'p, 'a> Outline<'p, 'a> {
             } => Some(*value),
             _ => None,
         }
-    }
-
-    /// The text of the name in a field of a node; the empty text where there is none.
-    pub fn text_in(&self, place: usize, field: u8) -> &'a str {
-        match self.child(place, field) {
-            Some(child) => self.name_at(child).unwrap_or(""),
-            None => "",
-        }
-    }
-
-    /// The text in the second field of a node or, where it is left out, in the first.
-    pub fn renamed_text(&self, place: usize) -> &'a str {
-        if let Some(child) = self.child(place, 1) {
-            if let Some(text) = self.name_at(child) {
-                return text;
-            }
-        }
-        self.text_in(place, 0)
     }
 }
 
