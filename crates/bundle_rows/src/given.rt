@@ -3,7 +3,7 @@
 //! name of which module it leads; `default` is the name that no star gives. For each name of a module in `asks` the
 //! answer is written.
 
-use crate::trees::{list, number_at};
+use crate::trees::{list, number_at, number_under, numbers_in};
 use anyhow::{Context, Result, bail};
 use bundle_given::{Links, Own, Search};
 use serde_json::Value;
@@ -30,15 +30,14 @@ fn answers_text(alloc: Global, search: &mut Search, asks: &[Value]) -> Result<St
 }
 
 fn links_of(alloc: Global, row: &Value) -> Result<Links> {
-    let default = row.get("default").and_then(Value::as_u64).unwrap_or(0);
-    let default = usize::try_from(default)?;
-    let mut links = Links::new(alloc, default);
+    let mut links = Links::new(alloc, number_under(row, "default")?);
     add_links(alloc, &mut links, row)?;
     Ok(links)
 }
 
 fn add_links(alloc: Global, links: &mut Links, row: &Value) -> Result<()> {
     for stars in list(row, "stars") {
+        let stars = stars.as_array().context("no list")?;
         links.add_module(numbers_in(alloc, stars)?)?;
     }
     for entry in list(row, "own") {
@@ -46,14 +45,6 @@ fn add_links(alloc: Global, links: &mut Links, row: &Value) -> Result<()> {
         links.add_own(at, own_in(entry)?)?;
     }
     Ok(())
-}
-
-fn numbers_in(alloc: Global, value: &Value) -> Result<Vec<usize>> {
-    let mut numbers = Vec::new(alloc);
-    for number in value.as_array().context("no list")? {
-        numbers.push(usize::try_from(number.as_u64().context("no number")?)?)?;
-    }
-    Ok(numbers)
 }
 
 // What an entry says.

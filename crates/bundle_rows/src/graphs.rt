@@ -1,35 +1,36 @@
 //! Rows of graphs: which node reaches which, and in what order modules are listed.
 //!
-//! - `paths`: what reaches what among statements, by `edges`. `modules`: the same among modules, as lists.
+//! - `paths`: what reaches what among statements, by `edges`, of which one with three numbers is weak, and `nodes`.
+//! - `modules`: what is reached among modules from `entry` on, by `edges`, in lists, and what those in `asks` request.
+//!   One number is a module that requests nothing.
 
-use crate::trees::{list, number_at};
+use crate::trees::{list, number_at, number_under};
 use anyhow::{Context, Result};
 use bundle_id::ModuleId;
 use bundle_name::{FileName, ModuleIdGenerator};
 use bundle_order::graph::{ModuleGraph, closure, cycles, order};
-use bundle_order::sort::{Required, StmtDepGraph};
+use bundle_order::sort::{EdgeDirection, Required, StmtDepGraph};
 use serde_json::Value;
 use std::alloc::{AllocError, Global};
 
-/// What reaches what in the graph of `edges` and `nodes`: its number of nodes, the answer to each of `asks`, and
-/// for each number below `upto` the runs of those below `upto` that it reaches.
+/// What reaches what in a graph of statements: its number of nodes, the answer to each of `asks`, what those in `of`
+/// depend on and how, and what depends on them, and for each number below `upto` the runs of those below `upto` that
+/// it reaches.
 pub(crate) fn paths_text(alloc: Global, row: &Value) -> Result<String> {
-    let count = upto(row)?;
     let graph = graph_of(alloc, row)?;
-    answers_text(alloc, &graph, list(row, "asks"), count)
+    answers_text(alloc, &graph, row)
 }
 
-fn answers_text(
-    alloc: Global,
-    graph: &StmtDepGraph,
-    asks: &[Value],
-    count: usize,
-) -> Result<String> {
+fn answers_text(alloc: Global, graph: &StmtDepGraph, row: &Value) -> Result<String> {
     let nodes = graph.node_count();
     let mut text = format!(in alloc; "{nodes} nodes")?;
-    for pair in asks {
+    for pair in list(row, "asks") {
         add_answer(&mut text, graph, pair)?;
     }
+    for pair in list(row, "of") {
+        add_neighbors(&mut text, graph, number_at(pair, 0)?)?;
+    }
+    let count = number_under(row, "upto")?;
     for from in 0..count {
         write!(text, "\n{from}:")?;
         add_runs(&mut text, graph, from, count)?;
@@ -45,28 +46,43 @@ fn add_answer(text: &mut String, graph: &StmtDepGraph, pair: &Value) -> Result<(
     Ok(())
 }
 
-// The graph of a row. Edges are required always.
+fn add_neighbors(text: &mut String, graph: &StmtDepGraph, node: usize) -> Result<(), AllocError> {
+    write!(text, ", {node} needs")?;
+    for to in graph.neighbors_directed(node, EdgeDirection::Outgoing)? {
+        let required = graph.edge_weight(node, to);
+        write!(text, " {to} {required:?}")?;
+    }
+    text.push_str(" and is needed by")?;
+    for from in graph.neighbors_directed(node, EdgeDirection::Incoming)? {
+        write!(text, " {from}")?;
+    }
+    Ok(())
+}
+
 fn graph_of(alloc: Global, row: &Value) -> Result<StmtDepGraph> {
     let mut graph = StmtDepGraph::new(alloc);
-    add_all(&mut graph, list(row, "edges"), list(row, "nodes"))?;
+    add_all(&mut graph, list(row, "edges"))?;
+    add_nodes(&mut graph, list(row, "nodes"))?;
     Ok(graph)
 }
 
-fn add_all(graph: &mut StmtDepGraph, edges: &[Value], nodes: &[Value]) -> Result<()> {
+fn add_all(graph: &mut StmtDepGraph, edges: &[Value]) -> Result<()> {
     for pair in edges {
-        graph.add_edge(number_at(pair, 0)?, number_at(pair, 1)?, Required::Always)?;
+        let required = match pair.get(2) {
+            Some(_) => Required::Maybe,
+            None => Required::Always,
+        };
+        graph.add_edge(number_at(pair, 0)?, number_at(pair, 1)?, required)?;
     }
+    Ok(())
+}
+
+fn add_nodes(graph: &mut StmtDepGraph, nodes: &[Value]) -> Result<()> {
     for node in nodes {
         let number = node.as_u64().context("no number")?;
         graph.add_node(usize::try_from(number)?)?;
     }
     Ok(())
-}
-
-// The number under the key `upto`, 0 where there is none.
-fn upto(row: &Value) -> Result<usize> {
-    let number = row.get("upto").and_then(Value::as_u64).unwrap_or(0);
-    Ok(usize::try_from(number)?)
 }
 
 // Adds the runs of the numbers below `count` that a node reaches.
@@ -88,25 +104,44 @@ fn add_runs(text: &mut String, graph: &StmtDepGraph, from: usize, count: usize) 
     Ok(())
 }
 
-/// What is reached in the graph of `edges` from 0 on, the order in which it is listed, and the cycles.
+/// What is reached among modules, the order in which it is listed, the cycles, and requests.
 pub(crate) fn modules_text(alloc: Global, row: &Value) -> Result<String> {
-    let ids = ids_in(alloc, upto(row)?)?;
-    let entry = *ids.first().context("no module")?;
+    let ids = ids_in(alloc, number_under(row, "upto")?)?;
     let graph = module_graph_of(alloc, list(row, "edges"), ids.as_slice())?;
-    listed_text(alloc, &graph, entry)
+    let entry = id_in(ids.as_slice(), number_under(row, "entry")?)?;
+    let mut text = listed_text(alloc, &graph, entry)?;
+    for ask in list(row, "asks") {
+        let id = id_in(ids.as_slice(), number_at(ask, 0)?)?;
+        write!(text, ", {id} requests")?;
+        add_ids(&mut text, "", graph.deps_of(id))?;
+    }
+    Ok(text)
 }
 
-fn module_graph_of(alloc: Global, edges: &[Value], ids: &[ModuleId]) -> Result<ModuleGraph> {
+// The id of a number.
+fn id_in(ids: &[ModuleId], number: usize) -> Result<ModuleId> {
+    Ok(*ids.get(number).context("no such module")?)
+}
+
+/// The graph of the requests between the modules with these ids.
+pub(crate) fn module_graph_of(
+    alloc: Global,
+    edges: &[Value],
+    ids: &[ModuleId],
+) -> Result<ModuleGraph> {
     let mut graph = ModuleGraph::new(alloc);
     add_edges(&mut graph, edges, ids)?;
     Ok(graph)
 }
 
+// Adds an edge for each pair, and a node for each array of one number.
 fn add_edges(graph: &mut ModuleGraph, edges: &[Value], ids: &[ModuleId]) -> Result<()> {
     for pair in edges {
-        let from = ids.get(number_at(pair, 0)?).context("no such module")?;
-        let to = ids.get(number_at(pair, 1)?).context("no such module")?;
-        graph.add_edge(*from, *to)?;
+        let from = id_in(ids, number_at(pair, 0)?)?;
+        match pair.get(1) {
+            Some(_) => graph.add_edge(from, id_in(ids, number_at(pair, 1)?)?)?,
+            None => graph.add_node(from)?,
+        }
     }
     Ok(())
 }
@@ -121,8 +156,8 @@ fn listed_text(alloc: Global, graph: &ModuleGraph, entry: ModuleId) -> Result<St
     Ok(text)
 }
 
-// The ids of so many files, in order.
-fn ids_in(alloc: Global, count: usize) -> Result<Vec<ModuleId>> {
+/// The ids of so many files, in order.
+pub(crate) fn ids_in(alloc: Global, count: usize) -> Result<Vec<ModuleId>> {
     let mut generator = ModuleIdGenerator::new(alloc);
     let mut ids = Vec::new(alloc);
     for number in 0..count {

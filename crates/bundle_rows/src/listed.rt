@@ -2,63 +2,31 @@
 //! line for each mark and one for each occurrence, and whether the tree made anew is the same: without changes, and
 //! with each identifier in its own place.
 
-ghost use Rattle.std.specs.Prelude.{◌≡◌, Some, IfOk, codes, option_copied};
-ghost use Rattle.serde_json.specs.Find.{get};
-ghost use Rattle.serde_json.specs.View.{view};
-ghost use Rattle.bundle_form.specs.Form.{text_at};
-
 use crate::listing::{add_marks, add_occurrences};
-use crate::trees::module_in;
-use anyhow::{Context, Result};
-use bundle_ast::{ExportMetadata, Module, ModuleItem};
+use crate::trees::{module_of, text};
+use anyhow::Result;
+use bundle_ast::{Module, ModuleItem};
 use bundle_equal::is_same;
 use bundle_marks::{occurrences, with_idents};
 use bundle_rewrite::rebuild_items;
 use serde_json::Value;
 use std::alloc::{AllocError, Global};
 
-// A tree in its JSON form, with its name and its JavaScript.
-#[derive(Clone, Copy)]
-struct Row<'a> {
-    name: &'a str,
-    source: &'a str,
-    tree: &'a Value,
-}
-
-impl<'a> Row<'a> {
-    // The row that a value stands for. Refused where its name, its source or its module is missing.
-    fn read(value: &'a Value) -> Result<Row<'a>>
-        ensures name { IfOk result (λ row. text_at (codes "name") (view value.now) ≡ Some row.name.now) }
-        ensures source { IfOk result (λ row. text_at (codes "source") (view value.now) ≡ Some row.source.now) }
-        ensures tree { IfOk result (λ row. get (codes "module") (view value.now) ≡ Some (view row.tree.now)) }
-    {
-        let name = text(value, "name").context("a row has no name")?;
-        let source = text(value, "source").context(format_args!("row {name:?} has no source"))?;
-        let tree = value
-            .get("module")
-            .context(format_args!("row {name:?} has no module"))?;
-        Ok(Row { name, source, tree })
-    }
-}
-
-// The text under a key.
-fn text<'a>(value: &'a Value, key: &str) -> Option<&'a str>
-    ensures { option_copied result ≡ text_at key.now (view value.now) }
-{
-    value.get(key).and_then(Value::as_str)
-}
-
 /// What is written for a row. Refused where its tree is none, and for memory.
 pub(crate) fn row_text(alloc: Global, row: &Value) -> Result<String> {
-    let Row { name, source, tree } = Row::read(row)?;
-    let module = module_in(alloc, tree, &ExportMetadata::default())?;
-    let items = module.body.as_slice();
-    let mut text = format!(in alloc; "row: {name}\nsource: {source}\nmarks:\n")?;
-    add_marks(alloc, &mut text, items)?;
+    let name = text(row, "name")?;
+    let source = text(row, "source")?;
+    let mut written = format!(in alloc; "row: {name}\nsource: {source}\nmarks:\n")?;
+    let module = module_of(alloc, row)?;
+    add_all(alloc, &mut written, module.body.as_slice())?;
+    Ok(written)
+}
+
+fn add_all(alloc: Global, text: &mut String, items: &[ModuleItem]) -> Result<(), AllocError> {
+    add_marks(alloc, text, items)?;
     text.push_str("occurrences:\n")?;
-    add_occurrences(alloc, &mut text, items)?;
-    add_rebuilt(alloc, &mut text, items)?;
-    Ok(text)
+    add_occurrences(alloc, text, items)?;
+    add_rebuilt(alloc, text, items)
 }
 
 // Adds whether the items made anew are the same.

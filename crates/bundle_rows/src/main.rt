@@ -20,13 +20,16 @@ mod documents;
 mod forms;
 mod given;
 mod graphs;
+mod held;
 mod linking;
 mod listed;
 mod listing;
+mod orders;
 mod parties;
 mod scopes;
 mod sorting;
 mod tables;
+mod texts;
 mod trees;
 
 use anyhow::{Context, Result, bail};
@@ -100,6 +103,9 @@ fn of_names(alloc: Global, kind: &str, row: &Value) -> Result<String> {
         "dependencies" => sorting::dependencies_text(alloc, row),
         "paths" => graphs::paths_text(alloc, row),
         "modules" => graphs::modules_text(alloc, row),
+        "order" => orders::order_text(alloc, row),
+        "blocks" => orders::blocks_text(alloc, row),
+        "held" => held::held_text(alloc, row),
         other => of_programs(alloc, other, row),
     }
 }
@@ -110,6 +116,7 @@ fn of_programs(alloc: Global, kind: &str, row: &Value) -> Result<String> {
         "bundler" => bundling::bundler_text(alloc, row),
         "narrow" => documents::narrow_text(alloc, row),
         "meta" => documents::meta_text(alloc, row),
+        "texts" => texts::texts(alloc),
         "given" => given::given_text(alloc, row),
         "requests" => tables::requests_text(alloc, row),
         "imports" => tables::imports_text(alloc, row),

@@ -157,6 +157,21 @@ pub(crate) fn number_at(pair: &Value, place: usize) -> Result<usize> {
     Ok(usize::try_from(number)?)
 }
 
+/// The number under a key, 0 where there is none.
+pub(crate) fn number_under(row: &Value, key: &str) -> Result<usize> {
+    let number = row.get(key).and_then(Value::as_u64).unwrap_or(0);
+    Ok(usize::try_from(number)?)
+}
+
+/// The numbers in an array.
+pub(crate) fn numbers_in(alloc: Global, values: &[Value]) -> Result<Vec<usize>> {
+    let mut numbers = Vec::new(alloc);
+    for number in values {
+        numbers.push(usize::try_from(number.as_u64().context("no number")?)?)?;
+    }
+    Ok(numbers)
+}
+
 /// The renaming of these pairs, each an array of two symbols with their contexts.
 pub(crate) fn renaming_of(alloc: Global, pairs: &[Value]) -> Result<Renaming> {
     let mut renaming = Renaming::empty(alloc);
