@@ -1,0 +1,8 @@
+use Rattle.std.proofs.Common.{◌∙◌, sym, ap}
+use Rattle.json.specs.Value.{value_view}
+use Rattle.bundle_form.specs.Plain.{plain}
+use Rattle.bundle_form.proofs.Plain.{is_null-plain}
+use Rattle.bundle_form.proofs.seen.is_null.Goals as goal
+
+pub returns : goal.returns
+returns c = c.is_null.ensures ∙ sym (is_null-plain _)
