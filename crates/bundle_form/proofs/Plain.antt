@@ -1,17 +1,15 @@
 -- A look-up in a value of a text, and in its data.
-use Rattle.std.proofs.Common.{◌≡◌, ℕ, List, [], ◌∷◌, ◌++◌, Bool, true, false, cond, Option, Some, None, option_map, Bor, bytes_eq, refl, sym, ap, ◌∙◌, map, Global, rules, true≢false}
+use Rattle.std.proofs.Common.{◌≡◌, ℕ, List, Bool, true, false, cond, Option, Some, None, option_map, Bor, bytes_eq, refl, sym, ◌∙◌, Global, true≢false}
 use Rattle.std.proofs.lemmas.Slice.Eq.{bytes_eq-Decides}
 use Rattle.json.specs.Json as json
 use Rattle.json.specs.Find as find
-use Rattle.json.specs.Value.{value_view, items_view}
-use Rattle.json.specs.declared.value.Value.{Value, Array, the_lemmas}
-use Rattle.serde_json.specs.Data.{Data, array, Items, no_items, item, Members, no_members, put}
-use Rattle.serde_json.specs.Find.{get, get_member, as_array, as_str, as_bool, as_null}
-use Rattle.serde_json.specs.Read.{of_json, of_items, of_members, number_of}
+use Rattle.json.specs.Value.{value_view}
+use Rattle.json.specs.declared.value.Value.{Value}
+use Rattle.serde_json.specs.Data.{Data, Members, no_members, put}
+use Rattle.serde_json.specs.Find.{get, get_member, as_str, as_bool}
 use Rattle.serde_json.proofs.Views.{get_member-put, get_member-put_other}
 use Rattle.bundle_form.specs.Form.{is_null}
-use Rattle.bundle_form.specs.Plain.{plain, plain_items, plain_members, seen, items_seen}
-use Rattle.bundle_form.proofs.Growth.{items_then}
+use Rattle.bundle_form.specs.Plain.{plain, plain_members, seen}
 
 abbrev later : Option Data → Option Data → Option Data
 later None earlier = earlier

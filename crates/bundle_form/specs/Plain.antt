@@ -1,5 +1,5 @@
 -- The data that a value of a text stands for: what `serde_json` reads, with each number taken as one.
-use Rattle.std.specs.Prelude.{ℕ, List, unwrap_or}
+use Rattle.std.specs.Prelude.{List, unwrap_or}
 use Rattle.std.specs.declared.alloc.Global.{Global}
 use Rattle.json.specs.Json as json
 use Rattle.json.specs.Value.{value_view}

@@ -15,7 +15,7 @@ pub fn get<'v, 'a>(value: &'v Value<'a>, key: &str) -> Option<&'v Value<'a>>
 }
 
 /// The text that the value is.
-pub fn as_str<'v, 'a>(value: &'v Value<'a>) -> Option<&'a str>
+pub(crate) fn as_str<'v, 'a>(value: &'v Value<'a>) -> Option<&'a str>
     ensures { option_map (λ it. it.now) result ≡ as_str_of (seen value.now) }
 {
     value.as_str()
@@ -29,7 +29,7 @@ pub fn as_bool<'v, 'a>(value: &'v Value<'a>) -> Option<bool>
 }
 
 /// Whether the value is `null`.
-pub fn is_null<'v, 'a>(value: &'v Value<'a>) -> bool
+pub(crate) fn is_null<'v, 'a>(value: &'v Value<'a>) -> bool
     ensures { result ≡ is_null_lem (seen value.now) }
 {
     value.is_null()

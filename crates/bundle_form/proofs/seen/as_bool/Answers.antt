@@ -1,6 +1,4 @@
-use Rattle.std.proofs.Common.{◌∙◌, sym, ap}
-use Rattle.json.specs.Value.{value_view}
-use Rattle.bundle_form.specs.Plain.{plain}
+use Rattle.std.proofs.Common.{◌∙◌, sym}
 use Rattle.bundle_form.proofs.Plain.{as_bool-plain}
 use Rattle.bundle_form.proofs.seen.as_bool.Goals as goal
 
