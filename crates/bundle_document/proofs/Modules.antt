@@ -10,10 +10,10 @@ use Rattle.bundle_piece.specs.Item as h
 use Rattle.bundle_piece.specs.Item.{Item}
 use Rattle.bundle_pieces.specs.Tree.{module_item_items, module_items}
 use Rattle.bundle_form.specs.declared.layout.Shape.TheVariants as s
-use Rattle.bundle_form.specs.Form.{node, in_field, no_fields, Trees, no_trees, ReadsEach, text_at, top, trees_items, values, AreForms, IsForm}
+use Rattle.bundle_form.specs.Form.{node, in_field, no_fields, Trees, no_trees, ReadsEach, top, trees_items, values, AreForms, IsForm}
 use Rattle.bundle_form.proofs.Growth.{append_nil, items_then, one_more}
 use Rattle.bundle_document.specs.Document.{no_notes, IsModule}
-use Rattle.bundle_document.specs.Stream.{AreItems, AreModuleParts, IsBody}
+use Rattle.bundle_document.specs.Stream.{AreModuleParts, IsBody}
 use Rattle.bundle_document.specs.declared.stream.ModuleParts.{ModuleParts}
 
 pub no_forms : AreForms no_notes top no_items []

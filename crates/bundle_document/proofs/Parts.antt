@@ -6,7 +6,7 @@ use Rattle.std.specs.declared.alloc.Global.{Global}
 use Rattle.std.specs.declared.string.String.{String}
 use Rattle.std.specs.declared.vec.Vec.{Vec}
 use Rattle.serde_json.specs.Data.{Data, Members, no_members, put}
-use Rattle.serde_json.specs.Find.{as_str, get_member}
+use Rattle.serde_json.specs.Find.{as_str}
 use Rattle.serde_json.proofs.Views.{get_member-put, get_member-put_other}
 use Rattle.bundle_ast.specs.declared.expr.Expr.{Expr}
 use Rattle.bundle_ast.specs.declared.prop.KeyValueProp.{KeyValueProp}

@@ -1,9 +1,8 @@
-use Rattle.std.proofs.Common.{◌≡◌, ◌∷◌, ◌++◌, [], map, ap, sym, subst, ◌∙◌, flat_map}
-use Rattle.bundle_piece.specs.Item as h
+use Rattle.std.proofs.Common.{◌≡◌, map, ap, sym, subst, ◌∙◌, flat_map}
 use Rattle.bundle_piece.specs.Item.{item_of}
 use Rattle.bundle_form.specs.Form.{top, IsForm}
 use Rattle.bundle_form.specs.Plain.{seen}
-use Rattle.bundle_pieces.specs.Tree.{module_item_items, module_items}
+use Rattle.bundle_pieces.specs.Tree.{module_item_items}
 use Rattle.bundle_document.specs.Document.{no_notes}
 use Rattle.bundle_document.proofs.Modules.{inside}
 use Rattle.bundle_document.proofs.stream.item.Goals as goal

@@ -1,4 +1,4 @@
-use Rattle.std.proofs.Common.{◌≡◌, ap, ◌∙◌, option_map}
+use Rattle.std.proofs.Common.{ap, ◌∙◌, option_map}
 use Rattle.json.specs.Value.{value_view}
 use Rattle.serde_json.specs.Read.{converted, of_json}
 use Rattle.bundle_document.proofs.Whole.{whole_fine}

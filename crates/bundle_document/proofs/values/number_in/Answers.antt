@@ -1,4 +1,4 @@
-use Rattle.std.proofs.Common.{◌≡◌, get_or, true, false, ◌==◌, Some, IfSome, sym, ap, subst, ◌∙◌}
+use Rattle.std.proofs.Common.{◌≡◌, get_or, false, ◌==◌, Some, IfSome, sym, ap, subst, ◌∙◌}
 use Rattle.fast_float.specs.Text.{scan}
 use Rattle.serde_json.specs.Data.{unsigned}
 use Rattle.serde_json.specs.Read.{number_of, number_from}

@@ -1,4 +1,4 @@
-use Rattle.std.proofs.Common.{sym, subst, codes, OnOk}
+use Rattle.std.proofs.Common.{sym, subst, OnOk}
 use Rattle.bundle_form.specs.Plain.{seen}
 use Rattle.bundle_document.specs.Stream.{KeepsMember}
 use Rattle.bundle_document.proofs.Parts.{with_another}
