@@ -11,6 +11,7 @@ use bundle_scope::scope::{
     Contexts, ModuleKind, Renaming, occurrences, rename_all, resolve_scopes,
 };
 use bundle_tree::Id;
+use json::Scratch;
 use serde_json::Value;
 use std::alloc::Global;
 
@@ -35,7 +36,10 @@ pub(crate) fn module_in(alloc: Global, value: &Value, injected: bool) -> Result<
         injected,
         export_ctxt: None,
     };
-    let list = read_module(alloc, value, &notes)?;
+    let text = value.to_string(alloc)?;
+    let mut scratch = Scratch::new(alloc);
+    let value = json::Value::parse(alloc, text.as_str(), &mut scratch)?;
+    let list = read_module(alloc, &value, &notes)?;
     Ok(build_module(alloc, list.as_slice())?)
 }
 

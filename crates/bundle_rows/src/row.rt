@@ -13,6 +13,7 @@ use bundle_form::read_module;
 use bundle_marks::{occurrences, with_idents};
 use bundle_restore::build_module;
 use bundle_rewrite::rebuild_items;
+use json::Scratch;
 use serde_json::Value;
 use std::alloc::{AllocError, Global};
 
@@ -63,7 +64,10 @@ pub(crate) fn row_text(alloc: Global, row: Row) -> Result<String> {
 // The module that a value stands for.
 fn module_in(alloc: Global, value: &Value) -> Result<Module> {
     let notes = ExportMetadata::default();
-    let list = read_module(alloc, value, &notes)?;
+    let text = value.to_string(alloc)?;
+    let mut scratch = Scratch::new(alloc);
+    let value = json::Value::parse(alloc, text.as_str(), &mut scratch)?;
+    let list = read_module(alloc, &value, &notes)?;
     Ok(build_module(alloc, list.as_slice())?)
 }
 

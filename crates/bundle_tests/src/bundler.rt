@@ -12,7 +12,7 @@ use bundle_restore::build_module;
 use bundle_tree::{
     Hook, HookError, Load, LoadError, ModuleData, ModuleRecord, Resolve, ResolveError,
 };
-use serde_json::Value;
+use json::{Scratch, Value};
 use std::alloc::{AllocError, Global};
 use std::cell::{Cell, RefCell};
 use std::test::Fail;
@@ -77,7 +77,8 @@ impl Shelf {
 // The module of a file, as the loader gives it.
 fn loaded(alloc: Global, name: &str) -> Result<ModuleData, LoadError> {
     let text = if name == "a.js" { A } else { MAIN };
-    let Ok(value) = Value::from_slice(alloc, text.as_bytes()) else {
+    let mut scratch = Scratch::new(alloc);
+    let Ok(value) = Value::from_slice(alloc, text.as_bytes(), &mut scratch) else {
         return Err(LoadError::Failed);
     };
     let meta = ExportMetadata::default();

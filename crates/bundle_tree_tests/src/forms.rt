@@ -1,7 +1,7 @@
 use bundle_form::{FormError, read_module, read_properties, tree_value};
 use bundle_leaf::kind::ExportMetadata;
 use bundle_piece::{Node, Piece};
-use serde_json::Value;
+use json::{Scratch, Value};
 use std::alloc::AllocError;
 use std::test::Fail;
 
@@ -9,7 +9,8 @@ use std::test::Fail;
 fn a_module_is_read_with_what_stands_in_it(rt: HostRuntime) -> Result<(), Fail> {
     let text =
         br#"{"type":"Module","ctxt":1,"body":[{"type":"ExprStmt","expr":{"type":"Ident","sym":"a"}}]}"#;
-    let value = Value::from_slice(rt.alloc(), text)?;
+    let mut scratch = Scratch::new(rt.alloc());
+    let value = Value::from_slice(rt.alloc(), text, &mut scratch)?;
     let meta = ExportMetadata::default();
     let list = read_module(rt.alloc(), &value, &meta)?;
     assert_eq!(rt; list.len(), 5);
@@ -19,7 +20,8 @@ fn a_module_is_read_with_what_stands_in_it(rt: HostRuntime) -> Result<(), Fail> 
 #[test]
 fn properties_are_read_from_a_list(rt: HostRuntime) -> Result<(), Fail> {
     let text = br#"[{"type":"Null"},{"type":"Bool"}]"#;
-    let value = Value::from_slice(rt.alloc(), text)?;
+    let mut scratch = Scratch::new(rt.alloc());
+    let value = Value::from_slice(rt.alloc(), text, &mut scratch)?;
     let meta = ExportMetadata::default();
     let list = read_properties(rt.alloc(), &value, &meta)?;
     assert_eq!(rt; list.len(), 4);

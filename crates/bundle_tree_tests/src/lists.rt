@@ -5,7 +5,7 @@ use bundle_form::{FormError, read_module, read_properties, tree_value};
 use bundle_listing::{Piece, Role, pieces, pieces_of_expr, pieces_of_module, pieces_of_properties};
 use bundle_marks::{marks, occurrences};
 use bundle_restore::{BuildError, build_module, build_properties};
-use serde_json::Value;
+use json::{Scratch, Value};
 use std::test::Fail;
 
 /// `export const [a, , ...b] = c ? f(...d) : class { static #e = 1; };`, with keys in ascending order and every
@@ -33,7 +33,8 @@ fn a_module_stands_around_its_items(rt: HostRuntime) -> Result<(), Fail> {
 
 #[test]
 fn a_form_gives_a_list_and_the_list_the_form(rt: HostRuntime) -> Result<(), Fail> {
-    let value = Value::from_slice(rt.alloc(), TEXT.as_bytes())?;
+    let mut scratch = Scratch::new(rt.alloc());
+    let value = Value::from_slice(rt.alloc(), TEXT.as_bytes(), &mut scratch)?;
     let meta = ExportMetadata::default();
     let list = read_module(rt.alloc(), &value, &meta)?;
     let text = tree_value(rt.alloc(), list.as_slice())?.to_string(rt.alloc())?;
@@ -43,7 +44,8 @@ fn a_form_gives_a_list_and_the_list_the_form(rt: HostRuntime) -> Result<(), Fail
 
 #[test]
 fn a_list_gives_a_tree_and_the_tree_the_list(rt: HostRuntime) -> Result<(), Fail> {
-    let value = Value::from_slice(rt.alloc(), TEXT.as_bytes())?;
+    let mut scratch = Scratch::new(rt.alloc());
+    let value = Value::from_slice(rt.alloc(), TEXT.as_bytes(), &mut scratch)?;
     let meta = ExportMetadata::default();
     let list = read_module(rt.alloc(), &value, &meta)?;
     let module = build_module(rt.alloc(), list.as_slice())?;
@@ -54,7 +56,8 @@ fn a_list_gives_a_tree_and_the_tree_the_list(rt: HostRuntime) -> Result<(), Fail
 
 #[test]
 fn a_module_is_its_items(rt: HostRuntime) -> Result<(), Fail> {
-    let value = Value::from_slice(rt.alloc(), TEXT.as_bytes())?;
+    let mut scratch = Scratch::new(rt.alloc());
+    let value = Value::from_slice(rt.alloc(), TEXT.as_bytes(), &mut scratch)?;
     let meta = ExportMetadata::default();
     let list = read_module(rt.alloc(), &value, &meta)?;
     let module = build_module(rt.alloc(), list.as_slice())?;
@@ -66,7 +69,8 @@ fn a_module_is_its_items(rt: HostRuntime) -> Result<(), Fail> {
 
 #[test]
 fn a_tree_has_its_marks(rt: HostRuntime) -> Result<(), Fail> {
-    let value = Value::from_slice(rt.alloc(), TEXT.as_bytes())?;
+    let mut scratch = Scratch::new(rt.alloc());
+    let value = Value::from_slice(rt.alloc(), TEXT.as_bytes(), &mut scratch)?;
     let meta = ExportMetadata::default();
     let list = read_module(rt.alloc(), &value, &meta)?;
     let module = build_module(rt.alloc(), list.as_slice())?;
@@ -98,7 +102,8 @@ fn what_is_no_tree_is_refused(rt: HostRuntime) -> Result<(), Fail> {
 #[test]
 fn what_is_no_form_is_refused(rt: HostRuntime) -> Result<(), Fail> {
     let meta = ExportMetadata::default();
-    let value = Value::from_slice(rt.alloc(), br#"{"type":"Unknown"}"#)?;
+    let mut scratch = Scratch::new(rt.alloc());
+    let value = Value::from_slice(rt.alloc(), br#"{"type":"Unknown"}"#, &mut scratch)?;
     let refused = read_module(rt.alloc(), &value, &meta);
     assert!(rt; matches!(refused, Err(FormError::Form)));
     Ok(())
@@ -108,7 +113,8 @@ fn what_is_no_form_is_refused(rt: HostRuntime) -> Result<(), Fail> {
 fn properties_are_read_one_by_one(rt: HostRuntime) -> Result<(), Fail> {
     let text =
         br#"[{"type":"KeyValueProp","key":{"type":"IdentName","sym":"url"},"value":{"type":"Null"}}]"#;
-    let value = Value::from_slice(rt.alloc(), text)?;
+    let mut scratch = Scratch::new(rt.alloc());
+    let value = Value::from_slice(rt.alloc(), text, &mut scratch)?;
     let meta = ExportMetadata::default();
     let list = read_properties(rt.alloc(), &value, &meta)?;
     let props = build_properties(rt.alloc(), list.as_slice())?;

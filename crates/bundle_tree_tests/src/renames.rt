@@ -10,7 +10,7 @@ use bundle_marks::{rename_ids, with_idents};
 use bundle_restore::build_module;
 use bundle_rewrite::rebuild_items;
 use bundle_tree::Id;
-use serde_json::Value;
+use json::{Scratch, Value};
 use std::alloc::Global;
 use std::collections::BTreeMap;
 use std::test::Fail;
@@ -24,7 +24,8 @@ const SPELLED_OUT: &str =
     r##"{"body":[{"expr":{"args":[{"expr":{"props":[{"key":{"sym":"x","type":"IdentName"},"type":"KeyValueProp","value":{"sym":"y","type":"Ident"}}],"type":"ObjectLit"},"spread":false,"type":"ExprOrSpread"}],"callee":{"sym":"f","type":"Ident"},"type":"CallExpr"},"type":"ExprStmt"}],"type":"Module"}"##;
 
 fn module_of(alloc: Global, text: &str) -> Result<Module, Fail> {
-    let value = Value::from_slice(alloc, text.as_bytes())?;
+    let mut scratch = Scratch::new(alloc);
+    let value = Value::from_slice(alloc, text.as_bytes(), &mut scratch)?;
     let meta = ExportMetadata::default();
     let list = read_module(alloc, &value, &meta)?;
     Ok(build_module(alloc, list.as_slice())?)
