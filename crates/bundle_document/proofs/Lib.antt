@@ -1,5 +1,10 @@
 mod Floats
 mod Fronts
+mod Kept
 mod Lists
 mod Maps
+mod Modules
+mod Parts
 mod Results
+mod Turns
+mod Whole

@@ -1,5 +1,5 @@
 -- What the program answers to a document.
-use Rattle.std.specs.Prelude.{ℕ, Bool, List, [], ◌++◌, codes, decimal}
+use Rattle.std.specs.Prelude.{ℕ, Bool, List, ◌++◌, codes, decimal}
 use Rattle.std.specs.List.{AllZip}
 use Rattle.bundle_name.specs.Error.{number_of, variant_name}
 use Rattle.bundle_name.specs.FileName.{Name}

@@ -4,4 +4,5 @@ pub mod Document
 pub mod Error
 pub mod Parties
 pub mod Seen
+pub mod Stream
 pub mod Writing

@@ -81,5 +81,6 @@ fn answer_text(alloc: Global, document: Document, hook: Box<dyn Hook>) -> Result
     let loader = DocumentLoader::new(files);
     let mut bundler = Bundler::new(alloc, loader, DocumentResolver, config, hook);
     let bundles = bundler.bundle(alloc, entries)?;
+    drop(bundler);
     bundles_text(alloc, bundles.as_slice())
 }

@@ -4,9 +4,11 @@
 mod answering;
 mod document;
 mod error;
+mod forms;
 mod parties;
 mod read;
 mod settings;
+mod stream;
 mod text;
 mod values;
 mod writing;

@@ -1,31 +1,25 @@
 //! Reading a document.
 
-ghost use Rattle.std.specs.Prelude.{◌≡◌, ℕ, List, IfOk, IfErr, OnOk};
+ghost use Rattle.std.specs.Prelude.{◌≡◌, ℕ, List, IsUtf8, IfOk, IfErr, OnOk};
 ghost use Rattle.std.specs.Io.KnownBytes.{Consumes, IsAtEnd};
-ghost use Rattle.serde_json.specs.Data.{object};
-ghost use Rattle.serde_json.specs.View.{view, members_view};
-ghost use Rattle.bundle_document.specs.Document.{AreLists, AreProperties, IsDocumentText, IsEntry, IsList, IsMap, IsModule, IsRefusalLine, IsValueOf};
+ghost use Rattle.bundle_form.specs.Plain.{seen};
+ghost use Rattle.bundle_document.specs.Document.{IsDocumentText, IsRefusalLine, IsValueOf};
 ghost use Rattle.bundle_document.specs.Parties.{lists_of};
-ghost use Rattle.bundle_document.specs.Seen.{seen};
 ghost use Rattle.bundle_document.specs.Writing.{AppendsFront};
 
 use crate::document::Document;
 use crate::error::DocumentError;
+use crate::forms::{Lists, entries, files, lists};
 use crate::parties::MetaHook;
 use crate::settings::settings;
-use crate::values::{has_float, items_in, members_in, text_in};
+use crate::stream::{end, read_parts, read_value};
 use crate::writing::refuse;
-use bundle_ast::{ExportMetadata, KeyValueProp, Module};
-use bundle_form::{read_module, read_properties};
-use bundle_name::file_name::FileName;
-use bundle_restore::{build_module, build_properties};
-use serde_json::{Map, Value};
+use bundle_ast::ExportMetadata;
+use bundle_form::seen::get;
+use json::{Reader, Scratch, Value};
+use simdutf8::compat::from_utf8;
 use std::alloc::Global;
-use std::collections::BTreeMap;
 use std::io::{ErrorKind, Read, Write};
-
-// The properties of `import.meta`, by the names of files.
-type Lists = BTreeMap<String, Vec<KeyValueProp>>;
 
 /// Reads the whole input, and then the document in it, with the properties of `import.meta` that it
 /// lists.
@@ -61,11 +55,54 @@ pub fn read_document<R: Read + Drop, E: Write>(
 fn judged(alloc: Global, text: &[u8]) -> Result<(Document, Lists), DocumentError>
     ensures { IfOk result (λ made. IsDocumentText text.now made.0 made.1.entries) }
 {
-    let value = value_of(alloc, text)?;
-    let config = settings(alloc, value.get("config"))?;
-    let entries = entries(alloc, value.get("entries").ok_or(DocumentError::Form)?)?;
-    let files = files(alloc, value.get("files").ok_or(DocumentError::Form)?)?;
-    let lists = lists(alloc, value.get("meta"))?;
+    match from_utf8(text) {
+        Ok(text) => document_in(alloc, text),
+        Err(_) => Err(DocumentError::Form),
+    }
+}
+
+// The document in a text. What is refused as it is read is judged once more as one value: of equal keys the
+// last holds, and one before it may be of any form.
+fn document_in(alloc: Global, text: &str) -> Result<(Document, Lists), DocumentError>
+    requires { IsUtf8 text.now }
+    ensures { IfOk result (λ made. IsDocumentText text.now made.0 made.1.entries) }
+{
+    match streamed(alloc, text) {
+        Ok(made) => Ok(made),
+        Err(DocumentError::OutOfMemory) => Err(DocumentError::OutOfMemory),
+        Err(DocumentError::Form) => whole(alloc, text),
+    }
+}
+
+// The document in a text, one item of a module at a time.
+fn streamed(alloc: Global, text: &str) -> Result<(Document, Lists), DocumentError>
+    requires { IsUtf8 text.now }
+    ensures { IfOk result (λ made. IsDocumentText text.now made.0 made.1.entries) }
+{
+    let notes = ExportMetadata::default();
+    let mut scratch = Scratch::new(alloc);
+    let mut reader = Reader::new(text, &mut scratch)?;
+    let parts = read_parts(alloc, &mut reader, &notes)?;
+    end(&mut reader)?;
+    parts.document(alloc)
+}
+
+// The document in a text, as one value.
+fn whole(alloc: Global, text: &str) -> Result<(Document, Lists), DocumentError>
+    requires { IsUtf8 text.now }
+    ensures { IfOk result (λ made. IsDocumentText text.now made.0 made.1.entries) }
+{
+    let notes = ExportMetadata::default();
+    let mut scratch = Scratch::new(alloc);
+    let value = value_of(alloc, text, &mut scratch)?;
+    let config = settings(alloc, get(&value, "config"))?;
+    let entries = entries(alloc, get(&value, "entries").ok_or(DocumentError::Form)?)?;
+    let files = files(
+        alloc,
+        get(&value, "files").ok_or(DocumentError::Form)?,
+        &notes,
+    )?;
+    let lists = lists(alloc, get(&value, "meta"), &notes)?;
     let document = Document {
         config,
         files,
@@ -75,112 +112,16 @@ fn judged(alloc: Global, text: &[u8]) -> Result<(Document, Lists), DocumentError
 }
 
 // The value of a text. Refused where it is no JSON, for a float in it, and for memory.
-fn value_of(alloc: Global, text: &[u8]) -> Result<Value, DocumentError>
-    ensures { IfOk result (λ value. IsValueOf text.now (view value)) }
-{
-    match Value::from_slice(alloc, text) {
-        Ok(value) => {
-            if has_float(&value) {
-                Err(DocumentError::Form)
-            } else {
-                Ok(value)
-            }
-        }
-        Err(error) => {
-            if error.is_memory() {
-                Err(DocumentError::OutOfMemory)
-            } else {
-                Err(DocumentError::Form)
-            }
-        }
-    }
-}
-
-// The entries in a list.
-fn entries(alloc: Global, value: &Value) -> Result<Vec<(String, FileName)>, DocumentError>
-    ensures { IfOk result (λ entries. IsList IsEntry entries.items (view value.now)) }
-{
-    let items = items_in(value)?;
-    let mut entries = Vec::new(alloc);
-    for item in items {
-        let entry = entry(alloc, item)?;
-        entries.push(entry)?;
-    }
-    Ok(entries)
-}
-
-// An entry: a pair of its name and its file.
-fn entry(alloc: Global, value: &Value) -> Result<(String, FileName), DocumentError>
-    ensures { IfOk result (IsEntry (view value.now)) }
-{
-    let [name, file] = items_in(value)? else {
-        return Err(DocumentError::Form);
-    };
-    let name = text_in(alloc, name)?;
-    let file = FileName::Real(text_in(alloc, file)?);
-    Ok((name, file))
-}
-
-// The modules under their names.
-fn files(alloc: Global, value: &Value) -> Result<BTreeMap<String, Module>, DocumentError>
-    ensures { IfOk result (λ files. IsMap IsModule files.entries (view value.now)) }
-{
-    files_in(alloc, members_in(value)?)
-}
-
-// The modules under the names of these members.
-fn files_in(
+fn value_of<'a>(
     alloc: Global,
-    members: &Map<String, Value>,
-) -> Result<BTreeMap<String, Module>, DocumentError>
-    ensures { IfOk result (λ files. IsMap IsModule files.entries (object (members_view members.now.entries))) }
+    text: &'a str,
+    scratch: &'a mut Scratch,
+) -> Result<Value<'a>, DocumentError>
+    requires { IsUtf8 text.now }
+    ensures { IfOk result (λ value. IsValueOf text.now (seen value)) }
 {
-    let mut files = BTreeMap::new(alloc);
-    for (name, value) in members.iter() {
-        let module = module_in(alloc, value)?;
-        let name = name.clone()?;
-        files.insert(name, module)?;
-    }
-    Ok(files)
-}
-
-// The module that has this form.
-fn module_in(alloc: Global, value: &Value) -> Result<Module, DocumentError>
-    ensures { IfOk result (IsModule (view value.now)) }
-{
-    let notes = ExportMetadata::default();
-    let pieces = read_module(alloc, value, &notes)?;
-    Ok(build_module(alloc, pieces.as_slice())?)
-}
-
-// The lists of properties under the names of their files, none where nothing is said.
-fn lists(alloc: Global, value: Option<&Value>) -> Result<Lists, DocumentError>
-    ensures { IfOk result (λ lists. AreLists (seen value.entry) lists.entries) }
-{
-    match value {
-        None => Ok(BTreeMap::new(alloc)),
-        Some(value) => lists_in(alloc, members_in(value)?),
-    }
-}
-
-// The lists of properties under the names of these members.
-fn lists_in(alloc: Global, members: &Map<String, Value>) -> Result<Lists, DocumentError>
-    ensures { IfOk result (λ lists. IsMap AreProperties lists.entries (object (members_view members.now.entries))) }
-{
-    let mut lists = BTreeMap::new(alloc);
-    for (file, value) in members.iter() {
-        let properties = properties_in(alloc, value)?;
-        let file = file.clone()?;
-        lists.insert(file, properties)?;
-    }
-    Ok(lists)
-}
-
-// The properties that have the forms in this list.
-fn properties_in(alloc: Global, value: &Value) -> Result<Vec<KeyValueProp>, DocumentError>
-    ensures { IfOk result (AreProperties (view value.now)) }
-{
-    let notes = ExportMetadata::default();
-    let pieces = read_properties(alloc, value, &notes)?;
-    Ok(build_properties(alloc, pieces.as_slice())?)
+    let mut reader = Reader::new(text, scratch)?;
+    let value = read_value(alloc, &mut reader, 127)?;
+    end(&mut reader)?;
+    Ok(value)
 }

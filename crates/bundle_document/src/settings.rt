@@ -2,49 +2,50 @@
 
 ghost use Rattle.std.specs.Prelude.{map, IfOk};
 ghost use Rattle.std.specs.List.{AllZip};
-ghost use Rattle.serde_json.specs.View.{view};
+ghost use Rattle.bundle_form.specs.Plain.{seen};
 ghost use Rattle.bundle_document.specs.Document.{AreSettings, AreTexts, IsLimit, IsModuleType, IsText, IsTruth};
-ghost use Rattle.bundle_document.specs.Seen.{seen};
+ghost use Rattle.bundle_document.specs.Seen.{found};
 
 use crate::error::DocumentError;
-use crate::values::{items_in, text_in};
+use crate::values::{items_in, text_in, whole_number};
+use bundle_form::seen::{as_bool, get};
 use bundle_name::config::{Config, ModuleType};
-use serde_json::Value;
+use json::Value;
 use std::alloc::Global;
 
 /// The settings in an object, each of which may be left out, and so may the object. Refused where one is
 /// of another form, and for memory.
-pub(crate) fn settings(alloc: Global, value: Option<&Value>) -> Result<Config, DocumentError>
-    ensures { IfOk result (AreSettings (seen value.entry)) }
+pub(crate) fn settings(alloc: Global, value: Option<&Value<'_>>) -> Result<Config, DocumentError>
+    ensures { IfOk result (AreSettings (found value.entry)) }
 {
     let Some(value) = value else {
         return Ok(Config::new(alloc));
     };
-    if !value.is_object() {
+    if !matches!(value, Value::Object(_)) {
         return Err(DocumentError::Form);
     }
     Ok(Config {
-        require: truth(value.get("require"))?,
-        disable_hygiene: truth(value.get("disable_hygiene"))?,
-        external_modules: texts(alloc, value.get("external_modules"))?,
-        module: module_type(value.get("module"))?,
-        max_modules: limit(value.get("max_modules"))?,
+        require: truth(get(value, "require"))?,
+        disable_hygiene: truth(get(value, "disable_hygiene"))?,
+        external_modules: texts(alloc, get(value, "external_modules"))?,
+        module: module_type(get(value, "module"))?,
+        max_modules: limit(get(value, "max_modules"))?,
     })
 }
 
 // A truth value, or false.
-fn truth(value: Option<&Value>) -> Result<bool, DocumentError>
-    ensures { IfOk result (IsTruth (seen value.entry)) }
+fn truth(value: Option<&Value<'_>>) -> Result<bool, DocumentError>
+    ensures { IfOk result (IsTruth (found value.entry)) }
 {
     match value {
         None => Ok(false),
-        Some(value) => value.as_bool().ok_or(DocumentError::Form),
+        Some(value) => as_bool(value).ok_or(DocumentError::Form),
     }
 }
 
 // A list of texts, or an empty one.
-fn texts(alloc: Global, value: Option<&Value>) -> Result<Vec<String>, DocumentError>
-    ensures { IfOk result (λ texts. AreTexts (seen value.entry) texts.items) }
+fn texts(alloc: Global, value: Option<&Value<'_>>) -> Result<Vec<String>, DocumentError>
+    ensures { IfOk result (λ texts. AreTexts (found value.entry) texts.items) }
 {
     match value {
         None => Ok(Vec::new(alloc)),
@@ -53,8 +54,8 @@ fn texts(alloc: Global, value: Option<&Value>) -> Result<Vec<String>, DocumentEr
 }
 
 // The texts that these values are.
-fn texts_in(alloc: Global, values: &[Value]) -> Result<Vec<String>, DocumentError>
-    ensures { IfOk result (λ texts. AllZip IsText (map view values.now) texts.items) }
+fn texts_in(alloc: Global, values: &[Value<'_>]) -> Result<Vec<String>, DocumentError>
+    ensures { IfOk result (λ texts. AllZip IsText (map seen values.now) texts.items) }
 {
     let mut texts = Vec::new(alloc);
     for value in values {
@@ -65,12 +66,12 @@ fn texts_in(alloc: Global, values: &[Value]) -> Result<Vec<String>, DocumentErro
 }
 
 // What a bundle is written as, an ES module where nothing is said.
-fn module_type(value: Option<&Value>) -> Result<ModuleType, DocumentError>
-    ensures { IfOk result (IsModuleType (seen value.entry)) }
+fn module_type(value: Option<&Value<'_>>) -> Result<ModuleType, DocumentError>
+    ensures { IfOk result (IsModuleType (found value.entry)) }
 {
     match value {
         None => Ok(ModuleType::Es),
-        Some(Value::String(word)) => match word.as_str() {
+        Some(Value::String(word)) => match *word {
             "Es" => Ok(ModuleType::Es),
             "Iife" => Ok(ModuleType::Iife),
             _ => Err(DocumentError::Form),
@@ -80,12 +81,12 @@ fn module_type(value: Option<&Value>) -> Result<ModuleType, DocumentError>
 }
 
 // How many modules a bundle may have, as many as there can be where nothing is said.
-fn limit(value: Option<&Value>) -> Result<u32, DocumentError>
-    ensures { IfOk result (IsLimit (seen value.entry)) }
+fn limit(value: Option<&Value<'_>>) -> Result<u32, DocumentError>
+    ensures { IfOk result (IsLimit (found value.entry)) }
 {
     let Some(value) = value else {
         return Ok(u32::MAX);
     };
-    let number = value.as_u64().ok_or(DocumentError::Form)?;
+    let number = whole_number(value).ok_or(DocumentError::Form)?;
     u32::try_from(number).map_err(|_| DocumentError::Form)
 }

@@ -4,8 +4,9 @@ use Rattle.std.specs.Prelude.{IsSomeAnd, OnOk, Result, Ok, Err}
 use Rattle.std.proofs.lemmas.List.{take_more}
 use Rattle.serde_json.specs.Data.{Data, Items, no_items, item}
 use Rattle.serde_json.specs.Find.{get}
-use Rattle.serde_json.specs.View.{items_of, items_view, view}
-use Rattle.serde_json.specs.declared.value.Value.{Value}
+use Rattle.std.specs.declared.alloc.Global.{Global}
+use Rattle.json.specs.declared.value.Value as j
+use Rattle.bundle_form.specs.Plain.{seen, items_seen}
 use Rattle.bundle_leaf.specs.declared.kind.ExportMetadata.{ExportMetadata}
 use Rattle.bundle_piece.specs.declared.piece.Role.{Role}
 use Rattle.bundle_piece.specs.Item.{Item, Head, Open, Ident, Hole, Close}
@@ -21,6 +22,9 @@ pub append_nil : {A : Type 0} (xs : List A) → xs ++ [] ≡ xs
 append_nil [] = refl
 append_nil (x ∷ xs) = ap (λ r. x ∷ r) (append_nil xs)
 
+abbrev Value : Type 0
+Value = j.Value Global
+
 -- One more at the end.
 
 unfoldable pub items_then : Items → Data → Items
@@ -35,15 +39,10 @@ unfoldable pub fields_then : Fields → ℕ → Trees → Fields
 fields_then no_fields number them = in_field number them no_fields
 fields_then (in_field n x rest) number them = in_field n x (fields_then rest number them)
 
-items_of-then : (ds : List Data) (d : Data) → items_of (ds ++ d ∷ []) ≡ items_then (items_of ds) d
-unfolding items_then
-items_of-then [] d = refl
-items_of-then (x ∷ xs) d = ap (item x) (items_of-then xs d)
-
-pub items_view-then : (vs : List Value) (v : Value) → items_view (vs ++ v ∷ []) ≡ items_then (items_view vs) (view v)
+pub items_view-then : (vs : List Value) (v : Value) → items_seen (vs ++ v ∷ []) ≡ items_then (items_seen vs) (seen v)
 unfolding items_then
 items_view-then [] v = refl
-items_view-then (x ∷ xs) v = ap (item (view x)) (items_view-then xs v)
+items_view-then (x ∷ xs) v = ap (item (seen x)) (items_view-then xs v)
 
 trees_items-then : (field : ℕ) (them : Trees) (it : Tree) → trees_items field (trees_then them it) ≡ trees_items field them ++ tree_items field it
 unfolding trees_then
@@ -149,11 +148,11 @@ AddsField meta at shape found old new = IsSomeAnd (values shape found) (λ ds. G
 -- Steps of the loops.
 
 pub list_step : (meta : ExportMetadata) (at : Place) (vs : List Value) (i : ℕ) (v : Value) (old mid new : List Item) → i < length vs → v ≡ get_or vs i v
-    → Grows (AreForms meta at (items_view (take i vs))) old mid → Grows (IsForm meta at (view v)) mid new → Grows (AreForms meta at (items_view (take (i + 1) vs))) old new
+    → Grows (AreForms meta at (items_seen (take i vs))) old mid → Grows (IsForm meta at (seen v)) mid new → Grows (AreForms meta at (items_seen (take (i + 1) vs))) old new
 list_step meta at vs i v old mid new within is so_far last =
-    let more : items_view (take (i + 1) vs) ≡ items_then (items_view (take i vs)) (view v)
-    = ap items_view (take_more vs i v within) ∙ items_view-then (take i vs) (get_or vs i v) ∙ ap (λ x. items_then (items_view (take i vs)) (view x)) (sym is) in
-    rw more (one_more meta at (items_view (take i vs)) (view v) old mid new so_far last)
+    let more : items_seen (take (i + 1) vs) ≡ items_then (items_seen (take i vs)) (seen v)
+    = ap items_seen (take_more vs i v within) ∙ items_view-then (take i vs) (get_or vs i v) ∙ ap (λ x. items_then (items_seen (take i vs)) (seen x)) (sym is) in
+    rw more (one_more meta at (items_seen (take i vs)) (seen v) old mid new so_far last)
 
 listed-then_some : (fs : List (Option r_field.Field)) (f : r_field.Field) → listed (fs ++ Some f ∷ []) ≡ listed fs ++ field_of f ∷ []
 listed-then_some [] f = refl

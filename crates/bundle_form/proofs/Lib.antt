@@ -1,4 +1,5 @@
 mod Frames
-mod Growth
+pub mod Growth
+mod Plain
 mod Run
 mod Steps

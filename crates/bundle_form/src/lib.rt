@@ -15,6 +15,7 @@ mod node;
 mod read;
 mod role;
 mod scalar;
+pub mod seen;
 mod write;
 
 pub use error::FormError;

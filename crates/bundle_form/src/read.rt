@@ -2,19 +2,20 @@
 
 ghost use Rattle.std.specs.Prelude.{◌≡◌, ◌+◌, [], ◌∷◌, ◌++◌, Some, map, codes, IfOk, OnOk, IsSomeAnd};
 ghost use Rattle.serde_json.specs.Find.{as_array, get};
-ghost use Rattle.serde_json.specs.View.{items_view, view};
 ghost use Rattle.bundle_piece.specs.Item.{head_of, item_of};
 ghost use Rattle.bundle_form.specs.Form.{text_at, top, values, place_in as place_of_field, IsForm, AreForms};
 ghost use Rattle.bundle_form.specs.Layout.{field_of};
 ghost use Rattle.bundle_form.specs.Reading.{Grows};
+ghost use Rattle.bundle_form.specs.Plain.{items_seen, seen};
 
 use crate::error::FormError;
 use crate::layout::{Field, Shape, fields_of};
 use crate::node::Object;
 use crate::role::{Place, role_in, role_of_ident};
+use crate::seen::{get as get_in, is_null, items};
 use bundle_leaf::kind::ExportMetadata;
 use bundle_piece::{Node, Piece, Role};
-use serde_json::Value;
+use json::Value;
 use std::alloc::Global;
 
 /// How deep nodes may nest: deeper than a document may.
@@ -22,12 +23,12 @@ const LEVELS: u8 = 255;
 
 /// The pieces of the module whose JSON form `value` is; its declarations have the notes `meta`. Refused
 /// where it is another form, and for memory.
-pub fn read_module<'a>(
+pub fn read_module<'v, 'a>(
     alloc: Global,
-    value: &'a Value,
+    value: &'v Value<'a>,
     meta: &'a ExportMetadata,
 ) -> Result<Vec<Piece<'a>>, FormError>
-    ensures { IfOk result (λ list. IsForm meta.now top (view value.now) (map item_of list.items)) }
+    ensures { IfOk result (λ list. IsForm meta.now top (seen value.now) (map item_of list.items)) }
 {
     let mut pieces = Vec::new(alloc);
     read_node(&mut pieces, Object { value, meta }, Place::top(), LEVELS)?;
@@ -36,17 +37,17 @@ pub fn read_module<'a>(
 
 /// The pieces of the properties whose JSON forms stand in the list `value`, each in field 0. Refused
 /// where it is no list of forms, and for memory.
-pub fn read_properties<'a>(
+pub fn read_properties<'v, 'a>(
     alloc: Global,
-    value: &'a Value,
+    value: &'v Value<'a>,
     meta: &'a ExportMetadata,
 ) -> Result<Vec<Piece<'a>>, FormError>
-    ensures { IfOk result (λ list. IsSomeAnd (as_array (view value.now))
+    ensures { IfOk result (λ list. IsSomeAnd (as_array (seen value.now))
         (λ forms. AreForms meta.now top forms (map item_of list.items))) }
 {
     let mut pieces = Vec::new(alloc);
-    let list = value.as_array().ok_or(FormError::Form)?;
-    read_list(&mut pieces, list.as_slice(), meta, Place::top(), LEVELS)?;
+    let list = items(value).ok_or(FormError::Form)?;
+    read_list(&mut pieces, list, meta, Place::top(), LEVELS)?;
     Ok(pieces)
 }
 
@@ -69,13 +70,13 @@ fn add<'a>(pieces: &mut Vec<Piece<'a>>, piece: Piece<'a>) -> Result<(), FormErro
 
 // Adds the node that the object stands for.
 #[cycle(read)]
-fn read_node<'a>(
+fn read_node<'v, 'a>(
     pieces: &mut Vec<Piece<'a>>,
-    object: Object<'a>,
+    object: Object<'v, 'a>,
     place: Place,
     levels: u8,
 ) -> Result<(), FormError>
-    ensures { OnOk result (Grows (IsForm object.entry.meta.now place (view object.entry.value.now))
+    ensures { OnOk result (Grows (IsForm object.entry.meta.now place (seen object.entry.value.now))
         (map item_of pieces.old.items) (map item_of pieces.new.items)) }
 {
     if object.text("type")? == "Ident" {
@@ -94,13 +95,13 @@ fn read_node<'a>(
 }
 
 // Adds the identifier that the object stands for.
-fn read_ident<'a>(
+fn read_ident<'v, 'a>(
     pieces: &mut Vec<Piece<'a>>,
-    object: Object<'a>,
+    object: Object<'v, 'a>,
     place: Place,
 ) -> Result<(), FormError>
-    requires { text_at (codes "type") (view object.value.now) ≡ Some (codes "Ident") }
-    ensures { OnOk result (Grows (IsForm object.entry.meta.now place (view object.entry.value.now))
+    requires { text_at (codes "type") (seen object.value.now) ≡ Some (codes "Ident") }
+    ensures { OnOk result (Grows (IsForm object.entry.meta.now place (seen object.entry.value.now))
         (map item_of pieces.old.items) (map item_of pieces.new.items)) }
 {
     let sym = object.text("sym")?;
@@ -121,8 +122,8 @@ fn read_ident<'a>(
 }
 
 // Where the nodes in a field of `node` stand, whose names as a pattern are `names`.
-fn place_in(object: Object, node: &Node, names: Role, field: Field) -> Place
-    ensures { result ≡ place_of_field (head_of node.now) names (view object.entry.value.now) (field_of field) }
+fn place_in(object: Object<'_, '_>, node: &Node, names: Role, field: Field) -> Place
+    ensures { result ≡ place_of_field (head_of node.now) names (seen object.entry.value.now) (field_of field) }
 {
     let number = field.number;
     Place {
@@ -138,25 +139,25 @@ fn place_in(object: Object, node: &Node, names: Role, field: Field) -> Place
 
 // Adds what stands in a field of a node.
 #[cycle(read)]
-fn read_field<'a>(
+fn read_field<'v, 'a>(
     pieces: &mut Vec<Piece<'a>>,
-    object: Object<'a>,
+    object: Object<'v, 'a>,
     node: &Node<'a>,
     names: Role,
     field: Field,
     levels: u8,
 ) -> Result<(), FormError>
     ensures { OnOk result (IsSomeAnd
-        (values field.shape (get field.key.now (view object.entry.value.now)))
+        (values field.shape (get field.key.now (seen object.entry.value.now)))
         (λ forms. Grows
         (AreForms object.entry.meta.now
-        (place_of_field (head_of node.now) names (view object.entry.value.now) (field_of field))
+        (place_of_field (head_of node.now) names (seen object.entry.value.now) (field_of field))
         forms)
         (map item_of pieces.old.items) (map item_of pieces.new.items))) }
 {
     let place = place_in(object, node, names, field);
     let meta = object.meta;
-    let Some(value) = object.value.get(field.key) else {
+    let Some(value) = get_in(object.value, field.key) else {
         return match field.shape {
             Shape::One => Err(FormError::Form),
             Shape::Optional | Shape::List | Shape::Places => Ok(()),
@@ -165,14 +166,14 @@ fn read_field<'a>(
     match field.shape {
         Shape::One => read_node(pieces, Object { value, meta }, place, levels),
         Shape::Optional => {
-            if value.is_null() {
+            if is_null(value) {
                 Ok(())
             } else {
                 read_node(pieces, Object { value, meta }, place, levels)
             }
         }
-        Shape::List | Shape::Places => match value.as_array() {
-            Some(list) => read_list(pieces, list.as_slice(), meta, place, levels),
+        Shape::List | Shape::Places => match items(value) {
+            Some(list) => read_list(pieces, list, meta, place, levels),
             None => Err(FormError::Form),
         },
     }
@@ -180,18 +181,18 @@ fn read_field<'a>(
 
 // Adds the nodes of a list.
 #[cycle(read)]
-fn read_list<'a>(
+fn read_list<'v, 'a>(
     pieces: &mut Vec<Piece<'a>>,
-    list: &'a [Value],
+    list: &'v [Value<'a>],
     meta: &'a ExportMetadata,
     place: Place,
     levels: u8,
 ) -> Result<(), FormError>
-    ensures { OnOk result (Grows (AreForms meta.now place (items_view list.now))
+    ensures { OnOk result (Grows (AreForms meta.now place (items_seen list.now))
         (map item_of pieces.old.items) (map item_of pieces.new.items)) }
 {
     for value in list {
-        if place.has_holes && value.is_null() {
+        if place.has_holes && is_null(value) {
             let field = place.field;
             add(pieces, Piece::Hole { field })?;
         } else {

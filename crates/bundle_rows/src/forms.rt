@@ -12,14 +12,18 @@ use bundle_form::{FormError, read_module, read_properties, tree_value};
 use bundle_listing::{Piece, pieces, pieces_of_module, pieces_of_properties};
 use bundle_marks::marks;
 use bundle_restore::{BuildError, build_module, build_properties};
+use json::Scratch;
 use serde_json::Value;
 use std::alloc::Global;
 
 /// A form as a list, as a tree, and written again.
 pub(crate) fn form_text(alloc: Global, row: &Value) -> Result<String> {
     let form = row.get("module").context("no module")?;
+    let text = form.to_string(alloc)?;
+    let mut scratch = Scratch::new(alloc);
+    let form = json::Value::parse(alloc, text.as_str(), &mut scratch)?;
     let notes = ExportMetadata::default();
-    match read_module(alloc, form, &notes) {
+    match read_module(alloc, &form, &notes) {
         Ok(list) => list_text(alloc, list.as_slice()),
         Err(FormError::Form) => Ok(String::from_str(alloc, "no form")?),
         Err(_) => bail!("out of memory"),
@@ -48,8 +52,11 @@ fn counts_text(alloc: Global, module: &Module) -> Result<String> {
 /// Properties as a list and as trees.
 pub(crate) fn properties_text(alloc: Global, row: &Value) -> Result<String> {
     let form = row.get("properties").context("no properties")?;
+    let text = form.to_string(alloc)?;
+    let mut scratch = Scratch::new(alloc);
+    let form = json::Value::parse(alloc, text.as_str(), &mut scratch)?;
     let notes = ExportMetadata::default();
-    let list = read_properties(alloc, form, &notes)?;
+    let list = read_properties(alloc, &form, &notes)?;
     let given = listed_properties(alloc, list.as_slice())?;
     let count = list.len();
     Ok(format!(in alloc; "{count} pieces, {given}")?)

@@ -11,6 +11,7 @@ use bundle_scope::scope::{
     Contexts, ModuleKind, Renaming, occurrences, rename_all, resolve_scopes,
 };
 use bundle_tree::Id;
+use json::Scratch;
 use serde_json::Value;
 use std::alloc::{AllocError, Global};
 
@@ -31,7 +32,10 @@ pub(crate) fn list<'a>(row: &'a Value, key: &str) -> &'a [Value] {
 
 /// The module that a value stands for, with notes on its declarations.
 pub(crate) fn module_in(alloc: Global, value: &Value, notes: &ExportMetadata) -> Result<Module> {
-    let list = read_module(alloc, value, notes)?;
+    let text = value.to_string(alloc)?;
+    let mut scratch = Scratch::new(alloc);
+    let value = json::Value::parse(alloc, text.as_str(), &mut scratch)?;
+    let list = read_module(alloc, &value, notes)?;
     Ok(build_module(alloc, list.as_slice())?)
 }
 
