@@ -12,7 +12,7 @@ use bundle_scope::scope::{
 };
 use bundle_tree::Id;
 use serde_json::Value;
-use std::alloc::Global;
+use std::alloc::{AllocError, Global};
 
 /// The text under a key.
 pub(crate) fn text<'a>(row: &'a Value, key: &str) -> Result<&'a str> {
@@ -29,20 +29,24 @@ pub(crate) fn list<'a>(row: &'a Value, key: &str) -> &'a [Value] {
     }
 }
 
-/// The module that a value stands for.
-pub(crate) fn module_in(alloc: Global, value: &Value, injected: bool) -> Result<Module> {
-    let notes = ExportMetadata {
+/// The module that a value stands for, with notes on its declarations.
+pub(crate) fn module_in(alloc: Global, value: &Value, notes: &ExportMetadata) -> Result<Module> {
+    let list = read_module(alloc, value, notes)?;
+    Ok(build_module(alloc, list.as_slice())?)
+}
+
+/// The notes on what the linker made, or on what it did not make.
+pub(crate) fn notes(injected: bool) -> ExportMetadata {
+    ExportMetadata {
         injected,
         export_ctxt: None,
-    };
-    let list = read_module(alloc, value, &notes)?;
-    Ok(build_module(alloc, list.as_slice())?)
+    }
 }
 
 /// The module under the key `module`.
 pub(crate) fn module_of(alloc: Global, row: &Value) -> Result<Module> {
     let value = row.get("module").context("no module")?;
-    module_in(alloc, value, false)
+    module_in(alloc, value, &ExportMetadata::default())
 }
 
 /// The contexts of a file.
@@ -56,23 +60,60 @@ pub(crate) fn contexts(alloc: Global, local: u32, next: u32) -> Result<Contexts>
 pub(crate) fn modules_of(alloc: Global, row: &Value, is_shared: bool) -> Result<Vec<Module>> {
     let first = renaming_of(alloc, list(row, "pairs"))?;
     let renaming = first.then(&renaming_of(alloc, list(row, "then"))?)?;
+    let mut numbers = Numbers {
+        local: 2,
+        step: if is_shared { 0 } else { 2 },
+        next: 100,
+    };
     let mut modules = Vec::new(alloc);
-    let mut local = 2u32;
-    let mut next = 100;
-    for (key, injected) in [("modules", false), ("free", true)] {
-        for value in list(row, key) {
-            let module = module_in(alloc, value, injected)?;
-            let mut contexts = contexts(alloc, local, next)?;
-            let module = resolve_scopes(alloc, &module, ModuleKind::Es, &mut contexts)?;
-            let body = rename_all(alloc, module.body.as_slice(), &renaming)?;
-            modules.push(Module { body })?;
-            next = contexts.next();
-            if !is_shared {
-                local = local.saturating_add(2);
-            }
-        }
+    for value in list(row, "modules") {
+        modules.push(made(alloc, value, false, &renaming, &mut numbers)?)?;
+    }
+    for value in list(row, "free") {
+        modules.push(made(alloc, value, true, &renaming, &mut numbers)?)?;
     }
     Ok(modules)
+}
+
+// The context of a module's top, how far that of the next one is from it, and the next one of all others.
+#[derive(Drop)]
+struct Numbers {
+    local: u32,
+    step: u32,
+    next: u32,
+}
+
+// The module that a value stands for, resolved and renamed.
+fn made(
+    alloc: Global,
+    value: &Value,
+    injected: bool,
+    renaming: &Renaming,
+    numbers: &mut Numbers,
+) -> Result<Module> {
+    let module = resolved(alloc, value, injected, numbers)?;
+    let body = rename_all(alloc, module.body.as_slice(), renaming)?;
+    Ok(Module { body })
+}
+
+fn resolved(alloc: Global, value: &Value, injected: bool, numbers: &mut Numbers) -> Result<Module> {
+    let mut contexts = contexts(alloc, numbers.local, numbers.next)?;
+    let module = module_in(alloc, value, &notes(injected))?;
+    let module = resolve_scopes(alloc, &module, ModuleKind::Es, &mut contexts)?;
+    numbers.next = contexts.next();
+    numbers.local = numbers.local.saturating_add(numbers.step);
+    Ok(module)
+}
+
+/// The items of some modules as one module.
+pub(crate) fn joined(alloc: Global, modules: Vec<Module>) -> Result<Module, AllocError> {
+    let mut all = Module {
+        body: Vec::new(alloc),
+    };
+    for mut module in modules {
+        all.body.append(&mut module.body)?;
+    }
+    Ok(all)
 }
 
 /// The JSON text of a tree.

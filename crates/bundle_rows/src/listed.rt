@@ -1,4 +1,6 @@
-//! A row, and what is written for it.
+//! Rows of the kind `tree`: `source` is JavaScript, and `module` its tree. Written are the name and the source, a
+//! line for each mark and one for each occurrence, and whether the tree made anew is the same: without changes, and
+//! with each identifier in its own place.
 
 ghost use Rattle.std.specs.Prelude.{◌≡◌, Some, IfOk, codes, option_copied};
 ghost use Rattle.serde_json.specs.Find.{get};
@@ -6,27 +8,26 @@ ghost use Rattle.serde_json.specs.View.{view};
 ghost use Rattle.bundle_form.specs.Form.{text_at};
 
 use crate::listing::{add_marks, add_occurrences};
+use crate::trees::module_in;
 use anyhow::{Context, Result};
 use bundle_ast::{ExportMetadata, Module, ModuleItem};
 use bundle_equal::is_same;
-use bundle_form::read_module;
 use bundle_marks::{occurrences, with_idents};
-use bundle_restore::build_module;
 use bundle_rewrite::rebuild_items;
 use serde_json::Value;
 use std::alloc::{AllocError, Global};
 
-/// A tree in its JSON form, with its name and its JavaScript.
+// A tree in its JSON form, with its name and its JavaScript.
 #[derive(Clone, Copy)]
-pub(crate) struct Row<'a> {
-    pub(crate) name: &'a str,
+struct Row<'a> {
+    name: &'a str,
     source: &'a str,
     tree: &'a Value,
 }
 
 impl<'a> Row<'a> {
-    /// The row that a value stands for. Refused where its name, its source or its module is missing.
-    pub(crate) fn read(value: &'a Value) -> Result<Row<'a>>
+    // The row that a value stands for. Refused where its name, its source or its module is missing.
+    fn read(value: &'a Value) -> Result<Row<'a>>
         ensures name { IfOk result (λ row. text_at (codes "name") (view value.now) ≡ Some row.name.now) }
         ensures source { IfOk result (λ row. text_at (codes "source") (view value.now) ≡ Some row.source.now) }
         ensures tree { IfOk result (λ row. get (codes "module") (view value.now) ≡ Some (view row.tree.now)) }
@@ -48,9 +49,9 @@ fn text<'a>(value: &'a Value, key: &str) -> Option<&'a str>
 }
 
 /// What is written for a row. Refused where its tree is none, and for memory.
-pub(crate) fn row_text(alloc: Global, row: Row) -> Result<String> {
-    let Row { name, source, tree } = row;
-    let module = module_in(alloc, tree)?;
+pub(crate) fn row_text(alloc: Global, row: &Value) -> Result<String> {
+    let Row { name, source, tree } = Row::read(row)?;
+    let module = module_in(alloc, tree, &ExportMetadata::default())?;
     let items = module.body.as_slice();
     let mut text = format!(in alloc; "row: {name}\nsource: {source}\nmarks:\n")?;
     add_marks(alloc, &mut text, items)?;
@@ -58,13 +59,6 @@ pub(crate) fn row_text(alloc: Global, row: Row) -> Result<String> {
     add_occurrences(alloc, &mut text, items)?;
     add_rebuilt(alloc, &mut text, items)?;
     Ok(text)
-}
-
-// The module that a value stands for.
-fn module_in(alloc: Global, value: &Value) -> Result<Module> {
-    let notes = ExportMetadata::default();
-    let list = read_module(alloc, value, &notes)?;
-    Ok(build_module(alloc, list.as_slice())?)
 }
 
 // Adds whether the items made anew are the same.
