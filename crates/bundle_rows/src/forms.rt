@@ -19,10 +19,10 @@ use std::alloc::Global;
 /// A form as a list, as a tree, and written again.
 pub(crate) fn form_text(alloc: Global, row: &Value) -> Result<String> {
     let form = row.get("module").context("no module")?;
+    let notes = ExportMetadata::default();
     let text = form.to_string(alloc)?;
     let mut scratch = Scratch::new(alloc);
     let form = json::Value::parse(alloc, text.as_str(), &mut scratch)?;
-    let notes = ExportMetadata::default();
     match read_module(alloc, &form, &notes) {
         Ok(list) => list_text(alloc, list.as_slice()),
         Err(FormError::Form) => Ok(String::from_str(alloc, "no form")?),
@@ -52,10 +52,10 @@ fn counts_text(alloc: Global, module: &Module) -> Result<String> {
 /// Properties as a list and as trees.
 pub(crate) fn properties_text(alloc: Global, row: &Value) -> Result<String> {
     let form = row.get("properties").context("no properties")?;
+    let notes = ExportMetadata::default();
     let text = form.to_string(alloc)?;
     let mut scratch = Scratch::new(alloc);
     let form = json::Value::parse(alloc, text.as_str(), &mut scratch)?;
-    let notes = ExportMetadata::default();
     let list = read_properties(alloc, &form, &notes)?;
     let given = listed_properties(alloc, list.as_slice())?;
     let count = list.len();
