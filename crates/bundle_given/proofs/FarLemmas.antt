@@ -1,21 +1,12 @@
 -- Where stars lead from a module to one module at most that has an own entry of a name, what is given for the name is what that one gives: so a search need not walk along the stars.
-use Rattle.std.proofs.Common.{◌≡◌, ◌≢◌, ℕ, Option, Some, None, Contains, refl, sym, ◌∙◌, subst}
+use Rattle.std.proofs.Common.{◌≡◌, ◌≢◌, ℕ, Option, Some, None, refl, sym, ◌∙◌, subst}
 use Rattle.std.proofs.lemmas.Option.{none-some}
 use Rattle.bundle_graph.specs.Walks.{Reaches, itself as here, along}
 use Rattle.bundle_given.specs.declared.links.Own.{Own}
 use Rattle.bundle_given.specs.declared.links.Own.TheVariants.{Gives, Leads}
-use Rattle.bundle_given.specs.declared.answer.Answer.{Answer}
-use Rattle.bundle_given.specs.declared.answer.Answer.TheVariants.{Missing, One, Two}
-use Rattle.bundle_given.specs.Graph.{Spot, Graph, own_of, stars_of}
-use Rattle.bundle_given.specs.Given.{Given, itself, led, starred, IsKept, IsAnswer, Within}
-
--- one module stars another
-abbrev pub Starring : Graph → ℕ → ℕ → Type 0
-Starring g m d = Contains (stars_of g m) d
-
--- the module has an own entry of the name
-abbrev pub HasOwn : Graph → ℕ → ℕ → Type 0
-HasOwn g n m = own_of g (m, n) ≢ None
+use Rattle.bundle_given.specs.Graph.{Spot, Graph, own_of}
+use Rattle.bundle_given.specs.Given.{Given, itself, led, starred, Within}
+use Rattle.bundle_given.specs.Reached.{Starring, HasOwn}
 
 module _ (g : Graph) where
   own_is : (at : Spot) (own : Own) → own_of g at ≡ Some own → HasOwn g at.1 at.0
@@ -41,18 +32,3 @@ module _ (g : Graph) where
   none_reached {at = at} {v = v} (itself e) none = none at.0 here (own_is at (Gives v) e)
   none_reached {at = at} (led {next = next} e more) none = none at.0 here (own_is at (Leads next) e)
   none_reached (starred none_own other star more) none = none_reached more (λ k p held. none k (along star p) held)
-
-  -- so the answers are the same
-  moved : (a b : Spot) (answer : Answer) → Within g a b → IsKept g b answer → IsKept g a answer
-  moved a b Missing within kept = tt
-  moved a b (One v) within kept = within v kept
-  moved a b (Two v w) within kept = (within v kept.0, within w kept.1, kept.2)
-
-  pub only_answers : (m n h : ℕ) → n ≢ g.default → Reaches (Starring g) m h → ((k : ℕ) → Reaches (Starring g) m k → HasOwn g n k → k ≡ h) → (answer : Answer) → IsAnswer g (h, n) answer → IsAnswer g (m, n) answer
-  only_answers m n h named path only answer right = record {
-    kept = moved (m, n) (h, n) answer (onto_only n h named path only) right.kept;
-    all = λ v given. right.all v (from_only h given only);
-  }
-
-  pub none_answers : (m n : ℕ) → ((k : ℕ) → Reaches (Starring g) m k → HasOwn g n k → ⊥) → IsAnswer g (m, n) Missing
-  none_answers m n none = record { kept = tt; all = λ v given. none_reached given none }

@@ -4,3 +4,5 @@ pub mod LinkedLemmas
 pub mod StarLemmas
 pub mod FarLemmas
 pub mod KindLemmas
+pub mod ReachLemmas
+pub mod LineLemmas

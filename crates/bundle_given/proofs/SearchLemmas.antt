@@ -6,7 +6,7 @@ use Rattle.std.specs.Map.{lookup}
 use Rattle.std.proofs.lemmas.List.{take_more, take_all}
 use Rattle.std.proofs.lemmas.List.Elements.{Contains-push, Contains-push_cases, Contains-append_left}
 use Rattle.std.proofs.lemmas.Option.{none-some, same_Some}
-use Rattle.std.proofs.lemmas.Bool.{false≢true, cases_lt, and_from, and_parts, or_cases}
+use Rattle.std.proofs.lemmas.Bool.{false≢true, cases_lt, and_from, and_parts, or_cases, or_left, or_right}
 use Rattle.bundle_given.specs.declared.links.Own.TheVariants.{Gives, Leads, Nothing}
 use Rattle.bundle_given.specs.declared.answer.Answer.{Answer}
 use Rattle.bundle_given.specs.declared.answer.Answer.TheVariants.{Missing, One, Two}
@@ -172,11 +172,11 @@ module _ (g : Graph) where
     }
 
 -- ---- names that are put at the end of a list
-pub Adds-nothing : (list : List Spot) (Those : Spot → Type 0) → ((at : Spot) → Those at → IsIn list at) → Adds list Those list
+pub Adds-nothing : {A : Type 0} (list : List A) (Those : A → Type 0) → ((at : A) → Those at → IsIn list at) → Adds list Those list
 Adds-nothing list Those there = record { stays = λ i at e. e; there = there; no_more = λ at h. inl h }
 
 -- after some, more
-pub Adds-more : (old next new : List Spot) (Some_of Those All : Spot → Type 0) → Adds old Some_of next → Adds next Those new → ((at : Spot) → All at → Some_of at ⊎ Those at) → ((at : Spot) → Some_of at → All at) → ((at : Spot) → Those at → All at) → Adds old All new
+pub Adds-more : {A : Type 0} (old next new : List A) (Some_of Those All : A → Type 0) → Adds old Some_of next → Adds next Those new → ((at : A) → All at → Some_of at ⊎ Those at) → ((at : A) → Some_of at → All at) → ((at : A) → Those at → All at) → Adds old All new
 Adds-more old next new Some_of Those All first second splits from_first from_second = record {
   stays = λ i at e. second.stays i at (first.stays i at e);
   there = λ at h. elim (splits at h) [ inl a ↦ let p = first.there at a in (p.0, second.stays p.0 at p.1) | inr b ↦ second.there at b ];
@@ -186,18 +186,18 @@ Adds-more old next new Some_of Those All first second splits from_first from_sec
   ];
 }
 
-get_push : (ks : List Spot) (k : Spot) (i : ℕ) (at : Spot) → slice_get (ks ++ k ∷ []) i ≡ Some at → IsIn ks at ⊎ (at ≡ k)
+get_push : {A : Type 0} (ks : List A) (k : A) (i : ℕ) (at : A) → slice_get (ks ++ k ∷ []) i ≡ Some at → IsIn ks at ⊎ (at ≡ k)
 get_push [] k zero at e = inr (sym (same_Some k at e))
 get_push [] k (suc i) at e = absurd (none-some at e)
 get_push (x ∷ xs) k zero at e = inl (0, e)
 get_push (x ∷ xs) k (suc i) at e = elim (get_push xs k i at e) [ inl o ↦ inl (suc o.0, o.1) | inr r ↦ inr r ]
 
-get_still : (ks : List Spot) (k : Spot) (i : ℕ) (at : Spot) → slice_get ks i ≡ Some at → slice_get (ks ++ k ∷ []) i ≡ Some at
+get_still : {A : Type 0} (ks : List A) (k : A) (i : ℕ) (at : A) → slice_get ks i ≡ Some at → slice_get (ks ++ k ∷ []) i ≡ Some at
 get_still [] k i at e = absurd (none-some at e)
 get_still (x ∷ xs) k zero at e = e
 get_still (x ∷ xs) k (suc i) at e = get_still xs k i at e
 
-get_last : (ks : List Spot) (k : Spot) → IsIn (ks ++ k ∷ []) k
+get_last : {A : Type 0} (ks : List A) (k : A) → IsIn (ks ++ k ∷ []) k
 get_last [] k = (0, refl)
 get_last (x ∷ xs) k = let r = get_last xs k in (suc r.0, r.1)
 
@@ -210,26 +210,36 @@ same_spot-true a b e = both (and_parts (a.0 == b.0) (a.1 == b.1) e)
 pub same_spot-same : (a : Spot) → same_spot a a ≡ true
 same_spot-same a = and_from (a.0 == a.0) (a.1 == a.1) (eq-eqb a.0 a.0 refl) (eq-eqb a.1 a.1 refl)
 
--- a name that a set tells is there
-there_from_any : (at : Spot) (keys : List Spot) → list_any (same_spot at) keys ≡ true → IsIn keys at
-there_from_any at [] e = absurd (false≢true e)
-there_from_any at (x ∷ xs) e = by (or_cases (same_spot at x) (list_any (same_spot at) xs) e) (there_from_any at xs)
-  where
-    by : (same_spot at x ≡ true) ⊎ (list_any (same_spot at) xs ≡ true) → (list_any (same_spot at) xs ≡ true → IsIn xs at) → IsIn (x ∷ xs) at
-    by (inl here) ih = (0, ap (λ y. Some y) (sym (same_spot-true at x here)))
-    by (inr later) ih = let r = ih later in (suc r.0, r.1)
+-- what a set tells is there
+module _ {A : Type 0} (same : A → A → Bool) (is_same : (a b : A) → same a b ≡ true → a ≡ b) (itself_same : (a : A) → same a a ≡ true) where
+  pub there_from_any : (at : A) (keys : List A) → list_any (same at) keys ≡ true → IsIn keys at
+  there_from_any at [] e = absurd (false≢true e)
+  there_from_any at (x ∷ xs) e = by (or_cases (same at x) (list_any (same at) xs) e) (there_from_any at xs)
+    where
+      by : (same at x ≡ true) ⊎ (list_any (same at) xs ≡ true) → (list_any (same at) xs ≡ true → IsIn xs at) → IsIn (x ∷ xs) at
+      by (inl here) ih = (0, ap (λ y. Some y) (sym (is_same at x here)))
+      by (inr later) ih = let r = ih later in (suc r.0, r.1)
 
--- a name that is put
+  -- and what is there it tells
+  pub any_from_there : (at : A) (keys : List A) (i : ℕ) → slice_get keys i ≡ Some at → list_any (same at) keys ≡ true
+  any_from_there at [] i e = absurd (none-some at e)
+  any_from_there at (x ∷ xs) zero e = or_left (same at x) (list_any (same at) xs) (subst (λ y. same at y ≡ true) (sym (same_Some x at e)) (itself_same at))
+  any_from_there at (x ∷ xs) (suc i) e = or_right (same at x) (list_any (same at) xs) (any_from_there at xs i e)
+
+  -- what is put
+  pub Adds-one : (keys : List A) (at : A) (new : List A) → new ≡ (if list_any (same at) keys then keys else keys ++ at ∷ []) → Adds keys (λ other. other ≡ at) new
+  Adds-one keys at new e = subst (Adds keys (λ other. other ≡ at)) (sym e) (by (list_any (same at) keys) refl)
+    where
+      by : (b : Bool) → list_any (same at) keys ≡ b → Adds keys (λ other. other ≡ at) (if b then keys else keys ++ at ∷ [])
+      by true is = Adds-nothing keys (λ other. other ≡ at) (λ other e. subst (IsIn keys) (sym e) (there_from_any at keys is))
+      by false is = record {
+        stays = λ i other h. get_still keys at i other h;
+        there = λ other e. subst (IsIn (keys ++ at ∷ [])) (sym e) (get_last keys at);
+        no_more = λ other h. get_push keys at h.0 other h.1;
+      }
+
 pub Adds-put : (keys : List Spot) (at : Spot) (new : List Spot) → new ≡ (if list_any (same_spot at) keys then keys else keys ++ at ∷ []) → Adds keys (λ other. other ≡ at) new
-Adds-put keys at new e = subst (Adds keys (λ other. other ≡ at)) (sym e) (by (list_any (same_spot at) keys) refl)
-  where
-    by : (b : Bool) → list_any (same_spot at) keys ≡ b → Adds keys (λ other. other ≡ at) (if b then keys else keys ++ at ∷ [])
-    by true is = Adds-nothing keys (λ other. other ≡ at) (λ other same. subst (IsIn keys) (sym same) (there_from_any at keys is))
-    by false is = record {
-      stays = λ i other h. get_still keys at i other h;
-      there = λ other same. subst (IsIn (keys ++ at ∷ [])) (sym same) (get_last keys at);
-      no_more = λ other h. get_push keys at h.0 other h.1;
-    }
+Adds-put keys at new e = Adds-one same_spot same_spot-true same_spot-same keys at new e
 
 -- answers with one more
 pub AreAnswers-noted : (g : Graph) (old new : List (Spot × Answer)) (at : Spot) (answer : Answer) → AreAnswers g old → IsAnswer g at answer → ((q : Spot) → lookup (same_spot q) new ≡ (if same_spot at q then Some answer else lookup (same_spot q) old)) → AreAnswers g new
@@ -245,7 +255,7 @@ pub AreAnswers-same : (g : Graph) (old new : List (Spot × Answer)) → new ≡ 
 AreAnswers-same g old new e right q other f = right q other (ap (λ l. lookup (same_spot q) l) (sym e) ∙ f)
 
 -- each place of a list has a name
-pub each_place : (list : List Spot) (i : ℕ) → i < length list → (at : Spot) × (slice_get list i ≡ Some at)
+pub each_place : {A : Type 0} (list : List A) (i : ℕ) → i < length list → (at : A) × (slice_get list i ≡ Some at)
 each_place [] i h = absurd (omega arith)
 each_place (x ∷ xs) zero h = (x, refl)
 each_place (x ∷ xs) (suc i) h = each_place xs i (omega arith)

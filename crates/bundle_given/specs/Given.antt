@@ -28,17 +28,21 @@ pub record IsAnswer (g : Graph) (at : Spot) (answer : Answer) : Type 0 where
 abbrev pub AreAnswers : Graph → List (Spot × Answer) → Type 0
 AreAnswers g answers = (at : Spot) (answer : Answer) → lookup (same_spot at) answers ≡ Some answer → IsAnswer g at answer
 
--- The search.
-
--- the name is in the list
-abbrev pub IsIn : List Spot → Spot → Type 0
+-- it is in the list
+abbrev pub IsIn : {A : Type 0} → List A → A → Type 0
 IsIn list at = (i : ℕ) × (slice_get list i ≡ Some at)
 
+-- what is noted after an answer was noted for some of these names
+abbrev pub Notes : List (Spot × Answer) → List Spot → Answer → List (Spot × Answer) → Type 0
+Notes old line answer new = (at : Spot) (its : Answer) → lookup (same_spot at) new ≡ Some its → (lookup (same_spot at) old ≡ Some its) ⊎ (IsIn line at × (its ≡ answer))
+
+-- The search.
+
 -- these are put at the end of the list, as far as they are not in it
-pub record Adds (old : List Spot) (Those : Spot → Type 0) (new : List Spot) : Type 0 where
-  pub stays : (i : ℕ) (at : Spot) → slice_get old i ≡ Some at → slice_get new i ≡ Some at
-  pub there : (at : Spot) → Those at → IsIn new at
-  pub no_more : (at : Spot) → IsIn new at → IsIn old at ⊎ Those at
+pub record Adds {A : Type 0} (old : List A) (Those : A → Type 0) (new : List A) : Type 0 where
+  pub stays : (i : ℕ) (at : A) → slice_get old i ≡ Some at → slice_get new i ≡ Some at
+  pub there : (at : A) → Those at → IsIn new at
+  pub no_more : (at : A) → IsIn new at → IsIn old at ⊎ Those at
 
 -- what b gives a gives too
 abbrev pub Within : Graph → Spot → Spot → Type 0

@@ -1,4 +1,5 @@
 pub mod Graph
 pub mod Answers
 pub mod Given
+pub mod Reached
 pub mod Linked

@@ -2,8 +2,11 @@
 #![tactic(auto)]
 
 mod answer;
+mod index;
+mod line;
 mod links;
 mod search;
+mod walk;
 
 pub use answer::Answer;
 pub use links::{Links, Own};

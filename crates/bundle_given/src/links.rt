@@ -1,6 +1,7 @@
 //! What the own entries of modules say, and which modules each stars.
 
 ghost use Rattle.std.specs.Prelude.{◌≡◌, ◌++◌, ◌∷◌, OnOk, []};
+ghost use Rattle.indexmap.specs.IndexMap.{keys};
 ghost use Rattle.bundle_given.specs.Graph.{graph_of, own_of, stars_of, PutsOwn};
 
 use indexmap::IndexMap;
@@ -66,6 +67,13 @@ impl Links {
         ensures { result ≡ own_of (graph_of self.now) at }
     {
         self.own.get(&at).copied()
+    }
+
+    // The names that have an own entry.
+    pub(crate) fn spots(&self) -> &[(usize, usize)]
+        ensures { result.now ≡ keys self.now.own }
+    {
+        self.own.keys().as_slice()
     }
 
     // The modules that a module stars.

@@ -1,11 +1,14 @@
 //! The search for what is given for a name.
 
-ghost use Rattle.std.specs.Prelude.{◌≡◌, ◌≢◌, ℕ, ◌<◌, ◌≤◌, Some, None, OnOk, OnErr, IfOk, IfSome, length, slice_get, Contains};
-ghost use Rattle.bundle_given.specs.Graph.{Graph, graph_of};
-ghost use Rattle.bundle_given.specs.Given.{IsAnswer, AreAnswers, Steps, Adds, IsIn, Searching};
+ghost use Rattle.std.specs.Prelude.{◌≡◌, IfOk};
+ghost use Rattle.bundle_given.specs.Graph.{graph_of};
+ghost use Rattle.bundle_given.specs.Given.{IsAnswer, Notes};
+ghost use Rattle.bundle_given.specs.Reached.{IsReach};
 
 use crate::answer::Answer;
-use crate::links::{Links, Own};
+use crate::index::Index;
+use crate::line::answer_in_line;
+use crate::links::Links;
 use indexmap::{IndexMap, IndexSet};
 use std::alloc::{AllocError, Global};
 use std::marker::Model;
@@ -13,40 +16,45 @@ use std::marker::Model;
 /// Links, with the answers that were found.
 #[derive(Drop)]
 pub struct Search {
-    links: Links,
+    index: Index,
     answers: IndexMap<(usize, usize), Answer>,
+    /// The modules to which stars lead from the one that was asked last.
+    reach: IndexSet<usize>,
 }
 
 impl Model for Search {
-    ghost use Rattle.bundle_given.specs.Graph.{Graph, graph_of};
-    ghost use Rattle.bundle_given.specs.Given.{AreAnswers};
+    ghost use Rattle.bundle_given.specs.Graph.{Graph};
+    ghost use Rattle.bundle_given.specs.Reached.{IsReady};
 
     ghost Value = { Graph };
 
-    ghost view = { λ s. graph_of s.links };
+    ghost view = { λ s. s.index };
 
-    ghost invariant = { λ s. AreAnswers (graph_of s.links) s.answers.entries };
+    ghost invariant = { λ s. IsReady s.index s.answers.entries s.reach.keys };
 }
 
 impl Search {
     /// A search over links.
-    pub fn new(alloc: Global, links: Links) -> Search
-        ensures { result ≡ graph_of links }
+    pub fn new(alloc: Global, links: Links) -> Result<Search, AllocError>
+        ensures { IfOk result (λ search. search ≡ graph_of links) }
     {
-        Search {
-            links,
+        Ok(Search {
+            index: Index::new(alloc, links)?,
             answers: IndexMap::new(alloc),
-        }
+            reach: IndexSet::new(alloc),
+        })
     }
 
     /// The answer for a name of a module. It is not noted.
     pub fn found(&self, alloc: Global, at: (usize, usize)) -> Result<Answer, AllocError>
         ensures { IfOk result (λ answer. IsAnswer self.now at answer) }
     {
-        found(alloc, &self.links, &self.answers, at)
+        let mut reach = IndexSet::new(alloc);
+        let mut line = IndexSet::new(alloc);
+        answer_in_line(alloc, &self.index, &self.answers, &mut reach, at, &mut line)
     }
 
-    /// The answer for a name of a module, which is noted.
+    /// The answer for a name of a module, which is noted for it and for the names to which it leads alone.
     pub fn answer(&mut self, alloc: Global, at: (usize, usize)) -> Result<Answer, AllocError>
         ensures right { IfOk result (λ answer. IsAnswer self.old at answer) }
         ensures same { self.new ≡ self.old }
@@ -54,94 +62,37 @@ impl Search {
         if let Some(answer) = self.answers.get(&at).copied() {
             return Ok(answer);
         }
-        let answer = self.found(alloc, at)?;
-        self.answers.insert(at, answer)?;
+        let mut line = IndexSet::new(alloc);
+        let answer = answer_in_line(
+            alloc,
+            &self.index,
+            &self.answers,
+            &mut self.reach,
+            at,
+            &mut line,
+        )?;
+        note(&mut self.answers, line.as_slice(), answer)?;
         Ok(answer)
     }
-}
 
-// The answer for a name, by a walk over the names to which it leads. It stops at two.
-fn found(
-    alloc: Global,
-    links: &Links,
-    answers: &IndexMap<(usize, usize), Answer>,
-    at: (usize, usize),
-) -> Result<Answer, AllocError>
-    requires { AreAnswers (graph_of links.now) answers.now.entries }
-    ensures { IfOk result (λ answer. IsAnswer (graph_of links.now) at answer) }
-{
-    let mut met = IndexSet::new(alloc);
-    put(&mut met, at)?;
-    let mut answer = Answer::Missing;
-    let mut done = 0;
-    while done < met.len() {
-        let next = spot_at(&met, done);
-        answer = step(links, answers, next, &mut met, answer)?;
-        if answer.is_two() {
-            return Ok(answer);
-        }
-        done += 1;
+    /// The modules to which stars lead from one, each once, itself first.
+    pub fn reach(&self, alloc: Global, start: usize) -> Result<IndexSet<usize>, AllocError>
+        ensures { IfOk result (λ reach. IsReach self.now start reach.keys) }
+    {
+        self.index.reach(alloc, start)
     }
-    Ok(answer)
 }
 
-// The name at a place of those met.
-fn spot_at(met: &IndexSet<(usize, usize)>, place: usize) -> (usize, usize)
-    requires { place < length met.now.keys }
-    ensures { slice_get met.now.keys place ≡ Some result }
-{
-    met.as_slice()[place]
-}
-
-// Adds what a name gives to the answer, and the names to which it leads to those met.
-fn step(
-    links: &Links,
-    answers: &IndexMap<(usize, usize), Answer>,
-    at: (usize, usize),
-    met: &mut IndexSet<(usize, usize)>,
+// Notes an answer for names.
+fn note(
+    answers: &mut IndexMap<(usize, usize), Answer>,
+    line: &[(usize, usize)],
     answer: Answer,
-) -> Result<Answer, AllocError>
-    requires { AreAnswers (graph_of links.now) answers.now.entries }
-    ensures { IfOk result (λ now. Steps (graph_of links.now) at met.old.keys answer met.new.keys now) }
-{
-    if let Some(known) = answers.get(&at) {
-        return Ok(answer.with_all(*known));
-    }
-    match links.own(at) {
-        Some(Own::Gives(value)) => Ok(answer.with(value)),
-        Some(Own::Leads(next)) => {
-            put(met, next)?;
-            Ok(answer)
-        }
-        Some(Own::Nothing) => Ok(answer),
-        None => {
-            let (module, name) = at;
-            if name != links.default {
-                put_stars(links.stars(module), name, met)?;
-            }
-            Ok(answer)
-        }
-    }
-}
-
-// Notes that a name of each of these modules is met.
-fn put_stars(
-    stars: &[usize],
-    name: usize,
-    met: &mut IndexSet<(usize, usize)>,
 ) -> Result<(), AllocError>
-    ensures { OnOk result (Adds met.old.keys (λ at. Contains stars.now at.0 × (at.1 ≡ name)) met.new.keys) }
+    ensures { Notes answers.old.entries line.now answer answers.new.entries }
 {
-    for star in stars {
-        put(met, (*star, name))?;
+    for at in line {
+        answers.insert(*at, answer)?;
     }
-    Ok(())
-}
-
-// Notes that a name is met.
-fn put(met: &mut IndexSet<(usize, usize)>, at: (usize, usize)) -> Result<(), AllocError>
-    ensures { OnOk result (Adds met.old.keys (λ other. other ≡ at) met.new.keys) }
-{
-    met.insert_full(at)?;
     Ok(())
 }
