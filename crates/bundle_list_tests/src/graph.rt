@@ -1,5 +1,5 @@
 //! Tests of what no clause says: that each call succeeds, and what known graphs give. What leads to what in long
-//! chains is compared by `bundle_calls`.
+//! chains is compared by `bundle_rows`.
 
 use bundle_graph::graph::{ModuleGraph, closure, cycles, order};
 use bundle_graph::sort::EdgeDirection::{Incoming, Outgoing};

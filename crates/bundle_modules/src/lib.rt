@@ -4,5 +4,4 @@
 pub mod modules;
 mod sort;
 
-pub use bundle_parts::Iter;
-pub use modules::Modules;
+pub use modules::{Iter, Modules};

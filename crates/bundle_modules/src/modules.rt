@@ -8,7 +8,8 @@ ghost use Rattle.bundle_terms.specs.Parts.{MapsItems, MapsLists, Retains, body_o
 use bundle_ast::{Module, ModuleItem};
 use bundle_id::ModuleId;
 use bundle_name::Error;
-use bundle_parts::{Iter, Parts};
+pub use bundle_parts::Iter;
+use bundle_parts::Parts;
 use std::alloc::{AllocError, Global};
 use std::marker::Model;
 

@@ -95,6 +95,8 @@ pub use swc_bundler::marks::Node;
 pub use swc_bundler::marks::Occurrence;
 pub use swc_bundler::marks::marks;
 pub use swc_bundler::marks::with_idents;
+pub use swc_bundler::modules::Iter;
+pub use swc_bundler::modules::Modules;
 pub use swc_bundler::resolve::Resolve;
 pub use swc_bundler::resolve::ResolveError;
 pub use swc_bundler::scope::Contexts;

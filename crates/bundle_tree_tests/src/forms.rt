@@ -1,32 +1,10 @@
-use bundle_form::{FormError, read_module, read_properties, tree_value};
-use bundle_leaf::kind::ExportMetadata;
-use bundle_piece::{Node, Piece};
-use json::{Scratch, Value};
+//! Lists that no tree of a row shows: those of no module, and that of a single node.
+
+use bundle_form::{FormError, tree_value};
+use bundle_piece::{Node, Piece, Role};
+use bundle_restore::{BuildError, build_module};
 use std::alloc::AllocError;
 use std::test::Fail;
-
-#[test]
-fn a_module_is_read_with_what_stands_in_it(rt: HostRuntime) -> Result<(), Fail> {
-    let text =
-        br#"{"type":"Module","ctxt":1,"body":[{"type":"ExprStmt","expr":{"type":"Ident","sym":"a"}}]}"#;
-    let mut scratch = Scratch::new(rt.alloc());
-    let value = Value::from_slice(rt.alloc(), text, &mut scratch)?;
-    let meta = ExportMetadata::default();
-    let list = read_module(rt.alloc(), &value, &meta)?;
-    assert_eq!(rt; list.len(), 5);
-    Ok(())
-}
-
-#[test]
-fn properties_are_read_from_a_list(rt: HostRuntime) -> Result<(), Fail> {
-    let text = br#"[{"type":"Null"},{"type":"Bool"}]"#;
-    let mut scratch = Scratch::new(rt.alloc());
-    let value = Value::from_slice(rt.alloc(), text, &mut scratch)?;
-    let meta = ExportMetadata::default();
-    let list = read_properties(rt.alloc(), &value, &meta)?;
-    assert_eq!(rt; list.len(), 4);
-    Ok(())
-}
 
 #[test]
 fn a_list_is_written_with_every_field(rt: HostRuntime) -> Result<(), Fail> {
@@ -49,4 +27,18 @@ fn a_refusal_says_why(rt: HostRuntime) -> Result<(), Fail> {
     let text = format!(in rt.alloc(); "{refused}")?;
     assert_eq!(rt; text.as_str(), "out of memory");
     Ok(())
+}
+
+#[test]
+fn what_is_no_tree_is_refused(rt: HostRuntime) {
+    let ident = Piece::Ident {
+        field: 0,
+        sym: "x",
+        ctxt: 0,
+        role: Role::Reference,
+    };
+    let refused = build_module(rt.alloc(), &[ident]);
+    assert!(rt; matches!(refused, Err(BuildError::Form)));
+    let refused = build_module(rt.alloc(), &[]);
+    assert!(rt; matches!(refused, Err(BuildError::Form)));
 }

@@ -6,6 +6,7 @@ pub use bundle_ast as ast;
 pub use bundle_copy::TryClone;
 pub use bundle_link::{link, tables};
 pub use bundle_marks as marks;
+pub use bundle_modules::modules;
 pub use bundle_name::error::Error;
 pub use bundle_order::{graph, sort};
 pub use bundle_scope::scope;
