@@ -1,5 +1,5 @@
 -- What the program answers to a document.
-use Rattle.std.specs.Prelude.{◌≡◌, ℕ, Bool, None, List, ◌++◌, codes, decimal}
+use Rattle.std.specs.Prelude.{ℕ, Bool, List, ◌++◌, codes, decimal}
 use Rattle.std.specs.List.{AllZip}
 use Rattle.bundle_name.specs.Error.{number_of, variant_name}
 use Rattle.bundle_name.specs.FileName.{Name}
@@ -12,7 +12,7 @@ use Rattle.bundle_bundler.specs.Kept.{answers_of, parties_of, settings_of}
 use Rattle.bundle_bundler.specs.Refusal.{IsRefusedLoading}
 use Rattle.bundle_bundler.specs.declared.bundle.Bundle.{Bundle}
 use Rattle.bundle_document.specs.Bundles.{IsCompactTextOf, IsTextOf}
-use Rattle.bundle_document.specs.Parties.{module_of, GivesModule, LeadsTo}
+use Rattle.bundle_document.specs.Parties.{GivesModule, LacksModule, LeadsTo}
 use Rattle.bundle_document.specs.declared.document.Document.{Document}
 
 -- the line of a refusal: its number and its name
@@ -44,7 +44,7 @@ pub record IsRefusal (may_give : Name → Bool → List (KeyValueProp Expr) → 
   pub right : IsRefusedLoading
       (parties_of
       (GivesModule document.files)
-      (λ file. module_of document.files file ≡ None)
+      (LacksModule document.files)
       (λ base. LeadsTo)
       (λ base specifier. (file : Name) → ¬ LeadsTo specifier file)
       may_give

@@ -21,6 +21,10 @@ pub record GivesModule (files : BTreeMap (String Global) Module) (file : Name) (
   pub name : name_of given.file_name ≡ file
   pub tree : IsSomeAnd (module_of files file) (λ its. module_items 0 given.«module» ≡ module_items 0 its)
 
+-- there is no module for the file
+pub record LacksModule (files : BTreeMap (String Global) Module) (file : Name) : Type 0 where
+  pub none : module_of files file ≡ None
+
 -- a path, with `.js` behind it where it does not end so
 abbrev pub script_path : List ℕ → List ℕ
 script_path path = if ends_with eqb path (codes ".js") then path else path ++ codes ".js"

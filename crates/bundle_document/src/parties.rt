@@ -23,12 +23,11 @@ pub(crate) struct DocumentLoader {
 
 /// It fails only where the document has no module for the file.
 impl Load for DocumentLoader {
-    ghost use Rattle.std.specs.Prelude.{◌≡◌, None};
-    ghost use Rattle.bundle_document.specs.Parties.{module_of, GivesModule};
+    ghost use Rattle.bundle_document.specs.Parties.{GivesModule, LacksModule};
 
     ghost may_load = { λ loader. GivesModule loader.files };
 
-    ghost may_fail_load = { λ loader file. module_of loader.files file ≡ None };
+    ghost may_fail_load = { λ loader. LacksModule loader.files };
 
     fn load(&self, alloc: Global, file: &FileName) -> Result<ModuleData, LoadError> {
         let FileName::Real(name) = file else {

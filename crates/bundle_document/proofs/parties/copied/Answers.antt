@@ -14,6 +14,6 @@ pub loop-property-preserved : goal.loop-property-preserved
 loop-property-preserved c =
     let l = c.loop-property in
     let property = c.property-item.result in
-    let front : take (l.property-index + 1) l.properties ≡ take l.property-index l.properties ++ property ∷ [] =
-    take_more l.properties l.property-index property (omega arith) ∙ ap (λ it. take l.property-index l.properties ++ it ∷ []) (sym c.property-item.is) in
+    let front : take (l.property-index + 1) c.args.properties.now ≡ take l.property-index c.args.properties.now ++ property ∷ [] =
+    take_more c.args.properties.now l.property-index property (omega arith) ∙ ap (λ it. take l.property-index c.args.properties.now ++ it ∷ []) (sym c.property-item.is) in
     rw (c.in_ok-push.ensures.items, front) (alike_more (key_value_prop_items 0) _ _ property c.in_ok-made.made l.invariant (c.in_ok-made.ensures 0))
