@@ -78,7 +78,7 @@ fn answer_text(alloc: Global, document: Document, hook: Box<dyn Hook>) -> Result
         files,
         entries,
     } = document;
-    let loader = DocumentLoader::new(files);
+    let loader = DocumentLoader { files };
     let mut bundler = Bundler::new(alloc, loader, DocumentResolver, config, hook);
     let bundles = bundler.bundle(alloc, entries)?;
     drop(bundler);

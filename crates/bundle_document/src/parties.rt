@@ -2,54 +2,55 @@
 
 ghost use Rattle.std.specs.Prelude.{◌≡◌, string_bytes, IfOk};
 ghost use Rattle.std.specs.List.{flat_map};
-ghost use Rattle.bundle_pieces.specs.Tree.{key_value_prop_items};
+ghost use Rattle.bundle_name.specs.FileName.{name_of, real};
+ghost use Rattle.bundle_pieces.specs.Tree.{key_value_prop_items, module_items};
 ghost use Rattle.bundle_document.specs.Parties.{lists_of, script_path};
 
 use bundle_ast::{KeyValueProp, Module};
-use bundle_listing::pieces_of_properties;
+use bundle_copy::TryClone;
 use bundle_name::file_name::FileName;
-use bundle_restore::{BuildError, build_properties};
 use bundle_tree::hook::{Hook, HookError, ModuleRecord};
 use bundle_tree::load::{Load, LoadError, ModuleData};
 use bundle_tree::resolve::{Resolve, ResolveError};
 use std::alloc::{AllocError, Global};
-use std::cell::RefCell;
 use std::collections::BTreeMap;
 
-/// Gives each file of a document once.
+/// Gives the module of each file of a document, another tree with the same list each time.
 #[derive(Drop)]
 pub(crate) struct DocumentLoader {
-    files: RefCell<BTreeMap<String, Module>>,
+    pub(crate) files: BTreeMap<String, Module>,
 }
 
-impl DocumentLoader {
-    pub(crate) fn new(files: BTreeMap<String, Module>) -> DocumentLoader {
-        DocumentLoader {
-            files: RefCell::new(files),
-        }
-    }
-}
-
+/// It fails only where the document has no module for the file.
 impl Load for DocumentLoader {
-    ghost use Rattle.bundle_document.specs.Parties.{MayLoad};
+    ghost use Rattle.bundle_document.specs.Parties.{GivesModule, LacksModule};
 
-    ghost may_load = { λ _. MayLoad };
+    ghost may_load = { λ loader. GivesModule loader.files };
 
-    ghost may_fail_load = { λ _ _. Unit {0} };
+    ghost may_fail_load = { λ loader. LacksModule loader.files };
 
-    fn load(&self, _alloc: Global, file: &FileName) -> Result<ModuleData, LoadError> {
+    fn load(&self, alloc: Global, file: &FileName) -> Result<ModuleData, LoadError> {
         let FileName::Real(name) = file else {
             return Err(LoadError::Failed);
         };
-        let file_name = FileName::Real(name.clone().map_err(|_| LoadError::OutOfMemory)?);
-        let Ok(mut files) = self.files.try_borrow_mut() else {
+        let Some(module) = self.files.get(name.as_str()) else {
             return Err(LoadError::Failed);
         };
-        match files.remove(name.as_str()) {
-            Some(module) => Ok(ModuleData { file_name, module }),
-            None => Err(LoadError::Failed),
+        match named_copy(alloc, name, module) {
+            Ok(loaded) => Ok(loaded),
+            Err(_) => Err(LoadError::OutOfMemory),
         }
     }
+}
+
+// A copy of a module, under the name of its file.
+fn named_copy(alloc: Global, name: &String, module: &Module) -> Result<ModuleData, AllocError>
+    ensures file { IfOk result (λ made. name_of made.file_name ≡ real (string_bytes name.now)) }
+    ensures tree { IfOk result (λ made. module_items 0 made.«module» ≡ module_items 0 «module».now) }
+{
+    let file_name = FileName::Real(name.clone()?);
+    let module = module.try_clone(alloc)?;
+    Ok(ModuleData { file_name, module })
 }
 
 /// Resolves `./r` to `r`, with `.js` behind it where it does not end so.
@@ -109,13 +110,13 @@ impl MetaHook {
     }
 }
 
-/// A list is given anew each time, as another list with the same trees. It fails only where there is one.
+/// A list is given anew each time, as another list with the same trees. It never fails.
 impl Hook for MetaHook {
-    ghost use Rattle.bundle_document.specs.Parties.{GivesList, HasList};
+    ghost use Rattle.bundle_document.specs.Parties.{GivesList};
 
     ghost may_give = { λ hook file _. GivesList hook file };
 
-    ghost may_fail_hook = { λ hook file _. HasList hook file };
+    ghost may_fail_hook = { λ _ _ _. ⊥ };
 
     fn get_import_meta_props(
         &self,
@@ -125,23 +126,24 @@ impl Hook for MetaHook {
         let FileName::Real(name) = &module.file_name else {
             return Ok(Vec::new(alloc));
         };
-        match self.lists.get(name.as_str()) {
-            Some(properties) => copied(alloc, properties.as_slice()),
-            None => Ok(Vec::new(alloc)),
+        let Some(properties) = self.lists.get(name.as_str()) else {
+            return Ok(Vec::new(alloc));
+        };
+        match copied(alloc, properties.as_slice()) {
+            Ok(copy) => Ok(copy),
+            Err(_) => Err(HookError::OutOfMemory),
         }
     }
 }
 
 // Another list of properties with the same trees.
-fn copied(alloc: Global, properties: &[KeyValueProp]) -> Result<Vec<KeyValueProp>, HookError>
+fn copied(alloc: Global, properties: &[KeyValueProp]) -> Result<Vec<KeyValueProp>, AllocError>
     ensures { IfOk result (λ copy. flat_map (key_value_prop_items 0) copy.items ≡ flat_map (key_value_prop_items 0) properties.now) }
 {
-    let Ok(pieces) = pieces_of_properties(alloc, properties) else {
-        return Err(HookError::OutOfMemory);
-    };
-    match build_properties(alloc, pieces.as_slice()) {
-        Ok(copy) => Ok(copy),
-        Err(BuildError::Form) => Err(HookError::Failed),
-        Err(BuildError::OutOfMemory) => Err(HookError::OutOfMemory),
+    let mut copy = Vec::new(alloc);
+    for property in properties {
+        let made = property.try_clone(alloc)?;
+        copy.push(made)?;
     }
+    Ok(copy)
 }
