@@ -6,3 +6,4 @@ pub mod FarLemmas
 pub mod KindLemmas
 pub mod ReachLemmas
 pub mod LineLemmas
+pub mod SaidLemmas

@@ -3,3 +3,4 @@ pub mod Answers
 pub mod Given
 pub mod Reached
 pub mod Linked
+pub mod Said
