@@ -11,7 +11,7 @@ use std::alloc::Global;
 
 /// What names of modules stand for.
 pub(crate) fn given_text(alloc: Global, row: &Value) -> Result<String> {
-    let mut search = Search::new(alloc, links_of(alloc, row)?);
+    let mut search = Search::new(alloc, links_of(alloc, row)?)?;
     answers_text(alloc, &mut search, list(row, "asks"))
 }
 
