@@ -1,4 +1,0 @@
-mod Nodes
-mod Parts
-mod Built
-mod Loads

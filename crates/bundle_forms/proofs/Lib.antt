@@ -1,5 +1,0 @@
-mod Items
-mod Objects
-mod Quiet
-mod Body
-mod Order
