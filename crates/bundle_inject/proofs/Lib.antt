@@ -1,0 +1,4 @@
+mod Nodes
+mod Parts
+mod Built
+mod Loads

@@ -1,13 +1,25 @@
 //! CommonJS modules: the helper that runs one at its first call, the function of one, and the statement that loads
 //! one.
 
-use crate::declaration::{declaration, declarator};
-use crate::function::{argument, call, function, parameters};
+ghost use Rattle.std.specs.Prelude.{◌≡◌, ◌++◌, ℕ, [], IfOk, None, Some, codes, map};
+ghost use Rattle.std.specs.Option.{option_map};
+ghost use Rattle.bundle_leaf.specs.declared.kind.VarDeclKind.TheVariants.{Var};
+ghost use Rattle.bundle_leaf.specs.declared.operator.UnaryOp.TheVariants.{Bang};
+ghost use Rattle.bundle_piece.specs.Item.{BlockStmt as BlockHead, ExprStmt, FnExpr, KeyValueProp as KeyHead, ObjectLit, UnaryExpr, VarDecl};
+ghost use Rattle.bundle_piece.specs.declared.piece.Role.TheVariants.{Binding, Reference};
+ghost use Rattle.bundle_pieces.specs.Tree.{each_expr_or_spread_items, each_stmt_items, expr_items, function_items, node, object_pat_prop_items, pat_items, prop_or_spread_items, stmt_items, var_declarator_items};
+ghost use Rattle.bundle_terms.specs.Statements.{no_notes};
+ghost use Rattle.bundle_lists.specs.Marks.{ident_of};
+ghost use Rattle.bundle_inject.specs.Listed.{call_in, declarator as declarator_lem, exported, function_in, helper_body as helper_body_lem, helper_function as helper_function_lem, load_argument as load_argument_lem, load_call as load_call_lem, load_function as load_function_lem, load_pattern as load_pattern_lem, load_property as load_property_lem, load_statement as load_statement_lem, loads_once, makes_module, member as member_lem, named, pair_of, parameter, pattern_of, returns_exports, run_arguments as run_arguments_lem, runs_module};
+
+use crate::declaration::{bare_variable, declarator, variable, variables};
+use crate::function::{call, call_bare, closure, function, parameters};
 use crate::name::{Pair, ident, key, pattern, reference, word};
+use crate::row::{argument, one_argument, two_stmts};
 use bundle_ast::{
-    AssignOp, AssignTarget, BindingIdent, BlockStmt, Decl, ExportMetadata, Expr, Function,
+    AssignOp, AssignTarget, BindingIdent, BlockStmt, Decl, Expr, ExprOrSpread, Function,
     KeyValueProp, MemberExpr, MemberProp, ObjectPat, ObjectPatProp, Pat, Prop, PropName,
-    PropOrSpread, Stmt, UnaryOp, VarDeclKind, VarDeclarator,
+    PropOrSpread, Stmt, UnaryOp, VarDeclarator,
 };
 use bundle_lists::Name;
 use std::alloc::{AllocError, Global};
@@ -19,49 +31,143 @@ pub fn load_statement<'a>(
     load: Name<'a>,
     whole: Option<Name<'a>>,
     names: &[Pair<'a>],
-) -> Result<Stmt, AllocError> {
-    if whole.is_none() && names.is_empty() {
-        let expr = load_call(alloc, load)?;
-        return Ok(Stmt::ExprStmt { expr });
+) -> Result<Stmt, AllocError>
+    ensures { IfOk result (λ made. stmt_items 0 made ≡ load_statement_lem (ident_of load.entry)
+        (option_map ident_of whole.entry) (map pair_of names.now)) }
+{
+    match whole {
+        Some(whole) => load_whole(alloc, load, whole, names),
+        None => load_names(alloc, load, names),
     }
-    let mut decls = Vec::new(alloc);
-    if let Some(whole) = whole {
-        let name = pattern(alloc, whole)?;
-        decls.push(declarator(name, load_call(alloc, load)?))?;
+}
+
+// `load();` or `var { n: l, .. } = load();`
+fn load_names<'a>(alloc: Global, load: Name<'a>, names: &[Pair<'a>]) -> Result<Stmt, AllocError>
+    ensures { IfOk result (λ made. stmt_items 0 made
+        ≡ load_statement_lem (ident_of load.entry) None (map pair_of names.now)) }
+{
+    if names.is_empty() {
+        load_alone(alloc, load)
+    } else {
+        load_taken(alloc, load, names)
     }
-    if !names.is_empty() {
-        let value = match whole {
-            Some(whole) => reference(alloc, whole)?,
-            None => load_call(alloc, load)?,
-        };
-        decls.push(declarator(load_pattern(alloc, names)?, value))?;
+}
+
+// `load();`
+fn load_alone<'a>(alloc: Global, load: Name<'a>) -> Result<Stmt, AllocError>
+    ensures { IfOk result
+        (λ made. stmt_items 0 made ≡ node 0 ExprStmt (load_call_lem 0 (ident_of load.entry))) }
+{
+    let expr = load_call(alloc, load)?;
+    Ok(Stmt::ExprStmt { expr })
+}
+
+// `var { n: l, .. } = load();`
+fn load_taken<'a>(alloc: Global, load: Name<'a>, names: &[Pair<'a>]) -> Result<Stmt, AllocError>
+    ensures { IfOk result (λ made. stmt_items 0 made ≡ node 0 (VarDecl Var no_notes)
+        (declarator_lem (load_pattern_lem (map pair_of names.now)) (load_call_lem 1 (ident_of load.entry)))) }
+{
+    let value = load_call(alloc, load)?;
+    let name = load_pattern(alloc, names)?;
+    variable(alloc, declarator(name, value))
+}
+
+// `var whole = load();` or `var whole = load(), { n: l, .. } = whole;`
+fn load_whole<'a>(
+    alloc: Global,
+    load: Name<'a>,
+    whole: Name<'a>,
+    names: &[Pair<'a>],
+) -> Result<Stmt, AllocError>
+    ensures { IfOk result (λ made. stmt_items 0 made ≡ load_statement_lem (ident_of load.entry)
+        (Some (ident_of whole.entry)) (map pair_of names.now)) }
+{
+    let first = whole_declarator(alloc, load, whole)?;
+    if names.is_empty() {
+        variable(alloc, first)
+    } else {
+        load_both(alloc, first, whole, names)
     }
-    Ok(declaration(VarDeclKind::Var, decls, ExportMetadata::default()))
+}
+
+// `var .., { n: l, .. } = whole;`, with this declarator first.
+fn load_both<'a>(
+    alloc: Global,
+    first: VarDeclarator,
+    whole: Name<'a>,
+    names: &[Pair<'a>],
+) -> Result<Stmt, AllocError>
+    ensures { IfOk result (λ made. stmt_items 0 made ≡ node 0 (VarDecl Var no_notes)
+        (var_declarator_items 1 first ++ declarator_lem (load_pattern_lem (map pair_of names.now))
+        (named 1 Reference (ident_of whole.entry)))) }
+{
+    let second = names_declarator(alloc, whole, names)?;
+    variables(alloc, first, second)
+}
+
+// `whole = load()`
+fn whole_declarator<'a>(
+    alloc: Global,
+    load: Name<'a>,
+    whole: Name<'a>,
+) -> Result<VarDeclarator, AllocError>
+    ensures { IfOk result (λ made. var_declarator_items 1 made
+        ≡ declarator_lem (pattern_of 0 Binding (ident_of whole.entry)) (load_call_lem 1 (ident_of load.entry))) }
+{
+    let value = load_call(alloc, load)?;
+    let name = pattern(alloc, whole)?;
+    Ok(declarator(name, value))
+}
+
+// `{ n: l, .. } = whole`
+fn names_declarator<'a>(
+    alloc: Global,
+    whole: Name<'a>,
+    names: &[Pair<'a>],
+) -> Result<VarDeclarator, AllocError>
+    ensures { IfOk result (λ made. var_declarator_items 1 made
+        ≡ declarator_lem (load_pattern_lem (map pair_of names.now)) (named 1 Reference (ident_of whole.entry))) }
+{
+    let value = reference(alloc, whole)?;
+    let name = load_pattern(alloc, names)?;
+    Ok(declarator(name, value))
 }
 
 // `load()`
-fn load_call<'a>(alloc: Global, load: Name<'a>) -> Result<Expr, AllocError> {
-    call(alloc, reference(alloc, load)?, Vec::new(alloc))
+fn load_call<'a>(alloc: Global, load: Name<'a>) -> Result<Expr, AllocError>
+    ensures { IfOk result
+        (λ made. (field : ℕ) → expr_items field made ≡ load_call_lem field (ident_of load.entry)) }
+{
+    let callee = reference(alloc, load)?;
+    call_bare(alloc, callee)
 }
 
 // `{ n: l, .. }`, as a pattern.
-fn load_pattern<'a>(alloc: Global, names: &[Pair<'a>]) -> Result<Pat, AllocError> {
+#[tactic(auto, using(crate::proofs::Nodes::nodes), unfolding(bundle_pieces::specs::Tree::stmt_items))]
+fn load_pattern<'a>(alloc: Global, names: &[Pair<'a>]) -> Result<Pat, AllocError>
+    ensures { IfOk result
+        (λ made. pat_items Binding 0 made ≡ load_pattern_lem (map pair_of names.now)) }
+{
     let mut props = Vec::new(alloc);
     for pair in names {
-        props.push(load_property(alloc, *pair)?)?;
+        let prop = load_property(alloc, *pair)?;
+        props.push(prop)?;
     }
     Ok(Pat::ObjectPat(ObjectPat { props }))
 }
 
 // `n: l`, in a pattern.
-fn load_property<'a>(alloc: Global, pair: Pair<'a>) -> Result<ObjectPatProp, AllocError> {
-    let key = key(alloc, pair.name)?;
+fn load_property<'a>(alloc: Global, pair: Pair<'a>) -> Result<ObjectPatProp, AllocError>
+    ensures { IfOk result
+        (λ made. object_pat_prop_items Binding 0 made ≡ load_property_lem (pair_of pair.entry)) }
+{
     let value = pattern(alloc, pair.local)?;
+    let key = key(alloc, pair.name)?;
     Ok(ObjectPatProp::KeyValuePatProp { key, value })
 }
 
 /// The names of a load function: its own, that of the helper, and its two parameters.
-#[derive(Clone, Copy, Debug)]
+#[derive(Clone, Copy)]
 pub struct LoadNames<'a> {
     pub load: Name<'a>,
     pub helper: Name<'a>,
@@ -75,19 +181,42 @@ pub fn load_function<'a>(
     alloc: Global,
     names: LoadNames<'a>,
     stmts: Vec<Stmt>,
-) -> Result<Stmt, AllocError> {
-    let body = function(alloc, &[names.module, names.exports], stmts)?;
-    let mut args = Vec::new(alloc);
-    args.push(argument(body))?;
-    let value = call(alloc, reference(alloc, names.helper)?, args)?;
+) -> Result<Stmt, AllocError>
+    ensures { IfOk result (λ made. stmt_items 0 made ≡ load_function_lem (ident_of names.entry.load)
+        (ident_of names.entry.helper) (ident_of names.entry.module) (ident_of names.entry.exports)
+        (each_stmt_items 0 stmts)) }
+{
+    let value = load_value(alloc, names, stmts)?;
     let name = pattern(alloc, names.load)?;
-    let mut decls = Vec::new(alloc);
-    decls.push(declarator(name, value))?;
-    Ok(declaration(VarDeclKind::Var, decls, ExportMetadata::default()))
+    variable(alloc, declarator(name, value))
+}
+
+// `helper(function (module, exports) { .. })`
+fn load_value<'a>(alloc: Global, names: LoadNames<'a>, stmts: Vec<Stmt>) -> Result<Expr, AllocError>
+    ensures { IfOk result (λ made. (field : ℕ) → expr_items field made
+        ≡ call_in field (named 0 Reference (ident_of names.entry.helper)) (load_argument_lem
+        (ident_of names.entry.module) (ident_of names.entry.exports) (each_stmt_items 0 stmts))) }
+{
+    let callee = reference(alloc, names.helper)?;
+    let args = load_argument(alloc, names, stmts)?;
+    call(alloc, callee, args)
+}
+
+// `function (module, exports) { .. }`, as the one argument of a call.
+fn load_argument<'a>(
+    alloc: Global,
+    names: LoadNames<'a>,
+    stmts: Vec<Stmt>,
+) -> Result<Vec<ExprOrSpread>, AllocError>
+    ensures { IfOk result (λ made. each_expr_or_spread_items 1 made ≡ load_argument_lem
+        (ident_of names.entry.module) (ident_of names.entry.exports) (each_stmt_items 0 stmts)) }
+{
+    let params = parameters(alloc, &[names.module, names.exports])?;
+    one_argument(alloc, function(params, stmts))
 }
 
 /// The names of the helper: its own, that of its parameter, and that of its variable.
-#[derive(Clone, Copy, Debug)]
+#[derive(Clone, Copy)]
 pub struct HelperNames<'a> {
     pub helper: Name<'a>,
     pub func: Name<'a>,
@@ -97,53 +226,60 @@ pub struct HelperNames<'a> {
 /// `function helper(func) { var module; return function () { if (!module) { module = { exports: {} };
 /// func.call(module.exports, module, module.exports); } return module.exports; }; }`. Refused only where memory
 /// runs out.
-pub fn helper<'a>(alloc: Global, names: HelperNames<'a>) -> Result<Stmt, AllocError> {
+pub fn helper<'a>(alloc: Global, names: HelperNames<'a>) -> Result<Stmt, AllocError>
+    ensures { IfOk result (λ made. stmt_items 0 made ≡ helper_function_lem (ident_of names.entry.helper)
+        (ident_of names.entry.func) (ident_of names.entry.module)) }
+{
+    let function = helper_function(alloc, names)?;
     let ident = ident(alloc, names.helper)?;
-    let params = parameters(alloc, &[names.func])?;
+    Ok(Stmt::Decl(Decl::FnDecl { ident, function }))
+}
+
+// `(func) { .. }`
+fn helper_function<'a>(alloc: Global, names: HelperNames<'a>) -> Result<Function, AllocError>
+    ensures { IfOk result (λ made. function_items 1 made
+        ≡ function_in 1 (parameter (ident_of names.entry.func))
+        (helper_body_lem (ident_of names.entry.func) (ident_of names.entry.module))) }
+{
     let stmts = helper_body(alloc, names)?;
-    Ok(Stmt::Decl(Decl::FnDecl {
-        ident,
-        function: Function {
-            params,
-            body: BlockStmt { stmts },
-            is_generator: false,
-            is_async: false,
-        },
-    }))
+    let params = parameters(alloc, &[names.func])?;
+    Ok(Function {
+        params,
+        body: BlockStmt { stmts },
+        is_generator: false,
+        is_async: false,
+    })
 }
 
 // `var module; return function () { .. };`
-fn helper_body<'a>(alloc: Global, names: HelperNames<'a>) -> Result<Vec<Stmt>, AllocError> {
-    let name = pattern(alloc, names.module)?;
-    let mut decls = Vec::new(alloc);
-    decls.push(VarDeclarator { name, init: None })?;
-    let mut stmts = Vec::new(alloc);
-    stmts.push(declaration(VarDeclKind::Var, decls, ExportMetadata::default()))?;
-    let arg = Some(loader(alloc, names)?);
-    stmts.push(Stmt::ReturnStmt { arg })?;
-    Ok(stmts)
+fn helper_body<'a>(alloc: Global, names: HelperNames<'a>) -> Result<Vec<Stmt>, AllocError>
+    ensures { IfOk result (λ made. each_stmt_items 0 made
+        ≡ helper_body_lem (ident_of names.entry.func) (ident_of names.entry.module)) }
+{
+    let first = bare_variable(alloc, names.module)?;
+    let loader = loader(alloc, names)?;
+    two_stmts(alloc, first, Stmt::ReturnStmt { arg: Some(loader) })
 }
 
 // `function () { if (!module) { .. } return module.exports; }`
-fn loader<'a>(alloc: Global, names: HelperNames<'a>) -> Result<Expr, AllocError> {
-    let mut stmts = Vec::new(alloc);
-    stmts.push(load_once(alloc, names)?)?;
-    let arg = Some(exports_of(alloc, names)?);
-    stmts.push(Stmt::ReturnStmt { arg })?;
-    function(alloc, &[], stmts)
+fn loader<'a>(alloc: Global, names: HelperNames<'a>) -> Result<Expr, AllocError>
+    ensures { IfOk result (λ made. expr_items 0 made ≡ node 0 FnExpr
+        (function_in 1 [] (loads_once (ident_of names.entry.func) (ident_of names.entry.module)
+        ++ returns_exports (ident_of names.entry.module)))) }
+{
+    let once = load_once(alloc, names)?;
+    let exports = exports_of(alloc, names)?;
+    let stmts = two_stmts(alloc, once, Stmt::ReturnStmt { arg: Some(exports) })?;
+    Ok(closure(alloc, stmts))
 }
 
 // `if (!module) { module = { exports: {} }; func.call(module.exports, module, module.exports); }`
-fn load_once<'a>(alloc: Global, names: HelperNames<'a>) -> Result<Stmt, AllocError> {
-    let module = Box::new(alloc, reference(alloc, names.module)?)?;
-    let test = Expr::UnaryExpr {
-        op: UnaryOp::Bang,
-        arg: module,
-    };
-    let mut stmts = Vec::new(alloc);
-    stmts.push(make_module(alloc, names)?)?;
-    stmts.push(run_module(alloc, names)?)?;
-    let cons = Box::new(alloc, Stmt::BlockStmt(BlockStmt { stmts }))?;
+fn load_once<'a>(alloc: Global, names: HelperNames<'a>) -> Result<Stmt, AllocError>
+    ensures { IfOk result (λ made. stmt_items 0 made
+        ≡ loads_once (ident_of names.entry.func) (ident_of names.entry.module)) }
+{
+    let test = not_loaded(alloc, names)?;
+    let cons = first_load(alloc, names)?;
     Ok(Stmt::IfStmt {
         test,
         cons,
@@ -151,16 +287,35 @@ fn load_once<'a>(alloc: Global, names: HelperNames<'a>) -> Result<Stmt, AllocErr
     })
 }
 
+// `!module`
+fn not_loaded<'a>(alloc: Global, names: HelperNames<'a>) -> Result<Expr, AllocError>
+    ensures { IfOk result (λ made. expr_items 0 made
+        ≡ node 0 (UnaryExpr Bang) (named 1 Reference (ident_of names.entry.module))) }
+{
+    let arg = boxed_reference(alloc, names.module)?;
+    let op = UnaryOp::Bang;
+    Ok(Expr::UnaryExpr { op, arg })
+}
+
+// `{ module = { exports: {} }; func.call(module.exports, module, module.exports); }`
+fn first_load<'a>(alloc: Global, names: HelperNames<'a>) -> Result<Box<Stmt>, AllocError>
+    ensures { IfOk result (λ made. stmt_items 1 made.value ≡ node 1 BlockHead
+        (makes_module (ident_of names.entry.module)
+        ++ runs_module (ident_of names.entry.func) (ident_of names.entry.module))) }
+{
+    let make = make_module(alloc, names)?;
+    let run = run_module(alloc, names)?;
+    let stmts = two_stmts(alloc, make, run)?;
+    let block = Box::new(alloc, Stmt::BlockStmt(BlockStmt { stmts }))?;
+    Ok(block)
+}
+
 // `module = { exports: {} };`
-fn make_module<'a>(alloc: Global, names: HelperNames<'a>) -> Result<Stmt, AllocError> {
+fn make_module<'a>(alloc: Global, names: HelperNames<'a>) -> Result<Stmt, AllocError>
+    ensures { IfOk result (λ made. stmt_items 0 made ≡ makes_module (ident_of names.entry.module)) }
+{
     let id = ident(alloc, names.module)?;
-    let value = Expr::ObjectLit {
-        props: Vec::new(alloc),
-    };
-    let key = PropName::IdentName(word(alloc, "exports")?);
-    let mut props = Vec::new(alloc);
-    props.push(PropOrSpread::Prop(Prop::KeyValueProp(KeyValueProp { key, value })))?;
-    let right = Box::new(alloc, Expr::ObjectLit { props })?;
+    let right = empty_module(alloc)?;
     Ok(Stmt::ExprStmt {
         expr: Expr::AssignExpr {
             op: AssignOp::Assign,
@@ -170,25 +325,76 @@ fn make_module<'a>(alloc: Global, names: HelperNames<'a>) -> Result<Stmt, AllocE
     })
 }
 
+// `{ exports: {} }`
+fn empty_module(alloc: Global) -> Result<Box<Expr>, AllocError>
+    ensures { IfOk result
+        (λ made. (field : ℕ) → expr_items field made.value ≡ node field ObjectLit exported) }
+{
+    let prop = empty_exports(alloc)?;
+    let props = vec![in alloc; prop]?;
+    let object = Box::new(alloc, Expr::ObjectLit { props })?;
+    Ok(object)
+}
+
+// `exports: {}`
+fn empty_exports(alloc: Global) -> Result<PropOrSpread, AllocError>
+    ensures { IfOk result (λ made. prop_or_spread_items 0 made ≡ exported) }
+{
+    let word = word(alloc, "exports")?;
+    let key = PropName::IdentName(word);
+    let props = Vec::new(alloc);
+    let value = Expr::ObjectLit { props };
+    Ok(PropOrSpread::Prop(Prop::KeyValueProp(KeyValueProp { key, value })))
+}
+
 // `func.call(module.exports, module, module.exports);`
-fn run_module<'a>(alloc: Global, names: HelperNames<'a>) -> Result<Stmt, AllocError> {
+fn run_module<'a>(alloc: Global, names: HelperNames<'a>) -> Result<Stmt, AllocError>
+    ensures { IfOk result (λ made. stmt_items 0 made
+        ≡ runs_module (ident_of names.entry.func) (ident_of names.entry.module)) }
+{
     let callee = member(alloc, names.func, "call")?;
-    let mut args = Vec::new(alloc);
-    args.push(argument(exports_of(alloc, names)?))?;
-    args.push(argument(reference(alloc, names.module)?))?;
-    args.push(argument(exports_of(alloc, names)?))?;
+    let args = run_arguments(alloc, names)?;
     let expr = call(alloc, callee, args)?;
     Ok(Stmt::ExprStmt { expr })
 }
 
+// `module.exports, module, module.exports`
+fn run_arguments<'a>(alloc: Global, names: HelperNames<'a>) -> Result<Vec<ExprOrSpread>, AllocError>
+    ensures { IfOk result (λ made. each_expr_or_spread_items 1 made
+        ≡ run_arguments_lem (ident_of names.entry.module)) }
+{
+    let first = exports_of(alloc, names)?;
+    let own = reference(alloc, names.module)?;
+    let last = exports_of(alloc, names)?;
+    let args = vec![in alloc; argument(first), argument(own), argument(last)]?;
+    Ok(args)
+}
+
 // `module.exports`
-fn exports_of<'a>(alloc: Global, names: HelperNames<'a>) -> Result<Expr, AllocError> {
+fn exports_of<'a>(alloc: Global, names: HelperNames<'a>) -> Result<Expr, AllocError>
+    ensures { IfOk result (λ made. (field : ℕ) → expr_items field made
+        ≡ member_lem field (ident_of names.entry.module) (codes "exports")) }
+{
     member(alloc, names.module, "exports")
 }
 
 // `name.sym`
-fn member<'a>(alloc: Global, name: Name<'a>, sym: &str) -> Result<Expr, AllocError> {
-    let obj = Box::new(alloc, reference(alloc, name)?)?;
-    let prop = MemberProp::IdentName(word(alloc, sym)?);
+fn member<'a>(alloc: Global, name: Name<'a>, sym: &str) -> Result<Expr, AllocError>
+    ensures { IfOk result (λ made. (field : ℕ) → expr_items field made
+        ≡ member_lem field (ident_of name.entry) sym.now) }
+{
+    let obj = boxed_reference(alloc, name)?;
+    let word = word(alloc, sym)?;
+    let prop = MemberProp::IdentName(word);
     Ok(Expr::MemberExpr(MemberExpr { obj, prop }))
+}
+
+// A name that is read, in a box.
+fn boxed_reference<'a>(alloc: Global, name: Name<'a>) -> Result<Box<Expr>, AllocError>
+    ensures { IfOk result (λ made. (field : ℕ) → expr_items field made.value
+        ≡ named field Reference (ident_of name.entry)) }
+{
+    let read = reference(alloc, name)?;
+    let value = Box::new(alloc, read)?;
+    Ok(value)
 }

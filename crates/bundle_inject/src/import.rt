@@ -1,5 +1,13 @@
 //! Imports of externals, and exports.
 
+ghost use Rattle.std.specs.Prelude.{◌≡◌, ◌++◌, IfOk, flat_map, map};
+ghost use Rattle.bundle_piece.specs.Item.{ImportDecl as ImportDeclHead};
+ghost use Rattle.bundle_pieces.specs.Tree.{export_specifier_items, import_specifier_items, module_item_items, node};
+ghost use Rattle.bundle_piece.specs.declared.piece.Role.TheVariants.{Reference};
+ghost use Rattle.bundle_terms.specs.Statements.{no_notes};
+ghost use Rattle.bundle_lists.specs.Marks.{ident_of};
+ghost use Rattle.bundle_inject.specs.Listed.{export_list as export_list_lem, export_specifier as export_specifier_lem, export_star as export_star_lem, import_bare as import_bare_lem, import_names as import_names_lem, import_specifier as import_specifier_lem, import_whole as import_whole_lem, pair_of, string_in};
+
 use crate::name::{Pair, export_name, ident, string};
 use bundle_ast::{
     ExportMetadata, ExportSpecifier, ImportSpecifier, ModuleDecl, ModuleExportName, ModuleItem,
@@ -8,11 +16,15 @@ use bundle_lists::Name;
 use std::alloc::{AllocError, Global};
 
 /// `import { n as l, .. } from 'specifier';`. Refused only where memory runs out.
+#[tactic(auto, using(crate::proofs::Nodes::nodes), unfolding(bundle_pieces::specs::Tree::stmt_items))]
 pub fn import_names<'a>(
     alloc: Global,
     specifier: &str,
     names: &[Pair<'a>],
-) -> Result<ModuleItem, AllocError> {
+) -> Result<ModuleItem, AllocError>
+    ensures { IfOk result (λ made. module_item_items 0 made
+        ≡ import_names_lem specifier.now (map pair_of names.now)) }
+{
     let mut specifiers = Vec::new(alloc);
     for pair in names {
         specifiers.push(import_specifier(alloc, *pair)?)?;
@@ -21,54 +33,80 @@ pub fn import_names<'a>(
 }
 
 // `n as l`
-fn import_specifier<'a>(alloc: Global, pair: Pair<'a>) -> Result<ImportSpecifier, AllocError> {
+#[tactic(auto, using(crate::proofs::Nodes::nodes), unfolding(bundle_pieces::specs::Tree::stmt_items))]
+fn import_specifier<'a>(alloc: Global, pair: Pair<'a>) -> Result<ImportSpecifier, AllocError>
+    ensures { IfOk result
+        (λ made. import_specifier_items 0 made ≡ import_specifier_lem (pair_of pair.entry)) }
+{
     let local = ident(alloc, pair.local)?;
     let imported = Some(export_name(alloc, pair.name)?);
     Ok(ImportSpecifier::ImportNamedSpecifier { local, imported })
 }
 
 /// `import * as l from 'specifier';`. Refused only where memory runs out.
+#[tactic(auto, using(crate::proofs::Nodes::nodes), unfolding(bundle_pieces::specs::Tree::stmt_items))]
 pub fn import_whole<'a>(
     alloc: Global,
     specifier: &str,
     name: Name<'a>,
-) -> Result<ModuleItem, AllocError> {
+) -> Result<ModuleItem, AllocError>
+    ensures { IfOk result (λ made. module_item_items 0 made
+        ≡ import_whole_lem specifier.now (ident_of name.entry)) }
+{
     let local = ident(alloc, name)?;
-    let mut specifiers = Vec::new(alloc);
-    specifiers.push(ImportSpecifier::ImportStarAsSpecifier { local })?;
+    let specifiers = vec![in alloc; ImportSpecifier::ImportStarAsSpecifier { local }]?;
     import(alloc, specifiers, specifier)
 }
 
 /// `import 'specifier';`. Refused only where memory runs out.
-pub fn import_bare(alloc: Global, specifier: &str) -> Result<ModuleItem, AllocError> {
+#[tactic(auto, using(crate::proofs::Nodes::nodes), unfolding(bundle_pieces::specs::Tree::stmt_items))]
+pub fn import_bare(alloc: Global, specifier: &str) -> Result<ModuleItem, AllocError>
+    ensures { IfOk result (λ made. module_item_items 0 made ≡ import_bare_lem specifier.now) }
+{
     import(alloc, Vec::new(alloc), specifier)
 }
 
 // An import of these, from this specifier.
+#[tactic(auto, using(crate::proofs::Nodes::nodes), unfolding(bundle_pieces::specs::Tree::stmt_items))]
 fn import(
     alloc: Global,
     specifiers: Vec<ImportSpecifier>,
     specifier: &str,
-) -> Result<ModuleItem, AllocError> {
+) -> Result<ModuleItem, AllocError>
+    ensures { IfOk result (λ made. module_item_items 0 made ≡ node 0 (ImportDeclHead no_notes)
+        (flat_map (import_specifier_items 0) specifiers.items ++ string_in 1 specifier.now)) }
+{
     let src = string(alloc, specifier)?;
+    let meta = ExportMetadata {
+        injected: false,
+        export_ctxt: None,
+    };
     Ok(ModuleItem::ModuleDecl(ModuleDecl::ImportDecl {
         specifiers,
         src,
-        meta: ExportMetadata::default(),
+        meta,
     }))
 }
 
 /// `export * from 'specifier';`. Refused only where memory runs out.
-pub fn export_star(alloc: Global, specifier: &str) -> Result<ModuleItem, AllocError> {
+#[tactic(auto, using(crate::proofs::Nodes::nodes), unfolding(bundle_pieces::specs::Tree::stmt_items))]
+pub fn export_star(alloc: Global, specifier: &str) -> Result<ModuleItem, AllocError>
+    ensures { IfOk result (λ made. module_item_items 0 made ≡ export_star_lem specifier.now) }
+{
     let src = string(alloc, specifier)?;
-    Ok(ModuleItem::ModuleDecl(ModuleDecl::ExportAll {
-        src,
-        meta: ExportMetadata::default(),
-    }))
+    let meta = ExportMetadata {
+        injected: false,
+        export_ctxt: None,
+    };
+    Ok(ModuleItem::ModuleDecl(ModuleDecl::ExportAll { src, meta }))
 }
 
 /// `export { l as n, .. };`. Refused only where memory runs out.
-pub fn export_list<'a>(alloc: Global, names: &[Pair<'a>]) -> Result<ModuleItem, AllocError> {
+#[tactic(auto, using(crate::proofs::Nodes::nodes), unfolding(bundle_pieces::specs::Tree::stmt_items))]
+pub fn export_list<'a>(alloc: Global, names: &[Pair<'a>]) -> Result<ModuleItem, AllocError>
+    ensures { IfOk result
+        (λ made. module_item_items 0 made ≡ export_list_lem (map pair_of names.now)) }
+{
     let mut specifiers = Vec::new(alloc);
     for pair in names {
         specifiers.push(export_specifier(alloc, *pair)?)?;
@@ -81,7 +119,11 @@ pub fn export_list<'a>(alloc: Global, names: &[Pair<'a>]) -> Result<ModuleItem, 
 }
 
 // `l as n`
-fn export_specifier<'a>(alloc: Global, pair: Pair<'a>) -> Result<ExportSpecifier, AllocError> {
+#[tactic(auto, using(crate::proofs::Nodes::nodes), unfolding(bundle_pieces::specs::Tree::stmt_items))]
+fn export_specifier<'a>(alloc: Global, pair: Pair<'a>) -> Result<ExportSpecifier, AllocError>
+    ensures { IfOk result (λ made. export_specifier_items Reference 0 made
+        ≡ export_specifier_lem (pair_of pair.entry)) }
+{
     let orig = ModuleExportName::Ident(ident(alloc, pair.local)?);
     let exported = Some(export_name(alloc, pair.name)?);
     Ok(ExportSpecifier::ExportNamedSpecifier { orig, exported })

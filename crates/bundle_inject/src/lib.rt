@@ -8,6 +8,7 @@ mod function;
 mod import;
 mod name;
 mod object;
+mod row;
 
 pub use call::function_call;
 pub use common_js::{HelperNames, LoadNames, helper, load_function, load_statement};

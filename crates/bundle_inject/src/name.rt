@@ -2,8 +2,13 @@
 
 ghost use Rattle.std.specs.Prelude.{◌≡◌, ℕ, IfOk, string_bytes};
 ghost use Rattle.std.specs.List.{list_all};
+ghost use Rattle.bundle_piece.specs.declared.piece.Role.{Role};
+ghost use Rattle.bundle_piece.specs.declared.piece.Role.TheVariants.{Reference, Word};
+ghost use Rattle.bundle_pieces.specs.Tree.{expr_items, ident_name_items, module_export_name_items, pat_items, prop_name_items, str_items};
+ghost use Rattle.bundle_terms.specs.Forms.{returned_key};
 ghost use Rattle.bundle_terms.specs.Injected.{is_ascii_identifier as is_ascii_identifier_lem, is_letter as is_letter_lem, is_letter_or_digit};
 ghost use Rattle.bundle_lists.specs.Marks.{ident_of};
+ghost use Rattle.bundle_inject.specs.Listed.{export_name_in, named, pattern_of, string_in, word_in};
 
 use bundle_ast::{
     BindingIdent, ComputedPropName, Expr, Ident, IdentName, Lit, ModuleExportName, Pat, PropName,
@@ -14,7 +19,7 @@ use bundle_lists::Name;
 use std::alloc::{AllocError, Global};
 
 /// A name of another module, or a key, and what stands for it in the bundle.
-#[derive(Clone, Copy, PartialEq, Eq, Debug)]
+#[derive(Clone, Copy)]
 pub struct Pair<'a> {
     pub name: &'a str,
     pub local: Name<'a>,
@@ -30,31 +35,50 @@ pub(crate) fn ident<'a>(alloc: Global, name: Name<'a>) -> Result<Ident, AllocErr
 }
 
 /// A name that is read.
-pub(crate) fn reference<'a>(alloc: Global, name: Name<'a>) -> Result<Expr, AllocError> {
+#[tactic(auto, using(crate::proofs::Nodes::nodes), unfolding(bundle_pieces::specs::Tree::stmt_items))]
+pub(crate) fn reference<'a>(alloc: Global, name: Name<'a>) -> Result<Expr, AllocError>
+    ensures { IfOk result (λ made. (field : ℕ) → expr_items field made
+        ≡ named field Reference (ident_of name.entry)) }
+{
     Ok(Expr::Ident(ident(alloc, name)?))
 }
 
 /// A pattern of this one name.
-pub(crate) fn pattern<'a>(alloc: Global, name: Name<'a>) -> Result<Pat, AllocError> {
+#[tactic(auto, using(crate::proofs::Nodes::nodes), unfolding(bundle_pieces::specs::Tree::stmt_items))]
+pub(crate) fn pattern<'a>(alloc: Global, name: Name<'a>) -> Result<Pat, AllocError>
+    ensures { IfOk result (λ made. (role : Role) (field : ℕ) → pat_items role field made
+        ≡ pattern_of field role (ident_of name.entry)) }
+{
     let id = ident(alloc, name)?;
     Ok(Pat::BindingIdent(BindingIdent { id }))
 }
 
 /// A plain word.
-pub(crate) fn word(alloc: Global, sym: &str) -> Result<IdentName, AllocError> {
+#[tactic(auto, using(crate::proofs::Nodes::nodes), unfolding(bundle_pieces::specs::Tree::stmt_items))]
+pub(crate) fn word(alloc: Global, sym: &str) -> Result<IdentName, AllocError>
+    ensures { IfOk result
+        (λ made. (field : ℕ) → ident_name_items field made ≡ word_in field sym.now) }
+{
     let sym = String::from_str(alloc, sym)?;
     Ok(IdentName { sym })
 }
 
 /// A string without a source text.
-pub(crate) fn string(alloc: Global, value: &str) -> Result<Str, AllocError> {
+#[tactic(auto, using(crate::proofs::Nodes::nodes), unfolding(bundle_pieces::specs::Tree::stmt_items))]
+pub(crate) fn string(alloc: Global, value: &str) -> Result<Str, AllocError>
+    ensures { IfOk result (λ made. (field : ℕ) → str_items field made ≡ string_in field value.now) }
+{
     let value = String::from_str(alloc, value)?;
     Ok(Str { value, raw: None })
 }
 
 /// The name of an import or an export: a word where it is an identifier of ASCII letters and digits, else a string
 /// (ECMA-262, 16.2 ModuleExportName).
-pub(crate) fn export_name(alloc: Global, name: &str) -> Result<ModuleExportName, AllocError> {
+#[tactic(auto, using(crate::proofs::Nodes::nodes), unfolding(bundle_pieces::specs::Tree::stmt_items))]
+pub(crate) fn export_name(alloc: Global, name: &str) -> Result<ModuleExportName, AllocError>
+    ensures { IfOk result (λ made. (field : ℕ) → module_export_name_items Word field made
+        ≡ export_name_in field name.now) }
+{
     if is_ascii_identifier(name) {
         let word = Name { sym: name, ctxt: 0 };
         Ok(ModuleExportName::Ident(ident(alloc, word)?))
@@ -64,7 +88,10 @@ pub(crate) fn export_name(alloc: Global, name: &str) -> Result<ModuleExportName,
 }
 
 /// The key of a property. A plain `__proto__` would set the prototype (ECMA-262, B.3.1), so it is computed.
-pub(crate) fn key(alloc: Global, name: &str) -> Result<PropName, AllocError> {
+#[tactic(auto, using(crate::proofs::Nodes::nodes), unfolding(bundle_pieces::specs::Tree::stmt_items))]
+pub(crate) fn key(alloc: Global, name: &str) -> Result<PropName, AllocError>
+    ensures { IfOk result (λ made. prop_name_items 0 made ≡ returned_key name.now) }
+{
     if name == "__proto__" {
         let text = string(alloc, name)?;
         let expr = Box::new(alloc, Expr::Lit(Lit::Str(text)))?;

@@ -1,3 +1,4 @@
 pub mod Owned
+pub mod Read
 pub mod Refusals
 pub mod Resolved

@@ -1,42 +1,37 @@
--- What the entries with texts of their own say, and those that lie in a tree, in the words of the definitions.
-use Rattle.std.specs.Prelude.{string_bytes}
+-- What the entries with texts of their own say, in the words of the definitions.
+use Rattle.std.specs.Prelude.{String, string_bytes, List, map}
+use Rattle.std.specs.declared.alloc.Global.{Global}
 use Rattle.bundle_terms.specs.Nodes.{Text}
 use Rattle.bundle_terms.specs.Entries as e
-use Rattle.bundle_tables.specs.declared.table.Taken.{Taken}
-use Rattle.bundle_tables.specs.declared.table.Taken.TheVariants as t
-use Rattle.bundle_tables.specs.declared.table.Import.{Import as Read}
-use Rattle.bundle_tables.specs.declared.table.Origin.{Origin}
-use Rattle.bundle_tables.specs.declared.table.Origin.TheVariants as o
 use Rattle.bundle_link.specs.declared.tables.ImportName.{ImportName}
 use Rattle.bundle_link.specs.declared.tables.ImportName.TheVariants as n
 use Rattle.bundle_link.specs.declared.tables.Import.{Import}
 use Rattle.bundle_link.specs.declared.tables.ExportEntry.{ExportEntry}
 use Rattle.bundle_link.specs.declared.tables.ExportEntry.TheVariants as x
+use Rattle.bundle_link.specs.declared.tables.Exports.{Exports}
 
--- what is taken, as it was read
-abbrev pub taken_of : Taken → e.Taken
-taken_of (t.Named name) = e.Named name.now
-taken_of t.Whole = e.Whole
-
--- what is taken, as it is handed out
+-- what is taken
 abbrev pub name_says : ImportName → e.Taken
 name_says (n.Named name) = e.Named (string_bytes name)
 name_says n.Whole = e.Whole
 
--- an import, as it was read
-abbrev pub import_read : Read → e.ImportEntry
-import_read import = record { local = import.local.now; specifier = import.specifier.now; taken = taken_of import.taken }
-
--- an import, as it is handed out
+-- an import
 abbrev pub import_says : Import → e.ImportEntry
 import_says import = record { local = string_bytes import.local; specifier = string_bytes import.specifier; taken = name_says import.name }
 
--- an export of a name, as it was read
-abbrev pub export_read : Text → Origin → e.ExportEntry
-export_read name (o.Local of) = e.Local name of.now
-export_read name (o.Indirect specifier taken) = e.Indirect name specifier.now (taken_of taken)
-
--- an export of a name, as it is handed out
+-- an export of a name
 abbrev pub export_says : Text → ExportEntry → e.ExportEntry
 export_says name (x.Local of) = e.Local name (string_bytes of)
 export_says name (x.Indirect specifier taken) = e.Indirect name (string_bytes specifier) (name_says taken)
+
+-- an export under its name
+abbrev pub entry_says : String Global × ExportEntry → e.ExportEntry
+entry_says entry = export_says (string_bytes entry.0) entry.1
+
+-- the name of an export
+abbrev pub entry_key : String Global × ExportEntry → Text
+entry_key entry = string_bytes entry.0
+
+-- the exports of a module: those with a name, and the stars
+abbrev pub exports_say : Exports → List e.ExportEntry × List Text
+exports_say exports = (map entry_says exports.items.entries, map (λ star. string_bytes star) exports.stars.items)

@@ -1,21 +1,22 @@
 -- Why the table of a module is not given, and why modules are not linked.
-use Rattle.std.specs.Prelude.{◌≡◌, ◌⊎◌, IsTrue, List, Contains, map}
+use Rattle.std.specs.Prelude.{◌≡◌, ◌⊎◌, IfSome, List, Contains, map, string_bytes}
 use Rattle.bundle_name.specs.FileName.{Name, name_of}
+use Rattle.bundle_name.specs.declared.config.Config.{Config}
 use Rattle.bundle_name.specs.declared.error.Error.{Error}
 use Rattle.bundle_name.specs.declared.error.Error.TheVariants as e
 use Rattle.bundle_piece.specs.Item.{Item}
 use Rattle.bundle_pieces.specs.Tree.{module_items}
-use Rattle.bundle_terms.specs.Bundle.{is_with}
-use Rattle.bundle_terms.specs.Nodes.{has_head}
+use Rattle.bundle_terms.specs.Entries.{Settings}
+use Rattle.bundle_terms.specs.Faults.{fault_of, IsFirstTreeFault}
 use Rattle.bundle_link.specs.declared.transformed.TransformedModule.{TransformedModule}
 
--- the refusal names this file and a fault that a tree can have by itself, `with` only where it stands in the tree, or it is for memory
+-- the refusal is for memory, or tells of the first fault of the tree
 abbrev pub IsTreeRefusal : Name → List Item → Error → Type 0
-IsTreeRefusal file tree e.OutOfMemory = Unit {0}
-IsTreeRefusal file tree (e.DoubledExport its name) = name_of its ≡ file
-IsTreeRefusal file tree (e.UndeclaredExport its name) = name_of its ≡ file
-IsTreeRefusal file tree (e.With its) = (name_of its ≡ file) × IsTrue (has_head is_with tree)
-IsTreeRefusal file tree _ = ⊥
+IsTreeRefusal file tree error = IfSome (fault_of error) (IsFirstTreeFault file tree)
+
+-- the settings link what a configuration says
+abbrev pub Links : Config → Settings → Type 0
+Links config settings = (settings.require ≡ config.require) × (settings.external ≡ map string_bytes config.external_modules.items)
 
 -- the refusal is for memory, or names one of these files and a fault of linking
 abbrev pub IsLinkRefusal : List Name → Error → Type 0

@@ -13,7 +13,7 @@ use Rattle.bundle_link.specs.declared.target.Target.{Target}
 use Rattle.bundle_link.specs.declared.target.Target.TheVariants as t
 use Rattle.bundle_link.specs.declared.target.Resolution.{Resolution}
 use Rattle.bundle_link.specs.declared.target.Resolution.TheVariants as a
-use Rattle.bundle_link.specs.Owned.{taken_of}
+use Rattle.bundle_tables.specs.TablesOf.{taken_of}
 
 -- what is taken, as it is answered: a name, or the whole
 abbrev pub taken_says : Option (String Global) → e.Taken

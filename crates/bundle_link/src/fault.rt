@@ -1,12 +1,10 @@
 //! The refusal for each fault that stands in a tree or between modules.
 
-ghost use Rattle.std.specs.Prelude.{◌≡◌, IfOk, IsTrue, List, Contains};
+ghost use Rattle.std.specs.Prelude.{◌≡◌, IfOk, List, Contains};
 ghost use Rattle.bundle_name.specs.FileName.{Name, name_of};
-ghost use Rattle.bundle_piece.specs.Item.{Item};
-ghost use Rattle.bundle_tables.specs.declared.table.TreeFault.TheVariants as f;
-ghost use Rattle.bundle_terms.specs.Bundle.{is_with};
-ghost use Rattle.bundle_terms.specs.Nodes.{has_head};
-ghost use Rattle.bundle_link.specs.Refusals.{IsTreeRefusal, IsLinkRefusal};
+ghost use Rattle.bundle_tables.specs.TablesOf.{fault_in};
+ghost use Rattle.bundle_terms.specs.Faults.{fault_of};
+ghost use Rattle.bundle_link.specs.Refusals.{IsLinkRefusal};
 
 use bundle_name::{Error, FileName};
 use bundle_tables::TreeFault;
@@ -19,7 +17,7 @@ pub(crate) fn tree_refusal<'a>(
     file: &FileName,
     fault: TreeFault<'a>,
 ) -> Result<Error, AllocError>
-    ensures { IfOk result (λ refusal. (tree : List Item) → (fault.entry ≡ f.With → IsTrue (has_head is_with tree)) → IsTreeRefusal (name_of file.now) tree refusal) }
+    ensures { IfOk result (λ refusal. fault_of refusal ≡ Some (fault_in (name_of file.now) fault.entry)) }
 {
     let file = file.clone()?;
     Ok(match fault {

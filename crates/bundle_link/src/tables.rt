@@ -3,19 +3,26 @@
 //! The three tables refuse the same modules, by the first fault of the tree in this order: a name that is
 //! exported twice, an exported name that the module's top does not bind, a `with` statement.
 
-ghost use Rattle.std.specs.Prelude.{◌≡◌, IfOk, IfErr, OnOk, false, map, string_bytes};
+ghost use Rattle.std.specs.Prelude.{◌≡◌, ◌++◌, ◌∷◌, [], IfOk, IfErr, OnOk, None, false, map, string_bytes};
 ghost use Rattle.bundle_name.specs.FileName.{name_of};
+ghost use Rattle.bundle_piece.specs.Item.{item_of};
 ghost use Rattle.bundle_pieces.specs.Tree.{module_items};
-ghost use Rattle.bundle_terms.specs.Bundle.{is_with};
-ghost use Rattle.bundle_terms.specs.Nodes.{has_head, Text};
-ghost use Rattle.bundle_link.specs.Owned.{import_read, import_says, export_read, export_says, name_says, taken_of};
-ghost use Rattle.bundle_link.specs.Refusals.{IsTreeRefusal};
+ghost use Rattle.bundle_tables.specs.Judged.{doubled_name};
+ghost use Rattle.bundle_tables.specs.TablesOf.{entry_by_origin, export_entry_of, import_entry_of, taken_of};
+ghost use Rattle.bundle_terms.specs.Entries.{Settings};
+ghost use Rattle.bundle_terms.specs.Nodes.{has_text, Text};
+ghost use Rattle.bundle_terms.specs.Tables as t;
+ghost use Rattle.bundle_terms.specs.Tables.{IsExportTable, IsImportTable, IsRequestTable};
+ghost use Rattle.bundle_link.specs.Owned.{entry_key, entry_says, export_says, exports_say, import_says, name_says};
+ghost use Rattle.bundle_link.specs.Read.{AreTablesOf};
+ghost use Rattle.bundle_link.specs.Refusals.{IsTreeRefusal, Links};
 
 use crate::fault::tree_refusal;
 use bundle_ast::Module;
 use bundle_denote::{ModuleKind, Reading, denotations};
 use bundle_listing::pieces_of_module;
 use bundle_name::{Config, Error, FileName};
+use bundle_piece::Piece;
 use bundle_tables::{Export, Import as Read, Origin, Tables, Taken, tables_of};
 use indexmap::IndexMap;
 use std::alloc::{AllocError, Global};
@@ -63,7 +70,8 @@ pub fn requests_of(
     config: &Config,
 ) -> Result<Vec<String>, Error>
     ensures refused { IfErr result (IsTreeRefusal (name_of file.now) (module_items 0 «module».now)) }
-    ensures faultless { OnOk result (has_head is_with (module_items 0 «module».now) ≡ false) }
+    ensures given { IfOk result (λ requests. (settings : Settings) → Links config.now settings →
+        IsRequestTable settings (name_of file.now) (module_items 0 «module».now) (t.Given (map (λ text. string_bytes text) requests.items))) }
 {
     let tables = read(alloc, file, module, config)?;
     Ok(owned_texts(alloc, &tables.requests)?)
@@ -77,7 +85,8 @@ pub fn imports_of(
     config: &Config,
 ) -> Result<Vec<Import>, Error>
     ensures refused { IfErr result (IsTreeRefusal (name_of file.now) (module_items 0 «module».now)) }
-    ensures faultless { OnOk result (has_head is_with (module_items 0 «module».now) ≡ false) }
+    ensures given { IfOk result (λ imports.
+        IsImportTable (name_of file.now) (module_items 0 «module».now) (t.Given (map import_says imports.items))) }
 {
     let tables = read(alloc, file, module, config)?;
     Ok(owned_imports(alloc, &tables.imports)?)
@@ -91,7 +100,8 @@ pub fn exports_of(
     config: &Config,
 ) -> Result<Exports, Error>
     ensures refused { IfErr result (IsTreeRefusal (name_of file.now) (module_items 0 «module».now)) }
-    ensures faultless { OnOk result (has_head is_with (module_items 0 «module».now) ≡ false) }
+    ensures given { IfOk result (λ exports.
+        IsExportTable (name_of file.now) (module_items 0 «module».now) (t.Given (exports_say exports))) }
 {
     let tables = read(alloc, file, module, config)?;
     Ok(owned_exports(alloc, &tables)?)
@@ -105,17 +115,31 @@ pub(crate) fn read<'a>(
     config: &Config,
 ) -> Result<Tables<'a>, Error>
     ensures refused { IfErr result (IsTreeRefusal (name_of file.now) (module_items 0 «module».now)) }
-    ensures faultless { OnOk result (has_head is_with (module_items 0 «module».now) ≡ false) }
+    ensures given { IfOk result (AreTablesOf config.now (name_of file.now) (module_items 0 «module».now)) }
 {
     let pieces = pieces_of_module(alloc, module)?;
-    let names = denotations(alloc, &pieces, ModuleKind::Es, Reading::BySymbol)?;
-    match tables_of(
+    read_list(alloc, file, &pieces, config)
+}
+
+// The same of the list of a module.
+fn read_list<'a>(
+    alloc: Global,
+    file: &FileName,
+    pieces: &[Piece<'a>],
+    config: &Config,
+) -> Result<Tables<'a>, Error>
+    ensures refused { IfErr result (IsTreeRefusal (name_of file.now) (map item_of pieces.now)) }
+    ensures given { IfOk result (AreTablesOf config.now (name_of file.now) (map item_of pieces.now)) }
+{
+    let names = denotations(alloc, pieces, ModuleKind::Es, Reading::BySymbol)?;
+    let answer = tables_of(
         alloc,
-        &pieces,
+        pieces,
         &names,
         config.require,
         &config.external_modules,
-    )? {
+    )?;
+    match answer {
         Ok(tables) => Ok(tables),
         Err(fault) => Err(tree_refusal(alloc, file, fault)?),
     }
@@ -134,7 +158,7 @@ fn owned_texts<'a>(alloc: Global, texts: &[&'a str]) -> Result<Vec<String>, Allo
 
 // The imports, with texts of their own.
 fn owned_imports<'a>(alloc: Global, imports: &[Read<'a>]) -> Result<Vec<Import>, AllocError>
-    ensures { IfOk result (λ owned. map import_says owned.items ≡ map import_read imports.now) }
+    ensures { IfOk result (λ owned. map import_says owned.items ≡ map import_entry_of imports.now) }
 {
     let mut owned = Vec::new(alloc);
     for import in imports {
@@ -144,7 +168,7 @@ fn owned_imports<'a>(alloc: Global, imports: &[Read<'a>]) -> Result<Vec<Import>,
 }
 
 fn owned_import<'a>(alloc: Global, import: Read<'a>) -> Result<Import, AllocError>
-    ensures { IfOk result (λ owned. import_says owned ≡ import_read import.entry) }
+    ensures { IfOk result (λ owned. import_says owned ≡ import_entry_of import.entry) }
 {
     Ok(Import {
         local: String::from_str(alloc, import.local)?,
@@ -164,28 +188,49 @@ fn import_name<'a>(alloc: Global, taken: Taken<'a>) -> Result<ImportName, AllocE
 
 // The exports, with texts of their own.
 fn owned_exports<'a>(alloc: Global, tables: &Tables<'a>) -> Result<Exports, AllocError>
-    ensures { IfOk result (λ owned. map (λ text. string_bytes text) owned.stars.items ≡ map (λ text. text.now) tables.now.stars.items) }
+    ensures items { IfOk result (λ owned. doubled_name [] (map export_entry_of tables.now.exports.items) ≡ None →
+        map entry_says owned.items.entries ≡ map export_entry_of tables.now.exports.items) }
+    ensures stars { IfOk result (λ owned.
+        map (λ text. string_bytes text) owned.stars.items ≡ map (λ text. text.now) tables.now.stars.items) }
 {
     let items = owned_items(alloc, &tables.exports)?;
     let stars = owned_texts(alloc, &tables.stars)?;
     Ok(Exports { items, stars })
 }
 
-// The exports that have a name.
+// The exports that have a name, where no two have one name.
 fn owned_items<'a>(
     alloc: Global,
     exports: &[Export<'a>],
-) -> Result<IndexMap<String, ExportEntry>, AllocError> {
+) -> Result<IndexMap<String, ExportEntry>, AllocError>
+    ensures { IfOk result (λ items. doubled_name [] (map export_entry_of exports.now) ≡ None →
+        map entry_says items.entries ≡ map export_entry_of exports.now) }
+{
     let mut items = IndexMap::new(alloc);
     for export in exports {
-        let name = String::from_str(alloc, export.name)?;
-        items.insert(name, export_entry(alloc, export.origin)?)?;
+        add_item(alloc, &mut items, *export)?;
     }
     Ok(items)
 }
 
+// Adds an export.
+fn add_item<'a>(
+    alloc: Global,
+    items: &mut IndexMap<String, ExportEntry>,
+    export: Export<'a>,
+) -> Result<(), AllocError>
+    ensures { has_text export.entry.name.now (map entry_key items.old.entries) ≡ false →
+        OnOk result ((map entry_key items.new.entries ≡ map entry_key items.old.entries ++ export.entry.name.now ∷ [])
+        × (map entry_says items.new.entries ≡ map entry_says items.old.entries ++ export_entry_of export.entry ∷ [])) }
+{
+    let name = String::from_str(alloc, export.name)?;
+    let entry = export_entry(alloc, export.origin)?;
+    items.insert(name, entry)?;
+    Ok(())
+}
+
 fn export_entry<'a>(alloc: Global, origin: Origin<'a>) -> Result<ExportEntry, AllocError>
-    ensures { IfOk result (λ entry. (name : Text) → export_says name entry ≡ export_read name origin.entry) }
+    ensures { IfOk result (λ entry. (name : Text) → export_says name entry ≡ entry_by_origin name origin.entry) }
 {
     Ok(match origin {
         Origin::Local { name } => ExportEntry::Local(String::from_str(alloc, name)?),

@@ -2,7 +2,7 @@
 
 ghost use Rattle.std.specs.Prelude.{◌≡◌, IfOk, option_map, slice_get};
 ghost use Rattle.bundle_terms.specs.Linking.{Declared};
-ghost use Rattle.bundle_link.specs.Owned.{taken_of};
+ghost use Rattle.bundle_tables.specs.TablesOf.{taken_of};
 ghost use Rattle.bundle_link.specs.Resolved.{common_js, one, resolution_read, resolution_says, taken_says, target_read, target_says, two};
 
 use bundle_id::ModuleId;

@@ -3,7 +3,7 @@
 use crate::body::{Body, body_of, own_names};
 use crate::error::MergeError;
 use crate::label::{Labels, Meta, Part};
-use crate::order::ranges_at;
+use crate::order::{PieceRange, ranges_at};
 use bundle_ast::{ExportMetadata, Module, ModuleItem, Stmt};
 use bundle_inject::{
     HelperNames, LoadNames, Pair, constant, export_list, export_star, helper, import_bare,
@@ -63,20 +63,30 @@ pub fn merge_modules<'t, 'a>(
 ) -> Result<Merged<'a>, MergeError> {
     let mut labels = Labels::new(alloc, bundle.linking, bundle.parts, bundle.files);
     let mut merged = Merged::new(alloc);
+    add_items(alloc, bundle, &mut merged, &mut labels)?;
+    Ok(merged)
+}
+
+// All items: what is imported, the helper, the blocks, and what is exported.
+fn add_items<'t, 'a>(
+    alloc: Global,
+    bundle: &BundleParts<'t, 'a>,
+    merged: &mut Merged<'a>,
+    labels: &mut Labels<'t, 'a>,
+) -> Result<(), MergeError> {
     for external in bundle.linking.externals() {
-        add_external(alloc, &mut merged, &mut labels, external)?;
+        add_external(alloc, merged, labels, external)?;
     }
     if has_common_js(bundle) {
-        add_helper(alloc, &mut merged, &mut labels)?;
+        add_helper(alloc, merged, labels)?;
     }
     for block in bundle.blocks {
-        add_block(alloc, bundle, &mut merged, &mut labels, block)?;
+        add_block(alloc, bundle, merged, labels, block)?;
     }
     for specifier in bundle.linking.external_stars() {
         merged.add(export_star(alloc, *specifier)?)?;
     }
-    add_exports(alloc, bundle, &mut merged, &mut labels)?;
-    Ok(merged)
+    add_exports(alloc, bundle, merged, labels)
 }
 
 impl<'a> Merged<'a> {
@@ -119,13 +129,8 @@ fn add_external<'t, 'a>(
 ) -> Result<(), MergeError> {
     let specifier = external.specifier;
     if !external.names.is_empty() {
-        let mut pairs = Vec::new(alloc);
-        for name in &external.names {
-            let taken = Taken::Named(*name);
-            let local = labels.target(Target::External { specifier, taken })?;
-            pairs.push(Pair { name: *name, local })?;
-        }
-        merged.add(import_names(alloc, specifier, pairs.as_slice())?)?;
+        let item = named_import(alloc, labels, external)?;
+        merged.add(item)?;
     }
     if external.whole {
         let taken = Taken::Whole;
@@ -135,6 +140,32 @@ fn add_external<'t, 'a>(
         merged.add(import_bare(alloc, specifier)?)?;
     }
     Ok(())
+}
+
+// The import of the names of an external that are meant.
+fn named_import<'t, 'a>(
+    alloc: Global,
+    labels: &mut Labels<'t, 'a>,
+    external: &External<'a>,
+) -> Result<ModuleItem, MergeError> {
+    let pairs = external_pairs(alloc, labels, external)?;
+    Ok(import_names(alloc, external.specifier, pairs.as_slice())?)
+}
+
+// The names of an external that are meant, with what stands for them.
+fn external_pairs<'t, 'a>(
+    alloc: Global,
+    labels: &mut Labels<'t, 'a>,
+    external: &External<'a>,
+) -> Result<Vec<Pair<'a>>, MergeError> {
+    let specifier = external.specifier;
+    let mut pairs = Vec::new(alloc);
+    for name in &external.names {
+        let taken = Taken::Named(*name);
+        let local = labels.target(Target::External { specifier, taken })?;
+        pairs.push(Pair { name: *name, local })?;
+    }
+    Ok(pairs)
 }
 
 fn add_helper<'t, 'a>(
@@ -197,22 +228,49 @@ fn add_block<'t, 'a>(
 ) -> Result<(), MergeError> {
     let first = merged.module.body.len();
     let mut owners = Vec::new(alloc);
+    add_modules(alloc, bundle, merged, labels, block, &mut owners)?;
+    add_objects(alloc, bundle, merged, labels, block, &mut owners)?;
+    if block.is_sorted {
+        merged.sorted.push(SortedBlock { first, owners })?;
+    }
+    Ok(())
+}
+
+// The items of the modules of a block.
+fn add_modules<'t, 'a>(
+    alloc: Global,
+    bundle: &BundleParts<'t, 'a>,
+    merged: &mut Merged<'a>,
+    labels: &mut Labels<'t, 'a>,
+    block: &Block,
+    owners: &mut Vec<Owner>,
+) -> Result<(), MergeError> {
     for module in &block.modules {
         if let Some(part) = bundle.parts.get(*module) {
             let stmts = module_statements(alloc, bundle, labels, *module, part)?;
-            add_owners(&mut owners, *module, false, stmts.len())?;
+            let count = stmts.len();
             merged.add_all(stmts)?;
+            add_owners(owners, *module, false, count)?;
         }
     }
+    Ok(())
+}
+
+// The objects of the modules of a block that are meant.
+fn add_objects<'t, 'a>(
+    alloc: Global,
+    bundle: &BundleParts<'t, 'a>,
+    merged: &mut Merged<'a>,
+    labels: &mut Labels<'t, 'a>,
+    block: &Block,
+    owners: &mut Vec<Owner>,
+) -> Result<(), MergeError> {
     for module in &block.modules {
         if bundle.linking.is_object_meant(*module) {
             let object = object_of(alloc, bundle, labels, *module)?;
-            add_owners(&mut owners, *module, true, 1)?;
             merged.add(ModuleItem::Stmt(object))?;
+            add_owners(owners, *module, true, 1)?;
         }
-    }
-    if block.is_sorted {
-        merged.sorted.push(SortedBlock { first, owners })?;
     }
     Ok(())
 }
@@ -252,49 +310,90 @@ fn module_statements<'t, 'a>(
     module: usize,
     part: &Part<'t, 'a>,
 ) -> Result<Vec<Stmt>, MergeError> {
-    let linking = bundle.linking;
-    let body = body_of(alloc, part, module, linking, labels)?;
-    let default = labels.local(module, "default");
+    let body = body_of(alloc, part, module, bundle.linking, labels)?;
     let mut stmts = Vec::new(alloc);
-    if linking.is_common_js(module) {
-        let names = load_names(labels, module)?;
-        let own = own_statements(alloc, part, &body, default)?;
-        stmts.push(load_function(alloc, names, own)?)?;
-        return Ok(stmts);
-    }
-    if let Some(meta) = part.meta {
-        stmts.push(meta_object(alloc, labels, module, meta)?)?;
-    }
-    for loaded in linking.loads(module) {
-        stmts.push(loading(alloc, labels, module, loaded)?)?;
-    }
-    for stmt in own_statements(alloc, part, &body, default)? {
-        stmts.push(stmt)?;
+    if bundle.linking.is_common_js(module) {
+        let load = common_js_load(alloc, labels, module, part, &body)?;
+        stmts.push(load)?;
+    } else {
+        add_es(alloc, bundle, labels, module, part, &body, &mut stmts)?;
     }
     Ok(stmts)
 }
 
-// The own statements of a module.
-fn own_statements<'t, 'a>(
+// The load function of a CommonJS module.
+fn common_js_load<'t, 'a>(
+    alloc: Global,
+    labels: &mut Labels<'t, 'a>,
+    module: usize,
+    part: &Part<'t, 'a>,
+    body: &Body<'a>,
+) -> Result<Stmt, MergeError> {
+    let default = labels.local(module, "default");
+    let names = load_names(labels, module)?;
+    let mut own = Vec::new(alloc);
+    add_own(alloc, part, body, default, &mut own)?;
+    Ok(load_function(alloc, names, own)?)
+}
+
+// The object for `import.meta`, the statements that load CommonJS modules, and the own statements of an ES module.
+fn add_es<'t, 'a>(
+    alloc: Global,
+    bundle: &BundleParts<'t, 'a>,
+    labels: &mut Labels<'t, 'a>,
+    module: usize,
+    part: &Part<'t, 'a>,
+    body: &Body<'a>,
+    stmts: &mut Vec<Stmt>,
+) -> Result<(), MergeError> {
+    let default = labels.local(module, "default");
+    if let Some(meta) = part.meta {
+        let object = meta_object(alloc, labels, module, meta)?;
+        stmts.push(object)?;
+    }
+    for loaded in bundle.linking.loads(module) {
+        let load = loading(alloc, labels, module, loaded)?;
+        stmts.push(load)?;
+    }
+    add_own(alloc, part, body, default, stmts)?;
+    Ok(())
+}
+
+// Adds the own statements of a module.
+fn add_own<'t, 'a>(
     alloc: Global,
     part: &Part<'t, 'a>,
     body: &Body<'a>,
     default: Name<'a>,
-) -> Result<Vec<Stmt>, AllocError> {
-    let occurrences = part.denotations.occurrences.as_slice();
+    stmts: &mut Vec<Stmt>,
+) -> Result<(), AllocError> {
     let ranges = ranges_at(alloc, part.pieces, 1)?;
-    let mut stmts = Vec::new(alloc);
     for (item, range) in part.items.iter().zip(ranges.iter()) {
-        let first = occurrences.partition_point(|occurrence| occurrence.place < range.from);
-        if let Some(rewrites) = body.rewrites.get(first..) {
-            let meta = body.meta;
-            let rewriting = Rewriting { rewrites, meta };
-            if let Some(stmt) = stated_item(alloc, item, rewriting, default)? {
-                stmts.push(stmt)?;
-            }
+        add_stated(alloc, part, body, default, item, *range, stmts)?;
+    }
+    Ok(())
+}
+
+// Adds what an item states, if it states something.
+fn add_stated<'t, 'a>(
+    alloc: Global,
+    part: &Part<'t, 'a>,
+    body: &Body<'a>,
+    default: Name<'a>,
+    item: &ModuleItem,
+    range: PieceRange,
+    stmts: &mut Vec<Stmt>,
+) -> Result<(), AllocError> {
+    let occurrences = part.denotations.occurrences.as_slice();
+    let first = occurrences.partition_point(|occurrence| occurrence.place < range.from);
+    if let Some(rewrites) = body.rewrites.get(first..) {
+        let meta = body.meta;
+        let rewriting = Rewriting { rewrites, meta };
+        if let Some(stmt) = stated_item(alloc, item, rewriting, default)? {
+            stmts.push(stmt)?;
         }
     }
-    Ok(stmts)
+    Ok(())
 }
 
 // `const importMeta = { .. };`
@@ -322,17 +421,39 @@ fn loading<'t, 'a>(
     taker: usize,
     loaded: &Loaded<'a>,
 ) -> Result<Stmt, MergeError> {
-    let module = loaded.module;
-    let load = labels.load(module)?;
-    let mut whole = None;
-    if loaded.whole {
-        let taken = Taken::Whole;
-        whole = Some(labels.target(Target::CommonJs {
-            taker,
-            module,
-            taken,
-        })?);
+    let load = labels.load(loaded.module)?;
+    let whole = loaded_whole(labels, taker, loaded)?;
+    let pairs = loaded_pairs(alloc, labels, taker, loaded)?;
+    Ok(load_statement(alloc, load, whole, pairs.as_slice())?)
+}
+
+// What stands for the whole of a CommonJS module, where it is taken.
+fn loaded_whole<'t, 'a>(
+    labels: &mut Labels<'t, 'a>,
+    taker: usize,
+    loaded: &Loaded<'a>,
+) -> Result<Option<Name<'a>>, MergeError> {
+    if !loaded.whole {
+        return Ok(None);
     }
+    let module = loaded.module;
+    let taken = Taken::Whole;
+    let name = labels.target(Target::CommonJs {
+        taker,
+        module,
+        taken,
+    })?;
+    Ok(Some(name))
+}
+
+// The names that are taken of a CommonJS module, with what stands for them.
+fn loaded_pairs<'t, 'a>(
+    alloc: Global,
+    labels: &mut Labels<'t, 'a>,
+    taker: usize,
+    loaded: &Loaded<'a>,
+) -> Result<Vec<Pair<'a>>, MergeError> {
+    let module = loaded.module;
     let mut pairs = Vec::new(alloc);
     for name in &loaded.names {
         let taken = Taken::Named(*name);
@@ -343,7 +464,7 @@ fn loading<'t, 'a>(
         })?;
         pairs.push(Pair { name: *name, local })?;
     }
-    Ok(load_statement(alloc, load, whole, pairs.as_slice())?)
+    Ok(pairs)
 }
 
 // The names of the load function of a CommonJS module.

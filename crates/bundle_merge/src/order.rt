@@ -191,17 +191,27 @@ impl<'m> Ordered<'m> {
         let mut module = Module {
             body: Vec::new(alloc),
         };
+        self.add_items(alloc, items, changes, &mut module)?;
+        Ok(module)
+    }
+
+    // Adds these items, with these changes of their occurrences in turn.
+    fn add_items<'c>(
+        &self,
+        alloc: Global,
+        items: &[ModuleItem],
+        changes: &[Change<'c>],
+        module: &mut Module,
+    ) -> Result<(), AllocError> {
         let mut begin: usize = 0;
         for placed in &self.items {
             let end = begin.saturating_add(placed.occurrences);
             let own = changes.get(begin..end).unwrap_or(&[]);
             let item = items.get(placed.number..placed.number.saturating_add(1));
-            for made in rebuild_items(alloc, item.unwrap_or(&[]), own)? {
-                module.body.push(made)?;
-            }
+            add_rebuilt(alloc, item.unwrap_or(&[]), own, module)?;
             begin = end;
         }
-        Ok(module)
+        Ok(())
     }
 
     /// The same as the call of one function, which returns what the module exports (ECMA-262, 15.2). The function is
@@ -213,28 +223,65 @@ impl<'m> Ordered<'m> {
         changes: &[Change<'c>],
         is_async: bool,
     ) -> Result<Module, AllocError> {
+        let pairs = exported_pairs(alloc, &merged.exported, changes)?;
         let rewrites = rewrites_of(alloc, changes)?;
         let items = merged.module.body.as_slice();
+        let stmts = self.statements(alloc, items, rewrites.as_slice())?;
+        let call = function_call(alloc, stmts, pairs.as_slice(), is_async)?;
+        module_of(alloc, call)
+    }
+
+    // The statements that these items are, with these names in turn.
+    fn statements<'c>(
+        &self,
+        alloc: Global,
+        items: &[ModuleItem],
+        rewrites: &[Rewrite<'c>],
+    ) -> Result<Vec<Stmt>, AllocError> {
         let mut stmts = Vec::new(alloc);
         let mut begin: usize = 0;
         for placed in &self.items {
             let end = begin.saturating_add(placed.occurrences);
             if let Some(item) = items.get(placed.number) {
                 let own = rewrites.get(begin..end).unwrap_or(&[]);
-                if let Some(stmt) = statement(alloc, item, own)? {
-                    stmts.push(stmt)?;
-                }
+                add_statement(alloc, item, own, &mut stmts)?;
             }
             begin = end;
         }
-        let pairs = exported_pairs(alloc, &merged.exported, changes)?;
-        let call = function_call(alloc, stmts, pairs.as_slice(), is_async)?;
-        let mut module = Module {
-            body: Vec::new(alloc),
-        };
-        module.body.push(ModuleItem::Stmt(call))?;
-        Ok(module)
+        Ok(stmts)
     }
+}
+
+// Adds items that are made anew with these changes.
+fn add_rebuilt<'c>(
+    alloc: Global,
+    items: &[ModuleItem],
+    changes: &[Change<'c>],
+    module: &mut Module,
+) -> Result<(), AllocError> {
+    for made in rebuild_items(alloc, items, changes)? {
+        module.body.push(made)?;
+    }
+    Ok(())
+}
+
+// Adds the statement that an item is, with these names in turn.
+fn add_statement<'c>(
+    alloc: Global,
+    item: &ModuleItem,
+    rewrites: &[Rewrite<'c>],
+    stmts: &mut Vec<Stmt>,
+) -> Result<(), AllocError> {
+    if let Some(stmt) = statement(alloc, item, rewrites)? {
+        stmts.push(stmt)?;
+    }
+    Ok(())
+}
+
+// The module of one statement.
+fn module_of(alloc: Global, stmt: Stmt) -> Result<Module, AllocError> {
+    let body = vec![in alloc; ModuleItem::Stmt(stmt)]?;
+    Ok(Module { body })
 }
 
 // The statement that an item is, with these names in turn; none of a list of exports.

@@ -1,6 +1,6 @@
 -- Items by module, and the same with something made of each item: what is said of the ones holds of the others.
-use Rattle.std.proofs.Common.{◌≡◌, ℕ, ◌==◌, nat_eq, Bool, true, false, cond, List, [], ◌∷◌, ◌++◌, refl, sym, ap, ◌∙◌, subst, if◌then◌else◌}
-use Rattle.std.specs.Prelude.{map, filter, flat_map, not}
+use Rattle.std.proofs.Common.{◌≡◌, ℕ, ◌==◌, nat_eq, Bool, true, false, cond, List, [], ◌∷◌, ◌++◌, Option, Some, None, refl, sym, ap, ◌∙◌, subst, if◌then◌else◌}
+use Rattle.std.specs.Prelude.{map, filter, flat_map, not, option_map}
 use Rattle.std.specs.List.{AllZip}
 use Rattle.std.proofs.lemmas.List.{map-append}
 use Rattle.bundle_piece.specs.Item.{Item}
@@ -12,6 +12,9 @@ use Rattle.bundle_terms.specs.Nodes.{numbers_once}
 use Rattle.bundle_terms.specs.Parts as t
 use Rattle.bundle_terms.specs.Parts.ListsAnswered.{over as tl_over, next as tl_next}
 use Rattle.bundle_terms.specs.Parts.Retained.{over as tr_over, stays as tr_stays, goes as tr_goes}
+use Rattle.bundle_parts.specs.Parts.Answered.{over as pa_over, goes as pa_goes, stays as pa_stays}
+use Rattle.bundle_modules.specs.Held.{MapsSome, Picked}
+use Rattle.bundle_modules.specs.Held.Picked.{over as pk_over, goes as pk_goes, stays as pk_stays}
 
 -- numbers once
 once-same : (ns : List ℕ) → p.once ns ≡ numbers_once ns
@@ -153,4 +156,18 @@ module _ {A : Type 0} (tree : A → List Item) where
       prepended = kept-made before.prepended after.prepended is.prepended;
       bodies = kept-made before.bodies after.bodies is.bodies;
       appended = kept-made before.appended after.appended is.appended;
+    }
+
+  -- items that are answered, or go
+  module _ (May : ℕ → A → Option A → Type 0) (Say : ℕ → List Item → Option (List Item) → Type 0) (says : (m : ℕ) (x : A) (y : Option A) → May m x y → Say m (tree x) (option_map tree y)) where
+    pick-made : {old new : List (Owned A)} → p.Answered May old new → Picked Say (map made old) (map made new)
+    pick-made pa_over = pk_over
+    pick-made (pa_goes {m = m} {item = x} said rest) = pk_goes (says m x None said) (pick-made rest)
+    pick-made (pa_stays {m = m} {item = x} {answer = y} said rest) = pk_stays (says m x (Some y) said) (pick-made rest)
+
+    pub MapsSome-made : (before after : Held A) → p.MapsSome May before after → MapsSome Say (parts_made before) (parts_made after)
+    MapsSome-made before after is = record {
+      prepended = pick-made is.prepended;
+      bodies = pick-made is.bodies;
+      appended = pick-made is.appended;
     }

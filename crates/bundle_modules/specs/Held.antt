@@ -1,5 +1,5 @@
 -- Items of modules as the trees that they are.
-use Rattle.std.specs.Prelude.{◌≡◌, ℕ, Bool, List, Result, Ok, map}
+use Rattle.std.specs.Prelude.{◌≡◌, ℕ, Bool, List, [], ◌∷◌, Option, Some, None, Result, Ok, map, option_map}
 use Rattle.std.specs.Borrow.{Bor}
 use Rattle.std.specs.declared.alloc.Global.{Global}
 use Rattle.std.specs.declared.vec.Vec.{Vec}
@@ -7,7 +7,7 @@ use Rattle.bundle_ast.specs.declared.module.ModuleItem.{ModuleItem}
 use Rattle.bundle_piece.specs.Item.{Item}
 use Rattle.bundle_pieces.specs.Tree.{module_item_items}
 use Rattle.bundle_parts.specs.Parts.{Held, Owned as OwnedOf}
-use Rattle.bundle_terms.specs.Parts.{Owned, Parts}
+use Rattle.bundle_terms.specs.Parts.{HoldsOfParts, Owned, Parts}
 
 -- an item with its module
 abbrev pub tree_of : OwnedOf ModuleItem → Owned
@@ -35,3 +35,18 @@ abbrev pub Answers : {E : Type 0} → (ℕ → Bor (List ModuleItem) → Result 
 Answers calls m items answer =
     (given : Bor (List ModuleItem)) × (got : Vec ModuleItem Global) × (map (module_item_items 0) given.now ≡ items) × calls m given (Ok got)
     × (map (module_item_items 0) got.items ≡ answer)
+
+-- a call for a module and an item may answer that item, or none
+abbrev pub Picks : {E : Type 0} → (ℕ → Bor ModuleItem → Result (Option ModuleItem) E → Type 0) → ℕ → List Item → Option (List Item) → Type 0
+Picks calls m item answer =
+    (given : Bor ModuleItem) × (got : Option ModuleItem) × (module_item_items 0 given.now ≡ item) × calls m given (Ok got) × (option_map (module_item_items 0) got ≡ answer)
+
+-- `Picked May old new`: an item for which none is answered goes, and any other is replaced by its answer
+pub data Picked (May : ℕ → List Item → Option (List Item) → Type 0) : List Owned → List Owned → Type 0 where
+  over : Picked May [] []
+  goes : {m : ℕ} {item : List Item} {old new : List Owned} → May m item None → Picked May old new → Picked May ((m, item) ∷ old) new
+  stays : {m : ℕ} {item answer : List Item} {old new : List Owned} → May m item (Some answer) → Picked May old new → Picked May ((m, item) ∷ old) ((m, answer) ∷ new)
+
+-- each item is replaced by its answer, or goes
+abbrev pub MapsSome : (ℕ → List Item → Option (List Item) → Type 0) → Parts → Parts → Type 0
+MapsSome May before after = HoldsOfParts (Picked May) before after

@@ -1,7 +1,7 @@
 //! What a linker holds while it makes one module of several.
 
 ghost use Rattle.std.specs.Prelude.{◌≡◌, map, IfOk, OnOk, OnErr};
-ghost use Rattle.bundle_modules.specs.Held.{Answers, Asks, Replies, trees_of};
+ghost use Rattle.bundle_modules.specs.Held.{Answers, Asks, MapsSome, Picks, Replies, trees_of};
 ghost use Rattle.bundle_pieces.specs.Tree.{module_item_items, module_items};
 ghost use Rattle.bundle_terms.specs.Parts.{MapsItems, MapsLists, Retains, body_of, in_order, joined, no_parts, parts_of, with_all_appended, with_appended, with_prepended};
 
@@ -90,6 +90,18 @@ impl Modules {
         ensures refused { OnErr result (self.new ≡ self.old) }
     {
         self.parts.map_items_mut(f)
+    }
+
+    /// Puts what `f` answers in the place of each item; where it answers none the item goes. Where `f` refuses this does
+    /// so too.
+    pub fn map_some_items<F, E: From<AllocError> + Drop>(&mut self, f: &F) -> Result<(), E>
+    where
+        F: Fn(ModuleId, &ModuleItem) -> Result<Option<ModuleItem>, E>,
+        requires { F.IsAlwaysCallable f.now }
+        ensures answered { OnOk result (MapsSome (Picks (F.post f.now)) self.old self.new) }
+        ensures refused { OnErr result (self.new ≡ self.old) }
+    {
+        self.parts.map_some_items(f)
     }
 
     /// Adds an item behind.

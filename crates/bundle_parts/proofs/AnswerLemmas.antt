@@ -1,5 +1,5 @@
 -- What closures answered for the items of modules, as it stands one by one.
-use Rattle.std.proofs.Common.{◌≡◌, ℕ, nat_eq, Bool, true, false, List, [], ◌∷◌, ◌++◌, refl, sym, ap, ◌∙◌, append_assoc, subst, eq-eqb, if◌then◌else◌}
+use Rattle.std.proofs.Common.{◌≡◌, ℕ, nat_eq, Bool, true, false, List, [], ◌∷◌, ◌++◌, Option, Some, None, refl, sym, ap, ◌∙◌, append_assoc, subst, eq-eqb, if◌then◌else◌}
 use Rattle.std.specs.Prelude.{◌==◌, map, filter, not}
 use Rattle.std.specs.List.{AllZip}
 use Rattle.std.proofs.lemmas.Bool.{false≢true}
@@ -7,7 +7,11 @@ use Rattle.std.proofs.lemmas.List.{append-nil, map-append}
 use Rattle.std.proofs.lemmas.List.Elements.{filter-append}
 use Rattle.bundle_parts.specs.Parts.{Owned, owned_by, items_in, once, modules_in, ListsAnswered, ItemAnswered, Retained}
 use Rattle.bundle_parts.specs.Parts.ListsAnswered.{over, next}
+use Rattle.bundle_parts.specs.Parts.{Answered}
 use Rattle.bundle_parts.specs.Parts.Retained.{over as none_left, stays, goes}
+use Rattle.bundle_parts.specs.Parts.Answered.{over as some_over, goes as some_goes, stays as some_stays}
+use Rattle.bundle_parts.specs.Groups.{ItemsPicked, Picked}
+use Rattle.bundle_parts.specs.Groups.Picked.{over as pick_over, goes as pick_goes, stays as pick_stays}
 use Rattle.bundle_parts.specs.Groups.{Groups, IsTidy, has, owned, put, put_any, IsMapped, IsSifted, IsKept, is_any, ItemsAnswered}
 use Rattle.bundle_parts.proofs.PutLemmas.{turned, has-put_other, some-none}
 use Rattle.bundle_parts.proofs.OwnedLemmas.{ours, ours-front, ours-apart, items-own, IsTidy-any}
@@ -157,6 +161,33 @@ module _ {A : Type 0} where
   items_answered may g to tidy is =
       let all = mapped (ItemsAnswered may) g [] to tidy (Apart-none g) is in
       subst (λ (l : List (Owned A)). AllZip (ItemAnswered may) (owned g) l) (sym all.1) (each_item may g all.0 all.2)
+
+  -- items one by one, where some go
+  pub picked-front : (may : ℕ → A → Option A → Type 0) (m : ℕ) {xs ys : List A} (ps qs : List (Owned A)) → Picked (may m) xs ys → Answered may ps qs → Answered may (owned_by m xs ++ ps) (owned_by m ys ++ qs)
+  picked-front may m ps qs pick_over behind = behind
+  picked-front may m ps qs (pick_goes said rest) behind = some_goes said (picked-front may m ps qs rest behind)
+  picked-front may m ps qs (pick_stays said rest) behind = some_stays said (picked-front may m ps qs rest behind)
+
+  pub each_pick : (may : ℕ → A → Option A → Type 0) (g : Groups A) (new : List (Owned A)) → EachAnswered (ItemsPicked may) g new → Answered may (owned g) new
+  each_pick may [] new each = subst (λ (l : List (Owned A)). Answered may [] l) (sym each) some_over
+  each_pick may ((m, items) ∷ rest) new each =
+      subst (λ (l : List (Owned A)). Answered may (owned_by m items ++ owned rest) l) (sym each.4) (picked-front may m (owned rest) each.1 each.2 (each_pick may rest each.1 each.3))
+
+  pub items_picked : (may : ℕ → A → Option A → Type 0) (g to : Groups A) → IsTidy g → IsMapped (ItemsPicked may) [] g to → Answered may (owned g) (owned to)
+  items_picked may g to tidy is =
+      let all = mapped (ItemsPicked may) g [] to tidy (Apart-none g) is in
+      subst (λ (l : List (Owned A)). Answered may (owned g) l) (sym all.1) (each_pick may g all.0 all.2)
+
+  -- one more item
+  pub pick-goes : (may : A → Option A → Type 0) {xs ys : List A} {x : A} → Picked may xs ys → may x None → Picked may (xs ++ x ∷ []) ys
+  pick-goes may pick_over said = pick_goes said pick_over
+  pick-goes may (pick_goes one rest) said = pick_goes one (pick-goes may rest said)
+  pick-goes may (pick_stays one rest) said = pick_stays one (pick-goes may rest said)
+
+  pub pick-stays : (may : A → Option A → Type 0) {xs ys : List A} {x y : A} → Picked may xs ys → may x (Some y) → Picked may (xs ++ x ∷ []) (ys ++ y ∷ [])
+  pick-stays may pick_over said = pick_stays said pick_over
+  pick-stays may (pick_goes one rest) said = pick_goes one (pick-stays may rest said)
+  pick-stays may (pick_stays one rest) said = pick_stays one (pick-stays may rest said)
 
   -- what is kept of one module, in front of what is kept of others
   pub kept-front : (asks : ℕ → A → Bool → Type 0) (m : ℕ) (xs ys : List A) (ps qs : List (Owned A)) → IsSifted (asks m) xs ys → Retained asks ps qs → Retained asks (owned_by m xs ++ ps) (owned_by m ys ++ qs)

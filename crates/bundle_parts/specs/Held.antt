@@ -1,5 +1,5 @@
 -- What a part holds, as items by module, and what a closure answers for those of a module.
-use Rattle.std.specs.Prelude.{◌≡◌, ℕ, Bool, List, Result, Ok, map}
+use Rattle.std.specs.Prelude.{◌≡◌, ℕ, Bool, List, Option, Result, Ok, map}
 use Rattle.std.specs.Borrow.{Bor}
 use Rattle.std.specs.declared.alloc.Global.{Global}
 use Rattle.std.specs.declared.vec.Vec.{Vec}
@@ -25,3 +25,7 @@ Answers calls m items answer = (given : Bor (List _)) × (got : Vec _ Global) ×
 -- a call for a module and an item may answer that item
 abbrev pub Replies : {A E : Type 0} → (ℕ → Bor A → Result A E → Type 0) → ℕ → A → A → Type 0
 Replies calls m item answer = (given : Bor _) × (given.now ≡ item) × calls m given (Ok answer)
+
+-- a call for a module and an item may answer an item, or none
+abbrev pub Picks : {A E : Type 0} → (ℕ → Bor A → Result (Option A) E → Type 0) → ℕ → A → Option A → Type 0
+Picks calls m item answer = (given : Bor _) × (given.now ≡ item) × calls m given (Ok answer)

@@ -1,6 +1,6 @@
 -- Lists of items by module, of whatever kind: what stands in front, the bodies, and what stands behind. Each part holds
 -- pairs of a module and an item, by modules as these first came into it.
-use Rattle.std.specs.Prelude.{◌≡◌, ℕ, ◌==◌, nat_eq, not, Bool, true, false, List, [], ◌∷◌, ◌++◌, map, filter, length, IsPermutation, if◌then◌else◌}
+use Rattle.std.specs.Prelude.{◌≡◌, ℕ, ◌==◌, nat_eq, not, Bool, true, false, List, [], ◌∷◌, ◌++◌, Option, Some, None, map, filter, length, IsPermutation, if◌then◌else◌}
 use Rattle.std.specs.List.{AllZip}
 use Rattle.bundle_arrange.specs.Arranged.{AreArranged, IsArrangement}
 
@@ -113,3 +113,13 @@ pub data Retained {A : Type 0} (May : ℕ → A → Bool → Type 0) : List (Own
 -- the items stay for which true is answered
 abbrev pub Retains : {A : Type 0} → (ℕ → A → Bool → Type 0) → Held A → Held A → Type 0
 Retains May before after = HoldsOfParts (Retained May) before after
+
+-- `Answered May old new`: an item for which none is answered goes, and any other is replaced by its answer
+pub data Answered {A : Type 0} (May : ℕ → A → Option A → Type 0) : List (Owned A) → List (Owned A) → Type 0 where
+  over : Answered May [] []
+  goes : {m : ℕ} {item : A} {old new : List (Owned A)} → May m item None → Answered May old new → Answered May ((m, item) ∷ old) new
+  stays : {m : ℕ} {item answer : A} {old new : List (Owned A)} → May m item (Some answer) → Answered May old new → Answered May ((m, item) ∷ old) ((m, answer) ∷ new)
+
+-- each item is replaced by its answer, or goes
+abbrev pub MapsSome : {A : Type 0} → (ℕ → A → Option A → Type 0) → Held A → Held A → Type 0
+MapsSome May before after = HoldsOfParts (Answered May) before after

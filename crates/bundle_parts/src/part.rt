@@ -1,8 +1,8 @@
 //! One part of what a linker holds.
 
 ghost use Rattle.std.specs.Prelude.{◌≡◌, ◌+◌, ◌^◌, ◌<◌, ◌≤◌, [], ◌∷◌, ◌++◌, map, length, vec_len, vec_capacity, IfOk, OnOk, OnErr, SomeIff};
-ghost use Rattle.bundle_parts.specs.Held.{Answers, Asks, Replies, groups_of};
-ghost use Rattle.bundle_parts.specs.Groups.{IsKept, IsMapped, IsSifted, ItemsAnswered, count_of, cut, is_any, owned, put, put_any, put_all, put_each, undone};
+ghost use Rattle.bundle_parts.specs.Held.{Answers, Asks, Picks, Replies, groups_of};
+ghost use Rattle.bundle_parts.specs.Groups.{IsKept, IsMapped, IsSifted, ItemsAnswered, ItemsPicked, Picked, count_of, cut, is_any, owned, put, put_any, put_all, put_each, undone};
 ghost use Rattle.std.specs.List.{AllZip};
 ghost use Rattle.indexmap.specs.IndexMap.{spare};
 
@@ -191,6 +191,22 @@ impl<T: Drop> Part<T> {
         Ok(mapped)
     }
 
+    /// The part in which what `f` answers stands in the place of each item; where it answers none the item is left out.
+    pub(crate) fn picked<F, E: From<AllocError> + Drop>(&self, f: &F) -> Result<Part<T>, E>
+    where
+        F: Fn(ModuleId, &T) -> Result<Option<T>, E>,
+        requires { F.IsAlwaysCallable f.now }
+        ensures { IfOk result (λ picked. IsMapped (ItemsPicked (Picks (F.post f.now))) [] (groups_of self.now) (groups_of picked)) }
+    {
+        let alloc = *self.modules.allocator();
+        let mut mapped = Part::new(alloc);
+        for (id, items) in &self.modules {
+            let answer = picks(alloc, f, *id, items.as_slice())?;
+            mapped.extend(*id, answer)?;
+        }
+        Ok(mapped)
+    }
+
     /// Keeps the items for which `f` answers true.
     pub(crate) fn retain<F>(&mut self, f: &F)
     where
@@ -270,6 +286,30 @@ where
         }
     }
     Ok(replies)
+}
+
+// What `f` answers for the items of a module, where it answers one.
+fn picks<T: Drop, F, E: From<AllocError> + Drop>(
+    alloc: Global,
+    f: &F,
+    id: ModuleId,
+    items: &[T],
+) -> Result<Vec<T>, E>
+where
+    F: Fn(ModuleId, &T) -> Result<Option<T>, E>,
+    requires { F.IsAlwaysCallable f.now }
+    ensures { IfOk result (λ picks. Picked (Picks (F.post f.now) id) items.now picks.items) }
+{
+    let mut picks = Vec::new(alloc);
+    for item in items {
+        let Some(reply) = f(id, item)? else {
+            continue;
+        };
+        if let Err(refusal) = picks.push(reply) {
+            return Err(AllocError::from(refusal).into());
+        }
+    }
+    Ok(picks)
 }
 
 // Keeps the items of a module for which `f` answers true, and tells whether there are any.

@@ -3,8 +3,8 @@
 ghost use Rattle.std.specs.Prelude.{◌≡◌, ◌≢◌, ◌↔◌, ◌+◌, ◌^◌, ◌<◌, ◌≤◌, ◌++◌, IsTrue, length, vec_len, vec_capacity, IfOk, OnOk, OnErr, SomeIff, []};
 ghost use Rattle.indexmap.specs.IndexMap.{spare};
 ghost use Rattle.bundle_parts.specs.Groups.{put_all};
-ghost use Rattle.bundle_parts.specs.Held.{Answers, Asks, Replies, groups_of};
-ghost use Rattle.bundle_parts.specs.Parts.{IsArrangedAs, MapsItems, MapsLists, Retains, held_by, in_order, items_of, joined, nothing, put_in_turn, put_last};
+ghost use Rattle.bundle_parts.specs.Held.{Answers, Asks, Picks, Replies, groups_of};
+ghost use Rattle.bundle_parts.specs.Parts.{IsArrangedAs, MapsItems, MapsLists, MapsSome, Retains, held_by, in_order, items_of, joined, nothing, put_in_turn, put_last};
 
 use crate::iter::Iter;
 use crate::part::Part;
@@ -141,6 +141,26 @@ impl<T: Drop> Parts<T> {
         let prepended = self.prepended.mapped_items(f)?;
         let bodies = self.bodies.mapped_items(f)?;
         let appended = self.appended.mapped_items(f)?;
+        *self = Parts {
+            prepended,
+            bodies,
+            appended,
+        };
+        Ok(())
+    }
+
+    /// Puts what `f` answers in the place of each item; where it answers none the item goes. Where `f` refuses this does
+    /// so too, and nothing changes.
+    pub fn map_some_items<F, E: From<AllocError> + Drop>(&mut self, f: &F) -> Result<(), E>
+    where
+        F: Fn(ModuleId, &T) -> Result<Option<T>, E>,
+        requires { F.IsAlwaysCallable f.now }
+        ensures answered { OnOk result (MapsSome (Picks (F.post f.now)) self.old self.new) }
+        ensures refused { OnErr result (self.new ≡ self.old) }
+    {
+        let prepended = self.prepended.picked(f)?;
+        let bodies = self.bodies.picked(f)?;
+        let appended = self.appended.picked(f)?;
         *self = Parts {
             prepended,
             bodies,

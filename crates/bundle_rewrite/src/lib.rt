@@ -29,3 +29,15 @@ pub fn rebuild_items(
     let mut rebuild = Rebuild::new(alloc, changes);
     rebuild.each_module_item(items)
 }
+
+/// One item made anew, with these changes of its occurrences in turn. Refused only where memory runs out.
+pub fn rebuild_item(
+    alloc: Global,
+    item: &ModuleItem,
+    changes: &[Change],
+) -> Result<ModuleItem, AllocError>
+    ensures { IfOk result (λ made. module_item_items 0 made ≡ rebuilt (module_item_items 0 item.now) (map change_of changes.now)) }
+{
+    let mut rebuild = Rebuild::new(alloc, changes);
+    rebuild.module_item(item)
+}

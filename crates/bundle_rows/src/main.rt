@@ -21,6 +21,7 @@ mod forms;
 mod given;
 mod graphs;
 mod held;
+mod inject;
 mod linking;
 mod listed;
 mod listing;
@@ -87,6 +88,10 @@ fn of_trees(alloc: Global, kind: &str, row: &Value) -> Result<String> {
         "copy" => copies::copied_text(alloc, row),
         "idents" => copies::with_idents_text(alloc, row),
         "expressions" => copies::expressions_text(alloc, row),
+        "helper" => inject::helper_text(alloc, row),
+        "wrap" => inject::wrap_text(alloc, row),
+        "namespace" => inject::namespace_text(alloc, row),
+        "iife" => inject::iife_text(alloc, row),
         other => of_names(alloc, other, row),
     }
 }

@@ -2,6 +2,7 @@
 
 ghost use Rattle.std.specs.Prelude.{◌≡◌, false, IfErr, IfOk, map, unwrap_or};
 ghost use Rattle.std.specs.Map.{lookup};
+ghost use Rattle.bundle_pieces.specs.Tree.{module_item_items};
 ghost use Rattle.bundle_terms.specs.Rebuilds.{change_by as change_by_lem, ident_eq, renamed_all};
 ghost use Rattle.bundle_lists.specs.Changes.{change_of};
 ghost use Rattle.bundle_lists.specs.Marks.{ident_of};
@@ -15,9 +16,10 @@ use bundle_id::SyntaxContext;
 use bundle_lists::{Change, Name, Occurrence};
 use bundle_name::Error;
 use bundle_renaming::Renaming;
-use bundle_rewrite::rebuild_items;
+use bundle_rewrite::{rebuild_item, rebuild_items};
 use bundle_tree::Id;
 use std::alloc::{AllocError, Global};
+use std::slice;
 
 /// The items with each identifier that binds or refers renamed. What is short is spelled out where some step
 /// of the renaming changed the symbol. Refused only where memory runs out.
@@ -32,6 +34,20 @@ pub fn rename_all(
     let listing = listing_of(alloc, items)?;
     let changes = changes_by(alloc, &listing.occurrences, renaming)?;
     Ok(rebuild_items(alloc, items, &changes)?)
+}
+
+/// One item with each identifier that binds or refers renamed, as `rename_all` does it. Refused only where memory
+/// runs out.
+pub fn rename_item(
+    alloc: Global,
+    item: &ModuleItem,
+    renaming: &Renaming,
+) -> Result<ModuleItem, AllocError>
+    ensures { IfOk result (λ made. module_item_items 0 made ≡ renamed_all renaming.now (module_item_items 0 item.now)) }
+{
+    let listing = listing_of(alloc, slice::from_ref(item))?;
+    let changes = changes_by(alloc, &listing.occurrences, renaming)?;
+    rebuild_item(alloc, item, &changes)
 }
 
 // The changes of these occurrences to what they become. One text serves to ask for each of them.

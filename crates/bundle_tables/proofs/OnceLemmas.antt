@@ -76,11 +76,11 @@ has_once y (x ∷ xs) = step (has_once y xs) (bytes_eq y x) refl
     step rest false is = has_others x y (each_once xs) is ∙ rest
 
 -- a set of texts holds those that its keys are
-has_key : (k : Bor Text) (ks : List (Bor Text)) → list_any (λ other. bytes_eq k.now other.now) ks ≡ has_text k.now (map (λ key. key.now) ks)
+pub has_key : (k : Bor Text) (ks : List (Bor Text)) → list_any (λ other. bytes_eq k.now other.now) ks ≡ has_text k.now (map (λ key. key.now) ks)
 has_key k [] = refl
 has_key k (first ∷ ks) = ap (λ b. bytes_eq k.now first.now || b) (has_key k ks)
 
-map_put : (b : Bool) (k : Bor Text) (ks : List (Bor Text)) → map (λ key. key.now) (if b then ks else ks ++ k ∷ []) ≡ (if b then map (λ key. key.now) ks else map (λ key. key.now) ks ++ k.now ∷ [])
+pub map_put : (b : Bool) (k : Bor Text) (ks : List (Bor Text)) → map (λ key. key.now) (if b then ks else ks ++ k ∷ []) ≡ (if b then map (λ key. key.now) ks else map (λ key. key.now) ks ++ k.now ∷ [])
 map_put true k ks = refl
 map_put false k ks = map-append (λ key. key.now) ks (k ∷ [])
 

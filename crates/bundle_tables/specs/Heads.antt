@@ -1,5 +1,5 @@
 -- Which elements of a list begin nodes of a kind.
-use Rattle.std.specs.Prelude.{Bool, true, false}
+use Rattle.std.specs.Prelude.{Bool, true, false, List, [], ◌∷◌}
 use Rattle.bundle_piece.specs.Item as h
 use Rattle.bundle_piece.specs.Item.{Item, Head}
 
@@ -22,3 +22,13 @@ is_variables _ = false
 abbrev pub is_namespace_specifier : Head → Bool
 is_namespace_specifier h.ExportNamespaceSpecifier = true
 is_namespace_specifier _ = false
+
+-- whether such a node is an export list
+abbrev pub is_named_export : Head → Bool
+is_named_export (h.NamedExport meta) = true
+is_named_export _ = false
+
+-- whether a list begins with an element that passes the test
+abbrev pub begins : (Item → Bool) → List Item → Bool
+begins test [] = false
+begins test (x ∷ rest) = test x

@@ -1,6 +1,9 @@
 pub mod Exported
+pub mod Free
 pub mod Heads
+pub mod Judged
 pub mod Lengths
+pub mod Listed
 pub mod Parted
 pub mod Sources
 pub mod TablesOf

@@ -1,16 +1,23 @@
 -- What the entries of a table stand for, in the words of the definitions.
-use Rattle.std.specs.Prelude.{Bool, List}
+use Rattle.std.specs.Prelude.{Bool, ◌||◌, List, codes}
 use Rattle.std.specs.List.{list_any}
 use Rattle.bundle_piece.specs.Item.{Item, Head}
 use Rattle.bundle_terms.specs.Nodes.{Text, begins_with}
+use Rattle.bundle_terms.specs.Bound.{has_free}
 use Rattle.bundle_terms.specs.Statements.{top_items}
 use Rattle.bundle_terms.specs.Entries as e
+use Rattle.bundle_terms.specs.Faults as g
+use Rattle.bundle_terms.specs.Faults.{Fault}
+use Rattle.bundle_name.specs.FileName.{Name}
 use Rattle.bundle_tables.specs.declared.table.Taken.{Taken}
 use Rattle.bundle_tables.specs.declared.table.Taken.TheVariants as t
 use Rattle.bundle_tables.specs.declared.table.Import.{Import}
 use Rattle.bundle_tables.specs.declared.table.Origin.{Origin}
 use Rattle.bundle_tables.specs.declared.table.Origin.TheVariants as o
 use Rattle.bundle_tables.specs.declared.table.Export.{Export}
+use Rattle.bundle_tables.specs.declared.table.RequireCall.{RequireCall}
+use Rattle.bundle_tables.specs.declared.table.TreeFault.{TreeFault}
+use Rattle.bundle_tables.specs.declared.table.TreeFault.TheVariants as f
 
 -- what a `Taken` stands for
 abbrev pub taken_of : Taken → e.Taken
@@ -37,3 +44,17 @@ export_entry_of export = entry_by_origin export.name.now export.origin
 -- whether a module has an import or export declaration
 abbrev pub has_declaration : List Item → Bool
 has_declaration tree = list_any (λ top. begins_with e.is_module_declaration top.items) (top_items tree)
+
+-- the literal call of `require` that a `RequireCall` stands for
+abbrev pub call_entry_of : RequireCall → e.RequireCall
+call_entry_of call = record { place = call.place; specifier = call.specifier.now }
+
+-- whether a `require`, `module` or `exports` stands in a module that nothing binds
+abbrev pub uses_common_js : List Item → Bool
+uses_common_js tree = has_free tree (codes "require") || (has_free tree (codes "module") || has_free tree (codes "exports"))
+
+-- what is wrong with a file that has such a fault
+abbrev pub fault_in : Name → TreeFault → Fault
+fault_in file (f.DoubledExport name) = g.DoubledExport file name.now
+fault_in file (f.UndeclaredExport name) = g.UndeclaredExport file name.now
+fault_in file f.With = g.WithStatement file

@@ -3,29 +3,24 @@
 ghost use Rattle.std.specs.Prelude.{◌≡◌, ◌++◌, ◌∷◌, [], filter, map, not, List, IfOk, OnOk};
 ghost use Rattle.bundle_piece.specs.Item.{item_of};
 ghost use Rattle.bundle_terms.specs.Entries.{declared_requests, exports_of as exports_of_lem, imports_of as imports_of_lem, ImportEntry};
+ghost use Rattle.bundle_terms.specs.Faults.{listed_names};
 ghost use Rattle.bundle_terms.specs.Tables.{is_star, star_of};
 ghost use Rattle.bundle_terms.specs.Nodes.{each_once};
 ghost use Rattle.std.specs.List.{flat_map};
 ghost use Rattle.bundle_tables.specs.Exported.{import_by, Finds};
+ghost use Rattle.bundle_tables.specs.Listed.{listed_as};
 ghost use Rattle.bundle_tables.specs.Sources.{asked, has_external};
 ghost use Rattle.bundle_tables.specs.TablesOf.{export_entry_of, has_declaration as has_declaration_lem, import_entry_of};
 
 use crate::exports::exports_of;
 use crate::imports::{has_declaration, imports_of};
-use crate::outline::Outline;
-use crate::parts::{Part, child, in_field, name_of, node_of, string_of, top_items};
+use crate::listed::{Listed, listed_of};
+use crate::parts::top_items;
 use crate::sources::{sources_of, stars_of};
 use crate::table::{Export, Import, Source};
-use bundle_piece::Node;
+use bundle_piece::Piece;
 use indexmap::{IndexMap, IndexSet};
 use std::alloc::{AllocError, Global};
-
-/// A name in an export list without `from`.
-#[derive(Clone, Copy)]
-pub struct Listed<'a> {
-    pub name: &'a str,
-    pub is_string: bool,
-}
 
 /// What a module imports and gives.
 #[derive(Drop)]
@@ -48,22 +43,23 @@ pub struct Given<'a> {
 }
 
 /// What a module imports and exports. `external` are the texts that are external.
-#[tactic(auto, using(std::proofs::lemmas::Grind::common_steps, crate::proofs::ImportLemmas::imports_placed, crate::proofs::ImportLemmas::declared_placed, crate::proofs::ExportLemmas::exports_placed, crate::proofs::ExportLemmas::imports_found, crate::proofs::ExportLemmas::requests_placed, crate::proofs::ExportLemmas::stars_placed))]
+#[tactic(auto, using(std::proofs::lemmas::Grind::common_steps, crate::proofs::ImportLemmas::imports_placed, crate::proofs::ImportLemmas::declared_placed, crate::proofs::ExportLemmas::exports_placed, crate::proofs::ExportLemmas::imports_found, crate::proofs::ExportLemmas::requests_placed, crate::proofs::ExportLemmas::stars_placed, crate::proofs::ListedLemmas::listed_placed))]
 pub fn entries_of<'a>(
     alloc: Global,
-    outline: &Outline<'_, 'a>,
+    pieces: &[Piece<'a>],
     external: &IndexSet<&str>,
 ) -> Result<Entries<'a>, AllocError>
-    ensures imports { IfOk result (λ entries. map import_entry_of entries.imports.items ≡ imports_of_lem (map item_of outline.now.pieces.now)) }
-    ensures declared { IfOk result (λ entries. entries.is_declared_module ≡ has_declaration_lem (map item_of outline.now.pieces.now)) }
+    ensures imports { IfOk result (λ entries. map import_entry_of entries.imports.items ≡ imports_of_lem (map item_of pieces.now)) }
+    ensures declared { IfOk result (λ entries. entries.is_declared_module ≡ has_declaration_lem (map item_of pieces.now)) }
     ensures exports { IfOk result (λ entries.
-        map export_entry_of entries.given.exports.items ≡ filter (λ entry. not (is_star entry)) (exports_of_lem (map item_of outline.now.pieces.now))) }
+        map export_entry_of entries.given.exports.items ≡ filter (λ entry. not (is_star entry)) (exports_of_lem (map item_of pieces.now))) }
     ensures stars { IfOk result (λ entries.
-        map (λ key. key.now) entries.given.stars.keys ≡ each_once (flat_map star_of (exports_of_lem (map item_of outline.now.pieces.now)))) }
+        map (λ key. key.now) entries.given.stars.keys ≡ each_once (flat_map star_of (exports_of_lem (map item_of pieces.now)))) }
     ensures sources { IfOk result (λ entries.
-        map asked entries.given.sources.items ≡ map (has_external external.now) (declared_requests (map item_of outline.now.pieces.now))) }
+        map asked entries.given.sources.items ≡ map (has_external external.now) (declared_requests (map item_of pieces.now))) }
+    ensures listed { IfOk result (λ entries. map listed_as entries.given.listed.items ≡ listed_names (map item_of pieces.now)) }
 {
-    let tops = top_items(alloc, outline.pieces)?;
+    let tops = top_items(alloc, pieces)?;
     let imports = imports_of(alloc, &tops)?;
     let is_declared_module = has_declaration(&tops);
     let locals = locals_of(alloc, &imports)?;
@@ -105,39 +101,6 @@ fn note_import<'a>(
 {
     if !(&*locals).contains_key(&import.local) {
         locals.insert(import.local, import)?;
-    }
-    Ok(())
-}
-
-// The names in export lists without `from`, in the order of the source.
-fn listed_of<'a>(alloc: Global, tops: &[Part<'_, 'a>]) -> Result<Vec<Listed<'a>>, AllocError> {
-    let mut listed = Vec::new(alloc);
-    for top in tops {
-        add_listed(alloc, &mut listed, *top)?;
-    }
-    Ok(listed)
-}
-
-// Adds what an export list without `from` lists.
-fn add_listed<'a>(
-    alloc: Global,
-    listed: &mut Vec<Listed<'a>>,
-    item: Part<'_, 'a>,
-) -> Result<(), AllocError> {
-    let Some(Node::NamedExport { .. }) = node_of(item.pieces) else {
-        return Ok(());
-    };
-    if string_of(child(item.pieces, 1)).is_some() {
-        return Ok(());
-    }
-    for specifier in &in_field(alloc, item, 0)? {
-        if let Some(Node::ExportNamedSpecifier) = node_of(specifier.pieces) {
-            let first = child(specifier.pieces, 0);
-            if let Some(name) = name_of(first) {
-                let is_string = string_of(first).is_some();
-                listed.push(Listed { name, is_string })?;
-            }
-        }
     }
     Ok(())
 }

@@ -290,8 +290,8 @@ fn add_here<'a>(
     Ok(())
 }
 
-// Whether a specifier `x as y` of an export list begins a list.
-fn begins_named(pieces: &[Piece]) -> bool
+/// Whether a specifier `x as y` of an export list begins a list.
+pub fn begins_named(pieces: &[Piece]) -> bool
     ensures { result ≡ begins_with is_named_specifier (map item_of pieces.now) }
 {
     match pieces.first() {

@@ -2,9 +2,13 @@
 //! literal calls of `require`, uses of imported names, and what is wrong with the module by itself.
 #![tactic(auto)]
 
+mod calls;
 mod entries;
 mod exports;
+mod faults;
+mod free;
 mod imports;
+mod listed;
 mod nodes;
 mod outline;
 mod parts;

@@ -5,7 +5,6 @@ ghost use Rattle.std.specs.Prelude.{◌≡◌, map};
 ghost use Rattle.std.specs.List.{list_any};
 ghost use Rattle.bundle_piece.specs.Item.{head_of, item_of};
 ghost use Rattle.bundle_tables.specs.Heads.{begins_here};
-ghost use Rattle.bundle_terms.specs.Awaits.{awaits};
 ghost use Rattle.bundle_terms.specs.Entries.{has_import_meta as has_import_meta_lem, is_import_meta, is_module_declaration as is_module_declaration_lem, is_in_pattern as is_in_pattern_lem};
 ghost use Rattle.bundle_terms.specs.Bundle.{is_with};
 ghost use Rattle.bundle_terms.specs.Reads.{writes as writes_lem, passes_writes as passes_writes_lem, is_optional_chain as is_optional_chain_lem};
@@ -48,26 +47,6 @@ pub fn is_optional_chain(node: Node) -> bool
 {
     match node {
         Node::OptChainExpr { .. } => true,
-        _ => false,
-    }
-}
-
-/// Whether what stands in this field of a node is in the parameters or the body of a function.
-pub fn is_function_part(node: Node, field: u8) -> bool {
-    match node {
-        Node::Function { .. } | Node::Constructor | Node::ArrowExpr { .. } => true,
-        Node::GetterProp | Node::SetterProp => field != 0,
-        _ => false,
-    }
-}
-
-/// Whether a node is an `await` or a `for await`.
-pub fn is_await(node: Node) -> bool
-    ensures { result ≡ awaits (head_of node.entry) }
-{
-    match node {
-        Node::AwaitExpr => true,
-        Node::ForOfStmt { is_await } => is_await,
         _ => false,
     }
 }

@@ -77,17 +77,6 @@ impl<'p, 'a> Outline<'p, 'a> {
             Piece::Close => None,
         }
     }
-
-    /// The text of the string at a place.
-    pub fn string_at(&self, place: usize) -> Option<&'a str> {
-        match self.pieces.get(place)? {
-            Piece::Open {
-                node: Node::Str { value, .. },
-                ..
-            } => Some(*value),
-            _ => None,
-        }
-    }
 }
 
 fn set(ends: &mut Vec<usize>, place: usize, end: usize) {

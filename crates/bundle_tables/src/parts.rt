@@ -130,8 +130,8 @@ fn first_in<'p, 'a>(pieces: &'p [Piece<'a>], field: u8) -> Part<'p, 'a>
     }
 }
 
-// The list from a place on.
-fn behind<'p, 'a>(pieces: &'p [Piece<'a>], at: usize) -> &'p [Piece<'a>]
+/// The list from a place on.
+pub fn behind<'p, 'a>(pieces: &'p [Piece<'a>], at: usize) -> &'p [Piece<'a>]
     requires { at ≤ length pieces.now }
     ensures there { result.now ≡ drop at pieces.now }
     ensures length { length result.now + at ≡ length pieces.now }

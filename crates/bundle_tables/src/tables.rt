@@ -1,35 +1,40 @@
 //! The tables of a module from its list.
 
-ghost use Rattle.std.specs.Prelude.{◌≡◌, false, true, IsTrue, IfOk, IfErr, Some, None, filter, map, not, string_bytes, ◌&&◌, ◌++◌, ◌∷◌, [], List, OnOk};
+ghost use Rattle.std.specs.Prelude.{◌≡◌, codes, IfOk, MatchResult, filter, map, not, string_bytes, ◌&&◌, ◌++◌, ◌∷◌, [], List, OnOk};
 ghost use Rattle.std.specs.List.{flat_map};
+ghost use Rattle.bundle_name.specs.FileName.{Name};
 ghost use Rattle.bundle_piece.specs.Item.{item_of};
-ghost use Rattle.bundle_tables.specs.Sources.{asked, told_external, unexternal, unexternal_one, HasTexts};
-ghost use Rattle.bundle_tables.specs.TablesOf.{export_entry_of, import_entry_of};
+ghost use Rattle.bundle_places.specs.Declarations.{BySymbol};
+ghost use Rattle.bundle_places.specs.Scopes.{Es};
+ghost use Rattle.bundle_denote.specs.Listed.{IsTable};
+ghost use Rattle.bundle_terms.specs.Awaits.{awaits_outside as awaits_outside_lem};
+ghost use Rattle.bundle_terms.specs.Bound.{has_free as has_free_lem, is_free};
+ghost use Rattle.bundle_terms.specs.Entries.{Settings, declared_requests, exports_of as exports_of_lem, has_import_meta as has_import_meta_lem, imports_of as imports_of_lem, is_script as is_script_lem, linked_calls as linked_calls_lem, requests_of};
+ghost use Rattle.bundle_terms.specs.Faults.{IsFaultless, IsFirstTreeFault};
+ghost use Rattle.bundle_terms.specs.Nodes.{each_once, Text};
 ghost use Rattle.bundle_terms.specs.Tables.{is_star, star_of};
-ghost use Rattle.bundle_tables.specs.declared.table.TreeFault.TheVariants as f;
-ghost use Rattle.bundle_terms.specs.Entries.{declared_requests, exports_of as exports_of_lem, has_import_meta as has_import_meta_lem, imports_of as imports_of_lem, is_script as is_script_lem};
-ghost use Rattle.bundle_terms.specs.Bundle.{is_with};
-ghost use Rattle.bundle_terms.specs.Nodes.{each_once, has_head, has_text, Text};
+ghost use Rattle.bundle_tables.specs.Sources.{asked, told_external, unexternal, unexternal_one, HasTexts};
+ghost use Rattle.bundle_tables.specs.TablesOf.{call_entry_of, export_entry_of, fault_in, import_entry_of, uses_common_js};
 
+use crate::calls::linked_calls;
 use crate::entries::{Entries, Given, entries_of};
-use crate::nodes::{has_import_meta, has_with};
+use crate::faults::first_fault;
+use crate::free::{has_free, names_common_js};
+use crate::nodes::has_import_meta;
 use crate::outline::Outline;
 use crate::table::{RequireCall, Source, Tables, TreeFault};
-use crate::walk::{Found, found_in};
+use crate::walk::found_in;
 use bundle_denote::Denotations;
+use bundle_naming::awaits_outside;
 use bundle_piece::Piece;
 use indexmap::IndexSet;
 use std::alloc::{AllocError, Global};
 
-/// The number of the scope of a module's top.
-const TOP: usize = 0;
-
-/// The tables of a module, or what is wrong with it by itself: the first fault, exports that are doubled
-/// before those that are undeclared, and these before `with`.
+/// The tables of a module, or the first fault of the module by itself: exports that are doubled are judged before
+/// those that are undeclared, and these before `with`.
 ///
 /// `denotations` are those of the list as an ECMAScript module, by symbol. `require` says whether literal
 /// calls of `require` are linked, and `external` which texts are external.
-#[tactic(auto, using(std::proofs::lemmas::Grind::common_steps, crate::proofs::ExportLemmas::told_all))]
 pub fn tables_of<'a>(
     alloc: Global,
     pieces: &[Piece<'a>],
@@ -47,22 +52,32 @@ pub fn tables_of<'a>(
         map (λ star. star.now) tables.stars.items ≡ each_once (flat_map star_of (exports_of_lem (map item_of pieces.now))))) }
     ensures sources { IfOk result (λ answer. IfOk answer (λ tables.
         map asked tables.sources.items ≡ map (told_external (map string_bytes external.now)) (declared_requests (map item_of pieces.now)))) }
-    ensures requests { IfOk result (λ answer. IfOk answer (λ tables.
-        map (λ request. request.now) tables.requests.items ≡ each_once (filter (λ s. not (has_text s (map string_bytes external.now))) (declared_requests (map item_of pieces.now)) ++ map (λ call. call.specifier.now) tables.calls.items))) }
+    ensures calls { IfOk result (λ answer. IfOk answer (λ tables. (settings : Settings) →
+        settings.require ≡ require → settings.external ≡ map string_bytes external.now →
+        IsTable BySymbol Es (map item_of pieces.now) denotations.now →
+        map call_entry_of tables.calls.items ≡ linked_calls_lem settings (is_free (map item_of pieces.now)) (map item_of pieces.now))) }
+    ensures requests { IfOk result (λ answer. IfOk answer (λ tables. (settings : Settings) →
+        settings.require ≡ require → settings.external ≡ map string_bytes external.now →
+        IsTable BySymbol Es (map item_of pieces.now) denotations.now →
+        map (λ request. request.now) tables.requests.items ≡ requests_of settings (is_free (map item_of pieces.now)) (map item_of pieces.now))) }
     ensures script { IfOk result (λ answer. IfOk answer (λ tables.
         tables.is_script ≡ is_script_lem (map item_of pieces.now))) }
-    ensures none { IfOk result (λ answer. IfOk answer (λ tables. has_head is_with (map item_of pieces.now) ≡ false)) }
-    ensures stands { IfOk result (λ answer. IfErr answer (λ fault. fault ≡ f.With → IsTrue (has_head is_with (map item_of pieces.now)))) }
+    ensures common_js { IfOk result (λ answer. IfOk answer (λ tables.
+        IsTable BySymbol Es (map item_of pieces.now) denotations.now → tables.names_common_js ≡ uses_common_js (map item_of pieces.now))) }
+    ensures arguments { IfOk result (λ answer. IfOk answer (λ tables.
+        IsTable BySymbol Es (map item_of pieces.now) denotations.now → tables.has_free_arguments ≡ has_free_lem (map item_of pieces.now) (codes "arguments"))) }
+    ensures awaits { IfOk result (λ answer. IfOk answer (λ tables. tables.awaits ≡ awaits_outside_lem (map item_of pieces.now))) }
+    ensures judged { IfOk result (λ answer. (file : Name) → IsTable BySymbol Es (map item_of pieces.now) denotations.now →
+        MatchResult answer (λ tables. IsFaultless file (map item_of pieces.now)) (λ fault. IsFirstTreeFault file (map item_of pieces.now) (fault_in file fault))) }
 {
-    let outline = Outline::new(alloc, pieces)?;
     let external = texts(alloc, external)?;
-    let entries = entries_of(alloc, &outline, &external)?;
-    let found = found_in(alloc, &outline, denotations, &entries.locals)?;
-    if let Some(fault) = first_fault(alloc, denotations, &entries, has_with(pieces))? {
+    let entries = entries_of(alloc, pieces, &external)?;
+    let first = first_fault(alloc, pieces, denotations, &entries.given)?;
+    if let Some(fault) = first {
         return Ok(Err(fault));
     }
-    let has_import_meta = has_import_meta(pieces);
-    let tables = joined(alloc, entries, found, has_import_meta, require, &external)?;
+    let calls = linked_calls(alloc, pieces, denotations, require, &external)?;
+    let tables = joined(alloc, pieces, denotations, entries, calls)?;
     Ok(Ok(tables))
 }
 
@@ -77,82 +92,33 @@ fn texts<'t>(alloc: Global, list: &'t [String]) -> Result<IndexSet<&'t str>, All
     Ok(texts)
 }
 
-// The first fault of a module by itself.
-fn first_fault<'a>(
-    alloc: Global,
-    denotations: &Denotations<'a>,
-    entries: &Entries<'a>,
-    has_with: bool,
-) -> Result<Option<TreeFault<'a>>, AllocError>
-    ensures none { IfOk result (λ fault. fault ≡ None → has_with ≡ false) }
-    ensures stands { IfOk result (λ fault. fault ≡ Some f.With → has_with ≡ true) }
-{
-    if let Some(name) = doubled_name(alloc, entries)? {
-        return Ok(Some(TreeFault::DoubledExport { name }));
-    }
-    if let Some(name) = undeclared_name(alloc, denotations, entries)? {
-        return Ok(Some(TreeFault::UndeclaredExport { name }));
-    }
-    if has_with {
-        return Ok(Some(TreeFault::With));
-    }
-    Ok(None)
-}
-
-// The first name that an earlier export has.
-fn doubled_name<'a>(alloc: Global, entries: &Entries<'a>) -> Result<Option<&'a str>, AllocError> {
-    let mut names = IndexSet::new(alloc);
-    for export in &entries.given.exports {
-        if names.contains(&export.name) {
-            return Ok(Some(export.name));
-        }
-        names.insert(export.name)?;
-    }
-    Ok(None)
-}
-
-// The first name in an export list without `from` that is a string, or that the top does not bind.
-fn undeclared_name<'a>(
-    alloc: Global,
-    denotations: &Denotations<'a>,
-    entries: &Entries<'a>,
-) -> Result<Option<&'a str>, AllocError> {
-    if entries.given.listed.is_empty() {
-        return Ok(None);
-    }
-    let mut bound = IndexSet::new(alloc);
-    for binding in &denotations.bindings {
-        if binding.scope == TOP {
-            bound.insert(binding.sym)?;
-        }
-    }
-    for listed in &entries.given.listed {
-        if listed.is_string || !bound.contains(&listed.name) {
-            return Ok(Some(listed.name));
-        }
-    }
-    Ok(None)
-}
-
 // The tables of a module without fault.
 fn joined<'a>(
     alloc: Global,
+    pieces: &[Piece<'a>],
+    denotations: &Denotations<'a>,
     entries: Entries<'a>,
-    found: Found<'a>,
-    has_import_meta: bool,
-    require: bool,
-    external: &IndexSet<&str>,
+    calls: Vec<RequireCall<'a>>,
 ) -> Result<Tables<'a>, AllocError>
-    ensures meta { IfOk result (λ tables. tables.has_import_meta ≡ has_import_meta) }
+    ensures meta { IfOk result (λ tables. tables.has_import_meta ≡ has_import_meta_lem (map item_of pieces.now)) }
     ensures imports { IfOk result (λ tables. tables.imports.items ≡ entries.entry.imports.items) }
     ensures exports { IfOk result (λ tables. tables.exports.items ≡ entries.entry.given.exports.items) }
+    ensures calls { IfOk result (λ tables. tables.calls.items ≡ calls.entry.items) }
     ensures requests { IfOk result (λ tables. map (λ request. request.now) tables.requests.items
-        ≡ each_once (unexternal entries.entry.given.sources.items ++ map (λ call. call.specifier.now) tables.calls.items)) }
+        ≡ each_once (unexternal entries.entry.given.sources.items ++ map (λ call. call.specifier.now) calls.entry.items)) }
     ensures sources { IfOk result (λ tables. tables.sources.items ≡ entries.entry.given.sources.items) }
     ensures stars { IfOk result (λ tables. tables.stars.items ≡ entries.entry.given.stars.keys) }
-    ensures script { IfOk result (λ tables. tables.is_script ≡ (not entries.entry.is_declared_module && not has_import_meta)) }
+    ensures script { IfOk result (λ tables. tables.is_script ≡ (not entries.entry.is_declared_module && not (has_import_meta_lem (map item_of pieces.now)))) }
+    ensures awaits { IfOk result (λ tables. tables.awaits ≡ awaits_outside_lem (map item_of pieces.now)) }
+    ensures common_js { IfOk result (λ tables.
+        IsTable BySymbol Es (map item_of pieces.now) denotations.now → tables.names_common_js ≡ uses_common_js (map item_of pieces.now)) }
+    ensures arguments { IfOk result (λ tables.
+        IsTable BySymbol Es (map item_of pieces.now) denotations.now → tables.has_free_arguments ≡ has_free_lem (map item_of pieces.now) (codes "arguments")) }
 {
-    let calls = linked_calls(alloc, &found, require, external)?;
+    let outline = Outline::new(alloc, pieces)?;
+    let found = found_in(alloc, &outline, denotations, &entries.locals)?;
+    let awaits = awaits_outside(alloc, pieces)?;
+    let has_import_meta = has_import_meta(pieces);
     let is_script = !entries.is_declared_module && !has_import_meta;
     let imports = entries.imports;
     let given = entries.given;
@@ -169,28 +135,10 @@ fn joined<'a>(
         reads: found.reads,
         is_script,
         has_import_meta,
-        names_common_js: found.names_common_js,
-        awaits: found.awaits,
-        has_free_arguments: found.has_free_arguments,
+        names_common_js: names_common_js(pieces, denotations),
+        awaits,
+        has_free_arguments: has_free(pieces, denotations, "arguments"),
     })
-}
-
-// The literal calls that are linked.
-fn linked_calls<'a>(
-    alloc: Global,
-    found: &Found<'a>,
-    require: bool,
-    external: &IndexSet<&str>,
-) -> Result<Vec<RequireCall<'a>>, AllocError> {
-    let mut calls = Vec::new(alloc);
-    if require {
-        for call in &found.calls {
-            if !(&*external).contains(&call.specifier) {
-                calls.push(*call)?;
-            }
-        }
-    }
-    Ok(calls)
 }
 
 // What a module asks to be loaded: what is not external, and the literal calls that are linked, each text once.

@@ -1,9 +1,8 @@
-//! What the statements of a module use: imported names with the reads around them, literal calls of
-//! `require`, and what tells of a CommonJS module or of an `await`.
+//! What the statements of a module use: imported names with the reads around them.
 
-use crate::nodes::{is_await, is_function_part, is_optional_chain, passes_writes, writes};
+use crate::nodes::{is_optional_chain, passes_writes, writes};
 use crate::outline::Outline;
-use crate::table::{Import, Read, RequireCall, Use};
+use crate::table::{Import, Read, Use};
 use bundle_denote::{Denotations, Denoted};
 use bundle_piece::{Node, Piece, Role};
 use indexmap::IndexMap;
@@ -16,12 +15,8 @@ const TOP: usize = 0;
 #[derive(Drop)]
 pub struct Found<'a> {
     open: Vec<Around<'a>>,
-    pub calls: Vec<RequireCall<'a>>,
     pub uses: Vec<Use<'a>>,
     pub reads: Vec<Read<'a>>,
-    pub names_common_js: bool,
-    pub awaits: bool,
-    pub has_free_arguments: bool,
 }
 
 /// An open node.
@@ -31,8 +26,6 @@ struct Around<'a> {
     begins: usize,
     /// It stands where it is written to.
     is_written: bool,
-    /// It stands in the parameters or the body of a function.
-    in_function: bool,
     /// The word of a read that may be static.
     word: Option<&'a str>,
 }
@@ -46,12 +39,8 @@ pub fn found_in<'a>(
 ) -> Result<Found<'a>, AllocError> {
     let mut found = Found {
         open: Vec::new(alloc),
-        calls: Vec::new(alloc),
         uses: Vec::new(alloc),
         reads: Vec::new(alloc),
-        names_common_js: false,
-        awaits: false,
-        has_free_arguments: false,
     };
     let mut next = 0usize;
     for (place, piece) in outline.pieces.iter().enumerate() {
@@ -61,21 +50,16 @@ pub fn found_in<'a>(
                 let _ = found.open.pop();
             }
             Piece::Ident {
-                field,
                 sym,
                 role: Role::Binding | Role::Reference,
                 ..
             } => {
                 let denoted = denotations.occurrences.get(next).copied();
                 next = next.saturating_add(1);
-                match binding_of(denotations, denoted) {
-                    None => found.add_global(outline, place, *field, *sym)?,
-                    Some(TOP) => {
-                        if imports.contains_key(sym) && found.is_in_statement() {
-                            found.add_use(place, *sym)?;
-                        }
+                if let Some(TOP) = binding_of(denotations, denoted) {
+                    if imports.contains_key(sym) && found.is_in_statement() {
+                        found.add_use(place, *sym)?;
                     }
-                    Some(_) => {}
                 }
             }
             Piece::Ident { .. } | Piece::Hole { .. } => {}
@@ -99,18 +83,14 @@ impl<'a> Found<'a> {
         field: u8,
         node: Node<'a>,
     ) -> Result<(), AllocError> {
-        let (is_written, in_function, is_base) = match self.open.last() {
+        let (is_written, is_base) = match self.open.last() {
             Some(around) => (
                 writes(around.node, field)
                     || (passes_writes(around.node, field) && around.is_written),
-                around.in_function || is_function_part(around.node, field),
                 is_optional_chain(around.node),
             ),
-            None => (false, false, false),
+            None => (false, false),
         };
-        if is_await(node) && !in_function {
-            self.awaits = true;
-        }
         let word = if is_written || is_base {
             None
         } else {
@@ -120,7 +100,6 @@ impl<'a> Found<'a> {
             node,
             begins: place,
             is_written,
-            in_function,
             word,
         })?;
         Ok(())
@@ -136,44 +115,6 @@ impl<'a> Found<'a> {
             },
             None => true,
         }
-    }
-
-    // Notes a name that nothing binds.
-    fn add_global(
-        &mut self,
-        outline: &Outline<'_, 'a>,
-        place: usize,
-        field: u8,
-        sym: &'a str,
-    ) -> Result<(), AllocError> {
-        match sym {
-            "require" => {
-                self.names_common_js = true;
-                if field == 0 {
-                    self.add_call(outline, place)?;
-                }
-            }
-            "module" | "exports" => self.names_common_js = true,
-            "arguments" => self.has_free_arguments = true,
-            _ => {}
-        }
-        Ok(())
-    }
-
-    // Notes a literal call, where the name `require` stands at this place.
-    fn add_call(&mut self, outline: &Outline<'_, 'a>, place: usize) -> Result<(), AllocError> {
-        let Some(call) = place.checked_sub(1) else {
-            return Ok(());
-        };
-        if let Some(Node::CallExpr) = outline.node_at(call) {
-            if let Some(specifier) = only_argument(outline, place) {
-                self.calls.push(RequireCall {
-                    place: call,
-                    specifier,
-                })?;
-            }
-        }
-        Ok(())
     }
 
     // Notes a use of an imported name, with the reads around it.
@@ -213,20 +154,4 @@ fn word_of<'a>(outline: &Outline<'_, 'a>, place: usize, node: Node<'a>) -> Optio
         },
         _ => None,
     }
-}
-
-// The text, where a string, not spread, is the last argument of a call whose callee stands at this place.
-fn only_argument<'a>(outline: &Outline<'_, 'a>, place: usize) -> Option<&'a str> {
-    let argument = place.checked_add(1)?;
-    let Node::ExprOrSpread { spread: false } = outline.node_at(argument)? else {
-        return None;
-    };
-    let string = argument.checked_add(1)?;
-    let specifier = outline.string_at(string)?;
-    for step in 1..4usize {
-        let Piece::Close = outline.pieces.get(string.checked_add(step)?)? else {
-            return None;
-        };
-    }
-    Some(specifier)
 }

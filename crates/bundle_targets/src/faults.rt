@@ -1,8 +1,8 @@
 //! What is wrong with the modules of a bundle, in the order in which it is judged.
 
-use crate::index::{Asked, Index, Own, taking};
+use crate::index::{Answer, DEFAULT, Index};
 use crate::kinds::{Kinds, Lead};
-use crate::search::{Answer, DEFAULT, Search};
+use crate::own::{Own, taking};
 use crate::target::{Fault, FaultKind, Target};
 use bundle_tables::{Origin, Tables, Taken};
 use indexmap::IndexSet;
@@ -58,8 +58,7 @@ fn is_of_module(kinds: &Kinds, module: usize, specifier: &str) -> bool {
 pub fn link_fault_of<'a>(
     alloc: Global,
     kinds: &Kinds<'_, '_, 'a>,
-    index: &Index<'a>,
-    search: &mut Search<'a>,
+    index: &mut Index<'a>,
     meant: &IndexSet<Target<'a>>,
 ) -> Result<Option<Fault<'a>>, AllocError> {
     if let Some(fault) = first_of(kinds, Stage::Awaits) {
@@ -69,7 +68,7 @@ pub fn link_fault_of<'a>(
         return Ok(Some(fault));
     }
     for module in kinds.list {
-        if let Some(fault) = name_fault(alloc, kinds, index, search, *module)? {
+        if let Some(fault) = name_fault(alloc, kinds, index, *module)? {
             return Ok(Some(fault));
         }
     }
@@ -183,15 +182,14 @@ fn arguments_fault<'a>(kinds: &Kinds<'_, '_, 'a>, module: usize) -> Option<Fault
 fn name_fault<'a>(
     alloc: Global,
     kinds: &Kinds<'_, '_, 'a>,
-    index: &Index<'a>,
-    search: &mut Search<'a>,
+    index: &mut Index<'a>,
     module: usize,
 ) -> Result<Option<Fault<'a>>, AllocError> {
     let Some(tables) = kinds.tables(module) else {
         return Ok(None);
     };
-    let import = import_fault(alloc, kinds, index, search, module, tables)?;
-    let export = export_fault(alloc, kinds, index, search, module, tables)?;
+    let import = import_fault(alloc, kinds, index, module, tables)?;
+    let export = export_fault(alloc, kinds, index, module, tables)?;
     Ok(match (import, export) {
         (Some(first), Some(second)) if second.place < first.place => Some(second.fault),
         (Some(first), _) => Some(first.fault),
@@ -211,14 +209,13 @@ struct Placed<'a> {
 fn import_fault<'a>(
     alloc: Global,
     kinds: &Kinds<'_, '_, 'a>,
-    index: &Index<'a>,
-    search: &mut Search<'a>,
+    index: &mut Index<'a>,
     module: usize,
     tables: &Tables<'a>,
 ) -> Result<Option<Placed<'a>>, AllocError> {
     for import in &tables.imports {
         let asked = taking(kinds, module, import.specifier, import.taken);
-        if let Some(fault) = asked_fault(alloc, index, search, module, asked)? {
+        if let Some(fault) = asked_fault(alloc, index, module, asked)? {
             let place = import.place;
             return Ok(Some(Placed { place, fault }));
         }
@@ -230,15 +227,14 @@ fn import_fault<'a>(
 fn export_fault<'a>(
     alloc: Global,
     kinds: &Kinds<'_, '_, 'a>,
-    index: &Index<'a>,
-    search: &mut Search<'a>,
+    index: &mut Index<'a>,
     module: usize,
     tables: &Tables<'a>,
 ) -> Result<Option<Placed<'a>>, AllocError> {
     for export in &tables.exports {
         if let Origin::Indirect { specifier, taken } = export.origin {
             let asked = taking(kinds, module, specifier, taken);
-            if let Some(fault) = asked_fault(alloc, index, search, module, asked)? {
+            if let Some(fault) = asked_fault(alloc, index, module, asked)? {
                 let place = export.place;
                 return Ok(Some(Placed { place, fault }));
             }
@@ -250,18 +246,18 @@ fn export_fault<'a>(
 // What is wrong with a name that a module asks for.
 fn asked_fault<'a>(
     alloc: Global,
-    index: &Index<'a>,
-    search: &mut Search<'a>,
+    index: &mut Index<'a>,
     module: usize,
     asked: Own<'a>,
 ) -> Result<Option<Fault<'a>>, AllocError> {
     let Own::Leads(asked) = asked else {
         return Ok(None);
     };
-    let kind = match search.answer(alloc, index, asked)? {
+    let kind = match index.answer(alloc, asked)? {
         Answer::One(_) => return Ok(None),
         Answer::Two(_, _) => FaultKind::AmbiguousExport,
-        Answer::None if is_perhaps_external(index, asked) => FaultKind::ExternalStarOnly,
+        Answer::None if is_perhaps_external(index, asked.module, asked.name) =>
+            FaultKind::ExternalStarOnly,
         Answer::None => FaultKind::MissingExport,
     };
     Ok(Some(Fault {
@@ -272,6 +268,6 @@ fn asked_fault<'a>(
 }
 
 /// Whether an external that is starred may hold a name that is not given.
-pub fn is_perhaps_external(index: &Index, asked: Asked) -> bool {
-    asked.name != DEFAULT && index.has_external_star(asked.module)
+pub fn is_perhaps_external(index: &Index, module: usize, name: &str) -> bool {
+    name != DEFAULT && index.has_external_star(module)
 }

@@ -7,7 +7,8 @@ mod index;
 mod kinds;
 pub mod linking;
 mod meant;
-mod search;
+mod own;
+mod stars;
 mod taken;
 pub mod target;
 

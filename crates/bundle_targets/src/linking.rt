@@ -1,10 +1,10 @@
 //! The modules of one bundle, linked.
 
 use crate::faults::{call_fault_of, is_perhaps_external, link_fault_of};
-use crate::index::{Asked, Index, list_at};
+use crate::index::{Answer, Index};
 use crate::kinds::{Kinds, flag};
 use crate::meant::{Meant, meant_in};
-use crate::search::{Answer, Search};
+use crate::stars::list_at;
 use crate::taken::{external_stars_of, externals_of, identifier_of, loads_of, symbols_of};
 use crate::target::{External, Fault, LinkModule, Loaded, Meaning, Resolution, Setting, Target};
 use bundle_tables::Taken;
@@ -17,15 +17,38 @@ use std::alloc::{AllocError, Global};
 pub struct Linking<'a> {
     alloc: Global,
     index: Index<'a>,
-    search: Search<'a>,
     common_js: Vec<bool>,
     meant: Meant<'a>,
+    outside: Outside<'a>,
+    call_fault: Option<Fault<'a>>,
+    link_fault: Option<Fault<'a>>,
+}
+
+/// What is taken of externals and CommonJS modules.
+#[derive(Drop)]
+struct Outside<'a> {
     externals: Vec<External<'a>>,
     external_stars: Vec<&'a str>,
     loads: Vec<Vec<Loaded<'a>>>,
     symbols: IndexMap<Target<'a>, &'a str>,
-    call_fault: Option<Fault<'a>>,
-    link_fault: Option<Fault<'a>>,
+}
+
+impl<'a> Outside<'a> {
+    fn new(
+        alloc: Global,
+        kinds: &Kinds<'_, '_, 'a>,
+        index: &Index<'a>,
+        meant: &Meant<'a>,
+    ) -> Result<Outside<'a>, AllocError> {
+        let externals = externals_of(alloc, kinds, &meant.targets)?;
+        let external_stars = external_stars_of(alloc, index, kinds.entry, externals.as_slice())?;
+        Ok(Outside {
+            externals,
+            external_stars,
+            loads: loads_of(alloc, kinds, &meant.targets)?,
+            symbols: symbols_of(alloc, kinds)?,
+        })
+    }
 }
 
 impl<'a> Linking<'a> {
@@ -40,32 +63,18 @@ impl<'a> Linking<'a> {
         setting: Setting,
     ) -> Result<Linking<'a>, AllocError> {
         let kinds = Kinds::new(alloc, modules, list, entry, setting)?;
-        let index = Index::new(alloc, &kinds)?;
-        let mut search = Search::new(alloc, modules.len())?;
-        let meant = meant_in(alloc, &kinds, &index, &mut search)?;
-        let externals = externals_of(alloc, &kinds, &meant.targets)?;
-        let external_stars = external_stars_of(
-            alloc,
-            &index,
-            &mut search,
-            entry,
-            externals.as_slice(),
-        )?;
-        let loads = loads_of(alloc, &kinds, &meant.targets)?;
-        let symbols = symbols_of(alloc, &kinds)?;
+        let mut index = Index::new(alloc, &kinds)?;
+        let meant = meant_in(alloc, &kinds, &mut index)?;
+        let outside = Outside::new(alloc, &kinds, &index, &meant)?;
+        let link_fault = link_fault_of(alloc, &kinds, &mut index, &meant.targets)?;
         let call_fault = call_fault_of(&kinds);
-        let link_fault = link_fault_of(alloc, &kinds, &index, &mut search, &meant.targets)?;
         let Kinds { common_js, .. } = kinds;
         Ok(Linking {
             alloc,
             index,
-            search,
             common_js,
             meant,
-            externals,
-            external_stars,
-            loads,
-            symbols,
+            outside,
             call_fault,
             link_fault,
         })
@@ -73,28 +82,14 @@ impl<'a> Linking<'a> {
 
     /// What a module gives for a name.
     pub fn resolve(&self, module: usize, name: &str) -> Result<Resolution<'a>, AllocError> {
-        let asked = Asked { module, name };
-        let answer = match self.index.holders(name) {
-            Some(holders) => self.answer(Asked {
-                module,
-                name: holders.name,
-            })?,
-            None => Answer::None,
-        };
-        Ok(match answer {
+        Ok(match self.index.found(self.alloc, module, name)? {
             Answer::One(given) => Resolution::One(given.target),
             Answer::Two(first, second) => Resolution::Two(first.target, second.target),
-            Answer::None if is_perhaps_external(&self.index, asked) => Resolution::ExternalStar,
+            Answer::None if is_perhaps_external(&self.index, module, name) => {
+                Resolution::ExternalStar
+            }
             Answer::None => Resolution::None,
         })
-    }
-
-    fn answer(&self, asked: Asked<'a>) -> Result<Answer<'a>, AllocError> {
-        if let Some(answer) = self.search.known(asked) {
-            return Ok(answer);
-        }
-        let mut search = Search::new(self.alloc, self.index.len())?;
-        search.answer(self.alloc, &self.index, asked)
     }
 
     /// Whether a module is CommonJS in this bundle.
@@ -121,19 +116,19 @@ impl<'a> Linking<'a> {
 
     /// The externals that ECMAScript modules of the list ask for, in the order of first occurrence.
     pub fn externals(&self) -> &[External<'a>] {
-        self.externals.as_slice()
+        self.outside.externals.as_slice()
     }
 
     /// The CommonJS modules that an ECMAScript module of the list imports or re-exports, in the order of
     /// its requests. Empty for any other module.
     pub fn loads(&self, module: usize) -> &[Loaded<'a>] {
-        list_at(&self.loads, module)
+        list_at(&self.outside.loads, module)
     }
 
     /// The externals that the entry stars, or that stand at the end of a chain of stars from it, in the
     /// order of `externals`.
     pub fn external_stars(&self) -> &[&'a str] {
-        self.external_stars.as_slice()
+        self.outside.external_stars.as_slice()
     }
 
     /// What a target is called before names are made apart: `mod` for a namespace; the local name of the
@@ -144,7 +139,7 @@ impl<'a> Linking<'a> {
             Target::Namespace { .. } => return "mod",
             Target::External { taken, .. } | Target::CommonJs { taken, .. } => taken,
         };
-        match (self.symbols.get(&target), taken) {
+        match (self.outside.symbols.get(&target), taken) {
             (Some(symbol), _) => *symbol,
             (None, Taken::Named(name)) => identifier_of(name),
             (None, Taken::Whole) => "name",

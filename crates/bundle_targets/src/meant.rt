@@ -1,9 +1,10 @@
 //! What is meant: the least set of targets that own statements, the entry's exports and namespace objects
 //! that are meant themselves mean.
 
-use crate::index::{Asked, Index, Own, locals_of, taking};
+use crate::index::Index;
 use crate::kinds::Kinds;
-use crate::search::Search;
+use crate::own::{Asked, Own, locals_of, taking};
+use crate::stars::{no_lists, push_at};
 use crate::target::{Meaning, Target};
 use bundle_tables::{Import, Tables, Use};
 use indexmap::{IndexMap, IndexSet};
@@ -23,84 +24,88 @@ pub struct Meant<'a> {
 pub fn meant_in<'a>(
     alloc: Global,
     kinds: &Kinds<'_, '_, 'a>,
-    index: &Index<'a>,
-    search: &mut Search<'a>,
+    index: &mut Index<'a>,
 ) -> Result<Meant<'a>, AllocError> {
     let mut meant = nothing_meant(alloc, kinds.modules.len())?;
-    for module in kinds.list {
-        if let Some(tables) = kinds.tables(*module) {
-            meant.add_uses(alloc, kinds, index, search, *module, tables)?;
-        }
-    }
-    meant.link(alloc, index, search, kinds.entry)?;
-    for at in 0..usize::MAX {
-        let Some(target) = meant.targets.get_index(at).copied() else {
-            break;
-        };
-        if let Target::Namespace { module } = target {
-            if module != kinds.entry {
-                meant.link(alloc, index, search, module)?;
-            }
-        }
-    }
+    meant.find(alloc, kinds, index)?;
     Ok(meant)
 }
 
 // Nothing, of so many modules.
 fn nothing_meant<'a>(alloc: Global, count: usize) -> Result<Meant<'a>, AllocError> {
-    let mut meanings: Vec<Vec<Option<Meaning<'a>>>> = Vec::new(alloc);
-    let mut linked: Vec<Vec<(&'a str, Target<'a>)>> = Vec::new(alloc);
-    for _ in 0..count {
-        meanings.push(Vec::new(alloc))?;
-        let none: Vec<(&'a str, Target<'a>)> = Vec::new(alloc);
-        linked.push(none)?;
-    }
     Ok(Meant {
         targets: IndexSet::new(alloc),
-        meanings,
-        linked,
+        meanings: no_lists(alloc, count)?,
+        linked: no_lists(alloc, count)?,
     })
 }
 
 impl<'a> Meant<'a> {
+    // Finds what is meant, where nothing is noted.
+    fn find(
+        &mut self,
+        alloc: Global,
+        kinds: &Kinds<'_, '_, 'a>,
+        index: &mut Index<'a>,
+    ) -> Result<(), AllocError> {
+        for module in kinds.list {
+            if let Some(tables) = kinds.tables(*module) {
+                self.add_uses(alloc, kinds, index, *module, tables)?;
+            }
+        }
+        self.link(alloc, kinds, index, kinds.entry)?;
+        for at in 0..usize::MAX {
+            let Some(target) = self.targets.get_index(at).copied() else {
+                break;
+            };
+            if let Target::Namespace { module } = target {
+                if module != kinds.entry {
+                    self.link(alloc, kinds, index, module)?;
+                }
+            }
+        }
+        Ok(())
+    }
+
     // Adds what the uses of imported names in a module mean.
     fn add_uses(
         &mut self,
         alloc: Global,
         kinds: &Kinds<'_, '_, 'a>,
-        index: &Index<'a>,
-        search: &mut Search<'a>,
+        index: &mut Index<'a>,
         module: usize,
         tables: &Tables<'a>,
     ) -> Result<(), AllocError> {
         let locals = locals_of(alloc, tables)?;
-        let mut meanings = Vec::new(alloc);
         for its in &tables.uses {
-            let target = named(alloc, kinds, index, search, module, locals.get(&its.local))?;
-            match target {
-                None => meanings.push(None)?,
-                Some(target) => {
-                    let meaning = read(alloc, index, search, tables, *its, target)?;
-                    self.targets.insert(meaning.target)?;
-                    meanings.push(Some(meaning))?;
-                }
-            }
-        }
-        if let Some(old) = self.meanings.get_mut(module) {
-            *old = meanings;
+            let import = locals.get(&its.local);
+            let meaning = used(alloc, kinds, index, module, tables, *its, import)?;
+            self.add_meaning(module, meaning)?;
         }
         Ok(())
+    }
+
+    // Adds what the next use of a module means.
+    fn add_meaning(
+        &mut self,
+        module: usize,
+        meaning: Option<Meaning<'a>>,
+    ) -> Result<(), AllocError> {
+        if let Some(meaning) = meaning {
+            self.targets.insert(meaning.target)?;
+        }
+        push_at(&mut self.meanings, module, meaning)
     }
 
     // Notes which names a module links. Their targets are meant.
     fn link(
         &mut self,
         alloc: Global,
-        index: &Index<'a>,
-        search: &mut Search<'a>,
+        kinds: &Kinds<'_, '_, 'a>,
+        index: &mut Index<'a>,
         module: usize,
     ) -> Result<(), AllocError> {
-        let linked = search.linked_names(alloc, index, module)?;
+        let linked = index.linked_names(alloc, kinds, module)?;
         for (_, target) in &linked {
             self.targets.insert(*target)?;
         }
@@ -111,12 +116,27 @@ impl<'a> Meant<'a> {
     }
 }
 
+// What a use means whose name this import binds.
+fn used<'a>(
+    alloc: Global,
+    kinds: &Kinds<'_, '_, 'a>,
+    index: &mut Index<'a>,
+    module: usize,
+    tables: &Tables<'a>,
+    its: Use<'a>,
+    import: Option<&Import<'a>>,
+) -> Result<Option<Meaning<'a>>, AllocError> {
+    match named(alloc, kinds, index, module, import)? {
+        Some(target) => Ok(Some(read(alloc, index, tables, its, target)?)),
+        None => Ok(None),
+    }
+}
+
 // What an imported name stands for.
 fn named<'a>(
     alloc: Global,
     kinds: &Kinds<'_, '_, 'a>,
-    index: &Index<'a>,
-    search: &mut Search<'a>,
+    index: &mut Index<'a>,
     module: usize,
     import: Option<&Import<'a>>,
 ) -> Result<Option<Target<'a>>, AllocError> {
@@ -125,7 +145,7 @@ fn named<'a>(
     };
     match taking(kinds, module, import.specifier, import.taken) {
         Own::Gives(given) => Ok(Some(given.target)),
-        Own::Leads(asked) => Ok(search.answer(alloc, index, asked)?.linked()),
+        Own::Leads(asked) => Ok(index.answer(alloc, asked)?.linked()),
         Own::Nothing => Ok(None),
     }
 }
@@ -134,8 +154,7 @@ fn named<'a>(
 // that name is linked to.
 fn read<'a>(
     alloc: Global,
-    index: &Index<'a>,
-    search: &mut Search<'a>,
+    index: &mut Index<'a>,
     tables: &Tables<'a>,
     its: Use<'a>,
     target: Target<'a>,
@@ -149,10 +168,7 @@ fn read<'a>(
             break;
         };
         let name = read.name;
-        let Some(target) = search
-            .answer(alloc, index, Asked { module, name })?
-            .linked()
-        else {
+        let Some(target) = index.answer(alloc, Asked { module, name })?.linked() else {
             break;
         };
         meaning = Meaning {

@@ -2,7 +2,7 @@
 
 use crate::index::Index;
 use crate::kinds::{Kinds, Lead};
-use crate::search::Search;
+use crate::stars::no_lists;
 use crate::target::{External, Loaded, Target};
 use bundle_tables::{Origin, Tables, Taken};
 use indexmap::{IndexMap, IndexSet};
@@ -18,29 +18,50 @@ pub fn externals_of<'a>(
     let mut externals = Vec::new(alloc);
     for module in kinds.list {
         if let Some(tables) = kinds.tables(*module) {
-            for source in &tables.sources {
-                if source.is_external && !places.contains_key(&source.specifier) {
-                    places.insert(source.specifier, externals.len())?;
-                    externals.push(External {
-                        specifier: source.specifier,
-                        names: Vec::new(alloc),
-                        whole: false,
-                    })?;
-                }
-            }
+            note_externals(alloc, tables, &mut places, &mut externals)?;
         }
     }
+    add_externals(&mut externals, &places, meant)?;
+    Ok(externals)
+}
+
+// Notes the externals that a module asks for.
+fn note_externals<'a>(
+    alloc: Global,
+    tables: &Tables<'a>,
+    places: &mut IndexMap<&'a str, usize>,
+    externals: &mut Vec<External<'a>>,
+) -> Result<(), AllocError> {
+    for source in &tables.sources {
+        if source.is_external && !(&*places).contains_key(&source.specifier) {
+            places.insert(source.specifier, externals.len())?;
+            externals.push(External {
+                specifier: source.specifier,
+                names: Vec::new(alloc),
+                whole: false,
+            })?;
+        }
+    }
+    Ok(())
+}
+
+// Adds what of externals is meant.
+fn add_externals<'a>(
+    externals: &mut Vec<External<'a>>,
+    places: &IndexMap<&'a str, usize>,
+    meant: &IndexSet<Target<'a>>,
+) -> Result<(), AllocError> {
     for target in meant {
         if let Target::External { specifier, taken } = target {
             if let Some(place) = places.get(specifier) {
-                add_external(&mut externals, *place, *taken)?;
+                add_external(externals, *place, *taken)?;
             }
         }
     }
-    for external in &mut externals {
+    for external in externals.iter_mut() {
         external.names.sort_unstable();
     }
-    Ok(externals)
+    Ok(())
 }
 
 fn add_external<'a>(
@@ -65,50 +86,28 @@ pub fn loads_of<'a>(
     meant: &IndexSet<Target<'a>>,
 ) -> Result<Vec<Vec<Loaded<'a>>>, AllocError> {
     let mut places = IndexMap::new(alloc);
-    let mut loads = Vec::new(alloc);
-    for _ in 0..kinds.modules.len() {
-        loads.push(Vec::new(alloc))?;
-    }
+    let mut loads = no_lists(alloc, kinds.modules.len())?;
     for taker in kinds.list {
-        if let Some(tables) = kinds.tables(*taker) {
-            let own = loads_in(alloc, kinds, *taker, tables, &mut places)?;
-            if let Some(old) = loads.get_mut(*taker) {
-                *old = own;
-            }
+        if let (Some(tables), Some(own)) = (kinds.tables(*taker), loads.get_mut(*taker)) {
+            note_loads(alloc, kinds, *taker, tables, &mut places, own)?;
         }
     }
-    for target in meant {
-        if let Target::CommonJs {
-            taker,
-            module,
-            taken,
-        } = target
-        {
-            if let Some(place) = places.get(&(*taker, *module)) {
-                add_load(&mut loads, *taker, *place, *taken)?;
-            }
-        }
-    }
-    for own in &mut loads {
-        for loaded in own {
-            loaded.names.sort_unstable();
-        }
-    }
+    add_loads(&mut loads, &places, meant)?;
     Ok(loads)
 }
 
-// The CommonJS modules that a module imports or re-exports, each once; their places are noted.
-fn loads_in<'a>(
+// Notes the CommonJS modules that a module imports or re-exports, each once, with their places.
+fn note_loads<'a>(
     alloc: Global,
     kinds: &Kinds<'_, '_, 'a>,
     taker: usize,
     tables: &Tables<'a>,
     places: &mut IndexMap<(usize, usize), usize>,
-) -> Result<Vec<Loaded<'a>>, AllocError> {
-    let mut own = Vec::new(alloc);
+    own: &mut Vec<Loaded<'a>>,
+) -> Result<(), AllocError> {
     for source in &tables.sources {
         if let Lead::CommonJs(module) = kinds.lead(taker, source.specifier) {
-            if !places.contains_key(&(taker, module)) {
+            if !(&*places).contains_key(&(taker, module)) {
                 places.insert((taker, module), own.len())?;
                 own.push(Loaded {
                     module,
@@ -118,7 +117,37 @@ fn loads_in<'a>(
             }
         }
     }
-    Ok(own)
+    Ok(())
+}
+
+// Adds what of CommonJS modules is meant.
+fn add_loads<'a>(
+    loads: &mut Vec<Vec<Loaded<'a>>>,
+    places: &IndexMap<(usize, usize), usize>,
+    meant: &IndexSet<Target<'a>>,
+) -> Result<(), AllocError> {
+    for target in meant {
+        if let Target::CommonJs {
+            taker,
+            module,
+            taken,
+        } = target
+        {
+            if let Some(place) = places.get(&(*taker, *module)) {
+                add_load(loads, *taker, *place, *taken)?;
+            }
+        }
+    }
+    for own in loads.iter_mut() {
+        sort_names(own);
+    }
+    Ok(())
+}
+
+fn sort_names<'a>(loads: &mut Vec<Loaded<'a>>) {
+    for loaded in loads.iter_mut() {
+        loaded.names.sort_unstable();
+    }
 }
 
 fn add_load<'a>(
@@ -143,18 +172,12 @@ fn add_load<'a>(
 pub fn external_stars_of<'a>(
     alloc: Global,
     index: &Index<'a>,
-    search: &mut Search<'a>,
     module: usize,
     externals: &[External<'a>],
 ) -> Result<Vec<&'a str>, AllocError> {
     let mut starred = IndexSet::new(alloc);
-    for specifier in index.starred_externals(module) {
-        starred.insert(*specifier)?;
-    }
-    for other in search.reach(index, module)? {
-        for specifier in index.starred_externals(*other) {
-            starred.insert(*specifier)?;
-        }
+    for other in &index.reach(alloc, module)? {
+        add_all(&mut starred, index.starred_externals(*other))?;
     }
     let mut ordered = Vec::new(alloc);
     for external in externals {
@@ -163,6 +186,13 @@ pub fn external_stars_of<'a>(
         }
     }
     Ok(ordered)
+}
+
+fn add_all<'a>(texts: &mut IndexSet<&'a str>, more: &[&'a str]) -> Result<(), AllocError> {
+    for text in more {
+        texts.insert(*text)?;
+    }
+    Ok(())
 }
 
 /// What targets of externals and CommonJS modules are called: as the first import that takes them does,
@@ -174,29 +204,51 @@ pub fn symbols_of<'a>(
     let mut symbols = IndexMap::new(alloc);
     for module in kinds.list {
         if let Some(tables) = kinds.tables(*module) {
-            for import in &tables.imports {
-                if let Some(target) = taken_of(kinds, *module, import.specifier, import.taken) {
-                    add_symbol(&mut symbols, target, import.local)?;
-                }
-            }
+            add_imported(kinds, *module, tables, &mut symbols)?;
         }
     }
     for module in kinds.list {
         if let Some(tables) = kinds.tables(*module) {
-            for export in &tables.exports {
-                if let Origin::Indirect {
-                    specifier,
-                    taken: Taken::Whole,
-                } = export.origin
-                {
-                    if let Some(target) = taken_of(kinds, *module, specifier, Taken::Whole) {
-                        add_symbol(&mut symbols, target, identifier_of(export.name))?;
-                    }
-                }
-            }
+            add_exported(kinds, *module, tables, &mut symbols)?;
         }
     }
     Ok(symbols)
+}
+
+// Notes what the imports of a module call targets.
+fn add_imported<'a>(
+    kinds: &Kinds<'_, '_, 'a>,
+    module: usize,
+    tables: &Tables<'a>,
+    symbols: &mut IndexMap<Target<'a>, &'a str>,
+) -> Result<(), AllocError> {
+    for import in &tables.imports {
+        if let Some(target) = taken_of(kinds, module, import.specifier, import.taken) {
+            add_symbol(symbols, target, import.local)?;
+        }
+    }
+    Ok(())
+}
+
+// Notes what the exports of wholes call them.
+fn add_exported<'a>(
+    kinds: &Kinds<'_, '_, 'a>,
+    module: usize,
+    tables: &Tables<'a>,
+    symbols: &mut IndexMap<Target<'a>, &'a str>,
+) -> Result<(), AllocError> {
+    for export in &tables.exports {
+        if let Origin::Indirect {
+            specifier,
+            taken: Taken::Whole,
+        } = export.origin
+        {
+            if let Some(target) = taken_of(kinds, module, specifier, Taken::Whole) {
+                add_symbol(symbols, target, identifier_of(export.name))?;
+            }
+        }
+    }
+    Ok(())
 }
 
 // What a module takes of an external or of a CommonJS module.
@@ -222,7 +274,7 @@ fn add_symbol<'a>(
     target: Target<'a>,
     symbol: &'a str,
 ) -> Result<(), AllocError> {
-    if !symbols.contains_key(&target) {
+    if !(&*symbols).contains_key(&target) {
         symbols.insert(target, symbol)?;
     }
     Ok(())

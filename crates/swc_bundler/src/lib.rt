@@ -27,7 +27,18 @@ pub mod load {
 
 /// The last steps to a bundle: no keyword and no clash of names.
 pub mod finalize {
+    pub use bundle_forms::wrap_with_iife;
     pub use bundle_scope::finalize::{KeywordRenamer, hygiene};
+}
+
+/// What CommonJS modules stand in: the helper, and the function of each.
+pub mod cjs {
+    pub use bundle_forms::item::{helper_item, wrap_cjs_module};
+}
+
+/// The object of a namespace.
+pub mod namespace {
+    pub use bundle_forms::item::namespace_object;
 }
 
 /// The bundler, its settings and what it gives.

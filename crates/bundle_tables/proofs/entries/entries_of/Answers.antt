@@ -11,7 +11,7 @@ use Rattle.bundle_tables.proofs.entries.entries_of.Goals as goal
 
 pub returns-clause-exports : goal.returns-clause-exports
 returns-clause-exports c =
-    let tree = map item_of c.args.outline.now.pieces.now in
+    let tree = map item_of c.args.pieces.now in
     let found = import_by c.in_ok-locals.locals in
     let imports = map import_entry_of c.in_ok-imports.imports.items in
     let are : imports ≡ imports_of tree = c.in_ok-imports.ensures ∙ imports_placed tree _ (ap (map part_items) c.deref.ensures.value ∙ c.in_ok-tops.ensures) in

@@ -1,25 +1,43 @@
--- What is asked for, and whether that is external, by the texts of the call.
-use Rattle.std.proofs.Common.{◌++◌, ap, ◌∙◌, map, string_bytes}
+-- The tables of the list by the texts of the call, or its first fault.
+use Rattle.std.proofs.Common.{◌≡◌, None, rules, ◌++◌, ap, sym, ◌∙◌, map, string_bytes}
+use Rattle.std.specs.Prelude.{filter, not}
 use Rattle.bundle_piece.specs.Item.{item_of}
+use Rattle.bundle_terms.specs.Bound.{is_free}
 use Rattle.bundle_terms.specs.Entries.{declared_requests}
+use Rattle.bundle_terms.specs.Nodes.{each_once, has_text}
 use Rattle.bundle_tables.specs.Sources.{asked, told_external}
-use Rattle.bundle_terms.specs.Nodes.{each_once}
+use Rattle.bundle_tables.specs.Listed.{listed_as}
+use Rattle.bundle_tables.specs.TablesOf.{call_entry_of, export_entry_of}
 use Rattle.bundle_tables.proofs.ExportLemmas.{told_all}
-use Rattle.bundle_tables.proofs.SourceLemmas.{unexternal_filter}
+use Rattle.bundle_tables.proofs.RequestLemmas.{requested}
+use Rattle.bundle_tables.proofs.ToldLemmas.{found_first, found_none, told_by_tree}
 use Rattle.bundle_tables.proofs.tables.tables_of.Goals as goal
 
 pub returns-clause-sources : goal.returns-clause-sources
 returns-clause-sources c =
     let texts = map string_bytes c.args.external.now in
-    ap (map asked) c.in_ok-tables.ensures.sources
-    ∙ c.in_ok-entries.ensures.sources
-    ∙ told_all c.in_ok-external.external texts _ c.in_ok-external.ensures
-    ∙ ap (λ l. map (told_external texts) (declared_requests (map item_of l))) c.in_ok-outline.ensures
+    ap (map asked) c.in_ok-tables.ensures.sources ∙ c.in_ok-entries.ensures.sources ∙ told_all c.in_ok-external.external texts _ c.in_ok-external.ensures
 
 pub returns-clause-requests : goal.returns-clause-requests
-returns-clause-requests c =
+returns-clause-requests c = λ settings same said is.
     let texts = map string_bytes c.args.external.now in
-    let sources = c.in_ok-entries.entries.given.sources.items in
-    let told = c.in_ok-entries.ensures.sources ∙ told_all c.in_ok-external.external texts _ c.in_ok-external.ensures ∙ ap (λ l. map (told_external texts) (declared_requests (map item_of l))) c.in_ok-outline.ensures in
+    let tree = map item_of c.args.pieces.now in
     c.in_ok-tables.ensures.requests
-    ∙ ap (λ l. each_once (l ++ map (λ call. call.specifier.now) c.in_ok-tables.tables.calls.items)) (unexternal_filter texts sources (declared_requests (map item_of c.args.pieces.now)) told)
+    ∙ requested settings (is_free tree) tree texts c.in_ok-entries.entries.given.sources.items c.in_ok-calls.calls.items said
+    (c.in_ok-entries.ensures.sources ∙ told_all c.in_ok-external.external texts _ c.in_ok-external.ensures)
+    (c.in_ok-calls.ensures settings same (λ x. c.in_ok-external.ensures x ∙ ap (has_text x) (sym said)) is)
+
+pub returns-clause-judged : goal.returns-clause-judged
+returns-clause-judged c = λ file is.
+    let none : c.in_ok-first.first ≡ None = search rules in
+    let tree = map item_of c.args.pieces.now in
+    let given = c.in_ok-entries.entries.given in
+    found_none file tree c.in_ok-first.first none
+    (c.in_ok-first.ensures file ∙ told_by_tree file tree c.args.denotations.now (map export_entry_of given.exports.items) (map listed_as given.listed.items) is c.in_ok-entries.ensures.exports c.in_ok-entries.ensures.listed)
+
+pub returns-in-Some-clause-judged : goal.returns-in-Some-clause-judged
+returns-in-Some-clause-judged c = λ file is.
+    let tree = map item_of c.args.pieces.now in
+    let given = c.in_ok-entries.entries.given in
+    found_first file tree c.in_ok-first.first c.in-Some.fault c.in-Some.is
+    (c.in_ok-first.ensures file ∙ told_by_tree file tree c.args.denotations.now (map export_entry_of given.exports.items) (map listed_as given.listed.items) is c.in_ok-entries.ensures.exports c.in_ok-entries.ensures.listed)

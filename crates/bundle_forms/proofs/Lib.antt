@@ -1,0 +1,5 @@
+mod Items
+mod Objects
+mod Quiet
+mod Body
+mod Order

@@ -1,0 +1,26 @@
+-- The tables are those of the list, and the fault is its first.
+use Rattle.std.proofs.Common.{ap, sym, ◌∙◌, subst, map, string_bytes}
+use Rattle.std.specs.Prelude.{IfSome}
+use Rattle.bundle_name.specs.FileName.{name_of}
+use Rattle.bundle_piece.specs.Item.{item_of}
+use Rattle.bundle_terms.specs.Faults.{IsFirstTreeFault}
+use Rattle.bundle_link.proofs.tables.read_list.Goals as goal
+
+pub returns-in-Ok-clause-given : goal.returns-in-Ok-clause-given
+returns-in-Ok-clause-given c =
+    let file = name_of c.args.file.now in
+    let judged = rw c.in-Ok.is at (c.in_ok-answer.ensures.judged file c.in_ok-names.ensures) in
+    let requests = rw c.in-Ok.is at c.in_ok-answer.ensures.requests in
+    record {
+      faultless = judged;
+      requests = λ settings links. requests settings links.0 (links.1 ∙ ap (map string_bytes) (sym c.deref.ensures.value)) c.in_ok-names.ensures;
+      imports = rw c.in-Ok.is at c.in_ok-answer.ensures.imports;
+      exports = rw c.in-Ok.is at c.in_ok-answer.ensures.exports;
+      stars = rw c.in-Ok.is at c.in_ok-answer.ensures.stars;
+    }
+
+pub returns-clause-refused : goal.returns-clause-refused
+returns-clause-refused c =
+    let file = name_of c.args.file.now in
+    let first = rw c.in-Err.is at (c.in_ok-answer.ensures.judged file c.in_ok-names.ensures) in
+    subst (λ told. IfSome told (IsFirstTreeFault file (map item_of c.args.pieces.now))) (sym c.in_ok-tree_refusal-in-Err.ensures) first
