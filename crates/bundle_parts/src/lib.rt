@@ -7,6 +7,3 @@ pub mod parts;
 
 pub use iter::Iter;
 pub use parts::Parts;
-
-#[cfg(test)]
-mod tests;
