@@ -122,7 +122,7 @@ fn next_by_stars(
         return Ok(Onward::Nothing);
     }
     if let Some(star) = only_star(index, module) {
-        if answers.contains_key(&(star, name)) {
+        if answers.contains_key(&(star, name)) || index.own((star, name)).is_some() {
             return Ok(Onward::To((star, name)));
         }
     }
