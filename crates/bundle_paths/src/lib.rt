@@ -85,6 +85,8 @@ pub use swc_bundler::id::Id;
 pub use swc_bundler::id::ModuleId;
 pub use swc_bundler::id::ModuleIdGenerator;
 pub use swc_bundler::id::SyntaxContext;
+pub use swc_bundler::inline::InlineError;
+pub use swc_bundler::inline::inline;
 pub use swc_bundler::link::Linker;
 pub use swc_bundler::link::Resolution;
 pub use swc_bundler::link::Target;

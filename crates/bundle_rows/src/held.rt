@@ -5,14 +5,18 @@
 //!   last of them behind all, or behind those in front.
 //! - `map_any_items`, `map_items_mut`: all items renamed by `pairs`. `retain_mut`: all but those of `id`.
 //! - `sort`: all as the body of `id`, by `edges` between modules with numbers below `upto`.
+//! - `inline`: aliases are taken out, or that is refused, as `gives` says.
+//!
+//! With `injected` the tree is noted as the linker's own.
 //!
 //! Written are the numbers of the items' modules, and on the next line the tree of all items.
 
 use crate::graphs::{ids_in, module_graph_of};
-use crate::trees::{list, module_of, number_under, renaming_of, text, tree_text};
+use crate::trees::{list, module_in, notes, number_under, renaming_of, text, tree_text};
 use anyhow::{Context, Result, bail};
-use bundle_ast::ModuleItem;
+use bundle_ast::{Module, ModuleItem};
 use bundle_id::ModuleId;
+use bundle_inline::inline::{InlineError, inline};
 use bundle_modules::Modules;
 use bundle_name::Error;
 use bundle_scope::scope::{Renaming, rename_all};
@@ -57,6 +61,7 @@ fn change(alloc: Global, held: &mut Modules, step: &Value, call: &str) -> Result
         "map_items_mut" => rename_items(alloc, held, &renaming_of(alloc, list(step, "pairs"))?)?,
         "retain_mut" => drop_items(held, id_of(step)?),
         "sort" => sort(alloc, held, step)?,
+        "inline" => take_out(alloc, held, text(step, "gives")?)?,
         other => bail!("the call {other:?}"),
     }
     Ok(())
@@ -69,20 +74,26 @@ fn id_of(step: &Value) -> Result<ModuleId> {
 
 fn part_of(alloc: Global, step: &Value) -> Result<Modules> {
     let id = id_of(step)?;
-    let module = module_of(alloc, step)?;
+    let module = module_under(alloc, step)?;
     Ok(Modules::from(alloc, id, module)?)
+}
+
+// The tree of a step, with its notes.
+fn module_under(alloc: Global, step: &Value) -> Result<Module> {
+    let injected = step.get("injected").and_then(Value::as_bool).unwrap_or(false);
+    module_in(alloc, step.get("module").context("no module")?, &notes(injected))
 }
 
 // The last item of a step's tree.
 fn item_of(alloc: Global, step: &Value) -> Result<ModuleItem> {
-    let mut items = module_of(alloc, step)?.into_body();
+    let mut items = module_under(alloc, step)?.into_body();
     items.pop().context("no item")
 }
 
 fn pairs_of(alloc: Global, step: &Value) -> Result<Vec<(ModuleId, ModuleItem)>> {
     let id = id_of(step)?;
     let mut pairs = Vec::new(alloc);
-    for item in module_of(alloc, step)?.into_body() {
+    for item in module_under(alloc, step)?.into_body() {
         pairs.push((id, item))?;
     }
     Ok(pairs)
@@ -109,4 +120,17 @@ fn sort(alloc: Global, held: &mut Modules, step: &Value) -> Result<()> {
     let ids = ids_in(alloc, number_under(step, "upto")?)?;
     let graph = module_graph_of(alloc, list(step, "edges"), ids.as_slice())?;
     Ok(held.sort(alloc, id_of(step)?, &graph)?)
+}
+
+// Takes out aliases, which has to give this.
+fn take_out(alloc: Global, held: &mut Modules, wanted: &str) -> Result<()> {
+    let given = match inline(alloc, held) {
+        Ok(()) => "inlined",
+        Err(InlineError::Cycle) => "cycle",
+        Err(InlineError::Memory) => "memory",
+    };
+    if given != wanted {
+        bail!("{given}");
+    }
+    Ok(())
 }

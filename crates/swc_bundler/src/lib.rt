@@ -4,6 +4,7 @@
 
 pub use bundle_ast as ast;
 pub use bundle_copy::TryClone;
+pub use bundle_inline::inline;
 pub use bundle_link::{link, tables};
 pub use bundle_marks as marks;
 pub use bundle_modules::modules;

@@ -1,0 +1,4 @@
+pub mod Aliased
+pub mod Chains
+pub mod Made
+pub mod Pairs
