@@ -1,6 +1,6 @@
 //! What the top names of a bundle are called: each target, and each name that the linker adds, by symbol and context.
 
-use crate::context::{Contexts, local_context};
+use crate::context::{Contexts, GLOBAL};
 use crate::error::MergeError;
 use bundle_ast::{KeyValueProp, ModuleItem};
 use bundle_denote::Denotations;
@@ -23,19 +23,35 @@ pub struct Part<'t, 'a> {
     pub tables: &'t Tables<'a>,
     /// The modules to which its requests lead, by their texts.
     pub leads: &'t IndexMap<String, usize>,
-    /// The number of its file.
-    pub file: u32,
+    /// The context of the names of its top.
+    pub local: u32,
     /// What `import.meta` holds in it.
     pub meta: Option<Meta<'t, 'a>>,
+}
+
+/// What `import.meta` stands for in a module.
+#[derive(Clone, Copy)]
+pub enum Meta<'t, 'a> {
+    /// An object that is to be made.
+    Answered(Answered<'t, 'a>),
+    /// The constant of a statement that is there already.
+    Written(Written<'a>),
 }
 
 /// The properties of an `import.meta`, with the list of a module of one statement, an object that has them, and what
 /// its occurrences denote.
 #[derive(Clone, Copy)]
-pub struct Meta<'t, 'a> {
+pub struct Answered<'t, 'a> {
     pub properties: &'a [KeyValueProp],
     pub pieces: &'t [Piece<'a>],
     pub denotations: &'t Denotations<'a>,
+}
+
+/// The statement that holds an `import.meta`, and the name that it declares.
+#[derive(Clone, Copy)]
+pub struct Written<'a> {
+    pub item: &'a ModuleItem,
+    pub name: Name<'a>,
 }
 
 /// The names that were given so far, and the next context.
@@ -51,17 +67,17 @@ pub struct Labels<'t, 'a> {
 }
 
 impl<'t, 'a> Labels<'t, 'a> {
-    /// No name yet, where so many files have numbers.
+    /// No name yet, where these contexts are free.
     pub fn new(
         alloc: Global,
         linking: &'t Linking<'a>,
         parts: &'t [Part<'t, 'a>],
-        files: usize,
+        contexts: Contexts,
     ) -> Labels<'t, 'a> {
         Labels {
             linking,
             parts,
-            contexts: Contexts::above(files),
+            contexts,
             targets: IndexMap::new(alloc),
             loads: IndexMap::new(alloc),
             metas: IndexMap::new(alloc),
@@ -85,11 +101,10 @@ impl<'t, 'a> Labels<'t, 'a> {
 
     /// A name at the top of a module.
     pub fn local(&self, module: usize, sym: &'a str) -> Name<'a> {
-        let file = match self.parts.get(module) {
-            Some(part) => part.file,
-            None => 0,
+        let ctxt = match self.parts.get(module) {
+            Some(part) => part.local,
+            None => GLOBAL,
         };
-        let ctxt = local_context(file);
         Name { sym, ctxt }
     }
 
@@ -108,7 +123,10 @@ impl<'t, 'a> Labels<'t, 'a> {
         if let Some(name) = self.metas.get(&module) {
             return Ok(*name);
         }
-        let name = self.fresh("importMeta")?;
+        let name = match statement_of(self.parts, module) {
+            Some(written) => written.name,
+            None => self.fresh("importMeta")?,
+        };
         self.metas.insert(module, name)?;
         Ok(name)
     }
@@ -127,5 +145,13 @@ impl<'t, 'a> Labels<'t, 'a> {
     pub fn fresh(&mut self, sym: &'a str) -> Result<Name<'a>, MergeError> {
         let ctxt = self.contexts.take(None)?;
         Ok(Name { sym, ctxt })
+    }
+}
+
+// The statement that holds the `import.meta` of a module, if it is there already.
+fn statement_of<'t, 'a>(parts: &[Part<'t, 'a>], module: usize) -> Option<Written<'a>> {
+    match parts.get(module)?.meta {
+        Some(Meta::Written(written)) => Some(written),
+        _ => None,
     }
 }
