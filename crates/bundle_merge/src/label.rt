@@ -15,7 +15,7 @@ use std::alloc::Global;
 /// last.
 #[derive(Clone, Copy)]
 pub struct Part<'t, 'a> {
-    /// Its items.
+    /// Its items; in front of its own may be the statement that holds its `import.meta`.
     pub items: &'a [ModuleItem],
     /// Its list, and what each occurrence in it denotes by its symbol, read as the kind of module that it is.
     pub pieces: &'t [Piece<'a>],
@@ -34,8 +34,8 @@ pub struct Part<'t, 'a> {
 pub enum Meta<'t, 'a> {
     /// An object that is to be made.
     Answered(Answered<'t, 'a>),
-    /// The constant of a statement that is there already.
-    Written(Written<'a>),
+    /// The name that the first of the items declares, a statement that holds it already and stands in no list.
+    Written(Name<'a>),
 }
 
 /// The properties of an `import.meta`, with the list of a module of one statement, an object that has them, and what
@@ -45,13 +45,6 @@ pub struct Answered<'t, 'a> {
     pub properties: &'a [KeyValueProp],
     pub pieces: &'t [Piece<'a>],
     pub denotations: &'t Denotations<'a>,
-}
-
-/// The statement that holds an `import.meta`, and the name that it declares.
-#[derive(Clone, Copy)]
-pub struct Written<'a> {
-    pub item: &'a ModuleItem,
-    pub name: Name<'a>,
 }
 
 /// The names that were given so far, and the next context.
@@ -123,8 +116,8 @@ impl<'t, 'a> Labels<'t, 'a> {
         if let Some(name) = self.metas.get(&module) {
             return Ok(*name);
         }
-        let name = match statement_of(self.parts, module) {
-            Some(written) => written.name,
+        let name = match written_name(self.parts, module) {
+            Some(name) => name,
             None => self.fresh("importMeta")?,
         };
         self.metas.insert(module, name)?;
@@ -148,10 +141,10 @@ impl<'t, 'a> Labels<'t, 'a> {
     }
 }
 
-// The statement that holds the `import.meta` of a module, if it is there already.
-fn statement_of<'t, 'a>(parts: &[Part<'t, 'a>], module: usize) -> Option<Written<'a>> {
+// The name of the statement that holds the `import.meta` of a module, if it is there already.
+fn written_name<'t, 'a>(parts: &[Part<'t, 'a>], module: usize) -> Option<Name<'a>> {
     match parts.get(module)?.meta {
-        Some(Meta::Written(written)) => Some(written),
+        Some(Meta::Written(name)) => Some(name),
         _ => None,
     }
 }

@@ -15,6 +15,6 @@ mod order;
 
 pub use context::{Contexts, local_context};
 pub use error::MergeError;
-pub use label::{Answered, Meta, Part, Written};
+pub use label::{Answered, Meta, Part};
 pub use merge::{Block, BundleParts, Merged, merge_modules};
 pub use order::{Ordered, order_items};

@@ -15,7 +15,6 @@ use bundle_rewrite::{Rewriting, rewritten_object, stated_item};
 use bundle_tables::Taken;
 use bundle_targets::{External, Linking, Loaded, Target};
 use std::alloc::{AllocError, Global};
-use std::slice;
 
 /// Modules that reach each other, in the order of the list. Their items are sorted where there are several, or where
 /// the one requests itself.
@@ -271,14 +270,10 @@ fn add_written<'t, 'a>(
     part: &Part<'t, 'a>,
     owners: &mut Vec<Owner>,
 ) -> Result<(), AllocError> {
-    if let Some(Meta::Written(written)) = part.meta {
-        add_rebuilt(
-            alloc,
-            slice::from_ref(written.item),
-            &[],
-            &mut merged.module,
-        )?;
-        add_owners(owners, module, false, 1)?;
+    if let Some(Meta::Written(_)) = part.meta {
+        let front = part.items.get(..1).unwrap_or(&[]);
+        add_rebuilt(alloc, front, &[], &mut merged.module)?;
+        add_owners(owners, module, false, front.len())?;
     }
     Ok(())
 }
@@ -395,10 +390,18 @@ fn add_own<'t, 'a>(
     stmts: &mut Vec<Stmt>,
 ) -> Result<(), AllocError> {
     let ranges = ranges_at(alloc, part.pieces, 1)?;
-    for (item, range) in part.items.iter().zip(ranges.iter()) {
+    for (item, range) in own_items(part).iter().zip(ranges.iter()) {
         add_stated(alloc, part, body, default, item, *range, stmts)?;
     }
     Ok(())
+}
+
+// The items that are a module's own.
+fn own_items<'t, 'a>(part: &Part<'t, 'a>) -> &'a [ModuleItem] {
+    match part.meta {
+        Some(Meta::Written(_)) => part.items.get(1..).unwrap_or(&[]),
+        _ => part.items,
+    }
 }
 
 // Adds what an item states, if it states something.
