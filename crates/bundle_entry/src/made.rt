@@ -9,7 +9,9 @@ use crate::unlinked::Unlinked;
 use bundle_ast::Module;
 use bundle_denote::{Denotations, ModuleKind, Reading, denotations};
 use bundle_id::ModuleId;
-use bundle_merge::{BundleParts, MergeError, Merged, Meta, Part, merge_modules};
+use bundle_merge::{
+    Answered, BundleParts, Contexts, MergeError, Merged, Meta, Part, local_context, merge_modules,
+};
 use bundle_name::file_name::FileName;
 use bundle_targets::Linking;
 use indexmap::IndexMap;
@@ -68,7 +70,7 @@ fn merged_of<'t, 'p: 't, 'x>(
         parts: parts.as_slice(),
         linking,
         blocks: reached.blocks.as_slice(),
-        files: call.program.count,
+        contexts: Contexts::above(call.program.count),
     };
     match merge_modules(alloc, &bundle) {
         Ok(merged) => Ok(merged),
@@ -98,7 +100,7 @@ fn part_of<'t, 'p: 't, 'x>(
         denotations,
         tables: &source.tables,
         leads,
-        file: id.as_u32(),
+        local: local_context(id.as_u32()),
         meta: meta_at(metas, module),
     })
 }
@@ -106,11 +108,11 @@ fn part_of<'t, 'p: 't, 'x>(
 // What `import.meta` holds in a module, if something does.
 fn meta_at<'t, 'x>(metas: &'t [Option<ReadMeta<'x>>], module: usize) -> Option<Meta<'t, 'x>> {
     match metas.get(module) {
-        Some(Some(meta)) => Some(Meta {
+        Some(Some(meta)) => Some(Meta::Answered(Answered {
             properties: meta.properties,
             pieces: meta.pieces.as_slice(),
             denotations: &meta.names,
-        }),
+        })),
         _ => None,
     }
 }

@@ -1,5 +1,7 @@
 //! Contexts that nothing has yet.
 
+ghost use Rattle.std.specs.Prelude.{◌≡◌, Some};
+
 use crate::error::MergeError;
 
 /// The context of a name that no module declares.
@@ -17,6 +19,20 @@ impl Contexts {
         Contexts {
             next: first_above(files),
         }
+    }
+
+    /// The contexts from this one on.
+    pub fn from_next(next: u32) -> Contexts
+        ensures { result.next ≡ Some next }
+    {
+        Contexts { next: Some(next) }
+    }
+
+    /// The next context, if there is one.
+    pub fn next(&self) -> Option<u32>
+        ensures { result ≡ self.now.next }
+    {
+        self.next
     }
 
     /// The next context, for a name of a module or, without one, of the linker's own.

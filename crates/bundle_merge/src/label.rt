@@ -1,6 +1,6 @@
 //! What the top names of a bundle are called: each target, and each name that the linker adds, by symbol and context.
 
-use crate::context::{Contexts, local_context};
+use crate::context::{Contexts, GLOBAL};
 use crate::error::MergeError;
 use bundle_ast::{KeyValueProp, ModuleItem};
 use bundle_denote::Denotations;
@@ -15,7 +15,7 @@ use std::alloc::Global;
 /// last.
 #[derive(Clone, Copy)]
 pub struct Part<'t, 'a> {
-    /// Its items.
+    /// Its items; in front of its own may be the statement that holds its `import.meta`.
     pub items: &'a [ModuleItem],
     /// Its list, and what each occurrence in it denotes by its symbol, read as the kind of module that it is.
     pub pieces: &'t [Piece<'a>],
@@ -23,16 +23,25 @@ pub struct Part<'t, 'a> {
     pub tables: &'t Tables<'a>,
     /// The modules to which its requests lead, by their texts.
     pub leads: &'t IndexMap<String, usize>,
-    /// The number of its file.
-    pub file: u32,
+    /// The context of the names of its top.
+    pub local: u32,
     /// What `import.meta` holds in it.
     pub meta: Option<Meta<'t, 'a>>,
+}
+
+/// What `import.meta` stands for in a module.
+#[derive(Clone, Copy)]
+pub enum Meta<'t, 'a> {
+    /// An object that is to be made.
+    Answered(Answered<'t, 'a>),
+    /// The name that the first of the items declares, a statement that holds it already and stands in no list.
+    Written(Name<'a>),
 }
 
 /// The properties of an `import.meta`, with the list of a module of one statement, an object that has them, and what
 /// its occurrences denote.
 #[derive(Clone, Copy)]
-pub struct Meta<'t, 'a> {
+pub struct Answered<'t, 'a> {
     pub properties: &'a [KeyValueProp],
     pub pieces: &'t [Piece<'a>],
     pub denotations: &'t Denotations<'a>,
@@ -51,17 +60,17 @@ pub struct Labels<'t, 'a> {
 }
 
 impl<'t, 'a> Labels<'t, 'a> {
-    /// No name yet, where so many files have numbers.
+    /// No name yet, where these contexts are free.
     pub fn new(
         alloc: Global,
         linking: &'t Linking<'a>,
         parts: &'t [Part<'t, 'a>],
-        files: usize,
+        contexts: Contexts,
     ) -> Labels<'t, 'a> {
         Labels {
             linking,
             parts,
-            contexts: Contexts::above(files),
+            contexts,
             targets: IndexMap::new(alloc),
             loads: IndexMap::new(alloc),
             metas: IndexMap::new(alloc),
@@ -85,11 +94,10 @@ impl<'t, 'a> Labels<'t, 'a> {
 
     /// A name at the top of a module.
     pub fn local(&self, module: usize, sym: &'a str) -> Name<'a> {
-        let file = match self.parts.get(module) {
-            Some(part) => part.file,
-            None => 0,
+        let ctxt = match self.parts.get(module) {
+            Some(part) => part.local,
+            None => GLOBAL,
         };
-        let ctxt = local_context(file);
         Name { sym, ctxt }
     }
 
@@ -108,7 +116,10 @@ impl<'t, 'a> Labels<'t, 'a> {
         if let Some(name) = self.metas.get(&module) {
             return Ok(*name);
         }
-        let name = self.fresh("importMeta")?;
+        let name = match written_name(self.parts, module) {
+            Some(name) => name,
+            None => self.fresh("importMeta")?,
+        };
         self.metas.insert(module, name)?;
         Ok(name)
     }
@@ -127,5 +138,13 @@ impl<'t, 'a> Labels<'t, 'a> {
     pub fn fresh(&mut self, sym: &'a str) -> Result<Name<'a>, MergeError> {
         let ctxt = self.contexts.take(None)?;
         Ok(Name { sym, ctxt })
+    }
+}
+
+// The name of the statement that holds the `import.meta` of a module, if it is there already.
+fn written_name<'t, 'a>(parts: &[Part<'t, 'a>], module: usize) -> Option<Name<'a>> {
+    match parts.get(module)?.meta {
+        Some(Meta::Written(name)) => Some(name),
+        _ => None,
     }
 }

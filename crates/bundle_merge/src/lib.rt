@@ -13,7 +13,8 @@ mod label;
 mod merge;
 mod order;
 
+pub use context::{Contexts, local_context};
 pub use error::MergeError;
-pub use label::{Meta, Part};
+pub use label::{Answered, Meta, Part};
 pub use merge::{Block, BundleParts, Merged, merge_modules};
 pub use order::{Ordered, order_items};

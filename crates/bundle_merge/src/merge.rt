@@ -1,9 +1,10 @@
 //! The items of a bundle: what is imported, the helper, the modules block by block, and what is exported.
 
 use crate::body::{Body, body_of, own_names};
+use crate::context::Contexts;
 use crate::error::MergeError;
-use crate::label::{Labels, Meta, Part};
-use crate::order::{PieceRange, ranges_at};
+use crate::label::{Answered, Labels, Meta, Part};
+use crate::order::{PieceRange, add_rebuilt, ranges_at};
 use bundle_ast::{ExportMetadata, Module, ModuleItem, Stmt};
 use bundle_inject::{
     HelperNames, LoadNames, Pair, constant, export_list, export_star, helper, import_bare,
@@ -24,13 +25,13 @@ pub struct Block {
 }
 
 /// What a bundle is made of: its modules in the order of its list, the entry last; what their names are linked to;
-/// the blocks in their order; and how many files have numbers.
+/// the blocks in their order; and the contexts that are free.
 #[derive(Clone, Copy)]
 pub struct BundleParts<'t, 'a> {
     pub parts: &'t [Part<'t, 'a>],
     pub linking: &'t Linking<'a>,
     pub blocks: &'t [Block],
-    pub files: usize,
+    pub contexts: Contexts,
 }
 
 /// The items of a bundle as a module, where those of a block that is sorted are not sorted yet.
@@ -39,6 +40,8 @@ pub struct Merged<'a> {
     pub module: Module,
     /// The names under which the last item exports, in turn; where there are none it is no list of exports.
     pub exported: Vec<&'a str>,
+    /// The contexts that are free.
+    pub contexts: Contexts,
     pub(crate) sorted: Vec<SortedBlock>,
 }
 
@@ -61,9 +64,10 @@ pub fn merge_modules<'t, 'a>(
     alloc: Global,
     bundle: &BundleParts<'t, 'a>,
 ) -> Result<Merged<'a>, MergeError> {
-    let mut labels = Labels::new(alloc, bundle.linking, bundle.parts, bundle.files);
-    let mut merged = Merged::new(alloc);
+    let mut labels = Labels::new(alloc, bundle.linking, bundle.parts, bundle.contexts);
+    let mut merged = Merged::new(alloc, bundle.contexts);
     add_items(alloc, bundle, &mut merged, &mut labels)?;
+    merged.contexts = labels.contexts;
     Ok(merged)
 }
 
@@ -91,12 +95,13 @@ fn add_items<'t, 'a>(
 
 impl<'a> Merged<'a> {
     // No item so far.
-    fn new(alloc: Global) -> Merged<'a> {
+    fn new(alloc: Global, contexts: Contexts) -> Merged<'a> {
         Merged {
             module: Module {
                 body: Vec::new(alloc),
             },
             exported: Vec::new(alloc),
+            contexts,
             sorted: Vec::new(alloc),
         }
     }
@@ -247,11 +252,28 @@ fn add_modules<'t, 'a>(
 ) -> Result<(), MergeError> {
     for module in &block.modules {
         if let Some(part) = bundle.parts.get(*module) {
+            add_written(alloc, merged, *module, part, owners)?;
             let stmts = module_statements(alloc, bundle, labels, *module, part)?;
             let count = stmts.len();
             merged.add_all(stmts)?;
             add_owners(owners, *module, false, count)?;
         }
+    }
+    Ok(())
+}
+
+// Adds the statement that holds the `import.meta` of a module as it is, if it is there already.
+fn add_written<'t, 'a>(
+    alloc: Global,
+    merged: &mut Merged<'a>,
+    module: usize,
+    part: &Part<'t, 'a>,
+    owners: &mut Vec<Owner>,
+) -> Result<(), AllocError> {
+    if let Some(Meta::Written(_)) = part.meta {
+        let front = part.items.get(..1).unwrap_or(&[]);
+        add_rebuilt(alloc, front, &[], &mut merged.module)?;
+        add_owners(owners, module, false, front.len())?;
     }
     Ok(())
 }
@@ -347,7 +369,7 @@ fn add_es<'t, 'a>(
     stmts: &mut Vec<Stmt>,
 ) -> Result<(), MergeError> {
     let default = labels.local(module, "default");
-    if let Some(meta) = part.meta {
+    if let Some(Meta::Answered(meta)) = part.meta {
         let object = meta_object(alloc, labels, module, meta)?;
         stmts.push(object)?;
     }
@@ -368,10 +390,18 @@ fn add_own<'t, 'a>(
     stmts: &mut Vec<Stmt>,
 ) -> Result<(), AllocError> {
     let ranges = ranges_at(alloc, part.pieces, 1)?;
-    for (item, range) in part.items.iter().zip(ranges.iter()) {
+    for (item, range) in own_items(part).iter().zip(ranges.iter()) {
         add_stated(alloc, part, body, default, item, *range, stmts)?;
     }
     Ok(())
+}
+
+// The items that are a module's own.
+fn own_items<'t, 'a>(part: &Part<'t, 'a>) -> &'a [ModuleItem] {
+    match part.meta {
+        Some(Meta::Written(_)) => part.items.get(1..).unwrap_or(&[]),
+        _ => part.items,
+    }
 }
 
 // Adds what an item states, if it states something.
@@ -401,7 +431,7 @@ fn meta_object<'t, 'a>(
     alloc: Global,
     labels: &mut Labels<'t, 'a>,
     module: usize,
-    meta: Meta<'t, 'a>,
+    meta: Answered<'t, 'a>,
 ) -> Result<Stmt, MergeError> {
     let name = labels.meta(module)?;
     let rewrites = own_names(alloc, meta.pieces, meta.denotations, module, labels)?;

@@ -252,8 +252,8 @@ impl<'m> Ordered<'m> {
     }
 }
 
-// Adds items that are made anew with these changes.
-fn add_rebuilt<'c>(
+/// Adds items that are made anew with these changes.
+pub(crate) fn add_rebuilt<'c>(
     alloc: Global,
     items: &[ModuleItem],
     changes: &[Change<'c>],

@@ -40,7 +40,7 @@ impl Contexts {
     }
 
     /// The file that these are the contexts of.
-    pub(crate) fn file(&self) -> &FileName
+    pub fn file(&self) -> &FileName
         ensures { name_of result.now ≡ self.now.file }
     {
         &self.file
@@ -54,7 +54,7 @@ impl Contexts {
     }
 
     /// The numbers below this one are given.
-    pub(crate) fn go_to(&mut self, next: u32)
+    pub fn go_to(&mut self, next: u32)
         requires { self.old.next ≤ next }
         ensures { self.new ≡ record self.old { next = next } }
     {
