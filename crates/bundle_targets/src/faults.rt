@@ -1,9 +1,8 @@
 //! What is wrong with the modules of a bundle, in the order in which it is judged.
 
-use crate::index::{Answer, DEFAULT, Index};
-use crate::kinds::{Kinds, Lead};
-use crate::own::{Own, taking};
 use crate::target::{Fault, FaultKind, Target};
+use bundle_index::index::DEFAULT;
+use bundle_index::{Answer, Index, Kinds, Lead, Own, taking};
 use bundle_tables::{Origin, Tables, Taken};
 use indexmap::IndexSet;
 use std::alloc::{AllocError, Global};
@@ -214,7 +213,7 @@ fn import_fault<'a>(
     tables: &Tables<'a>,
 ) -> Result<Option<Placed<'a>>, AllocError> {
     for import in &tables.imports {
-        let asked = taking(kinds, module, import.specifier, import.taken);
+        let asked = taking(kinds, module, import.specifier, import.taken, None);
         if let Some(fault) = asked_fault(alloc, index, module, asked)? {
             let place = import.place;
             return Ok(Some(Placed { place, fault }));
@@ -233,7 +232,7 @@ fn export_fault<'a>(
 ) -> Result<Option<Placed<'a>>, AllocError> {
     for export in &tables.exports {
         if let Origin::Indirect { specifier, taken } = export.origin {
-            let asked = taking(kinds, module, specifier, taken);
+            let asked = taking(kinds, module, specifier, taken, None);
             if let Some(fault) = asked_fault(alloc, index, module, asked)? {
                 let place = export.place;
                 return Ok(Some(Placed { place, fault }));

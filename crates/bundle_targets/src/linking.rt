@@ -1,12 +1,12 @@
 //! The modules of one bundle, linked.
 
 use crate::faults::{call_fault_of, is_perhaps_external, link_fault_of};
-use crate::index::{Answer, Index};
-use crate::kinds::{Kinds, flag};
 use crate::meant::{Meant, meant_in};
-use crate::stars::list_at;
 use crate::taken::{external_stars_of, externals_of, identifier_of, loads_of, symbols_of};
 use crate::target::{External, Fault, LinkModule, Loaded, Meaning, Resolution, Setting, Target};
+use bundle_index::kinds::flag;
+use bundle_index::lists::list_at;
+use bundle_index::{Answer, Index, Kinds};
 use bundle_tables::Taken;
 use indexmap::IndexMap;
 use std::alloc::{AllocError, Global};

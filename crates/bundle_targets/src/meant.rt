@@ -1,11 +1,10 @@
 //! What is meant: the least set of targets that own statements, the entry's exports and namespace objects
 //! that are meant themselves mean.
 
-use crate::index::Index;
-use crate::kinds::Kinds;
-use crate::own::{Asked, Own, locals_of, taking};
-use crate::stars::{no_lists, push_at};
+use crate::names::linked_names;
 use crate::target::{Meaning, Target};
+use bundle_index::lists::{no_lists, push_at};
+use bundle_index::{Asked, Index, Kinds, Own, locals_of, taking};
 use bundle_tables::{Import, Tables, Use};
 use indexmap::{IndexMap, IndexSet};
 use std::alloc::{AllocError, Global};
@@ -105,7 +104,7 @@ impl<'a> Meant<'a> {
         index: &mut Index<'a>,
         module: usize,
     ) -> Result<(), AllocError> {
-        let linked = index.linked_names(alloc, kinds, module)?;
+        let linked = linked_names(alloc, kinds, index, module)?;
         for (_, target) in &linked {
             self.targets.insert(*target)?;
         }
@@ -143,7 +142,7 @@ fn named<'a>(
     let Some(import) = import else {
         return Ok(None);
     };
-    match taking(kinds, module, import.specifier, import.taken) {
+    match taking(kinds, module, import.specifier, import.taken, None) {
         Own::Gives(given) => Ok(Some(given.target)),
         Own::Leads(asked) => Ok(index.answer(alloc, asked)?.linked()),
         Own::Nothing => Ok(None),

@@ -1,12 +1,15 @@
 //! Where the specifiers of modules lead, and which modules are CommonJS.
 
+ghost use Rattle.std.specs.Prelude.{◌≡◌};
+ghost use Rattle.bundle_index.specs.Leads.{flagged, lead_of, lead_told, lead_to, required_of};
+
 use crate::target::{LinkModule, Setting};
 use bundle_tables::Tables;
 use indexmap::IndexSet;
 use std::alloc::{AllocError, Global};
 
 /// Where a specifier of a module leads.
-#[derive(Clone, Copy, PartialEq, Eq)]
+#[derive(Clone, Copy)]
 pub enum Lead {
     External,
     /// To this ECMAScript module,
@@ -78,25 +81,44 @@ impl<'m, 't, 'a> Kinds<'m, 't, 'a> {
     }
 
     /// The number of the module to which a literal call of `require` leads.
-    pub fn required(&self, module: usize, specifier: &str) -> Option<usize> {
-        self.modules.get(module)?.leads.get(specifier).copied()
+    pub fn required(&self, number: usize, specifier: &str) -> Option<usize>
+        ensures { result ≡ required_of self.now.modules.now number specifier.now }
+    {
+        match self.modules.get(number) {
+            Some(module) => module.leads.get(specifier).copied(),
+            None => None,
+        }
     }
 
     /// Where a specifier of an import or export leads.
-    pub fn lead(&self, module: usize, specifier: &str) -> Lead {
+    pub fn lead(&self, number: usize, specifier: &str) -> Lead
+        ensures { lead_told result ≡ lead_of self.now number specifier.now }
+    {
         if self.externals.contains(&specifier) {
             return Lead::External;
         }
-        match self.required(module, specifier) {
-            Some(number) if self.is_common_js(number) => Lead::CommonJs(number),
-            Some(number) => Lead::Module(number),
+        match self.required(number, specifier) {
+            Some(other) => self.kind_of(other),
             None => Lead::Nowhere,
         }
     }
 
+    // That a specifier leads to a module.
+    fn kind_of(&self, number: usize) -> Lead
+        ensures { lead_told result ≡ lead_to self.now.common_js.items number }
+    {
+        if self.is_common_js(number) {
+            Lead::CommonJs(number)
+        } else {
+            Lead::Module(number)
+        }
+    }
+
     /// Whether a module is CommonJS.
-    pub fn is_common_js(&self, module: usize) -> bool {
-        flag(&self.common_js, module)
+    pub fn is_common_js(&self, number: usize) -> bool
+        ensures { result ≡ flagged self.now.common_js.items number }
+    {
+        flag(&self.common_js, number)
     }
 }
 
@@ -117,7 +139,9 @@ fn externals<'a>(
 }
 
 /// Whether a number is flagged.
-pub fn flag(flags: &Vec<bool>, number: usize) -> bool {
+pub fn flag(flags: &[bool], number: usize) -> bool
+    ensures { result ≡ flagged flags.now number }
+{
     flags.get(number).copied().unwrap_or(false)
 }
 

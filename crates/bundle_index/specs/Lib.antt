@@ -1,0 +1,6 @@
+pub mod Linked
+pub mod Said
+pub mod Leads
+pub mod Says
+pub mod Numbered
+pub mod Programs
