@@ -6,3 +6,6 @@ pub mod NumberedLemmas
 pub mod EqualLemmas
 pub mod ProgramLemmas
 pub mod FoundLemmas
+pub mod AskedLemmas
+pub mod HandedLemmas
+pub mod OutsideLemmas

@@ -196,6 +196,12 @@ more_starred lead m n [] its is =
     ap (λ k. starred (lead k) its.tables.now.stars.items ∷ []) here
 more_starred lead m n (first ∷ rest) its is = ap (λ l. starred (lead m) first.tables.now.stars.items ∷ l) (more_starred lead (suc m) n rest its (omega arith))
 
+pub starred_more : (lead : ℕ → Text → Lead) (modules : List LinkModule) (n : ℕ) (its : LinkModule) → its ≡ get_or modules n its → n < length modules → all_starred lead 0 (take n modules) ++ starred (lead n) its.tables.now.stars.items ∷ [] ≡ all_starred lead 0 (take (n + 1) modules)
+starred_more lead modules n its is inside =
+    let long : length (take n modules) ≡ n = length-take-le n modules (omega arith) in
+    let next : take (n + 1) modules ≡ take n modules ++ its ∷ [] = take_more modules n its inside ∙ ap (λ one. take n modules ++ one ∷ []) (sym is) in
+    sym (ap (all_starred lead 0) next ∙ more_starred lead 0 n (take n modules) its (omega arith))
+
 -- one module more is noted
 pub Holds-module : (lead : ℕ → Text → Lead) (modules : List LinkModule) (n : ℕ) (its : LinkModule) (names : List Text) (values : List Value) (g : Graph) → its ≡ get_or modules n its → n < length modules
     → Holds (all_notes lead 0 (take n modules) ++ notes_of (lead n) n its.tables.now) (all_starred lead 0 (take n modules) ++ starred (lead n) its.tables.now.stars.items ∷ []) names values g

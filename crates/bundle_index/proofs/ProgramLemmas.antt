@@ -28,24 +28,24 @@ use Rattle.bundle_index.specs.Programs.{Asks, by_import, by_entry, by_star, AreM
 use Rattle.bundle_index.proofs.SaidLemmas.{is_graph}
 
 -- ---- elements of lists
-map_back : {A B : Type 0} (f : A → B) (xs : List A) (y : B) → Contains (map f xs) y → (x : A) × Contains xs x × (f x ≡ y)
+pub map_back : {A B : Type 0} (f : A → B) (xs : List A) (y : B) → Contains (map f xs) y → (x : A) × Contains xs x × (f x ≡ y)
 map_back f [] y (i, h, e) = absurd (omega arith)
 map_back f (x ∷ xs) y (zero, h, e) = (x, (0, omega arith, refl), e)
 map_back f (x ∷ xs) y (suc i, h, e) = let r = map_back f xs y (i, omega arith, e) in (r.0, (suc r.1.0, omega (arith, r.1.1), r.1.2), r.2)
 
-map_on : {A B : Type 0} (f : A → B) (xs : List A) (x : A) → Contains xs x → Contains (map f xs) (f x)
+pub map_on : {A B : Type 0} (f : A → B) (xs : List A) (x : A) → Contains xs x → Contains (map f xs) (f x)
 map_on f [] x (i, h, e) = absurd (omega arith)
 map_on f (a ∷ xs) x (zero, h, e) = (0, omega arith, ap f e)
 map_on f (a ∷ xs) x (suc i, h, e) = let r = map_on f xs x (i, omega arith, e) in (suc r.0, omega (arith, r.1), r.2)
 
-later : {A : Type 0} (a : A) (xs : List A) (x : A) → Contains xs x → Contains (a ∷ xs) x
+pub later : {A : Type 0} (a : A) (xs : List A) (x : A) → Contains xs x → Contains (a ∷ xs) x
 later a xs x there = (suc there.0, omega (arith, there.1), there.2)
 
-first_or_later : {A : Type 0} (a : A) (xs : List A) (x : A) → Contains (a ∷ xs) x → (a ≡ x) ⊎ Contains xs x
+pub first_or_later : {A : Type 0} (a : A) (xs : List A) (x : A) → Contains (a ∷ xs) x → (a ≡ x) ⊎ Contains xs x
 first_or_later a xs x (zero, h, e) = inl e
 first_or_later a xs x (suc i, h, e) = inr (i, omega arith, e)
 
-filter_back : {A : Type 0} (test : A → Bool) (xs : List A) (x : A) → Contains (filter test xs) x → Contains xs x × (test x ≡ true)
+pub filter_back : {A : Type 0} (test : A → Bool) (xs : List A) (x : A) → Contains (filter test xs) x → Contains xs x × (test x ≡ true)
 filter_back test [] x (i, h, e) = absurd (omega arith)
 filter_back {A = A} test (a ∷ xs) x there = by (test a) refl there (filter_back test xs x)
   where
@@ -56,7 +56,7 @@ filter_back {A = A} test (a ∷ xs) x there = by (test a) refl there (filter_bac
     ]
     by false is there ih = let r = ih there in (later a xs x r.0, r.1)
 
-filter_on : {A : Type 0} (test : A → Bool) (xs : List A) (x : A) → Contains xs x → test x ≡ true → Contains (filter test xs) x
+pub filter_on : {A : Type 0} (test : A → Bool) (xs : List A) (x : A) → Contains xs x → test x ≡ true → Contains (filter test xs) x
 filter_on test [] x (i, h, e) is = absurd (omega arith)
 filter_on {A = A} test (a ∷ xs) x there is = by (test a) refl (first_or_later a xs x there) (λ rest. filter_on test xs x rest is)
   where
@@ -66,7 +66,7 @@ filter_on {A = A} test (a ∷ xs) x there is = by (test a) refl (first_or_later 
     by false at (inl e) ih = absurd (false≢true (sym at ∙ ap test e ∙ is))
     by false at (inr rest) ih = ih rest
 
-filter_map_back : {A B : Type 0} (h : A → Option B) (xs : List A) (y : B) → Contains (filter_map h xs) y → (x : A) × Contains xs x × (h x ≡ Some y)
+pub filter_map_back : {A B : Type 0} (h : A → Option B) (xs : List A) (y : B) → Contains (filter_map h xs) y → (x : A) × Contains xs x × (h x ≡ Some y)
 filter_map_back h [] y (i, l, e) = absurd (omega arith)
 filter_map_back {A = A} {B = B} h (a ∷ xs) y there = by (h a) refl there (filter_map_back h xs y)
   where
@@ -77,7 +77,7 @@ filter_map_back {A = A} {B = B} h (a ∷ xs) y there = by (h a) refl there (filt
       | inr rest ↦ let r = ih rest in (r.0, later a xs r.0 r.1, r.2)
     ]
 
-filter_map_on : {A B : Type 0} (h : A → Option B) (xs : List A) (x : A) (y : B) → Contains xs x → h x ≡ Some y → Contains (filter_map h xs) y
+pub filter_map_on : {A B : Type 0} (h : A → Option B) (xs : List A) (x : A) (y : B) → Contains xs x → h x ≡ Some y → Contains (filter_map h xs) y
 filter_map_on h [] x y (i, l, e) is = absurd (omega arith)
 filter_map_on {A = A} {B = B} h (a ∷ xs) x y there is = by (h a) refl (first_or_later a xs x there) (λ rest. filter_map_on h xs x y rest is)
   where
@@ -130,6 +130,13 @@ star_on (entry ∷ rest) s there = elim (first_or_later entry rest (Star s) ther
   | inl e ↦ Contains-append_left (star_of entry) (flat_map star_of rest) s (subst (λ (it : ExportEntry). Contains (star_of it) s) (sym e) (0, omega arith, refl))
   | inr more ↦ Contains-append_right (star_of entry) (flat_map star_of rest) s (star_on rest s more)
 ]
+
+-- the stars of a table are those of the exports
+pub stars_back : (p : Program) (m : ℕ) (stars : List (Bor Text)) (star : Bor Text) → map (λ it. it.now) stars ≡ each_once (flat_map star_of (exports p m)) → Contains stars star → Contains (exports p m) (Star star.now)
+stars_back p m stars star are there = star_back (exports p m) star.now (once_back (flat_map star_of (exports p m)) star.now (subst (λ l. Contains l star.now) are (map_on (λ (it : Bor Text). it.now) stars star there)))
+
+pub stars_on : (p : Program) (m : ℕ) (stars : List (Bor Text)) (s : Text) → map (λ it. it.now) stars ≡ each_once (flat_map star_of (exports p m)) → Contains (exports p m) (Star s) → (star : Bor Text) × Contains stars star × (star.now ≡ s)
+stars_on p m stars s are stands = map_back (λ (it : Bor Text). it.now) stars s (subst (λ l. Contains l s) (sym are) (once_on (flat_map star_of (exports p m)) s (star_on (exports p m) s stands)))
 
 -- ---- what modules say
 -- where something that is noted comes from
@@ -222,7 +229,7 @@ module _ (p : Program) (kinds : Kinds) (w : AreModulesOf p kinds) where
       by true e = e
       by false e = inside e (p.leads m s) refl
 
-  same_lead : (m : ℕ) (s : Text) → Asks p m s → lead_of kinds m s ≡ lead_in p flags m s
+  pub same_lead : (m : ℕ) (s : Text) → Asks p m s → lead_of kinds m s ≡ lead_in p flags m s
   same_lead m s asks =
       ap (λ b. if b then Outside else lead_found flags (required_of kinds.modules.now m s)) (w.outside m s asks)
       ∙ ap (λ o. if is_external p s then Outside else lead_found flags o) (sym (w.leads m s))
@@ -235,6 +242,35 @@ module _ (p : Program) (kinds : Kinds) (w : AreModulesOf p kinds) where
       by (Some entry) bound = ap (λ lead. target_only (said_by m entry.specifier (Some (record { «module» = m; local = y })) entry.taken lead)) (same_lead m entry.specifier (by_import entry (found_in (λ it. bytes_eq it.local y) (imports p m) entry bound)))
   same_said m (Indirect x s taken) there = ap (said_by m s None taken) (same_lead m s (by_entry there))
   same_said m (Star s) there = refl
+
+  -- stars by numbers, where these are the lists of those that modules star
+  module _ (g : Graph) (same_lists : g.lists ≡ all_starred (lead_of kinds) 0 kinds.modules.now) where
+    its_stars : (m : ℕ) → stars_of g m ≡ slice_index_or (all_starred (lead_of kinds) 0 kinds.modules.now) m []
+    its_stars m = ap (λ l. slice_index_or l m []) same_lists
+
+    pub star_from : (m d : ℕ) → Contains (stars_of g m) d → (s : Text) × Contains (exports p m) (Star s) × (lead_in p flags m s ≡ ToModule d)
+    star_from m d there = by (slice_get kinds.modules.now m) refl
+      where
+        by : (o : Option LinkModule) → slice_get kinds.modules.now m ≡ o → (s : Text) × Contains (exports p m) (Star s) × (lead_in p flags m s ≡ ToModule d)
+        by None none = let r = subst (λ l. Contains l d) (its_stars m ∙ starred_past (lead_of kinds) 0 m kinds.modules.now none) there in absurd (omega (arith, r.1))
+        by (Some its) at =
+            let t = w.tables m its at in
+            let r = filter_map_back (λ (star : Bor Text). module_in (lead_of kinds m star.now)) its.tables.now.stars.items d (subst (λ l. Contains l d) (its_stars m ∙ starred_at (lead_of kinds) 0 m m kinds.modules.now its (omega arith) at) there) in
+            let s = r.0.now in
+            let stands = star_back (exports p m) s (once_back (flat_map star_of (exports p m)) s (subst (λ l. Contains l s) t.stars (map_on (λ (star : Bor Text). star.now) its.tables.now.stars.items r.0 r.1))) in
+            (s, stands, sym (same_lead m s (by_star stands)) ∙ module_is (lead_of kinds m s) d r.2)
+
+    pub star_to : (m d : ℕ) → (s : Text) × Contains (exports p m) (Star s) × (lead_in p flags m s ≡ ToModule d) → Contains (stars_of g m) d
+    star_to m d (s, stands, leads) = by (slice_get kinds.modules.now m) refl
+      where
+        by : (o : Option LinkModule) → slice_get kinds.modules.now m ≡ o → Contains (stars_of g m) d
+        by None none = let r = subst (λ l. Contains l (Star s)) (w.others m none) stands in absurd (omega (arith, r.1))
+        by (Some its) at =
+            let t = w.tables m its at in
+            let r = map_back (λ (star : Bor Text). star.now) its.tables.now.stars.items s (subst (λ l. Contains l s) (sym t.stars) (once_on (flat_map star_of (exports p m)) s (star_on (exports p m) s stands))) in
+            let to : module_in (lead_of kinds m r.0.now) ≡ Some d = ap (λ y. module_in (lead_of kinds m y)) r.2 ∙ ap module_in (same_lead m s (by_star stands) ∙ leads) in
+            subst (λ l. Contains l d) (sym (its_stars m ∙ starred_at (lead_of kinds) 0 m m kinds.modules.now its (omega arith) at))
+            (filter_map_on (λ (star : Bor Text). module_in (lead_of kinds m star.now)) its.tables.now.stars.items r.0 d r.1 to)
 
   module _ (names : List Text) (values : List Value) (g : Graph) (h : IsNumbered kinds names values g) where
     -- what stands in the program is noted
@@ -278,7 +314,7 @@ module _ (p : Program) (kinds : Kinds) (w : AreModulesOf p kinds) where
     pub are_numbers : AreNumbers p (lead_in p flags) names values g
     are_numbers = record {
       entries = λ m n x at. either m n x at (own_of g (m, n)) refl;
-      stars = λ m d. (star_from m d, star_to m d);
+      stars = λ m d. (star_from g h.stars m d, star_to g h.stars m d);
       default = h.default;
       one_name = h.one_name;
       one_value = h.one_value;
@@ -294,33 +330,6 @@ module _ (p : Program) (kinds : Kinds) (w : AreModulesOf p kinds) where
               let one : r.0 ≡ n = h.one_name r.0 n x r.1 at in
               r.2 (ap (λ i. own_of g (m, i)) one ∙ none),
         )
-
-        its_stars : (m : ℕ) → stars_of g m ≡ slice_index_or (all_starred (lead_of kinds) 0 kinds.modules.now) m []
-        its_stars m = ap (λ l. slice_index_or l m []) h.stars
-
-        star_from : (m d : ℕ) → Contains (stars_of g m) d → (s : Text) × Contains (exports p m) (Star s) × (lead_in p flags m s ≡ ToModule d)
-        star_from m d there = by (slice_get kinds.modules.now m) refl
-          where
-            by : (o : Option LinkModule) → slice_get kinds.modules.now m ≡ o → (s : Text) × Contains (exports p m) (Star s) × (lead_in p flags m s ≡ ToModule d)
-            by None none = let r = subst (λ l. Contains l d) (its_stars m ∙ starred_past (lead_of kinds) 0 m kinds.modules.now none) there in absurd (omega (arith, r.1))
-            by (Some its) at =
-                let t = w.tables m its at in
-                let r = filter_map_back (λ (star : Bor Text). module_in (lead_of kinds m star.now)) its.tables.now.stars.items d (subst (λ l. Contains l d) (its_stars m ∙ starred_at (lead_of kinds) 0 m m kinds.modules.now its (omega arith) at) there) in
-                let s = r.0.now in
-                let stands = star_back (exports p m) s (once_back (flat_map star_of (exports p m)) s (subst (λ l. Contains l s) t.stars (map_on (λ (star : Bor Text). star.now) its.tables.now.stars.items r.0 r.1))) in
-                (s, stands, sym (same_lead m s (by_star stands)) ∙ module_is (lead_of kinds m s) d r.2)
-
-        star_to : (m d : ℕ) → (s : Text) × Contains (exports p m) (Star s) × (lead_in p flags m s ≡ ToModule d) → Contains (stars_of g m) d
-        star_to m d (s, stands, leads) = by (slice_get kinds.modules.now m) refl
-          where
-            by : (o : Option LinkModule) → slice_get kinds.modules.now m ≡ o → Contains (stars_of g m) d
-            by None none = let r = subst (λ l. Contains l (Star s)) (w.others m none) stands in absurd (omega (arith, r.1))
-            by (Some its) at =
-                let t = w.tables m its at in
-                let r = map_back (λ (star : Bor Text). star.now) its.tables.now.stars.items s (subst (λ l. Contains l s) (sym t.stars) (once_on (flat_map star_of (exports p m)) s (star_on (exports p m) s stands))) in
-                let to : module_in (lead_of kinds m r.0.now) ≡ Some d = ap (λ y. module_in (lead_of kinds m y)) r.2 ∙ ap module_in (same_lead m s (by_star stands) ∙ leads) in
-                subst (λ l. Contains l d) (sym (its_stars m ∙ starred_at (lead_of kinds) 0 m m kinds.modules.now its (omega arith) at))
-                (filter_map_on (λ (star : Bor Text). module_in (lead_of kinds m star.now)) its.tables.now.stars.items r.0 d r.1 to)
 
     -- what is found by these numbers is what the definitions say
     pub is_graph_of : IsGraphOf p names values g

@@ -21,7 +21,7 @@ any_there test [] a (i, h, e) is = absurd (omega arith)
 any_there test (x ∷ xs) a (zero, h, e) is = or_left (test x) (list_any test xs) (ap test e ∙ is)
 any_there test (x ∷ xs) a (suc i, h, e) is = or_right (test x) (list_any test xs) (any_there test xs a (i, omega arith, e) is)
 
-there_of_any : {A : Type 0} (test : A → Bool) (xs : List A) → list_any test xs ≡ true → (a : A) × Contains xs a × (test a ≡ true)
+pub there_of_any : {A : Type 0} (test : A → Bool) (xs : List A) → list_any test xs ≡ true → (a : A) × Contains xs a × (test a ≡ true)
 there_of_any {A = A} test [] e = absurd (false≢true e)
 there_of_any {A = A} test (x ∷ xs) e = by (or_cases (test x) (list_any test xs) e) (there_of_any test xs)
   where

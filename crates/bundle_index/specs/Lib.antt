@@ -4,3 +4,5 @@ pub mod Leads
 pub mod Says
 pub mod Numbered
 pub mod Programs
+pub mod Handed
+pub mod Outside

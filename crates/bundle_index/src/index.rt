@@ -1,11 +1,13 @@
 //! What modules give for names: the search over the numbers of what their tables say.
 
-ghost use Rattle.std.specs.Prelude.{◌++◌, ◌∷◌, [], ℕ, IfOk, OnOk, List, map};
+ghost use Rattle.std.specs.Prelude.{◌≡◌, ◌↔◌, ◌++◌, ◌∷◌, [], ℕ, IfOk, IsTrue, OnOk, List, map};
 ghost use Rattle.bundle_terms.specs.Entries.{ImportEntry};
 ghost use Rattle.bundle_terms.specs.Program.{Program};
 ghost use Rattle.bundle_tables.specs.Exported.{Finds};
-ghost use Rattle.bundle_given.specs.Graph.{graph_of};
-ghost use Rattle.bundle_index.specs.Linked.{IsGraphOf};
+ghost use Rattle.bundle_terms.specs.Faults.{StarsExternal};
+ghost use Rattle.bundle_given.specs.Graph.{Graph, Spot, graph_of};
+ghost use Rattle.bundle_given.specs.Given.{Given, IsAnswer};
+ghost use Rattle.bundle_index.specs.Outside.{IsIndexOf};
 ghost use Rattle.bundle_index.specs.Leads.{lead_of};
 ghost use Rattle.bundle_index.specs.Numbered.{Noted, HoldsAt, IsEmpty, IsNumbered, names_of, values_of, note, notes_of, starred};
 ghost use Rattle.bundle_index.specs.Programs.{AreModulesOf};
@@ -14,8 +16,9 @@ ghost use Rattle.bundle_index.specs.Says.{Tells, answer_says};
 use crate::kinds::Kinds;
 use crate::numbers::Numbers;
 use crate::own::{Asked, Given, locals_of, own_entry};
-use crate::stars::{Stars, starred_modules};
+use crate::stars::{Stars, outside_links, starred_modules};
 use crate::target::Target;
+use bundle_given as places;
 use bundle_given::{Links, Search};
 use bundle_tables::{Export, Import, Tables};
 use indexmap::{IndexMap, IndexSet};
@@ -47,14 +50,15 @@ impl<'a> Answer<'a> {
 pub struct Index<'a> {
     numbers: Numbers<'a>,
     search: Search,
+    /// The search for the modules that star an external over a chain.
+    outside: Search,
     stars: Stars<'a>,
 }
 
 impl<'a> Index<'a> {
     /// Notes what the entries of modules give.
     pub fn new(alloc: Global, kinds: &Kinds<'_, '_, 'a>) -> Result<Index<'a>, AllocError>
-        ensures { IfOk result (λ index. (p : Program) → AreModulesOf p kinds.now →
-            IsGraphOf p (names_of index.numbers) (values_of index.numbers) index.search) }
+        ensures { IfOk result (λ index. (p : Program) → AreModulesOf p kinds.now → IsIndexOf p index) }
     {
         let mut numbers = Numbers {
             names: IndexSet::new(alloc),
@@ -62,26 +66,35 @@ impl<'a> Index<'a> {
         };
         let links = links_of(alloc, kinds, &mut numbers)?;
         let search = Search::new(alloc, links)?;
-        let stars = Stars::new(alloc, kinds)?;
+        let stars = outside_links(alloc, kinds)?;
+        let outside = Search::new(alloc, stars)?;
+        let externals = Stars::new(alloc, kinds)?;
         Ok(Index {
             numbers,
             search,
-            stars,
+            outside,
+            stars: externals,
         })
     }
 
-    /// What is given for a name.
-    pub fn answer(&mut self, alloc: Global, asked: Asked<'a>) -> Result<Answer<'a>, AllocError> {
+    /// What is given for a name, which is noted.
+    pub fn answer(&mut self, alloc: Global, asked: Asked<'a>) -> Result<Answer<'a>, AllocError>
+        ensures right { IfOk result (λ answer. (p : Program) → IsIndexOf p self.old →
+            Tells p asked.entry.module asked.entry.name.now (answer_says answer)) }
+        ensures same { self.new ≡ self.old }
+    {
         match self.numbers.spot(asked.module, asked.name) {
-            Some(at) => Ok(self.numbers.answer(self.search.answer(alloc, at)?)),
+            Some(at) => {
+                let found = self.search.answer(alloc, at)?;
+                Ok(self.numbers.answer(found))
+            }
             None => Ok(Answer::None),
         }
     }
 
     /// The same, which is not noted.
     pub fn found(&self, alloc: Global, number: usize, name: &str) -> Result<Answer<'a>, AllocError>
-        ensures { IfOk result (λ answer. (p : Program) →
-            IsGraphOf p (names_of self.now.numbers) (values_of self.now.numbers) self.now.search →
+        ensures { IfOk result (λ answer. (p : Program) → IsIndexOf p self.now →
             Tells p number name.now (answer_says answer)) }
     {
         match self.numbers.spot(number, name) {
@@ -103,9 +116,34 @@ impl<'a> Index<'a> {
         self.stars.externals(number)
     }
 
-    /// Whether a module stars an external, or a module that does so, over any chain.
-    pub fn has_external_star(&self, number: usize) -> bool {
-        self.stars.has_external(number)
+    /// Whether a module stars an external, or a module that does so, over any chain. It is noted.
+    pub fn has_external_star(&mut self, alloc: Global, number: usize) -> Result<bool, AllocError>
+        ensures right { IfOk result (λ starred. (p : Program) → IsIndexOf p self.old →
+            IsTrue starred ↔ StarsExternal p number) }
+        ensures same { self.new ≡ self.old }
+    {
+        let found = self.outside.answer(alloc, (number, 0))?;
+        Ok(is_given(found))
+    }
+
+    /// The same, which is not noted.
+    pub fn finds_external_star(&self, alloc: Global, number: usize) -> Result<bool, AllocError>
+        ensures { IfOk result (λ starred. (p : Program) → IsIndexOf p self.now →
+            IsTrue starred ↔ StarsExternal p number) }
+    {
+        let found = self.outside.found(alloc, (number, 0))?;
+        Ok(is_given(found))
+    }
+}
+
+// Whether anything is given.
+fn is_given(answer: places::Answer) -> bool
+    ensures { (g : Graph) (at : Spot) → IsAnswer g at answer → IsTrue result ↔ ((v : ℕ) × Given g at v) }
+{
+    match answer {
+        places::Answer::Missing => false,
+        places::Answer::One(_) => true,
+        places::Answer::Two(_, _) => true,
     }
 }
 

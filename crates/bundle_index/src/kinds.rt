@@ -1,10 +1,16 @@
 //! Where the specifiers of modules lead, and which modules are CommonJS.
 
-ghost use Rattle.std.specs.Prelude.{◌≡◌};
+ghost use Rattle.std.specs.Prelude.{◌≡◌, ◌++◌, ◌&&◌, ◌||◌, [], IfOk, OnOk, List, filter_map, not, slice_get, ℕ};
+ghost use Rattle.std.specs.List.{cons_option, flat_map};
+ghost use Rattle.bundle_terms.specs.Nodes.{Text};
+ghost use Rattle.bundle_terms.specs.Program.{Program};
+ghost use Rattle.bundle_tables.specs.Sources.{HasTexts};
+ghost use Rattle.bundle_index.specs.Handed.{HasNumbers, called_by, external_one, externals_of as externals_of_lem, is_kind, numbered, required_by as required_by_lem, required_from};
 ghost use Rattle.bundle_index.specs.Leads.{flagged, lead_of, lead_told, lead_to, required_of};
+ghost use Rattle.bundle_index.specs.Programs.{AreModulesOf, IsProgramOf};
 
 use crate::target::{LinkModule, Setting};
-use bundle_tables::Tables;
+use bundle_tables::{RequireCall, Source, Tables};
 use indexmap::IndexSet;
 use std::alloc::{AllocError, Global};
 
@@ -40,39 +46,21 @@ impl<'m, 't, 'a> Kinds<'m, 't, 'a> {
         list: &'m [usize],
         entry: usize,
         setting: Setting,
-    ) -> Result<Kinds<'m, 't, 'a>, AllocError> {
-        let mut kinds = Kinds {
+    ) -> Result<Kinds<'m, 't, 'a>, AllocError>
+        ensures { IfOk result (λ kinds. (p : Program) →
+            IsProgramOf p modules.now list.now entry setting.require → AreModulesOf p kinds) }
+    {
+        let required = required_by(alloc, modules, list)?;
+        let common_js = kinds_of(alloc, modules, &required, entry, setting.require)?;
+        let externals = externals_of(alloc, modules)?;
+        Ok(Kinds {
             modules,
             list,
             entry,
             setting,
-            externals: externals(alloc, modules)?,
-            common_js: vec![in alloc; false; modules.len()]?,
-        };
-        if setting.require {
-            let mut required = vec![in alloc; false; modules.len()]?;
-            for module in list {
-                kinds.mark_required(&mut required, *module);
-            }
-            for (number, module) in modules.iter().enumerate() {
-                let used = module.tables.names_common_js || flag(&required, number);
-                if number != entry && module.tables.is_script && used {
-                    set_flag(&mut kinds.common_js, number);
-                }
-            }
-        }
-        Ok(kinds)
-    }
-
-    // Marks the modules that a module requires by literal calls.
-    fn mark_required(&self, required: &mut Vec<bool>, module: usize) {
-        if let Some(module) = self.modules.get(module) {
-            for call in &module.tables.calls {
-                if let Some(number) = module.leads.get(call.specifier) {
-                    set_flag(required, *number);
-                }
-            }
-        }
+            externals,
+            common_js,
+        })
     }
 
     /// The tables of a module.
@@ -123,19 +111,143 @@ impl<'m, 't, 'a> Kinds<'m, 't, 'a> {
 }
 
 // The texts that are external, as far as they stand in imports and exports.
-fn externals<'a>(
+fn externals_of<'a>(
     alloc: Global,
     modules: &[LinkModule<'_, 'a>],
-) -> Result<IndexSet<&'a str>, AllocError> {
+) -> Result<IndexSet<&'a str>, AllocError>
+    ensures { IfOk result (λ texts. HasTexts texts (externals_of_lem modules.now)) }
+{
     let mut texts = IndexSet::new(alloc);
     for module in modules {
-        for source in &module.tables.sources {
-            if source.is_external {
-                texts.insert(source.specifier)?;
-            }
-        }
+        add_externals(&mut texts, &module.tables.sources)?;
     }
     Ok(texts)
+}
+
+// Adds those of a module.
+fn add_externals<'a>(
+    texts: &mut IndexSet<&'a str>,
+    sources: &[Source<'a>],
+) -> Result<(), AllocError>
+    ensures { (before : List Text) → HasTexts texts.old before →
+        OnOk result (HasTexts texts.new (before ++ flat_map external_one sources.now)) }
+{
+    for source in sources {
+        add_external(texts, *source)?;
+    }
+    Ok(())
+}
+
+fn add_external<'a>(texts: &mut IndexSet<&'a str>, source: Source<'a>) -> Result<(), AllocError>
+    ensures { (before : List Text) → HasTexts texts.old before →
+        OnOk result (HasTexts texts.new (before ++ external_one source.entry)) }
+{
+    if source.is_external {
+        texts.insert(source.specifier)?;
+        return Ok(());
+    }
+    Ok(())
+}
+
+// The modules that listed ones require by literal calls.
+fn required_by(
+    alloc: Global,
+    modules: &[LinkModule],
+    list: &[usize],
+) -> Result<IndexSet<usize>, AllocError>
+    ensures { IfOk result (λ required. HasNumbers required (required_by_lem modules.now list.now)) }
+{
+    let mut required = IndexSet::new(alloc);
+    for number in list {
+        add_required(&mut required, module_at(modules, *number))?;
+    }
+    Ok(required)
+}
+
+// The module with a number.
+fn module_at<'t, 'a>(modules: &[LinkModule<'t, 'a>], number: usize) -> Option<LinkModule<'t, 'a>>
+    ensures { result ≡ slice_get modules.now number }
+{
+    modules.get(number).copied()
+}
+
+// Adds those that a module requires, if it is there.
+fn add_required(
+    required: &mut IndexSet<usize>,
+    module: Option<LinkModule>,
+) -> Result<(), AllocError>
+    ensures { (before : List ℕ) → HasNumbers required.old before →
+        OnOk result (HasNumbers required.new (before ++ required_from «module».entry)) }
+{
+    match module {
+        Some(module) => {
+            let tables = module.tables;
+            add_called(required, &module, &tables.calls)
+        }
+        None => Ok(()),
+    }
+}
+
+// Adds the modules to which calls of a module lead.
+fn add_called(
+    required: &mut IndexSet<usize>,
+    module: &LinkModule,
+    calls: &[RequireCall],
+) -> Result<(), AllocError>
+    ensures { (before : List ℕ) → HasNumbers required.old before →
+        OnOk result (HasNumbers required.new (before ++ filter_map (called_by «module».now) calls.now)) }
+{
+    for call in calls {
+        add_number(required, called(&*module, *call))?;
+    }
+    Ok(())
+}
+
+// The number of the module to which a call of a module leads.
+fn called<'a>(module: &LinkModule<'_, 'a>, call: RequireCall<'a>) -> Option<usize>
+    ensures { result ≡ called_by «module».now call.entry }
+{
+    module.leads.get(call.specifier).copied()
+}
+
+fn add_number(required: &mut IndexSet<usize>, number: Option<usize>) -> Result<(), AllocError>
+    ensures { (before : List ℕ) → HasNumbers required.old before →
+        OnOk result (HasNumbers required.new (before ++ cons_option number [])) }
+{
+    match number {
+        Some(number) => {
+            required.insert(number)?;
+            Ok(())
+        }
+        None => Ok(()),
+    }
+}
+
+// Whether each module is CommonJS, where these are required.
+fn kinds_of(
+    alloc: Global,
+    modules: &[LinkModule],
+    required: &IndexSet<usize>,
+    entry: usize,
+    require: bool,
+) -> Result<Vec<bool>, AllocError>
+    ensures { (those : List ℕ) → HasNumbers required.now those →
+        IfOk result (λ flags. flags.items ≡ numbered (is_kind require entry those) 0 modules.now) }
+{
+    let mut flags = Vec::new(alloc);
+    for (number, module) in modules.iter().enumerate() {
+        let is_required = required.contains(&number);
+        flags.push(is_common_js(module, require, number == entry, is_required))?;
+    }
+    Ok(flags)
+}
+
+// Whether a module is CommonJS.
+fn is_common_js(module: &LinkModule, require: bool, is_entry: bool, is_required: bool) -> bool
+    ensures { result ≡ (require && (not is_entry && («module».now.tables.now.is_script && («module».now.tables.now.names_common_js || is_required)))) }
+{
+    let tables = module.tables;
+    require && !is_entry && tables.is_script && (tables.names_common_js || is_required)
 }
 
 /// Whether a number is flagged.
@@ -143,11 +255,4 @@ pub fn flag(flags: &[bool], number: usize) -> bool
     ensures { result ≡ flagged flags.now number }
 {
     flags.get(number).copied().unwrap_or(false)
-}
-
-/// Flags a number.
-pub fn set_flag(flags: &mut Vec<bool>, number: usize) {
-    if let Some(old) = flags.get_mut(number) {
-        *old = true;
-    }
 }

@@ -1,12 +1,15 @@
 //! What modules star.
 
-ghost use Rattle.std.specs.Prelude.{◌≡◌, ◌++◌, [], IfOk, OnOk};
+ghost use Rattle.std.specs.Prelude.{◌≡◌, ◌++◌, ◌∷◌, [], IfOk, List, OnOk, ℕ, Bool, length};
 ghost use Rattle.std.specs.List.{cons_option};
+ghost use Rattle.bundle_given.specs.Graph.{graph_of};
 ghost use Rattle.bundle_index.specs.Leads.{lead_of, lead_told};
 ghost use Rattle.bundle_index.specs.Numbered.{module_in, starred};
+ghost use Rattle.bundle_index.specs.Outside.{IsOutside, IsOutsideOf, is_outside as is_outside_lem, stars_outside as stars_outside_lem};
 
-use crate::kinds::{Kinds, Lead, flag, set_flag};
-use crate::lists::{list_at, no_lists, push_at};
+use crate::kinds::{Kinds, Lead};
+use crate::lists::list_at;
+use bundle_given::{Links, Own};
 use bundle_tables::Tables;
 use std::alloc::{AllocError, Global};
 
@@ -56,88 +59,100 @@ fn module_of(lead: Lead) -> Option<usize>
     }
 }
 
+// Whether a specifier leads to an external.
+fn is_outside(lead: Lead) -> bool
+    ensures { result ≡ is_outside_lem (lead_told lead) }
+{
+    match lead {
+        Lead::External => true,
+        Lead::Module(_) => false,
+        Lead::CommonJs(_) => false,
+        Lead::Nowhere => false,
+    }
+}
+
+// Whether one of these stars of a module is of an external.
+fn stars_outside<'a>(kinds: &Kinds<'_, '_, 'a>, number: usize, stars: &[&'a str]) -> bool
+    ensures { result ≡ stars_outside_lem (lead_of kinds.now number) stars.now }
+{
+    for star in stars {
+        if is_outside(kinds.lead(number, *star)) {
+            return true;
+        }
+    }
+    false
+}
+
+/// Links in which the one name 0 has an entry in each module that stars an external, so that it is given for a
+/// module exactly where a chain of stars ends at an external.
+pub(crate) fn outside_links<'a>(
+    alloc: Global,
+    kinds: &Kinds<'_, '_, 'a>,
+) -> Result<Links, AllocError>
+    ensures { IfOk result (IsOutsideOf (lead_of kinds.now) kinds.now.modules.now) }
+{
+    let mut links = Links::new(alloc, 1);
+    for (number, module) in kinds.modules.iter().enumerate() {
+        add_outside(alloc, kinds, &mut links, number, module.tables)?;
+    }
+    Ok(links)
+}
+
+// Notes the next module.
+fn add_outside<'a>(
+    alloc: Global,
+    kinds: &Kinds<'_, '_, 'a>,
+    links: &mut Links,
+    number: usize,
+    tables: &Tables<'a>,
+) -> Result<(), AllocError>
+    ensures { (flags : List Bool) (lists : List (List ℕ)) →
+        length flags ≡ number → IsOutside flags lists (graph_of links.old) →
+        OnOk result (IsOutside (flags ++ stars_outside_lem (lead_of kinds.now number) tables.now.stars.items ∷ [])
+        (lists ++ starred (lead_of kinds.now number) tables.now.stars.items ∷ []) (graph_of links.new)) }
+{
+    links.add_module(starred_modules(alloc, kinds, number, tables)?)?;
+    if stars_outside(kinds, number, &tables.stars) {
+        links.add_own((number, 0), Own::Gives(0))?;
+        return Ok(());
+    }
+    Ok(())
+}
+
 /// The externals that modules star.
 #[derive(Drop)]
 pub(crate) struct Stars<'a> {
     externals: Vec<Vec<&'a str>>,
-    /// The modules that star each module.
-    starring: Vec<Vec<usize>>,
-    /// The modules that star an external, or one that does so, over any chain.
-    has_external: Vec<bool>,
 }
 
 impl<'a> Stars<'a> {
     /// What modules star.
     pub fn new(alloc: Global, kinds: &Kinds<'_, '_, 'a>) -> Result<Stars<'a>, AllocError> {
-        let count = kinds.modules.len();
-        let mut stars = Stars {
-            externals: Vec::new(alloc),
-            starring: no_lists(alloc, count)?,
-            has_external: vec![in alloc; false; count]?,
-        };
+        let mut externals = Vec::new(alloc);
         for (number, module) in kinds.modules.iter().enumerate() {
-            stars.externals.push(Vec::new(alloc))?;
-            stars.add(kinds, number, module.tables)?;
+            externals.push(starred_externals(alloc, kinds, number, module.tables)?)?;
         }
-        stars.spread(alloc)?;
-        Ok(stars)
-    }
-
-    // Notes what a module stars.
-    fn add(
-        &mut self,
-        kinds: &Kinds<'_, '_, 'a>,
-        number: usize,
-        tables: &Tables<'a>,
-    ) -> Result<(), AllocError> {
-        for star in &tables.stars {
-            match kinds.lead(number, *star) {
-                Lead::Module(other) => push_at(&mut self.starring, other, number)?,
-                Lead::External => {
-                    push_at(&mut self.externals, number, *star)?;
-                    set_flag(&mut self.has_external, number);
-                }
-                Lead::CommonJs(_) | Lead::Nowhere => {}
-            }
-        }
-        Ok(())
-    }
-
-    // Spreads the stars of externals along the stars of modules.
-    fn spread(&mut self, alloc: Global) -> Result<(), AllocError> {
-        let mut work = flagged(alloc, &self.has_external)?;
-        for _ in 0..usize::MAX {
-            let Some(number) = work.pop() else {
-                break;
-            };
-            for other in list_at(&self.starring, number) {
-                if !flag(&self.has_external, *other) {
-                    set_flag(&mut self.has_external, *other);
-                    work.push(*other)?;
-                }
-            }
-        }
-        Ok(())
+        Ok(Stars { externals })
     }
 
     /// The externals that a module stars.
     pub fn externals(&self, module: usize) -> &[&'a str] {
         list_at(&self.externals, module)
     }
-
-    /// Whether a module stars an external, or a module that does so, over any chain.
-    pub fn has_external(&self, module: usize) -> bool {
-        flag(&self.has_external, module)
-    }
 }
 
-// The numbers that are flagged.
-fn flagged(alloc: Global, flags: &[bool]) -> Result<Vec<usize>, AllocError> {
-    let mut numbers = Vec::new(alloc);
-    for (number, is_flagged) in flags.iter().enumerate() {
-        if *is_flagged {
-            numbers.push(number)?;
+// The externals that a module stars.
+fn starred_externals<'a>(
+    alloc: Global,
+    kinds: &Kinds<'_, '_, 'a>,
+    number: usize,
+    tables: &Tables<'a>,
+) -> Result<Vec<&'a str>, AllocError> {
+    let mut externals = Vec::new(alloc);
+    for star in &tables.stars {
+        if is_outside(kinds.lead(number, *star)) {
+            externals.push(*star)?;
         }
     }
-    Ok(numbers)
+    Ok(externals)
 }
