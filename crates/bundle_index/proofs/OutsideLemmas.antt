@@ -15,7 +15,7 @@ use Rattle.bundle_given.specs.declared.links.Own.{Own}
 use Rattle.bundle_given.specs.declared.links.Own.TheVariants.{Gives, Leads}
 use Rattle.bundle_given.specs.declared.links.Links.{Links}
 use Rattle.bundle_given.specs.Graph.{Spot, Graph, graph_of, own_of, same_spot, stars_of, PutsOwn}
-use Rattle.bundle_given.specs.Given.{Given, itself as its, led, starred as star_on}
+use Rattle.bundle_given.specs.Given.{Given, itself as at_own, led, starred as star_on}
 use Rattle.bundle_given.proofs.SearchLemmas.{same_spot-true, same_spot-same}
 use Rattle.bundle_index.specs.declared.target.LinkModule.{LinkModule}
 use Rattle.bundle_index.specs.declared.kinds.Kinds.{Kinds}
@@ -56,7 +56,7 @@ flag_before (x ∷ flags) b (suc n) (suc m) is apart = flag_before flags b n m (
 pub outside_passed : (flags : List Bool) (lists : List (List ℕ)) (stars : List ℕ) (n : ℕ) (old new : Graph) → length flags ≡ n → IsOutside flags lists old → new.lists ≡ old.lists ++ stars ∷ [] → new.entries ≡ old.entries → new.default ≡ old.default → IsOutside (flags ++ false ∷ []) (lists ++ stars ∷ []) new
 outside_passed flags lists stars n old new long w more entries default = record {
   own = λ m. ap (λ l. own_of (record old { entries = l }) (m, 0)) entries ∙ w.own m ∙ ap outside_own (sym (by m (nat_eq m n) refl));
-  lists = more ∙ ap (λ l. l ++ stars ∷ []) w.lists;
+  starred = more ∙ ap (λ l. l ++ stars ∷ []) w.starred;
   default = default ∙ w.default;
 }
   where
@@ -68,7 +68,7 @@ outside_passed flags lists stars n old new long w more entries default = record 
 pub outside_put : (flags : List Bool) (lists : List (List ℕ)) (n : ℕ) (old new : Graph) → length flags ≡ n → IsOutside (flags ++ false ∷ []) lists old → PutsOwn old (n, 0) (Gives 0) new → new.lists ≡ old.lists → new.default ≡ old.default → IsOutside (flags ++ true ∷ []) lists new
 outside_put flags lists n old new long w puts same_lists default = record {
   own = λ m. puts (m, 0) ∙ by m (nat_eq m n) refl;
-  lists = same_lists ∙ w.lists;
+  starred = same_lists ∙ w.starred;
   default = default ∙ w.default;
 }
   where
@@ -99,7 +99,7 @@ outside_put flags lists n old new long w puts same_lists default = record {
 pub outside_begins : (g : Graph) → g ≡ record { entries = []; lists = []; default = 1 } → IsOutside [] [] g
 outside_begins g is = record {
   own = λ m. ap (λ (k : Graph). own_of k (m, 0)) is;
-  lists = ap (λ (k : Graph). k.lists) is;
+  starred = ap (λ (k : Graph). k.lists) is;
   default = ap (λ (k : Graph). k.default) is;
 }
 
@@ -164,7 +164,7 @@ module _ (p : Program) (kinds : Kinds) (w : AreModulesOf p kinds) (g : Graph)
           ∙ any_there (λ (star : Bor Text). is_outside (lead_of kinds m star.now)) its.tables.now.stars.items r.0 r.1 (ap (λ y. is_outside (lead_of kinds m y)) r.2 ∙ outside)
 
   given_stars : {at : Spot} {v : ℕ} → Given g at v → at.1 ≡ 0 → StarsExternal p at.0
-  given_stars {at = at} {v = v} (its e) zero_is =
+  given_stars {at = at} {v = v} (at_own e) zero_is =
       let here : own_of g (at.0, 0) ≡ Some (Gives v) = ap (λ k. own_of g (at.0, k)) (sym zero_is) ∙ e in
       let r = stars_it at.0 (gives_flag (flagged outs at.0) v (sym (o.own at.0) ∙ here)) in
       (r.0, own r.1 r.2)
@@ -172,7 +172,7 @@ module _ (p : Program) (kinds : Kinds) (w : AreModulesOf p kinds) (g : Graph)
       let here : own_of g (at.0, 0) ≡ Some (Leads next) = ap (λ k. own_of g (at.0, k)) (sym zero_is) ∙ e in
       absurd (never_leads (flagged outs at.0) next (sym (o.own at.0) ∙ here))
   given_stars {at = at} (star_on {d = d} none other star more) zero_is =
-      let r = star_from p kinds w g o.lists at.0 d star in
+      let r = star_from p kinds w g o.starred at.0 d star in
       let leads = subst (LeadsIn p at.0 r.0) r.2 (leads_right p kinds w at.0 r.0) in
       let rest = given_stars more zero_is in
       (rest.0, through r.1 leads.resolved rest.1)
@@ -189,15 +189,15 @@ module _ (p : Program) (kinds : Kinds) (w : AreModulesOf p kinds) (g : Graph)
       by false e = ap (lead_found kinds.common_js.items) e ∙ kind (flagged kinds.common_js.items d) refl
 
   stars_given : {m : ℕ} {s : Text} → HasExternalStar p m s → Given g (m, 0) 0
-  stars_given {m = m} {s = s} (own stands e) = its (o.own m ∙ ap outside_own (it_stars m s stands e))
+  stars_given {m = m} {s = s} (own stands e) = at_own (o.own m ∙ ap outside_own (it_stars m s stands e))
   stars_given {m = m} (through {d = d} {r = r} stands leads more) = by (flagged outs m) refl (stars_given more)
     where
       es : IsCommonJs p d → ⊥
       es common = let star = has_star more in let there = subst (λ l. Contains l (Star star.0)) (common_js_has_none p d common) star.1 in omega (arith, there.1)
 
       by : (b : Bool) → flagged outs m ≡ b → Given g (d, 0) 0 → Given g (m, 0) 0
-      by true is rest = its (o.own m ∙ ap outside_own is)
-      by false is rest = star_on (o.own m ∙ ap outside_own is) (λ e. omega (arith, e, o.default)) (star_to p kinds w g o.lists m d (r, stands, leads_to m d r leads es)) rest
+      by true is rest = at_own (o.own m ∙ ap outside_own is)
+      by false is rest = star_on (o.own m ∙ ap outside_own is) (λ e. omega (arith, e, o.default)) (star_to p kinds w g o.starred m d (r, stands, leads_to m d r leads es)) rest
 
   pub outside_tells : (m : ℕ) → ((v : ℕ) × Given g (m, 0) v) ↔ StarsExternal p m
   outside_tells m = (λ given. given_stars given.1 refl, λ star. (0, stars_given star.1))

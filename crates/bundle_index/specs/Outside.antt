@@ -42,7 +42,7 @@ outside_own false = None
 -- the one name 0 has an entry in just the modules that are flagged, and these are the stars
 pub record IsOutside (flags : List Bool) (lists : List (List ℕ)) (g : Graph) : Type 0 where
   pub own : (m : ℕ) → own_of g (m, 0) ≡ outside_own (flagged flags m)
-  pub lists : g.lists ≡ lists
+  pub starred : g.lists ≡ lists
   pub default : g.default ≡ 1
 
 -- the same of links, of these modules

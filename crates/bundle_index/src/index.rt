@@ -6,7 +6,7 @@ ghost use Rattle.bundle_terms.specs.Program.{Program};
 ghost use Rattle.bundle_tables.specs.Exported.{Finds};
 ghost use Rattle.bundle_terms.specs.Faults.{StarsExternal};
 ghost use Rattle.bundle_given.specs.Graph.{Graph, Spot, graph_of};
-ghost use Rattle.bundle_given.specs.Given.{Given, IsAnswer};
+ghost use Rattle.bundle_given.specs.Given.{Given as IsGiven, IsAnswer};
 ghost use Rattle.bundle_index.specs.Outside.{IsIndexOf};
 ghost use Rattle.bundle_index.specs.Leads.{lead_of};
 ghost use Rattle.bundle_index.specs.Numbered.{Noted, HoldsAt, IsEmpty, IsNumbered, names_of, values_of, note, notes_of, starred};
@@ -138,7 +138,7 @@ impl<'a> Index<'a> {
 
 // Whether anything is given.
 fn is_given(answer: places::Answer) -> bool
-    ensures { (g : Graph) (at : Spot) → IsAnswer g at answer → IsTrue result ↔ ((v : ℕ) × Given g at v) }
+    ensures { (g : Graph) (at : Spot) → IsAnswer g at answer → IsTrue result ↔ ((v : ℕ) × IsGiven g at v) }
 {
     match answer {
         places::Answer::Missing => false,

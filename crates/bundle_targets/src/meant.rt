@@ -1,6 +1,8 @@
 //! What is meant: the least set of targets that own statements, the entry's exports and namespace objects
 //! that are meant themselves mean.
 
+ghost use Rattle.std.specs.Prelude.{◌≡◌, OnOk};
+
 use crate::names::linked_names;
 use crate::target::{Meaning, Target};
 use bundle_index::lists::{no_lists, push_at};
@@ -24,7 +26,9 @@ pub fn meant_in<'a>(
     alloc: Global,
     kinds: &Kinds<'_, '_, 'a>,
     index: &mut Index<'a>,
-) -> Result<Meant<'a>, AllocError> {
+) -> Result<Meant<'a>, AllocError>
+    ensures { OnOk result (index.new ≡ index.old) }
+{
     let mut meant = nothing_meant(alloc, kinds.modules.len())?;
     meant.find(alloc, kinds, index)?;
     Ok(meant)
@@ -46,7 +50,9 @@ impl<'a> Meant<'a> {
         alloc: Global,
         kinds: &Kinds<'_, '_, 'a>,
         index: &mut Index<'a>,
-    ) -> Result<(), AllocError> {
+    ) -> Result<(), AllocError>
+        ensures { OnOk result (index.new ≡ index.old) }
+    {
         for module in kinds.list {
             if let Some(tables) = kinds.tables(*module) {
                 self.add_uses(alloc, kinds, index, *module, tables)?;
@@ -74,7 +80,9 @@ impl<'a> Meant<'a> {
         index: &mut Index<'a>,
         module: usize,
         tables: &Tables<'a>,
-    ) -> Result<(), AllocError> {
+    ) -> Result<(), AllocError>
+        ensures { OnOk result (index.new ≡ index.old) }
+    {
         let locals = locals_of(alloc, tables)?;
         for its in &tables.uses {
             let import = locals.get(&its.local);
@@ -103,7 +111,9 @@ impl<'a> Meant<'a> {
         kinds: &Kinds<'_, '_, 'a>,
         index: &mut Index<'a>,
         module: usize,
-    ) -> Result<(), AllocError> {
+    ) -> Result<(), AllocError>
+        ensures { OnOk result (index.new ≡ index.old) }
+    {
         let linked = linked_names(alloc, kinds, index, module)?;
         for (_, target) in &linked {
             self.targets.insert(*target)?;
@@ -124,7 +134,9 @@ fn used<'a>(
     tables: &Tables<'a>,
     its: Use<'a>,
     import: Option<&Import<'a>>,
-) -> Result<Option<Meaning<'a>>, AllocError> {
+) -> Result<Option<Meaning<'a>>, AllocError>
+    ensures { OnOk result (index.new ≡ index.old) }
+{
     match named(alloc, kinds, index, module, import)? {
         Some(target) => Ok(Some(read(alloc, index, tables, its, target)?)),
         None => Ok(None),
@@ -138,7 +150,9 @@ fn named<'a>(
     index: &mut Index<'a>,
     module: usize,
     import: Option<&Import<'a>>,
-) -> Result<Option<Target<'a>>, AllocError> {
+) -> Result<Option<Target<'a>>, AllocError>
+    ensures { OnOk result (index.new ≡ index.old) }
+{
     let Some(import) = import else {
         return Ok(None);
     };
@@ -157,7 +171,9 @@ fn read<'a>(
     tables: &Tables<'a>,
     its: Use<'a>,
     target: Target<'a>,
-) -> Result<Meaning<'a>, AllocError> {
+) -> Result<Meaning<'a>, AllocError>
+    ensures { OnOk result (index.new ≡ index.old) }
+{
     let mut meaning = Meaning { target, steps: 0 };
     for step in 0..its.count {
         let Target::Namespace { module } = meaning.target else {

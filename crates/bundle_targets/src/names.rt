@@ -1,5 +1,7 @@
 //! The names that modules link.
 
+ghost use Rattle.std.specs.Prelude.{◌≡◌, OnOk};
+
 use bundle_index::index::DEFAULT;
 use bundle_index::{Asked, Index, Kinds, Target};
 use bundle_tables::Tables;
@@ -12,7 +14,9 @@ pub fn linked_names<'a>(
     kinds: &Kinds<'_, '_, 'a>,
     index: &mut Index<'a>,
     module: usize,
-) -> Result<Vec<(&'a str, Target<'a>)>, AllocError> {
+) -> Result<Vec<(&'a str, Target<'a>)>, AllocError>
+    ensures { OnOk result (index.new ≡ index.old) }
+{
     let names = names(alloc, kinds, index, module)?;
     linked_among(alloc, index, module, &names)
 }
@@ -23,7 +27,9 @@ fn linked_among<'a>(
     index: &mut Index<'a>,
     module: usize,
     names: &[&'a str],
-) -> Result<Vec<(&'a str, Target<'a>)>, AllocError> {
+) -> Result<Vec<(&'a str, Target<'a>)>, AllocError>
+    ensures { OnOk result (index.new ≡ index.old) }
+{
     let mut linked = Vec::new(alloc);
     for name in names {
         let name = *name;
