@@ -2,5 +2,3 @@ pub mod Graph
 pub mod Answers
 pub mod Given
 pub mod Reached
-pub mod Linked
-pub mod Said

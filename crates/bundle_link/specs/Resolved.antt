@@ -5,8 +5,8 @@ use Rattle.std.specs.declared.alloc.Global.{Global}
 use Rattle.bundle_terms.specs.Entries as e
 use Rattle.bundle_terms.specs.Linking as l
 use Rattle.bundle_terms.specs.Tables as r
-use Rattle.bundle_targets.specs.declared.target.Target.{Target as Place}
-use Rattle.bundle_targets.specs.declared.target.Target.TheVariants as p
+use Rattle.bundle_index.specs.declared.target.Target.{Target as Place}
+use Rattle.bundle_index.specs.declared.target.Target.TheVariants as p
 use Rattle.bundle_targets.specs.declared.target.Resolution.{Resolution as Found}
 use Rattle.bundle_targets.specs.declared.target.Resolution.TheVariants as f
 use Rattle.bundle_link.specs.declared.target.Target.{Target}

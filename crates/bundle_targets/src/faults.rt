@@ -1,9 +1,10 @@
 //! What is wrong with the modules of a bundle, in the order in which it is judged.
 
-use crate::index::{Answer, DEFAULT, Index};
-use crate::kinds::{Kinds, Lead};
-use crate::own::{Own, taking};
+ghost use Rattle.std.specs.Prelude.{◌≡◌, OnOk};
+
 use crate::target::{Fault, FaultKind, Target};
+use bundle_index::index::DEFAULT;
+use bundle_index::{Answer, Asked, Index, Kinds, Lead, Own, taking};
 use bundle_tables::{Origin, Tables, Taken};
 use indexmap::IndexSet;
 use std::alloc::{AllocError, Global};
@@ -60,7 +61,9 @@ pub fn link_fault_of<'a>(
     kinds: &Kinds<'_, '_, 'a>,
     index: &mut Index<'a>,
     meant: &IndexSet<Target<'a>>,
-) -> Result<Option<Fault<'a>>, AllocError> {
+) -> Result<Option<Fault<'a>>, AllocError>
+    ensures { OnOk result (index.new ≡ index.old) }
+{
     if let Some(fault) = first_of(kinds, Stage::Awaits) {
         return Ok(Some(fault));
     }
@@ -73,13 +76,8 @@ pub fn link_fault_of<'a>(
         }
     }
     for module in kinds.list {
-        let object = Target::Namespace { module: *module };
-        if index.has_external_star(*module) && meant.contains(&object) {
-            return Ok(Some(Fault {
-                kind: FaultKind::NamespaceOverExternalStar,
-                module: *module,
-                name: "",
-            }));
+        if let Some(fault) = object_fault(alloc, index, meant, *module)? {
+            return Ok(Some(fault));
         }
     }
     if kinds.setting.iife {
@@ -91,6 +89,30 @@ pub fn link_fault_of<'a>(
         }
     }
     Ok(None)
+}
+
+// Whether the object of a module's namespace is meant, whose names are not all known.
+fn object_fault<'a>(
+    alloc: Global,
+    index: &mut Index<'a>,
+    meant: &IndexSet<Target<'a>>,
+    module: usize,
+) -> Result<Option<Fault<'a>>, AllocError>
+    ensures { OnOk result (index.new ≡ index.old) }
+{
+    if !meant.contains(&Target::Namespace { module }) {
+        return Ok(None);
+    }
+    let is_starred = index.has_external_star(alloc, module)?;
+    Ok(if is_starred {
+        Some(Fault {
+            kind: FaultKind::NamespaceOverExternalStar,
+            module,
+            name: "",
+        })
+    } else {
+        None
+    })
 }
 
 /// What is judged of all modules before the next.
@@ -184,7 +206,9 @@ fn name_fault<'a>(
     kinds: &Kinds<'_, '_, 'a>,
     index: &mut Index<'a>,
     module: usize,
-) -> Result<Option<Fault<'a>>, AllocError> {
+) -> Result<Option<Fault<'a>>, AllocError>
+    ensures { OnOk result (index.new ≡ index.old) }
+{
     let Some(tables) = kinds.tables(module) else {
         return Ok(None);
     };
@@ -212,9 +236,11 @@ fn import_fault<'a>(
     index: &mut Index<'a>,
     module: usize,
     tables: &Tables<'a>,
-) -> Result<Option<Placed<'a>>, AllocError> {
+) -> Result<Option<Placed<'a>>, AllocError>
+    ensures { OnOk result (index.new ≡ index.old) }
+{
     for import in &tables.imports {
-        let asked = taking(kinds, module, import.specifier, import.taken);
+        let asked = taking(kinds, module, import.specifier, import.taken, None);
         if let Some(fault) = asked_fault(alloc, index, module, asked)? {
             let place = import.place;
             return Ok(Some(Placed { place, fault }));
@@ -230,10 +256,12 @@ fn export_fault<'a>(
     index: &mut Index<'a>,
     module: usize,
     tables: &Tables<'a>,
-) -> Result<Option<Placed<'a>>, AllocError> {
+) -> Result<Option<Placed<'a>>, AllocError>
+    ensures { OnOk result (index.new ≡ index.old) }
+{
     for export in &tables.exports {
         if let Origin::Indirect { specifier, taken } = export.origin {
-            let asked = taking(kinds, module, specifier, taken);
+            let asked = taking(kinds, module, specifier, taken, None);
             if let Some(fault) = asked_fault(alloc, index, module, asked)? {
                 let place = export.place;
                 return Ok(Some(Placed { place, fault }));
@@ -249,16 +277,17 @@ fn asked_fault<'a>(
     index: &mut Index<'a>,
     module: usize,
     asked: Own<'a>,
-) -> Result<Option<Fault<'a>>, AllocError> {
+) -> Result<Option<Fault<'a>>, AllocError>
+    ensures { OnOk result (index.new ≡ index.old) }
+{
     let Own::Leads(asked) = asked else {
         return Ok(None);
     };
-    let kind = match index.answer(alloc, asked)? {
+    let answer = index.answer(alloc, asked)?;
+    let kind = match answer {
         Answer::One(_) => return Ok(None),
         Answer::Two(_, _) => FaultKind::AmbiguousExport,
-        Answer::None if is_perhaps_external(index, asked.module, asked.name) =>
-            FaultKind::ExternalStarOnly,
-        Answer::None => FaultKind::MissingExport,
+        Answer::None => missing_kind(alloc, index, asked)?,
     };
     Ok(Some(Fault {
         kind,
@@ -267,7 +296,21 @@ fn asked_fault<'a>(
     }))
 }
 
-/// Whether an external that is starred may hold a name that is not given.
-pub fn is_perhaps_external(index: &Index, module: usize, name: &str) -> bool {
-    name != DEFAULT && index.has_external_star(module)
+// What is wrong with a name that is not given: an external that is starred may hold it, or not.
+fn missing_kind<'a>(
+    alloc: Global,
+    index: &mut Index<'a>,
+    asked: Asked<'a>,
+) -> Result<FaultKind, AllocError>
+    ensures { OnOk result (index.new ≡ index.old) }
+{
+    if asked.name == DEFAULT {
+        return Ok(FaultKind::MissingExport);
+    }
+    let is_starred = index.has_external_star(alloc, asked.module)?;
+    Ok(if is_starred {
+        FaultKind::ExternalStarOnly
+    } else {
+        FaultKind::MissingExport
+    })
 }

@@ -3,12 +3,9 @@
 #![tactic(auto)]
 
 mod faults;
-mod index;
-mod kinds;
 pub mod linking;
 mod meant;
-mod own;
-mod stars;
+mod names;
 mod taken;
 pub mod target;
 

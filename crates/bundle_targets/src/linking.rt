@@ -1,12 +1,20 @@
 //! The modules of one bundle, linked.
 
-use crate::faults::{call_fault_of, is_perhaps_external, link_fault_of};
-use crate::index::{Answer, Index};
-use crate::kinds::{Kinds, flag};
+ghost use Rattle.std.specs.Prelude.{IfOk};
+ghost use Rattle.bundle_terms.specs.Linking.{IsMissing};
+ghost use Rattle.bundle_terms.specs.Program.{Program};
+ghost use Rattle.bundle_terms.specs.Tables.{IsResolution, TellsCommonJs};
+ghost use Rattle.bundle_index.specs.Programs.{IsProgramOf};
+ghost use Rattle.bundle_targets.specs.Linked.{IsLinkingOf, found_says};
+
+use crate::faults::{call_fault_of, link_fault_of};
 use crate::meant::{Meant, meant_in};
-use crate::stars::list_at;
 use crate::taken::{external_stars_of, externals_of, identifier_of, loads_of, symbols_of};
 use crate::target::{External, Fault, LinkModule, Loaded, Meaning, Resolution, Setting, Target};
+use bundle_index::index::DEFAULT;
+use bundle_index::kinds::flag;
+use bundle_index::lists::list_at;
+use bundle_index::{Answer, Index, Kinds};
 use bundle_tables::Taken;
 use indexmap::IndexMap;
 use std::alloc::{AllocError, Global};
@@ -61,7 +69,10 @@ impl<'a> Linking<'a> {
         list: &[usize],
         entry: usize,
         setting: Setting,
-    ) -> Result<Linking<'a>, AllocError> {
+    ) -> Result<Linking<'a>, AllocError>
+        ensures { IfOk result (λ linking. (p : Program) →
+            IsProgramOf p modules.now list.now entry setting.require → IsLinkingOf p linking) }
+    {
         let kinds = Kinds::new(alloc, modules, list, entry, setting)?;
         let mut index = Index::new(alloc, &kinds)?;
         let meant = meant_in(alloc, &kinds, &mut index)?;
@@ -81,20 +92,39 @@ impl<'a> Linking<'a> {
     }
 
     /// What a module gives for a name.
-    pub fn resolve(&self, module: usize, name: &str) -> Result<Resolution<'a>, AllocError> {
-        Ok(match self.index.found(self.alloc, module, name)? {
-            Answer::One(given) => Resolution::One(given.target),
-            Answer::Two(first, second) => Resolution::Two(first.target, second.target),
-            Answer::None if is_perhaps_external(&self.index, module, name) => {
-                Resolution::ExternalStar
-            }
-            Answer::None => Resolution::None,
-        })
+    pub fn resolve(&self, number: usize, name: &str) -> Result<Resolution<'a>, AllocError>
+        ensures { IfOk result (λ found. (p : Program) → IsLinkingOf p self.now →
+            IsResolution p number name.now (found_says found)) }
+    {
+        let answer = self.index.found(self.alloc, number, name)?;
+        match answer {
+            Answer::One(given) => Ok(Resolution::One(given.target)),
+            Answer::Two(first, second) => Ok(Resolution::Two(first.target, second.target)),
+            Answer::None => self.missing(number, name),
+        }
+    }
+
+    // What a module gives for a name where nothing is given: an external that is starred may hold it, or not.
+    fn missing(&self, number: usize, name: &str) -> Result<Resolution<'a>, AllocError>
+        ensures { IfOk result (λ found. (p : Program) → IsLinkingOf p self.now →
+            IsMissing p number name.now → IsResolution p number name.now (found_says found)) }
+    {
+        if name == DEFAULT {
+            return Ok(Resolution::None);
+        }
+        let is_starred = self.index.finds_external_star(self.alloc, number)?;
+        if is_starred {
+            Ok(Resolution::ExternalStar)
+        } else {
+            Ok(Resolution::None)
+        }
     }
 
     /// Whether a module is CommonJS in this bundle.
-    pub fn is_common_js(&self, module: usize) -> bool {
-        flag(&self.common_js, module)
+    pub fn is_common_js(&self, number: usize) -> bool
+        ensures { (p : Program) → IsLinkingOf p self.now → TellsCommonJs p number result }
+    {
+        flag(&self.common_js, number)
     }
 
     /// Whether the object of a module's namespace is meant.

@@ -1,11 +1,12 @@
 //! What is meant: the least set of targets that own statements, the entry's exports and namespace objects
 //! that are meant themselves mean.
 
-use crate::index::Index;
-use crate::kinds::Kinds;
-use crate::own::{Asked, Own, locals_of, taking};
-use crate::stars::{no_lists, push_at};
+ghost use Rattle.std.specs.Prelude.{◌≡◌, OnOk};
+
+use crate::names::linked_names;
 use crate::target::{Meaning, Target};
+use bundle_index::lists::{no_lists, push_at};
+use bundle_index::{Asked, Index, Kinds, Own, locals_of, taking};
 use bundle_tables::{Import, Tables, Use};
 use indexmap::{IndexMap, IndexSet};
 use std::alloc::{AllocError, Global};
@@ -25,7 +26,9 @@ pub fn meant_in<'a>(
     alloc: Global,
     kinds: &Kinds<'_, '_, 'a>,
     index: &mut Index<'a>,
-) -> Result<Meant<'a>, AllocError> {
+) -> Result<Meant<'a>, AllocError>
+    ensures { OnOk result (index.new ≡ index.old) }
+{
     let mut meant = nothing_meant(alloc, kinds.modules.len())?;
     meant.find(alloc, kinds, index)?;
     Ok(meant)
@@ -47,7 +50,9 @@ impl<'a> Meant<'a> {
         alloc: Global,
         kinds: &Kinds<'_, '_, 'a>,
         index: &mut Index<'a>,
-    ) -> Result<(), AllocError> {
+    ) -> Result<(), AllocError>
+        ensures { OnOk result (index.new ≡ index.old) }
+    {
         for module in kinds.list {
             if let Some(tables) = kinds.tables(*module) {
                 self.add_uses(alloc, kinds, index, *module, tables)?;
@@ -75,7 +80,9 @@ impl<'a> Meant<'a> {
         index: &mut Index<'a>,
         module: usize,
         tables: &Tables<'a>,
-    ) -> Result<(), AllocError> {
+    ) -> Result<(), AllocError>
+        ensures { OnOk result (index.new ≡ index.old) }
+    {
         let locals = locals_of(alloc, tables)?;
         for its in &tables.uses {
             let import = locals.get(&its.local);
@@ -104,8 +111,10 @@ impl<'a> Meant<'a> {
         kinds: &Kinds<'_, '_, 'a>,
         index: &mut Index<'a>,
         module: usize,
-    ) -> Result<(), AllocError> {
-        let linked = index.linked_names(alloc, kinds, module)?;
+    ) -> Result<(), AllocError>
+        ensures { OnOk result (index.new ≡ index.old) }
+    {
+        let linked = linked_names(alloc, kinds, index, module)?;
         for (_, target) in &linked {
             self.targets.insert(*target)?;
         }
@@ -125,7 +134,9 @@ fn used<'a>(
     tables: &Tables<'a>,
     its: Use<'a>,
     import: Option<&Import<'a>>,
-) -> Result<Option<Meaning<'a>>, AllocError> {
+) -> Result<Option<Meaning<'a>>, AllocError>
+    ensures { OnOk result (index.new ≡ index.old) }
+{
     match named(alloc, kinds, index, module, import)? {
         Some(target) => Ok(Some(read(alloc, index, tables, its, target)?)),
         None => Ok(None),
@@ -139,11 +150,13 @@ fn named<'a>(
     index: &mut Index<'a>,
     module: usize,
     import: Option<&Import<'a>>,
-) -> Result<Option<Target<'a>>, AllocError> {
+) -> Result<Option<Target<'a>>, AllocError>
+    ensures { OnOk result (index.new ≡ index.old) }
+{
     let Some(import) = import else {
         return Ok(None);
     };
-    match taking(kinds, module, import.specifier, import.taken) {
+    match taking(kinds, module, import.specifier, import.taken, None) {
         Own::Gives(given) => Ok(Some(given.target)),
         Own::Leads(asked) => Ok(index.answer(alloc, asked)?.linked()),
         Own::Nothing => Ok(None),
@@ -158,7 +171,9 @@ fn read<'a>(
     tables: &Tables<'a>,
     its: Use<'a>,
     target: Target<'a>,
-) -> Result<Meaning<'a>, AllocError> {
+) -> Result<Meaning<'a>, AllocError>
+    ensures { OnOk result (index.new ≡ index.old) }
+{
     let mut meaning = Meaning { target, steps: 0 };
     for step in 0..its.count {
         let Target::Namespace { module } = meaning.target else {

@@ -1,9 +1,8 @@
 //! What is taken of externals and of CommonJS modules, and what that is called.
 
-use crate::index::Index;
-use crate::kinds::{Kinds, Lead};
-use crate::stars::no_lists;
 use crate::target::{External, Loaded, Target};
+use bundle_index::lists::no_lists;
+use bundle_index::{Index, Kinds, Lead};
 use bundle_tables::{Origin, Tables, Taken};
 use indexmap::{IndexMap, IndexSet};
 use std::alloc::{AllocError, Global};

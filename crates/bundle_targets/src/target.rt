@@ -1,32 +1,6 @@
 //! What names stand for, and what linking tells of modules. Modules are named by their numbers.
 
-use bundle_tables::{Tables, Taken};
-use indexmap::IndexMap;
-
-/// What a name can stand for.
-#[derive(Clone, Copy, PartialEq, Eq, Hash, PartialOrd, Ord, Debug)]
-pub enum Target<'a> {
-    /// A declaration of a module.
-    Declared {
-        module: usize,
-        name: &'a str,
-    },
-    /// The namespace of a module.
-    Namespace {
-        module: usize,
-    },
-    /// What is taken of an external.
-    External {
-        specifier: &'a str,
-        taken: Taken<'a>,
-    },
-    /// What the module `taker` takes of a CommonJS module.
-    CommonJs {
-        taker: usize,
-        module: usize,
-        taken: Taken<'a>,
-    },
-}
+pub use bundle_index::target::{LinkModule, Setting, Target};
 
 /// What a module gives for a name (ECMA-262, 16.2.1.6.3 ResolveExport).
 #[derive(Clone, Copy, PartialEq, Eq, Debug)]
@@ -40,20 +14,6 @@ pub enum Resolution<'a> {
     Two(Target<'a>, Target<'a>),
     /// None, but an external that is starred may hold it.
     ExternalStar,
-}
-
-/// A module to link: its tables, and the number of the module to which each of its requests leads.
-#[derive(Clone, Copy)]
-pub struct LinkModule<'t, 'a> {
-    pub tables: &'t Tables<'a>,
-    pub leads: &'t IndexMap<String, usize>,
-}
-
-/// How a bundle is linked: whether literal calls of `require` are, and whether it is one function's call.
-#[derive(Clone, Copy, PartialEq, Eq, Debug)]
-pub struct Setting {
-    pub require: bool,
-    pub iife: bool,
 }
 
 /// What a use of an imported name means: the target, and how many of the reads around the name it

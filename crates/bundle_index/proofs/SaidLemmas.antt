@@ -12,16 +12,16 @@ use Rattle.bundle_terms.specs.Linking.{exports, imports, Target, Declared, Names
 use Rattle.bundle_given.specs.declared.links.Own.{Own}
 use Rattle.bundle_given.specs.declared.links.Own.TheVariants.{Gives, Leads, Nothing}
 use Rattle.bundle_given.specs.Graph.{Graph, own_of, stars_of}
-use Rattle.bundle_given.specs.Linked.{Value, OwnGives, own_declaration, own_namespace, own_taken, OwnLeads, Stars, IsGraphOf}
-use Rattle.bundle_given.specs.Said.{Lead, Outside, ToModule, ToCommonJs, Nowhere, LeadsIn, Said, It, On, Naught, said_by, target_only, said_local, said_of, IsNumber, AreNumbers, AreLeads, HasEachOnce}
+use Rattle.bundle_index.specs.Linked.{Value, OwnGives, own_declaration, own_namespace, own_taken, OwnLeads, Stars, IsGraphOf}
+use Rattle.bundle_index.specs.Said.{Lead, Outside, ToModule, ToCommonJs, Nowhere, LeadsIn, Said, It, On, Naught, said_by, target_only, said_local, said_of, IsNumber, AreNumbers, AreLeads, HasEachOnce}
 
 -- ---- lists
-any_there : {A : Type 0} (test : A → Bool) (xs : List A) (a : A) → Contains xs a → test a ≡ true → list_any test xs ≡ true
+pub any_there : {A : Type 0} (test : A → Bool) (xs : List A) (a : A) → Contains xs a → test a ≡ true → list_any test xs ≡ true
 any_there test [] a (i, h, e) is = absurd (omega arith)
 any_there test (x ∷ xs) a (zero, h, e) is = or_left (test x) (list_any test xs) (ap test e ∙ is)
 any_there test (x ∷ xs) a (suc i, h, e) is = or_right (test x) (list_any test xs) (any_there test xs a (i, omega arith, e) is)
 
-there_of_any : {A : Type 0} (test : A → Bool) (xs : List A) → list_any test xs ≡ true → (a : A) × Contains xs a × (test a ≡ true)
+pub there_of_any : {A : Type 0} (test : A → Bool) (xs : List A) → list_any test xs ≡ true → (a : A) × Contains xs a × (test a ≡ true)
 there_of_any {A = A} test [] e = absurd (false≢true e)
 there_of_any {A = A} test (x ∷ xs) e = by (or_cases (test x) (list_any test xs) e) (there_of_any test xs)
   where

@@ -8,7 +8,7 @@ use Rattle.bundle_terms.specs.Linking.{exports, imports, Target, Declared, Names
 use Rattle.bundle_given.specs.declared.links.Own.{Own}
 use Rattle.bundle_given.specs.declared.links.Own.TheVariants.{Gives, Leads, Nothing}
 use Rattle.bundle_given.specs.Graph.{Graph, own_of, stars_of}
-use Rattle.bundle_given.specs.Linked.{Value}
+use Rattle.bundle_index.specs.Linked.{Value}
 
 -- where a specifier of a module leads: to an external, to an ES module, to a CommonJS module, or to nothing
 pub data Lead : Type 0 where

@@ -11,7 +11,7 @@ use Rattle.bundle_given.specs.declared.answer.Answer.TheVariants.{Missing, One, 
 use Rattle.bundle_given.specs.Graph.{Spot, Graph}
 use Rattle.bundle_terms.specs.Tables.{AreTwo}
 use Rattle.bundle_given.specs.Given.{Given, itself, led, starred as by_star, IsAnswer}
-use Rattle.bundle_given.specs.Linked.{Value, OwnGives, own_declaration, own_namespace, own_taken, OwnLeads, IsGraphOf}
+use Rattle.bundle_index.specs.Linked.{Value, OwnGives, own_declaration, own_namespace, own_taken, OwnLeads, IsGraphOf}
 
 -- what is given for a name of the graph, in the program
 pub record GivenAs (p : Program) (values : List Value) (m : ℕ) (x : Text) (v : ℕ) : Type 0 where
@@ -68,7 +68,7 @@ module _ (p : Program) (names : List Text) (values : List Value) (g : Graph) (w 
       record { v = r.v; is = r.is; given = by_star ((w.none m n x named).1 none) (not_default n x named other) ((w.stars m d).1 (record { specifier = s; stands = star; leads = leads })) r.given }
 
   -- ---- a name of which no module has an entry is given nowhere
-  own_has : {m : ℕ} {x : Text} {t : Target} {origin : Option Origin} → Gives p m x t origin → ((k : ℕ) → has_own_entry (tree_of p k) x ≡ true → ⊥) → ((k : ℕ) (y : Text) (d : ℕ) → OwnLeads p k x d y → ⊥) → ((k : ℕ) (y : Target) (its : Option Origin) → OwnGives p k x y its → ⊥) → ⊥
+  pub own_has : {m : ℕ} {x : Text} {t : Target} {origin : Option Origin} → Gives p m x t origin → ((k : ℕ) → has_own_entry (tree_of p k) x ≡ true → ⊥) → ((k : ℕ) (y : Text) (d : ℕ) → OwnLeads p k x d y → ⊥) → ((k : ℕ) (y : Target) (its : Option Origin) → OwnGives p k x y its → ⊥) → ⊥
   own_has {m = m} {x = x} {t = t} {origin = origin} (declaration stands none) entries leads gives = gives m t origin (own_declaration stands none)
   own_has {m = m} {x = x} {t = t} {origin = origin} (namespace_import entry stands bound takes) entries leads gives = gives m t origin (own_namespace entry stands bound takes)
   own_has {m = m} {x = x} {t = t} {origin = origin} (taken stands takes) entries leads gives = gives m t origin (own_taken stands takes)

@@ -1,0 +1,11 @@
+pub mod LinkedLemmas
+pub mod StarLemmas
+pub mod KindLemmas
+pub mod SaidLemmas
+pub mod NumberedLemmas
+pub mod EqualLemmas
+pub mod ProgramLemmas
+pub mod FoundLemmas
+pub mod AskedLemmas
+pub mod HandedLemmas
+pub mod OutsideLemmas

@@ -1,0 +1,222 @@
+//! What modules give for names: the search over the numbers of what their tables say.
+
+ghost use Rattle.std.specs.Prelude.{◌≡◌, ◌↔◌, ◌++◌, ◌∷◌, [], ℕ, IfOk, IsTrue, OnOk, List, map};
+ghost use Rattle.bundle_terms.specs.Entries.{ImportEntry};
+ghost use Rattle.bundle_terms.specs.Program.{Program};
+ghost use Rattle.bundle_tables.specs.Exported.{Finds};
+ghost use Rattle.bundle_terms.specs.Faults.{StarsExternal};
+ghost use Rattle.bundle_given.specs.Graph.{Graph, Spot, graph_of};
+ghost use Rattle.bundle_given.specs.Given.{Given as IsGiven, IsAnswer};
+ghost use Rattle.bundle_index.specs.Outside.{IsIndexOf};
+ghost use Rattle.bundle_index.specs.Leads.{lead_of};
+ghost use Rattle.bundle_index.specs.Numbered.{Noted, HoldsAt, IsEmpty, IsNumbered, names_of, values_of, note, notes_of, starred};
+ghost use Rattle.bundle_index.specs.Programs.{AreModulesOf};
+ghost use Rattle.bundle_index.specs.Says.{Tells, answer_says};
+
+use crate::kinds::Kinds;
+use crate::numbers::Numbers;
+use crate::own::{Asked, Given, locals_of, own_entry};
+use crate::stars::{Stars, outside_links, starred_modules};
+use crate::target::Target;
+use bundle_given as places;
+use bundle_given::{Links, Search};
+use bundle_tables::{Export, Import, Tables};
+use indexmap::{IndexMap, IndexSet};
+use std::alloc::{AllocError, Global};
+
+/// The name that no star gives.
+pub const DEFAULT: &str = "default";
+
+/// What is given for a name: nothing, one, or more, of which two are kept.
+#[derive(Clone, Copy)]
+pub enum Answer<'a> {
+    None,
+    One(Given<'a>),
+    Two(Given<'a>, Given<'a>),
+}
+
+impl<'a> Answer<'a> {
+    /// The target to which the name is linked.
+    pub fn linked(self) -> Option<Target<'a>> {
+        match self {
+            Answer::One(given) => Some(given.target),
+            Answer::None | Answer::Two(_, _) => None,
+        }
+    }
+}
+
+/// What own entries give, and what is starred.
+#[derive(Drop)]
+pub struct Index<'a> {
+    numbers: Numbers<'a>,
+    search: Search,
+    /// The search for the modules that star an external over a chain.
+    outside: Search,
+    stars: Stars<'a>,
+}
+
+impl<'a> Index<'a> {
+    /// Notes what the entries of modules give.
+    pub fn new(alloc: Global, kinds: &Kinds<'_, '_, 'a>) -> Result<Index<'a>, AllocError>
+        ensures { IfOk result (λ index. (p : Program) → AreModulesOf p kinds.now → IsIndexOf p index) }
+    {
+        let mut numbers = Numbers {
+            names: IndexSet::new(alloc),
+            given: IndexSet::new(alloc),
+        };
+        let links = links_of(alloc, kinds, &mut numbers)?;
+        let search = Search::new(alloc, links)?;
+        let stars = outside_links(alloc, kinds)?;
+        let outside = Search::new(alloc, stars)?;
+        let externals = Stars::new(alloc, kinds)?;
+        Ok(Index {
+            numbers,
+            search,
+            outside,
+            stars: externals,
+        })
+    }
+
+    /// What is given for a name, which is noted.
+    pub fn answer(&mut self, alloc: Global, asked: Asked<'a>) -> Result<Answer<'a>, AllocError>
+        ensures right { IfOk result (λ answer. (p : Program) → IsIndexOf p self.old →
+            Tells p asked.entry.module asked.entry.name.now (answer_says answer)) }
+        ensures same { self.new ≡ self.old }
+    {
+        match self.numbers.spot(asked.module, asked.name) {
+            Some(at) => {
+                let found = self.search.answer(alloc, at)?;
+                Ok(self.numbers.answer(found))
+            }
+            None => Ok(Answer::None),
+        }
+    }
+
+    /// The same, which is not noted.
+    pub fn found(&self, alloc: Global, number: usize, name: &str) -> Result<Answer<'a>, AllocError>
+        ensures { IfOk result (λ answer. (p : Program) → IsIndexOf p self.now →
+            Tells p number name.now (answer_says answer)) }
+    {
+        match self.numbers.spot(number, name) {
+            Some(at) => {
+                let found = self.search.found(alloc, at)?;
+                Ok(self.numbers.answer(found))
+            }
+            None => Ok(Answer::None),
+        }
+    }
+
+    /// The ECMAScript modules that stars lead to from a module, itself first.
+    pub fn reach(&self, alloc: Global, number: usize) -> Result<IndexSet<usize>, AllocError> {
+        self.search.reach(alloc, number)
+    }
+
+    /// The externals that a module stars.
+    pub fn starred_externals(&self, number: usize) -> &[&'a str] {
+        self.stars.externals(number)
+    }
+
+    /// Whether a module stars an external, or a module that does so, over any chain. It is noted.
+    pub fn has_external_star(&mut self, alloc: Global, number: usize) -> Result<bool, AllocError>
+        ensures right { IfOk result (λ starred. (p : Program) → IsIndexOf p self.old →
+            IsTrue starred ↔ StarsExternal p number) }
+        ensures same { self.new ≡ self.old }
+    {
+        let found = self.outside.answer(alloc, (number, 0))?;
+        Ok(is_given(found))
+    }
+
+    /// The same, which is not noted.
+    pub fn finds_external_star(&self, alloc: Global, number: usize) -> Result<bool, AllocError>
+        ensures { IfOk result (λ starred. (p : Program) → IsIndexOf p self.now →
+            IsTrue starred ↔ StarsExternal p number) }
+    {
+        let found = self.outside.found(alloc, (number, 0))?;
+        Ok(is_given(found))
+    }
+}
+
+// Whether anything is given.
+fn is_given(answer: places::Answer) -> bool
+    ensures { (g : Graph) (at : Spot) → IsAnswer g at answer → IsTrue result ↔ ((v : ℕ) × IsGiven g at v) }
+{
+    match answer {
+        places::Answer::Missing => false,
+        places::Answer::One(_) => true,
+        places::Answer::Two(_, _) => true,
+    }
+}
+
+// The entries and stars of modules, by numbers.
+fn links_of<'a>(
+    alloc: Global,
+    kinds: &Kinds<'_, '_, 'a>,
+    numbers: &mut Numbers<'a>,
+) -> Result<Links, AllocError>
+    ensures { IsEmpty numbers.old →
+        IfOk result (λ links. IsNumbered kinds.now (names_of numbers.new) (values_of numbers.new) (graph_of links)) }
+{
+    let mut links = Links::new(alloc, numbers.of_name(DEFAULT)?);
+    for (number, module) in kinds.modules.iter().enumerate() {
+        add_module(alloc, kinds, numbers, &mut links, number, module.tables)?;
+    }
+    Ok(links)
+}
+
+// Notes the entries and stars of the next module.
+fn add_module<'a>(
+    alloc: Global,
+    kinds: &Kinds<'_, '_, 'a>,
+    numbers: &mut Numbers<'a>,
+    links: &mut Links,
+    number: usize,
+    tables: &Tables<'a>,
+) -> Result<(), AllocError>
+    ensures { (noted : List Noted) (stars : List (List ℕ)) →
+        HoldsAt noted stars numbers.old links.old →
+        OnOk result (HoldsAt (noted ++ notes_of (lead_of kinds.now number) number tables.now)
+        (stars ++ starred (lead_of kinds.now number) tables.now.stars.items ∷ []) numbers.new links.new) }
+{
+    links.add_module(starred_modules(alloc, kinds, number, tables)?)?;
+    let locals = locals_of(alloc, tables)?;
+    add_entries(kinds, numbers, links, number, &tables.exports, &locals)?;
+    Ok(())
+}
+
+// Notes the entries of a module.
+fn add_entries<'a>(
+    kinds: &Kinds<'_, '_, 'a>,
+    numbers: &mut Numbers<'a>,
+    links: &mut Links,
+    number: usize,
+    exports: &[Export<'a>],
+    locals: &IndexMap<&'a str, Import<'a>>,
+) -> Result<(), AllocError>
+    ensures { (imports : List ImportEntry) → Finds locals.now imports →
+        (noted : List Noted) (stars : List (List ℕ)) → HoldsAt noted stars numbers.old links.old →
+        OnOk result (HoldsAt (noted ++ map (note (lead_of kinds.now number) number imports) exports.now) stars numbers.new links.new) }
+{
+    for export in exports {
+        add_entry(kinds, numbers, links, number, *export, locals)?;
+    }
+    Ok(())
+}
+
+// Notes an entry of a module.
+fn add_entry<'a>(
+    kinds: &Kinds<'_, '_, 'a>,
+    numbers: &mut Numbers<'a>,
+    links: &mut Links,
+    number: usize,
+    export: Export<'a>,
+    locals: &IndexMap<&'a str, Import<'a>>,
+) -> Result<(), AllocError>
+    ensures { (imports : List ImportEntry) → Finds locals.now imports →
+        (noted : List Noted) (stars : List (List ℕ)) → HoldsAt noted stars numbers.old links.old →
+        OnOk result (HoldsAt (noted ++ note (lead_of kinds.now number) number imports export.entry ∷ []) stars numbers.new links.new) }
+{
+    let name = numbers.of_name(export.name)?;
+    let own = numbers.of_own(own_entry(kinds, number, locals, export))?;
+    links.add_own((number, name), own)?;
+    Ok(())
+}

@@ -1,0 +1,12 @@
+-- The index is as it was made, and so are the kinds.
+use Rattle.std.proofs.Common.{◌∙◌, sym, subst}
+use Rattle.bundle_index.specs.Outside.{IsIndexOf}
+use Rattle.bundle_targets.proofs.linking.Linking.new.Goals as goal
+
+pub returns : goal.returns
+returns c = λ p w.
+    let kinds = c.in_ok-kinds.ensures p w in
+    record {
+      index = subst (IsIndexOf p) (sym (c.in_ok-link_fault.ensures ∙ c.in_ok-meant.ensures)) (c.in_ok-index.ensures p kinds);
+      common_js = kinds.common_js;
+    }
