@@ -158,7 +158,7 @@ module _ (p : Program) (modules : List LinkModule) (list : List ℕ) (entry : �
           let text : k.0.specifier.now ≡ s = ap (λ (x : Text × Bool). x.0) k.2 in
           let external : k.0.is_external ≡ true = ap (λ (x : Text × Bool). x.1) k.2 ∙ is in
           let there : Contains (externals_of modules) s = flat_on externals_by modules its s (got_there modules m its at)
-              (flat_on external_one its.tables.now.sources.items k.0 s k.1 (subst (Contains (external_one k.0)) text (of_source k.0 external))) in
+          (flat_on external_one its.tables.now.sources.items k.0 s k.1 (subst (Contains (external_one k.0)) text (of_source k.0 external))) in
           any_there (bytes_eq s) (externals_of modules) s there ((bytes_eq-Decides s s).1 refl)
 
   pub outside_is : (m : ℕ) (s : Text) → Asks p m s → has_text s (externals_of modules) ≡ is_external p s
@@ -251,8 +251,8 @@ module _ (p : Program) (modules : List LinkModule) (list : List ℕ) (entry : �
           let required = list_any (nat_eq c) (required_by modules list) in
           let told = tells_common_js p c its.tables.now.is_script names required t.script (uses_is c names t.common_js) (required_is c, is_required c) in
           let same : is_kind require entry (required_by modules list) c its ≡ (p.settings.require && (not (c == p.entry) && (its.tables.now.is_script && (names || required)))) =
-              ap (λ r. r && (not (c == entry) && (its.tables.now.is_script && (names || required)))) (sym w.requires)
-              ∙ ap (λ n. p.settings.require && (not (c == n) && (its.tables.now.is_script && (names || required)))) (sym w.begins) in
+          ap (λ r. r && (not (c == entry) && (its.tables.now.is_script && (names || required)))) (sym w.requires)
+          ∙ ap (λ n. p.settings.require && (not (c == n) && (its.tables.now.is_script && (names || required)))) (sym w.begins) in
           subst (TellsCommonJs p c) (sym (flag_at (is_kind require entry (required_by modules list)) 0 c c modules its (omega arith) at ∙ same)) told
 
 -- what is handed in, and what is found of it, is the program's
