@@ -80,8 +80,15 @@ fn part_of(alloc: Global, step: &Value) -> Result<Modules> {
 
 // The tree of a step, with its notes.
 fn module_under(alloc: Global, step: &Value) -> Result<Module> {
-    let injected = step.get("injected").and_then(Value::as_bool).unwrap_or(false);
-    module_in(alloc, step.get("module").context("no module")?, &notes(injected))
+    let injected = step
+        .get("injected")
+        .and_then(Value::as_bool)
+        .unwrap_or(false);
+    module_in(
+        alloc,
+        step.get("module").context("no module")?,
+        &notes(injected),
+    )
 }
 
 // The last item of a step's tree.
