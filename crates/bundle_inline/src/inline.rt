@@ -25,13 +25,16 @@ use bundle_scope::scope::rename_item;
 use bundle_tree::Id;
 use std::alloc::{AllocError, Global};
 use std::slice;
+use thiserror::Error;
 
 /// Why aliases are not inlined.
-#[derive(Clone, Copy, PartialEq, Eq, Debug)]
+#[derive(Clone, Copy, PartialEq, Eq, Debug, Drop, Error)]
 pub enum InlineError {
     /// Some chain of aliases leads back to where it began.
+    #[error("aliases form a cycle")]
     Cycle,
     /// Memory ran out.
+    #[error("out of memory")]
     Memory,
 }
 

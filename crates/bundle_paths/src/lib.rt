@@ -113,6 +113,7 @@ pub use swc_bundler::scope::Renaming;
 pub use swc_bundler::scope::occurrences;
 pub use swc_bundler::scope::rename_all;
 pub use swc_bundler::scope::rename_ids;
+pub use swc_bundler::scope::rename_item;
 pub use swc_bundler::scope::resolve_scopes;
 pub use swc_bundler::sort::EdgeDirection;
 pub use swc_bundler::sort::Required;
