@@ -92,39 +92,43 @@ fn add_module<'a>(
     next: u32,
 ) -> Result<()> {
     let id = id_of(row)?;
-    if let Some(meta) = row.get("meta") {
-        let statement = module_in(alloc, meta, &notes(true))?;
-        let local = next.saturating_add(500);
-        let mut contexts = contexts(alloc, local, local.saturating_add(1))?;
-        add_resolved(
-            alloc,
-            prepared,
-            id,
-            &statement,
-            ModuleKind::Es,
-            &mut contexts,
-        )?;
-    }
+    add_statement(alloc, row, id, prepared, next.saturating_add(500))?;
     let kind = if linker.is_cjs(id) {
         ModuleKind::Cjs
     } else {
         ModuleKind::Es
     };
     let local = id.as_u32().saturating_mul(2).saturating_add(2);
-    let mut contexts = contexts(alloc, local, next)?;
-    add_resolved(alloc, prepared, id, tree, kind, &mut contexts)
+    add_resolved(alloc, prepared, id, tree, kind, (local, next))
 }
 
-// Adds the items of a tree, resolved with these contexts.
+// Adds the statement for `import.meta` of a module, if it has one.
+fn add_statement(
+    alloc: Global,
+    row: &Value,
+    id: ModuleId,
+    prepared: &mut Modules,
+    local: u32,
+) -> Result<()> {
+    if let Some(meta) = row.get("meta") {
+        let statement = module_in(alloc, meta, &notes(true))?;
+        let numbers = (local, local.saturating_add(1));
+        add_resolved(alloc, prepared, id, &statement, ModuleKind::Es, numbers)?;
+    }
+    Ok(())
+}
+
+// Adds the items of a tree, resolved with this local context and those from this next one on.
 fn add_resolved(
     alloc: Global,
     prepared: &mut Modules,
     id: ModuleId,
     tree: &Module,
     kind: ModuleKind,
-    contexts: &mut Contexts,
+    numbers: (u32, u32),
 ) -> Result<()> {
-    let module = resolve_scopes(alloc, tree, kind, contexts)?;
+    let mut contexts = contexts(alloc, numbers.0, numbers.1)?;
+    let module = resolve_scopes(alloc, tree, kind, &mut contexts)?;
     prepared.push_all(Modules::from(alloc, id, module)?)?;
     Ok(())
 }
