@@ -25,7 +25,6 @@ mod inject;
 mod linking;
 mod listed;
 mod listing;
-mod merging;
 mod orders;
 mod parties;
 mod scopes;
@@ -128,7 +127,6 @@ fn of_programs(alloc: Global, kind: &str, row: &Value) -> Result<String> {
         "imports" => tables::imports_text(alloc, row),
         "exports" => tables::exports_text(alloc, row),
         "link" => linking::linked_text(alloc, row),
-        "merge" => merging::merged_text(alloc, row),
         other => bail!("the kind {other:?}"),
     }
 }

@@ -55,8 +55,7 @@ pub(crate) fn finished(alloc: Global, row: &Value) -> Result<String> {
     finished_text(alloc, &named)
 }
 
-/// The text of a tree without keywords, rid of contexts.
-pub(crate) fn finished_text(alloc: Global, module: &Module) -> Result<String> {
+fn finished_text(alloc: Global, module: &Module) -> Result<String> {
     tree_text(alloc, &hygiene(alloc, module)?)
 }
 
