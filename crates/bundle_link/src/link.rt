@@ -1,17 +1,21 @@
 //! The modules of one bundle, linked.
 
-ghost use Rattle.std.specs.Prelude.{◌≡◌, IfOk, IfErr, nat_eq, false};
+ghost use Rattle.std.specs.Prelude.{◌≡◌, Contains, IfErr, IfOk, IfSome, IsNone, false, map, nat_eq};
 ghost use Rattle.indexmap.specs.IndexSet.{contains};
-ghost use Rattle.bundle_link.specs.Refusals.{IsRefusalOfOne, IsLinkRefusal, files_of};
+ghost use Rattle.bundle_name.specs.FileName.{name_of};
+ghost use Rattle.bundle_piece.specs.Item.{item_of};
+ghost use Rattle.bundle_link.specs.Read.{AreTablesOf};
+ghost use Rattle.bundle_link.specs.Refusals.{IsLinkRefusal, IsRefusalOfOne, IsTreeRefusal, files_of};
 
 use crate::fault::link_refusal;
-use crate::tables::read;
+use crate::tables::{read, read_list};
 use crate::target::resolution_of;
 pub use crate::target::{Resolution, Target};
 pub use crate::transformed::TransformedModule;
 use bundle_graph::graph::{ModuleGraph, order};
 use bundle_id::ModuleId;
-use bundle_name::{Config, Error, ModuleType};
+use bundle_name::{Config, Error, FileName, ModuleType};
+use bundle_piece::Piece;
 use bundle_tables::Tables;
 use bundle_targets::{LinkModule, Linking, Setting};
 use indexmap::{IndexMap, IndexSet};
@@ -26,6 +30,11 @@ pub struct Linker<'a> {
     /// The numbers of the modules, in their order.
     ids: IndexSet<ModuleId>,
     linking: Linking<'a>,
+    config: Config,
+    entry: ModuleId,
+    /// The numbers of the modules that the entry reaches, in post-order of their requests.
+    list: Vec<ModuleId>,
+    graph: ModuleGraph,
 }
 
 impl<'a> Linker<'a> {
@@ -40,21 +49,81 @@ impl<'a> Linker<'a> {
         config: &Config,
     ) -> Result<Linker<'a>, Error>
         ensures modules { IfOk result (λ linker. linker.modules ≡ modules.entry) }
+        ensures entry { IfOk result (λ linker. linker.entry ≡ entry) }
         ensures refused { IfErr result (IsRefusalOfOne modules.entry.items) }
     {
         let ids = ids_of(alloc, &modules)?;
         let tables = tables_of_all(alloc, &modules, config)?;
         let leads = leads_of_all(alloc, &modules, &ids)?;
-        let list = list_of(alloc, &ids, &tables, &leads, entry)?;
+        let graph = graph_of(alloc, &ids, &tables, &leads)?;
+        let list = order(alloc, &graph, entry)?;
+        let places = places_of(alloc, &ids, &list)?;
         let linked = linked_modules(alloc, &tables, &leads)?;
         let place = ids.get_index_of(&entry).unwrap_or(ids.len());
-        let linking = Linking::new(alloc, &linked, &list, place, setting_of(config))?;
+        let linking = Linking::new(alloc, &linked, &places, place, setting_of(config))?;
+        let config = copied(alloc, config)?;
         Ok(Linker {
             alloc,
             modules,
             ids,
             linking,
+            config,
+            entry,
+            list,
+            graph,
         })
+    }
+
+    /// The number of the entry.
+    pub fn entry(&self) -> ModuleId
+        ensures { result ≡ self.now.entry }
+    {
+        self.entry
+    }
+
+    /// The numbers of the modules that the entry reaches, in post-order of their requests.
+    pub fn list(&self) -> &[ModuleId]
+        ensures { result.now ≡ self.now.list.items }
+    {
+        &self.list
+    }
+
+    /// Which module requests which.
+    pub fn graph(&self) -> &ModuleGraph
+        ensures { result.now ≡ self.now.graph }
+    {
+        &self.graph
+    }
+
+    /// The module with this number.
+    pub fn module(&self, id: ModuleId) -> Option<&TransformedModule<'a>>
+        ensures found { IfSome result (λ m. Contains self.now.modules.items m.now) }
+        ensures absent { contains nat_eq self.now.ids id ≡ false → IsNone result }
+    {
+        self.modules.get(self.ids.get_index_of(&id)?)
+    }
+
+    /// The tables of the list of a module, by the same settings. Refused where the tree has a fault of its own, and
+    /// where memory runs out.
+    pub fn tables_of<'x>(&self, file: &FileName, pieces: &[Piece<'x>]) -> Result<Tables<'x>, Error>
+        ensures refused { IfErr result (IsTreeRefusal (name_of file.now) (map item_of pieces.now)) }
+        ensures given { IfOk result (AreTablesOf self.now.config (name_of file.now) (map item_of pieces.now)) }
+    {
+        read_list(self.alloc, file, pieces, &self.config)
+    }
+
+    /// What the names of the modules on the list stand for, where these are their tables in turn, and their requests
+    /// lead to places of the list.
+    pub fn linking_of<'x>(
+        &self,
+        modules: &[LinkModule<'_, 'x>],
+    ) -> Result<Linking<'x>, AllocError> {
+        let mut list = Vec::new(self.alloc);
+        for place in 0..modules.len() {
+            list.push(place)?;
+        }
+        let entry = modules.len().saturating_sub(1);
+        Linking::new(self.alloc, modules, &list, entry, setting_of(&self.config))
     }
 
     /// What a module gives for a name (ECMA-262, 16.2.1.6.3 ResolveExport). Nothing is given for the name of a module
@@ -154,33 +223,18 @@ fn leads_of_all<'a>(
 ) -> Result<Vec<IndexMap<String, usize>>, AllocError> {
     let mut leads = Vec::new(alloc);
     for module in modules {
-        leads.push(leads_of(alloc, module, ids)?)?;
+        leads.push(module.leads(alloc, ids)?)?;
     }
     Ok(leads)
 }
 
-fn leads_of<'a>(
-    alloc: Global,
-    module: &TransformedModule<'a>,
-    ids: &IndexSet<ModuleId>,
-) -> Result<IndexMap<String, usize>, AllocError> {
-    let mut leads = IndexMap::new(alloc);
-    for (specifier, id) in &module.deps {
-        if let Some(place) = ids.get_index_of(id) {
-            leads.insert(specifier.clone()?, place)?;
-        }
-    }
-    Ok(leads)
-}
-
-// The places of the modules that the entry reaches, in post-order of their requests.
-fn list_of<'a>(
+// Which module requests which.
+fn graph_of<'a>(
     alloc: Global,
     ids: &IndexSet<ModuleId>,
     tables: &[Tables<'a>],
     leads: &[IndexMap<String, usize>],
-    entry: ModuleId,
-) -> Result<Vec<usize>, AllocError> {
+) -> Result<ModuleGraph, AllocError> {
     let mut graph = ModuleGraph::new(alloc);
     for ((id, tables), leads) in ids.iter().zip(tables).zip(leads) {
         graph.add_node(*id)?;
@@ -192,13 +246,37 @@ fn list_of<'a>(
             }
         }
     }
-    let mut list = Vec::new(alloc);
-    for id in &order(alloc, &graph, entry)? {
+    Ok(graph)
+}
+
+// The places of these modules.
+fn places_of(
+    alloc: Global,
+    ids: &IndexSet<ModuleId>,
+    list: &[ModuleId],
+) -> Result<Vec<usize>, AllocError> {
+    let mut places = Vec::new(alloc);
+    for id in list {
         if let Some(place) = ids.get_index_of(id) {
-            list.push(place)?;
+            places.push(place)?;
         }
     }
-    Ok(list)
+    Ok(places)
+}
+
+// The settings, once more.
+fn copied(alloc: Global, config: &Config) -> Result<Config, AllocError> {
+    let mut external_modules = Vec::new(alloc);
+    for specifier in &config.external_modules {
+        external_modules.push(specifier.clone()?)?;
+    }
+    Ok(Config {
+        require: config.require,
+        disable_hygiene: config.disable_hygiene,
+        external_modules,
+        module: config.module,
+        max_modules: config.max_modules,
+    })
 }
 
 fn linked_modules<'t, 'a>(

@@ -121,8 +121,8 @@ pub(crate) fn read<'a>(
     read_list(alloc, file, &pieces, config)
 }
 
-// The same of the list of a module.
-fn read_list<'a>(
+/// The same of the list of a module.
+pub(crate) fn read_list<'a>(
     alloc: Global,
     file: &FileName,
     pieces: &[Piece<'a>],

@@ -100,6 +100,7 @@ pub use swc_bundler::marks::Node;
 pub use swc_bundler::marks::Occurrence;
 pub use swc_bundler::marks::marks;
 pub use swc_bundler::marks::with_idents;
+pub use swc_bundler::merge::merge_into_entry;
 pub use swc_bundler::modules::Iter;
 pub use swc_bundler::modules::Modules;
 pub use swc_bundler::namespace::namespace_object;

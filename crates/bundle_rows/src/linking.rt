@@ -195,7 +195,8 @@ pub(crate) fn refusal_text(alloc: Global, refusal: &Error) -> Result<String> {
         | Error::RequiredEsModule { file, specifier }
         | Error::RequiredEntry { file, specifier }
         | Error::ExternalUnderIife { file, specifier } => (file, specifier.as_str()),
-        Error::With { file }
+        Error::ContextsUsedUp { file }
+        | Error::With { file }
         | Error::NamespaceOverExternalStar { file }
         | Error::AwaitInCommonJs { file }
         | Error::ArgumentsUnderIife { file } => (file, ""),

@@ -25,6 +25,7 @@ mod inject;
 mod linking;
 mod listed;
 mod listing;
+mod merging;
 mod orders;
 mod parties;
 mod scopes;
@@ -127,6 +128,7 @@ fn of_programs(alloc: Global, kind: &str, row: &Value) -> Result<String> {
         "imports" => tables::imports_text(alloc, row),
         "exports" => tables::exports_text(alloc, row),
         "link" => linking::linked_text(alloc, row),
+        "merge" => merging::merged_text(alloc, row),
         other => bail!("the kind {other:?}"),
     }
 }

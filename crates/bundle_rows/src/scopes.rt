@@ -55,7 +55,8 @@ pub(crate) fn finished(alloc: Global, row: &Value) -> Result<String> {
     finished_text(alloc, &named)
 }
 
-fn finished_text(alloc: Global, module: &Module) -> Result<String> {
+/// The text of a tree without keywords, rid of contexts.
+pub(crate) fn finished_text(alloc: Global, module: &Module) -> Result<String> {
     tree_text(alloc, &hygiene(alloc, module)?)
 }
 

@@ -42,6 +42,11 @@ pub mod namespace {
     pub use bundle_forms::item::namespace_object;
 }
 
+/// The modules of a bundle, merged into its entry.
+pub mod merge {
+    pub use bundle_joined::merge_into_entry;
+}
+
 /// The bundler, its settings and what it gives.
 pub mod bundler {
     pub use bundle_bundler::{Bundle, BundleKind, Bundler};
