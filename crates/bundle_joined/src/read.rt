@@ -11,6 +11,7 @@ use bundle_denote::{Denotations, ModuleKind, Reading, denotations};
 use bundle_id::ModuleId;
 use bundle_leaf::MetaPropKind;
 use bundle_link::link::{Linker, TransformedModule};
+use bundle_linked::leads_of;
 use bundle_listing::pieces;
 use bundle_lists::Name;
 use bundle_merge::{Meta, Part};
@@ -87,7 +88,7 @@ pub(crate) fn read_module<'a, 'x>(
         ModuleKind::Es
     };
     let names = denotations(alloc, &own.pieces, kind, Reading::BySymbol)?;
-    let leads = known.leads(alloc, places)?;
+    let leads = leads_of(alloc, &known.deps, places)?;
     Ok(Read {
         own,
         names,

@@ -12,13 +12,13 @@ use crate::tables::{read, read_list};
 use crate::target::resolution_of;
 pub use crate::target::{Resolution, Target};
 pub use crate::transformed::TransformedModule;
-use bundle_graph::graph::{ModuleGraph, order};
+use bundle_graph::graph::ModuleGraph;
 use bundle_id::ModuleId;
+use bundle_linked::{LinkedModules, NumberedModule};
 use bundle_name::{Config, Error, FileName, ModuleType};
 use bundle_piece::Piece;
 use bundle_tables::Tables;
 use bundle_targets::{LinkModule, Linking, Setting};
-use indexmap::{IndexMap, IndexSet};
 use std::alloc::{AllocError, Global};
 
 /// Tells what each name of the modules of a bundle stands for, which of the modules are CommonJS, and what is wrong
@@ -27,14 +27,9 @@ use std::alloc::{AllocError, Global};
 pub struct Linker<'a> {
     alloc: Global,
     modules: Vec<TransformedModule<'a>>,
-    /// The numbers of the modules, in their order.
-    ids: IndexSet<ModuleId>,
-    linking: Linking<'a>,
     config: Config,
     entry: ModuleId,
-    /// The numbers of the modules that the entry reaches, in post-order of their requests.
-    list: Vec<ModuleId>,
-    graph: ModuleGraph,
+    linked: LinkedModules<'a>,
 }
 
 impl<'a> Linker<'a> {
@@ -52,25 +47,14 @@ impl<'a> Linker<'a> {
         ensures entry { IfOk result (λ linker. linker.entry ≡ entry) }
         ensures refused { IfErr result (IsRefusalOfOne modules.entry.items) }
     {
-        let ids = ids_of(alloc, &modules)?;
-        let tables = tables_of_all(alloc, &modules, config)?;
-        let leads = leads_of_all(alloc, &modules, &ids)?;
-        let graph = graph_of(alloc, &ids, &tables, &leads)?;
-        let list = order(alloc, &graph, entry)?;
-        let places = places_of(alloc, &ids, &list)?;
-        let linked = linked_modules(alloc, &tables, &leads)?;
-        let place = ids.get_index_of(&entry).unwrap_or(ids.len());
-        let linking = Linking::new(alloc, &linked, &places, place, setting_of(config))?;
+        let linked = linked_modules(alloc, entry, &modules, config)?;
         let config = copied(alloc, config)?;
         Ok(Linker {
             alloc,
             modules,
-            ids,
-            linking,
             config,
             entry,
-            list,
-            graph,
+            linked,
         })
     }
 
@@ -83,24 +67,24 @@ impl<'a> Linker<'a> {
 
     /// The numbers of the modules that the entry reaches, in post-order of their requests.
     pub fn list(&self) -> &[ModuleId]
-        ensures { result.now ≡ self.now.list.items }
+        ensures { result.now ≡ self.now.linked.list.items }
     {
-        &self.list
+        &self.linked.list
     }
 
     /// Which module requests which.
     pub fn graph(&self) -> &ModuleGraph
-        ensures { result.now ≡ self.now.graph }
+        ensures { result.now ≡ self.now.linked.graph }
     {
-        &self.graph
+        &self.linked.graph
     }
 
     /// The module with this number.
     pub fn module(&self, id: ModuleId) -> Option<&TransformedModule<'a>>
         ensures found { IfSome result (λ m. Contains self.now.modules.items m.now) }
-        ensures absent { contains nat_eq self.now.ids id ≡ false → IsNone result }
+        ensures absent { contains nat_eq self.now.linked.ids id ≡ false → IsNone result }
     {
-        self.modules.get(self.ids.get_index_of(&id)?)
+        self.modules.get(self.linked.ids.get_index_of(&id)?)
     }
 
     /// The tables of the list of a module, by the same settings. Refused where the tree has a fault of its own, and
@@ -129,35 +113,24 @@ impl<'a> Linker<'a> {
     /// What a module gives for a name (ECMA-262, 16.2.1.6.3 ResolveExport). Nothing is given for the name of a module
     /// that is not there.
     pub fn resolve_export(&self, id: ModuleId, name: &str) -> Result<Resolution, AllocError>
-        ensures absent { contains nat_eq self.now.ids id ≡ false → IfOk result (λ resolution. resolution ≡ Resolution.None) }
+        ensures absent { contains nat_eq self.now.linked.ids id ≡ false → IfOk result (λ resolution. resolution ≡ Resolution.None) }
     {
-        match self.ids.get_index_of(&id) {
-            Some(place) => {
-                let found = self.linking.resolve(place, name)?;
-                resolution_of(self.alloc, &self.ids, found)
-            }
-            None => Ok(Resolution::None),
-        }
+        let found = self.linked.resolve(id, name)?;
+        resolution_of(self.alloc, &self.linked.ids, found)
     }
 
     /// Whether a module is CommonJS in this bundle. It takes no memory.
     pub fn is_cjs(&self, id: ModuleId) -> bool
-        ensures absent { contains nat_eq self.now.ids id ≡ false → result ≡ false }
+        ensures absent { contains nat_eq self.now.linked.ids id ≡ false → result ≡ false }
     {
-        match self.ids.get_index_of(&id) {
-            Some(place) => self.linking.is_common_js(place),
-            None => false,
-        }
+        self.linked.is_common_js(id)
     }
 
     /// Whether the object of a module's namespace is meant. It takes no memory.
     pub fn should_be_wrapped_with_a_fn(&self, id: ModuleId) -> bool
-        ensures absent { contains nat_eq self.now.ids id ≡ false → result ≡ false }
+        ensures absent { contains nat_eq self.now.linked.ids id ≡ false → result ≡ false }
     {
-        match self.ids.get_index_of(&id) {
-            Some(place) => self.linking.is_object_meant(place),
-            None => false,
-        }
+        self.linked.is_object_meant(id)
     }
 
     /// Refuses modules that cannot be linked, by the first fault: a literal call of `require` that is of the entry,
@@ -167,12 +140,8 @@ impl<'a> Linker<'a> {
     pub fn check(&self) -> Result<(), Error>
         ensures refused { IfErr result (IsLinkRefusal (files_of self.now.modules.items)) }
     {
-        let fault = match self.linking.call_fault() {
-            Some(fault) => fault,
-            None => match self.linking.link_fault() {
-                Some(fault) => fault,
-                None => return Ok(()),
-            },
+        let Some(fault) = self.linked.fault() else {
+            return Ok(());
         };
         match self.modules.get(fault.module) {
             Some(module) => Err(link_refusal(self.alloc, &module.file_name, fault)?),
@@ -188,16 +157,40 @@ fn setting_of(config: &Config) -> Setting {
     }
 }
 
-// The numbers of modules.
-fn ids_of<'a>(
+// What is known of modules once they are linked.
+fn linked_modules<'a>(
     alloc: Global,
+    entry: ModuleId,
     modules: &[TransformedModule<'a>],
-) -> Result<IndexSet<ModuleId>, AllocError> {
-    let mut ids = IndexSet::new(alloc);
-    for module in modules {
-        ids.insert(module.id)?;
+    config: &Config,
+) -> Result<LinkedModules<'a>, Error>
+    ensures { IfErr result (IsRefusalOfOne modules.now) }
+{
+    let tables = tables_of_all(alloc, modules, config)?;
+    let numbered = numbered_modules(alloc, modules, &tables)?;
+    Ok(LinkedModules::new(
+        alloc,
+        entry,
+        &numbered,
+        setting_of(config),
+    )?)
+}
+
+// The modules as they are linked by their numbers.
+fn numbered_modules<'t, 'a>(
+    alloc: Global,
+    modules: &'t [TransformedModule<'a>],
+    tables: &'t [Tables<'a>],
+) -> Result<Vec<NumberedModule<'t, 'a>>, AllocError> {
+    let mut numbered = Vec::new(alloc);
+    for (module, tables) in modules.iter().zip(tables) {
+        numbered.push(NumberedModule {
+            id: module.id,
+            tables,
+            deps: &module.deps,
+        })?;
     }
-    Ok(ids)
+    Ok(numbered)
 }
 
 // The tables of modules.
@@ -215,55 +208,6 @@ fn tables_of_all<'a>(
     Ok(tables)
 }
 
-// For each module the places of those to which its requests lead.
-fn leads_of_all<'a>(
-    alloc: Global,
-    modules: &[TransformedModule<'a>],
-    ids: &IndexSet<ModuleId>,
-) -> Result<Vec<IndexMap<String, usize>>, AllocError> {
-    let mut leads = Vec::new(alloc);
-    for module in modules {
-        leads.push(module.leads(alloc, ids)?)?;
-    }
-    Ok(leads)
-}
-
-// Which module requests which.
-fn graph_of<'a>(
-    alloc: Global,
-    ids: &IndexSet<ModuleId>,
-    tables: &[Tables<'a>],
-    leads: &[IndexMap<String, usize>],
-) -> Result<ModuleGraph, AllocError> {
-    let mut graph = ModuleGraph::new(alloc);
-    for ((id, tables), leads) in ids.iter().zip(tables).zip(leads) {
-        graph.add_node(*id)?;
-        for request in &tables.requests {
-            if let Some(place) = leads.get(*request) {
-                if let Some(requested) = ids.get_index(*place) {
-                    graph.add_edge(*id, *requested)?;
-                }
-            }
-        }
-    }
-    Ok(graph)
-}
-
-// The places of these modules.
-fn places_of(
-    alloc: Global,
-    ids: &IndexSet<ModuleId>,
-    list: &[ModuleId],
-) -> Result<Vec<usize>, AllocError> {
-    let mut places = Vec::new(alloc);
-    for id in list {
-        if let Some(place) = ids.get_index_of(id) {
-            places.push(place)?;
-        }
-    }
-    Ok(places)
-}
-
 // The settings, once more.
 fn copied(alloc: Global, config: &Config) -> Result<Config, AllocError> {
     let mut external_modules = Vec::new(alloc);
@@ -277,16 +221,4 @@ fn copied(alloc: Global, config: &Config) -> Result<Config, AllocError> {
         module: config.module,
         max_modules: config.max_modules,
     })
-}
-
-fn linked_modules<'t, 'a>(
-    alloc: Global,
-    tables: &'t [Tables<'a>],
-    leads: &'t [IndexMap<String, usize>],
-) -> Result<Vec<LinkModule<'t, 'a>>, AllocError> {
-    let mut modules = Vec::new(alloc);
-    for (tables, leads) in tables.iter().zip(leads) {
-        modules.push(LinkModule { tables, leads })?;
-    }
-    Ok(modules)
 }

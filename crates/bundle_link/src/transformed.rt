@@ -5,8 +5,6 @@ ghost use Rattle.std.specs.Prelude.{◌≡◌};
 use bundle_ast::Module;
 use bundle_id::{ModuleId, SyntaxContext};
 use bundle_name::FileName;
-use indexmap::{IndexMap, IndexSet};
-use std::alloc::{AllocError, Global};
 
 /// A module of a bundle: its file, its number, the contexts of the names of its top and of its exports, its tree, and
 /// the number of the module to which each of its requests leads.
@@ -48,20 +46,5 @@ impl<'a> TransformedModule<'a> {
             tree: module,
             deps,
         }
-    }
-
-    /// The places among these of the modules to which its requests lead, by their texts.
-    pub fn leads(
-        &self,
-        alloc: Global,
-        ids: &IndexSet<ModuleId>,
-    ) -> Result<IndexMap<String, usize>, AllocError> {
-        let mut leads = IndexMap::new(alloc);
-        for (specifier, id) in &self.deps {
-            if let Some(place) = ids.get_index_of(id) {
-                leads.insert(specifier.clone()?, place)?;
-            }
-        }
-        Ok(leads)
     }
 }
