@@ -21,7 +21,7 @@ block_kind-cleared : (path : List Around) → block_kind (cleared_path path) ≡
 block_kind-cleared [] = refl
 block_kind-cleared (node ∷ outer) = of_head block_in (λ meta. refl) (λ meta. refl) (λ meta. refl) (λ kind meta. refl) node.head
 
-is_default-cleared : (path : List Around) → is_default (cleared_path path) ≡ is_default path
+pub is_default-cleared : (path : List Around) → is_default (cleared_path path) ≡ is_default path
 is_default-cleared [] = refl
 is_default-cleared (node ∷ outer) = of_head exports_default (λ meta. refl) (λ meta. refl) (λ meta. refl) (λ kind meta. refl) node.head
 

@@ -1,11 +1,11 @@
 -- What a cleared tree imports, exports, lists and asks for: what the tree does.
-use Rattle.std.proofs.Common.{◌≡◌, ℕ, zero, suc, Bool, true, false, List, [], ◌∷◌, Option, Some, None, filter, flat_map, map, unwrap_or, refl, ap, ◌∙◌}
+use Rattle.std.proofs.Common.{◌≡◌, ℕ, zero, suc, Bool, true, false, List, [], ◌∷◌, ◌++◌, Option, Some, None, filter, flat_map, map, unwrap_or, refl, ap, ◌∙◌}
 use Rattle.bundle_piece.specs.Item as h
 use Rattle.bundle_piece.specs.Item.{Item, Head}
 use Rattle.bundle_terms.specs.Nodes.{Text, in_field, child, string_of, name_of, begins_with}
 use Rattle.bundle_terms.specs.Statements.{top_items, default_name}
 use Rattle.bundle_terms.specs.Entries.{Named, Whole, ImportEntry, Local, Indirect, Star, text_in, taken_by, import_entry, imports_by, imports_of_item, imports_of, is_in_pattern, is_binding, names_bound, declared_by, names_declared, export_of, entry_from, entry_here, entries_of_list, default_declared, exports_by, exports_of_item, exports_of, requests_by, requests_of_item, declared_requests}
-use Rattle.bundle_terms.specs.Faults.{is_named_specifier, is_string_head, listed_text, listed_name, names_in_list, names_listed_by, names_listed, listed_names}
+use Rattle.bundle_terms.specs.Faults.{is_named_specifier, is_string_head, listed_text, listed_name, names_in_list, names_listed_by, names_listed, listed_names, asked_by_import, asked_by_export, asked_by_item, asked_names}
 use Rattle.bundle_terms.specs.Cleared.{cleared_head, cleared}
 use Rattle.bundle_cleared.proofs.HeadLemmas.{of_head}
 use Rattle.bundle_cleared.proofs.NodeLemmas.{filter-cleared, flat_map-cleared, map-cleared, in_field-cleared, child-cleared, string_of_child, name_of_child, text_in-cleared, renamed_text-cleared, begins_with-cleared, told_of_tops}
@@ -208,3 +208,14 @@ requests_of_item-cleared [] = refl
 -- what imports and exports with `from` ask for
 pub declared_requests-cleared : (tree : List Item) → declared_requests (cleared tree) ≡ declared_requests tree
 declared_requests-cleared tree = told_of_tops requests_of_item requests_of_item-cleared tree
+
+-- Names that are asked of other modules.
+
+asked_by_item-cleared : (imports : List ImportEntry) (node : List Item) → asked_by_item imports (cleared node) ≡ asked_by_item imports node
+asked_by_item-cleared imports node = λ i. flat_map asked_by_import (imports_of_item-cleared node i) ++ flat_map asked_by_export (exports_of_item-cleared imports node i)
+
+-- the names that imports and exports with `from` ask for
+pub asked_names-cleared : (tree : List Item) → asked_names (cleared tree) ≡ asked_names tree
+asked_names-cleared tree =
+    (λ i. flat_map (λ top. asked_by_item (imports_of-cleared tree i) top.items) (top_items (cleared tree)))
+    ∙ told_of_tops (asked_by_item (imports_of tree)) (asked_by_item-cleared (imports_of tree)) tree

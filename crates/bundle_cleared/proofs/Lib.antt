@@ -5,3 +5,5 @@ pub mod NodeLemmas
 pub mod EntryLemmas
 pub mod CallLemmas
 pub mod FaultLemmas
+pub mod ReadLemmas
+pub mod CountLemmas

@@ -13,7 +13,7 @@ put_first-cleared : (x : Item) (nodes : List (List Item)) → put_first (cleared
 put_first-cleared x [] = refl
 put_first-cleared x (node ∷ more) = refl
 
-side_by_side-cleared : (depth : ℕ) (items : List Item) → side_by_side depth (cleared items) ≡ map cleared (side_by_side depth items)
+pub side_by_side-cleared : (depth : ℕ) (items : List Item) → side_by_side depth (cleared items) ≡ map cleared (side_by_side depth items)
 side_by_side-cleared depth [] = refl
 side_by_side-cleared depth (h.Open field head ∷ rest) = (λ i. put_first (cleared_item (h.Open field head)) (side_by_side-cleared (suc depth) rest i)) ∙ put_first-cleared (h.Open field head) (side_by_side (suc depth) rest)
 side_by_side-cleared zero (h.Ident field sym ctxt role ∷ rest) = λ i. (h.Ident field sym 0 role ∷ []) ∷ side_by_side-cleared zero rest i
@@ -61,7 +61,7 @@ map-cleared tell same (node ∷ more) = λ i. same node i ∷ map-cleared tell s
 pub in_field-cleared : (n : ℕ) (node : List Item) → in_field n (cleared node) ≡ map cleared (in_field n node)
 in_field-cleared n node = (λ i. filter (begins_in n) (parts-cleared node i)) ∙ filter-cleared (begins_in n) (begins_in-cleared n) (parts node)
 
-first-cleared : (nodes : List (List Item)) → first_or_nothing (map cleared nodes) ≡ cleared (first_or_nothing nodes)
+pub first-cleared : (nodes : List (List Item)) → first_or_nothing (map cleared nodes) ≡ cleared (first_or_nothing nodes)
 first-cleared [] = refl
 first-cleared (node ∷ more) = refl
 
