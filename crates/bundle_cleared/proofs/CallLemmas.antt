@@ -50,7 +50,7 @@ after-cleared test same (x ∷ rest) = (λ i. if same x i then cleared rest else
     kept false = refl
 
 is_call-cleared : (x : Item) → is_call (cleared_item x) ≡ is_call x
-is_call-cleared (h.Open field head) = of_head is_call_head (λ meta. refl) (λ meta. refl) (λ meta. refl) (λ kind meta. refl) head
+is_call-cleared (h.Open field head) = of_head is_call_head (λ meta. (refl, refl, refl, λ kind. refl)) head
 is_call-cleared (h.Ident field sym ctxt role) = refl
 is_call-cleared (h.Hole field) = refl
 is_call-cleared h.Close = refl
@@ -62,7 +62,7 @@ is_require_name-cleared (h.Hole field) = refl
 is_require_name-cleared h.Close = refl
 
 is_plain_argument-cleared : (x : Item) → is_plain_argument (cleared_item x) ≡ is_plain_argument x
-is_plain_argument-cleared (h.Open field head) = of_head is_plain_argument_head (λ meta. refl) (λ meta. refl) (λ meta. refl) (λ kind meta. refl) head
+is_plain_argument-cleared (h.Open field head) = of_head is_plain_argument_head (λ meta. (refl, refl, refl, λ kind. refl)) head
 is_plain_argument-cleared (h.Ident field sym ctxt role) = refl
 is_plain_argument-cleared (h.Hole field) = refl
 is_plain_argument-cleared h.Close = refl
@@ -109,10 +109,10 @@ requests settings tree = λ i. each_once (filter (λ s. not (has_text s settings
 
 -- whether `import.meta` stands in the module
 pub has_import_meta-cleared : (tree : List Item) → has_import_meta (cleared tree) ≡ has_import_meta tree
-has_import_meta-cleared tree = has_head-cleared is_import_meta (of_head is_import_meta (λ meta. refl) (λ meta. refl) (λ meta. refl) (λ kind meta. refl)) tree
+has_import_meta-cleared tree = has_head-cleared is_import_meta (of_head is_import_meta (λ meta. (refl, refl, refl, λ kind. refl))) tree
 
 awaits_here-cleared : (x : Item) → awaits_here (cleared_item x) ≡ awaits_here x
-awaits_here-cleared (h.Open field head) = of_head awaits (λ meta. refl) (λ meta. refl) (λ meta. refl) (λ kind meta. refl) head
+awaits_here-cleared (h.Open field head) = of_head awaits (λ meta. (refl, refl, refl, λ kind. refl)) head
 awaits_here-cleared (h.Ident field sym ctxt role) = refl
 awaits_here-cleared (h.Hole field) = refl
 awaits_here-cleared h.Close = refl
@@ -129,7 +129,7 @@ pub awaits_outside-cleared : (tree : List Item) → awaits_outside (cleared tree
 awaits_outside-cleared tree = awaits_from-cleared tree 0 tree
 
 is_module_declaration-cleared : (head : Head) → is_module_declaration (cleared_head head) ≡ is_module_declaration head
-is_module_declaration-cleared head = of_head is_module_declaration (λ meta. refl) (λ meta. refl) (λ meta. refl) (λ kind meta. refl) head
+is_module_declaration-cleared head = of_head is_module_declaration (λ meta. (refl, refl, refl, λ kind. refl)) head
 
 -- whether it is a script
 pub is_script-cleared : (tree : List Item) → is_script (cleared tree) ≡ is_script tree

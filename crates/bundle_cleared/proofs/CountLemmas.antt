@@ -23,7 +23,7 @@ lexical_by_kind loop field v.Let meta = refl
 lexical_by_kind loop field v.Const meta = refl
 
 is_lexical_head-cleared : (loop : Head) (item : Item) → is_lexical_head loop (cleared_item item) ≡ is_lexical_head loop item
-is_lexical_head-cleared loop (h.Open field head) = of_head (λ it. is_lexical_head loop (h.Open field it)) (λ meta. refl) (λ meta. refl) (λ meta. refl) (lexical_by_kind loop field) head
+is_lexical_head-cleared loop (h.Open field head) = of_head (λ it. is_lexical_head loop (h.Open field it)) (λ meta. (refl, refl, refl, λ kind. lexical_by_kind loop field kind meta)) head
 is_lexical_head-cleared loop (h.Ident field sym ctxt role) = refl
 is_lexical_head-cleared loop (h.Hole field) = refl
 is_lexical_head-cleared loop h.Close = refl
@@ -48,7 +48,7 @@ makes_scope-around _ outer rest = refl
 
 makes_scope-cleared : (head : Head) (outer : List Around) (rest : List Item) → makes_scope (cleared_head head) (cleared_path outer) (cleared rest) ≡ makes_scope head outer rest
 makes_scope-cleared head outer rest =
-    of_head (λ it. makes_scope it (cleared_path outer) (cleared rest)) (λ meta. refl) (λ meta. refl) (λ meta. refl) (λ kind meta. refl) head
+    of_head (λ it. makes_scope it (cleared_path outer) (cleared rest)) (λ meta. (refl, refl, refl, λ kind. refl)) head
     ∙ makes_scope-around head outer rest
 
 scope_count_at-cleared : (outer : List Around) (item : Item) (rest : List Item) → scope_count_at (cleared_path outer) (cleared_item item) (cleared rest) ≡ scope_count_at outer item rest
@@ -68,7 +68,7 @@ pub scope_count-cleared : (kind : ModuleKind) (items : List Item) → scope_coun
 scope_count-cleared kind items = λ i. length (outermost kind) + scope_count_from-cleared start items i
 
 is_function_node-cleared : (head : Head) → is_function_node (cleared_head head) ≡ is_function_node head
-is_function_node-cleared head = of_head is_function_node (λ meta. refl) (λ meta. refl) (λ meta. refl) (λ kind meta. refl) head
+is_function_node-cleared head = of_head is_function_node (λ meta. (refl, refl, refl, λ kind. refl)) head
 
 arguments_count_at-cleared : (all : List Declared) (place : ℕ) (item : Item) → arguments_count_at all place (cleared_item item) ≡ arguments_count_at all place item
 arguments_count_at-cleared all place (h.Open field head) = λ i. cond (is_function_node-cleared head i && has_implicit_arguments all (Inner Parameters place)) 1 0

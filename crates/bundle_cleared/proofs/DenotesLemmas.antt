@@ -19,11 +19,11 @@ use Rattle.bundle_cleared.proofs.PathLemmas.{cleared_path, cleared_spot, cleared
 
 block_kind-cleared : (path : List Around) → block_kind (cleared_path path) ≡ block_kind path
 block_kind-cleared [] = refl
-block_kind-cleared (node ∷ outer) = of_head block_in (λ meta. refl) (λ meta. refl) (λ meta. refl) (λ kind meta. refl) node.head
+block_kind-cleared (node ∷ outer) = of_head block_in (λ meta. (refl, refl, refl, λ kind. refl)) node.head
 
 pub is_default-cleared : (path : List Around) → is_default (cleared_path path) ≡ is_default path
 is_default-cleared [] = refl
-is_default-cleared (node ∷ outer) = of_head exports_default (λ meta. refl) (λ meta. refl) (λ meta. refl) (λ kind meta. refl) node.head
+is_default-cleared (node ∷ outer) = of_head exports_default (λ meta. (refl, refl, refl, λ kind. refl)) node.head
 
 kind_of_scope-outer : (head : Head) (field : ℕ) (outer : List Around) → kind_of_scope head field (cleared_path outer) ≡ kind_of_scope head field outer
 kind_of_scope-outer h.BlockStmt field outer = λ i. Some (block_kind-cleared outer i)
@@ -33,7 +33,7 @@ kind_of_scope-outer _ field outer = refl
 
 kind_of_scope-cleared : (head : Head) (field : ℕ) (outer : List Around) → kind_of_scope (cleared_head head) field (cleared_path outer) ≡ kind_of_scope head field outer
 kind_of_scope-cleared head field outer =
-    of_head (λ it. kind_of_scope it field (cleared_path outer)) (λ meta. refl) (λ meta. refl) (λ meta. refl) (λ kind meta. refl) head
+    of_head (λ it. kind_of_scope it field (cleared_path outer)) (λ meta. (refl, refl, refl, λ kind. refl)) head
     ∙ kind_of_scope-outer head field outer
 
 -- the scopes around a place
@@ -45,7 +45,7 @@ scopes_around-cleared kind (node ∷ outer) = λ i. scope_at node.begins (kind_o
 
 heads_loop-cleared : (path : List Around) → heads_loop (cleared_path path) ≡ heads_loop path
 heads_loop-cleared [] = refl
-heads_loop-cleared (node ∷ outer) = of_head (λ it. is_loop_head it node.field) (λ meta. refl) (λ meta. refl) (λ meta. refl) (λ kind meta. refl) node.head
+heads_loop-cleared (node ∷ outer) = of_head (λ it. is_loop_head it node.field) (λ meta. (refl, refl, refl, λ kind. refl)) node.head
 
 way_of_kind-cleared : (kind : VarDeclKind) (outer : List Around) → way_of_kind kind (cleared_path outer) ≡ way_of_kind kind outer
 way_of_kind-cleared v.Var outer = refl
@@ -59,7 +59,7 @@ way_of_variable-outer _ outer = refl
 way_of_declarator-cleared : (path : List Around) → way_of_declarator (cleared_path path) ≡ way_of_declarator path
 way_of_declarator-cleared [] = refl
 way_of_declarator-cleared (node ∷ outer) =
-    of_head (λ it. way_of_variable it (cleared_path outer)) (λ meta. refl) (λ meta. refl) (λ meta. refl) (λ kind meta. refl) node.head
+    of_head (λ it. way_of_variable it (cleared_path outer)) (λ meta. (refl, refl, refl, λ kind. refl)) node.head
     ∙ way_of_variable-outer node.head outer
 
 way_in-outer : (head : Head) (outer : List Around) → way_in head (cleared_path outer) ≡ way_in head outer
@@ -70,11 +70,11 @@ way_in-outer _ outer = refl
 
 way_in-cleared : (head : Head) (outer : List Around) → way_in (cleared_head head) (cleared_path outer) ≡ way_in head outer
 way_in-cleared head outer =
-    of_head (λ it. way_in it (cleared_path outer)) (λ meta. refl) (λ meta. refl) (λ meta. refl) (λ kind meta. refl) head
+    of_head (λ it. way_in it (cleared_path outer)) (λ meta. (refl, refl, refl, λ kind. refl)) head
     ∙ way_in-outer head outer
 
 is_pattern-cleared : (head : Head) → is_pattern (cleared_head head) ≡ is_pattern head
-is_pattern-cleared head = of_head is_pattern (λ meta. refl) (λ meta. refl) (λ meta. refl) (λ kind meta. refl) head
+is_pattern-cleared head = of_head is_pattern (λ meta. (refl, refl, refl, λ kind. refl)) head
 
 way_of-cleared : (path : List Around) → way_of (cleared_path path) ≡ way_of path
 way_of-cleared [] = refl
@@ -102,7 +102,7 @@ is_nameless_default-rest field _ rest = refl
 
 is_nameless_default-cleared : (item : Item) (rest : List Item) → is_nameless_default (cleared_item item) (cleared rest) ≡ is_nameless_default item rest
 is_nameless_default-cleared (h.Open field head) rest =
-    of_head (λ it. is_nameless_default (h.Open field it) (cleared rest)) (λ meta. refl) (λ meta. refl) (λ meta. refl) (λ kind meta. refl) head
+    of_head (λ it. is_nameless_default (h.Open field it) (cleared rest)) (λ meta. (refl, refl, refl, λ kind. refl)) head
     ∙ is_nameless_default-rest field head rest
 is_nameless_default-cleared (h.Ident field sym ctxt role) rest = refl
 is_nameless_default-cleared (h.Hole field) rest = refl

@@ -19,7 +19,7 @@ taken_by-node _ node = λ i. Named (renamed_text-cleared node i)
 
 taken_by-cleared : (head : Head) (node : List Item) → taken_by (cleared_head head) (cleared node) ≡ taken_by head node
 taken_by-cleared head node =
-    of_head (λ it. taken_by it (cleared node)) (λ meta. refl) (λ meta. refl) (λ meta. refl) (λ kind meta. refl) head
+    of_head (λ it. taken_by it (cleared node)) (λ meta. (refl, refl, refl, λ kind. refl)) head
     ∙ taken_by-node head node
 
 import_entry-cleared : (source : Text) (node : List Item) → import_entry source (cleared node) ≡ import_entry source node
@@ -38,7 +38,7 @@ imports_by-node _ node = refl
 imports_of_item-cleared : (node : List Item) → imports_of_item (cleared node) ≡ imports_of_item node
 imports_of_item-cleared (h.Open field head ∷ rest) =
     let node : List Item = h.Open field head ∷ rest in
-    of_head (λ it. imports_by it (cleared node)) (λ meta. refl) (λ meta. refl) (λ meta. refl) (λ kind meta. refl) head
+    of_head (λ it. imports_by it (cleared node)) (λ meta. (refl, refl, refl, λ kind. refl)) head
     ∙ imports_by-node head node
 imports_of_item-cleared (h.Ident field sym ctxt role ∷ rest) = refl
 imports_of_item-cleared (h.Hole field ∷ rest) = refl
@@ -52,7 +52,7 @@ imports_of-cleared tree = told_of_tops imports_of_item imports_of_item-cleared t
 -- Names that declarations bind.
 
 is_in_pattern-cleared : (head : Head) → is_in_pattern (cleared_head head) ≡ is_in_pattern head
-is_in_pattern-cleared head = of_head is_in_pattern (λ meta. refl) (λ meta. refl) (λ meta. refl) (λ kind meta. refl) head
+is_in_pattern-cleared head = of_head is_in_pattern (λ meta. (refl, refl, refl, λ kind. refl)) head
 
 names_bound-cleared : (depth : ℕ) (items : List Item) → names_bound depth (cleared items) ≡ names_bound depth items
 names_bound-cleared depth [] = refl
@@ -72,7 +72,7 @@ declared_by-node _ node = λ i. text_in-cleared 0 node i ∷ []
 names_declared-cleared : (node : List Item) → names_declared (cleared node) ≡ names_declared node
 names_declared-cleared (h.Open field head ∷ rest) =
     let node : List Item = h.Open field head ∷ rest in
-    of_head (λ it. declared_by it (cleared node)) (λ meta. refl) (λ meta. refl) (λ meta. refl) (λ kind meta. refl) head
+    of_head (λ it. declared_by it (cleared node)) (λ meta. (refl, refl, refl, λ kind. refl)) head
     ∙ declared_by-node head node
 names_declared-cleared (h.Ident field sym ctxt role ∷ rest) = refl
 names_declared-cleared (h.Hole field ∷ rest) = refl
@@ -87,7 +87,7 @@ entry_from-head source field head rest = λ i. Indirect (renamed_text-cleared (h
 
 entry_from-cleared : (source : Text) (node : List Item) → entry_from source (cleared node) ≡ entry_from source node
 entry_from-cleared source (h.Open field head ∷ rest) =
-    of_head (λ it. entry_from source (h.Open field it ∷ cleared rest)) (λ meta. refl) (λ meta. refl) (λ meta. refl) (λ kind meta. refl) head
+    of_head (λ it. entry_from source (h.Open field it ∷ cleared rest)) (λ meta. (refl, refl, refl, λ kind. refl)) head
     ∙ entry_from-head source field head rest
 entry_from-cleared source (h.Ident field sym ctxt role ∷ rest) = λ i. Indirect (renamed_text-cleared (h.Ident field sym ctxt role ∷ rest) i) source (Named (text_in-cleared 0 (h.Ident field sym ctxt role ∷ rest) i))
 entry_from-cleared source (h.Hole field ∷ rest) = λ i. Indirect (renamed_text-cleared (h.Hole field ∷ rest) i) source (Named (text_in-cleared 0 (h.Hole field ∷ rest) i))
@@ -100,7 +100,7 @@ entry_here-head imports field _ rest = refl
 
 entry_here-cleared : (imports : List ImportEntry) (node : List Item) → entry_here imports (cleared node) ≡ entry_here imports node
 entry_here-cleared imports (h.Open field head ∷ rest) =
-    of_head (λ it. entry_here imports (h.Open field it ∷ cleared rest)) (λ meta. refl) (λ meta. refl) (λ meta. refl) (λ kind meta. refl) head
+    of_head (λ it. entry_here imports (h.Open field it ∷ cleared rest)) (λ meta. (refl, refl, refl, λ kind. refl)) head
     ∙ entry_here-head imports field head rest
 entry_here-cleared imports (h.Ident field sym ctxt role ∷ rest) = refl
 entry_here-cleared imports (h.Hole field ∷ rest) = refl
@@ -128,7 +128,7 @@ exports_by-node imports _ node = refl
 pub exports_of_item-cleared : (imports : List ImportEntry) (node : List Item) → exports_of_item imports (cleared node) ≡ exports_of_item imports node
 exports_of_item-cleared imports (h.Open field head ∷ rest) =
     let node : List Item = h.Open field head ∷ rest in
-    of_head (λ it. exports_by imports it (cleared node)) (λ meta. refl) (λ meta. refl) (λ meta. refl) (λ kind meta. refl) head
+    of_head (λ it. exports_by imports it (cleared node)) (λ meta. (refl, refl, refl, λ kind. refl)) head
     ∙ exports_by-node imports head node
 exports_of_item-cleared imports (h.Ident field sym ctxt role ∷ rest) = refl
 exports_of_item-cleared imports (h.Hole field ∷ rest) = refl
@@ -144,10 +144,10 @@ exports_of-cleared tree =
 -- Export lists without `from`.
 
 is_named_specifier-cleared : (head : Head) → is_named_specifier (cleared_head head) ≡ is_named_specifier head
-is_named_specifier-cleared head = of_head is_named_specifier (λ meta. refl) (λ meta. refl) (λ meta. refl) (λ kind meta. refl) head
+is_named_specifier-cleared head = of_head is_named_specifier (λ meta. (refl, refl, refl, λ kind. refl)) head
 
 is_string_head-cleared : (head : Head) → is_string_head (cleared_head head) ≡ is_string_head head
-is_string_head-cleared head = of_head is_string_head (λ meta. refl) (λ meta. refl) (λ meta. refl) (λ kind meta. refl) head
+is_string_head-cleared head = of_head is_string_head (λ meta. (refl, refl, refl, λ kind. refl)) head
 
 is_string_child : (node : List Item) → begins_with is_string_head (child 0 (cleared node)) ≡ begins_with is_string_head (child 0 node)
 is_string_child node = (λ i. begins_with is_string_head (child-cleared 0 node i)) ∙ begins_with-cleared is_string_head is_string_head-cleared (child 0 node)
@@ -176,7 +176,7 @@ names_listed_by-node _ node = refl
 names_listed-cleared : (node : List Item) → names_listed (cleared node) ≡ names_listed node
 names_listed-cleared (h.Open field head ∷ rest) =
     let node : List Item = h.Open field head ∷ rest in
-    of_head (λ it. names_listed_by it (cleared node)) (λ meta. refl) (λ meta. refl) (λ meta. refl) (λ kind meta. refl) head
+    of_head (λ it. names_listed_by it (cleared node)) (λ meta. (refl, refl, refl, λ kind. refl)) head
     ∙ names_listed_by-node head node
 names_listed-cleared (h.Ident field sym ctxt role ∷ rest) = refl
 names_listed-cleared (h.Hole field ∷ rest) = refl
@@ -198,7 +198,7 @@ requests_by-node _ node = refl
 requests_of_item-cleared : (node : List Item) → requests_of_item (cleared node) ≡ requests_of_item node
 requests_of_item-cleared (h.Open field head ∷ rest) =
     let node : List Item = h.Open field head ∷ rest in
-    of_head (λ it. requests_by it (cleared node)) (λ meta. refl) (λ meta. refl) (λ meta. refl) (λ kind meta. refl) head
+    of_head (λ it. requests_by it (cleared node)) (λ meta. (refl, refl, refl, λ kind. refl)) head
     ∙ requests_by-node head node
 requests_of_item-cleared (h.Ident field sym ctxt role ∷ rest) = refl
 requests_of_item-cleared (h.Hole field ∷ rest) = refl

@@ -72,14 +72,14 @@ child-cleared n node = (λ i. first_or_nothing (in_field-cleared n node i)) ∙ 
 -- Texts.
 
 pub string_of-cleared : (node : List Item) → string_of (cleared node) ≡ string_of node
-string_of-cleared (h.Open field head ∷ rest) = of_head head_string (λ meta. refl) (λ meta. refl) (λ meta. refl) (λ kind meta. refl) head
+string_of-cleared (h.Open field head ∷ rest) = of_head head_string (λ meta. (refl, refl, refl, λ kind. refl)) head
 string_of-cleared (h.Ident field sym ctxt role ∷ rest) = refl
 string_of-cleared (h.Hole field ∷ rest) = refl
 string_of-cleared (h.Close ∷ rest) = refl
 string_of-cleared [] = refl
 
 name_of-cleared : (node : List Item) → name_of (cleared node) ≡ name_of node
-name_of-cleared (h.Open field head ∷ rest) = of_head head_word (λ meta. refl) (λ meta. refl) (λ meta. refl) (λ kind meta. refl) head
+name_of-cleared (h.Open field head ∷ rest) = of_head head_word (λ meta. (refl, refl, refl, λ kind. refl)) head
 name_of-cleared (h.Ident field sym ctxt role ∷ rest) = refl
 name_of-cleared (h.Hole field ∷ rest) = refl
 name_of-cleared (h.Close ∷ rest) = refl

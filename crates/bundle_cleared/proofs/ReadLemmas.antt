@@ -26,7 +26,7 @@ node_at-cleared tree place =
     ∙ first-cleared (side_by_side zero (drop place tree))
 
 plain_word-cleared : (node : List Item) → plain_word (cleared node) ≡ plain_word node
-plain_word-cleared (h.Open field head ∷ rest) = of_head head_plain_word (λ meta. refl) (λ meta. refl) (λ meta. refl) (λ kind meta. refl) head
+plain_word-cleared (h.Open field head ∷ rest) = of_head head_plain_word (λ meta. (refl, refl, refl, λ kind. refl)) head
 plain_word-cleared (h.Ident field sym ctxt role ∷ rest) = refl
 plain_word-cleared (h.Hole field ∷ rest) = refl
 plain_word-cleared (h.Close ∷ rest) = refl
@@ -36,16 +36,16 @@ plain_word_of_child : (n : ℕ) (node : List Item) → plain_word (child n (clea
 plain_word_of_child n node = ap plain_word (child-cleared n node) ∙ plain_word-cleared (child n node)
 
 is_member-cleared : (head : Head) → is_member (cleared_head head) ≡ is_member head
-is_member-cleared head = of_head is_member (λ meta. refl) (λ meta. refl) (λ meta. refl) (λ kind meta. refl) head
+is_member-cleared head = of_head is_member (λ meta. (refl, refl, refl, λ kind. refl)) head
 
 property_of-cleared : (node : List Item) → property_of (cleared node) ≡ property_of node
 property_of-cleared node = λ i. if begins_with-cleared is_member is_member-cleared node i then plain_word_of_child 1 node i else None
 
 writes-cleared : (head : Head) (field : ℕ) → writes (cleared_head head) field ≡ writes head field
-writes-cleared head field = of_head (λ it. writes it field) (λ meta. refl) (λ meta. refl) (λ meta. refl) (λ kind meta. refl) head
+writes-cleared head field = of_head (λ it. writes it field) (λ meta. (refl, refl, refl, λ kind. refl)) head
 
 passes_writes-cleared : (head : Head) (field : ℕ) → passes_writes (cleared_head head) field ≡ passes_writes head field
-passes_writes-cleared head field = of_head (λ it. passes_writes it field) (λ meta. refl) (λ meta. refl) (λ meta. refl) (λ kind meta. refl) head
+passes_writes-cleared head field = of_head (λ it. passes_writes it field) (λ meta. (refl, refl, refl, λ kind. refl)) head
 
 is_written_to-cleared : (path : List Around) → is_written_to (cleared_path path) ≡ is_written_to path
 is_written_to-cleared [] = refl
@@ -53,7 +53,7 @@ is_written_to-cleared (node ∷ outer) = λ i. writes-cleared node.head node.fie
 
 is_optional_base-cleared : (path : List Around) → is_optional_base (cleared_path path) ≡ is_optional_base path
 is_optional_base-cleared [] = refl
-is_optional_base-cleared (node ∷ outer) = of_head is_optional_chain (λ meta. refl) (λ meta. refl) (λ meta. refl) (λ kind meta. refl) node.head
+is_optional_base-cleared (node ∷ outer) = of_head is_optional_chain (λ meta. (refl, refl, refl, λ kind. refl)) node.head
 
 -- the word of a read that begins at a place
 pub read_word-cleared : (tree : List Item) (place : ℕ) → read_word (cleared tree) place ≡ read_word tree place
@@ -63,7 +63,7 @@ read_word-cleared tree place =
 
 is_meta_at-item : (item : Option Item) → is_meta_at (option_map cleared_item item) ≡ is_meta_at item
 is_meta_at-item None = refl
-is_meta_at-item (Some (h.Open field head)) = of_head is_import_meta (λ meta. refl) (λ meta. refl) (λ meta. refl) (λ kind meta. refl) head
+is_meta_at-item (Some (h.Open field head)) = of_head is_import_meta (λ meta. (refl, refl, refl, λ kind. refl)) head
 is_meta_at-item (Some (h.Ident field sym ctxt role)) = refl
 is_meta_at-item (Some (h.Hole field)) = refl
 is_meta_at-item (Some h.Close) = refl
