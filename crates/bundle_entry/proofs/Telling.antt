@@ -1,6 +1,6 @@
 -- What the refusal of a tree tells.
 use Rattle.std.proofs.Common.{◌≡◌, List, Option, None, Some, Result, Ok, Err, sym, subst}
-use Rattle.std.specs.Prelude.{IfErr, IfOk, IfSome}
+use Rattle.std.specs.Prelude.{IfErr, IfSome}
 use Rattle.std.specs.Result.{IsErrAnd}
 use Rattle.bundle_name.specs.FileName.{Name}
 use Rattle.bundle_piece.specs.Item.{Item}
@@ -18,8 +18,3 @@ module _ {T : Type 0} where
   pub tells_first : (file : Name) (tree : List Item) (r : Result T Unlinked) (fault : Fault) → IsErrAnd r (λ refusal. IfSome (fault_of (error_of refusal)) (λ told. told ≡ fault)) → IsFirstTreeFault file tree fault → IfErr r (IsTreeRefusal file tree)
   tells_first file tree (Ok x) fault is first = tt
   tells_first file tree (Err refusal) fault is first = first_told file tree (fault_of (error_of refusal)) fault is first
-
-  -- nothing is given then
-  pub gives_nothing : (r : Result T Unlinked) (Q : Unlinked → Type 0) (P : T → Type 0) → IsErrAnd r Q → IfOk r P
-  gives_nothing (Ok x) Q P is = absurd is
-  gives_nothing (Err refusal) Q P is = tt

@@ -14,11 +14,7 @@ use bundle_targets::{Fault, FaultKind};
 use std::alloc::{AllocError, Global};
 
 /// The refusal for a fault of the tree of a file.
-pub fn refuse_tree<T: Drop>(
-    alloc: Global,
-    file: &FileName,
-    fault: TreeFault,
-) -> Result<T, Unlinked>
+pub fn refuse_tree<T: Drop>(alloc: Global, file: &FileName, fault: TreeFault) -> Result<T, Unlinked>
     ensures { IsErrAnd result (λ refusal. IfSome (fault_of (error_of refusal)) (λ told. told ≡ fault_in (name_of file.now) fault.entry)) }
 {
     let file = file.clone()?;
