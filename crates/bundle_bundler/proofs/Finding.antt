@@ -64,7 +64,7 @@ module _ (test : Name → Bool) (trees : List (Name × ModuleData)) where
   kept_if result is value some there =
       ap is_some (lookup-read kept_as test trees) ∙ same_some kept_as (lookup test trees) ∙ ap is_some (sym value) ∙ same_some (λ (loaded : Bor ModuleData). loaded.now) result ∙ sym some ∙ there
 
-asked_eq-refl : (a : Asked) → asked_eq a a ≡ true
+pub asked_eq-refl : (a : Asked) → asked_eq a a ≡ true
 asked_eq-refl a = ap (λ x. x && bytes_eq a.specifier a.specifier) (name_eq_equiv.refl a.file) ∙ (bytes_eq-Decides a.specifier a.specifier).1 refl
 
 module _ {T : Type 0} where

@@ -53,6 +53,10 @@ as_many (e ∷ es) = ap suc (as_many es)
 pub has_room : (trees : List (Name × ModuleData)) (count most : ℕ) → count ≡ length trees → count < most → length (read_trees trees) < most
 has_room trees count most is less = subst (λ (n : ℕ). n < most) (is ∙ sym (as_many trees)) less
 
+-- there is none
+pub is_full : (trees : List (Name × ModuleData)) (count most : ℕ) → count ≡ length trees → most ≤ count → most ≤ length (read_trees trees)
+is_full trees count most is full = subst (λ (n : ℕ). most ≤ n) (is ∙ sym (as_many trees)) full
+
 module _ (answers : Answers) (entries : List Name) where
   -- nothing is new
   pub grows_along : (c d : Kept) → d ≡ c → GrowsTo answers entries c d
@@ -132,6 +136,11 @@ pub numbered_is_met : {E : Type 0} (c : Kept) (file : Name) (result : Result ℕ
 numbered_is_met c file (Ok n) is = numbered_met c file n is
 numbered_is_met c file (Err e) is = tt
 
+-- a file that gets no number was not met
+pub unmet : {E : Type 0} (c d : Kept) (file : Name) (result : Result ℕ E) → OnErr result (d.names ≡ c.names) → OnErr result (Contains d.names file → ⊥) → OnErr result (Contains c.names file → ⊥)
+unmet c d file (Ok n) unchanged absent = tt
+unmet c d file (Err e) unchanged absent = subst (λ (names : List Name). Contains names file → ⊥) unchanged absent
+
 -- The steps.
 
 -- what holds, holds on success
@@ -144,7 +153,7 @@ pub refused_owes : {T E : Type 0} (r : Result T E) (e : E) (P : Type 0) → r �
 refused_owes r e P is = subst (λ x. OnOk x P) (sym is) tt
 
 -- what a look-up that finds something found
-found : {X : Type 0} (o : Option X) → IsSome o → (x : X) × (o ≡ Some x)
+pub found : {X : Type 0} (o : Option X) → IsSome o → (x : X) × (o ≡ Some x)
 found None is = cc
 found (Some x) is = (x, refl)
 

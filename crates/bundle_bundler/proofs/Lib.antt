@@ -3,3 +3,12 @@ pub mod Growing
 pub mod Loading
 pub mod Refusing
 pub mod Numbered
+pub mod Judging
+pub mod Asking
+pub mod Placing
+pub mod Working
+pub mod Doubling
+pub mod Counting
+pub mod Ending
+pub mod Stepping
+pub mod Reading

@@ -28,7 +28,7 @@ use Rattle.bundle_bundler.proofs.Finding.{handed_on}
 use Rattle.bundle_bundler.proofs.Growing.{with_resolved, with_trees}
 
 -- a success is no refusal
-no_err : {T E : Type 0} (r : Result T E) (P : E → Type 0) → IsOk r → IfErr r P
+pub no_err : {T E : Type 0} (r : Result T E) (P : E → Type 0) → IsOk r → IfErr r P
 no_err (Ok x) P is = tt
 no_err (Err e) P is = absurd (true≢false (sym is))
 

@@ -3,3 +3,4 @@ pub mod Library
 pub mod Bundler
 pub mod Loading
 pub mod Refusal
+pub mod Judged

@@ -1,5 +1,5 @@
 -- The load list: which files stand on it, and that they were met and are kept.
-use Rattle.std.specs.Prelude.{◌≡◌, ◌⊎◌, ℕ, List, [], ◌∷◌, ◌++◌, Some, map, slice_get}
+use Rattle.std.specs.Prelude.{◌≡◌, ◌⊎◌, ℕ, List, [], ◌∷◌, ◌++◌, Some, Contains, map, slice_get}
 use Rattle.bundle_name.specs.FileName.{Name, name_of}
 use Rattle.bundle_terms.specs.Kept.{Kept}
 use Rattle.bundle_bundler.specs.Kept.{IsMet, IsKept}
@@ -11,7 +11,7 @@ files_on list = map (λ e. name_of e.0) list.files.entries
 
 -- a file has gone last, unless it was there
 abbrev pub IsPlaced : List Name → Name → List Name → Type 0
-IsPlaced old file new = (new ≡ old) ⊎ (new ≡ old ++ file ∷ [])
+IsPlaced old file new = (Contains old file × (new ≡ old)) ⊎ ((Contains old file → ⊥) × (new ≡ old ++ file ∷ []))
 
 -- a list with something behind it, or nothing
 abbrev pub Begins : List Name → List Name → Type 0

@@ -1,10 +1,15 @@
 //! The bundler.
 
-ghost use Rattle.std.specs.Prelude.{◌≡◌, ℕ, List, [], IsOk, IfOk, IfErr};
+ghost use Rattle.std.specs.Prelude.{◌≡◌, ℕ, List, [], Some, IsOk, IfOk, IfErr, IfSome, OnOk, map, string_bytes};
 ghost use Rattle.std.specs.List.{AllZip};
+ghost use Rattle.bundle_entry.specs.Unlinked.{error_of};
+ghost use Rattle.bundle_name.specs.FileName.{name_of};
+ghost use Rattle.bundle_terms.specs.Faults.{DoubledEntry, fault_of};
+ghost use Rattle.bundle_terms.specs.Judging.{Completes, NumbersEach};
 ghost use Rattle.bundle_terms.specs.Kept.{nothing_kept, GrowsTo, Kept, Stays};
 ghost use Rattle.bundle_bundler.specs.Bundler.{config_of, files_of, hook_of, kept_by, loader_of, resolver_of, HasNumber, IsNamedAndNumbered};
-ghost use Rattle.bundle_bundler.specs.Kept.{answers_of, kept_of, parties_of, settings_of};
+ghost use Rattle.bundle_bundler.specs.Judged.{Ends, AreApart, IsFaultOfList, IsRefusedBy};
+ghost use Rattle.bundle_bundler.specs.Kept.{answers_of, entry_of, kept_of, parties_of, settings_of};
 ghost use Rattle.bundle_bundler.specs.Library.{IsToldOf, MovesOn};
 ghost use Rattle.bundle_bundler.specs.Loading.{files_on, AreKept, AreMet};
 ghost use Rattle.bundle_bundler.specs.Refusal.{IsRefusedLoading};
@@ -23,7 +28,7 @@ use bundle_tree::hook::Hook;
 use bundle_tree::load::Load;
 use bundle_tree::resolve::Resolve;
 use indexmap::IndexSet;
-use std::alloc::Global;
+use std::alloc::{AllocError, Global};
 
 /// Makes bundles. It keeps the numbers of files, the modules that were loaded and the files that their
 /// specifiers lead to, so that no module is loaded twice.
@@ -79,6 +84,18 @@ impl<L: Load + Drop, R: Resolve + Drop> Bundler<L, R> {
             (R.may_resolve (resolver_of self.old)) (R.may_fail_resolve (resolver_of self.old))
             (may_give (hook_of self.old)) (may_fail_hook (hook_of self.old)))
             (settings_of (config_of self.old)) (kept_by self.new)) }
+        ensures completes { OnOk result (Completes
+            (parties_of
+            (L.may_load (loader_of self.old)) (L.may_fail_load (loader_of self.old))
+            (R.may_resolve (resolver_of self.old)) (R.may_fail_resolve (resolver_of self.old))
+            (may_give (hook_of self.old)) (may_fail_hook (hook_of self.old)))
+            (settings_of (config_of self.old)) (map entry_of entries.items) (kept_by self.old) (kept_by self.new)) }
+        ensures judged { IfErr result (IsRefusedBy
+            (parties_of
+            (L.may_load (loader_of self.old)) (L.may_fail_load (loader_of self.old))
+            (R.may_resolve (resolver_of self.old)) (R.may_fail_resolve (resolver_of self.old))
+            (may_give (hook_of self.old)) (may_fail_hook (hook_of self.old)))
+            (settings_of (config_of self.old)) (map entry_of entries.items) (kept_by self.old) (kept_by self.new)) }
         ensures no_entry { entries.items ≡ [] → IsOk result × (self.new ≡ self.old) }
     {
         if entries.is_empty() {
@@ -101,18 +118,30 @@ impl<L: Load + Drop, R: Resolve + Drop> Bundler<L, R> {
 }
 
 // Refuses two entries of one name or one file.
-fn refuse_doubled_entry(alloc: Global, entries: &[(String, FileName)]) -> Result<(), Unlinked> {
+fn refuse_doubled_entry(alloc: Global, entries: &[(String, FileName)]) -> Result<(), Unlinked>
+    ensures apart { OnOk result (AreApart (map entry_of entries.now)) }
+    ensures doubled { IfErr result (λ refusal. IfSome (fault_of (error_of refusal)) (IsFaultOfList (map entry_of entries.now))) }
+{
     let mut names = IndexSet::new(alloc);
     let mut files = IndexSet::new(alloc);
     for (name, file) in entries {
-        if !names.insert(name.as_str())? || !files.insert(file)? {
-            return Err(Unlinked::DoubledEntry {
-                file: file.clone()?,
-                name: name.clone()?,
-            });
+        let is_new_name = names.insert(name.as_str())?;
+        let is_new_file = files.insert(file)?;
+        if !(is_new_name && is_new_file) {
+            return Err(doubled_entry(name, file)?);
         }
     }
     Ok(())
+}
+
+// The refusal of an entry.
+fn doubled_entry(name: &String, file: &FileName) -> Result<Unlinked, AllocError>
+    ensures { IfOk result (λ refusal. fault_of (error_of refusal) ≡ Some (DoubledEntry (name_of file.now) (string_bytes name.now))) }
+{
+    Ok(Unlinked::DoubledEntry {
+        file: file.clone()?,
+        name: name.clone()?,
+    })
 }
 
 // The list of the entries' files, and their numbers in the order of the entries.
@@ -125,6 +154,8 @@ fn numbered<L: Load + Drop, R: Resolve + Drop>(
     ensures met { IfOk result (λ made. AreMet (kept_of library.new.kept) (files_on made.0)) }
     ensures grows { MovesOn L.may_load R.may_resolve (files_of entries.now) library.old library.new }
     ensures refused { (max_modules : ℕ) → IfErr result (IsToldOf L.may_fail_load R.may_fail_resolve max_modules library.new) }
+    ensures judged { Ends result (λ outcome. NumbersEach (kept_of library.old.kept) (files_of entries.now) outcome (kept_of library.new.kept)) }
+    ensures all { IfOk result (λ made. AreApart (map entry_of entries.now) → files_on made.0 ≡ files_of entries.now) }
 {
     let mut list = LoadList::new(alloc);
     let mut ids = Vec::new(alloc);

@@ -1,17 +1,22 @@
 //! The modules that a bundler knows, and the parties that it asks for those that it lacks.
 
-ghost use Rattle.std.specs.Prelude.{◌≡◌, ◌<◌, ◌++◌, ◌∷◌, [], false, Some, None, Err, IsOk, IsSome, IsTrue, IfOk, IfErr, OnOk, List, ℕ};
+ghost use Rattle.std.specs.Prelude.{◌≡◌, ◌<◌, ◌++◌, ◌∷◌, [], false, Some, None, Err, IsOk, IsSome, IsTrue, IfOk, IfErr, IfSome, OnOk, OnErr, List, ℕ};
 ghost use Rattle.std.specs.Map.{lookup};
 ghost use Rattle.std.specs.Option.{option_map};
+ghost use Rattle.std.specs.String.{string_bytes};
 ghost use Rattle.bundle_name.specs.FileName.{Name, name_of, name_eq};
+ghost use Rattle.bundle_terms.specs.Faults.{ResolveFails, fault_of};
+ghost use Rattle.bundle_terms.specs.Judging.{Loads, Numbers, Resolves};
 ghost use Rattle.bundle_terms.specs.Kept.{asked_eq, kept_file, kept_module, nothing_kept, number_in};
 ghost use Rattle.bundle_kept.specs.Kept.{asked_of, resolved_in, target_room, tree_room, trees_in};
-ghost use Rattle.bundle_bundler.specs.Kept.{kept_as, kept_of, IsKept, IsMet, MayBeMet};
+ghost use Rattle.bundle_bundler.specs.Kept.{kept_as, kept_of, settings_of, IsKept, IsMet, MayBeMet};
+ghost use Rattle.bundle_bundler.specs.Judged.{Ends, asked_by};
 ghost use Rattle.bundle_bundler.specs.Library.{IsToldOf, MovesOn};
 ghost use Rattle.bundle_bundler.specs.Refusal.{load_refusal, resolve_refusal};
 
 use bundle_id::ModuleId;
 use bundle_kept::{Kept, Request};
+use bundle_name::config::Config;
 use bundle_name::error::Error;
 use bundle_name::file_name::FileName;
 use bundle_tree::load::{Load, LoadError, ModuleData};
@@ -47,6 +52,9 @@ impl<L: Load + Drop, R: Resolve + Drop> Library<L, R> {
         ensures grows { (entries : List Name) → MayBeMet (kept_of self.old.kept) (name_of file.now) entries →
             MovesOn L.may_load R.may_resolve entries self.old self.new }
         ensures refused { (max_modules : ℕ) → IfErr result (IsToldOf L.may_fail_load R.may_fail_resolve max_modules self.new) }
+        ensures judged { Ends result (λ outcome. Numbers (kept_of self.old.kept) (name_of file.now) outcome (kept_of self.new.kept)) }
+        ensures known { IsMet (kept_of self.old.kept) (name_of file.now) → kept_of self.new.kept ≡ kept_of self.old.kept }
+        ensures absent { OnErr result (¬ IsMet (kept_of self.old.kept) (name_of file.now)) }
     {
         self.kept.id(file)
     }
@@ -72,18 +80,21 @@ impl<L: Load + Drop, R: Resolve + Drop> Library<L, R> {
         &mut self,
         alloc: Global,
         file: &FileName,
-        max_modules: u32,
+        config: &Config,
     ) -> Result<(), Error>
         requires { IsMet (kept_of self.old.kept) (name_of file.now) }
         ensures there { OnOk result (IsKept (kept_of self.new.kept) (name_of file.now)) }
         ensures grows { (entries : List Name) → MovesOn L.may_load R.may_resolve entries self.old self.new }
-        ensures refused { IfErr result (IsToldOf L.may_fail_load R.may_fail_resolve max_modules self.new) }
+        ensures refused { IfErr result (IsToldOf L.may_fail_load R.may_fail_resolve config.now.max_modules self.new) }
+        ensures judged { Ends result (λ outcome. Loads
+            (asked_by L.may_load L.may_fail_load R.may_resolve R.may_fail_resolve self.old.loader self.old.resolver)
+            (settings_of config.now) (kept_of self.old.kept) (name_of file.now) outcome (kept_of self.new.kept)) }
     {
         if self.has(file) {
             return Ok(());
         }
         let name = file.clone()?;
-        if self.kept.count() >= max_modules as usize {
+        if self.kept.count() >= config.max_modules as usize {
             return Err(Error::TooManyModules { file: name });
         }
         reserve_tree(&mut self.kept)?;
@@ -113,6 +124,13 @@ impl<L: Load + Drop, R: Resolve + Drop> Library<L, R> {
         ensures there { OnOk result (IsSome (kept_file (kept_of self.new.kept) (asked_of request.now))) }
         ensures grows { (entries : List Name) → MovesOn L.may_load R.may_resolve entries self.old self.new }
         ensures refused { (max_modules : ℕ) → IfErr result (IsToldOf L.may_fail_load R.may_fail_resolve max_modules self.new) }
+        ensures resolved { OnOk result ((found : Name) → kept_file (kept_of self.new.kept) (asked_of request.now) ≡ Some found → Resolves
+            (asked_by L.may_load L.may_fail_load R.may_resolve R.may_fail_resolve self.old.loader self.old.resolver)
+            (kept_of self.old.kept) (asked_of request.now) (Some found) (kept_of self.new.kept)) }
+        ensures failed { IfErr result (λ refusal. IfSome (fault_of refusal) (λ fault.
+            (fault ≡ ResolveFails (name_of request.now.file) (string_bytes request.now.specifier))
+            × Resolves (asked_by L.may_load L.may_fail_load R.may_resolve R.may_fail_resolve self.old.loader self.old.resolver)
+            (kept_of self.old.kept) (asked_of request.now) None (kept_of self.new.kept))) }
     {
         if self.leads(request) {
             return Ok(());

@@ -1,11 +1,16 @@
 //! The load list: the files that an entry needs, in the order in which they are met.
 
-ghost use Rattle.std.specs.Prelude.{◌≡◌, ℕ, slice_get, [], List, Some, IsSome, IfOk, IfErr, OnOk};
+ghost use Rattle.std.specs.Prelude.{◌≡◌, ◌∷◌, ℕ, suc, map, slice_get, string_bytes, [], List, Some, IsSome, IfOk, IfErr, IfSome, OnOk};
 ghost use Rattle.std.specs.Option.{option_map};
+ghost use Rattle.bundle_entry.specs.Unlinked.{error_of};
 ghost use Rattle.bundle_name.specs.FileName.{Name, name_of};
-ghost use Rattle.bundle_terms.specs.Kept.{kept_file};
+ghost use Rattle.bundle_terms.specs.Faults.{IsFaultless, IsFirstTreeFault, fault_of};
+ghost use Rattle.bundle_terms.specs.Judging.{Asks, LoadsAll, requests_in};
+ghost use Rattle.bundle_terms.specs.Kept.{kept_file, kept_module};
+ghost use Rattle.bundle_terms.specs.Program.{Loaded};
 ghost use Rattle.bundle_kept.specs.Kept.{asked_of};
-ghost use Rattle.bundle_bundler.specs.Kept.{kept_of, IsKept, IsMet};
+ghost use Rattle.bundle_bundler.specs.Judged.{Ends, LeadsOn, asked_by};
+ghost use Rattle.bundle_bundler.specs.Kept.{kept_of, settings_of, IsKept, IsMet};
 ghost use Rattle.bundle_bundler.specs.Library.{IsToldOf, MovesOn};
 ghost use Rattle.bundle_bundler.specs.Loading.{files_on, AreKept, AreMet, Begins, IsPlaced};
 
@@ -19,7 +24,7 @@ use bundle_name::file_name::FileName;
 use bundle_tree::load::Load;
 use bundle_tree::resolve::Resolve;
 use indexmap::IndexMap;
-use std::alloc::Global;
+use std::alloc::{AllocError, Global};
 
 /// Files with their numbers, in the order in which they were met, and for each that was worked on the
 /// places of the files that its specifiers lead to.
@@ -41,8 +46,8 @@ impl LoadList {
     }
 
     /// The place of a file, which goes last where it has none yet.
-    pub(crate) fn place(&mut self, file: &FileName, id: ModuleId) -> Result<usize, Unlinked>
-        ensures { IsPlaced (files_on self.old) (name_of file.now) (files_on self.new) }
+    pub(crate) fn place(&mut self, file: &FileName, id: ModuleId) -> Result<usize, AllocError>
+        ensures { OnOk result (IsPlaced (files_on self.old) (name_of file.now) (files_on self.new)) }
     {
         if let Some(place) = self.files.get_index_of(file) {
             return Ok(place);
@@ -53,7 +58,7 @@ impl LoadList {
     }
 
     // The file at a place.
-    fn file_at(&self, place: usize) -> Result<Option<FileName>, Unlinked>
+    fn file_at(&self, place: usize) -> Result<Option<FileName>, AllocError>
         ensures { IfOk result (λ file. option_map name_of file ≡ slice_get (files_on self.now) place) }
     {
         match self.files.get_index(place) {
@@ -63,7 +68,7 @@ impl LoadList {
     }
 
     // Notes where the specifiers of the next file lead.
-    fn add_requests(&mut self, places: IndexMap<String, usize>) -> Result<(), Unlinked>
+    fn add_requests(&mut self, places: IndexMap<String, usize>) -> Result<(), AllocError>
         ensures { files_on self.new ≡ files_on self.old }
     {
         self.requests.push(places)?;
@@ -83,6 +88,9 @@ pub(crate) fn load_all<L: Load + Drop, R: Resolve + Drop>(
     ensures grows { (entries : List Name) → MovesOn L.may_load R.may_resolve entries library.old library.new }
     ensures refused { IfErr result (IsToldOf L.may_fail_load R.may_fail_resolve config.now.max_modules library.new) }
     ensures loaded { IfOk result (λ list. AreKept (kept_of library.new.kept) (files_on list)) }
+    ensures judged { Ends result (λ outcome. LoadsAll
+        (asked_by L.may_load L.may_fail_load R.may_resolve R.may_fail_resolve library.old.loader library.old.resolver)
+        (settings_of config.now) (files_on list) 0 (kept_of library.old.kept) outcome (kept_of library.new.kept)) }
 {
     let mut list = list;
     // A list of files is shorter than that.
@@ -96,7 +104,8 @@ pub(crate) fn load_all<L: Load + Drop, R: Resolve + Drop>(
     Ok(list)
 }
 
-// Loads a file, and puts those that it requests on the list.
+// Loads a file, and puts those that it requests on the list. What is judged from the next place on is judged from its
+// place on.
 fn work_on<L: Load + Drop, R: Resolve + Drop>(
     library: &mut Library<L, R>,
     alloc: Global,
@@ -111,23 +120,53 @@ fn work_on<L: Load + Drop, R: Resolve + Drop>(
     ensures loaded { OnOk result (IsKept (kept_of library.new.kept) (name_of file.now)) }
     ensures met { OnOk result (AreMet (kept_of library.new.kept) (files_on list.new)) }
     ensures begins { OnOk result (Begins (files_on list.old) (files_on list.new)) }
+    ensures judged { (place : ℕ) → slice_get (files_on list.old) place ≡ Some (name_of file.now) →
+        let parties = asked_by L.may_load L.may_fail_load R.may_resolve R.may_fail_resolve library.old.loader library.old.resolver in
+        LeadsOn result
+        (LoadsAll parties (settings_of config.now) (files_on list.old) place (kept_of library.old.kept))
+        (LoadsAll parties (settings_of config.now) (files_on list.new) (suc place) (kept_of library.new.kept))
+        (kept_of library.new.kept) }
 {
-    library.load(alloc, file, config.max_modules)?;
+    library.load(alloc, file, config)?;
     let specifiers = kept_requests(library, alloc, file, config)?;
+    let places = ask_each(library, alloc, list, file, specifiers)?;
+    list.add_requests(places)?;
+    Ok(())
+}
+
+// The places of the files that `file` means by these specifiers, which get numbers and go on the list where they are new
+// there.
+fn ask_each<L: Load + Drop, R: Resolve + Drop>(
+    library: &mut Library<L, R>,
+    alloc: Global,
+    list: &mut LoadList,
+    file: &FileName,
+    specifiers: Vec<String>,
+) -> Result<IndexMap<String, usize>, Error>
+    requires met { AreMet (kept_of library.old.kept) (files_on list.old) }
+    requires loaded { IsKept (kept_of library.old.kept) (name_of file.now) }
+    ensures grows { (entries : List Name) → MovesOn L.may_load R.may_resolve entries library.old library.new }
+    ensures refused { (max_modules : ℕ) → IfErr result (IsToldOf L.may_fail_load R.may_fail_resolve max_modules library.new) }
+    ensures met { OnOk result (AreMet (kept_of library.new.kept) (files_on list.new)) }
+    ensures begins { OnOk result (Begins (files_on list.old) (files_on list.new)) }
+    ensures judged { Ends result (λ outcome. Asks
+        (asked_by L.may_load L.may_fail_load R.may_resolve R.may_fail_resolve library.old.loader library.old.resolver)
+        (name_of file.now) (map string_bytes specifiers.items)
+        (kept_of library.old.kept) (files_on list.old) outcome (kept_of library.new.kept) (files_on list.new)) }
+{
     let mut places = IndexMap::new(alloc);
     for specifier in specifiers {
         let place = place_of(library, alloc, list, file, &specifier)?;
         add_place(&mut places, specifier, place)?;
     }
-    list.add_requests(places)?;
-    Ok(())
+    Ok(places)
 }
 
 fn add_place(
     places: &mut IndexMap<String, usize>,
     specifier: String,
     place: usize,
-) -> Result<(), Unlinked> {
+) -> Result<(), AllocError> {
     places.insert(specifier, place)?;
     Ok(())
 }
@@ -147,6 +186,10 @@ fn place_of<L: Load + Drop, R: Resolve + Drop>(
     ensures refused { (max_modules : ℕ) → IfErr result (IsToldOf L.may_fail_load R.may_fail_resolve max_modules library.new) }
     ensures met { OnOk result (AreMet (kept_of library.new.kept) (files_on list.new)) }
     ensures begins { OnOk result (Begins (files_on list.old) (files_on list.new)) }
+    ensures judged { Ends result (λ outcome. Asks
+        (asked_by L.may_load L.may_fail_load R.may_resolve R.may_fail_resolve library.old.loader library.old.resolver)
+        (name_of file.now) (string_bytes specifier.now ∷ [])
+        (kept_of library.old.kept) (files_on list.old) outcome (kept_of library.new.kept) (files_on list.new)) }
 {
     let request = request_of(file, specifier)?;
     library.resolve(alloc, &request)?;
@@ -155,8 +198,9 @@ fn place_of<L: Load + Drop, R: Resolve + Drop>(
     Ok(list.place(&target, id)?)
 }
 
-fn request_of(file: &FileName, specifier: &String) -> Result<Request, Unlinked>
-    ensures { IfOk result (λ request. name_of request.file ≡ name_of file.now) }
+fn request_of(file: &FileName, specifier: &String) -> Result<Request, AllocError>
+    ensures file { IfOk result (λ request. name_of request.file ≡ name_of file.now) }
+    ensures specifier { IfOk result (λ request. string_bytes request.specifier ≡ string_bytes specifier.now) }
 {
     Ok(Request {
         file: file.clone()?,
@@ -168,7 +212,7 @@ fn request_of(file: &FileName, specifier: &String) -> Result<Request, Unlinked>
 fn target_of<L: Load + Drop, R: Resolve + Drop>(
     library: &Library<L, R>,
     request: &Request,
-) -> Result<FileName, Unlinked>
+) -> Result<FileName, AllocError>
     requires { IsSome (kept_file (kept_of library.now.kept) (asked_of request.now)) }
     ensures { IfOk result (λ file. kept_file (kept_of library.now.kept) (asked_of request.now) ≡ Some (name_of file)) }
 {
@@ -184,6 +228,10 @@ fn kept_requests<L: Load + Drop, R: Resolve + Drop>(
     config: &Config,
 ) -> Result<Vec<String>, Unlinked>
     requires { IsKept (kept_of library.now.kept) (name_of file.now) }
+    ensures faulty { IfErr result (λ refusal. (loaded : Loaded) → kept_module (kept_of library.now.kept) (name_of file.now) ≡ Some loaded →
+        IfSome (fault_of (error_of refusal)) (IsFirstTreeFault (name_of file.now) loaded.items)) }
+    ensures faultless { IfOk result (λ texts. (loaded : Loaded) → kept_module (kept_of library.now.kept) (name_of file.now) ≡ Some loaded →
+        IsFaultless (name_of file.now) loaded.items × (map string_bytes texts.items ≡ requests_in (settings_of config.now) loaded.items)) }
 {
     let loaded = library.module(file).unwrap();
     requests_of(alloc, file, loaded, config)

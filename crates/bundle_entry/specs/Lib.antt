@@ -1,1 +1,2 @@
 pub mod Unlinked
+pub mod Source

@@ -1,5 +1,11 @@
 //! The refusal for each fault that is found in a tree or between modules.
 
+ghost use Rattle.std.specs.Prelude.{◌≡◌, IfSome, IsErrAnd};
+ghost use Rattle.bundle_entry.specs.Unlinked.{error_of};
+ghost use Rattle.bundle_name.specs.FileName.{name_of};
+ghost use Rattle.bundle_tables.specs.TablesOf.{fault_in};
+ghost use Rattle.bundle_terms.specs.Faults.{fault_of};
+
 use crate::unlinked::Unlinked;
 use bundle_denote::Doubled;
 use bundle_name::file_name::FileName;
@@ -8,11 +14,9 @@ use bundle_targets::{Fault, FaultKind};
 use std::alloc::{AllocError, Global};
 
 /// The refusal for a fault of the tree of a file.
-pub fn refuse_tree<T: Drop>(
-    alloc: Global,
-    file: &FileName,
-    fault: TreeFault,
-) -> Result<T, Unlinked> {
+pub fn refuse_tree<T: Drop>(alloc: Global, file: &FileName, fault: TreeFault) -> Result<T, Unlinked>
+    ensures { IsErrAnd result (λ refusal. IfSome (fault_of (error_of refusal)) (λ told. told ≡ fault_in (name_of file.now) fault.entry)) }
+{
     let file = file.clone()?;
     Err(match fault {
         TreeFault::DoubledExport { name } => Unlinked::DoubledExport {

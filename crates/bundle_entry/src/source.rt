@@ -1,6 +1,18 @@
 //! What the modules of a call say: of each file its list, what its names denote, and its tables; and which requests
 //! which.
 
+ghost use Rattle.std.specs.Prelude.{◌≡◌, IfOk, IfErr, map, string_bytes};
+ghost use Rattle.bundle_denote.specs.Listed.{IsTable};
+ghost use Rattle.bundle_name.specs.FileName.{name_of};
+ghost use Rattle.bundle_piece.specs.Item.{item_of};
+ghost use Rattle.bundle_pieces.specs.Tree.{module_items};
+ghost use Rattle.bundle_places.specs.Declarations.{BySymbol};
+ghost use Rattle.bundle_places.specs.Scopes.{Es};
+ghost use Rattle.bundle_terms.specs.Entries.{Settings};
+ghost use Rattle.bundle_terms.specs.Tables as t;
+ghost use Rattle.bundle_terms.specs.Tables.{IsRequestTable};
+ghost use Rattle.bundle_entry.specs.Source.{AreTablesOf, IsReadOf, IsTreeRefusal, Links};
+
 use crate::fault::refuse_tree;
 use crate::unlinked::Unlinked;
 use bundle_ast::ModuleItem;
@@ -39,24 +51,43 @@ pub struct Program<'x> {
     pub places: IndexMap<ModuleId, usize>,
 }
 
-/// Reads a module. Refused where it has a fault of its own, or memory runs out.
+/// Reads a module. Refused where it has a fault of its own, by the first, or memory runs out.
 pub fn source_of<'x>(
     alloc: Global,
     file: &FileName,
     loaded: &'x ModuleData,
     config: &Config,
-) -> Result<Source<'x>, Unlinked> {
+) -> Result<Source<'x>, Unlinked>
+    ensures refused { IfErr result (IsTreeRefusal (name_of file.now) (module_items 0 loaded.now.«module»)) }
+    ensures given { IfOk result (IsReadOf config.now (name_of file.now) (module_items 0 loaded.now.«module»)) }
+{
     let pieces = pieces_of_module(alloc, &loaded.module)?;
     let names = denotations(alloc, pieces.as_slice(), ModuleKind::Es, Reading::BySymbol)?;
+    let tables = tables_in(alloc, file, pieces.as_slice(), &names, config)?;
+    Ok(Source {
+        given: &loaded.file_name,
+        items: loaded.module.body.as_slice(),
+        pieces,
+        names,
+        tables,
+    })
+}
+
+// The tables of a list, where these are its names. Refused by its first fault.
+fn tables_in<'x>(
+    alloc: Global,
+    file: &FileName,
+    pieces: &[Piece<'x>],
+    names: &Denotations<'x>,
+    config: &Config,
+) -> Result<Tables<'x>, Unlinked>
+    requires { IsTable BySymbol Es (map item_of pieces.now) names.now }
+    ensures refused { IfErr result (IsTreeRefusal (name_of file.now) (map item_of pieces.now)) }
+    ensures given { IfOk result (AreTablesOf config.now (name_of file.now) (map item_of pieces.now)) }
+{
     let external = config.external_modules.as_slice();
-    match tables_of(alloc, pieces.as_slice(), &names, config.require, external)? {
-        Ok(tables) => Ok(Source {
-            given: &loaded.file_name,
-            items: loaded.module.body.as_slice(),
-            pieces,
-            names,
-            tables,
-        }),
+    match tables_of(alloc, pieces, names, config.require, external)? {
+        Ok(tables) => Ok(tables),
         Err(fault) => refuse_tree(alloc, file, fault),
     }
 }
@@ -67,13 +98,24 @@ pub fn requests_of(
     file: &FileName,
     loaded: &ModuleData,
     config: &Config,
-) -> Result<Vec<String>, Unlinked> {
+) -> Result<Vec<String>, Unlinked>
+    ensures refused { IfErr result (IsTreeRefusal (name_of file.now) (module_items 0 loaded.now.«module»)) }
+    ensures given { IfOk result (λ requests. (settings : Settings) → Links config.now settings →
+        IsRequestTable settings (name_of file.now) (module_items 0 loaded.now.«module») (t.Given (map (λ text. string_bytes text) requests.items))) }
+{
     let source = source_of(alloc, file, loaded, config)?;
-    let mut texts = Vec::new(alloc);
-    for request in &source.tables.requests {
-        texts.push(String::from_str(alloc, *request)?)?;
+    Ok(owned_texts(alloc, source.tables.requests.as_slice())?)
+}
+
+// The texts, each as a text of its own.
+fn owned_texts<'x>(alloc: Global, texts: &[&'x str]) -> Result<Vec<String>, AllocError>
+    ensures { IfOk result (λ owned. map (λ text. string_bytes text) owned.items ≡ map (λ text. text.now) texts.now) }
+{
+    let mut owned = Vec::new(alloc);
+    for text in texts {
+        owned.push(String::from_str(alloc, *text)?)?;
     }
-    Ok(texts)
+    Ok(owned)
 }
 
 /// The files of a call, with what was read of each.

@@ -1,6 +1,6 @@
 //! What a bundler keeps from one call to the next.
 
-ghost use Rattle.std.specs.Prelude.{◌≡◌, ◌<◌, ◌++◌, ◌∷◌, [], length, position, Some, None, IfOk, IfErr, OnOk, OnErr, option_copied, Contains};
+ghost use Rattle.std.specs.Prelude.{◌≡◌, ◌<◌, ◌≤◌, ◌++◌, ◌∷◌, [], length, position, Some, None, IfOk, IfErr, OnOk, OnErr, option_copied, Contains};
 ghost use Rattle.std.specs.Map.{lookup};
 ghost use Rattle.std.specs.Option.{option_map};
 ghost use Rattle.bundle_name.specs.FileName.{name_of, name_eq};
@@ -48,6 +48,7 @@ impl<M: Drop> Kept<M> {
         ensures known { Contains (names_in self.old) (name_of file.now) → names_in self.new ≡ names_in self.old }
         ensures added { OnOk result (¬ Contains (names_in self.old) (name_of file.now) → names_in self.new ≡ names_in self.old ++ name_of file.now ∷ []) }
         ensures unchanged { OnErr result (names_in self.new ≡ names_in self.old) }
+        ensures bounded { length (names_in self.new) ≤ 2147483647 }
         ensures trees { trees_in self.new ≡ trees_in self.old }
         ensures resolved { resolved_in self.new ≡ resolved_in self.old }
         ensures refused { IfErr result (IsRefusal (names_in self.new) (name_of file.now)) }

@@ -4,14 +4,16 @@ use Rattle.std.specs.List.{AllZip}
 use Rattle.bundle_bundler.specs.Bundler.{files_of, HasNumber}
 use Rattle.bundle_bundler.specs.Kept.{kept_of}
 use Rattle.bundle_bundler.specs.Loading.{files_on}
+use Rattle.bundle_bundler.proofs.Counting.{as_many_files, files_from, listed_all, listed_more, numbers_end, numbers_next, numbers_stop}
 use Rattle.bundle_bundler.proofs.Finding.{handed_on}
 use Rattle.bundle_bundler.proofs.Growing.{advances_refl, advances_stays, advances_trans}
+use Rattle.bundle_bundler.proofs.Judging.{ends_handed}
 use Rattle.bundle_bundler.proofs.Loading.{all_met_placed, none_met_of, still_all_met}
 use Rattle.bundle_bundler.proofs.Numbered.{entry_listed, numbered_more}
 use Rattle.bundle_bundler.proofs.bundler.numbered.Goals as goal
 
 pub loop-file-init : goal.loop-file-init
-loop-file-init g c = (advances_refl _ _ (files_of c.args.entries.now) _ _ (kept_of c.args.library.now.kept), subst (λ ids. AllZip (HasNumber (kept_of c.args.library.now.kept)) [] ids) (sym c.new-ids.ensures.items) tt, none_met_of (kept_of c.args.library.now.kept) (files_on c.new-list.result) c.new-list.ensures)
+loop-file-init g c = (advances_refl _ _ (files_of c.args.entries.now) _ _ (kept_of c.args.library.now.kept), subst (λ ids. AllZip (HasNumber (kept_of c.args.library.now.kept)) [] ids) (sym c.new-ids.ensures.items) tt, none_met_of (kept_of c.args.library.now.kept) (files_on c.new-list.result) c.new-list.ensures, λ outcome last numbers. numbers, λ apart. c.new-list.ensures)
 
 pub returns-in_err-id-clause-grows : goal.returns-in_err-id-clause-grows
 returns-in_err-id-clause-grows g c =
@@ -35,4 +37,19 @@ loop-file-preserved g c =
       advances_trans _ _ (files_of c.args.entries.now) _ _ _ _ _ _ _ _ _ c.loop-file.invariant.0 step,
       numbered_more _ _ stays c.args.entries.now c.loop-file.ids.items _ c.loop-file.file-index _ _ c.loop-file-test.true (sym c.loop-file-item.is) c.in_ok-push.ensures.items c.loop-file.invariant.1 c.in_ok-id.ensures.numbered,
       all_met_placed (kept_of c.id.new.self.kept) (files_on c.loop-file.list) (files_on c.place.new.self) _ c.in_ok-place.ensures (still_all_met _ _ stays (files_on c.loop-file.list) c.loop-file.invariant.2) c.in_ok-id.ensures.met,
+      numbers_next (files_of c.args.entries.now) _ _ _ (kept_of c.args.library.now.kept) (kept_of c.loop-file.library.kept) (kept_of c.id.new.self.kept) (files_from c.args.entries.now c.loop-file.file-index _ c.loop-file-test.true (sym c.loop-file-item.is)) c.loop-file.invariant.3 c.in_ok-id.ensures.judged,
+      listed_more c.args.entries.now c.loop-file.file-index _ c.loop-file-test.true (sym c.loop-file-item.is) (files_on c.loop-file.list) (files_on c.place.new.self) c.in_ok-place.ensures c.loop-file.invariant.4,
     )
+
+pub returns-in_err-id-clause-judged : goal.returns-in_err-id-clause-judged
+returns-in_err-id-clause-judged g c =
+    ends_handed _ _ _ _ c.from_residual.ensures.1
+    (λ f its. numbers_stop (files_of c.args.entries.now) _ _ _ (kept_of c.args.library.now.kept) (kept_of c.loop-file.library.kept) (kept_of c.id.new.self.kept) f (files_from c.args.entries.now c.loop-file.file-index _ c.loop-file-test.true (sym c.loop-file-item.is)) c.loop-file.invariant.3 its)
+    c.in_err-id.ensures.judged
+
+pub returns-clause-judged : goal.returns-clause-judged
+returns-clause-judged g c =
+    numbers_end (files_of c.args.entries.now) c.loop-file.file-index (kept_of c.args.library.now.kept) (kept_of c.loop-file.library.kept) (as_many_files c.args.entries.now c.loop-file.file-index c.loop-file-test.false) c.loop-file.invariant.3
+
+pub returns-clause-all : goal.returns-clause-all
+returns-clause-all g c = listed_all c.args.entries.now c.loop-file.file-index (files_on c.loop-file.list) c.loop-file-test.false c.loop-file.invariant.4

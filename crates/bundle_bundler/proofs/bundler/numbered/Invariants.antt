@@ -1,9 +1,12 @@
--- What was kept is still kept, the files before the index have these numbers, and those on the list were met.
-use Rattle.std.proofs.Common.{take}
+-- What was kept is still kept, the files before the index have these numbers and stand on the list, if they are apart, those on
+-- the list were met, and what is numbered from the index on is numbered of the whole.
+use Rattle.std.proofs.Common.{◌≡◌, drop, map, take}
 use Rattle.std.specs.List.{AllZip}
 use Rattle.bundle_bundler.specs.Bundler.{files_of, HasNumber}
-use Rattle.bundle_bundler.specs.Kept.{kept_of, Advances}
+use Rattle.bundle_bundler.specs.Judged.{AreApart}
+use Rattle.bundle_bundler.specs.Kept.{entry_of, kept_of, Advances}
 use Rattle.bundle_bundler.specs.Loading.{files_on, AreMet}
+use Rattle.bundle_bundler.proofs.Counting.{NumbersOn}
 use Rattle.bundle_bundler.proofs.bundler.numbered.Given as goal
 
 abbrev pub invariant-loop-file : goal.invariant-loop-file
@@ -11,3 +14,5 @@ invariant-loop-file g l =
     Advances g.L.Load.may_load g.R.Resolve.may_resolve (files_of l.entries) l.initial.library.loader l.library.loader l.initial.library.resolver l.library.resolver (kept_of l.initial.library.kept) (kept_of l.library.kept)
     × AllZip (HasNumber (kept_of l.library.kept)) (take l.file-index l.entries) l.ids.items
     × AreMet (kept_of l.library.kept) (files_on l.list)
+    × NumbersOn (files_of l.entries) (drop l.file-index (files_of l.entries)) (kept_of l.initial.library.kept) (kept_of l.library.kept)
+    × (AreApart (map entry_of l.entries) → files_on l.list ≡ take l.file-index (files_of l.entries))

@@ -1,12 +1,16 @@
 -- What is kept grows by the resolver's answer, and then by the number of the file.
 use Rattle.std.proofs.Common.{[], inr}
 use Rattle.bundle_name.specs.FileName.{name_of}
+use Rattle.std.specs.String.{string_bytes}
 use Rattle.bundle_kept.specs.Kept.{asked_of}
+use Rattle.bundle_bundler.specs.Judged.{asked_by}
 use Rattle.bundle_bundler.specs.Kept.{kept_of}
 use Rattle.bundle_bundler.specs.Loading.{files_on}
 use Rattle.bundle_bundler.proofs.Finding.{handed_on}
 use Rattle.bundle_bundler.proofs.Growing.{advances_refl, advances_stays, advances_trans}
 use Rattle.bundle_bundler.proofs.Loading.{all_met_placed, begins_placed, still_all_met}
+use Rattle.bundle_bundler.proofs.Judging.{ends_handed}
+use Rattle.bundle_bundler.proofs.Placing.{ask_failed, ask_placed, ask_used_up}
 use Rattle.bundle_bundler.proofs.load.place_of.Goals as goal
 
 pub returns-in_err-request-clause-grows : goal.returns-in_err-request-clause-grows
@@ -38,3 +42,19 @@ returns-clause-met g c =
 
 pub returns-clause-begins : goal.returns-clause-begins
 returns-clause-begins g c = begins_placed _ _ _ c.in_ok-place.ensures
+
+pub returns-in_err-resolve-clause-judged : goal.returns-in_err-resolve-clause-judged
+returns-in_err-resolve-clause-judged g c =
+    ends_handed _ _ _ _ c.from_residual-in_err-resolve.ensures.1
+    (ask_failed (asked_by g.L.Load.may_load g.L.Load.may_fail_load g.R.Resolve.may_resolve g.R.Resolve.may_fail_resolve c.args.library.now.loader c.args.library.now.resolver) (name_of c.args.file.now) (string_bytes c.args.specifier.now) c.in_ok-request.request c.in_ok-request.ensures.file c.in_ok-request.ensures.specifier (kept_of c.args.library.now.kept) (kept_of c.resolve.new.self.kept) (files_on c.args.list.now))
+    c.in_err-resolve.ensures.failed
+
+pub returns-in_err-id-clause-judged : goal.returns-in_err-id-clause-judged
+returns-in_err-id-clause-judged g c =
+    ends_handed _ _ _ _ c.from_residual-in_err-id.ensures.1
+    (λ f. ask_used_up (asked_by g.L.Load.may_load g.L.Load.may_fail_load g.R.Resolve.may_resolve g.R.Resolve.may_fail_resolve c.args.library.now.loader c.args.library.now.resolver) (name_of c.args.file.now) (string_bytes c.args.specifier.now) c.in_ok-request.request c.in_ok-request.ensures.file c.in_ok-request.ensures.specifier (kept_of c.args.library.now.kept) (kept_of c.resolve.new.self.kept) (kept_of c.id.new.self.kept) (files_on c.args.list.now) (name_of c.in_ok-target.target) f (c.in_ok-resolve.ensures.resolved (name_of c.in_ok-target.target) c.in_ok-target.ensures) (still_all_met _ _ (advances_stays _ _ [] _ _ _ _ (kept_of c.args.library.now.kept) (kept_of c.resolve.new.self.kept) (c.in_ok-resolve.ensures.grows [])) (files_on c.args.list.now) c.requires.met) c.in_err-id.ensures.absent)
+    c.in_err-id.ensures.judged
+
+pub returns-clause-judged : goal.returns-clause-judged
+returns-clause-judged g c =
+    ask_placed (asked_by g.L.Load.may_load g.L.Load.may_fail_load g.R.Resolve.may_resolve g.R.Resolve.may_fail_resolve c.args.library.now.loader c.args.library.now.resolver) (name_of c.args.file.now) (string_bytes c.args.specifier.now) c.in_ok-request.request c.in_ok-request.ensures.file c.in_ok-request.ensures.specifier (kept_of c.args.library.now.kept) (kept_of c.resolve.new.self.kept) (kept_of c.id.new.self.kept) (files_on c.args.list.now) (files_on c.place.new.self) (name_of c.in_ok-target.target) (c.in_ok-resolve.ensures.resolved (name_of c.in_ok-target.target) c.in_ok-target.ensures) (still_all_met _ _ (advances_stays _ _ [] _ _ _ _ (kept_of c.args.library.now.kept) (kept_of c.resolve.new.self.kept) (c.in_ok-resolve.ensures.grows [])) (files_on c.args.list.now) c.requires.met) c.in_ok-id.ensures.known c.in_ok-id.ensures.judged c.in_ok-place.ensures

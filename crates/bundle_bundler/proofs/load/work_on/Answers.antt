@@ -1,47 +1,55 @@
 -- What is kept grows by the loader's answer, and then by those to each request; the list grows at its end.
-use Rattle.std.proofs.Common.{[]}
+use Rattle.std.proofs.Common.{[], map}
+use Rattle.std.specs.String.{string_bytes}
 use Rattle.bundle_name.specs.FileName.{name_of}
-use Rattle.bundle_bundler.specs.Kept.{kept_of}
+use Rattle.bundle_terms.specs.Judging as j
+use Rattle.bundle_terms.specs.Judging.{Asks, GoesOn, Refused}
+use Rattle.bundle_bundler.specs.Judged.{asked_by}
+use Rattle.bundle_bundler.specs.Kept.{kept_of, settings_of}
+use Rattle.bundle_bundler.specs.Loading.{files_on}
 use Rattle.bundle_bundler.proofs.Finding.{handed_on}
-use Rattle.bundle_bundler.proofs.Growing.{advances_refl, advances_stays, advances_trans, still_kept}
-use Rattle.bundle_bundler.proofs.Loading.{begins_along, begins_refl, begins_trans, still_all_met}
+use Rattle.bundle_bundler.proofs.Growing.{advances_stays, advances_trans, still_kept}
+use Rattle.bundle_bundler.proofs.Judging.{as_before, leads_handed}
+use Rattle.bundle_bundler.proofs.Loading.{begins_along, still_all_met}
+use Rattle.bundle_bundler.proofs.Working.{work_done, work_faulty, work_stopped}
 use Rattle.bundle_bundler.proofs.load.work_on.Goals as goal
 
-pub loop-specifier-init : goal.loop-specifier-init
-loop-specifier-init g c = (
-  λ entries. advances_refl _ _ entries _ _ (kept_of c.load.new.self.kept),
-  still_all_met _ (kept_of c.load.new.self.kept) (advances_stays _ _ [] _ _ _ _ _ _ (c.in_ok-load.ensures.grows [])) _ c.requires.met,
-  begins_refl _,
-  c.in_ok-load.ensures.there,
-)
+pub ask_each-requires : goal.ask_each-requires
+ask_each-requires g c = record { met = still_all_met _ (kept_of c.load.new.self.kept) (advances_stays _ _ [] _ _ _ _ _ _ (c.in_ok-load.ensures.grows [])) _ c.requires.met; loaded = c.in_ok-load.ensures.there }
 
-pub returns-in_err-place-clause-grows : goal.returns-in_err-place-clause-grows
-returns-in_err-place-clause-grows g c = λ entries.
-    advances_trans _ _ entries _ _ _ _ _ _ _ _ _ (c.in_ok-load.ensures.grows entries) (advances_trans _ _ entries _ _ _ _ _ _ _ _ _ (c.loop-specifier.invariant.0 entries) (c.in_err-place.ensures.grows entries))
+pub returns-in_err-load-clause-judged : goal.returns-in_err-load-clause-judged
+returns-in_err-load-clause-judged g c = λ place there. leads_handed _ _ _ _ _ _ c.from_residual.ensures.1 (λ f its. j.not_loaded there its) c.in_err-load.ensures.judged
 
-pub returns-in_err-place-clause-refused : goal.returns-in_err-place-clause-refused
-returns-in_err-place-clause-refused g c = handed_on _ _ _ c.from_residual-in_err-place.ensures.1 (c.in_err-place.ensures.refused c.args.config.now.max_modules)
+pub returns-in_err-specifiers-clause-judged : goal.returns-in_err-specifiers-clause-judged
+returns-in_err-specifiers-clause-judged g c = λ place there. work_faulty (asked_by g.L.Load.may_load g.L.Load.may_fail_load g.R.Resolve.may_resolve g.R.Resolve.may_fail_resolve c.args.library.now.loader c.args.library.now.resolver) (settings_of c.args.config.now) (files_on c.args.list.now) place (name_of c.args.file.now) there (kept_of c.args.library.now.kept) (kept_of c.load.new.self.kept) c.in_ok-load.ensures.judged c.in_ok-load.ensures.there _ _ _ c.from_residual-in_err-specifiers.ensures.1 c.in_err-specifiers.ensures.faulty
 
-pub loop-specifier-preserved : goal.loop-specifier-preserved
-loop-specifier-preserved g c = (
-  λ entries. advances_trans _ _ entries _ _ _ _ _ _ _ _ _ (c.loop-specifier.invariant.0 entries) (c.in_ok-place.ensures.grows entries),
-  c.in_ok-place.ensures.met,
-  begins_trans _ _ _ c.loop-specifier.invariant.2 c.in_ok-place.ensures.begins,
-  still_kept _ _ (advances_stays _ _ [] _ _ _ _ _ _ (c.in_ok-place.ensures.grows [])) (name_of c.args.file.now) c.loop-specifier.invariant.3,
-)
+pub returns-in_err-places-clause-grows : goal.returns-in_err-places-clause-grows
+returns-in_err-places-clause-grows g c = λ entries. advances_trans _ _ entries _ _ _ _ _ _ _ _ _ (c.in_ok-load.ensures.grows entries) (c.in_err-places.ensures.grows entries)
 
-pub returns-in_err-add_place-clause-grows : goal.returns-in_err-add_place-clause-grows
-returns-in_err-add_place-clause-grows g c = λ entries.
-    advances_trans _ _ entries _ _ _ _ _ _ _ _ _ (c.in_ok-load.ensures.grows entries) (advances_trans _ _ entries _ _ _ _ _ _ _ _ _ (c.loop-specifier.invariant.0 entries) (c.in_ok-place.ensures.grows entries))
+pub returns-in_err-places-clause-refused : goal.returns-in_err-places-clause-refused
+returns-in_err-places-clause-refused g c = handed_on _ _ _ c.from_residual-in_err-places.ensures.1 (c.in_err-places.ensures.refused c.args.config.now.max_modules)
+
+pub returns-in_err-places-clause-judged : goal.returns-in_err-places-clause-judged
+returns-in_err-places-clause-judged g c = λ place there.
+    leads_handed _ _ _ _ _ _ c.from_residual-in_err-places.ensures.1
+    (λ f asks. work_stopped (asked_by g.L.Load.may_load g.L.Load.may_fail_load g.R.Resolve.may_resolve g.R.Resolve.may_fail_resolve c.args.library.now.loader c.args.library.now.resolver) (settings_of c.args.config.now) (files_on c.args.list.now) place (name_of c.args.file.now) there (kept_of c.args.library.now.kept) (kept_of c.load.new.self.kept) c.in_ok-load.ensures.judged c.in_ok-load.ensures.there (map string_bytes c.in_ok-specifiers.specifiers.items) c.in_ok-specifiers.ensures.faultless (kept_of c.ask_each.new.library.kept) (files_on c.ask_each.new.list) f
+    (as_before (λ l r. Asks (asked_by g.L.Load.may_load g.L.Load.may_fail_load g.R.Resolve.may_resolve g.R.Resolve.may_fail_resolve l r) (name_of c.args.file.now) (map string_bytes c.in_ok-specifiers.specifiers.items) (kept_of c.load.new.self.kept) (files_on c.args.list.now) (Refused f) (kept_of c.ask_each.new.library.kept) (files_on c.ask_each.new.list)) _ _ _ _ (c.in_ok-load.ensures.grows []).loader (c.in_ok-load.ensures.grows []).resolver asks))
+    c.in_err-places.ensures.judged
 
 pub returns-in_err-add_requests-clause-grows : goal.returns-in_err-add_requests-clause-grows
-returns-in_err-add_requests-clause-grows g c = λ entries. advances_trans _ _ entries _ _ _ _ _ _ _ _ _ (c.in_ok-load.ensures.grows entries) (c.loop-specifier.invariant.0 entries)
+returns-in_err-add_requests-clause-grows g c = λ entries. advances_trans _ _ entries _ _ _ _ _ _ _ _ _ (c.in_ok-load.ensures.grows entries) (c.in_ok-places.ensures.grows entries)
 
 pub returns-clause-grows : goal.returns-clause-grows
-returns-clause-grows g c = λ entries. advances_trans _ _ entries _ _ _ _ _ _ _ _ _ (c.in_ok-load.ensures.grows entries) (c.loop-specifier.invariant.0 entries)
+returns-clause-grows g c = λ entries. advances_trans _ _ entries _ _ _ _ _ _ _ _ _ (c.in_ok-load.ensures.grows entries) (c.in_ok-places.ensures.grows entries)
 
 pub returns-clause-loaded : goal.returns-clause-loaded
-returns-clause-loaded g c = c.loop-specifier.invariant.3
+returns-clause-loaded g c = still_kept _ _ (advances_stays _ _ [] _ _ _ _ _ _ (c.in_ok-places.ensures.grows [])) (name_of c.args.file.now) c.in_ok-load.ensures.there
 
 pub returns-clause-begins : goal.returns-clause-begins
-returns-clause-begins g c = begins_along _ _ _ c.loop-specifier.invariant.2 c.in_ok-add_requests.ensures
+returns-clause-begins g c = begins_along _ _ _ c.in_ok-places.ensures.begins c.in_ok-add_requests.ensures
+
+pub returns-clause-judged : goal.returns-clause-judged
+returns-clause-judged g c = λ place there.
+    work_done (asked_by g.L.Load.may_load g.L.Load.may_fail_load g.R.Resolve.may_resolve g.R.Resolve.may_fail_resolve c.args.library.now.loader c.args.library.now.resolver) (settings_of c.args.config.now) (files_on c.args.list.now) place (name_of c.args.file.now) there (kept_of c.args.library.now.kept) (kept_of c.load.new.self.kept) c.in_ok-load.ensures.judged c.in_ok-load.ensures.there (map string_bytes c.in_ok-specifiers.specifiers.items) c.in_ok-specifiers.ensures.faultless (kept_of c.ask_each.new.library.kept) (files_on c.ask_each.new.list) (files_on c.add_requests.new.self)
+    (as_before (λ l r. Asks (asked_by g.L.Load.may_load g.L.Load.may_fail_load g.R.Resolve.may_resolve g.R.Resolve.may_fail_resolve l r) (name_of c.args.file.now) (map string_bytes c.in_ok-specifiers.specifiers.items) (kept_of c.load.new.self.kept) (files_on c.args.list.now) GoesOn (kept_of c.ask_each.new.library.kept) (files_on c.ask_each.new.list)) _ _ _ _ (c.in_ok-load.ensures.grows []).loader (c.in_ok-load.ensures.grows []).resolver c.in_ok-places.ensures.judged)
+    c.in_ok-add_requests.ensures

@@ -2,7 +2,8 @@
 use Rattle.std.proofs.Common.{refl, ap}
 use Rattle.bundle_name.specs.FileName.{name_of}
 use Rattle.bundle_bundler.specs.Kept.{kept_of}
-use Rattle.bundle_bundler.proofs.Growing.{id_grows, numbered_is_met, read_trees}
+use Rattle.bundle_bundler.proofs.Asking.{id_judged}
+use Rattle.bundle_bundler.proofs.Growing.{id_grows, kept_same, numbered_is_met, read_trees, unmet}
 use Rattle.bundle_bundler.proofs.library.Library.id.Goals as goal
 
 pub returns-clause-met : goal.returns-clause-met
@@ -14,3 +15,13 @@ returns-clause-grows g c = λ entries due. record {
   resolver = refl;
   grows = id_grows _ _ entries (kept_of c.args.self.now.kept) (kept_of c.id.new.self) (name_of c.args.file.now) c.id.result c.id.ensures.known c.id.ensures.added c.id.ensures.unchanged (ap read_trees c.id.ensures.trees) c.id.ensures.resolved due;
 }
+
+pub returns-clause-judged : goal.returns-clause-judged
+returns-clause-judged g c =
+    id_judged (kept_of c.args.self.now.kept) (kept_of c.id.new.self) (name_of c.args.file.now) c.id.result c.id.ensures.numbered c.id.ensures.known c.id.ensures.added c.id.ensures.unchanged (ap read_trees c.id.ensures.trees) c.id.ensures.resolved c.id.ensures.bounded c.id.ensures.refused c.id.ensures.absent
+
+pub returns-clause-known : goal.returns-clause-known
+returns-clause-known g c = λ met. kept_same (kept_of c.args.self.now.kept) (kept_of c.id.new.self) (c.id.ensures.known met) (ap read_trees c.id.ensures.trees) c.id.ensures.resolved
+
+pub returns-clause-absent : goal.returns-clause-absent
+returns-clause-absent g c = unmet (kept_of c.args.self.now.kept) (kept_of c.id.new.self) (name_of c.args.file.now) c.id.result c.id.ensures.unchanged c.id.ensures.absent

@@ -2,6 +2,7 @@
 use Rattle.std.proofs.Common.{refl}
 use Rattle.bundle_kept.specs.Kept.{asked_of}
 use Rattle.bundle_bundler.specs.Kept.{kept_of}
+use Rattle.bundle_bundler.proofs.Asking.{resolve_failed, resolve_judged, resolve_kept}
 use Rattle.bundle_bundler.proofs.Finding.{asked_same, target_found}
 use Rattle.bundle_bundler.proofs.Growing.{advances_along, advances_refl, resolve_grows}
 use Rattle.bundle_bundler.proofs.Refusing.{resolve_right}
@@ -33,3 +34,15 @@ returns-in_err-clone-2-clause-grows g c = λ entries. advances_refl _ _ entries 
 
 pub returns-in_err-reserve_target-clause-grows : goal.returns-in_err-reserve_target-clause-grows
 returns-in_err-reserve_target-clause-grows g c = λ entries. advances_along _ _ entries _ _ (kept_of c.args.self.now.kept) (kept_of c.reserve_target.new.kept) c.in_err-reserve_target.ensures.same
+
+pub returns-clause-resolved : goal.returns-clause-resolved
+returns-clause-resolved g c =
+    resolve_judged (g.L.Load.may_load c.args.self.now.loader) (g.L.Load.may_fail_load c.args.self.now.loader) (g.R.Resolve.may_resolve c.args.self.now.resolver) (g.R.Resolve.may_fail_resolve c.args.self.now.resolver) _ _ (kept_of c.args.self.now.kept) _ _ (asked_of c.args.request.now) _ _ _ _ (c.leads.ensures.none c.if-leads.false) (asked_same _ _ _ _ c.in_ok-clone.ensures.cases c.in_ok-clone-2.ensures.cases) c.in_ok-reserve_target.ensures.same c.as_str.ensures.value c.resolve-resolved.ensures.answer c.keep_resolved.ensures.given c.keep_resolved.ensures.refused
+
+pub returns-clause-failed : goal.returns-clause-failed
+returns-clause-failed g c =
+    resolve_failed (g.L.Load.may_load c.args.self.now.loader) (g.L.Load.may_fail_load c.args.self.now.loader) (g.R.Resolve.may_resolve c.args.self.now.resolver) (g.R.Resolve.may_fail_resolve c.args.self.now.resolver) _ _ (kept_of c.args.self.now.kept) _ _ (asked_of c.args.request.now) _ _ _ _ (c.leads.ensures.none c.if-leads.false) (asked_same _ _ _ _ c.in_ok-clone.ensures.cases c.in_ok-clone-2.ensures.cases) c.in_ok-reserve_target.ensures.same c.as_str.ensures.value c.resolve-resolved.ensures.failure c.keep_resolved.ensures.given c.keep_resolved.ensures.refused
+
+pub returns-then-leads-clause-resolved : goal.returns-then-leads-clause-resolved
+returns-then-leads-clause-resolved g c = λ found is.
+    resolve_kept (g.L.Load.may_load c.args.self.now.loader) (g.L.Load.may_fail_load c.args.self.now.loader) (g.R.Resolve.may_resolve c.args.self.now.resolver) (g.R.Resolve.may_fail_resolve c.args.self.now.resolver) _ _ (kept_of c.args.self.now.kept) (asked_of c.args.request.now) found is

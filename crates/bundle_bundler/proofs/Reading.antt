@@ -1,0 +1,37 @@
+-- What a module says as it was handed in, it says as it is kept.
+use Rattle.std.proofs.Common.{◌≡◌, List, Option, Some, refl, sym, subst, ◌∙◌}
+use Rattle.std.specs.Prelude.{IfSome}
+use Rattle.std.proofs.lemmas.Option.{same_Some}
+use Rattle.bundle_cleared.proofs.CallLemmas.{requests}
+use Rattle.bundle_cleared.proofs.FaultLemmas.{faultless, first_fault}
+use Rattle.bundle_entry.specs.Source.{IsTreeRefusal, Links}
+use Rattle.bundle_entry.specs.Unlinked.{error_of}
+use Rattle.bundle_entry.specs.declared.unlinked.Unlinked.{Unlinked}
+use Rattle.bundle_name.specs.FileName.{Name}
+use Rattle.bundle_name.specs.declared.config.Config.{Config}
+use Rattle.bundle_pieces.specs.Tree.{module_items}
+use Rattle.bundle_tree.specs.declared.load.ModuleData.{ModuleData}
+use Rattle.bundle_terms.specs.Nodes.{Text}
+use Rattle.bundle_terms.specs.Entries.{Settings}
+use Rattle.bundle_terms.specs.Faults.{IsFaultless, IsFirstTreeFault, fault_of}
+use Rattle.bundle_terms.specs.Judging.{requests_in}
+use Rattle.bundle_terms.specs.Program.{Loaded}
+use Rattle.bundle_terms.specs.Tables.{IsRequestTable}
+use Rattle.bundle_terms.specs.Tables as t
+use Rattle.bundle_bundler.specs.Kept.{kept_as, settings_of}
+use Rattle.bundle_bundler.proofs.Judging.{told_as}
+
+-- what a look-up finds is what is kept
+pub found_as : (o kept : Option Loaded) (loaded its : Loaded) → o ≡ kept → o ≡ Some its → kept ≡ Some loaded → its ≡ loaded
+found_as o kept loaded its same is there = same_Some its loaded (sym is ∙ same ∙ there)
+
+-- its first fault
+pub read_faulty : (file : Name) (given : ModuleData) (refusal : Unlinked) → IsTreeRefusal file (module_items 0 given.«module») refusal → (loaded : Loaded) → kept_as given ≡ loaded → IfSome (fault_of (error_of refusal)) (IsFirstTreeFault file loaded.items)
+read_faulty file given refusal told loaded is =
+    subst (λ (x : Loaded). IfSome (fault_of (error_of refusal)) (IsFirstTreeFault file x.items)) is (told_as (fault_of (error_of refusal)) _ _ (first_fault file (module_items 0 given.«module»)) told)
+
+-- that it has none, and its requests
+pub read_faultless : (config : Config) (file : Name) (given : ModuleData) (texts : List Text) → ((settings : Settings) → Links config settings → IsRequestTable settings file (module_items 0 given.«module») (t.Given texts)) → (loaded : Loaded) → kept_as given ≡ loaded → IsFaultless file loaded.items × (texts ≡ requests_in (settings_of config) loaded.items)
+read_faultless config file given texts table loaded is =
+    let its = table (settings_of config) (refl, refl) in
+    subst (λ (x : Loaded). IsFaultless file x.items × (texts ≡ requests_in (settings_of config) x.items)) is (faultless file (module_items 0 given.«module») its.0, its.1 ∙ sym (requests (settings_of config) (module_items 0 given.«module»)))

@@ -1,0 +1,46 @@
+-- How a call ends, in the order of judging.
+use Rattle.std.specs.Prelude.{◌≡◌, ◌⊎◌, ℕ, ◌<◌, slice_get, Some, Bool, true, false, IfSome, IsTrue, List, Result, Ok, Err}
+use Rattle.bundle_name.specs.FileName.{Name}
+use Rattle.bundle_name.specs.declared.error.Error.{Error}
+use Rattle.bundle_tree.specs.declared.load.ModuleData.{ModuleData}
+use Rattle.bundle_terms.specs.Entries.{Settings}
+use Rattle.bundle_terms.specs.Kept.{Kept}
+use Rattle.bundle_terms.specs.Faults.{Fault, LoadFails, ResolveFails, TooManyModules, DoubledEntry, Parties, fault_of}
+use Rattle.bundle_terms.specs.Judging.{Entry, Outcome, GoesOn, Refused, IsDoubledEntry, Refuses, Completes}
+use Rattle.bundle_bundler.specs.Kept.{parties_of}
+
+-- a part of the judging ends as the result says: it goes on, or is refused by the fault that is told; want of memory tells of none
+abbrev pub Ends : {T : Type 0} → Result T Error → (Outcome → Type 0) → Type 0
+Ends (Ok x) part = part GoesOn
+Ends (Err refusal) part = IfSome (fault_of refusal) (λ fault. part (Refused fault))
+
+-- as far as a part of the judging goes on, what is judged after it is judged of the whole; where it is refused, the whole is
+abbrev pub LeadsOn : {T : Type 0} → Result T Error → (whole rest : Outcome → Kept → Type 0) → Kept → Type 0
+LeadsOn (Ok x) whole rest new = (outcome : Outcome) (last : Kept) → rest outcome last → whole outcome last
+LeadsOn (Err refusal) whole rest new = IfSome (fault_of refusal) (λ fault. whole (Refused fault) new)
+
+-- what this loader and this resolver may answer, and where they may fail; no hook is asked
+abbrev pub asked_by : {L R : Type 0} → (L → Name → ModuleData → Type 0) → (L → Name → Type 0) → (R → Name → List ℕ → Name → Type 0) → (R → Name → List ℕ → Type 0) → L → R → Parties
+asked_by may_load may_fail_load may_resolve may_fail_resolve loader resolver =
+    parties_of (may_load loader) (may_fail_load loader) (may_resolve resolver) (may_fail_resolve resolver) (λ file is_entry properties. ⊥) (λ file is_entry. ⊥)
+
+-- no two entries have one name or one file
+abbrev pub AreApart : List Entry → Type 0
+AreApart entries = (i j : ℕ) (a b : Entry) → i < j → slice_get entries i ≡ Some a → slice_get entries j ≡ Some b → (a.name ≡ b.name) ⊎ (a.file ≡ b.file) → ⊥
+
+-- the fault is that of the first entry that doubles another
+abbrev pub IsFaultOfList : List Entry → Fault → Type 0
+IsFaultOfList entries fault = (later : Entry) × IsDoubledEntry entries later × (fault ≡ DoubledEntry later.file later.name)
+
+-- whether a fault is none that only loading tells of
+abbrev pub may_be_linking : Fault → Bool
+may_be_linking (LoadFails file) = false
+may_be_linking (ResolveFails file specifier) = false
+may_be_linking (TooManyModules file) = false
+may_be_linking _ = true
+
+-- why there is no bundle: the first fault in the order of judging, or want of memory. Where all that the entries reach was loaded
+-- and no file of it is at fault by itself, so that a fault is one of linking, no more is said of it yet
+abbrev pub IsRefusedBy : Parties → Settings → List Entry → (old new : Kept) → Error → Type 0
+IsRefusedBy parties settings entries old new refusal =
+    IfSome (fault_of refusal) (λ fault. Refuses parties settings entries old fault new ⊎ (Completes parties settings entries old new × IsTrue (may_be_linking fault)))
