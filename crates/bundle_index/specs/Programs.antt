@@ -1,9 +1,11 @@
 -- When modules that are to be linked are those of a program.
-use Rattle.std.specs.Prelude.{◌≡◌, ◌↔◌, ℕ, ◌<◌, length, Bool, not, List, [], Some, None, Contains, bytes_eq, filter, map, slice_get, if◌then◌else◌}
+use Rattle.std.specs.Prelude.{◌≡◌, ◌↔◌, ℕ, ◌<◌, length, Bool, not, List, [], Some, None, Contains, bytes_eq, codes, filter, map, slice_get, if◌then◌else◌}
 use Rattle.std.specs.List.{flat_map}
 use Rattle.indexmap.specs.IndexSet.{contains_by}
 use Rattle.bundle_terms.specs.Nodes.{Text, each_once}
 use Rattle.bundle_terms.specs.Entries.{Taken, ImportEntry, Indirect, Star, declared_requests, is_script}
+use Rattle.bundle_terms.specs.Awaits.{awaits_outside}
+use Rattle.bundle_terms.specs.Bound.{has_free}
 use Rattle.bundle_terms.specs.Program.{Program, calls_of, is_external, tree_of, IsReached}
 use Rattle.bundle_terms.specs.Linking.{exports, imports}
 use Rattle.bundle_terms.specs.Tables.{TellsCommonJs, is_star, star_of}
@@ -30,6 +32,8 @@ pub record IsTableOf (p : Program) (m : ℕ) (tables : Tables) : Type 0 where
   pub calls : map call_entry_of tables.calls.items ≡ calls_of p m
   pub script : tables.is_script ≡ is_script (tree_of p m)
   pub common_js : tables.names_common_js ≡ uses_common_js (tree_of p m)
+  pub awaits : tables.awaits ≡ awaits_outside (tree_of p m)
+  pub arguments : tables.has_free_arguments ≡ has_free (tree_of p m) (codes "arguments")
 
 -- modules that are handed in to be linked are those of the program: their tables, where their requests lead, which are reached from the entry
 pub record IsProgramOf (p : Program) (modules : List LinkModule) (list : List ℕ) (entry : ℕ) (require : Bool) : Type 0 where
@@ -46,6 +50,8 @@ pub record IsProgramOf (p : Program) (modules : List LinkModule) (list : List �
 pub record AreModulesOf (p : Program) (kinds : Kinds) : Type 0 where
   pub tables : (m : ℕ) (its : LinkModule) → slice_get kinds.modules.now m ≡ Some its → IsTableOf p m its.tables.now
   pub others : (m : ℕ) → slice_get kinds.modules.now m ≡ None → exports p m ≡ []
+  pub trees : (m : ℕ) → slice_get kinds.modules.now m ≡ None → tree_of p m ≡ []
+  pub begins : p.entry ≡ kinds.entry
   pub leads : (m : ℕ) (s : Text) → p.leads m s ≡ required_of kinds.modules.now m s
   pub outside : (m : ℕ) (s : Text) → Asks p m s → contains_by (λ k. bytes_eq s k.now) kinds.externals ≡ is_external p s
   pub common_js : (c : ℕ) → TellsCommonJs p c (flagged kinds.common_js.items c)

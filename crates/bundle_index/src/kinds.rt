@@ -1,6 +1,6 @@
 //! Where the specifiers of modules lead, and which modules are CommonJS.
 
-ghost use Rattle.std.specs.Prelude.{◌≡◌, ◌++◌, ◌&&◌, ◌||◌, [], IfOk, OnOk, List, filter_map, not, slice_get, ℕ};
+ghost use Rattle.std.specs.Prelude.{◌≡◌, ◌++◌, ◌&&◌, ◌||◌, [], IfOk, OnOk, List, filter_map, not, option_map, slice_get, ℕ};
 ghost use Rattle.std.specs.List.{cons_option, flat_map};
 ghost use Rattle.bundle_terms.specs.Nodes.{Text};
 ghost use Rattle.bundle_terms.specs.Program.{Program};
@@ -47,8 +47,10 @@ impl<'m, 't, 'a> Kinds<'m, 't, 'a> {
         entry: usize,
         setting: Setting,
     ) -> Result<Kinds<'m, 't, 'a>, AllocError>
-        ensures { IfOk result (λ kinds. (p : Program) →
+        ensures right { IfOk result (λ kinds. (p : Program) →
             IsProgramOf p modules.now list.now entry setting.require → AreModulesOf p kinds) }
+        ensures held { IfOk result (λ kinds.
+            (kinds.list.now ≡ list.now) × (kinds.setting.iife ≡ setting.iife)) }
     {
         let required = required_by(alloc, modules, list)?;
         let common_js = kinds_of(alloc, modules, &required, entry, setting.require)?;
@@ -64,7 +66,9 @@ impl<'m, 't, 'a> Kinds<'m, 't, 'a> {
     }
 
     /// The tables of a module.
-    pub fn tables(&self, module: usize) -> Option<&'t Tables<'a>> {
+    pub fn tables(&self, module: usize) -> Option<&'t Tables<'a>>
+        ensures { result ≡ option_map (λ its. its.tables) (slice_get self.now.modules.now «module») }
+    {
         Some(self.modules.get(module)?.tables)
     }
 

@@ -1,1 +1,3 @@
 pub mod Linked
+pub mod Judged
+pub mod Stages

@@ -1,11 +1,13 @@
 -- What linking finds, in the words of the definitions.
-use Rattle.std.specs.Prelude.{ℕ}
+use Rattle.std.specs.Prelude.{ℕ, Bool, List}
 use Rattle.bundle_terms.specs.Program.{Program}
 use Rattle.bundle_terms.specs.Tables as r
 use Rattle.bundle_terms.specs.Tables.{TellsCommonJs}
 use Rattle.bundle_index.specs.Leads.{flagged}
 use Rattle.bundle_index.specs.Outside.{IsIndexOf}
 use Rattle.bundle_index.specs.Says.{target_of}
+use Rattle.bundle_targets.specs.Judged.{IsJudged}
+use Rattle.bundle_targets.specs.Stages.{is_meant_in}
 use Rattle.bundle_targets.specs.declared.linking.Linking.{Linking}
 use Rattle.bundle_targets.specs.declared.target.Resolution.{Resolution}
 use Rattle.bundle_targets.specs.declared.target.Resolution.TheVariants as f
@@ -21,3 +23,13 @@ found_says f.ExternalStar = r.ExternalStar
 pub record IsLinkingOf (p : Program) (linking : Linking) : Type 0 where
   pub index : IsIndexOf p linking.index
   pub common_js : (c : ℕ) → TellsCommonJs p c (flagged linking.common_js.items c)
+
+-- whether the object of a module's namespace is found to be meant
+abbrev pub has_object : Linking → ℕ → Bool
+has_object linking m = is_meant_in linking.meant.targets m
+
+-- the faults that are told are the first of the listed modules: of the calls of `require`, and of what is judged after the
+-- declarations, if it is so that the objects of just those namespaces are meant that are found to be
+pub record IsJudgedBy (p : Program) (list : List ℕ) (linking : Linking) : Type 0 where
+  pub calls : IsJudged p (has_object linking) list 0 2 linking.call_fault
+  pub links : IsJudged p (has_object linking) list 3 9 linking.link_fault

@@ -1,6 +1,17 @@
 //! What is wrong with the modules of a bundle, in the order in which it is judged.
 
-ghost use Rattle.std.specs.Prelude.{◌≡◌, OnOk};
+ghost use Rattle.std.specs.Prelude.{◌≡◌, ◌↔◌, Bool, Contains, IfOk, IsTrue, OnOk, Some, option_map, suc, ℕ};
+ghost use Rattle.bundle_name.specs.FileName.{Name};
+ghost use Rattle.bundle_terms.specs.Nodes.{Text};
+ghost use Rattle.bundle_terms.specs.Faults.{NameFault, asked_by_export};
+ghost use Rattle.bundle_terms.specs.Linking.{IsMissing, exports as exports_of, imports as imports_of};
+ghost use Rattle.bundle_terms.specs.Program.{Program};
+ghost use Rattle.bundle_tables.specs.TablesOf.{entry_by_origin, taken_of};
+ghost use Rattle.bundle_index.specs.Leads.{required_of};
+ghost use Rattle.bundle_index.specs.Outside.{IsIndexOf};
+ghost use Rattle.bundle_index.specs.Programs.{AreModulesOf, Asks, IsTableOf};
+ghost use Rattle.bundle_targets.specs.Judged.{IsFoundIn, IsJudged, IsOfNames, IsOneOf, by_exports, by_imports, fault_by};
+ghost use Rattle.bundle_targets.specs.Stages.{AreKindsOf, IsWrongIn, LeadsToEs, asked_by, is_meant_in, stage_of};
 
 use crate::target::{Fault, FaultKind, Target};
 use bundle_index::index::DEFAULT;
@@ -10,17 +21,21 @@ use indexmap::IndexSet;
 use std::alloc::{AllocError, Global};
 
 /// The first fault of the literal calls of `require`: of the entry, and then of a module that is no script.
-pub fn call_fault_of<'a>(kinds: &Kinds<'_, '_, 'a>) -> Option<Fault<'a>> {
-    match first_of(kinds, Stage::Entries) {
-        Some(fault) => Some(fault),
-        None => first_of(kinds, Stage::Modules),
-    }
+pub fn call_fault_of<'a>(kinds: &Kinds<'_, '_, 'a>) -> Option<Fault<'a>>
+    ensures { (p : Program) (objects : ℕ → Bool) → AreKindsOf p kinds.now →
+        IsJudged p objects kinds.now.list.now 0 2 result }
+{
+    first_of_two(kinds, Stage::Entries, Stage::Modules)
 }
 
 // The first literal call of a module that is of the entry.
-fn entry_fault<'a>(kinds: &Kinds<'_, '_, 'a>, module: usize) -> Option<Fault<'a>> {
-    for call in &kinds.tables(module)?.calls {
-        if kinds.required(module, call.specifier) == Some(kinds.entry) {
+fn entry_fault<'a>(kinds: &Kinds<'_, '_, 'a>, module: usize) -> Option<Fault<'a>>
+    ensures { (p : Program) (objects : ℕ → Bool) → AreKindsOf p kinds.now →
+        IsFoundIn p objects 0 «module» result }
+{
+    let tables = kinds.tables(module)?;
+    for call in &tables.calls {
+        if is_of_entry(kinds, module, call.specifier) {
             return Some(Fault {
                 kind: FaultKind::RequiredEntry,
                 module,
@@ -31,9 +46,24 @@ fn entry_fault<'a>(kinds: &Kinds<'_, '_, 'a>, module: usize) -> Option<Fault<'a>
     None
 }
 
+// Whether a specifier leads to the entry.
+fn is_of_entry(kinds: &Kinds, module: usize, specifier: &str) -> bool
+    ensures { IsTrue result
+        ↔ (required_of kinds.now.modules.now «module» specifier.now ≡ Some kinds.now.entry) }
+{
+    match kinds.required(module, specifier) {
+        Some(number) => number == kinds.entry,
+        None => false,
+    }
+}
+
 // The first literal call of a module that is of a module which is no script.
-fn es_fault<'a>(kinds: &Kinds<'_, '_, 'a>, module: usize) -> Option<Fault<'a>> {
-    for call in &kinds.tables(module)?.calls {
+fn es_fault<'a>(kinds: &Kinds<'_, '_, 'a>, module: usize) -> Option<Fault<'a>>
+    ensures { (p : Program) (objects : ℕ → Bool) → AreKindsOf p kinds.now →
+        IsFoundIn p objects 1 «module» result }
+{
+    let tables = kinds.tables(module)?;
+    for call in &tables.calls {
         if is_of_module(kinds, module, call.specifier) {
             return Some(Fault {
                 kind: FaultKind::RequiredEsModule,
@@ -45,7 +75,11 @@ fn es_fault<'a>(kinds: &Kinds<'_, '_, 'a>, module: usize) -> Option<Fault<'a>> {
     None
 }
 
-fn is_of_module(kinds: &Kinds, module: usize, specifier: &str) -> bool {
+// Whether a specifier leads to a module that is no script.
+fn is_of_module(kinds: &Kinds, module: usize, specifier: &str) -> bool
+    ensures { (p : Program) → AreModulesOf p kinds.now →
+        IsTrue result ↔ LeadsToEs p «module» specifier.now }
+{
     match kinds.required(module, specifier) {
         Some(number) => match kinds.tables(number) {
             Some(tables) => !tables.is_script,
@@ -62,29 +96,57 @@ pub fn link_fault_of<'a>(
     index: &mut Index<'a>,
     meant: &IndexSet<Target<'a>>,
 ) -> Result<Option<Fault<'a>>, AllocError>
-    ensures { OnOk result (index.new ≡ index.old) }
+    ensures right { IfOk result (λ found. (p : Program) → AreKindsOf p kinds.now → IsIndexOf p index.old →
+        IsJudged p (is_meant_in meant.now) kinds.now.list.now 3 9 found) }
+    ensures same { OnOk result (index.new ≡ index.old) }
 {
-    if let Some(fault) = first_of(kinds, Stage::Awaits) {
+    if let Some(fault) = first_of_two(kinds, Stage::Awaits, Stage::Stars) {
         return Ok(Some(fault));
     }
-    if let Some(fault) = first_of(kinds, Stage::Stars) {
+    let name = names_fault(alloc, kinds, index)?;
+    if let Some(fault) = name {
         return Ok(Some(fault));
     }
+    let object = objects_fault(alloc, kinds, index, meant)?;
+    if let Some(fault) = object {
+        return Ok(Some(fault));
+    }
+    Ok(first_of_two(kinds, Stage::Externals, Stage::Arguments))
+}
+
+// The first name among the listed modules that is asked for and not given once.
+fn names_fault<'a>(
+    alloc: Global,
+    kinds: &Kinds<'_, '_, 'a>,
+    index: &mut Index<'a>,
+) -> Result<Option<Fault<'a>>, AllocError>
+    ensures right { IfOk result (λ found. (p : Program) (objects : ℕ → Bool) → AreKindsOf p kinds.now → IsIndexOf p index.old →
+        IsJudged p objects kinds.now.list.now 5 6 found) }
+    ensures same { OnOk result (index.new ≡ index.old) }
+{
     for module in kinds.list {
-        if let Some(fault) = name_fault(alloc, kinds, index, *module)? {
+        let found = name_fault(alloc, kinds, index, *module)?;
+        if let Some(fault) = found {
             return Ok(Some(fault));
         }
     }
+    Ok(None)
+}
+
+// The first listed module whose object is meant, and whose names are not all known.
+fn objects_fault<'a>(
+    alloc: Global,
+    kinds: &Kinds<'_, '_, 'a>,
+    index: &mut Index<'a>,
+    meant: &IndexSet<Target<'a>>,
+) -> Result<Option<Fault<'a>>, AllocError>
+    ensures right { IfOk result (λ found. (p : Program) → IsIndexOf p index.old →
+        IsJudged p (is_meant_in meant.now) kinds.now.list.now 6 7 found) }
+    ensures same { OnOk result (index.new ≡ index.old) }
+{
     for module in kinds.list {
-        if let Some(fault) = object_fault(alloc, index, meant, *module)? {
-            return Ok(Some(fault));
-        }
-    }
-    if kinds.setting.iife {
-        if let Some(fault) = first_of(kinds, Stage::Externals) {
-            return Ok(Some(fault));
-        }
-        if let Some(fault) = first_of(kinds, Stage::Arguments) {
+        let found = object_fault(alloc, index, meant, *module)?;
+        if let Some(fault) = found {
             return Ok(Some(fault));
         }
     }
@@ -98,21 +160,22 @@ fn object_fault<'a>(
     meant: &IndexSet<Target<'a>>,
     module: usize,
 ) -> Result<Option<Fault<'a>>, AllocError>
-    ensures { OnOk result (index.new ≡ index.old) }
+    ensures right { IfOk result (λ found. (p : Program) → IsIndexOf p index.old →
+        IsFoundIn p (is_meant_in meant.now) 6 «module» found) }
+    ensures same { OnOk result (index.new ≡ index.old) }
 {
     if !meant.contains(&Target::Namespace { module }) {
         return Ok(None);
     }
     let is_starred = index.has_external_star(alloc, module)?;
-    Ok(if is_starred {
-        Some(Fault {
+    if is_starred {
+        return Ok(Some(Fault {
             kind: FaultKind::NamespaceOverExternalStar,
             module,
             name: "",
-        })
-    } else {
-        None
-    })
+        }));
+    }
+    Ok(None)
 }
 
 /// What is judged of all modules before the next.
@@ -126,8 +189,22 @@ enum Stage {
     Arguments,
 }
 
+// The first fault of a stage, and then of the next, among the listed modules.
+fn first_of_two<'a>(kinds: &Kinds<'_, '_, 'a>, stage: Stage, next: Stage) -> Option<Fault<'a>>
+    ensures { (p : Program) (objects : ℕ → Bool) → AreKindsOf p kinds.now → stage_of next ≡ suc (stage_of stage) →
+        IsJudged p objects kinds.now.list.now (stage_of stage) (suc (stage_of next)) result }
+{
+    match first_of(kinds, stage) {
+        Some(fault) => Some(fault),
+        None => first_of(kinds, next),
+    }
+}
+
 // The first fault of a stage among the listed modules.
-fn first_of<'a>(kinds: &Kinds<'_, '_, 'a>, stage: Stage) -> Option<Fault<'a>> {
+fn first_of<'a>(kinds: &Kinds<'_, '_, 'a>, stage: Stage) -> Option<Fault<'a>>
+    ensures { (p : Program) (objects : ℕ → Bool) → AreKindsOf p kinds.now →
+        IsJudged p objects kinds.now.list.now (stage_of stage) (suc (stage_of stage)) result }
+{
     for module in kinds.list {
         if let Some(fault) = fault_in(kinds, stage, *module) {
             return Some(fault);
@@ -137,7 +214,10 @@ fn first_of<'a>(kinds: &Kinds<'_, '_, 'a>, stage: Stage) -> Option<Fault<'a>> {
 }
 
 // The first fault of a stage in a module.
-fn fault_in<'a>(kinds: &Kinds<'_, '_, 'a>, stage: Stage, module: usize) -> Option<Fault<'a>> {
+fn fault_in<'a>(kinds: &Kinds<'_, '_, 'a>, stage: Stage, module: usize) -> Option<Fault<'a>>
+    ensures { (p : Program) (objects : ℕ → Bool) → AreKindsOf p kinds.now →
+        IsFoundIn p objects (stage_of stage) «module» result }
+{
     match stage {
         Stage::Entries => entry_fault(kinds, module),
         Stage::Modules => es_fault(kinds, module),
@@ -149,8 +229,12 @@ fn fault_in<'a>(kinds: &Kinds<'_, '_, 'a>, stage: Stage, module: usize) -> Optio
 }
 
 // Whether an `await` stands outside functions in a CommonJS module.
-fn await_fault<'a>(kinds: &Kinds<'_, '_, 'a>, module: usize) -> Option<Fault<'a>> {
-    if kinds.is_common_js(module) && kinds.tables(module)?.awaits {
+fn await_fault<'a>(kinds: &Kinds<'_, '_, 'a>, module: usize) -> Option<Fault<'a>>
+    ensures { (p : Program) (objects : ℕ → Bool) → AreKindsOf p kinds.now →
+        IsFoundIn p objects 3 «module» result }
+{
+    let tables = kinds.tables(module)?;
+    if tables.awaits && kinds.is_common_js(module) {
         return Some(Fault {
             kind: FaultKind::AwaitInCommonJs,
             module,
@@ -161,8 +245,12 @@ fn await_fault<'a>(kinds: &Kinds<'_, '_, 'a>, module: usize) -> Option<Fault<'a>
 }
 
 // The first star of a CommonJS module.
-fn star_fault<'a>(kinds: &Kinds<'_, '_, 'a>, module: usize) -> Option<Fault<'a>> {
-    for star in &kinds.tables(module)?.stars {
+fn star_fault<'a>(kinds: &Kinds<'_, '_, 'a>, module: usize) -> Option<Fault<'a>>
+    ensures { (p : Program) (objects : ℕ → Bool) → AreKindsOf p kinds.now →
+        IsFoundIn p objects 4 «module» result }
+{
+    let tables = kinds.tables(module)?;
+    for star in &tables.stars {
         if let Lead::CommonJs(_) = kinds.lead(module, *star) {
             return Some(Fault {
                 kind: FaultKind::StarOfCommonJs,
@@ -174,9 +262,16 @@ fn star_fault<'a>(kinds: &Kinds<'_, '_, 'a>, module: usize) -> Option<Fault<'a>>
     None
 }
 
-// The first import or re-export of an external.
-fn external_fault<'a>(kinds: &Kinds<'_, '_, 'a>, module: usize) -> Option<Fault<'a>> {
-    for source in &kinds.tables(module)?.sources {
+// The first import or re-export of an external, where the bundle is one function's call.
+fn external_fault<'a>(kinds: &Kinds<'_, '_, 'a>, module: usize) -> Option<Fault<'a>>
+    ensures { (p : Program) (objects : ℕ → Bool) → AreKindsOf p kinds.now →
+        IsFoundIn p objects 7 «module» result }
+{
+    if !kinds.setting.iife {
+        return None;
+    }
+    let tables = kinds.tables(module)?;
+    for source in &tables.sources {
         if source.is_external {
             return Some(Fault {
                 kind: FaultKind::ExternalUnderIife,
@@ -188,9 +283,17 @@ fn external_fault<'a>(kinds: &Kinds<'_, '_, 'a>, module: usize) -> Option<Fault<
     None
 }
 
-// Whether an `arguments` that nothing binds stands in an ECMAScript module.
-fn arguments_fault<'a>(kinds: &Kinds<'_, '_, 'a>, module: usize) -> Option<Fault<'a>> {
-    if !kinds.is_common_js(module) && kinds.tables(module)?.has_free_arguments {
+// Whether an `arguments` that nothing binds stands in an ECMAScript module, where the bundle is one
+// function's call.
+fn arguments_fault<'a>(kinds: &Kinds<'_, '_, 'a>, module: usize) -> Option<Fault<'a>>
+    ensures { (p : Program) (objects : ℕ → Bool) → AreKindsOf p kinds.now →
+        IsFoundIn p objects 8 «module» result }
+{
+    if !kinds.setting.iife {
+        return None;
+    }
+    let tables = kinds.tables(module)?;
+    if tables.has_free_arguments && !kinds.is_common_js(module) {
         return Some(Fault {
             kind: FaultKind::ArgumentsUnderIife,
             module,
@@ -207,19 +310,28 @@ fn name_fault<'a>(
     index: &mut Index<'a>,
     module: usize,
 ) -> Result<Option<Fault<'a>>, AllocError>
-    ensures { OnOk result (index.new ≡ index.old) }
+    ensures right { IfOk result (λ found. (p : Program) (objects : ℕ → Bool) → AreKindsOf p kinds.now → IsIndexOf p index.old →
+        IsFoundIn p objects 5 «module» found) }
+    ensures same { OnOk result (index.new ≡ index.old) }
 {
     let Some(tables) = kinds.tables(module) else {
         return Ok(None);
     };
     let import = import_fault(alloc, kinds, index, module, tables)?;
     let export = export_fault(alloc, kinds, index, module, tables)?;
-    Ok(match (import, export) {
+    Ok(first_placed(import, export))
+}
+
+// The one that stands first.
+fn first_placed<'a>(import: Option<Placed<'a>>, export: Option<Placed<'a>>) -> Option<Fault<'a>>
+    ensures { IsOneOf (option_map (λ placed. placed.fault) import.entry) (option_map (λ placed. placed.fault) export.entry) result }
+{
+    match (import, export) {
         (Some(first), Some(second)) if second.place < first.place => Some(second.fault),
         (Some(first), _) => Some(first.fault),
         (None, Some(second)) => Some(second.fault),
         (None, None) => None,
-    })
+    }
 }
 
 /// A fault at a place of its module.
@@ -237,11 +349,14 @@ fn import_fault<'a>(
     module: usize,
     tables: &Tables<'a>,
 ) -> Result<Option<Placed<'a>>, AllocError>
-    ensures { OnOk result (index.new ≡ index.old) }
+    ensures right { IfOk result (λ found. (p : Program) → AreModulesOf p kinds.now → IsIndexOf p index.old →
+        IsTableOf p «module» tables.now →
+        IsOfNames p «module» (by_imports (imports_of p «module»)) (option_map (λ placed. placed.fault) found)) }
+    ensures same { OnOk result (index.new ≡ index.old) }
 {
     for import in &tables.imports {
-        let asked = taking(kinds, module, import.specifier, import.taken, None);
-        if let Some(fault) = asked_fault(alloc, index, module, asked)? {
+        let found = taken_fault(alloc, kinds, index, module, import.specifier, import.taken)?;
+        if let Some(fault) = found {
             let place = import.place;
             return Ok(Some(Placed { place, fault }));
         }
@@ -257,32 +372,74 @@ fn export_fault<'a>(
     module: usize,
     tables: &Tables<'a>,
 ) -> Result<Option<Placed<'a>>, AllocError>
-    ensures { OnOk result (index.new ≡ index.old) }
+    ensures right { IfOk result (λ found. (p : Program) → AreModulesOf p kinds.now → IsIndexOf p index.old →
+        IsTableOf p «module» tables.now →
+        IsOfNames p «module» (by_exports (exports_of p «module»)) (option_map (λ placed. placed.fault) found)) }
+    ensures same { OnOk result (index.new ≡ index.old) }
 {
     for export in &tables.exports {
-        if let Origin::Indirect { specifier, taken } = export.origin {
-            let asked = taking(kinds, module, specifier, taken, None);
-            if let Some(fault) = asked_fault(alloc, index, module, asked)? {
-                let place = export.place;
-                return Ok(Some(Placed { place, fault }));
-            }
+        let found = origin_fault(alloc, kinds, index, module, export.origin)?;
+        if let Some(fault) = found {
+            let place = export.place;
+            return Ok(Some(Placed { place, fault }));
         }
     }
     Ok(None)
 }
 
-// What is wrong with a name that a module asks for.
+// What is wrong with the name that an export asks for.
+fn origin_fault<'a>(
+    alloc: Global,
+    kinds: &Kinds<'_, '_, 'a>,
+    index: &mut Index<'a>,
+    module: usize,
+    origin: Origin<'a>,
+) -> Result<Option<Fault<'a>>, AllocError>
+    ensures right { IfOk result (λ found. (p : Program) (name : Text) → AreModulesOf p kinds.now → IsIndexOf p index.old →
+        Contains (exports_of p «module») (entry_by_origin name origin.entry) →
+        IsOfNames p «module» (asked_by_export (entry_by_origin name origin.entry)) found) }
+    ensures same { OnOk result (index.new ≡ index.old) }
+{
+    match origin {
+        Origin::Indirect { specifier, taken } => {
+            taken_fault(alloc, kinds, index, module, specifier, taken)
+        }
+        Origin::Local { .. } => Ok(None),
+    }
+}
+
+// What is wrong with the name that a module asks for by a specifier.
+fn taken_fault<'a>(
+    alloc: Global,
+    kinds: &Kinds<'_, '_, 'a>,
+    index: &mut Index<'a>,
+    module: usize,
+    specifier: &'a str,
+    taken: Taken<'a>,
+) -> Result<Option<Fault<'a>>, AllocError>
+    ensures right { IfOk result (λ found. (p : Program) → AreModulesOf p kinds.now → IsIndexOf p index.old →
+        Asks p «module» specifier.now →
+        IsOfNames p «module» (asked_by specifier.now (taken_of taken.entry)) found) }
+    ensures same { OnOk result (index.new ≡ index.old) }
+{
+    match taking(kinds, module, specifier, taken, None) {
+        Own::Leads(asked) => asked_fault(alloc, index, module, asked),
+        Own::Gives(_) => Ok(None),
+        Own::Nothing => Ok(None),
+    }
+}
+
+// What is wrong with a name of an ECMAScript module that a module asks for.
 fn asked_fault<'a>(
     alloc: Global,
     index: &mut Index<'a>,
     module: usize,
-    asked: Own<'a>,
+    asked: Asked<'a>,
 ) -> Result<Option<Fault<'a>>, AllocError>
-    ensures { OnOk result (index.new ≡ index.old) }
+    ensures right { IfOk result (λ found. (p : Program) → IsIndexOf p index.old →
+        IsWrongIn p «module» asked.entry.module asked.entry.name.now found) }
+    ensures same { OnOk result (index.new ≡ index.old) }
 {
-    let Own::Leads(asked) = asked else {
-        return Ok(None);
-    };
     let answer = index.answer(alloc, asked)?;
     let kind = match answer {
         Answer::One(_) => return Ok(None),
@@ -302,15 +459,17 @@ fn missing_kind<'a>(
     index: &mut Index<'a>,
     asked: Asked<'a>,
 ) -> Result<FaultKind, AllocError>
-    ensures { OnOk result (index.new ≡ index.old) }
+    ensures right { IfOk result (λ kind. (p : Program) → IsIndexOf p index.old →
+        IsMissing p asked.entry.module asked.entry.name.now → (file : Name) →
+        NameFault p asked.entry.module asked.entry.name.now file (fault_by kind file asked.entry.name.now)) }
+    ensures same { OnOk result (index.new ≡ index.old) }
 {
     if asked.name == DEFAULT {
         return Ok(FaultKind::MissingExport);
     }
     let is_starred = index.has_external_star(alloc, asked.module)?;
-    Ok(if is_starred {
-        FaultKind::ExternalStarOnly
-    } else {
-        FaultKind::MissingExport
-    })
+    if is_starred {
+        return Ok(FaultKind::ExternalStarOnly);
+    }
+    Ok(FaultKind::MissingExport)
 }

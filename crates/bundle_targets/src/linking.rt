@@ -1,11 +1,12 @@
 //! The modules of one bundle, linked.
 
-ghost use Rattle.std.specs.Prelude.{IfOk};
+ghost use Rattle.std.specs.Prelude.{◌≡◌, IfOk, List, ℕ};
 ghost use Rattle.bundle_terms.specs.Linking.{IsMissing};
 ghost use Rattle.bundle_terms.specs.Program.{Program};
 ghost use Rattle.bundle_terms.specs.Tables.{IsResolution, TellsCommonJs};
 ghost use Rattle.bundle_index.specs.Programs.{IsProgramOf};
-ghost use Rattle.bundle_targets.specs.Linked.{IsLinkingOf, found_says};
+ghost use Rattle.bundle_targets.specs.Judged.{IsJudged};
+ghost use Rattle.bundle_targets.specs.Linked.{IsJudgedBy, IsLinkingOf, found_says, has_object};
 
 use crate::faults::{call_fault_of, link_fault_of};
 use crate::meant::{Meant, meant_in};
@@ -70,8 +71,11 @@ impl<'a> Linking<'a> {
         entry: usize,
         setting: Setting,
     ) -> Result<Linking<'a>, AllocError>
-        ensures { IfOk result (λ linking. (p : Program) →
+        ensures linked { IfOk result (λ linking. (p : Program) →
             IsProgramOf p modules.now list.now entry setting.require → IsLinkingOf p linking) }
+        ensures judged { IfOk result (λ linking. (p : Program) →
+            IsProgramOf p modules.now list.now entry setting.require →
+            p.settings.iife ≡ setting.iife → IsJudgedBy p list.now linking) }
     {
         let kinds = Kinds::new(alloc, modules, list, entry, setting)?;
         let mut index = Index::new(alloc, &kinds)?;
@@ -128,7 +132,9 @@ impl<'a> Linking<'a> {
     }
 
     /// Whether the object of a module's namespace is meant.
-    pub fn is_object_meant(&self, module: usize) -> bool {
+    pub fn is_object_meant(&self, module: usize) -> bool
+        ensures { result ≡ has_object self.now «module» }
+    {
         self.meant.targets.contains(&Target::Namespace { module })
     }
 
@@ -178,12 +184,18 @@ impl<'a> Linking<'a> {
 
     /// The first fault of the literal calls of `require`, which is judged before the declarations of
     /// modules are.
-    pub fn call_fault(&self) -> Option<Fault<'a>> {
+    pub fn call_fault(&self) -> Option<Fault<'a>>
+        ensures { (p : Program) (list : List ℕ) → IsJudgedBy p list self.now →
+            IsJudged p (has_object self.now) list 0 2 result }
+    {
         self.call_fault
     }
 
     /// The first fault of the linking, which is judged after them.
-    pub fn link_fault(&self) -> Option<Fault<'a>> {
+    pub fn link_fault(&self) -> Option<Fault<'a>>
+        ensures { (p : Program) (list : List ℕ) → IsJudgedBy p list self.now →
+            IsJudged p (has_object self.now) list 3 9 result }
+    {
         self.link_fault
     }
 }

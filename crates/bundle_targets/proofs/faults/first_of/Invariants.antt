@@ -1,0 +1,10 @@
+-- No module before has a fault of the stage.
+use Rattle.std.proofs.Common.{ℕ, Bool}
+use Rattle.bundle_terms.specs.Program.{Program}
+use Rattle.bundle_targets.specs.Judged.{HasNone}
+use Rattle.bundle_targets.specs.Stages.{AreKindsOf, stage_of}
+use Rattle.bundle_targets.proofs.FirstLemmas.{HoldsBelow}
+use Rattle.bundle_targets.proofs.faults.first_of.Given as goal
+
+abbrev pub invariant-loop-module : goal.invariant-loop-module
+invariant-loop-module l = (p : Program) (objects : ℕ → Bool) → AreKindsOf p l.kinds → HoldsBelow (HasNone p objects (stage_of l.stage)) l.kinds.list.now l.module-index
