@@ -168,12 +168,7 @@ fn linked_modules<'a>(
 {
     let tables = tables_of_all(alloc, modules, config)?;
     let numbered = numbered_modules(alloc, modules, &tables)?;
-    Ok(LinkedModules::new(
-        alloc,
-        entry,
-        &numbered,
-        setting_of(config),
-    )?)
+    Ok(LinkedModules::new(alloc, entry, &numbered, setting_of(config))?)
 }
 
 // The modules as they are linked by their numbers.
