@@ -9,7 +9,7 @@ use Rattle.bundle_targets.proofs.faults.taken_fault.Goals as goal
 pub returns-in-Leads-clause-right : goal.returns-in-Leads-clause-right
 returns-in-Leads-clause-right c =
     IfOk-weaker c.asked_fault.result _ _ (λ found known. λ p w v asks.
-        leads_wrong p c.args.kinds.now w c.args.module c.args.specifier.now asks (taken_of c.args.taken) c.in-Leads.asked.module c.in-Leads.asked.name.now found (sym (ap own_says c.in-Leads.is) ∙ c.taking.ensures) (known p v)) c.asked_fault.ensures.right
+    leads_wrong p c.args.kinds.now w c.args.module c.args.specifier.now asks (taken_of c.args.taken) c.in-Leads.asked.module c.in-Leads.asked.name.now found (sym (ap own_says c.in-Leads.is) ∙ c.taking.ensures) (known p v)) c.asked_fault.ensures.right
 
 pub returns-in-Gives : goal.returns-in-Gives
 returns-in-Gives c = record {
