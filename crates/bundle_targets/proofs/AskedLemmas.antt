@@ -1,30 +1,29 @@
 -- What is wrong with a name that is asked for.
-use Rattle.std.proofs.Common.{◌≡◌, ◌≢◌, ◌⊎◌, inl, inr, ℕ, zero, suc, ◌+◌, ◌<◌, Bool, true, false, not, List, [], ◌∷◌, ◌++◌, Option, Some, None, Contains, length, map, get_or, refl, sym, ap, ◌∙◌, subst, if◌then◌else◌, arith}
-use Rattle.std.specs.Prelude.{IsTrue, filter, flat_map, slice_get}
+use Rattle.std.proofs.Common.{◌≡◌, inl, inr, ℕ, ◌+◌, ◌<◌, not, List, [], ◌∷◌, ◌++◌, Option, Some, None, Contains, length, map, get_or, refl, sym, ap, ◌∙◌, subst, if◌then◌else◌, arith}
+use Rattle.std.specs.Prelude.{IsTrue, flat_map, slice_get}
 use Rattle.std.proofs.lemmas.Option.{none-some, same_Some, slice_get-get_or}
 use Rattle.bundle_name.specs.FileName.{Name}
 use Rattle.bundle_terms.specs.Nodes.{Text}
-use Rattle.bundle_terms.specs.Statements.{default_name}
-use Rattle.bundle_terms.specs.Entries.{Taken, Named, Whole, ImportEntry, ExportEntry, Local, Indirect, Star}
-use Rattle.bundle_terms.specs.Program.{Program, is_external, resolves}
-use Rattle.bundle_terms.specs.Linking.{IsAmbiguous, IsCommonJs, IsMissing, IsModule, Linked, Origin, Target, exports, imports}
+use Rattle.bundle_terms.specs.Entries.{Taken, Named, Whole, Indirect}
+use Rattle.bundle_terms.specs.Program.{Program, is_external}
+use Rattle.bundle_terms.specs.Linking.{IsCommonJs, IsModule, Linked, Origin, Target, exports, imports}
 use Rattle.bundle_terms.specs.Tables.{AreTwo, is_star}
 use Rattle.bundle_terms.specs.Faults as g
-use Rattle.bundle_terms.specs.Faults.{AskedName, NameFault, ambiguous, external_only, missing, StarsExternal, asked_by_export, asked_by_import}
+use Rattle.bundle_terms.specs.Faults.{AskedName, NameFault, ambiguous, external_only, missing, asked_by_export, asked_by_import}
 use Rattle.bundle_tables.specs.TablesOf.{entry_by_origin, export_entry_of, import_entry_of, taken_of}
 use Rattle.bundle_tables.specs.declared.table.Export.{Export}
 use Rattle.bundle_tables.specs.declared.table.Import.{Import}
 use Rattle.bundle_tables.specs.declared.table.Tables.{Tables}
 use Rattle.bundle_index.specs.declared.kinds.Kinds.{Kinds}
 use Rattle.bundle_index.specs.Leads.{lead_of}
-use Rattle.bundle_index.specs.Programs.{AreModulesOf, Asks, IsTableOf, by_entry, by_import, lead_in}
-use Rattle.bundle_index.specs.Said.{Lead, LeadsIn, Outside, ToModule, ToCommonJs, Nowhere, Said, It, On, Naught, said_by}
+use Rattle.bundle_index.specs.Programs.{AreModulesOf, Asks, IsTableOf, by_import}
+use Rattle.bundle_index.specs.Said.{Lead, LeadsIn, Outside, ToModule, ToCommonJs, Nowhere, It, On, Naught, said_by}
 use Rattle.bundle_index.proofs.AskedLemmas.{flat_back, flat_on, only_one}
 use Rattle.bundle_index.proofs.HandedLemmas.{got, got_there}
 use Rattle.bundle_index.proofs.ProgramLemmas.{filter_back, leads_right, map_on, same_lead}
 use Rattle.bundle_targets.specs.declared.target.Fault.{Fault}
-use Rattle.bundle_targets.specs.Judged.{IsOfName, IsOfNames, by_exports, by_imports}
-use Rattle.bundle_targets.specs.Stages.{IsWrong, IsWrongIn, asked_by}
+use Rattle.bundle_targets.specs.Judged.{IsOfNames, by_exports, by_imports}
+use Rattle.bundle_targets.specs.Stages.{IsWrongIn, asked_by}
 use Rattle.bundle_targets.proofs.FirstLemmas.{HoldsBelow, holds_all, holds_more}
 use Rattle.bundle_targets.proofs.NameLemmas.{without_stars}
 

@@ -1,5 +1,5 @@
 -- The literal calls of a module stand in the order of their places.
-use Rattle.std.proofs.Common.{◌≡◌, ◌⊎◌, inl, inr, ℕ, zero, suc, ◌+◌, ◌<◌, ◌≤◌, Bool, true, false, not, List, [], ◌∷◌, ◌++◌, Option, Some, None, Contains, map, refl, sym, ap, ◌∙◌, subst, if◌then◌else◌, cond, arith}
+use Rattle.std.proofs.Common.{◌≡◌, inl, inr, ℕ, zero, suc, ◌+◌, ◌≤◌, Bool, true, false, not, List, [], ◌∷◌, ◌++◌, Option, Some, None, Contains, map, refl, sym, ap, subst, if◌then◌else◌, cond, arith}
 use Rattle.std.specs.Prelude.{filter, slice_get}
 use Rattle.std.proofs.lemmas.Bool.{false≢true}
 use Rattle.std.proofs.lemmas.Option.{none-some, same_Some}
@@ -9,7 +9,7 @@ use Rattle.bundle_terms.specs.Entries.{RequireCall, call_at, require_calls, requ
 use Rattle.bundle_terms.specs.Bound.{is_free}
 use Rattle.bundle_terms.specs.Program.{Program, calls_of, is_external, resolves, tree_of}
 use Rattle.bundle_index.proofs.HandedLemmas.{got, got_there}
-use Rattle.bundle_index.proofs.ProgramLemmas.{filter_back, first_or_later, later}
+use Rattle.bundle_index.proofs.ProgramLemmas.{filter_back, first_or_later}
 use Rattle.bundle_targets.proofs.FirstLemmas.{HoldsBelow, map_at, at_map, not_before}
 
 -- none stands before this place

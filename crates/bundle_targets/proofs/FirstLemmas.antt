@@ -1,9 +1,9 @@
 -- The first of a list for which something holds.
-use Rattle.std.proofs.Common.{◌≡◌, ◌≢◌, ◌⊎◌, inl, inr, ℕ, zero, suc, ◌+◌, ◌<◌, ◌≤◌, Bool, true, false, not, List, [], ◌∷◌, Option, Some, None, Contains, length, map, get_or, refl, sym, ap, ◌∙◌, subst, cond, arith}
+use Rattle.std.proofs.Common.{◌≡◌, ◌≢◌, ◌⊎◌, inl, inr, ℕ, zero, suc, ◌+◌, ◌<◌, ◌≤◌, Bool, true, false, not, List, [], ◌∷◌, Option, Some, None, length, map, get_or, refl, sym, ap, ◌∙◌, subst, cond, arith}
 use Rattle.std.specs.Prelude.{bytes_eq, filter, find, slice_get}
 use Rattle.std.specs.List.{flat_map}
 use Rattle.std.proofs.lemmas.Bool.{false≢true}
-use Rattle.std.proofs.lemmas.Option.{none-some, same_Some, slice_get_within, slice_get-get_or, get_or_from_slice_get}
+use Rattle.std.proofs.lemmas.Option.{none-some, same_Some, slice_get_within, get_or_from_slice_get}
 use Rattle.std.proofs.lemmas.Slice.Eq.{bytes_eq-Decides}
 use Rattle.bundle_terms.specs.Nodes.{Text, each_once}
 use Rattle.bundle_terms.specs.Entries.{ExportEntry, Local, Indirect, Star}
@@ -12,9 +12,6 @@ use Rattle.bundle_terms.specs.Tables.{star_of}
 -- it holds of the first ones, as many as these
 abbrev pub HoldsBelow : {A : Type 0} → (A → Type 0) → List A → ℕ → Type 0
 HoldsBelow {A = A} P xs i = (k : ℕ) (x : A) → k < i → slice_get xs k ≡ Some x → P x
-
-pub holds_none : {A : Type 0} (P : A → Type 0) (xs : List A) → HoldsBelow P xs 0
-holds_none P xs k x under at = absurd (omega arith)
 
 pub holds_more : {A : Type 0} (P : A → Type 0) (xs : List A) (i : ℕ) (d : A) → HoldsBelow P xs i → P (get_or xs i d) → HoldsBelow P xs (i + 1)
 holds_more {A = A} P xs i d below here k y under at = by (nat_cases k i under)

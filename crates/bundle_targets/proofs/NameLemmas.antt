@@ -1,21 +1,18 @@
 -- The names that a module asks for are those of its imports and of its indirect exports.
-use Rattle.std.proofs.Common.{◌≡◌, ◌⊎◌, inl, inr, ℕ, zero, suc, Bool, true, false, not, List, [], ◌∷◌, ◌++◌, Option, Some, None, Contains, refl, sym, ap, ◌∙◌, subst, cond, arith}
-use Rattle.std.specs.Prelude.{filter, slice_get, flat_map}
+use Rattle.std.proofs.Common.{◌≡◌, ◌⊎◌, inl, inr, ℕ, Bool, not, List, [], ◌∷◌, ◌++◌, Option, Some, None, Contains, refl, ap, subst, arith}
+use Rattle.std.specs.Prelude.{filter, flat_map}
 use Rattle.std.proofs.lemmas.List.Elements.{Contains-append_left, Contains-append_right, Contains-append_cases}
-use Rattle.bundle_name.specs.FileName.{Name}
 use Rattle.bundle_piece.specs.Item.{Item}
-use Rattle.bundle_terms.specs.Nodes.{Text}
 use Rattle.bundle_terms.specs.Statements.{top_items}
-use Rattle.bundle_terms.specs.Entries.{ImportEntry, ExportEntry, Local, Indirect, Star, imports_of, imports_of_item, exports_of, exports_of_item}
+use Rattle.bundle_terms.specs.Entries.{ExportEntry, Local, Indirect, Star, imports_of, imports_of_item, exports_of, exports_of_item}
 use Rattle.bundle_terms.specs.Program.{Program, tree_of}
-use Rattle.bundle_terms.specs.Linking.{IsModule, exports, imports}
+use Rattle.bundle_terms.specs.Linking.{exports, imports}
 use Rattle.bundle_terms.specs.Tables.{is_star}
-use Rattle.bundle_terms.specs.Faults as g
-use Rattle.bundle_terms.specs.Faults.{AskedName, NameFault, ProgramFault, name, asked_by_export, asked_by_import, asked_by_item, asked_names}
+use Rattle.bundle_terms.specs.Faults.{AskedName, name, asked_by_export, asked_by_import, asked_by_item, asked_names}
 use Rattle.bundle_index.proofs.AskedLemmas.{flat_back, flat_on}
 use Rattle.bundle_index.proofs.HandedLemmas.{got, got_there}
 use Rattle.bundle_targets.specs.declared.target.Fault.{Fault}
-use Rattle.bundle_targets.specs.Judged.{Finds, of_name, IsFoundIn, IsFirstIn, IsOfName, IsOfNames, IsOneOf, by_exports, by_imports}
+use Rattle.bundle_targets.specs.Judged.{of_name, IsFoundIn, IsOfName, IsOfNames, IsOneOf, by_exports, by_imports}
 use Rattle.bundle_targets.proofs.ProgramFaultLemmas.{found_name, name_there}
 
 -- stars ask for no name

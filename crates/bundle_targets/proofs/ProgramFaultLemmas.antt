@@ -1,5 +1,5 @@
 -- What a fault of a stage is.
-use Rattle.std.proofs.Common.{◌≡◌, ◌≢◌, ◌⊎◌, inl, inr, ℕ, zero, suc, Bool, true, false, List, Option, Some, None, Contains, refl, sym, ap, ◌∙◌, subst, arith}
+use Rattle.std.proofs.Common.{◌≡◌, ◌≢◌, ℕ, Bool, true, false, Some, Contains, refl, arith}
 use Rattle.std.specs.Prelude.{IsTrue, codes, slice_get}
 use Rattle.bundle_name.specs.FileName.{Name}
 use Rattle.bundle_terms.specs.Nodes.{Text}

@@ -1,22 +1,16 @@
 -- The faults of one stage in one module, by its table.
-use Rattle.std.proofs.Common.{◌≡◌, ◌≢◌, ◌⊎◌, ◌↔◌, inl, inr, ℕ, zero, suc, ◌+◌, ◌<◌, ◌≤◌, ◌==◌, ◌||◌, Bool, true, false, not, List, [], ◌∷◌, Option, Some, None, Contains, length, map, refl, sym, ap, ◌∙◌, subst, if◌then◌else◌, arith}
-use Rattle.std.specs.Prelude.{IsTrue, codes, slice_get, filter, option_map}
+use Rattle.std.proofs.Common.{◌≡◌, ◌≢◌, ◌↔◌, ℕ, ◌≤◌, ◌==◌, ◌||◌, Bool, true, false, not, List, [], ◌∷◌, Option, Some, None, Contains, map, refl, sym, ap, ◌∙◌, subst, if◌then◌else◌, arith}
+use Rattle.std.specs.Prelude.{IsTrue, slice_get, option_map}
 use Rattle.std.specs.Borrow.{Bor}
 use Rattle.std.specs.List.{flat_map, list_any}
 use Rattle.std.proofs.lemmas.Bool.{false≢true}
 use Rattle.std.proofs.lemmas.Option.{none-some, same_Some}
-use Rattle.bundle_name.specs.FileName.{Name}
-use Rattle.bundle_piece.specs.Item.{Item}
-use Rattle.bundle_terms.specs.Nodes.{Text, each_once, has_text}
-use Rattle.bundle_terms.specs.Awaits.{awaits_outside}
-use Rattle.bundle_terms.specs.Bound.{has_free, is_free}
-use Rattle.bundle_terms.specs.Entries as e
-use Rattle.bundle_terms.specs.Entries.{Star, declared_requests, exports_of, is_script, linked_calls, require_calls}
+use Rattle.bundle_terms.specs.Nodes.{Text, each_once}
+use Rattle.bundle_terms.specs.Entries.{Star, declared_requests, is_script}
 use Rattle.bundle_terms.specs.Program.{Program, calls_of, is_external, resolves, tree_of}
 use Rattle.bundle_terms.specs.Linking.{IsCommonJs, exports}
 use Rattle.bundle_terms.specs.Tables.{star_of}
-use Rattle.bundle_terms.specs.Faults as g
-use Rattle.bundle_terms.specs.Faults.{ProgramFault, StarsExternal, asked_names, required_entry, required_es_module, doubled_declaration, await_in_common_js, star_of_common_js, name, namespace_over_external_star, external_under_iife, arguments_under_iife}
+use Rattle.bundle_terms.specs.Faults.{StarsExternal, required_entry, required_es_module, await_in_common_js, star_of_common_js, name, external_under_iife, arguments_under_iife}
 use Rattle.bundle_tables.specs.Sources.{asked, told_external}
 use Rattle.bundle_tables.specs.TablesOf.{call_entry_of}
 use Rattle.bundle_tables.specs.declared.table.RequireCall.{RequireCall}
@@ -30,17 +24,16 @@ use Rattle.bundle_index.specs.declared.target.LinkModule.{LinkModule}
 use Rattle.bundle_index.specs.declared.target.Target.{Target}
 use Rattle.bundle_index.specs.declared.target.Target.TheVariants as t
 use Rattle.bundle_index.specs.Leads.{flagged, lead_of, lead_told, required_of}
-use Rattle.bundle_index.specs.Programs.{AreModulesOf, IsTableOf, by_star, lead_in}
+use Rattle.bundle_index.specs.Programs.{AreModulesOf, IsTableOf, by_star}
 use Rattle.bundle_index.specs.Said.{Lead, Outside, ToModule, ToCommonJs, Nowhere, LeadsIn}
 use Rattle.bundle_index.proofs.HandedLemmas.{got, got_there}
 use Rattle.bundle_index.proofs.ProgramLemmas.{leads_right, same_lead, stars_on}
-use Rattle.bundle_targets.specs.declared.target.Fault.{Fault}
 use Rattle.bundle_targets.specs.declared.target.FaultKind.TheVariants as k
-use Rattle.bundle_targets.specs.Judged.{Finds, of_stage, of_name, of_object, HasNone, IsFoundIn, fault_says}
-use Rattle.bundle_targets.specs.Stages.{AreKindsOf, LeadsToEs, is_namespace}
-use Rattle.bundle_targets.proofs.FirstLemmas.{FirstStar, HoldsBelow, at_map, first_star, map_at, not_before}
+use Rattle.bundle_targets.specs.Judged.{of_stage, of_object, IsFoundIn}
+use Rattle.bundle_targets.specs.Stages.{LeadsToEs, is_namespace}
+use Rattle.bundle_targets.proofs.FirstLemmas.{HoldsBelow, at_map, first_star, map_at, not_before}
 use Rattle.bundle_targets.proofs.CallLemmas.{call_leads, call_stands, first_call, no_call}
-use Rattle.bundle_targets.proofs.ProgramFaultLemmas.{arguments_there, await_there, entry_call, es_call, external_there, found_in, found_name, found_object, star_there}
+use Rattle.bundle_targets.proofs.ProgramFaultLemmas.{arguments_there, await_there, entry_call, es_call, external_there, found_in, found_object, star_there}
 
 -- whether a specifier leads to a CommonJS module
 abbrev pub is_common : Lead → Bool
@@ -55,25 +48,6 @@ not_common l.External other = refl
 not_common (l.Module d) other = refl
 not_common (l.CommonJs c) other = absurd (other c refl)
 not_common l.Nowhere other = refl
-
-no_call_there : (p : Program) (call : e.RequireCall) → Contains (linked_calls p.settings (is_free []) []) call → ⊥
-no_call_there p call = by p.settings.require
-  where
-    by : (b : Bool) → Contains (if b then filter (λ (it : e.RequireCall). not (has_text it.specifier p.settings.external)) (require_calls (is_free []) []) else []) call → ⊥
-    by true there = omega (arith, there.1)
-    by false there = omega (arith, there.1)
-
--- a tree without items has no fault, but what is judged of declarations and of namespaces
-empty_none : (p : Program) (file : Name) (m stage place : ℕ) (f : g.Fault) → tree_of p m ≡ [] → ProgramFault p file m stage place f → stage ≢ 2 → stage ≢ 6 → ⊥
-empty_none p file m stage place f empty (required_entry call stands leads) two six = no_call_there p call (subst (λ tree. Contains (linked_calls p.settings (is_free tree) tree) call) empty stands)
-empty_none p file m stage place f empty (required_es_module call stands leads es) two six = no_call_there p call (subst (λ tree. Contains (linked_calls p.settings (is_free tree) tree) call) empty stands)
-empty_none p file m stage place f empty (doubled_declaration d kind doubled) two six = two refl
-empty_none p file m stage place f empty (await_in_common_js common awaits) two six = false≢true (sym (ap awaits_outside empty) ∙ awaits)
-empty_none p file m stage place f empty (star_of_common_js {s = s} at leads common) two six = none-some (Star s) (sym (ap (λ tree. slice_get (exports_of tree) place) empty) ∙ at)
-empty_none p file m stage place f empty (name asked at leads wrong) two six = none-some asked (sym (ap (λ tree. slice_get (asked_names tree) place) empty) ∙ at)
-empty_none p file m stage place f empty (namespace_over_external_star meant stars) two six = six refl
-empty_none p file m stage place f empty (external_under_iife {s = s} iife at outside) two six = none-some s (sym (ap (λ tree. slice_get (declared_requests tree) place) empty) ∙ at)
-empty_none p file m stage place f empty (arguments_under_iife iife es free) two six = false≢true (sym (ap (λ tree. has_free tree (codes "arguments")) empty) ∙ free)
 
 -- a lead to a CommonJS module
 common_lead : (p : Program) (m : ℕ) (s : Text) (lead : Lead) → LeadsIn p m s lead → is_common lead ≡ true → (c : ℕ) × (resolves p m s ≡ Some c) × IsCommonJs p c
@@ -96,13 +70,6 @@ table_of p kinds w m tables told is here = by (slice_get kinds.modules.now m) re
     by None at e = absurd (none-some tables (sym e))
     by (Some its) at e = subst (λ (t : Bor Tables). IsTableOf p m t.now) (sym (same_Some tables its.tables e)) (w.tables m its at)
 
-pub none_of : (kinds : Kinds) (m : ℕ) (told : Option (Bor Tables)) → told ≡ option_map (λ (its : LinkModule). its.tables) (slice_get kinds.modules.now m) → told ≡ None → slice_get kinds.modules.now m ≡ None
-none_of kinds m told is none = by (slice_get kinds.modules.now m) refl (sym none ∙ is)
-  where
-    by : (o : Option LinkModule) → slice_get kinds.modules.now m ≡ o → None ≡ option_map (λ (its : LinkModule). its.tables) o → slice_get kinds.modules.now m ≡ None
-    by None at e = at
-    by (Some its) at e = absurd (none-some its.tables e)
-
 -- whether a text leads to a module that is no script
 module _ (p : Program) (kinds : Kinds) (w : AreModulesOf p kinds) (m : ℕ) (s : Text) where
   pub es_told : (d : ℕ) (tables : Tables) → IsTableOf p d tables → required_of kinds.modules.now m s ≡ Some d → IsTrue (not tables.is_script) ↔ LeadsToEs p m s
@@ -117,26 +84,7 @@ module _ (p : Program) (kinds : Kinds) (w : AreModulesOf p kinds) (m : ℕ) (s :
       not_true true h = absurd (false≢true h)
       not_true false h = refl
 
-  pub es_nowhere : required_of kinds.modules.now m s ≡ None → IsTrue false ↔ LeadsToEs p m s
-  es_nowhere leads = ((λ is. absurd (false≢true is)), (λ to. absurd (none-some to.other (sym (w.leads m s ∙ leads) ∙ to.leads))))
-
-  pub es_unknown : (d : ℕ) → required_of kinds.modules.now m s ≡ Some d → slice_get kinds.modules.now d ≡ None → IsTrue false ↔ LeadsToEs p m s
-  es_unknown d leads none = (
-    (λ is. absurd (false≢true is)),
-    (λ to.
-        let same : to.other ≡ d = same_Some to.other d (sym to.leads ∙ (w.leads m s ∙ leads)) in
-        sym to.es ∙ ap (λ n. is_script (tree_of p n)) same ∙ ap is_script (w.trees d none)),
-  )
-
 module _ (p : Program) (objects : ℕ → Bool) (kinds : Kinds) (w : AreModulesOf p kinds) (m : ℕ) where
-  pub no_module : (stage : ℕ) → stage ≢ 2 → stage ≢ 5 → stage ≢ 6 → slice_get kinds.modules.now m ≡ None → IsFoundIn p objects stage m None
-  no_module stage two five six none = λ file place f there. empty_none p file m stage place f (w.trees m none) (found_in there five six) two six
-
-  pub no_name_module : slice_get kinds.modules.now m ≡ None → IsFoundIn p objects 5 m None
-  no_name_module none = λ file place f there.
-      let r = found_name there refl in
-      empty_none p file m 5 r.0 f (w.trees m none) r.1 (λ a. omega arith) (λ a. omega arith)
-
   module _ (calls : List RequireCall) (are : map call_entry_of calls ≡ calls_of p m) where
     -- ---- literal calls
     pub entry_first : (i : ℕ) (call : RequireCall) → slice_get calls i ≡ Some call → HoldsBelow (λ (c : RequireCall). required_of kinds.modules.now m c.specifier.now ≡ Some kinds.entry → ⊥) calls i → required_of kinds.modules.now m call.specifier.now ≡ Some kinds.entry → IsFoundIn p objects 0 m (Some (record { kind = k.RequiredEntry; «module» = m; name = call.specifier }))
@@ -283,13 +231,6 @@ module _ (p : Program) (objects : ℕ → Bool) (kinds : Kinds) (w : AreModulesO
         let at = at_external place r.0 r.2 r.3 in
         false≢true (sym (none place at.0 at.1) ∙ at.2)
 
-  -- ---- where the bundle is no one function's call
-  pub no_function : p.settings.iife ≡ false → IsFoundIn p objects 7 m None × IsFoundIn p objects 8 m None
-  no_function none = (
-    (λ file place f finds. false≢true (sym none ∙ (external_there (found_in finds (λ a. omega arith) (λ a. omega arith)) refl).1)),
-    (λ file place f finds. false≢true (sym none ∙ (arguments_there (found_in finds (λ a. omega arith) (λ a. omega arith)) refl).0)),
-  )
-
 module _ (p : Program) (objects : ℕ → Bool) (m : ℕ) where
   -- ---- objects of namespaces
   pub object_first : (text : Bor Text) → objects m ≡ true → StarsExternal p m → IsFoundIn p objects 6 m (Some (record { kind = k.NamespaceOverExternalStar; «module» = m; name = text }))
@@ -299,9 +240,6 @@ module _ (p : Program) (objects : ℕ → Bool) (m : ℕ) where
     there = λ file. of_object meant stars;
     least = λ file other f finds. omega arith;
   }
-
-  pub object_unmeant : objects m ≡ false → IsFoundIn p objects 6 m None
-  object_unmeant none = λ file place f finds. false≢true (sym none ∙ (found_object finds refl).0)
 
   pub object_closed : (StarsExternal p m → ⊥) → IsFoundIn p objects 6 m None
   object_closed none = λ file place f finds. none (found_object finds refl).1

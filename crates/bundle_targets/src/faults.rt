@@ -96,7 +96,8 @@ pub fn link_fault_of<'a>(
     index: &mut Index<'a>,
     meant: &IndexSet<Target<'a>>,
 ) -> Result<Option<Fault<'a>>, AllocError>
-    ensures right { IfOk result (λ found. (p : Program) → AreKindsOf p kinds.now → IsIndexOf p index.old →
+    ensures right { IfOk result (λ found. (p : Program) →
+        AreKindsOf p kinds.now → IsIndexOf p index.old →
         IsJudged p (is_meant_in meant.now) kinds.now.list.now 3 9 found) }
     ensures same { OnOk result (index.new ≡ index.old) }
 {
@@ -120,7 +121,8 @@ fn names_fault<'a>(
     kinds: &Kinds<'_, '_, 'a>,
     index: &mut Index<'a>,
 ) -> Result<Option<Fault<'a>>, AllocError>
-    ensures right { IfOk result (λ found. (p : Program) (objects : ℕ → Bool) → AreKindsOf p kinds.now → IsIndexOf p index.old →
+    ensures right { IfOk result (λ found. (p : Program) (objects : ℕ → Bool) →
+        AreKindsOf p kinds.now → IsIndexOf p index.old →
         IsJudged p objects kinds.now.list.now 5 6 found) }
     ensures same { OnOk result (index.new ≡ index.old) }
 {
@@ -191,7 +193,8 @@ enum Stage {
 
 // The first fault of a stage, and then of the next, among the listed modules.
 fn first_of_two<'a>(kinds: &Kinds<'_, '_, 'a>, stage: Stage, next: Stage) -> Option<Fault<'a>>
-    ensures { (p : Program) (objects : ℕ → Bool) → AreKindsOf p kinds.now → stage_of next ≡ suc (stage_of stage) →
+    ensures { (p : Program) (objects : ℕ → Bool) → AreKindsOf p kinds.now →
+        stage_of next ≡ suc (stage_of stage) →
         IsJudged p objects kinds.now.list.now (stage_of stage) (suc (stage_of next)) result }
 {
     match first_of(kinds, stage) {
@@ -310,7 +313,8 @@ fn name_fault<'a>(
     index: &mut Index<'a>,
     module: usize,
 ) -> Result<Option<Fault<'a>>, AllocError>
-    ensures right { IfOk result (λ found. (p : Program) (objects : ℕ → Bool) → AreKindsOf p kinds.now → IsIndexOf p index.old →
+    ensures right { IfOk result (λ found. (p : Program) (objects : ℕ → Bool) →
+        AreKindsOf p kinds.now → IsIndexOf p index.old →
         IsFoundIn p objects 5 «module» found) }
     ensures same { OnOk result (index.new ≡ index.old) }
 {
@@ -324,7 +328,8 @@ fn name_fault<'a>(
 
 // The one that stands first.
 fn first_placed<'a>(import: Option<Placed<'a>>, export: Option<Placed<'a>>) -> Option<Fault<'a>>
-    ensures { IsOneOf (option_map (λ placed. placed.fault) import.entry) (option_map (λ placed. placed.fault) export.entry) result }
+    ensures { IsOneOf (option_map (λ placed. placed.fault) import.entry)
+        (option_map (λ placed. placed.fault) export.entry) result }
 {
     match (import, export) {
         (Some(first), Some(second)) if second.place < first.place => Some(second.fault),
@@ -349,9 +354,11 @@ fn import_fault<'a>(
     module: usize,
     tables: &Tables<'a>,
 ) -> Result<Option<Placed<'a>>, AllocError>
-    ensures right { IfOk result (λ found. (p : Program) → AreModulesOf p kinds.now → IsIndexOf p index.old →
+    ensures right { IfOk result (λ found. (p : Program) →
+        AreModulesOf p kinds.now → IsIndexOf p index.old →
         IsTableOf p «module» tables.now →
-        IsOfNames p «module» (by_imports (imports_of p «module»)) (option_map (λ placed. placed.fault) found)) }
+        IsOfNames p «module» (by_imports (imports_of p «module»))
+        (option_map (λ placed. placed.fault) found)) }
     ensures same { OnOk result (index.new ≡ index.old) }
 {
     for import in &tables.imports {
@@ -372,9 +379,11 @@ fn export_fault<'a>(
     module: usize,
     tables: &Tables<'a>,
 ) -> Result<Option<Placed<'a>>, AllocError>
-    ensures right { IfOk result (λ found. (p : Program) → AreModulesOf p kinds.now → IsIndexOf p index.old →
+    ensures right { IfOk result (λ found. (p : Program) →
+        AreModulesOf p kinds.now → IsIndexOf p index.old →
         IsTableOf p «module» tables.now →
-        IsOfNames p «module» (by_exports (exports_of p «module»)) (option_map (λ placed. placed.fault) found)) }
+        IsOfNames p «module» (by_exports (exports_of p «module»))
+        (option_map (λ placed. placed.fault) found)) }
     ensures same { OnOk result (index.new ≡ index.old) }
 {
     for export in &tables.exports {
@@ -395,7 +404,8 @@ fn origin_fault<'a>(
     module: usize,
     origin: Origin<'a>,
 ) -> Result<Option<Fault<'a>>, AllocError>
-    ensures right { IfOk result (λ found. (p : Program) (name : Text) → AreModulesOf p kinds.now → IsIndexOf p index.old →
+    ensures right { IfOk result (λ found. (p : Program) (name : Text) →
+        AreModulesOf p kinds.now → IsIndexOf p index.old →
         Contains (exports_of p «module») (entry_by_origin name origin.entry) →
         IsOfNames p «module» (asked_by_export (entry_by_origin name origin.entry)) found) }
     ensures same { OnOk result (index.new ≡ index.old) }
@@ -417,7 +427,8 @@ fn taken_fault<'a>(
     specifier: &'a str,
     taken: Taken<'a>,
 ) -> Result<Option<Fault<'a>>, AllocError>
-    ensures right { IfOk result (λ found. (p : Program) → AreModulesOf p kinds.now → IsIndexOf p index.old →
+    ensures right { IfOk result (λ found. (p : Program) →
+        AreModulesOf p kinds.now → IsIndexOf p index.old →
         Asks p «module» specifier.now →
         IsOfNames p «module» (asked_by specifier.now (taken_of taken.entry)) found) }
     ensures same { OnOk result (index.new ≡ index.old) }
@@ -461,7 +472,8 @@ fn missing_kind<'a>(
 ) -> Result<FaultKind, AllocError>
     ensures right { IfOk result (λ kind. (p : Program) → IsIndexOf p index.old →
         IsMissing p asked.entry.module asked.entry.name.now → (file : Name) →
-        NameFault p asked.entry.module asked.entry.name.now file (fault_by kind file asked.entry.name.now)) }
+        NameFault p asked.entry.module asked.entry.name.now file
+        (fault_by kind file asked.entry.name.now)) }
     ensures same { OnOk result (index.new ≡ index.old) }
 {
     if asked.name == DEFAULT {

@@ -1,5 +1,5 @@
 -- The first call that is of a module which is no script, or none is.
-use Rattle.std.proofs.Common.{◌≡◌, ◌∙◌, Some, ap, arith, false, map, sym}
+use Rattle.std.proofs.Common.{◌∙◌, ap, arith, false, map, sym}
 use Rattle.std.proofs.lemmas.Bool.{false≢true}
 use Rattle.bundle_tables.specs.declared.table.RequireCall.{RequireCall}
 use Rattle.bundle_tables.specs.TablesOf.{call_entry_of}

@@ -1,6 +1,5 @@
 -- The first source that is external, or none is.
-use Rattle.std.proofs.Common.{◌≡◌, ◌∙◌, Some, ap, arith, false, map, sym}
-use Rattle.std.proofs.lemmas.Bool.{false≢true}
+use Rattle.std.proofs.Common.{◌≡◌, ◌∙◌, ap, arith, false, map}
 use Rattle.bundle_tables.specs.Sources.{asked}
 use Rattle.bundle_tables.specs.declared.table.Source.{Source}
 use Rattle.bundle_targets.proofs.FirstLemmas.{holds_all, holds_more}

@@ -3,7 +3,7 @@ use Rattle.std.proofs.Common.{option_map, subst, sym}
 use Rattle.bundle_index.specs.Outside.{IsIndexOf}
 use Rattle.bundle_targets.specs.declared.faults.Placed.{Placed}
 use Rattle.bundle_targets.proofs.NameLemmas.{one_found}
-use Rattle.bundle_targets.proofs.StageLemmas.{no_name_module, none_of, table_of}
+use Rattle.bundle_targets.proofs.StageLemmas.{table_of}
 use Rattle.bundle_targets.proofs.faults.name_fault.Goals as goal
 
 pub returns-clause-right : goal.returns-clause-right

@@ -1,7 +1,7 @@
 -- Its object is meant, and it stars an external, or not.
 use Rattle.std.proofs.Common.{◌∙◌, sym}
 use Rattle.std.proofs.lemmas.Bool.{false≢true}
-use Rattle.bundle_targets.proofs.StageLemmas.{meant_in, object_closed, object_first, object_unmeant}
+use Rattle.bundle_targets.proofs.StageLemmas.{meant_in, object_closed, object_first}
 use Rattle.bundle_targets.specs.Stages.{is_meant_in}
 use Rattle.bundle_targets.proofs.faults.object_fault.Goals as goal
 

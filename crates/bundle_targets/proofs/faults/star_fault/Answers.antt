@@ -1,6 +1,5 @@
 -- The first star of a CommonJS module, or none is.
-use Rattle.std.proofs.Common.{◌≡◌, ◌∙◌, Some, ap, arith, false, map, sym}
-use Rattle.std.proofs.lemmas.Bool.{false≢true}
+use Rattle.std.proofs.Common.{◌≡◌, ◌∙◌, ap, arith, false, map, sym}
 use Rattle.std.specs.Borrow.{Bor}
 use Rattle.bundle_terms.specs.Nodes.{Text}
 use Rattle.bundle_index.specs.Leads.{lead_of, lead_told}
