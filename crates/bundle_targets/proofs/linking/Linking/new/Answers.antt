@@ -22,7 +22,7 @@ returns-clause-judged c = λ p w iife.
     let index = subst (IsIndexOf p) (sym c.in_ok-meant.ensures) (c.in_ok-index.ensures p modules) in
     let objects = is_meant_in c.in_ok-meant.meant.targets in
     record {
-      calls = subst (λ l. IsJudged p objects l 0 2 c.call_fault_of.result) held.0 (c.call_fault_of.ensures p objects kinds);
+      calls = subst (λ l. IsJudged p objects l 0 2 c.call_fault_of-call_fault.result) held.0 (c.call_fault_of-call_fault.ensures p objects kinds);
       links = subst (λ l. IsJudged p objects l 3 9 c.in_ok-link_fault.link_fault) held.0 (c.in_ok-link_fault.ensures.right p kinds index);
     }
 
