@@ -1,5 +1,5 @@
 -- An export with a new name goes last.
-use Rattle.std.proofs.Common.{◌≡◌, ℕ, ◌+◌, ◌<◌, Bool, false, List, [], ◌∷◌, ◌++◌, Option, None, length, map, take, drop, get_or, bytes_eq, refl, ap, sym, ◌∙◌}
+use Rattle.std.proofs.Common.{◌≡◌, ℕ, ◌+◌, ◌<◌, Bool, false, List, [], ◌∷◌, ◌++◌, None, length, map, take, drop, get_or, bytes_eq, refl, ap, ◌∙◌}
 use Rattle.std.specs.Prelude.{String, string_bytes, filter, not, if◌then◌else◌}
 use Rattle.std.specs.List.{flat_map}
 use Rattle.std.specs.declared.alloc.Global.{Global}

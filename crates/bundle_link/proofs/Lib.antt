@@ -1,2 +1,4 @@
 mod FileLemmas
 mod ItemLemmas
+mod OnceLemmas
+mod ProgramLemmas

@@ -1,4 +1,5 @@
 pub mod Owned
+pub mod Programs
 pub mod Read
 pub mod Refusals
 pub mod Resolved

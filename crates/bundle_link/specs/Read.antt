@@ -1,22 +1,30 @@
 -- The tables of a module are those of its list.
-use Rattle.std.specs.Prelude.{◌≡◌, List, filter, map, not}
+use Rattle.std.specs.Prelude.{◌≡◌, List, codes, filter, map, not}
 use Rattle.std.specs.List.{flat_map}
 use Rattle.bundle_name.specs.FileName.{Name}
 use Rattle.bundle_name.specs.declared.config.Config.{Config}
 use Rattle.bundle_piece.specs.Item.{Item}
 use Rattle.bundle_tables.specs.declared.table.Tables.{Tables}
-use Rattle.bundle_tables.specs.TablesOf.{export_entry_of, import_entry_of}
-use Rattle.bundle_terms.specs.Bound.{is_free}
-use Rattle.bundle_terms.specs.Entries.{Settings, exports_of, imports_of, requests_of}
+use Rattle.bundle_tables.specs.Sources.{asked, told_external}
+use Rattle.bundle_tables.specs.TablesOf.{call_entry_of, export_entry_of, import_entry_of, uses_common_js}
+use Rattle.bundle_terms.specs.Awaits.{awaits_outside}
+use Rattle.bundle_terms.specs.Bound.{has_free, is_free}
+use Rattle.bundle_terms.specs.Entries.{Settings, declared_requests, exports_of, imports_of, is_script, linked_calls, requests_of}
 use Rattle.bundle_terms.specs.Faults.{IsFaultless}
 use Rattle.bundle_terms.specs.Nodes.{each_once}
 use Rattle.bundle_terms.specs.Tables.{is_star, star_of}
 use Rattle.bundle_link.specs.Refusals.{Links}
 
--- the tree has no fault, and these are its requests, imports, exports that have a name, and stars
+-- the tree has no fault, and these are its requests, imports, exports that have a name, stars, what it asks for and its literal calls; whether it is a script, uses a name of CommonJS, awaits outside functions, and uses `arguments` that nothing binds
 pub record AreTablesOf (config : Config) (file : Name) (tree : List Item) (tables : Tables) : Type 0 where
   pub faultless : IsFaultless file tree
   pub requests : (settings : Settings) → Links config settings → map (λ request. request.now) tables.requests.items ≡ requests_of settings (is_free tree) tree
   pub imports : map import_entry_of tables.imports.items ≡ imports_of tree
   pub exports : map export_entry_of tables.exports.items ≡ filter (λ entry. not (is_star entry)) (exports_of tree)
   pub stars : map (λ star. star.now) tables.stars.items ≡ each_once (flat_map star_of (exports_of tree))
+  pub sources : (settings : Settings) → Links config settings → map asked tables.sources.items ≡ map (told_external settings.external) (declared_requests tree)
+  pub calls : (settings : Settings) → Links config settings → map call_entry_of tables.calls.items ≡ linked_calls settings (is_free tree) tree
+  pub script : tables.is_script ≡ is_script tree
+  pub common_js : tables.names_common_js ≡ uses_common_js tree
+  pub awaits : tables.awaits ≡ awaits_outside tree
+  pub arguments : tables.has_free_arguments ≡ has_free tree (codes "arguments")

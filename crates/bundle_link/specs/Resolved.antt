@@ -1,19 +1,14 @@
--- What a linker answers, with texts of its own, and what linking finds by places, in the words of the definitions.
-use Rattle.std.specs.Prelude.{ℕ, List, Option, Some, None, option_map, string_bytes, slice_get}
+-- What a linker answers, with texts of its own, in the words of the definitions.
+use Rattle.std.specs.Prelude.{Option, Some, None, string_bytes}
 use Rattle.std.specs.declared.string.String.{String}
 use Rattle.std.specs.declared.alloc.Global.{Global}
 use Rattle.bundle_terms.specs.Entries as e
 use Rattle.bundle_terms.specs.Linking as l
 use Rattle.bundle_terms.specs.Tables as r
-use Rattle.bundle_index.specs.declared.target.Target.{Target as Place}
-use Rattle.bundle_index.specs.declared.target.Target.TheVariants as p
-use Rattle.bundle_targets.specs.declared.target.Resolution.{Resolution as Found}
-use Rattle.bundle_targets.specs.declared.target.Resolution.TheVariants as f
 use Rattle.bundle_link.specs.declared.target.Target.{Target}
 use Rattle.bundle_link.specs.declared.target.Target.TheVariants as t
 use Rattle.bundle_link.specs.declared.target.Resolution.{Resolution}
 use Rattle.bundle_link.specs.declared.target.Resolution.TheVariants as a
-use Rattle.bundle_tables.specs.TablesOf.{taken_of}
 
 -- what is taken, as it is answered: a name, or the whole
 abbrev pub taken_says : Option (String Global) → e.Taken
@@ -33,32 +28,3 @@ resolution_says (a.One target) = r.One (target_says target)
 resolution_says a.None = r.Nothing
 resolution_says (a.Two first second) = r.Two (target_says first) (target_says second)
 resolution_says a.ExternalStar = r.ExternalStar
-
--- what one takes of another CommonJS module, where both are there
-abbrev pub common_js : Option ℕ → Option ℕ → e.Taken → Option l.Target
-common_js (Some taker) (Some id) taken = Some (l.CommonJs taker id taken)
-common_js _ _ taken = None
-
--- a target, as it was found by places among these numbers of modules
-abbrev pub target_read : List ℕ → Place → Option l.Target
-target_read ids (p.Declared m x) = option_map (λ id. l.Declared id x.now) (slice_get ids m)
-target_read ids (p.Namespace m) = option_map (λ id. l.Namespace id) (slice_get ids m)
-target_read ids (p.External specifier taken) = Some (l.External specifier.now (taken_of taken))
-target_read ids (p.CommonJs taker m taken) = common_js (slice_get ids taker) (slice_get ids m) (taken_of taken)
-
--- one target, where it is there
-abbrev pub one : Option l.Target → r.Resolution
-one (Some target) = r.One target
-one None = r.Nothing
-
--- two targets, where they are there
-abbrev pub two : Option l.Target → Option l.Target → r.Resolution
-two (Some first) (Some second) = r.Two first second
-two _ _ = r.Nothing
-
--- a resolution, as it was found by places
-abbrev pub resolution_read : List ℕ → Found → r.Resolution
-resolution_read ids (f.One target) = one (target_read ids target)
-resolution_read ids f.None = r.Nothing
-resolution_read ids (f.Two first second) = two (target_read ids first) (target_read ids second)
-resolution_read ids f.ExternalStar = r.ExternalStar

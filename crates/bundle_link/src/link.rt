@@ -1,9 +1,15 @@
 //! The modules of one bundle, linked.
 
-ghost use Rattle.std.specs.Prelude.{◌≡◌, Contains, IfErr, IfOk, IfSome, IsNone, false, map, nat_eq};
+ghost use Rattle.std.specs.Prelude.{◌≡◌, Contains, IfErr, IfOk, IfSome, IsNone, false, length, map, nat_eq};
+ghost use Rattle.std.specs.List.{AllZip};
 ghost use Rattle.indexmap.specs.IndexSet.{contains};
 ghost use Rattle.bundle_name.specs.FileName.{name_of};
 ghost use Rattle.bundle_piece.specs.Item.{item_of};
+ghost use Rattle.bundle_linked.specs.Linked.{IsLinkedOf};
+ghost use Rattle.bundle_terms.specs.Program.{Program};
+ghost use Rattle.bundle_terms.specs.Tables.{IsResolution, TellsCommonJs};
+ghost use Rattle.bundle_link.specs.Programs.{AreModulesOf, HasTables, IsLinkerOf};
+ghost use Rattle.bundle_link.specs.Resolved.{resolution_says};
 ghost use Rattle.bundle_link.specs.Read.{AreTablesOf};
 ghost use Rattle.bundle_link.specs.Refusals.{IsLinkRefusal, IsRefusalOfOne, IsTreeRefusal, files_of};
 
@@ -45,6 +51,8 @@ impl<'a> Linker<'a> {
     ) -> Result<Linker<'a>, Error>
         ensures modules { IfOk result (λ linker. linker.modules ≡ modules.entry) }
         ensures entry { IfOk result (λ linker. linker.entry ≡ entry) }
+        ensures linked { IfOk result (λ linker. (p : Program) →
+            AreModulesOf p modules.entry.items config.now entry → IsLinkerOf p linker) }
         ensures refused { IfErr result (IsRefusalOfOne modules.entry.items) }
     {
         let linked = linked_modules(alloc, entry, &modules, config)?;
@@ -113,6 +121,8 @@ impl<'a> Linker<'a> {
     /// What a module gives for a name (ECMA-262, 16.2.1.6.3 ResolveExport). Nothing is given for the name of a module
     /// that is not there.
     pub fn resolve_export(&self, id: ModuleId, name: &str) -> Result<Resolution, AllocError>
+        ensures found { IfOk result (λ resolution. (p : Program) → IsLinkerOf p self.now →
+            IsResolution p id name.now (resolution_says resolution)) }
         ensures absent { contains nat_eq self.now.linked.ids id ≡ false → IfOk result (λ resolution. resolution ≡ Resolution.None) }
     {
         let found = self.linked.resolve(id, name)?;
@@ -121,6 +131,7 @@ impl<'a> Linker<'a> {
 
     /// Whether a module is CommonJS in this bundle. It takes no memory.
     pub fn is_cjs(&self, id: ModuleId) -> bool
+        ensures told { (p : Program) → IsLinkerOf p self.now → TellsCommonJs p id result }
         ensures absent { contains nat_eq self.now.linked.ids id ≡ false → result ≡ false }
     {
         self.linked.is_common_js(id)
@@ -150,7 +161,9 @@ impl<'a> Linker<'a> {
     }
 }
 
-fn setting_of(config: &Config) -> Setting {
+fn setting_of(config: &Config) -> Setting
+    ensures { result.require ≡ config.now.require }
+{
     Setting {
         require: config.require,
         iife: config.module == ModuleType::Iife,
@@ -164,7 +177,9 @@ fn linked_modules<'a>(
     modules: &[TransformedModule<'a>],
     config: &Config,
 ) -> Result<LinkedModules<'a>, Error>
-    ensures { IfErr result (IsRefusalOfOne modules.now) }
+    ensures linked { IfOk result (λ linked. (p : Program) →
+        AreModulesOf p modules.now config.now entry → IsLinkedOf p linked) }
+    ensures refused { IfErr result (IsRefusalOfOne modules.now) }
 {
     let tables = tables_of_all(alloc, modules, config)?;
     let numbered = numbered_modules(alloc, modules, &tables)?;
@@ -176,11 +191,18 @@ fn numbered_modules<'t, 'a>(
     alloc: Global,
     modules: &'t [TransformedModule<'a>],
     tables: &'t [Tables<'a>],
-) -> Result<Vec<NumberedModule<'t, 'a>>, AllocError> {
+) -> Result<Vec<NumberedModule<'t, 'a>>, AllocError>
+    ensures ids { length tables.now ≡ length modules.now → IfOk result (λ numbered.
+        map (λ its. its.id) numbered.items ≡ map (λ its. its.id) modules.now) }
+    ensures deps { length tables.now ≡ length modules.now → IfOk result (λ numbered.
+        map (λ its. its.deps.now) numbered.items ≡ map (λ its. its.deps.items) modules.now) }
+    ensures tables { length tables.now ≡ length modules.now → IfOk result (λ numbered.
+        map (λ its. its.tables.now) numbered.items ≡ tables.now) }
+{
     let mut numbered = Vec::new(alloc);
     for (module, tables) in modules.iter().zip(tables) {
         numbered.push(NumberedModule {
-            id: module.id,
+            id: module.id.as_u32(),
             tables,
             deps: &module.deps,
         })?;
@@ -194,7 +216,8 @@ fn tables_of_all<'a>(
     modules: &[TransformedModule<'a>],
     config: &Config,
 ) -> Result<Vec<Tables<'a>>, Error>
-    ensures { IfErr result (IsRefusalOfOne modules.now) }
+    ensures given { IfOk result (λ tables. AllZip (HasTables config.now) modules.now tables.items) }
+    ensures refused { IfErr result (IsRefusalOfOne modules.now) }
 {
     let mut tables = Vec::new(alloc);
     for module in modules {

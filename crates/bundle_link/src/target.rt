@@ -3,7 +3,8 @@
 ghost use Rattle.std.specs.Prelude.{◌≡◌, IfOk, option_map, slice_get};
 ghost use Rattle.bundle_terms.specs.Linking.{Declared};
 ghost use Rattle.bundle_tables.specs.TablesOf.{taken_of};
-ghost use Rattle.bundle_link.specs.Resolved.{common_js, one, resolution_read, resolution_says, taken_says, target_read, target_says, two};
+ghost use Rattle.bundle_linked.specs.Resolved.{common_js, one, resolution_read, target_read, two};
+ghost use Rattle.bundle_link.specs.Resolved.{resolution_says, taken_says, target_says};
 
 use bundle_id::ModuleId;
 use bundle_tables::Taken;

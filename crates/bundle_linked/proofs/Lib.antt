@@ -1,0 +1,9 @@
+pub mod AlikeLemmas
+pub mod NumberLemmas
+pub mod LeadLemmas
+pub mod PlacedLemmas
+pub mod RequestLemmas
+pub mod GraphLemmas
+pub mod ProgramLemmas
+pub mod ResolvedLemmas
+pub mod ZipLemmas

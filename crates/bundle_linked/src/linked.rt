@@ -1,7 +1,19 @@
 //! What the names of modules stand for, by the numbers of the modules.
 
-ghost use Rattle.std.specs.Prelude.{◌≡◌, IfOk, nat_eq, false};
+ghost use Rattle.std.specs.Prelude.{◌≡◌, ◌≢◌, ℕ, [], IfOk, OnOk, false, filter_map, length, map, nat_eq, unwrap_or};
 ghost use Rattle.indexmap.specs.IndexSet.{contains};
+ghost use Rattle.bundle_graph.specs.Modules.{deps};
+ghost use Rattle.bundle_index.specs.Numbered.{IsOnce};
+ghost use Rattle.bundle_index.specs.Programs.{IsProgramOf};
+ghost use Rattle.bundle_targets.specs.Linked.{IsLinkingOf};
+ghost use Rattle.bundle_terms.specs.Nodes.{numbers_once};
+ghost use Rattle.bundle_terms.specs.Program.{Program};
+ghost use Rattle.bundle_terms.specs.Tables.{IsResolution, TellsCommonJs};
+ghost use Rattle.bundle_linked.specs.Graph.{asked, asked_for, IsGraphOf};
+ghost use Rattle.bundle_linked.specs.Leads.{place_in};
+ghost use Rattle.bundle_linked.specs.Linked.{IsLinkedOf};
+ghost use Rattle.bundle_linked.specs.Numbered.{AreModulesOf};
+ghost use Rattle.bundle_linked.specs.Resolved.{resolution_read};
 
 use crate::module::{NumberedModule, ids_of, leads_of_all};
 use bundle_graph::graph::{ModuleGraph, order};
@@ -29,12 +41,16 @@ impl<'a> LinkedModules<'a> {
         entry: ModuleId,
         modules: &[NumberedModule<'t, 'a>],
         setting: Setting,
-    ) -> Result<LinkedModules<'a>, AllocError> {
+    ) -> Result<LinkedModules<'a>, AllocError>
+        ensures { IfOk result (λ linked. (p : Program) →
+            AreModulesOf p modules.now entry setting.require → IsLinkedOf p linked) }
+    {
         let ids = ids_of(alloc, modules)?;
         let leads = leads_of_all(alloc, modules, &ids)?;
-        let graph = graph_of(alloc, &ids, modules, &leads)?;
+        let linked = link_modules(alloc, modules, &leads)?;
+        let graph = graph_of(alloc, &ids, &linked)?;
         let list = order(alloc, &graph, entry)?;
-        let linking = linking_of(alloc, entry, modules, &ids, &leads, &list, setting)?;
+        let linking = linking_of(alloc, entry, &ids, &linked, &list, setting)?;
         Ok(LinkedModules {
             ids,
             graph,
@@ -46,6 +62,8 @@ impl<'a> LinkedModules<'a> {
     /// What a module gives for a name (ECMA-262, 16.2.1.6.3 ResolveExport), where modules stand by their places among
     /// `ids`. Nothing is given for the name of a module that is not there.
     pub fn resolve(&self, id: ModuleId, name: &str) -> Result<Resolution<'a>, AllocError>
+        ensures found { IfOk result (λ found. (p : Program) → IsLinkedOf p self.now →
+            IsResolution p id name.now (resolution_read self.now.ids.keys found)) }
         ensures absent { contains nat_eq self.now.ids id ≡ false → IfOk result (λ found. found ≡ Resolution.None) }
     {
         match self.ids.get_index_of(&id) {
@@ -56,6 +74,7 @@ impl<'a> LinkedModules<'a> {
 
     /// Whether a module is CommonJS in this bundle.
     pub fn is_common_js(&self, id: ModuleId) -> bool
+        ensures told { (p : Program) → IsLinkedOf p self.now → TellsCommonJs p id result }
         ensures absent { contains nat_eq self.now.ids id ≡ false → result ≡ false }
     {
         match self.ids.get_index_of(&id) {
@@ -83,19 +102,37 @@ impl<'a> LinkedModules<'a> {
     }
 }
 
-// Which module requests which, where their requests lead to these places.
+// Which module requests which, where they stand at the places of these numbers.
 fn graph_of<'t, 'a>(
     alloc: Global,
     ids: &IndexSet<ModuleId>,
-    modules: &[NumberedModule<'t, 'a>],
-    leads: &[IndexMap<String, usize>],
-) -> Result<ModuleGraph, AllocError> {
+    modules: &[LinkModule<'t, 'a>],
+) -> Result<ModuleGraph, AllocError>
+    ensures { IfOk result (λ graph. IsOnce ids.now.keys →
+        IsGraphOf ids.now.keys modules.now (length modules.now) graph) }
+{
     let mut graph = ModuleGraph::new(alloc);
-    for (module, leads) in modules.iter().zip(leads) {
-        graph.add_node(module.id)?;
-        add_requests(&mut graph, ids, module.id, &module.tables.requests, leads)?;
+    for (place, module) in modules.iter().enumerate() {
+        if let Some(id) = ids.get_index(place) {
+            add_module(&mut graph, ids, *id, module)?;
+        }
     }
     Ok(graph)
+}
+
+// Notes what a module requests, of which nothing is noted.
+fn add_module<'t, 'a>(
+    graph: &mut ModuleGraph,
+    ids: &IndexSet<ModuleId>,
+    id: ModuleId,
+    module: &LinkModule<'t, 'a>,
+) -> Result<(), AllocError>
+    ensures own { OnOk result (deps graph.old id ≡ [] → deps graph.new id
+        ≡ numbers_once (asked ids.now.keys «module».now.leads.now «module».now.tables.now.requests.items)) }
+    ensures others { OnOk result ((m : ℕ) → m ≢ id → deps graph.new m ≡ deps graph.old m) }
+{
+    graph.add_node(id)?;
+    add_requests(graph, ids, id, &module.tables.requests, module.leads)
 }
 
 // Notes the requests of a module that lead to one of these.
@@ -105,31 +142,28 @@ fn add_requests(
     id: ModuleId,
     requests: &[&str],
     leads: &IndexMap<String, usize>,
-) -> Result<(), AllocError> {
+) -> Result<(), AllocError>
+    ensures own { OnOk result (deps graph.old id ≡ [] →
+        deps graph.new id ≡ numbers_once (asked ids.now.keys leads.now requests.now)) }
+    ensures others { OnOk result ((m : ℕ) → m ≢ id → deps graph.new m ≡ deps graph.old m) }
+{
     for request in requests {
-        if let Some(place) = leads.get(*request) {
-            if let Some(requested) = ids.get_index(*place) {
-                graph.add_edge(id, *requested)?;
-            }
+        if let Some(requested) = requested_by(ids, request, leads) {
+            graph.add_edge(id, requested)?;
         }
     }
     Ok(())
 }
 
-// What the names of modules stand for, by places.
-fn linking_of<'t, 'a>(
-    alloc: Global,
-    entry: ModuleId,
-    modules: &[NumberedModule<'t, 'a>],
+// The module to which a request leads.
+fn requested_by(
     ids: &IndexSet<ModuleId>,
-    leads: &[IndexMap<String, usize>],
-    list: &[ModuleId],
-    setting: Setting,
-) -> Result<Linking<'a>, AllocError> {
-    let linked = link_modules(alloc, modules, leads)?;
-    let places = places_of(alloc, ids, list)?;
-    let place = ids.get_index_of(&entry).unwrap_or(ids.len());
-    Linking::new(alloc, &linked, &places, place, setting)
+    request: &str,
+    leads: &IndexMap<String, usize>,
+) -> Option<ModuleId>
+    ensures { result ≡ asked_for ids.now.keys leads.now request.now }
+{
+    ids.get_index(*leads.get(request)?).copied()
 }
 
 // The modules as they are linked by places.
@@ -137,7 +171,12 @@ fn link_modules<'l, 't: 'l, 'a>(
     alloc: Global,
     modules: &'l [NumberedModule<'t, 'a>],
     leads: &'l [IndexMap<String, usize>],
-) -> Result<Vec<LinkModule<'l, 'a>>, AllocError> {
+) -> Result<Vec<LinkModule<'l, 'a>>, AllocError>
+    ensures tables { length leads.now ≡ length modules.now → IfOk result (λ linked.
+        map (λ it. it.tables.now) linked.items ≡ map (λ its. its.tables.now) modules.now) }
+    ensures leads { length leads.now ≡ length modules.now → IfOk result (λ linked.
+        map (λ it. it.leads.now) linked.items ≡ leads.now) }
+{
     let mut linked = Vec::new(alloc);
     for (module, leads) in modules.iter().zip(leads) {
         let tables = module.tables;
@@ -146,12 +185,33 @@ fn link_modules<'l, 't: 'l, 'a>(
     Ok(linked)
 }
 
+// What the names of modules stand for, by places.
+fn linking_of<'l, 'a>(
+    alloc: Global,
+    entry: ModuleId,
+    ids: &IndexSet<ModuleId>,
+    modules: &[LinkModule<'l, 'a>],
+    list: &[ModuleId],
+    setting: Setting,
+) -> Result<Linking<'a>, AllocError>
+    ensures { IfOk result (λ linking. (p : Program) →
+        IsProgramOf p modules.now (filter_map (place_in ids.now.keys) list.now)
+        (unwrap_or (place_in ids.now.keys entry) (length ids.now.keys)) setting.require
+        → IsLinkingOf p linking) }
+{
+    let places = places_of(alloc, ids, list)?;
+    let place = ids.get_index_of(&entry).unwrap_or(ids.len());
+    Linking::new(alloc, modules, &places, place, setting)
+}
+
 // The places of these modules.
 fn places_of(
     alloc: Global,
     ids: &IndexSet<ModuleId>,
     list: &[ModuleId],
-) -> Result<Vec<usize>, AllocError> {
+) -> Result<Vec<usize>, AllocError>
+    ensures { IfOk result (λ places. places.items ≡ filter_map (place_in ids.now.keys) list.now) }
+{
     let mut places = Vec::new(alloc);
     for id in list {
         if let Some(place) = ids.get_index_of(id) {

@@ -1,5 +1,4 @@
 -- An export more is there.
-use Rattle.std.proofs.Common.{ap, ◌∙◌, map, arith}
 use Rattle.bundle_link.proofs.ItemLemmas.{next_item}
 use Rattle.bundle_link.proofs.tables.owned_items.Goals as goal
 

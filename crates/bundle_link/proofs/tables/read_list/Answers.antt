@@ -3,6 +3,8 @@ use Rattle.std.proofs.Common.{ap, sym, ◌∙◌, subst, map, string_bytes}
 use Rattle.std.specs.Prelude.{IfSome}
 use Rattle.bundle_name.specs.FileName.{name_of}
 use Rattle.bundle_piece.specs.Item.{item_of}
+use Rattle.bundle_tables.specs.Sources.{told_external}
+use Rattle.bundle_terms.specs.Entries.{declared_requests}
 use Rattle.bundle_terms.specs.Faults.{IsFirstTreeFault}
 use Rattle.bundle_link.proofs.tables.read_list.Goals as goal
 
@@ -11,12 +13,23 @@ returns-in-Ok-clause-given c =
     let file = name_of c.args.file.now in
     let judged = rw c.in-Ok.is at (c.in_ok-answer.ensures.judged file c.in_ok-names.ensures) in
     let requests = rw c.in-Ok.is at c.in_ok-answer.ensures.requests in
+    let calls = rw c.in-Ok.is at c.in_ok-answer.ensures.calls in
+    let arguments = rw c.in-Ok.is at c.in_ok-answer.ensures.arguments in
+    let common_js = rw c.in-Ok.is at c.in_ok-answer.ensures.common_js in
     record {
       faultless = judged;
       requests = λ settings links. requests settings links.0 (links.1 ∙ ap (map string_bytes) (sym c.deref.ensures.value)) c.in_ok-names.ensures;
       imports = rw c.in-Ok.is at c.in_ok-answer.ensures.imports;
       exports = rw c.in-Ok.is at c.in_ok-answer.ensures.exports;
       stars = rw c.in-Ok.is at c.in_ok-answer.ensures.stars;
+      sources = λ settings links.
+          rw c.in-Ok.is at c.in_ok-answer.ensures.sources
+          ∙ ap (λ external. map (told_external external) (declared_requests (map item_of c.args.pieces.now))) (ap (map string_bytes) c.deref.ensures.value ∙ sym links.1);
+      calls = λ settings links. calls settings links.0 (links.1 ∙ ap (map string_bytes) (sym c.deref.ensures.value)) c.in_ok-names.ensures;
+      script = rw c.in-Ok.is at c.in_ok-answer.ensures.script;
+      common_js = common_js c.in_ok-names.ensures;
+      awaits = rw c.in-Ok.is at c.in_ok-answer.ensures.awaits;
+      arguments = arguments c.in_ok-names.ensures;
     }
 
 pub returns-clause-refused : goal.returns-clause-refused

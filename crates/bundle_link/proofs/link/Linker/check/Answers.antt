@@ -10,8 +10,8 @@ pub returns-in_ok-link_refusal-in-Some-get : goal.returns-in_ok-link_refusal-in-
 returns-in_ok-link_refusal-in-Some-get c =
     let all = c.deref.result.now in
     let one = c.in-Some-get.module.now in
-    let there = slice_get_read all (length all) c.match-call_fault.fault.module one refl c.in-Some-get.ensures.lookup.3.0 c.in-Some-get.ensures.lookup.1 in
-    let among = at_place (λ (m : TransformedModule). name_of m.file_name) all c.match-call_fault.fault.module one there in
+    let there = slice_get_read all (length all) c.in-Some.fault.module one refl c.in-Some-get.ensures.lookup.3.0 c.in-Some-get.ensures.lookup.1 in
+    let among = at_place (λ (m : TransformedModule). name_of m.file_name) all c.in-Some.fault.module one there in
     record {
       refused =
           c.in_ok-link_refusal-in-Some-get.ensures (files_of c.args.self.now.modules.items) (subst (λ l. Contains (files_of l) (name_of one.file_name)) c.deref.ensures.value among);

@@ -1,0 +1,24 @@
+-- The modules are linked as those of the program are; where memory runs out nothing is made.
+use Rattle.std.proofs.Common.{List, inl, refl, sym, subst}
+use Rattle.std.proofs.lemmas.Result.{IfOk-from_err, err_from_is_err_and}
+use Rattle.bundle_link.specs.Programs.{AreModulesOf}
+use Rattle.bundle_link.specs.declared.transformed.TransformedModule.{TransformedModule}
+use Rattle.bundle_link.proofs.link.Linker.new.Goals as goal
+
+pub returns-in_err-config-clause-modules : goal.returns-in_err-config-clause-modules
+returns-in_err-config-clause-modules c = IfOk-from_err _ _ c.from_residual-in_err-config.ensures.0
+
+pub returns-in_err-config-clause-entry : goal.returns-in_err-config-clause-entry
+returns-in_err-config-clause-entry c = IfOk-from_err _ _ c.from_residual-in_err-config.ensures.0
+
+pub returns-in_err-config-clause-linked : goal.returns-in_err-config-clause-linked
+returns-in_err-config-clause-linked c = IfOk-from_err _ _ c.from_residual-in_err-config.ensures.0
+
+pub returns-in_err-config-clause-refused : goal.returns-in_err-config-clause-refused
+returns-in_err-config-clause-refused c =
+    let p = err_from_is_err_and c.from_residual-in_err-config.result c.from_residual-in_err-config.ensures.1 in
+    rw (p.1, p.2) (inl refl)
+
+pub returns-clause-linked : goal.returns-clause-linked
+returns-clause-linked c = λ p w.
+    c.in_ok-linked.ensures.linked p (subst (λ (ms : List TransformedModule). AreModulesOf p ms c.args.config.now c.args.entry) (sym c.deref.ensures.value) w)

@@ -1,0 +1,18 @@
+-- When linked modules are those of a program.
+use Rattle.std.specs.Prelude.{◌≡◌, ℕ, [], Some, Contains}
+use Rattle.bundle_graph.specs.Modules.{deps}
+use Rattle.bundle_terms.specs.Nodes.{Text}
+use Rattle.bundle_terms.specs.Program.{Program, tree_of, requested, IsList}
+use Rattle.bundle_targets.specs.Linked.{IsLinkingOf}
+use Rattle.bundle_linked.specs.Alike.{IsAlike, IsAt}
+use Rattle.bundle_linked.specs.declared.linked.LinkedModules.{LinkedModules}
+
+-- the graph has their requests, the list is that of the program, and what is linked by places is the program but for the numbers of its modules; no other number has a tree, or is led to
+pub record IsLinkedOf (p : Program) (linked : LinkedModules) : Type 0 where
+  pub places : Program
+  pub alike : IsAlike p places (IsAt linked.ids.keys)
+  pub linking : IsLinkingOf places linked.linking
+  pub others : (m : ℕ) → (Contains linked.ids.keys m → ⊥) → tree_of p m ≡ []
+  pub there : (m d : ℕ) (s : Text) → p.leads m s ≡ Some d → Contains linked.ids.keys d
+  pub graph : (m : ℕ) → deps linked.graph m ≡ requested p m
+  pub list : IsList p linked.list.items
