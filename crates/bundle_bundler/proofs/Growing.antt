@@ -25,6 +25,7 @@ use Rattle.bundle_kept.specs.declared.kept.Request.{Request}
 use Rattle.bundle_kept.specs.Kept.{asked_of}
 use Rattle.bundle_kept.proofs.Keeping.{kept_or_added}
 use Rattle.bundle_bundler.specs.Kept.{answers_of, handed_in, kept_as, Advances, IsKept, IsMet, MayBeMet}
+use Rattle.bundle_bundler.specs.Loading.{IsSound}
 use Rattle.bundle_bundler.specs.Refusal.{load_refusal, resolve_refusal}
 
 -- what is kept, with other names, trees or files by pair
@@ -100,6 +101,20 @@ found_longer test (e ∷ es) more found = by (test e.0) found (λ h. found_longe
 -- what is kept stays kept
 pub still_kept : (c d : Kept) → Stays c d → (file : Name) → IsKept c file → IsKept d file
 still_kept c d s file kept = subst (λ (trees : List (Name × Loaded)). IsSome (lookup (name_eq file) trees)) (sym s.trees.1) (found_longer (name_eq file) c.trees s.trees.0 kept)
+
+-- what a look-up finds, it finds in a longer list
+same_longer : {K X : Type 0} (test : K → Bool) (xs more : List (K × X)) (x : X) → lookup test xs ≡ Some x → lookup test (xs ++ more) ≡ Some x
+same_longer test [] more x is = cc
+same_longer test (e ∷ es) more x is = by (test e.0) is (same_longer test es more x)
+  where
+    by : (b : Bool) → cond b (Some e.1) (lookup test es) ≡ Some x → (lookup test es ≡ Some x → lookup test (es ++ more) ≡ Some x) → cond b (Some e.1) (lookup test (es ++ more)) ≡ Some x
+    by true h further = h
+    by false h further = further h
+
+-- and so does what has no fault
+pub still_sound : (c d : Kept) → Stays c d → (file : Name) → IsSound c file → IsSound d file
+still_sound c d s file (loaded, is, faultless) =
+    (loaded, subst (λ (trees : List (Name × Loaded)). lookup (name_eq file) trees ≡ Some loaded) (sym s.trees.1) (same_longer (name_eq file) c.trees s.trees.0 loaded is), faultless)
 
 -- what was met stays so
 pub still_met : (c d : Kept) → Stays c d → (file : Name) → IsMet c file → IsMet d file

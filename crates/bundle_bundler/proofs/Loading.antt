@@ -11,9 +11,9 @@ use Rattle.bundle_name.proofs.Numbering.{file_eq, slice_get-position}
 use Rattle.bundle_name.specs.FileNameLaws.{name_eq-Decides}
 use Rattle.bundle_name.specs.ModuleIdGenerator.{names_of}
 use Rattle.bundle_terms.specs.Kept.{Kept, Stays}
-use Rattle.bundle_bundler.specs.Kept.{IsKept, IsMet}
-use Rattle.bundle_bundler.specs.Loading.{AreKept, AreMet, Begins, IsPlaced}
-use Rattle.bundle_bundler.proofs.Growing.{still_kept, still_met}
+use Rattle.bundle_bundler.specs.Kept.{IsMet}
+use Rattle.bundle_bundler.specs.Loading.{AreMet, AreSound, Begins, IsPlaced, IsSound}
+use Rattle.bundle_bundler.proofs.Growing.{still_met, still_sound}
 
 -- Lists.
 
@@ -114,32 +114,32 @@ all_met_placed c old new file (inl same) met its = subst (AreMet c) (sym same.1)
 all_met_placed c old new file (inr more) met its =
     subst (AreMet c) (sym more.1) (λ place f at. elim (slice_get-push_cases old file place f at) [ inl before ↦ met place f before | inr last ↦ subst (IsMet c) (sym last.1) its ])
 
--- each of the files that stand before a place is kept
-abbrev pub AreKeptBefore : Kept → List Name → ℕ → Type 0
-AreKeptBefore kept files n = (place : ℕ) (file : Name) → place < n → slice_get files place ≡ Some file → IsKept kept file
+-- each of the files that stand before a place is kept, and not at fault by itself
+abbrev pub AreSoundBefore : Kept → List Name → ℕ → Type 0
+AreSoundBefore kept files n = (place : ℕ) (file : Name) → place < n → slice_get files place ≡ Some file → IsSound kept file
 
 -- no file stands before the first place
-pub none_before : (c : Kept) (files : List Name) → AreKeptBefore c files 0
+pub none_before : (c : Kept) (files : List Name) → AreSoundBefore c files 0
 none_before c files = λ place file below at. (let no : ⊥ = omega (arith, below) in absurd no)
 
 -- one more
-pub kept_before_more : (c d : Kept) → Stays c d → (xs ys : List Name) → Begins xs ys → (n : ℕ) (file : Name) → slice_get xs n ≡ Some file → IsKept d file → AreKeptBefore c xs n → AreKeptBefore d ys (n + 1)
+pub kept_before_more : (c d : Kept) → Stays c d → (xs ys : List Name) → Begins xs ys → (n : ℕ) (file : Name) → slice_get xs n ≡ Some file → IsSound d file → AreSoundBefore c xs n → AreSoundBefore d ys (n + 1)
 kept_before_more c d stays xs ys begins n file here kept before = λ place it below there.
     let within : n < length xs = slice_get_within xs n file here in
     let along : slice_get (xs ++ begins.0) place ≡ Some it = subst (λ (zs : List Name). slice_get zs place ≡ Some it) begins.1 there in
     elim (below_more place n below) [
-      | inl less ↦ (let inside : place < length xs = omega (arith, less, within) in still_kept c d stays it (before place it less (sym (front_at xs begins.0 place inside) ∙ along)))
+      | inl less ↦ (let inside : place < length xs = omega (arith, less, within) in still_sound c d stays it (before place it less (sym (front_at xs begins.0 place inside) ∙ along)))
       | inr e ↦ (let inside : place < length xs = omega (arith, e, within) in
           let that : Some file ≡ Some it = sym here ∙ sym (ap (slice_get xs) e) ∙ sym (front_at xs begins.0 place inside) ∙ along in
-          subst (IsKept d) (same_Some file it that) kept)
+          subst (IsSound d) (same_Some file it that) kept)
     ]
 
--- where no file stands at the place, all are kept
-pub all_kept : (c : Kept) (xs : List Name) (n : ℕ) → slice_get xs n ≡ None → AreKeptBefore c xs n → AreKept c xs
+-- where no file stands at the place, all are
+pub all_kept : (c : Kept) (xs : List Name) (n : ℕ) → slice_get xs n ≡ None → AreSoundBefore c xs n → AreSound c xs
 all_kept c xs n none before = λ place file at. before place file (filled_before xs n place file none at) at
 
 -- and where the list is no longer than that
-pub all_kept_within : (c : Kept) (xs : List Name) (n : ℕ) → length xs ≤ n → AreKeptBefore c xs n → AreKept c xs
+pub all_kept_within : (c : Kept) (xs : List Name) (n : ℕ) → length xs ≤ n → AreSoundBefore c xs n → AreSound c xs
 all_kept_within c xs n within before = λ place file at. (let inside : place < length xs = slice_get_within xs place file at in let less : place < n = omega (arith, inside, within) in before place file less at)
 
 as_long : (entries : List (FileName × ℕ)) → length (names_of_entries entries) ≡ length entries
@@ -153,13 +153,13 @@ short_enough entries count n is small far = let same : length (names_of_entries 
 -- Entries that are left to go over.
 module _ (c : Kept) where
   -- the first is kept
-  pub first_kept : (es rest : List (FileName × ℕ)) (e : FileName × ℕ) → AreKept c (names_of_entries es) → es ≡ e ∷ rest → IsKept c (name_of e.0)
-  first_kept es rest e kept is = subst (λ (xs : List (FileName × ℕ)). AreKept c (names_of_entries xs)) is kept 0 (name_of e.0) refl
+  pub first_kept : (es rest : List (FileName × ℕ)) (e : FileName × ℕ) → AreSound c (names_of_entries es) → es ≡ e ∷ rest → IsSound c (name_of e.0)
+  first_kept es rest e kept is = subst (λ (xs : List (FileName × ℕ)). AreSound c (names_of_entries xs)) is kept 0 (name_of e.0) refl
 
   -- at the start all are left
-  pub all_left : (es all : List (FileName × ℕ)) → es ≡ all → AreKept c (names_of_entries all) → AreKept c (names_of_entries es)
-  all_left es all is kept = subst (λ (xs : List (FileName × ℕ)). AreKept c (names_of_entries xs)) (sym is) kept
+  pub all_left : (es all : List (FileName × ℕ)) → es ≡ all → AreSound c (names_of_entries all) → AreSound c (names_of_entries es)
+  all_left es all is kept = subst (λ (xs : List (FileName × ℕ)). AreSound c (names_of_entries xs)) (sym is) kept
 
   -- and so are the others
-  pub rest_kept : (es rest : List (FileName × ℕ)) (e : FileName × ℕ) → AreKept c (names_of_entries es) → es ≡ e ∷ rest → AreKept c (names_of_entries rest)
-  rest_kept es rest e kept is = λ place file at. subst (λ (xs : List (FileName × ℕ)). AreKept c (names_of_entries xs)) is kept (suc place) file at
+  pub rest_kept : (es rest : List (FileName × ℕ)) (e : FileName × ℕ) → AreSound c (names_of_entries es) → es ≡ e ∷ rest → AreSound c (names_of_entries rest)
+  rest_kept es rest e kept is = λ place file at. subst (λ (xs : List (FileName × ℕ)). AreSound c (names_of_entries xs)) is kept (suc place) file at

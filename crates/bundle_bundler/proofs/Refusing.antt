@@ -1,6 +1,6 @@
 -- Why each refusal of the library is right.
-use Rattle.std.proofs.Common.{◌≡◌, ℕ, ◌<◌, length, Bool, List, [], ◌∷◌, ◌++◌, None, Result, Ok, Err, IsOk, refl, sym, subst, ◌∙◌, true≢false}
-use Rattle.std.specs.Prelude.{IfOk, IfErr}
+use Rattle.std.proofs.Common.{◌≡◌, ℕ, ◌<◌, length, Bool, true, false, List, [], ◌∷◌, ◌++◌, None, Result, Ok, Err, IsOk, refl, sym, subst, ◌∙◌, true≢false}
+use Rattle.std.specs.Prelude.{IfOk, IfErr, IfSome}
 use Rattle.std.specs.Result.{IsErrAnd}
 use Rattle.bundle_ast.specs.declared.expr.Expr.{Expr}
 use Rattle.bundle_ast.specs.declared.prop.KeyValueProp.{KeyValueProp}
@@ -16,7 +16,9 @@ use Rattle.bundle_entry.specs.declared.unlinked.Unlinked.{Unlinked}
 use Rattle.bundle_entry.specs.declared.unlinked.Unlinked.TheVariants as u
 use Rattle.bundle_tree.specs.declared.load.ModuleData.{ModuleData}
 use Rattle.bundle_terms.specs.Entries.{Settings}
-use Rattle.bundle_terms.specs.Faults.{Parties}
+use Rattle.bundle_piece.specs.Item.{Item}
+use Rattle.bundle_terms.specs.Faults as f
+use Rattle.bundle_terms.specs.Faults.{Fault, Parties, TreeFault, IsFirstTreeFault, fault_of}
 use Rattle.bundle_terms.specs.Judging as j
 use Rattle.bundle_terms.specs.Kept.{Asked, Kept, kept_file, kept_module}
 use Rattle.bundle_name.specs.declared.error.Error.TheVariants as e
@@ -31,6 +33,18 @@ use Rattle.bundle_bundler.proofs.Growing.{with_resolved, with_trees}
 pub no_err : {T E : Type 0} (r : Result T E) (P : E → Type 0) → IsOk r → IfErr r P
 no_err (Ok x) P is = tt
 no_err (Err e) P is = absurd (true≢false (sym is))
+
+-- which faults a tree has by itself
+abbrev is_of_tree : Fault → Bool
+is_of_tree (f.DoubledExport file name) = true
+is_of_tree (f.UndeclaredExport file name) = true
+is_of_tree (f.WithStatement file) = true
+is_of_tree _ = false
+
+tree_fault : (file : Name) (tree : List Item) (stage place : ℕ) (fault : Fault) → TreeFault file tree stage place fault → is_of_tree fault ≡ true
+tree_fault file tree stage place fault (f.doubled_export first second before at there one two) = refl
+tree_fault file tree stage place fault (f.undeclared_export listed at wrong) = refl
+tree_fault file tree stage place fault (f.with_statement at) = refl
 
 module _ (may_fail_load : Name → Type 0) (may_fail_resolve : Name → List ℕ → Type 0) (max_modules : ℕ) where
   -- the refusal of a load tells what is there
@@ -65,14 +79,19 @@ module _ (may_fail_load : Name → Type 0) (may_fail_resolve : Name → List ℕ
   resolve_right c r d asked bytes request (Err ResolveNoMemory) result kept none said same spelled fails given refused =
       subst (λ x. IfErr x (IsTold may_fail_load may_fail_resolve max_modules d)) (sym refused.0) tt
 
+  -- a refusal for a file's own fault is right
+  pub tree_right : (kept : Kept) (file : Name) (tree : List Item) (error : Error) → IfSome (fault_of error) (IsFirstTreeFault file tree) → IsTold may_fail_load may_fail_resolve max_modules kept error
+  tree_right kept file tree (e.Load its) first = absurd (true≢false (sym (tree_fault file tree first.stage first.place _ first.there)))
+  tree_right kept file tree (e.Resolve its specifier) first = absurd (true≢false (sym (tree_fault file tree first.stage first.place _ first.there)))
+  tree_right kept file tree (e.TooManyModules its) first = absurd (true≢false (sym (tree_fault file tree first.stage first.place _ first.there)))
+  tree_right kept file tree _ first = tt
+
   -- a refusal to link is right
   pub unlinked_right : (c : Kept) (u : Unlinked) (e : Error) → e ≡ error_of u → IsTold may_fail_load may_fail_resolve max_modules c e
   unlinked_right c u.OutOfMemory e is = subst (IsTold may_fail_load may_fail_resolve max_modules c) (sym is) tt
   unlinked_right c (u.Hook file) e is = subst (IsTold may_fail_load may_fail_resolve max_modules c) (sym is) tt
   unlinked_right c (u.ContextsUsedUp file) e is = subst (IsTold may_fail_load may_fail_resolve max_modules c) (sym is) tt
   unlinked_right c (u.DoubledDeclaration file name) e is = subst (IsTold may_fail_load may_fail_resolve max_modules c) (sym is) tt
-  unlinked_right c (u.DoubledExport file name) e is = subst (IsTold may_fail_load may_fail_resolve max_modules c) (sym is) tt
-  unlinked_right c (u.UndeclaredExport file name) e is = subst (IsTold may_fail_load may_fail_resolve max_modules c) (sym is) tt
   unlinked_right c (u.MissingExport file name) e is = subst (IsTold may_fail_load may_fail_resolve max_modules c) (sym is) tt
   unlinked_right c (u.AmbiguousExport file name) e is = subst (IsTold may_fail_load may_fail_resolve max_modules c) (sym is) tt
   unlinked_right c (u.ExternalStarOnly file name) e is = subst (IsTold may_fail_load may_fail_resolve max_modules c) (sym is) tt
@@ -82,7 +101,6 @@ module _ (may_fail_load : Name → Type 0) (may_fail_resolve : Name → List ℕ
   unlinked_right c (u.RequiredEsModule file specifier) e is = subst (IsTold may_fail_load may_fail_resolve max_modules c) (sym is) tt
   unlinked_right c (u.RequiredEntry file specifier) e is = subst (IsTold may_fail_load may_fail_resolve max_modules c) (sym is) tt
   unlinked_right c (u.AwaitInCommonJs file) e is = subst (IsTold may_fail_load may_fail_resolve max_modules c) (sym is) tt
-  unlinked_right c (u.DoubledEntry file name) e is = subst (IsTold may_fail_load may_fail_resolve max_modules c) (sym is) tt
   unlinked_right c (u.ExternalUnderIife file specifier) e is = subst (IsTold may_fail_load may_fail_resolve max_modules c) (sym is) tt
   unlinked_right c (u.ArgumentsUnderIife file) e is = subst (IsTold may_fail_load may_fail_resolve max_modules c) (sym is) tt
 

@@ -14,7 +14,7 @@ use Rattle.bundle_terms.specs.Judging as j
 use Rattle.bundle_terms.specs.Judging.{Outcome, GoesOn, Refused, Loads, Asks, LoadsAll, requests_in}
 use Rattle.bundle_bundler.specs.Kept.{IsKept}
 use Rattle.bundle_bundler.specs.Judged.{LeadsOn}
-use Rattle.bundle_bundler.specs.Loading.{Begins}
+use Rattle.bundle_bundler.specs.Loading.{Begins, IsSound}
 use Rattle.bundle_bundler.proofs.Growing.{found}
 use Rattle.bundle_bundler.proofs.Judging.{leads_handed}
 
@@ -40,6 +40,10 @@ module _ (parties : Parties) (settings : Settings) (list : List Name) (place : �
     work_done next all longer asks same outcome last more =
         let facts = faultless loaded.0 loaded.1 in
         j.goes_on there its loaded.1 facts.0 (subst (λ x. Asks parties file x mid list GoesOn next all) facts.1 asks) (subst (λ x. LoadsAll parties settings x (suc place) next outcome last) same more)
+
+-- a file that is kept and was judged has no fault
+pub sound : (kept : Kept) (file : Name) (texts : List Text) (settings : Settings) → IsKept kept file → ((x : Loaded) → kept_module kept file ≡ Some x → IsFaultless file x.items × (texts ≡ requests_in settings x.items)) → IsSound kept file
+sound kept file texts settings there faultless = let its = found (kept_module kept file) there in (its.0, its.1, (faultless its.0 its.1).0)
 
 -- From place to place.
 

@@ -5,7 +5,7 @@ use Rattle.bundle_name.specs.declared.error.Error.{Error}
 use Rattle.bundle_tree.specs.declared.load.ModuleData.{ModuleData}
 use Rattle.bundle_terms.specs.Entries.{Settings}
 use Rattle.bundle_terms.specs.Kept.{Kept}
-use Rattle.bundle_terms.specs.Faults.{Fault, LoadFails, ResolveFails, TooManyModules, DoubledEntry, Parties, fault_of}
+use Rattle.bundle_terms.specs.Faults.{Fault, LoadFails, ResolveFails, TooManyModules, DoubledExport, UndeclaredExport, DoubledEntry, Parties, fault_of}
 use Rattle.bundle_terms.specs.Judging.{Entry, Outcome, GoesOn, Refused, IsDoubledEntry, Refuses, Completes}
 use Rattle.bundle_bundler.specs.Kept.{parties_of}
 
@@ -32,11 +32,14 @@ AreApart entries = (i j : ℕ) (a b : Entry) → i < j → slice_get entries i �
 abbrev pub IsFaultOfList : List Entry → Fault → Type 0
 IsFaultOfList entries fault = (later : Entry) × IsDoubledEntry entries later × (fault ≡ DoubledEntry later.file later.name)
 
--- whether a fault is none that only loading tells of
+-- whether linking may tell of a fault: it is none of the list, of loading or of a file's exports by themselves
 abbrev pub may_be_linking : Fault → Bool
 may_be_linking (LoadFails file) = false
 may_be_linking (ResolveFails file specifier) = false
 may_be_linking (TooManyModules file) = false
+may_be_linking (DoubledExport file name) = false
+may_be_linking (UndeclaredExport file name) = false
+may_be_linking (DoubledEntry file name) = false
 may_be_linking _ = true
 
 -- why there is no bundle: the first fault in the order of judging, or want of memory. Where all that the entries reach was loaded

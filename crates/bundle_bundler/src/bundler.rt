@@ -2,7 +2,6 @@
 
 ghost use Rattle.std.specs.Prelude.{◌≡◌, ℕ, List, [], Some, IsOk, IfOk, IfErr, IfSome, OnOk, map, string_bytes};
 ghost use Rattle.std.specs.List.{AllZip};
-ghost use Rattle.bundle_entry.specs.Unlinked.{error_of};
 ghost use Rattle.bundle_name.specs.FileName.{name_of};
 ghost use Rattle.bundle_terms.specs.Faults.{DoubledEntry, fault_of};
 ghost use Rattle.bundle_terms.specs.Judging.{Completes, NumbersEach};
@@ -11,7 +10,7 @@ ghost use Rattle.bundle_bundler.specs.Bundler.{config_of, files_of, hook_of, kep
 ghost use Rattle.bundle_bundler.specs.Judged.{Ends, AreApart, IsFaultOfList, IsRefusedBy};
 ghost use Rattle.bundle_bundler.specs.Kept.{answers_of, entry_of, kept_of, parties_of, settings_of};
 ghost use Rattle.bundle_bundler.specs.Library.{IsToldOf, MovesOn};
-ghost use Rattle.bundle_bundler.specs.Loading.{files_on, AreKept, AreMet};
+ghost use Rattle.bundle_bundler.specs.Loading.{files_on, AreSound, AreMet};
 ghost use Rattle.bundle_bundler.specs.Refusal.{IsRefusedLoading};
 
 use crate::bundle::{Bundle, BundleKind};
@@ -118,9 +117,9 @@ impl<L: Load + Drop, R: Resolve + Drop> Bundler<L, R> {
 }
 
 // Refuses two entries of one name or one file.
-fn refuse_doubled_entry(alloc: Global, entries: &[(String, FileName)]) -> Result<(), Unlinked>
+fn refuse_doubled_entry(alloc: Global, entries: &[(String, FileName)]) -> Result<(), Error>
     ensures apart { OnOk result (AreApart (map entry_of entries.now)) }
-    ensures doubled { IfErr result (λ refusal. IfSome (fault_of (error_of refusal)) (IsFaultOfList (map entry_of entries.now))) }
+    ensures doubled { IfErr result (λ refusal. IfSome (fault_of refusal) (IsFaultOfList (map entry_of entries.now))) }
 {
     let mut names = IndexSet::new(alloc);
     let mut files = IndexSet::new(alloc);
@@ -135,10 +134,10 @@ fn refuse_doubled_entry(alloc: Global, entries: &[(String, FileName)]) -> Result
 }
 
 // The refusal of an entry.
-fn doubled_entry(name: &String, file: &FileName) -> Result<Unlinked, AllocError>
-    ensures { IfOk result (λ refusal. fault_of (error_of refusal) ≡ Some (DoubledEntry (name_of file.now) (string_bytes name.now))) }
+fn doubled_entry(name: &String, file: &FileName) -> Result<Error, AllocError>
+    ensures { IfOk result (λ refusal. fault_of refusal ≡ Some (DoubledEntry (name_of file.now) (string_bytes name.now))) }
 {
-    Ok(Unlinked::DoubledEntry {
+    Ok(Error::DoubledEntry {
         file: file.clone()?,
         name: name.clone()?,
     })
@@ -177,7 +176,7 @@ fn linked_bundles<L: Load + Drop, R: Resolve + Drop>(
     entries: Vec<(String, FileName)>,
     ids: Vec<ModuleId>,
 ) -> Result<Vec<Bundle>, Unlinked>
-    requires { AreKept (kept_of library.now.kept) (files_on list.now) }
+    requires { AreSound (kept_of library.now.kept) (files_on list.now) }
     ensures bundles { IfOk result (λ bundles. (kept : Kept) → AllZip (HasNumber kept) entries.items ids.items → AllZip (IsNamedAndNumbered kept) entries.items bundles.items) }
 {
     let program = program_on(library, alloc, list, config)?;
@@ -195,7 +194,7 @@ fn bundles_of<'x, L: Load + Drop, R: Resolve + Drop>(
     entries: Vec<(String, FileName)>,
     ids: Vec<ModuleId>,
 ) -> Result<Vec<Bundle>, Unlinked>
-    requires { AreKept (kept_of library.now.kept) (files_on list.now) }
+    requires { AreSound (kept_of library.now.kept) (files_on list.now) }
     ensures bundles { IfOk result (λ bundles. (kept : Kept) → AllZip (HasNumber kept) entries.items ids.items → AllZip (IsNamedAndNumbered kept) entries.items bundles.items) }
 {
     let mut bundles = Vec::new(alloc);

@@ -1,7 +1,7 @@
 //! The module of an entry.
 
 ghost use Rattle.bundle_bundler.specs.Kept.{kept_of};
-ghost use Rattle.bundle_bundler.specs.Loading.{files_on, AreKept};
+ghost use Rattle.bundle_bundler.specs.Loading.{files_on, AreSound};
 
 use crate::library::Library;
 use crate::load::LoadList;
@@ -26,7 +26,7 @@ pub fn module_on<'p, 'x, L: Load + Drop, R: Resolve + Drop>(
     hook: &dyn Hook,
     entry: ModuleId,
 ) -> Result<Module, Unlinked>
-    requires { AreKept (kept_of library.now.kept) (files_on list.now) }
+    requires { AreSound (kept_of library.now.kept) (files_on list.now) }
 {
     let linked = linked_entry(alloc, call, entry)?;
     let answers = ask_all(alloc, call, hook, &linked)?;
@@ -55,7 +55,7 @@ fn answered_module<'y, L: Load + Drop, R: Resolve + Drop>(
     entry: ModuleId,
     answers: &'y [Answer],
 ) -> Result<Module, Unlinked>
-    requires { AreKept (kept_of library.now.kept) (files_on list.now) }
+    requires { AreSound (kept_of library.now.kept) (files_on list.now) }
 {
     let program = program_on(library, alloc, list, config)?;
     let call = Call {

@@ -2,7 +2,6 @@
 
 ghost use Rattle.std.specs.Prelude.{◌≡◌, ◌∷◌, ℕ, suc, map, slice_get, string_bytes, [], List, Some, IsSome, IfOk, IfErr, IfSome, OnOk};
 ghost use Rattle.std.specs.Option.{option_map};
-ghost use Rattle.bundle_entry.specs.Unlinked.{error_of};
 ghost use Rattle.bundle_name.specs.FileName.{Name, name_of};
 ghost use Rattle.bundle_terms.specs.Faults.{IsFaultless, IsFirstTreeFault, fault_of};
 ghost use Rattle.bundle_terms.specs.Judging.{Asks, LoadsAll, requests_in};
@@ -12,10 +11,10 @@ ghost use Rattle.bundle_kept.specs.Kept.{asked_of};
 ghost use Rattle.bundle_bundler.specs.Judged.{Ends, LeadsOn, asked_by};
 ghost use Rattle.bundle_bundler.specs.Kept.{kept_of, settings_of, IsKept, IsMet};
 ghost use Rattle.bundle_bundler.specs.Library.{IsToldOf, MovesOn};
-ghost use Rattle.bundle_bundler.specs.Loading.{files_on, AreKept, AreMet, Begins, IsPlaced};
+ghost use Rattle.bundle_bundler.specs.Loading.{files_on, AreMet, AreSound, Begins, IsPlaced, IsSound};
 
 use crate::library::Library;
-use bundle_entry::{Unlinked, requests_of};
+use bundle_entry::requests_of;
 use bundle_id::ModuleId;
 use bundle_kept::Request;
 use bundle_name::config::Config;
@@ -77,7 +76,7 @@ impl LoadList {
 }
 
 /// Loads the files on a list and all files that they need, first in first out, and gives the list of all. Each file on it
-/// is kept.
+/// is kept, and none is at fault by itself.
 pub(crate) fn load_all<L: Load + Drop, R: Resolve + Drop>(
     library: &mut Library<L, R>,
     alloc: Global,
@@ -87,7 +86,7 @@ pub(crate) fn load_all<L: Load + Drop, R: Resolve + Drop>(
     requires { AreMet (kept_of library.old.kept) (files_on list) }
     ensures grows { (entries : List Name) → MovesOn L.may_load R.may_resolve entries library.old library.new }
     ensures refused { IfErr result (IsToldOf L.may_fail_load R.may_fail_resolve config.now.max_modules library.new) }
-    ensures loaded { IfOk result (λ list. AreKept (kept_of library.new.kept) (files_on list)) }
+    ensures loaded { IfOk result (λ list. AreSound (kept_of library.new.kept) (files_on list)) }
     ensures judged { Ends result (λ outcome. LoadsAll
         (asked_by L.may_load L.may_fail_load R.may_resolve R.may_fail_resolve library.old.loader library.old.resolver)
         (settings_of config.now) (files_on list) 0 (kept_of library.old.kept) outcome (kept_of library.new.kept)) }
@@ -117,7 +116,7 @@ fn work_on<L: Load + Drop, R: Resolve + Drop>(
     requires listed { IsMet (kept_of library.old.kept) (name_of file.now) }
     ensures grows { (entries : List Name) → MovesOn L.may_load R.may_resolve entries library.old library.new }
     ensures refused { IfErr result (IsToldOf L.may_fail_load R.may_fail_resolve config.now.max_modules library.new) }
-    ensures loaded { OnOk result (IsKept (kept_of library.new.kept) (name_of file.now)) }
+    ensures loaded { OnOk result (IsSound (kept_of library.new.kept) (name_of file.now)) }
     ensures met { OnOk result (AreMet (kept_of library.new.kept) (files_on list.new)) }
     ensures begins { OnOk result (Begins (files_on list.old) (files_on list.new)) }
     ensures judged { (place : ℕ) → slice_get (files_on list.old) place ≡ Some (name_of file.now) →
@@ -226,10 +225,10 @@ fn kept_requests<L: Load + Drop, R: Resolve + Drop>(
     alloc: Global,
     file: &FileName,
     config: &Config,
-) -> Result<Vec<String>, Unlinked>
+) -> Result<Vec<String>, Error>
     requires { IsKept (kept_of library.now.kept) (name_of file.now) }
     ensures faulty { IfErr result (λ refusal. (loaded : Loaded) → kept_module (kept_of library.now.kept) (name_of file.now) ≡ Some loaded →
-        IfSome (fault_of (error_of refusal)) (IsFirstTreeFault (name_of file.now) loaded.items)) }
+        IfSome (fault_of refusal) (IsFirstTreeFault (name_of file.now) loaded.items)) }
     ensures faultless { IfOk result (λ texts. (loaded : Loaded) → kept_module (kept_of library.now.kept) (name_of file.now) ≡ Some loaded →
         IsFaultless (name_of file.now) loaded.items × (map string_bytes texts.items ≡ requests_in (settings_of config.now) loaded.items)) }
 {

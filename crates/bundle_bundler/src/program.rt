@@ -1,29 +1,29 @@
 //! What the files of a load list say.
 
 ghost use Rattle.bundle_name.specs.FileName.{name_of};
-ghost use Rattle.bundle_bundler.specs.Kept.{kept_of, IsKept};
-ghost use Rattle.bundle_bundler.specs.Loading.{files_on, AreKept};
+ghost use Rattle.bundle_bundler.specs.Kept.{kept_of};
+ghost use Rattle.bundle_bundler.specs.Loading.{files_on, AreSound, IsSound};
 
 use crate::library::Library;
 use crate::load::LoadList;
-use bundle_entry::{Program, Source, Unlinked, program_of, source_of};
+use bundle_entry::{Program, Source, program_of, source_of};
 use bundle_name::config::Config;
 use bundle_name::file_name::FileName;
 use bundle_tree::load::Load;
 use bundle_tree::resolve::Resolve;
-use std::alloc::Global;
+use std::alloc::{AllocError, Global};
 
-/// Reads the files of a load list, which are kept.
+/// Reads the files of a load list, which are kept and not at fault by themselves.
 pub fn program_on<'x, L: Load + Drop, R: Resolve + Drop>(
     library: &'x Library<L, R>,
     alloc: Global,
     list: &'x LoadList,
     config: &Config,
-) -> Result<Program<'x>, Unlinked>
-    requires { AreKept (kept_of library.now.kept) (files_on list.now) }
+) -> Result<Program<'x>, AllocError>
+    requires { AreSound (kept_of library.now.kept) (files_on list.now) }
 {
     let sources = sources_on(library, alloc, list, config)?;
-    Ok(program_of(alloc, &list.files, list.requests.as_slice(), sources)?)
+    program_of(alloc, &list.files, list.requests.as_slice(), sources)
 }
 
 // What was read of each file.
@@ -32,8 +32,8 @@ fn sources_on<'x, L: Load + Drop, R: Resolve + Drop>(
     alloc: Global,
     list: &'x LoadList,
     config: &Config,
-) -> Result<Vec<Source<'x>>, Unlinked>
-    requires { AreKept (kept_of library.now.kept) (files_on list.now) }
+) -> Result<Vec<Source<'x>>, AllocError>
+    requires { AreSound (kept_of library.now.kept) (files_on list.now) }
 {
     let mut sources = Vec::new(alloc);
     for (file, _) in &list.files {
@@ -42,15 +42,15 @@ fn sources_on<'x, L: Load + Drop, R: Resolve + Drop>(
     Ok(sources)
 }
 
-// Reads a file, which is kept.
+// Reads a file, which is kept and not at fault by itself.
 fn kept_source<'x, L: Load + Drop, R: Resolve + Drop>(
     library: &'x Library<L, R>,
     alloc: Global,
     file: &'x FileName,
     config: &Config,
-) -> Result<Source<'x>, Unlinked>
-    requires { IsKept (kept_of library.now.kept) (name_of file.now) }
+) -> Result<Source<'x>, AllocError>
+    requires { IsSound (kept_of library.now.kept) (name_of file.now) }
 {
     let loaded = library.module(file).unwrap();
-    source_of(alloc, file, loaded, config)
+    source_of(alloc, loaded, config)
 }

@@ -1,33 +1,33 @@
 //! The refusal for each fault that is found in a tree or between modules.
 
-ghost use Rattle.std.specs.Prelude.{◌≡◌, IfSome, IsErrAnd};
-ghost use Rattle.bundle_entry.specs.Unlinked.{error_of};
+ghost use Rattle.std.specs.Prelude.{◌≡◌, Some, IfOk};
 ghost use Rattle.bundle_name.specs.FileName.{name_of};
 ghost use Rattle.bundle_tables.specs.TablesOf.{fault_in};
 ghost use Rattle.bundle_terms.specs.Faults.{fault_of};
 
 use crate::unlinked::Unlinked;
 use bundle_denote::Doubled;
+use bundle_name::error::Error;
 use bundle_name::file_name::FileName;
 use bundle_tables::TreeFault;
 use bundle_targets::{Fault, FaultKind};
 use std::alloc::{AllocError, Global};
 
 /// The refusal for a fault of the tree of a file.
-pub fn refuse_tree<T: Drop>(alloc: Global, file: &FileName, fault: TreeFault) -> Result<T, Unlinked>
-    ensures { IsErrAnd result (λ refusal. IfSome (fault_of (error_of refusal)) (λ told. told ≡ fault_in (name_of file.now) fault.entry)) }
+pub fn tree_refusal(alloc: Global, file: &FileName, fault: TreeFault) -> Result<Error, AllocError>
+    ensures { IfOk result (λ refusal. fault_of refusal ≡ Some (fault_in (name_of file.now) fault.entry)) }
 {
     let file = file.clone()?;
-    Err(match fault {
-        TreeFault::DoubledExport { name } => Unlinked::DoubledExport {
+    Ok(match fault {
+        TreeFault::DoubledExport { name } => Error::DoubledExport {
             file,
             name: String::from_str(alloc, name)?,
         },
-        TreeFault::UndeclaredExport { name } => Unlinked::UndeclaredExport {
+        TreeFault::UndeclaredExport { name } => Error::UndeclaredExport {
             file,
             name: String::from_str(alloc, name)?,
         },
-        TreeFault::With => Unlinked::With { file },
+        TreeFault::With => Error::With { file },
     })
 }
 

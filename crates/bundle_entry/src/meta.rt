@@ -1,13 +1,12 @@
 //! What the hook answers for the modules of a bundle that have `import.meta` (ECMA-262, 13.3.12.1).
 
-use crate::fault::{refuse_doubled, refuse_tree};
+use crate::fault::refuse_doubled;
 use crate::unlinked::Unlinked;
 use bundle_ast::KeyValueProp;
 use bundle_denote::{Denotations, ModuleKind, Reading, denotations, first_doubled};
 use bundle_listing::pieces_of_properties;
 use bundle_name::file_name::FileName;
 use bundle_piece::{Node, Piece};
-use bundle_tables::TreeFault;
 use bundle_tree::hook::{Hook, HookError, ModuleRecord};
 use std::alloc::{AllocError, Global};
 
@@ -58,7 +57,9 @@ fn judge(
         return refuse_doubled(alloc, file, doubled);
     }
     if pieces.iter().any(is_with) {
-        return refuse_tree(alloc, file, TreeFault::With);
+        return Err(Unlinked::With {
+            file: file.clone()?,
+        });
     }
     if is_iife && has_free_arguments(pieces, &meta.names) {
         return Err(Unlinked::ArgumentsUnderIife {

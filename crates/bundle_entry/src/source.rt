@@ -3,24 +3,25 @@
 
 ghost use Rattle.std.specs.Prelude.{◌≡◌, IfOk, IfErr, map, string_bytes};
 ghost use Rattle.bundle_denote.specs.Listed.{IsTable};
-ghost use Rattle.bundle_name.specs.FileName.{name_of};
+ghost use Rattle.bundle_name.specs.FileName.{Name, name_of};
 ghost use Rattle.bundle_piece.specs.Item.{item_of};
 ghost use Rattle.bundle_pieces.specs.Tree.{module_items};
 ghost use Rattle.bundle_places.specs.Declarations.{BySymbol};
 ghost use Rattle.bundle_places.specs.Scopes.{Es};
 ghost use Rattle.bundle_terms.specs.Entries.{Settings};
+ghost use Rattle.bundle_terms.specs.Faults.{IsFaultless};
 ghost use Rattle.bundle_terms.specs.Tables as t;
 ghost use Rattle.bundle_terms.specs.Tables.{IsRequestTable};
-ghost use Rattle.bundle_entry.specs.Source.{AreTablesOf, IsReadOf, IsTreeRefusal, Links};
+ghost use Rattle.bundle_entry.specs.Source.{HasRequests, IsReadOf, IsTreeRefusal, Links};
 
-use crate::fault::refuse_tree;
-use crate::unlinked::Unlinked;
+use crate::fault::tree_refusal;
 use bundle_ast::ModuleItem;
 use bundle_denote::{Denotations, ModuleKind, Reading, denotations};
 use bundle_graph::graph::ModuleGraph;
 use bundle_id::ModuleId;
 use bundle_listing::pieces_of_module;
 use bundle_name::config::Config;
+use bundle_name::error::Error;
 use bundle_name::file_name::FileName;
 use bundle_piece::Piece;
 use bundle_tables::{Tables, tables_of};
@@ -51,19 +52,18 @@ pub struct Program<'x> {
     pub places: IndexMap<ModuleId, usize>,
 }
 
-/// Reads a module. Refused where it has a fault of its own, by the first, or memory runs out.
+/// Reads a module that has no fault of its own. Refused only where memory runs out.
 pub fn source_of<'x>(
     alloc: Global,
-    file: &FileName,
     loaded: &'x ModuleData,
     config: &Config,
-) -> Result<Source<'x>, Unlinked>
-    ensures refused { IfErr result (IsTreeRefusal (name_of file.now) (module_items 0 loaded.now.«module»)) }
-    ensures given { IfOk result (IsReadOf config.now (name_of file.now) (module_items 0 loaded.now.«module»)) }
+) -> Result<Source<'x>, AllocError>
+    requires { (file : Name) × IsFaultless file (module_items 0 loaded.now.«module») }
+    ensures { IfOk result (IsReadOf config.now (module_items 0 loaded.now.«module»)) }
 {
     let pieces = pieces_of_module(alloc, &loaded.module)?;
     let names = denotations(alloc, pieces.as_slice(), ModuleKind::Es, Reading::BySymbol)?;
-    let tables = tables_in(alloc, file, pieces.as_slice(), &names, config)?;
+    let tables = tables_in(alloc, pieces.as_slice(), &names, config)?;
     Ok(Source {
         given: &loaded.file_name,
         items: loaded.module.body.as_slice(),
@@ -73,38 +73,56 @@ pub fn source_of<'x>(
     })
 }
 
-// The tables of a list, where these are its names. Refused by its first fault.
+// The tables of a list that has no fault, where these are its names.
 fn tables_in<'x>(
     alloc: Global,
-    file: &FileName,
     pieces: &[Piece<'x>],
     names: &Denotations<'x>,
     config: &Config,
-) -> Result<Tables<'x>, Unlinked>
-    requires { IsTable BySymbol Es (map item_of pieces.now) names.now }
-    ensures refused { IfErr result (IsTreeRefusal (name_of file.now) (map item_of pieces.now)) }
-    ensures given { IfOk result (AreTablesOf config.now (name_of file.now) (map item_of pieces.now)) }
+) -> Result<Tables<'x>, AllocError>
+    requires table { IsTable BySymbol Es (map item_of pieces.now) names.now }
+    requires faultless { (file : Name) × IsFaultless file (map item_of pieces.now) }
+    ensures { IfOk result (HasRequests config.now (map item_of pieces.now)) }
 {
     let external = config.external_modules.as_slice();
     match tables_of(alloc, pieces, names, config.require, external)? {
         Ok(tables) => Ok(tables),
-        Err(fault) => refuse_tree(alloc, file, fault),
+        Err(_) => unreachable!(),
     }
 }
 
-/// The texts of a module's requests, once it is seen to have no fault of its own.
+/// The texts of a module's requests. Refused where it has a fault of its own, by the first, or memory runs out.
 pub fn requests_of(
     alloc: Global,
     file: &FileName,
     loaded: &ModuleData,
     config: &Config,
-) -> Result<Vec<String>, Unlinked>
+) -> Result<Vec<String>, Error>
     ensures refused { IfErr result (IsTreeRefusal (name_of file.now) (module_items 0 loaded.now.«module»)) }
     ensures given { IfOk result (λ requests. (settings : Settings) → Links config.now settings →
         IsRequestTable settings (name_of file.now) (module_items 0 loaded.now.«module») (t.Given (map (λ text. string_bytes text) requests.items))) }
 {
-    let source = source_of(alloc, file, loaded, config)?;
-    Ok(owned_texts(alloc, source.tables.requests.as_slice())?)
+    let pieces = pieces_of_module(alloc, &loaded.module)?;
+    requests_in(alloc, file, pieces.as_slice(), config)
+}
+
+// The same of the list of a module.
+fn requests_in<'x>(
+    alloc: Global,
+    file: &FileName,
+    pieces: &[Piece<'x>],
+    config: &Config,
+) -> Result<Vec<String>, Error>
+    ensures refused { IfErr result (IsTreeRefusal (name_of file.now) (map item_of pieces.now)) }
+    ensures given { IfOk result (λ requests. (settings : Settings) → Links config.now settings →
+        IsRequestTable settings (name_of file.now) (map item_of pieces.now) (t.Given (map (λ text. string_bytes text) requests.items))) }
+{
+    let names = denotations(alloc, pieces, ModuleKind::Es, Reading::BySymbol)?;
+    let external = config.external_modules.as_slice();
+    match tables_of(alloc, pieces, &names, config.require, external)? {
+        Ok(tables) => Ok(owned_texts(alloc, tables.requests.as_slice())?),
+        Err(fault) => Err(tree_refusal(alloc, file, fault)?),
+    }
 }
 
 // The texts, each as a text of its own.

@@ -4,8 +4,8 @@ use bundle_name::error::Error;
 use bundle_name::file_name::FileName;
 use std::alloc::{AllocError, AllocFailed};
 
-/// Why modules that were loaded make no bundle: a fault in one of them, between them or in what the hook answers, or a
-/// growth was refused.
+/// Why modules that were loaded, none of which is at fault by itself, make no bundle: a fault of one in the bundle, between
+/// them or in what the hook answers, or a growth was refused.
 #[derive(Debug, Drop)]
 pub enum Unlinked {
     /// A growth was refused.
@@ -16,10 +16,6 @@ pub enum Unlinked {
     ContextsUsedUp { file: FileName },
     /// A name is declared twice.
     DoubledDeclaration { file: FileName, name: String },
-    /// A name is exported twice.
-    DoubledExport { file: FileName, name: String },
-    /// A name is exported that the module does not bind.
-    UndeclaredExport { file: FileName, name: String },
     /// A name is asked for that is not given,
     MissingExport { file: FileName, name: String },
     /// that is given more than once,
@@ -38,8 +34,6 @@ pub enum Unlinked {
     RequiredEntry { file: FileName, specifier: String },
     /// An `await` outside functions in a CommonJS module.
     AwaitInCommonJs { file: FileName },
-    /// Two entries have one name or one file.
-    DoubledEntry { file: FileName, name: String },
     /// An external import where the bundle is one function's call.
     ExternalUnderIife { file: FileName, specifier: String },
     /// A free `arguments` where it is.
@@ -80,8 +74,6 @@ impl From<Unlinked> for Error {
             Unlinked::Hook { file } => Error::Hook { file },
             Unlinked::ContextsUsedUp { file } => Error::ContextsUsedUp { file },
             Unlinked::DoubledDeclaration { file, name } => Error::DoubledDeclaration { file, name },
-            Unlinked::DoubledExport { file, name } => Error::DoubledExport { file, name },
-            Unlinked::UndeclaredExport { file, name } => Error::UndeclaredExport { file, name },
             Unlinked::MissingExport { file, name } => Error::MissingExport { file, name },
             Unlinked::AmbiguousExport { file, name } => Error::AmbiguousExport { file, name },
             Unlinked::ExternalStarOnly { file, name } => Error::ExternalStarOnly { file, name },
@@ -99,7 +91,6 @@ impl From<Unlinked> for Error {
             },
             Unlinked::RequiredEntry { file, specifier } => Error::RequiredEntry { file, specifier },
             Unlinked::AwaitInCommonJs { file } => Error::AwaitInCommonJs { file },
-            Unlinked::DoubledEntry { file, name } => Error::DoubledEntry { file, name },
             Unlinked::ExternalUnderIife { file, specifier } => Error::ExternalUnderIife {
                 file,
                 specifier,

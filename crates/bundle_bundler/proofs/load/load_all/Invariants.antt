@@ -1,11 +1,11 @@
--- What was kept before the loop is still kept, the files on the list were met, those before the place are kept, and what is
+-- What was kept before the loop is still kept, the files on the list were met, those before the place are kept and not at fault, and what is
 -- judged from that place on is judged of the whole.
 use Rattle.std.proofs.Common.{◌≤◌, List, length}
 use Rattle.bundle_name.specs.FileName.{Name}
 use Rattle.bundle_bundler.specs.Judged.{asked_by}
 use Rattle.bundle_bundler.specs.Kept.{kept_of, settings_of, Advances}
 use Rattle.bundle_bundler.specs.Loading.{files_on, AreMet}
-use Rattle.bundle_bundler.proofs.Loading.{AreKeptBefore}
+use Rattle.bundle_bundler.proofs.Loading.{AreSoundBefore}
 use Rattle.bundle_bundler.proofs.Working.{LoadsOn}
 use Rattle.bundle_bundler.proofs.load.load_all.Given as goal
 
@@ -13,7 +13,7 @@ abbrev pub invariant-loop-place : goal.invariant-loop-place
 invariant-loop-place g l =
     ((entries : List Name) → Advances g.L.Load.may_load g.R.Resolve.may_resolve entries l.initial.library.loader l.library.loader l.initial.library.resolver l.library.resolver (kept_of l.initial.library.kept) (kept_of l.library.kept))
     × AreMet (kept_of l.library.kept) (files_on l.list)
-    × AreKeptBefore (kept_of l.library.kept) (files_on l.list) l.place
+    × AreSoundBefore (kept_of l.library.kept) (files_on l.list) l.place
     × (l.place ≤ length (files_on l.list))
     × LoadsOn (asked_by g.L.Load.may_load g.L.Load.may_fail_load g.R.Resolve.may_resolve g.R.Resolve.may_fail_resolve l.initial.library.loader l.initial.library.resolver)
     (settings_of l.config) (files_on l.fn.list) (files_on l.list) l.place (kept_of l.initial.library.kept) (kept_of l.library.kept)

@@ -2,16 +2,18 @@
 use Rattle.std.proofs.Common.{[], map}
 use Rattle.std.specs.String.{string_bytes}
 use Rattle.bundle_name.specs.FileName.{name_of}
+use Rattle.bundle_terms.specs.Kept.{kept_module}
 use Rattle.bundle_terms.specs.Judging as j
 use Rattle.bundle_terms.specs.Judging.{Asks, GoesOn, Refused}
 use Rattle.bundle_bundler.specs.Judged.{asked_by}
 use Rattle.bundle_bundler.specs.Kept.{kept_of, settings_of}
 use Rattle.bundle_bundler.specs.Loading.{files_on}
 use Rattle.bundle_bundler.proofs.Finding.{handed_on}
-use Rattle.bundle_bundler.proofs.Growing.{advances_stays, advances_trans, still_kept}
+use Rattle.bundle_bundler.proofs.Growing.{advances_stays, advances_trans, found, still_sound}
 use Rattle.bundle_bundler.proofs.Judging.{as_before, leads_handed}
 use Rattle.bundle_bundler.proofs.Loading.{begins_along, still_all_met}
-use Rattle.bundle_bundler.proofs.Working.{work_done, work_faulty, work_stopped}
+use Rattle.bundle_bundler.proofs.Refusing.{tree_right}
+use Rattle.bundle_bundler.proofs.Working.{sound, work_done, work_faulty, work_stopped}
 use Rattle.bundle_bundler.proofs.load.work_on.Goals as goal
 
 pub ask_each-requires : goal.ask_each-requires
@@ -19,6 +21,11 @@ ask_each-requires g c = record { met = still_all_met _ (kept_of c.load.new.self.
 
 pub returns-in_err-load-clause-judged : goal.returns-in_err-load-clause-judged
 returns-in_err-load-clause-judged g c = λ place there. leads_handed _ _ _ _ _ _ c.from_residual.ensures.1 (λ f its. j.not_loaded there its) c.in_err-load.ensures.judged
+
+pub returns-in_err-specifiers-clause-refused : goal.returns-in_err-specifiers-clause-refused
+returns-in_err-specifiers-clause-refused g c =
+    let its = found (kept_module (kept_of c.load.new.self.kept) (name_of c.args.file.now)) c.in_ok-load.ensures.there in
+    handed_on _ _ _ c.from_residual-in_err-specifiers.ensures.1 (tree_right (g.L.Load.may_fail_load c.load.new.self.loader) (g.R.Resolve.may_fail_resolve c.load.new.self.resolver) c.args.config.now.max_modules (kept_of c.load.new.self.kept) (name_of c.args.file.now) its.0.items _ (c.in_err-specifiers.ensures.faulty its.0 its.1))
 
 pub returns-in_err-specifiers-clause-judged : goal.returns-in_err-specifiers-clause-judged
 returns-in_err-specifiers-clause-judged g c = λ place there. work_faulty (asked_by g.L.Load.may_load g.L.Load.may_fail_load g.R.Resolve.may_resolve g.R.Resolve.may_fail_resolve c.args.library.now.loader c.args.library.now.resolver) (settings_of c.args.config.now) (files_on c.args.list.now) place (name_of c.args.file.now) there (kept_of c.args.library.now.kept) (kept_of c.load.new.self.kept) c.in_ok-load.ensures.judged c.in_ok-load.ensures.there _ _ _ c.from_residual-in_err-specifiers.ensures.1 c.in_err-specifiers.ensures.faulty
@@ -43,7 +50,9 @@ pub returns-clause-grows : goal.returns-clause-grows
 returns-clause-grows g c = λ entries. advances_trans _ _ entries _ _ _ _ _ _ _ _ _ (c.in_ok-load.ensures.grows entries) (c.in_ok-places.ensures.grows entries)
 
 pub returns-clause-loaded : goal.returns-clause-loaded
-returns-clause-loaded g c = still_kept _ _ (advances_stays _ _ [] _ _ _ _ _ _ (c.in_ok-places.ensures.grows [])) (name_of c.args.file.now) c.in_ok-load.ensures.there
+returns-clause-loaded g c =
+    still_sound (kept_of c.load.new.self.kept) (kept_of c.ask_each.new.library.kept) (advances_stays _ _ [] _ _ _ _ _ _ (c.in_ok-places.ensures.grows [])) (name_of c.args.file.now)
+    (sound (kept_of c.load.new.self.kept) (name_of c.args.file.now) (map string_bytes c.in_ok-specifiers.specifiers.items) (settings_of c.args.config.now) c.in_ok-load.ensures.there c.in_ok-specifiers.ensures.faultless)
 
 pub returns-clause-begins : goal.returns-clause-begins
 returns-clause-begins g c = begins_along _ _ _ c.in_ok-places.ensures.begins c.in_ok-add_requests.ensures

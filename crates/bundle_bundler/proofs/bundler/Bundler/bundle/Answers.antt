@@ -100,7 +100,7 @@ returns-then-is_empty-clause-completes g c = completes_none _ (settings_of c.arg
 pub returns-in_err-refuse_doubled_entry-clause-judged : goal.returns-in_err-refuse_doubled_entry-clause-judged
 returns-in_err-refuse_doubled_entry-clause-judged g c =
     refused_list _ (settings_of c.args.self.now.config) _ _ c.args.entries.items (kept_of c.args.self.now.library.kept) c.from_residual.ensures.1
-    (subst (λ xs. IfSome (fault_of (error_of c.in_err-refuse_doubled_entry.field-0.0)) (IsFaultOfList (map entry_of xs))) c.as_slice.ensures.value c.in_err-refuse_doubled_entry.ensures.doubled)
+    (subst (λ xs. IfSome (fault_of c.in_err-refuse_doubled_entry.field-0.0) (IsFaultOfList (map entry_of xs))) c.as_slice.ensures.value c.in_err-refuse_doubled_entry.ensures.doubled)
 
 pub returns-in_err-list-clause-judged : goal.returns-in_err-list-clause-judged
 returns-in_err-list-clause-judged g c =

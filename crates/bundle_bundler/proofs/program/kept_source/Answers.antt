@@ -1,0 +1,14 @@
+-- A file that is kept and not at fault is there, and is read.
+use Rattle.std.proofs.Common.{Bor, ap, sym, ◌∙◌}
+use Rattle.std.specs.Option.{option_map}
+use Rattle.bundle_name.specs.FileName.{name_of}
+use Rattle.bundle_tree.specs.declared.load.ModuleData.{ModuleData}
+use Rattle.bundle_bundler.specs.Kept.{kept_as, kept_of}
+use Rattle.bundle_bundler.proofs.Reading.{is_there, read_sound}
+use Rattle.bundle_bundler.proofs.program.kept_source.Goals as goal
+
+pub unwrap-loaded-requires : goal.unwrap-loaded-requires
+unwrap-loaded-requires g c = is_there (kept_of c.args.library.now.kept) (name_of c.args.file.now) c.module.result c.module.ensures c.requires
+
+pub source_of-requires : goal.source_of-requires
+source_of-requires g c = read_sound (kept_of c.args.library.now.kept) (name_of c.args.file.now) c.unwrap-loaded.result.now (sym c.module.ensures ∙ ap (option_map (λ (x : Bor ModuleData). kept_as x.now)) c.unwrap-loaded.ensures) c.requires
