@@ -129,7 +129,7 @@ here_specifier imports (h.Close ∷ rest) = refl
 -- The entries that have a name, of those of the definition.
 
 -- an entry that has a name, by itself; a star has none
-abbrev named_entry : e.ExportEntry → List e.ExportEntry
+abbrev pub named_entry : e.ExportEntry → List e.ExportEntry
 named_entry (e.Local name of) = e.Local name of ∷ []
 named_entry (e.Indirect name specifier taken) = e.Indirect name specifier taken ∷ []
 named_entry (e.Star specifier) = []
@@ -192,7 +192,7 @@ named_heads look imports same h.ExportDefaultExpr item = refl
 named_heads look imports same (h.ExportAll meta) item = refl
 named_heads look imports same _ item = refl
 
-named_items : (look : Text → Option e.ImportEntry) (imports : List e.ImportEntry) → ((x : Text) → look x ≡ e.import_of imports x) → (items : List Item) → flat_map named_entry (e.exports_of_item imports items) ≡ named_by look items
+pub named_items : (look : Text → Option e.ImportEntry) (imports : List e.ImportEntry) → ((x : Text) → look x ≡ e.import_of imports x) → (items : List Item) → flat_map named_entry (e.exports_of_item imports items) ≡ named_by look items
 named_items look imports same [] = refl
 named_items look imports same (h.Open field head ∷ rest) = named_heads look imports same head (h.Open field head ∷ rest)
 named_items look imports same (h.Ident field sym ctxt role ∷ rest) = refl

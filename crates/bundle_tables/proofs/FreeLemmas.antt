@@ -52,7 +52,7 @@ any_at {X} p (x ∷ xs) e = by (any_at p xs) (or_cases (p x) (list_any p xs) e)
 
 -- An occurrence stands at its place.
 
-fold_past-place : (s : Spot) (items : List Item) (n : ℕ) (item : Item) → slice_get items n ≡ Some item → (fold past s (take n items)).place ≡ s.place + n
+pub fold_past-place : (s : Spot) (items : List Item) (n : ℕ) (item : Item) → slice_get items n ≡ Some item → (fold past s (take n items)).place ≡ s.place + n
 fold_past-place s [] n item at = absurd (none-some item at)
 fold_past-place s (x ∷ xs) zero item at = omega arith
 fold_past-place s (x ∷ xs) (suc n) item at = let rest = fold_past-place (past s x) xs n item at in omega (arith, rest)
@@ -86,18 +86,18 @@ stands_at items p o at = by (slice_get items p) refl at
 -- What an entry denotes.
 
 module _ (tree : List Item) (table : Denotations) (is : IsTable BySymbol Es tree table) where
-  abbrev meaning : Occurrence → e.Denoted
+  abbrev pub meaning : Occurrence → e.Denoted
   meaning = e.denoted_of BySymbol Es (declared BySymbol Es tree)
 
   -- an entry and its occurrence
-  record Paired (i : ℕ) (entry : Denoted) (o : Occurrence) : Type 0 where
-    entry_there : slice_get table.occurrences.items i ≡ Some entry
-    there : slice_get (occurrences tree) i ≡ Some o
-    stands : occurrence_at tree o.place ≡ Some o
-    place : entry.place ≡ o.place
-    tells : Tells (map numbered table.scopes.items) table.bindings.items entry (meaning o)
+  pub record Paired (i : ℕ) (entry : Denoted) (o : Occurrence) : Type 0 where
+    pub entry_there : slice_get table.occurrences.items i ≡ Some entry
+    pub there : slice_get (occurrences tree) i ≡ Some o
+    pub stands : occurrence_at tree o.place ≡ Some o
+    pub place : entry.place ≡ o.place
+    pub tells : Tells (map numbered table.scopes.items) table.bindings.items entry (meaning o)
 
-  paired : (i : ℕ) (entry : Denoted) (o : Occurrence) → slice_get table.occurrences.items i ≡ Some entry → slice_get (occurrences tree) i ≡ Some o → entry.place ≡ o.place → Paired i entry o
+  pub paired : (i : ℕ) (entry : Denoted) (o : Occurrence) → slice_get table.occurrences.items i ≡ Some entry → slice_get (occurrences tree) i ≡ Some o → entry.place ≡ o.place → Paired i entry o
   paired i entry o at there place =
       let told = AllZip-at (Tells (map numbered table.scopes.items) table.bindings.items) table.occurrences.items (e.denotations BySymbol Es tree) i entry is.denotes at in
       let same : told.0 ≡ meaning o = same_Some _ _ (sym told.1 ∙ (slice_get-map meaning (occurrences tree) i ∙ ap (option_map meaning) there)) in

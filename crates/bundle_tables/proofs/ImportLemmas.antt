@@ -61,7 +61,7 @@ entry_none source (h.Hole field ∷ rest) is = refl
 entry_none source (h.Close ∷ rest) is = refl
 
 -- the places of the nodes do not matter to what is asked of each
-each_placed : {B : Type 0} (f : List Item → List B) (start : ℕ) (nodes : List (List Item)) → flat_map (λ top. f top.items) (placed start nodes) ≡ flat_map f nodes
+pub each_placed : {B : Type 0} (f : List Item → List B) (start : ℕ) (nodes : List (List Item)) → flat_map (λ top. f top.items) (placed start nodes) ≡ flat_map f nodes
 each_placed f start [] = refl
 each_placed f start (node ∷ more) = ap (λ l. f node ++ l) (each_placed f (start + length node) more)
 

@@ -1,3 +1,4 @@
+pub mod AskedLemmas
 pub mod CallLemmas
 pub mod DoubledLemmas
 pub mod ExportLemmas
@@ -12,7 +13,11 @@ pub mod MarkLemmas
 pub mod NamelessLemmas
 pub mod OnceLemmas
 pub mod PartLemmas
+pub mod PlaceLemmas
 pub mod RequestLemmas
+pub mod SecondLemmas
 pub mod SourceLemmas
 pub mod ToldLemmas
 pub mod TopLemmas
+pub mod UseLemmas
+pub mod WordLemmas

@@ -1,3 +1,4 @@
+pub mod Asked
 pub mod Exported
 pub mod Free
 pub mod Heads
@@ -5,5 +6,9 @@ pub mod Judged
 pub mod Lengths
 pub mod Listed
 pub mod Parted
+pub mod Placed
+pub mod Seconds
 pub mod Sources
 pub mod TablesOf
+pub mod Used
+pub mod Walked

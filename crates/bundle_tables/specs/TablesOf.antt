@@ -15,6 +15,7 @@ use Rattle.bundle_tables.specs.declared.table.Import.{Import}
 use Rattle.bundle_tables.specs.declared.table.Origin.{Origin}
 use Rattle.bundle_tables.specs.declared.table.Origin.TheVariants as o
 use Rattle.bundle_tables.specs.declared.table.Export.{Export}
+use Rattle.bundle_tables.specs.declared.table.AskedName.{AskedName}
 use Rattle.bundle_tables.specs.declared.table.RequireCall.{RequireCall}
 use Rattle.bundle_tables.specs.declared.table.TreeFault.{TreeFault}
 use Rattle.bundle_tables.specs.declared.table.TreeFault.TheVariants as f
@@ -40,6 +41,10 @@ entry_by_origin name (o.Indirect specifier taken) = e.Indirect name specifier.no
 -- the export entry that an `Export` stands for
 abbrev pub export_entry_of : Export → e.ExportEntry
 export_entry_of export = entry_by_origin export.name.now export.origin
+
+-- the name asked of another module that an `AskedName` stands for
+abbrev pub asked_name_of : AskedName → g.AskedName
+asked_name_of asked = record { specifier = asked.specifier.now; name = asked.name.now }
 
 -- whether a module has an import or export declaration
 abbrev pub has_declaration : List Item → Bool

@@ -3,21 +3,22 @@
 ghost use Rattle.std.specs.Prelude.{◌≡◌, ◌++◌, ◌∷◌, [], filter, map, not, List, IfOk, OnOk};
 ghost use Rattle.bundle_piece.specs.Item.{item_of};
 ghost use Rattle.bundle_terms.specs.Entries.{declared_requests, exports_of as exports_of_lem, imports_of as imports_of_lem, ImportEntry};
-ghost use Rattle.bundle_terms.specs.Faults.{listed_names};
+ghost use Rattle.bundle_terms.specs.Faults.{asked_names, listed_names};
 ghost use Rattle.bundle_terms.specs.Tables.{is_star, star_of};
 ghost use Rattle.bundle_terms.specs.Nodes.{each_once};
 ghost use Rattle.std.specs.List.{flat_map};
 ghost use Rattle.bundle_tables.specs.Exported.{import_by, Finds};
 ghost use Rattle.bundle_tables.specs.Listed.{listed_as};
 ghost use Rattle.bundle_tables.specs.Sources.{asked, has_external};
-ghost use Rattle.bundle_tables.specs.TablesOf.{export_entry_of, has_declaration as has_declaration_lem, import_entry_of};
+ghost use Rattle.bundle_tables.specs.TablesOf.{asked_name_of, export_entry_of, has_declaration as has_declaration_lem, import_entry_of};
 
+use crate::asked::asked_of;
 use crate::exports::exports_of;
 use crate::imports::{has_declaration, imports_of};
 use crate::listed::{Listed, listed_of};
 use crate::parts::top_items;
 use crate::sources::{sources_of, stars_of};
-use crate::table::{Export, Import, Source};
+use crate::table::{AskedName, Export, Import, Source};
 use bundle_piece::Piece;
 use indexmap::{IndexMap, IndexSet};
 use std::alloc::{AllocError, Global};
@@ -37,6 +38,7 @@ pub struct Entries<'a> {
 #[derive(Drop)]
 pub struct Given<'a> {
     pub exports: Vec<Export<'a>>,
+    pub asked: Vec<AskedName<'a>>,
     pub stars: IndexSet<&'a str>,
     pub sources: Vec<Source<'a>>,
     pub listed: Vec<Listed<'a>>,
@@ -53,10 +55,12 @@ pub fn entries_of<'a>(
     ensures declared { IfOk result (λ entries. entries.is_declared_module ≡ has_declaration_lem (map item_of pieces.now)) }
     ensures exports { IfOk result (λ entries.
         map export_entry_of entries.given.exports.items ≡ filter (λ entry. not (is_star entry)) (exports_of_lem (map item_of pieces.now))) }
+    ensures asked { IfOk result (λ entries. map asked_name_of entries.given.asked.items ≡ asked_names (map item_of pieces.now)) }
     ensures stars { IfOk result (λ entries.
         map (λ key. key.now) entries.given.stars.keys ≡ each_once (flat_map star_of (exports_of_lem (map item_of pieces.now)))) }
     ensures sources { IfOk result (λ entries.
         map asked entries.given.sources.items ≡ map (has_external external.now) (declared_requests (map item_of pieces.now))) }
+    ensures locals { IfOk result (λ entries. Finds entries.locals (imports_of_lem (map item_of pieces.now))) }
     ensures listed { IfOk result (λ entries. map listed_as entries.given.listed.items ≡ listed_names (map item_of pieces.now)) }
 {
     let tops = top_items(alloc, pieces)?;
@@ -65,6 +69,7 @@ pub fn entries_of<'a>(
     let locals = locals_of(alloc, &imports)?;
     let given = Given {
         exports: exports_of(alloc, &tops, &locals)?,
+        asked: asked_of(alloc, &tops, &locals)?,
         stars: stars_of(alloc, &tops)?,
         sources: sources_of(alloc, &tops, external)?,
         listed: listed_of(alloc, &tops)?,

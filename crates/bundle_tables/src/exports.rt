@@ -41,9 +41,9 @@ pub fn exports_of<'a>(
     Ok(exports)
 }
 
-// Adds what a top item exports.
+/// Adds what a top item exports under a name.
 #[tactic(auto, using(std::proofs::lemmas::Grind::common_steps, crate::proofs::ExportLemmas::named_some, crate::proofs::ExportLemmas::named_none))]
-fn add_exports<'a>(
+pub(crate) fn add_exports<'a>(
     alloc: Global,
     exports: &mut Vec<Export<'a>>,
     item: Part<'_, 'a>,
@@ -74,9 +74,9 @@ fn add_by<'a>(
         Node::NamedExport { .. } => add_list(alloc, exports, item, locals),
         Node::ExportDefaultDecl => {
             let name = default_declared(child(item.pieces, 0));
-            add_local(exports, DEFAULT, name, item.start)
+            add_local(exports, DEFAULT, name)
         }
-        Node::ExportDefaultExpr => add_local(exports, DEFAULT, DEFAULT, item.start),
+        Node::ExportDefaultExpr => add_local(exports, DEFAULT, DEFAULT),
         _ => Ok(()),
     }
 }
@@ -86,16 +86,11 @@ fn add_local<'a>(
     exports: &mut Vec<Export<'a>>,
     name: &'a str,
     of: &'a str,
-    place: usize,
 ) -> Result<(), AllocError>
     ensures { OnOk result (map export_entry_of exports.new.items ≡ map export_entry_of exports.old.items ++ e.Local name.now of.now ∷ []) }
 {
     let origin = Origin::Local { name: of };
-    exports.push(Export {
-        name,
-        origin,
-        place,
-    })?;
+    exports.push(Export { name, origin })?;
     Ok(())
 }
 
@@ -126,7 +121,7 @@ fn add_declared<'a>(
         return add_variables(alloc, exports, declaration);
     }
     let name = text_in(declaration.pieces, 0);
-    add_local(exports, name, name, child_of(declaration, 0).start)
+    add_local(exports, name, name)
 }
 
 // Whether a declaration of variables begins a list.
@@ -168,7 +163,7 @@ fn add_bound<'a>(exports: &mut Vec<Export<'a>>, declarator: Part<'_, 'a>) -> Res
     for place in 0..declarator.pieces.len() {
         let piece = declarator.pieces[place];
         if let Some(name) = bound_at(depth, piece) {
-            add_local(exports, name, name, declarator.start.saturating_add(place))?;
+            add_local(exports, name, name)?;
         }
         depth = depth_behind(depth, piece);
     }
@@ -251,11 +246,7 @@ fn export_from<'a>(specifier: Part<'_, 'a>, source: &'a str) -> Export<'a>
         specifier: source,
         taken,
     };
-    Export {
-        name,
-        origin,
-        place: specifier.start,
-    }
+    Export { name, origin }
 }
 
 // Whether `* as n` of an export list begins a list.
@@ -312,7 +303,6 @@ fn export_here<'a>(specifier: Part<'_, 'a>, locals: &IndexMap<&'a str, Import<'a
     Export {
         name: renamed_text(specifier.pieces),
         origin: origin_of(locals, text_in(specifier.pieces, 0)),
-        place: specifier.start,
     }
 }
 

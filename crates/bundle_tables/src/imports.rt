@@ -26,9 +26,9 @@ pub fn imports_of<'a>(alloc: Global, tops: &[Part<'_, 'a>]) -> Result<Vec<Import
     Ok(imports)
 }
 
-// Adds what a top item imports.
+/// Adds what a top item imports.
 #[tactic(auto, using(std::proofs::lemmas::Grind::common_steps, crate::proofs::ImportLemmas::imports_here, crate::proofs::ImportLemmas::imports_none))]
-fn add_imports<'a>(
+pub(crate) fn add_imports<'a>(
     alloc: Global,
     imports: &mut Vec<Import<'a>>,
     item: Part<'_, 'a>,
@@ -83,7 +83,6 @@ fn import_at<'a>(part: Part<'_, 'a>, node: Node<'a>, specifier: &'a str) -> Impo
         local: text_in(part.pieces, 0),
         specifier,
         taken: taken_at(part.pieces, node),
-        place: part.start,
     }
 }
 

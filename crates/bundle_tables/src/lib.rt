@@ -2,6 +2,7 @@
 //! literal calls of `require`, uses of imported names, and what is wrong with the module by itself.
 #![tactic(auto)]
 
+mod asked;
 mod calls;
 mod entries;
 mod exports;
@@ -10,12 +11,15 @@ mod free;
 mod imports;
 mod listed;
 mod nodes;
-mod outline;
 mod parts;
+mod places;
+mod seconds;
 mod sources;
 pub mod table;
 pub mod tables;
 mod walk;
 
-pub use table::{Export, Import, Origin, Read, RequireCall, Source, Tables, Taken, TreeFault, Use};
+pub use table::{
+    AskedName, Export, Import, Origin, Read, RequireCall, Source, Tables, Taken, TreeFault, Use,
+};
 pub use tables::tables_of;

@@ -9,6 +9,7 @@ ghost use Rattle.bundle_terms.specs.Entries.{has_import_meta as has_import_meta_
 ghost use Rattle.bundle_terms.specs.Bundle.{is_with};
 ghost use Rattle.bundle_terms.specs.Reads.{writes as writes_lem, passes_writes as passes_writes_lem, is_optional_chain as is_optional_chain_lem};
 ghost use Rattle.bundle_terms.specs.Nodes.{has_head};
+ghost use Rattle.bundle_tables.specs.Used.{states_nothing as states_nothing_lem};
 
 use bundle_leaf::{MetaPropKind, UnaryOp};
 use bundle_piece::{Node, Piece};
@@ -47,6 +48,18 @@ pub fn is_optional_chain(node: Node) -> bool
 {
     match node {
         Node::OptChainExpr { .. } => true,
+        _ => false,
+    }
+}
+
+/// Whether a top item that begins with a node states nothing: import declarations, export lists and empty
+/// statements.
+pub fn states_nothing(node: Node) -> bool
+    ensures { result ≡ states_nothing_lem (head_of node.entry) }
+{
+    match node {
+        Node::ImportDecl { .. } | Node::NamedExport { .. } | Node::ExportAll { .. } => true,
+        Node::EmptyStmt => true,
         _ => false,
     }
 }

@@ -14,8 +14,6 @@ pub struct Import<'a> {
     pub local: &'a str,
     pub specifier: &'a str,
     pub taken: Taken<'a>,
-    /// Where its specifier begins.
-    pub place: usize,
 }
 
 /// Where an exported name comes from. A local export of a name that was imported by name is given on, and
@@ -38,8 +36,13 @@ pub enum Origin<'a> {
 pub struct Export<'a> {
     pub name: &'a str,
     pub origin: Origin<'a>,
-    /// Where its specifier, the declared name or the default export begins.
-    pub place: usize,
+}
+
+/// A name that is asked of another module.
+#[derive(Clone, Copy, PartialEq, Eq, Debug)]
+pub struct AskedName<'a> {
+    pub specifier: &'a str,
+    pub name: &'a str,
 }
 
 /// A literal call of `require`, as `require('text')`, where nothing binds `require`.
@@ -87,6 +90,8 @@ pub struct Tables<'a> {
     pub requests: Vec<&'a str>,
     pub imports: Vec<Import<'a>>,
     pub exports: Vec<Export<'a>>,
+    /// The names that imports and indirect exports ask of other modules, in the order of the source.
+    pub asked: Vec<AskedName<'a>>,
     /// What `export * from` asks for, each text once.
     pub stars: Vec<&'a str>,
     /// Each import or export that asks for a module, external or not.

@@ -10,18 +10,19 @@ ghost use Rattle.bundle_denote.specs.Listed.{IsTable};
 ghost use Rattle.bundle_terms.specs.Awaits.{awaits_outside as awaits_outside_lem};
 ghost use Rattle.bundle_terms.specs.Bound.{has_free as has_free_lem, is_free};
 ghost use Rattle.bundle_terms.specs.Entries.{Settings, declared_requests, exports_of as exports_of_lem, has_import_meta as has_import_meta_lem, imports_of as imports_of_lem, is_script as is_script_lem, linked_calls as linked_calls_lem, requests_of};
-ghost use Rattle.bundle_terms.specs.Faults.{IsFaultless, IsFirstTreeFault};
+ghost use Rattle.bundle_terms.specs.Faults.{asked_names, IsFaultless, IsFirstTreeFault};
 ghost use Rattle.bundle_terms.specs.Nodes.{each_once, Text};
 ghost use Rattle.bundle_terms.specs.Tables.{is_star, star_of};
 ghost use Rattle.bundle_tables.specs.Sources.{asked, told_external, unexternal, unexternal_one, HasTexts};
-ghost use Rattle.bundle_tables.specs.TablesOf.{call_entry_of, export_entry_of, fault_in, import_entry_of, uses_common_js};
+ghost use Rattle.bundle_tables.specs.Exported.{Finds};
+ghost use Rattle.bundle_tables.specs.Used.{begin_in_turn, read_places, use_entry_of, uses_of};
+ghost use Rattle.bundle_tables.specs.TablesOf.{asked_name_of, call_entry_of, export_entry_of, fault_in, import_entry_of, uses_common_js};
 
 use crate::calls::linked_calls;
 use crate::entries::{Entries, Given, entries_of};
 use crate::faults::first_fault;
 use crate::free::{has_free, names_common_js};
 use crate::nodes::has_import_meta;
-use crate::outline::Outline;
 use crate::table::{RequireCall, Source, Tables, TreeFault};
 use crate::walk::found_in;
 use bundle_denote::Denotations;
@@ -48,6 +49,8 @@ pub fn tables_of<'a>(
         map import_entry_of tables.imports.items ≡ imports_of_lem (map item_of pieces.now))) }
     ensures exports { IfOk result (λ answer. IfOk answer (λ tables.
         map export_entry_of tables.exports.items ≡ filter (λ entry. not (is_star entry)) (exports_of_lem (map item_of pieces.now)))) }
+    ensures asked { IfOk result (λ answer. IfOk answer (λ tables.
+        map asked_name_of tables.asked.items ≡ asked_names (map item_of pieces.now))) }
     ensures stars { IfOk result (λ answer. IfOk answer (λ tables.
         map (λ star. star.now) tables.stars.items ≡ each_once (flat_map star_of (exports_of_lem (map item_of pieces.now))))) }
     ensures sources { IfOk result (λ answer. IfOk answer (λ tables.
@@ -67,6 +70,10 @@ pub fn tables_of<'a>(
     ensures arguments { IfOk result (λ answer. IfOk answer (λ tables.
         IsTable BySymbol Es (map item_of pieces.now) denotations.now → tables.has_free_arguments ≡ has_free_lem (map item_of pieces.now) (codes "arguments"))) }
     ensures awaits { IfOk result (λ answer. IfOk answer (λ tables. tables.awaits ≡ awaits_outside_lem (map item_of pieces.now))) }
+    ensures reads { IfOk result (λ answer. IfOk answer (λ tables.
+        map (read_places tables.reads.items) tables.uses.items ≡ map begin_in_turn tables.uses.items)) }
+    ensures uses { IfOk result (λ answer. IfOk answer (λ tables. IsTable BySymbol Es (map item_of pieces.now) denotations.now →
+        map (use_entry_of tables.reads.items) tables.uses.items ≡ uses_of (map item_of pieces.now))) }
     ensures judged { IfOk result (λ answer. (file : Name) → IsTable BySymbol Es (map item_of pieces.now) denotations.now →
         MatchResult answer (λ tables. IsFaultless file (map item_of pieces.now)) (λ fault. IsFirstTreeFault file (map item_of pieces.now) (fault_in file fault))) }
 {
@@ -103,6 +110,7 @@ fn joined<'a>(
     ensures meta { IfOk result (λ tables. tables.has_import_meta ≡ has_import_meta_lem (map item_of pieces.now)) }
     ensures imports { IfOk result (λ tables. tables.imports.items ≡ entries.entry.imports.items) }
     ensures exports { IfOk result (λ tables. tables.exports.items ≡ entries.entry.given.exports.items) }
+    ensures asked { IfOk result (λ tables. tables.asked.items ≡ entries.entry.given.asked.items) }
     ensures calls { IfOk result (λ tables. tables.calls.items ≡ calls.entry.items) }
     ensures requests { IfOk result (λ tables. map (λ request. request.now) tables.requests.items
         ≡ each_once (unexternal entries.entry.given.sources.items ++ map (λ call. call.specifier.now) calls.entry.items)) }
@@ -110,13 +118,16 @@ fn joined<'a>(
     ensures stars { IfOk result (λ tables. tables.stars.items ≡ entries.entry.given.stars.keys) }
     ensures script { IfOk result (λ tables. tables.is_script ≡ (not entries.entry.is_declared_module && not (has_import_meta_lem (map item_of pieces.now)))) }
     ensures awaits { IfOk result (λ tables. tables.awaits ≡ awaits_outside_lem (map item_of pieces.now)) }
+    ensures reads { IfOk result (λ tables. map (read_places tables.reads.items) tables.uses.items ≡ map begin_in_turn tables.uses.items) }
+    ensures uses { IfOk result (λ tables. Finds entries.entry.locals (imports_of_lem (map item_of pieces.now)) →
+        IsTable BySymbol Es (map item_of pieces.now) denotations.now →
+        map (use_entry_of tables.reads.items) tables.uses.items ≡ uses_of (map item_of pieces.now)) }
     ensures common_js { IfOk result (λ tables.
         IsTable BySymbol Es (map item_of pieces.now) denotations.now → tables.names_common_js ≡ uses_common_js (map item_of pieces.now)) }
     ensures arguments { IfOk result (λ tables.
         IsTable BySymbol Es (map item_of pieces.now) denotations.now → tables.has_free_arguments ≡ has_free_lem (map item_of pieces.now) (codes "arguments")) }
 {
-    let outline = Outline::new(alloc, pieces)?;
-    let found = found_in(alloc, &outline, denotations, &entries.locals)?;
+    let found = found_in(alloc, pieces, denotations, &entries.locals)?;
     let awaits = awaits_outside(alloc, pieces)?;
     let has_import_meta = has_import_meta(pieces);
     let is_script = !entries.is_declared_module && !has_import_meta;
@@ -128,6 +139,7 @@ fn joined<'a>(
         requests,
         imports,
         exports: given.exports,
+        asked: given.asked,
         stars,
         sources: given.sources,
         calls,

@@ -1,157 +1,213 @@
 //! What the statements of a module use: imported names with the reads around them.
 
-use crate::nodes::{is_optional_chain, passes_writes, writes};
-use crate::outline::Outline;
+ghost use Rattle.std.specs.Prelude.{◌≡◌, ◌<◌, ◌++◌, [], ◌∷◌, List, IfOk, IfSome, OnOk, length, map, slice_get};
+ghost use Rattle.bundle_piece.specs.Item.{item_of};
+ghost use Rattle.bundle_places.specs.Declarations.{BySymbol};
+ghost use Rattle.bundle_places.specs.Scopes.{Es};
+ghost use Rattle.bundle_denote.specs.Listed.{IsTable};
+ghost use Rattle.bundle_terms.specs.Entries.{imports_of};
+ghost use Rattle.bundle_tables.specs.Exported.{Finds, text_list};
+ghost use Rattle.bundle_tables.specs.Placed.{stated_told as stated_told_lem, word_told as word_told_lem};
+ghost use Rattle.bundle_tables.specs.Seconds.{text_of};
+ghost use Rattle.bundle_tables.specs.Used.{UseEntry, begin_in_turn, name_read, place_read, places_before, read_places, use_entry_of, uses_of};
+ghost use Rattle.bundle_tables.specs.Walked.{Begin, Says, has_import, is_own_binding, is_own_number as is_own_number_lem, is_own_scope as is_own_scope_lem, name_used as name_used_lem, named_use, symbol_if, word_before as word_before_lem, words_before};
+
+use crate::places::{Told, told_places};
 use crate::table::{Import, Read, Use};
-use bundle_denote::{Denotations, Denoted};
-use bundle_piece::{Node, Piece, Role};
+use bundle_denote::{Denotations, Denoted, Scope, ScopeKind};
+use bundle_piece::Piece;
 use indexmap::IndexMap;
 use std::alloc::{AllocError, Global};
 
-/// The number of the scope of a module's top.
-const TOP: usize = 0;
-
-/// What was found so far, and the nodes that are open.
+/// What was found so far.
 #[derive(Drop)]
 pub struct Found<'a> {
-    open: Vec<Around<'a>>,
     pub uses: Vec<Use<'a>>,
     pub reads: Vec<Read<'a>>,
-}
-
-/// An open node.
-#[derive(Clone, Copy)]
-struct Around<'a> {
-    node: Node<'a>,
-    begins: usize,
-    /// It stands where it is written to.
-    is_written: bool,
-    /// The word of a read that may be static.
-    word: Option<&'a str>,
 }
 
 /// What the statements of a module use. `imports` are the names that its imports bind.
 pub fn found_in<'a>(
     alloc: Global,
-    outline: &Outline<'_, 'a>,
+    pieces: &[Piece<'a>],
     denotations: &Denotations<'a>,
     imports: &IndexMap<&'a str, Import<'a>>,
-) -> Result<Found<'a>, AllocError> {
+) -> Result<Found<'a>, AllocError>
+    ensures places { IfOk result (λ found. map (read_places found.reads.items) found.uses.items ≡ map begin_in_turn found.uses.items) }
+    ensures uses { IfOk result (λ found. Finds imports.now (imports_of (map item_of pieces.now)) → IsTable BySymbol Es (map item_of pieces.now) denotations.now →
+        map (use_entry_of found.reads.items) found.uses.items ≡ uses_of (map item_of pieces.now)) }
+{
+    let told = told_places(alloc, pieces)?;
     let mut found = Found {
-        open: Vec::new(alloc),
         uses: Vec::new(alloc),
         reads: Vec::new(alloc),
     };
-    let mut next = 0usize;
-    for (place, piece) in outline.pieces.iter().enumerate() {
-        match piece {
-            Piece::Open { field, node } => found.open_node(outline, place, *field, *node)?,
-            Piece::Close => {
-                let _ = found.open.pop();
-            }
-            Piece::Ident {
-                sym,
-                role: Role::Binding | Role::Reference,
-                ..
-            } => {
-                let denoted = denotations.occurrences.get(next).copied();
-                next = next.saturating_add(1);
-                if let Some(TOP) = binding_of(denotations, denoted) {
-                    if imports.contains_key(sym) && found.is_in_statement() {
-                        found.add_use(place, *sym)?;
-                    }
-                }
-            }
-            Piece::Ident { .. } | Piece::Hole { .. } => {}
-        }
+    for entry in &denotations.occurrences {
+        let name = name_used(pieces, denotations, imports, &told, *entry);
+        add_named(&mut found, &told, entry.place, name)?;
     }
     Ok(found)
 }
 
-// The number of the scope that binds what an occurrence denotes; None for a global.
-fn binding_of(denotations: &Denotations, denoted: Option<Denoted>) -> Option<usize> {
-    let binding = denotations.bindings.get(denoted?.binding?)?;
-    Some(binding.scope)
+// The imported name that an entry uses, if it uses one.
+fn name_used<'a>(
+    pieces: &[Piece<'a>],
+    denotations: &Denotations<'a>,
+    imports: &IndexMap<&'a str, Import<'a>>,
+    told: &[Told<'a>],
+    entry: Denoted,
+) -> Option<&'a str>
+    ensures { text_list result ≡ name_used_lem denotations.now (has_import imports.now) told.now (map item_of pieces.now) entry }
+{
+    if is_own_number(denotations, entry.binding) && stated_told(told, entry.place) {
+        imported_at(pieces, imports, entry.place)
+    } else {
+        None
+    }
 }
 
-impl<'a> Found<'a> {
-    // Notes that a node begins.
-    fn open_node(
-        &mut self,
-        outline: &Outline<'_, 'a>,
-        place: usize,
-        field: u8,
-        node: Node<'a>,
-    ) -> Result<(), AllocError> {
-        let (is_written, is_base) = match self.open.last() {
-            Some(around) => (
-                writes(around.node, field)
-                    || (passes_writes(around.node, field) && around.is_written),
-                is_optional_chain(around.node),
-            ),
-            None => (false, false),
-        };
-        let word = if is_written || is_base {
-            None
-        } else {
-            word_of(outline, place, node)
-        };
-        self.open.push(Around {
-            node,
-            begins: place,
-            is_written,
-            word,
-        })?;
-        Ok(())
-    }
-
-    // Whether the top item that is open states something; import declarations and export lists do not.
-    fn is_in_statement(&self) -> bool {
-        match self.open.get(1) {
-            Some(item) => match item.node {
-                Node::ImportDecl { .. } | Node::NamedExport { .. } | Node::ExportAll { .. } =>
-                    false,
-                _ => true,
-            },
-            None => true,
-        }
-    }
-
-    // Notes a use of an imported name, with the reads around it.
-    fn add_use(&mut self, place: usize, local: &'a str) -> Result<(), AllocError> {
-        let first_read = self.reads.len();
-        let mut inner = place;
-        for around in self.open.iter().rev() {
-            if around.begins.saturating_add(1) != inner {
-                break;
+// The symbol of the identifier at a place, if an import binds it.
+fn imported_at<'a>(
+    pieces: &[Piece<'a>],
+    imports: &IndexMap<&'a str, Import<'a>>,
+    place: usize,
+) -> Option<&'a str>
+    ensures { text_list result ≡ symbol_if (has_import imports.now) (slice_get (map item_of pieces.now) place) }
+{
+    match pieces.get(place) {
+        Some(Piece::Ident { sym, .. }) => {
+            if imports.contains_key(sym) {
+                Some(*sym)
+            } else {
+                None
             }
-            let Some(name) = around.word else {
-                break;
-            };
-            inner = around.begins;
-            self.reads.push(Read {
-                place: around.begins,
-                name,
-            })?;
         }
-        let count = self.reads.len().saturating_sub(first_read);
-        self.uses.push(Use {
-            place,
-            local,
-            first_read,
-            count,
-        })?;
-        Ok(())
+        _ => None,
     }
 }
 
-// The word x of a node `p.x`.
-fn word_of<'a>(outline: &Outline<'_, 'a>, place: usize, node: Node<'a>) -> Option<&'a str> {
-    match node {
-        Node::MemberExpr => match outline.node_at(outline.child(place, 1)?)? {
-            Node::IdentName { sym } => Some(sym),
-            _ => None,
+// Whether a binding with a number is one of the top.
+fn is_own_number<'a>(denotations: &Denotations<'a>, number: Option<usize>) -> bool
+    ensures { result ≡ is_own_number_lem denotations.now number }
+{
+    match number {
+        Some(number) => is_own(denotations, number),
+        None => false,
+    }
+}
+
+// The same of a number that is there.
+#[tactic(auto, using(std::proofs::lemmas::Grind::common_steps, std::proofs::lemmas::Option::gets))]
+fn is_own<'a>(denotations: &Denotations<'a>, number: usize) -> bool
+    ensures { result ≡ is_own_binding denotations.now.scopes.items (slice_get denotations.now.bindings.items number) }
+{
+    match denotations.bindings.get(number) {
+        Some(binding) => is_own_scope(&denotations.scopes, binding.scope),
+        None => false,
+    }
+}
+
+// Whether a scope is the top.
+#[tactic(auto, using(std::proofs::lemmas::Grind::common_steps, std::proofs::lemmas::Option::gets))]
+fn is_own_scope(scopes: &[Scope], number: usize) -> bool
+    ensures { result ≡ is_own_scope_lem (slice_get scopes.now number) }
+{
+    match scopes.get(number) {
+        Some(scope) => match scope.kind {
+            ScopeKind::Top => true,
+            _ => false,
         },
-        _ => None,
+        None => false,
+    }
+}
+
+// Whether a place lies in a top item that states something, as it is told.
+fn stated_told<'a>(told: &[Told<'a>], place: usize) -> bool
+    ensures { result ≡ stated_told_lem told.now place }
+{
+    if place < told.len() {
+        told[place].is_stated
+    } else {
+        false
+    }
+}
+
+// The word that is told of a place.
+fn word_told<'a>(told: &[Told<'a>], place: usize) -> Option<&'a str>
+    ensures { text_of result ≡ word_told_lem told.now place }
+{
+    if place < told.len() {
+        told[place].word
+    } else {
+        None
+    }
+}
+
+// Notes a use of a name, if there is one.
+fn add_named<'a>(
+    found: &mut Found<'a>,
+    told: &[Told<'a>],
+    place: usize,
+    name: Option<&'a str>,
+) -> Result<(), AllocError>
+    ensures places { OnOk result (Begin (map place_read found.old.reads.items) found.old.uses.items → Begin (map place_read found.new.reads.items) found.new.uses.items) }
+    ensures uses { OnOk result ((entries : List UseEntry) → Says (map name_read found.old.reads.items) found.old.uses.items entries →
+        Says (map name_read found.new.reads.items) found.new.uses.items (entries ++ map (named_use told.now place) (text_list name.entry))) }
+{
+    match name {
+        Some(local) => add_use(found, told, place, local),
+        None => Ok(()),
+    }
+}
+
+// Notes a use of an imported name, with the reads around it.
+fn add_use<'a>(
+    found: &mut Found<'a>,
+    told: &[Told<'a>],
+    place: usize,
+    local: &'a str,
+) -> Result<(), AllocError>
+    ensures places { OnOk result (Begin (map place_read found.old.reads.items) found.old.uses.items → Begin (map place_read found.new.reads.items) found.new.uses.items) }
+    ensures uses { OnOk result ((entries : List UseEntry) → Says (map name_read found.old.reads.items) found.old.uses.items entries →
+        Says (map name_read found.new.reads.items) found.new.uses.items (entries ++ named_use told.now place local.now ∷ [])) }
+{
+    let first_read = found.reads.len();
+    add_reads(&mut found.reads, told, place)?;
+    let count = found.reads.len().saturating_sub(first_read);
+    found.uses.push(Use {
+        place,
+        local,
+        first_read,
+        count,
+    })?;
+    Ok(())
+}
+
+// Adds the reads around a place, innermost first.
+fn add_reads<'a>(
+    reads: &mut Vec<Read<'a>>,
+    told: &[Told<'a>],
+    place: usize,
+) -> Result<(), AllocError>
+    ensures places { OnOk result (map place_read reads.new.items ≡ map place_read reads.old.items ++ places_before place (length (words_before (word_told_lem told.now) place))) }
+    ensures words { OnOk result (map name_read reads.new.items ≡ map name_read reads.old.items ++ words_before (word_told_lem told.now) place) }
+{
+    let mut inner = place;
+    while let Some(name) = word_before(told, inner) {
+        inner -= 1;
+        reads.push(Read { place: inner, name })?;
+    }
+    Ok(())
+}
+
+// The word that is told of the place right before a place.
+fn word_before<'a>(told: &[Told<'a>], place: usize) -> Option<&'a str>
+    ensures word { text_of result ≡ word_before_lem (word_told_lem told.now) place }
+    ensures some { IfSome result (λ word. 0 < place) }
+{
+    if place > 0 {
+        word_told(told, place - 1)
+    } else {
+        None
     }
 }

@@ -41,3 +41,6 @@ returns-in-Some-clause-judged c = λ file is.
     let given = c.in_ok-entries.entries.given in
     found_first file tree c.in_ok-first.first c.in-Some.fault c.in-Some.is
     (c.in_ok-first.ensures file ∙ told_by_tree file tree c.args.denotations.now (map export_entry_of given.exports.items) (map listed_as given.listed.items) is c.in_ok-entries.ensures.exports c.in_ok-entries.ensures.listed)
+
+pub returns-clause-uses : goal.returns-clause-uses
+returns-clause-uses c = λ is. c.in_ok-tables.ensures.uses c.in_ok-entries.ensures.locals is
