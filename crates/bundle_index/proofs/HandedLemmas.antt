@@ -256,14 +256,15 @@ module _ (p : Program) (modules : List LinkModule) (list : List ℕ) (entry : �
           subst (TellsCommonJs p c) (sym (flag_at (is_kind require entry (required_by modules list)) 0 c c modules its (omega arith) at ∙ same)) told
 
 -- what is handed in, and what is found of it, is the program's
-pub are_modules : (p : Program) (kinds : Kinds) (list : List ℕ) (require : Bool) → IsProgramOf p kinds.modules.now list kinds.entry require → HasTexts kinds.externals (externals_of kinds.modules.now) → kinds.common_js.items ≡ kinds_of kinds.modules.now list kinds.entry require → AreModulesOf p kinds
-are_modules p kinds list require w texts flags = record {
+pub are_modules : (p : Program) (kinds : Kinds) (require : Bool) → IsProgramOf p kinds.modules.now kinds.list.now kinds.entry require → HasTexts kinds.externals (externals_of kinds.modules.now) → kinds.common_js.items ≡ kinds_of kinds.modules.now kinds.list.now kinds.entry require → AreModulesOf p kinds
+are_modules p kinds require w texts flags = record {
   tables = w.tables;
   others = λ m none. ap exports_of (w.others m none);
   trees = w.others;
   begins = w.begins;
   leads = w.leads;
-  outside = λ m s asks. texts s ∙ outside_is p kinds.modules.now list kinds.entry require w m s asks;
-  common_js = λ c. subst (λ l. TellsCommonJs p c (flagged l c)) (sym flags) (kind_is p kinds.modules.now list kinds.entry require w c);
+  outside = λ m s asks. texts s ∙ outside_is p kinds.modules.now kinds.list.now kinds.entry require w m s asks;
+  common_js = λ c. subst (λ l. TellsCommonJs p c (flagged l c)) (sym flags) (kind_is p kinds.modules.now kinds.list.now kinds.entry require w c);
+  reached = w.reached;
   once = w.once;
 }

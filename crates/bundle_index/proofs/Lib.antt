@@ -9,3 +9,4 @@ pub mod FoundLemmas
 pub mod AskedLemmas
 pub mod HandedLemmas
 pub mod OutsideLemmas
+pub mod StarredLemmas

@@ -5,6 +5,7 @@ use Rattle.bundle_terms.specs.Statements.{default_name}
 use Rattle.bundle_terms.specs.Entries.{Taken, Named, ImportEntry, Local, Indirect, Star, import_of, has_own_entry}
 use Rattle.bundle_terms.specs.Program.{Program, tree_of}
 use Rattle.bundle_terms.specs.Linking.{exports, imports, Target, Declared, Takes, IsModule, Origin}
+use Rattle.bundle_graph.specs.Walks.{Reaches}
 use Rattle.bundle_given.specs.declared.links.Own.TheVariants.{Gives, Leads}
 use Rattle.bundle_given.specs.Graph.{Graph, own_of, stars_of}
 
@@ -29,6 +30,10 @@ pub record Stars (p : Program) (m d : ℕ) : Type 0 where
   pub specifier : Text
   pub stands : Contains (exports p m) (Star specifier)
   pub leads : IsModule p m specifier d
+
+-- a chain of stars leads from one module to another
+abbrev pub StarReaches : Program → ℕ → ℕ → Type 0
+StarReaches p m d = Reaches (Stars p) m d
 
 -- the graph stands for the program, where these are its names and values, each at its number
 pub record IsGraphOf (p : Program) (names : List Text) (values : List Value) (g : Graph) : Type 0 where

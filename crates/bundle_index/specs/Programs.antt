@@ -10,7 +10,9 @@ use Rattle.bundle_terms.specs.Program.{Program, calls_of, is_external, tree_of, 
 use Rattle.bundle_terms.specs.Linking.{exports, imports}
 use Rattle.bundle_terms.specs.Tables.{TellsCommonJs, is_star, star_of}
 use Rattle.bundle_tables.specs.Sources.{asked, told_external}
-use Rattle.bundle_tables.specs.TablesOf.{call_entry_of, export_entry_of, import_entry_of, uses_common_js}
+use Rattle.bundle_terms.specs.Faults.{asked_names}
+use Rattle.bundle_tables.specs.TablesOf.{asked_name_of, call_entry_of, export_entry_of, import_entry_of, uses_common_js}
+use Rattle.bundle_tables.specs.Used.{use_entry_of, uses_of}
 use Rattle.bundle_tables.specs.declared.table.Tables.{Tables}
 use Rattle.bundle_index.specs.declared.target.LinkModule.{LinkModule}
 use Rattle.bundle_index.specs.declared.kinds.Kinds.{Kinds}
@@ -34,6 +36,8 @@ pub record IsTableOf (p : Program) (m : ℕ) (tables : Tables) : Type 0 where
   pub common_js : tables.names_common_js ≡ uses_common_js (tree_of p m)
   pub awaits : tables.awaits ≡ awaits_outside (tree_of p m)
   pub arguments : tables.has_free_arguments ≡ has_free (tree_of p m) (codes "arguments")
+  pub names : map asked_name_of tables.asked.items ≡ asked_names (tree_of p m)
+  pub uses : map (use_entry_of tables.reads.items) tables.uses.items ≡ uses_of (tree_of p m)
 
 -- modules that are handed in to be linked are those of the program: their tables, where their requests lead, which are reached from the entry
 pub record IsProgramOf (p : Program) (modules : List LinkModule) (list : List ℕ) (entry : ℕ) (require : Bool) : Type 0 where
@@ -55,6 +59,7 @@ pub record AreModulesOf (p : Program) (kinds : Kinds) : Type 0 where
   pub leads : (m : ℕ) (s : Text) → p.leads m s ≡ required_of kinds.modules.now m s
   pub outside : (m : ℕ) (s : Text) → Asks p m s → contains_by (λ k. bytes_eq s k.now) kinds.externals ≡ is_external p s
   pub common_js : (c : ℕ) → TellsCommonJs p c (flagged kinds.common_js.items c)
+  pub reached : (n : ℕ) → Contains kinds.list.now n ↔ IsReached p n
   pub once : HasEachOnce p
 
 -- where a specifier of a module leads in the program, where these are CommonJS

@@ -52,6 +52,12 @@ answer_says a.None = Nought
 answer_says (a.One given) = Single (value_of given)
 answer_says (a.Two first second) = Double (value_of first) (value_of second)
 
+-- the target to which the name is linked, if it is linked
+abbrev pub linked_of : Told → Option l.Target
+linked_of Nought = None
+linked_of (Single value) = Some value.0
+linked_of (Double first second) = None
+
 -- one value, if it is there
 abbrev pub single : Option Value → Told
 single None = Nought

@@ -1,17 +1,18 @@
 //! What modules give for names: the search over the numbers of what their tables say.
 
-ghost use Rattle.std.specs.Prelude.{◌≡◌, ◌↔◌, ◌++◌, ◌∷◌, [], ℕ, IfOk, IsTrue, OnOk, List, map};
+ghost use Rattle.std.specs.Prelude.{◌≡◌, ◌↔◌, ◌++◌, ◌∷◌, [], ℕ, IfOk, IsTrue, OnOk, List, map, option_map};
 ghost use Rattle.bundle_terms.specs.Entries.{ImportEntry};
 ghost use Rattle.bundle_terms.specs.Program.{Program};
 ghost use Rattle.bundle_tables.specs.Exported.{Finds};
 ghost use Rattle.bundle_terms.specs.Faults.{StarsExternal};
 ghost use Rattle.bundle_given.specs.Graph.{Graph, Spot, graph_of};
-ghost use Rattle.bundle_given.specs.Given.{Given as IsGiven, IsAnswer};
+ghost use Rattle.bundle_given.specs.Given.{Given as IsGiven, IsAnswer, IsIn};
 ghost use Rattle.bundle_index.specs.Outside.{IsIndexOf};
 ghost use Rattle.bundle_index.specs.Leads.{lead_of};
 ghost use Rattle.bundle_index.specs.Numbered.{Noted, HoldsAt, IsEmpty, IsNumbered, names_of, values_of, note, notes_of, starred};
 ghost use Rattle.bundle_index.specs.Programs.{AreModulesOf};
-ghost use Rattle.bundle_index.specs.Says.{Tells, answer_says};
+ghost use Rattle.bundle_index.specs.Linked.{StarReaches};
+ghost use Rattle.bundle_index.specs.Says.{Tells, answer_says, linked_of, target_of};
 
 use crate::kinds::Kinds;
 use crate::numbers::Numbers;
@@ -37,7 +38,9 @@ pub enum Answer<'a> {
 
 impl<'a> Answer<'a> {
     /// The target to which the name is linked.
-    pub fn linked(self) -> Option<Target<'a>> {
+    pub fn linked(self) -> Option<Target<'a>>
+        ensures { option_map target_of result ≡ linked_of (answer_says self.entry) }
+    {
         match self {
             Answer::One(given) => Some(given.target),
             Answer::None | Answer::Two(_, _) => None,
@@ -107,8 +110,12 @@ impl<'a> Index<'a> {
     }
 
     /// The ECMAScript modules that stars lead to from a module, itself first.
-    pub fn reach(&self, alloc: Global, number: usize) -> Result<IndexSet<usize>, AllocError> {
-        self.search.reach(alloc, number)
+    pub fn reach(&self, alloc: Global, number: usize) -> Result<IndexSet<usize>, AllocError>
+        ensures { IfOk result (λ reach. (p : Program) → IsIndexOf p self.now →
+            (d : ℕ) → IsIn reach.keys d ↔ StarReaches p number d) }
+    {
+        let reach = self.search.reach(alloc, number)?;
+        Ok(reach)
     }
 
     /// The externals that a module stars.

@@ -5,3 +5,16 @@ pub mod CallLemmas
 pub mod NameLemmas
 pub mod StageLemmas
 pub mod AskedLemmas
+pub mod ListLemmas
+pub mod AroundLemmas
+pub mod ChainLemmas
+pub mod CallPlaceLemmas
+pub mod LinkedNameLemmas
+pub mod WrittenLemmas
+pub mod MeantLemmas
+pub mod AddLemmas
+pub mod ReadLemmas
+pub mod ImportLemmas
+pub mod MeetLemmas
+pub mod UseLemmas
+pub mod NamedLemmas

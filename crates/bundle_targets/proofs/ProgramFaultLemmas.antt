@@ -7,26 +7,10 @@ use Rattle.bundle_terms.specs.Bound.{has_free}
 use Rattle.bundle_terms.specs.Awaits.{awaits_outside}
 use Rattle.bundle_terms.specs.Entries.{RequireCall, Star, declared_requests, is_script}
 use Rattle.bundle_terms.specs.Program.{Program, calls_of, is_external, resolves, tree_of}
-use Rattle.bundle_terms.specs.Linking.{IsCommonJs, IsModule, exports}
+use Rattle.bundle_terms.specs.Linking.{IsCommonJs, IsModule, Namespace, exports}
+use Rattle.bundle_terms.specs.Meaning.{IsMeant, Of}
 use Rattle.bundle_terms.specs.Faults as g
 use Rattle.bundle_terms.specs.Faults.{AskedName, NameFault, ProgramFault, StarsExternal, asked_names, required_entry, required_es_module, doubled_declaration, await_in_common_js, star_of_common_js, name, namespace_over_external_star, external_under_iife, arguments_under_iife}
-use Rattle.bundle_targets.specs.Judged.{Finds, of_stage, of_name, of_object}
-
--- a fault that is found is one of the program, but for those of names and of objects
-pub found_in : {p : Program} {objects : ℕ → Bool} {file : Name} {m stage place : ℕ} {f : g.Fault} → Finds p objects file m stage place f → stage ≢ 5 → stage ≢ 6 → ProgramFault p file m stage place f
-found_in (of_stage a b there) five six = there
-found_in (of_name there) five six = absurd (five refl)
-found_in (of_object meant stars) five six = absurd (six refl)
-
-pub found_name : {p : Program} {objects : ℕ → Bool} {file : Name} {m stage place : ℕ} {f : g.Fault} → Finds p objects file m stage place f → stage ≡ 5 → (its : ℕ) × ProgramFault p file m 5 its f
-found_name (of_stage five six there) is = absurd (five is)
-found_name (of_name {place = place} there) is = (place, there)
-found_name (of_object meant stars) is = absurd (omega arith)
-
-pub found_object : {p : Program} {objects : ℕ → Bool} {file : Name} {m stage place : ℕ} {f : g.Fault} → Finds p objects file m stage place f → stage ≡ 6 → IsTrue (objects m) × StarsExternal p m
-found_object (of_stage five six there) is = absurd (six is)
-found_object (of_name there) is = absurd (omega arith)
-found_object (of_object meant stars) is = (meant, stars)
 
 module _ {p : Program} {file : Name} {m : ℕ} where
   pub entry_call : {stage place : ℕ} {f : g.Fault} → ProgramFault p file m stage place f → stage ≡ 0 → (call : RequireCall) × Contains (calls_of p m) call × (resolves p m call.specifier ≡ Some p.entry) × (call.place ≡ place)
@@ -55,6 +39,10 @@ module _ {p : Program} {file : Name} {m : ℕ} where
   pub name_there : {stage place : ℕ} {f : g.Fault} → ProgramFault p file m stage place f → stage ≡ 5 → (asked : AskedName) × (d : ℕ) × (slice_get (asked_names (tree_of p m)) place ≡ Some asked) × IsModule p m asked.specifier d × NameFault p d asked.name file f
   name_there (name {d = d} asked at leads wrong) is = (asked, d, at, leads, wrong)
   name_there _ is = absurd (omega arith)
+
+  pub object_there : {stage place : ℕ} {f : g.Fault} → ProgramFault p file m stage place f → stage ≡ 6 → IsMeant p (Of (Namespace m)) × StarsExternal p m
+  object_there (namespace_over_external_star meant stars) is = (meant, stars)
+  object_there _ is = absurd (omega arith)
 
   pub external_there : {stage place : ℕ} {f : g.Fault} → ProgramFault p file m stage place f → stage ≡ 7 → (s : Text) × (p.settings.iife ≡ true) × (slice_get (declared_requests (tree_of p m)) place ≡ Some s) × IsTrue (is_external p s)
   external_there (external_under_iife {s = s} iife at outside) is = (s, iife, at, outside)

@@ -1,3 +1,6 @@
 pub mod Linked
 pub mod Judged
 pub mod Stages
+pub mod Meant
+pub mod Names
+pub mod Found

@@ -1,5 +1,5 @@
 -- What linking finds, in the words of the definitions.
-use Rattle.std.specs.Prelude.{ℕ, Bool, List}
+use Rattle.std.specs.Prelude.{ℕ, List}
 use Rattle.bundle_terms.specs.Program.{Program}
 use Rattle.bundle_terms.specs.Tables as r
 use Rattle.bundle_terms.specs.Tables.{TellsCommonJs}
@@ -7,7 +7,8 @@ use Rattle.bundle_index.specs.Leads.{flagged}
 use Rattle.bundle_index.specs.Outside.{IsIndexOf}
 use Rattle.bundle_index.specs.Says.{target_of}
 use Rattle.bundle_targets.specs.Judged.{IsJudged}
-use Rattle.bundle_targets.specs.Stages.{is_meant_in}
+use Rattle.bundle_targets.specs.Found.{HoldsMeant, targets_in}
+use Rattle.bundle_targets.specs.Meant.{AreModules}
 use Rattle.bundle_targets.specs.declared.linking.Linking.{Linking}
 use Rattle.bundle_targets.specs.declared.target.Resolution.{Resolution}
 use Rattle.bundle_targets.specs.declared.target.Resolution.TheVariants as f
@@ -19,17 +20,13 @@ found_says f.None = r.Nothing
 found_says (f.Two first second) = r.Two (target_of first) (target_of second)
 found_says f.ExternalStar = r.ExternalStar
 
--- the modules that are linked are those of the program: what names are given, and which modules are CommonJS
+-- the modules that are linked are those of the program: what names are given, which modules are CommonJS, and what is meant
 pub record IsLinkingOf (p : Program) (linking : Linking) : Type 0 where
   pub index : IsIndexOf p linking.index
   pub common_js : (c : ℕ) → TellsCommonJs p c (flagged linking.common_js.items c)
+  pub meant : AreModules p → HoldsMeant p (targets_in linking.meant.targets)
 
--- whether the object of a module's namespace is found to be meant
-abbrev pub has_object : Linking → ℕ → Bool
-has_object linking m = is_meant_in linking.meant.targets m
-
--- the faults that are told are the first of the listed modules: of the calls of `require`, and of what is judged after the
--- declarations, if it is so that the objects of just those namespaces are meant that are found to be
+-- the faults that are told are the first of the listed modules: of the calls of `require`, and of what is judged after the declarations
 pub record IsJudgedBy (p : Program) (list : List ℕ) (linking : Linking) : Type 0 where
-  pub calls : IsJudged p (has_object linking) list 0 2 linking.call_fault
-  pub links : IsJudged p (has_object linking) list 3 9 linking.link_fault
+  pub calls : IsJudged p list 0 2 linking.call_fault
+  pub links : AreModules p → IsJudged p list 3 9 linking.link_fault

@@ -1,17 +1,15 @@
 -- What each stage of judging looks at, by the modules that are linked.
-use Rattle.std.specs.Prelude.{◌≡◌, ℕ, ◌==◌, Bool, false, Option, Some, None, List, [], ◌∷◌}
-use Rattle.std.specs.List.{list_any}
-use Rattle.indexmap.specs.IndexSet.{IndexSet}
+use Rattle.std.specs.Prelude.{◌≡◌, ℕ, false, Option, Some, None}
 use Rattle.bundle_name.specs.FileName.{Name}
 use Rattle.bundle_terms.specs.Nodes.{Text}
-use Rattle.bundle_terms.specs.Entries.{Taken, Named, Whole, is_script}
+use Rattle.bundle_terms.specs.Entries.{is_script}
+use Rattle.bundle_terms.specs.Linking.{IsModule}
 use Rattle.bundle_terms.specs.Program.{Program, tree_of}
 use Rattle.bundle_terms.specs.Faults as g
-use Rattle.bundle_terms.specs.Faults.{AskedName, NameFault}
+use Rattle.bundle_terms.specs.Faults.{NameFault}
+use Rattle.bundle_tables.specs.declared.table.AskedName.{AskedName}
 use Rattle.bundle_index.specs.declared.kinds.Kinds.{Kinds}
 use Rattle.bundle_index.specs.Programs.{AreModulesOf}
-use Rattle.bundle_index.specs.declared.target.Target.{Target}
-use Rattle.bundle_index.specs.declared.target.Target.TheVariants as t
 use Rattle.bundle_targets.specs.declared.target.Fault.{Fault}
 use Rattle.bundle_targets.specs.declared.faults.Stage.{Stage}
 use Rattle.bundle_targets.specs.declared.faults.Stage.TheVariants as s
@@ -37,11 +35,6 @@ pub record LeadsToEs (p : Program) (m : ℕ) (specifier : Text) : Type 0 where
   pub leads : p.leads m specifier ≡ Some other
   pub es : is_script (tree_of p other) ≡ false
 
--- the name that is asked for by what is taken, unless it is the whole
-abbrev pub asked_by : Text → Taken → List AskedName
-asked_by specifier (Named x) = record { specifier = specifier; name = x } ∷ []
-asked_by specifier Whole = []
-
 -- what is wrong with the name x of an ES module d that m asks for
 pub record IsWrong (p : Program) (m d : ℕ) (x : Text) (fault : Fault) : Type 0 where
   pub here : fault.module ≡ m
@@ -52,13 +45,11 @@ abbrev pub IsWrongIn : Program → ℕ → ℕ → Text → Option Fault → Typ
 IsWrongIn p m d x None = (file : Name) (f : g.Fault) → NameFault p d x file f → ⊥
 IsWrongIn p m d x (Some fault) = IsWrong p m d x fault
 
--- whether a target is the namespace of a module
-abbrev pub is_namespace : ℕ → Target → Bool
-is_namespace m (t.Declared d x) = false
-is_namespace m (t.Namespace d) = m == d
-is_namespace m (t.External specifier taken) = false
-is_namespace m (t.CommonJs taker d taken) = false
+-- what is wrong with the name x that m asks for by a specifier, or none where nothing is
+abbrev pub IsWrongBy : Program → ℕ → Text → Text → Option Fault → Type 0
+IsWrongBy p m specifier x None = (d : ℕ) → IsModule p m specifier d → IsWrongIn p m d x None
+IsWrongBy p m specifier x (Some fault) = (d : ℕ) × IsModule p m specifier d × IsWrong p m d x fault
 
--- whether the object of a module's namespace is among these
-abbrev pub is_meant_in : {S : Type 0} → IndexSet Target S → ℕ → Bool
-is_meant_in targets m = list_any (is_namespace m) targets.keys
+-- nothing is wrong with a name of a table
+abbrev pub IsRight : Program → ℕ → AskedName → Type 0
+IsRight p m its = IsWrongBy p m its.specifier.now its.name.now None

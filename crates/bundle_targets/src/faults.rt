@@ -1,37 +1,36 @@
 //! What is wrong with the modules of a bundle, in the order in which it is judged.
 
-ghost use Rattle.std.specs.Prelude.{◌≡◌, ◌↔◌, Bool, Contains, IfOk, IsTrue, OnOk, Some, option_map, suc, ℕ};
+ghost use Rattle.std.specs.Prelude.{◌≡◌, ◌↔◌, IfOk, IsTrue, OnOk, Some, suc};
 ghost use Rattle.bundle_name.specs.FileName.{Name};
-ghost use Rattle.bundle_terms.specs.Nodes.{Text};
-ghost use Rattle.bundle_terms.specs.Faults.{NameFault, asked_by_export};
-ghost use Rattle.bundle_terms.specs.Linking.{IsMissing, exports as exports_of, imports as imports_of};
+ghost use Rattle.bundle_terms.specs.Faults.{NameFault};
+ghost use Rattle.bundle_terms.specs.Linking.{IsMissing};
 ghost use Rattle.bundle_terms.specs.Program.{Program};
-ghost use Rattle.bundle_tables.specs.TablesOf.{entry_by_origin, taken_of};
 ghost use Rattle.bundle_index.specs.Leads.{required_of};
 ghost use Rattle.bundle_index.specs.Outside.{IsIndexOf};
-ghost use Rattle.bundle_index.specs.Programs.{AreModulesOf, Asks, IsTableOf};
-ghost use Rattle.bundle_targets.specs.Judged.{IsFoundIn, IsJudged, IsOfNames, IsOneOf, by_exports, by_imports, fault_by};
-ghost use Rattle.bundle_targets.specs.Stages.{AreKindsOf, IsWrongIn, LeadsToEs, asked_by, is_meant_in, stage_of};
+ghost use Rattle.bundle_index.specs.Programs.{AreModulesOf, Asks};
+ghost use Rattle.bundle_targets.specs.Judged.{IsFoundIn, IsJudged, fault_by};
+ghost use Rattle.bundle_targets.specs.Found.{HoldsMeant, targets_in};
+ghost use Rattle.bundle_targets.specs.Stages.{AreKindsOf, IsWrongBy, IsWrongIn, LeadsToEs, stage_of};
 
 use crate::target::{Fault, FaultKind, Target};
 use bundle_index::index::DEFAULT;
 use bundle_index::{Answer, Asked, Index, Kinds, Lead, Own, taking};
-use bundle_tables::{Origin, Tables, Taken};
+use bundle_tables::{AskedName, Taken};
 use indexmap::IndexSet;
 use std::alloc::{AllocError, Global};
 
 /// The first fault of the literal calls of `require`: of the entry, and then of a module that is no script.
 pub fn call_fault_of<'a>(kinds: &Kinds<'_, '_, 'a>) -> Option<Fault<'a>>
-    ensures { (p : Program) (objects : ℕ → Bool) → AreKindsOf p kinds.now →
-        IsJudged p objects kinds.now.list.now 0 2 result }
+    ensures { (p : Program) → AreKindsOf p kinds.now →
+        IsJudged p kinds.now.list.now 0 2 result }
 {
     first_of_two(kinds, Stage::Entries, Stage::Modules)
 }
 
 // The first literal call of a module that is of the entry.
 fn entry_fault<'a>(kinds: &Kinds<'_, '_, 'a>, module: usize) -> Option<Fault<'a>>
-    ensures { (p : Program) (objects : ℕ → Bool) → AreKindsOf p kinds.now →
-        IsFoundIn p objects 0 «module» result }
+    ensures { (p : Program) → AreKindsOf p kinds.now →
+        IsFoundIn p 0 «module» result }
 {
     let tables = kinds.tables(module)?;
     for call in &tables.calls {
@@ -59,8 +58,8 @@ fn is_of_entry(kinds: &Kinds, module: usize, specifier: &str) -> bool
 
 // The first literal call of a module that is of a module which is no script.
 fn es_fault<'a>(kinds: &Kinds<'_, '_, 'a>, module: usize) -> Option<Fault<'a>>
-    ensures { (p : Program) (objects : ℕ → Bool) → AreKindsOf p kinds.now →
-        IsFoundIn p objects 1 «module» result }
+    ensures { (p : Program) → AreKindsOf p kinds.now →
+        IsFoundIn p 1 «module» result }
 {
     let tables = kinds.tables(module)?;
     for call in &tables.calls {
@@ -98,7 +97,7 @@ pub fn link_fault_of<'a>(
 ) -> Result<Option<Fault<'a>>, AllocError>
     ensures right { IfOk result (λ found. (p : Program) →
         AreKindsOf p kinds.now → IsIndexOf p index.old →
-        IsJudged p (is_meant_in meant.now) kinds.now.list.now 3 9 found) }
+        HoldsMeant p (targets_in meant.now) → IsJudged p kinds.now.list.now 3 9 found) }
     ensures same { OnOk result (index.new ≡ index.old) }
 {
     if let Some(fault) = first_of_two(kinds, Stage::Awaits, Stage::Stars) {
@@ -121,9 +120,9 @@ fn names_fault<'a>(
     kinds: &Kinds<'_, '_, 'a>,
     index: &mut Index<'a>,
 ) -> Result<Option<Fault<'a>>, AllocError>
-    ensures right { IfOk result (λ found. (p : Program) (objects : ℕ → Bool) →
+    ensures right { IfOk result (λ found. (p : Program) →
         AreKindsOf p kinds.now → IsIndexOf p index.old →
-        IsJudged p objects kinds.now.list.now 5 6 found) }
+        IsJudged p kinds.now.list.now 5 6 found) }
     ensures same { OnOk result (index.new ≡ index.old) }
 {
     for module in kinds.list {
@@ -143,7 +142,7 @@ fn objects_fault<'a>(
     meant: &IndexSet<Target<'a>>,
 ) -> Result<Option<Fault<'a>>, AllocError>
     ensures right { IfOk result (λ found. (p : Program) → IsIndexOf p index.old →
-        IsJudged p (is_meant_in meant.now) kinds.now.list.now 6 7 found) }
+        HoldsMeant p (targets_in meant.now) → IsJudged p kinds.now.list.now 6 7 found) }
     ensures same { OnOk result (index.new ≡ index.old) }
 {
     for module in kinds.list {
@@ -163,7 +162,7 @@ fn object_fault<'a>(
     module: usize,
 ) -> Result<Option<Fault<'a>>, AllocError>
     ensures right { IfOk result (λ found. (p : Program) → IsIndexOf p index.old →
-        IsFoundIn p (is_meant_in meant.now) 6 «module» found) }
+        HoldsMeant p (targets_in meant.now) → IsFoundIn p 6 «module» found) }
     ensures same { OnOk result (index.new ≡ index.old) }
 {
     if !meant.contains(&Target::Namespace { module }) {
@@ -193,9 +192,9 @@ enum Stage {
 
 // The first fault of a stage, and then of the next, among the listed modules.
 fn first_of_two<'a>(kinds: &Kinds<'_, '_, 'a>, stage: Stage, next: Stage) -> Option<Fault<'a>>
-    ensures { (p : Program) (objects : ℕ → Bool) → AreKindsOf p kinds.now →
+    ensures { (p : Program) → AreKindsOf p kinds.now →
         stage_of next ≡ suc (stage_of stage) →
-        IsJudged p objects kinds.now.list.now (stage_of stage) (suc (stage_of next)) result }
+        IsJudged p kinds.now.list.now (stage_of stage) (suc (stage_of next)) result }
 {
     match first_of(kinds, stage) {
         Some(fault) => Some(fault),
@@ -205,8 +204,8 @@ fn first_of_two<'a>(kinds: &Kinds<'_, '_, 'a>, stage: Stage, next: Stage) -> Opt
 
 // The first fault of a stage among the listed modules.
 fn first_of<'a>(kinds: &Kinds<'_, '_, 'a>, stage: Stage) -> Option<Fault<'a>>
-    ensures { (p : Program) (objects : ℕ → Bool) → AreKindsOf p kinds.now →
-        IsJudged p objects kinds.now.list.now (stage_of stage) (suc (stage_of stage)) result }
+    ensures { (p : Program) → AreKindsOf p kinds.now →
+        IsJudged p kinds.now.list.now (stage_of stage) (suc (stage_of stage)) result }
 {
     for module in kinds.list {
         if let Some(fault) = fault_in(kinds, stage, *module) {
@@ -218,8 +217,8 @@ fn first_of<'a>(kinds: &Kinds<'_, '_, 'a>, stage: Stage) -> Option<Fault<'a>>
 
 // The first fault of a stage in a module.
 fn fault_in<'a>(kinds: &Kinds<'_, '_, 'a>, stage: Stage, module: usize) -> Option<Fault<'a>>
-    ensures { (p : Program) (objects : ℕ → Bool) → AreKindsOf p kinds.now →
-        IsFoundIn p objects (stage_of stage) «module» result }
+    ensures { (p : Program) → AreKindsOf p kinds.now →
+        IsFoundIn p (stage_of stage) «module» result }
 {
     match stage {
         Stage::Entries => entry_fault(kinds, module),
@@ -233,8 +232,8 @@ fn fault_in<'a>(kinds: &Kinds<'_, '_, 'a>, stage: Stage, module: usize) -> Optio
 
 // Whether an `await` stands outside functions in a CommonJS module.
 fn await_fault<'a>(kinds: &Kinds<'_, '_, 'a>, module: usize) -> Option<Fault<'a>>
-    ensures { (p : Program) (objects : ℕ → Bool) → AreKindsOf p kinds.now →
-        IsFoundIn p objects 3 «module» result }
+    ensures { (p : Program) → AreKindsOf p kinds.now →
+        IsFoundIn p 3 «module» result }
 {
     let tables = kinds.tables(module)?;
     if tables.awaits && kinds.is_common_js(module) {
@@ -249,8 +248,8 @@ fn await_fault<'a>(kinds: &Kinds<'_, '_, 'a>, module: usize) -> Option<Fault<'a>
 
 // The first star of a CommonJS module.
 fn star_fault<'a>(kinds: &Kinds<'_, '_, 'a>, module: usize) -> Option<Fault<'a>>
-    ensures { (p : Program) (objects : ℕ → Bool) → AreKindsOf p kinds.now →
-        IsFoundIn p objects 4 «module» result }
+    ensures { (p : Program) → AreKindsOf p kinds.now →
+        IsFoundIn p 4 «module» result }
 {
     let tables = kinds.tables(module)?;
     for star in &tables.stars {
@@ -267,8 +266,8 @@ fn star_fault<'a>(kinds: &Kinds<'_, '_, 'a>, module: usize) -> Option<Fault<'a>>
 
 // The first import or re-export of an external, where the bundle is one function's call.
 fn external_fault<'a>(kinds: &Kinds<'_, '_, 'a>, module: usize) -> Option<Fault<'a>>
-    ensures { (p : Program) (objects : ℕ → Bool) → AreKindsOf p kinds.now →
-        IsFoundIn p objects 7 «module» result }
+    ensures { (p : Program) → AreKindsOf p kinds.now →
+        IsFoundIn p 7 «module» result }
 {
     if !kinds.setting.iife {
         return None;
@@ -289,8 +288,8 @@ fn external_fault<'a>(kinds: &Kinds<'_, '_, 'a>, module: usize) -> Option<Fault<
 // Whether an `arguments` that nothing binds stands in an ECMAScript module, where the bundle is one
 // function's call.
 fn arguments_fault<'a>(kinds: &Kinds<'_, '_, 'a>, module: usize) -> Option<Fault<'a>>
-    ensures { (p : Program) (objects : ℕ → Bool) → AreKindsOf p kinds.now →
-        IsFoundIn p objects 8 «module» result }
+    ensures { (p : Program) → AreKindsOf p kinds.now →
+        IsFoundIn p 8 «module» result }
 {
     if !kinds.setting.iife {
         return None;
@@ -313,127 +312,39 @@ fn name_fault<'a>(
     index: &mut Index<'a>,
     module: usize,
 ) -> Result<Option<Fault<'a>>, AllocError>
-    ensures right { IfOk result (λ found. (p : Program) (objects : ℕ → Bool) →
+    ensures right { IfOk result (λ found. (p : Program) →
         AreKindsOf p kinds.now → IsIndexOf p index.old →
-        IsFoundIn p objects 5 «module» found) }
+        IsFoundIn p 5 «module» found) }
     ensures same { OnOk result (index.new ≡ index.old) }
 {
     let Some(tables) = kinds.tables(module) else {
         return Ok(None);
     };
-    let import = import_fault(alloc, kinds, index, module, tables)?;
-    let export = export_fault(alloc, kinds, index, module, tables)?;
-    Ok(first_placed(import, export))
-}
-
-// The one that stands first.
-fn first_placed<'a>(import: Option<Placed<'a>>, export: Option<Placed<'a>>) -> Option<Fault<'a>>
-    ensures { IsOneOf (option_map (λ placed. placed.fault) import.entry)
-        (option_map (λ placed. placed.fault) export.entry) result }
-{
-    match (import, export) {
-        (Some(first), Some(second)) if second.place < first.place => Some(second.fault),
-        (Some(first), _) => Some(first.fault),
-        (None, Some(second)) => Some(second.fault),
-        (None, None) => None,
-    }
-}
-
-/// A fault at a place of its module.
-#[derive(Clone, Copy)]
-struct Placed<'a> {
-    place: usize,
-    fault: Fault<'a>,
-}
-
-// The first name that an import asks for and that is not given once.
-fn import_fault<'a>(
-    alloc: Global,
-    kinds: &Kinds<'_, '_, 'a>,
-    index: &mut Index<'a>,
-    module: usize,
-    tables: &Tables<'a>,
-) -> Result<Option<Placed<'a>>, AllocError>
-    ensures right { IfOk result (λ found. (p : Program) →
-        AreModulesOf p kinds.now → IsIndexOf p index.old →
-        IsTableOf p «module» tables.now →
-        IsOfNames p «module» (by_imports (imports_of p «module»))
-        (option_map (λ placed. placed.fault) found)) }
-    ensures same { OnOk result (index.new ≡ index.old) }
-{
-    for import in &tables.imports {
-        let found = taken_fault(alloc, kinds, index, module, import.specifier, import.taken)?;
+    for asked in &tables.asked {
+        let found = taken_fault(alloc, kinds, index, module, *asked)?;
         if let Some(fault) = found {
-            let place = import.place;
-            return Ok(Some(Placed { place, fault }));
+            return Ok(Some(fault));
         }
     }
     Ok(None)
 }
 
-// The first name that an indirect export asks for and that is not given once.
-fn export_fault<'a>(
-    alloc: Global,
-    kinds: &Kinds<'_, '_, 'a>,
-    index: &mut Index<'a>,
-    module: usize,
-    tables: &Tables<'a>,
-) -> Result<Option<Placed<'a>>, AllocError>
-    ensures right { IfOk result (λ found. (p : Program) →
-        AreModulesOf p kinds.now → IsIndexOf p index.old →
-        IsTableOf p «module» tables.now →
-        IsOfNames p «module» (by_exports (exports_of p «module»))
-        (option_map (λ placed. placed.fault) found)) }
-    ensures same { OnOk result (index.new ≡ index.old) }
-{
-    for export in &tables.exports {
-        let found = origin_fault(alloc, kinds, index, module, export.origin)?;
-        if let Some(fault) = found {
-            let place = export.place;
-            return Ok(Some(Placed { place, fault }));
-        }
-    }
-    Ok(None)
-}
-
-// What is wrong with the name that an export asks for.
-fn origin_fault<'a>(
-    alloc: Global,
-    kinds: &Kinds<'_, '_, 'a>,
-    index: &mut Index<'a>,
-    module: usize,
-    origin: Origin<'a>,
-) -> Result<Option<Fault<'a>>, AllocError>
-    ensures right { IfOk result (λ found. (p : Program) (name : Text) →
-        AreModulesOf p kinds.now → IsIndexOf p index.old →
-        Contains (exports_of p «module») (entry_by_origin name origin.entry) →
-        IsOfNames p «module» (asked_by_export (entry_by_origin name origin.entry)) found) }
-    ensures same { OnOk result (index.new ≡ index.old) }
-{
-    match origin {
-        Origin::Indirect { specifier, taken } => {
-            taken_fault(alloc, kinds, index, module, specifier, taken)
-        }
-        Origin::Local { .. } => Ok(None),
-    }
-}
-
-// What is wrong with the name that a module asks for by a specifier.
+// What is wrong with a name that a module asks for.
 fn taken_fault<'a>(
     alloc: Global,
     kinds: &Kinds<'_, '_, 'a>,
     index: &mut Index<'a>,
     module: usize,
-    specifier: &'a str,
-    taken: Taken<'a>,
+    asked: AskedName<'a>,
 ) -> Result<Option<Fault<'a>>, AllocError>
     ensures right { IfOk result (λ found. (p : Program) →
         AreModulesOf p kinds.now → IsIndexOf p index.old →
-        Asks p «module» specifier.now →
-        IsOfNames p «module» (asked_by specifier.now (taken_of taken.entry)) found) }
+        Asks p «module» asked.entry.specifier.now →
+        IsWrongBy p «module» asked.entry.specifier.now asked.entry.name.now found) }
     ensures same { OnOk result (index.new ≡ index.old) }
 {
-    match taking(kinds, module, specifier, taken, None) {
+    let taken = Taken::Named(asked.name);
+    match taking(kinds, module, asked.specifier, taken, None) {
         Own::Leads(asked) => asked_fault(alloc, index, module, asked),
         Own::Gives(_) => Ok(None),
         Own::Nothing => Ok(None),

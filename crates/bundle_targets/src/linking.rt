@@ -3,10 +3,11 @@
 ghost use Rattle.std.specs.Prelude.{◌≡◌, IfOk, List, ℕ};
 ghost use Rattle.bundle_terms.specs.Linking.{IsMissing};
 ghost use Rattle.bundle_terms.specs.Program.{Program};
-ghost use Rattle.bundle_terms.specs.Tables.{IsResolution, TellsCommonJs};
+ghost use Rattle.bundle_terms.specs.Tables.{IsResolution, TellsCommonJs, TellsMeant};
 ghost use Rattle.bundle_index.specs.Programs.{IsProgramOf};
 ghost use Rattle.bundle_targets.specs.Judged.{IsJudged};
-ghost use Rattle.bundle_targets.specs.Linked.{IsJudgedBy, IsLinkingOf, found_says, has_object};
+ghost use Rattle.bundle_targets.specs.Linked.{IsJudgedBy, IsLinkingOf, found_says};
+ghost use Rattle.bundle_targets.specs.Meant.{AreModules};
 
 use crate::faults::{call_fault_of, link_fault_of};
 use crate::meant::{Meant, meant_in};
@@ -133,9 +134,10 @@ impl<'a> Linking<'a> {
 
     /// Whether the object of a module's namespace is meant.
     pub fn is_object_meant(&self, module: usize) -> bool
-        ensures { result ≡ has_object self.now «module» }
+        ensures { (p : Program) → IsLinkingOf p self.now → AreModules p →
+            TellsMeant p «module» result }
     {
-        self.meant.targets.contains(&Target::Namespace { module })
+        self.meant.has_object(module)
     }
 
     /// What a use of an imported name means, by its number among the uses of its module. None where the
@@ -186,15 +188,15 @@ impl<'a> Linking<'a> {
     /// modules are.
     pub fn call_fault(&self) -> Option<Fault<'a>>
         ensures { (p : Program) (list : List ℕ) → IsJudgedBy p list self.now →
-            IsJudged p (has_object self.now) list 0 2 result }
+            IsJudged p list 0 2 result }
     {
         self.call_fault
     }
 
     /// The first fault of the linking, which is judged after them.
     pub fn link_fault(&self) -> Option<Fault<'a>>
-        ensures { (p : Program) (list : List ℕ) → IsJudgedBy p list self.now →
-            IsJudged p (has_object self.now) list 3 9 result }
+        ensures { (p : Program) (list : List ℕ) → IsJudgedBy p list self.now → AreModules p →
+            IsJudged p list 3 9 result }
     {
         self.link_fault
     }

@@ -1,13 +1,26 @@
 //! What is meant: the least set of targets that own statements, the entry's exports and namespace objects
 //! that are meant themselves mean.
 
-ghost use Rattle.std.specs.Prelude.{◌≡◌, OnOk};
+ghost use Rattle.std.specs.Prelude.{◌≡◌, ◌<◌, [], Contains, IfOk, OnOk, length, map, option_map, slice_get};
+ghost use Rattle.bundle_terms.specs.Entries.{ImportEntry, import_of};
+ghost use Rattle.bundle_terms.specs.Nodes.{Text};
+ghost use Rattle.bundle_terms.specs.Linking.{imports as imports_in};
+ghost use Rattle.bundle_terms.specs.Program.{Program, tree_of};
+ghost use Rattle.bundle_terms.specs.Tables.{TellsMeant};
+ghost use Rattle.bundle_tables.specs.TablesOf.{import_entry_of};
+ghost use Rattle.bundle_given.specs.Given.{Adds};
+ghost use Rattle.bundle_index.specs.Outside.{IsIndexOf};
+ghost use Rattle.bundle_index.specs.Programs.{AreModulesOf, IsTableOf};
+ghost use Rattle.bundle_index.specs.Says.{target_of};
+ghost use Rattle.bundle_tables.specs.Used.{name_read, use_entry_of, uses_of};
+ghost use Rattle.bundle_targets.specs.Meant.{AnyMeans, AreModules, LinksTo, ReadsOn};
+ghost use Rattle.bundle_targets.specs.Found.{Closes, HoldsMeant, HoldsTaken, IsImported, IsMeaning, IsNameOf, IsNext, MeansSome, UsedIn, reads_by, target_in, targets_in};
 
 use crate::names::linked_names;
 use crate::target::{Meaning, Target};
 use bundle_index::lists::{no_lists, push_at};
 use bundle_index::{Asked, Index, Kinds, Own, locals_of, taking};
-use bundle_tables::{Import, Tables, Use};
+use bundle_tables::{Import, Read, Tables, Use};
 use indexmap::{IndexMap, IndexSet};
 use std::alloc::{AllocError, Global};
 
@@ -27,7 +40,9 @@ pub fn meant_in<'a>(
     kinds: &Kinds<'_, '_, 'a>,
     index: &mut Index<'a>,
 ) -> Result<Meant<'a>, AllocError>
-    ensures { OnOk result (index.new ≡ index.old) }
+    ensures right { IfOk result (λ meant. (p : Program) → IsIndexOf p index.old → AreModulesOf p kinds.now →
+        AreModules p → HoldsMeant p (targets_in meant.targets)) }
+    ensures same { OnOk result (index.new ≡ index.old) }
 {
     let mut meant = nothing_meant(alloc, kinds.modules.len())?;
     meant.find(alloc, kinds, index)?;
@@ -35,7 +50,9 @@ pub fn meant_in<'a>(
 }
 
 // Nothing, of so many modules.
-fn nothing_meant<'a>(alloc: Global, count: usize) -> Result<Meant<'a>, AllocError> {
+fn nothing_meant<'a>(alloc: Global, count: usize) -> Result<Meant<'a>, AllocError>
+    ensures { IfOk result (λ meant. targets_in meant.targets ≡ []) }
+{
     Ok(Meant {
         targets: IndexSet::new(alloc),
         meanings: no_lists(alloc, count)?,
@@ -44,6 +61,13 @@ fn nothing_meant<'a>(alloc: Global, count: usize) -> Result<Meant<'a>, AllocErro
 }
 
 impl<'a> Meant<'a> {
+    /// Whether the object of a module's namespace is meant.
+    pub fn has_object(&self, module: usize) -> bool
+        ensures { (p : Program) → HoldsMeant p (targets_in self.now.targets) → TellsMeant p «module» result }
+    {
+        self.targets.contains(&Target::Namespace { module })
+    }
+
     // Finds what is meant, where nothing is noted.
     fn find(
         &mut self,
@@ -51,25 +75,52 @@ impl<'a> Meant<'a> {
         kinds: &Kinds<'_, '_, 'a>,
         index: &mut Index<'a>,
     ) -> Result<(), AllocError>
-        ensures { OnOk result (index.new ≡ index.old) }
+        ensures right { (p : Program) → IsIndexOf p index.old → AreModulesOf p kinds.now →
+            targets_in self.old.targets ≡ [] → OnOk result (HoldsTaken p (targets_in self.new.targets)) }
+        ensures same { OnOk result (index.new ≡ index.old) }
+    {
+        self.add_all_uses(alloc, kinds, index)?;
+        self.link(alloc, kinds, index, kinds.entry)?;
+        self.link_met(alloc, kinds, index)?;
+        Ok(())
+    }
+
+    // Adds what the uses in all listed modules mean.
+    fn add_all_uses(
+        &mut self,
+        alloc: Global,
+        kinds: &Kinds<'_, '_, 'a>,
+        index: &mut Index<'a>,
+    ) -> Result<(), AllocError>
+        ensures right { (p : Program) → IsIndexOf p index.old → AreModulesOf p kinds.now →
+            OnOk result (Adds (targets_in self.old.targets) (UsedIn p kinds.now.list.now) (targets_in self.new.targets)) }
+        ensures same { OnOk result (index.new ≡ index.old) }
     {
         for module in kinds.list {
-            if let Some(tables) = kinds.tables(*module) {
-                self.add_uses(alloc, kinds, index, *module, tables)?;
-            }
-        }
-        self.link(alloc, kinds, index, kinds.entry)?;
-        for at in 0..usize::MAX {
-            let Some(target) = self.targets.get_index(at).copied() else {
-                break;
-            };
-            if let Target::Namespace { module } = target {
-                if module != kinds.entry {
-                    self.link(alloc, kinds, index, module)?;
-                }
-            }
+            self.add_uses_in(alloc, kinds, index, *module)?;
         }
         Ok(())
+    }
+
+    // Adds what the uses in a module mean, if it is there.
+    fn add_uses_in(
+        &mut self,
+        alloc: Global,
+        kinds: &Kinds<'_, '_, 'a>,
+        index: &mut Index<'a>,
+        module: usize,
+    ) -> Result<(), AllocError>
+        ensures right { (p : Program) → IsIndexOf p index.old → AreModulesOf p kinds.now →
+            OnOk result (Adds (targets_in self.old.targets) (AnyMeans p «module» (uses_of (tree_of p «module»))) (targets_in self.new.targets)) }
+        ensures same { OnOk result (index.new ≡ index.old) }
+    {
+        match kinds.tables(module) {
+            Some(tables) => {
+                self.add_uses(alloc, kinds, index, module, tables)?;
+                Ok(())
+            }
+            None => Ok(()),
+        }
     }
 
     // Adds what the uses of imported names in a module mean.
@@ -81,27 +132,71 @@ impl<'a> Meant<'a> {
         module: usize,
         tables: &Tables<'a>,
     ) -> Result<(), AllocError>
-        ensures { OnOk result (index.new ≡ index.old) }
+        ensures right { (p : Program) → IsIndexOf p index.old → AreModulesOf p kinds.now →
+            IsTableOf p «module» tables.now → OnOk result (Adds (targets_in self.old.targets)
+            (AnyMeans p «module» (map (use_entry_of tables.now.reads.items) tables.now.uses.items)) (targets_in self.new.targets)) }
+        ensures same { OnOk result (index.new ≡ index.old) }
     {
         let locals = locals_of(alloc, tables)?;
         for its in &tables.uses {
-            let import = locals.get(&its.local);
-            let meaning = used(alloc, kinds, index, module, tables, *its, import)?;
+            let import = locals.get(&its.local).copied();
+            let reads = reads_of(&tables.reads, *its);
+            let meaning = used(alloc, kinds, index, module, reads, import)?;
             self.add_meaning(module, meaning)?;
         }
         Ok(())
     }
 
     // Adds what the next use of a module means.
-    fn add_meaning(
+    fn add_meaning(&mut self, module: usize, meaning: Option<Meaning<'a>>) -> Result<(), AllocError>
+        ensures { OnOk result (Adds (targets_in self.old.targets) (MeansSome meaning.entry) (targets_in self.new.targets)) }
+    {
+        add_meant(&mut self.targets, meaning)?;
+        push_at(&mut self.meanings, module, meaning)?;
+        Ok(())
+    }
+
+    // Links the names of each namespace that is met among the targets, and of those that are met then.
+    fn link_met(
         &mut self,
-        module: usize,
-        meaning: Option<Meaning<'a>>,
-    ) -> Result<(), AllocError> {
-        if let Some(meaning) = meaning {
-            self.targets.insert(meaning.target)?;
+        alloc: Global,
+        kinds: &Kinds<'_, '_, 'a>,
+        index: &mut Index<'a>,
+    ) -> Result<(), AllocError>
+        ensures right { (p : Program) → IsIndexOf p index.old → AreModulesOf p kinds.now →
+            OnOk result (Closes p (targets_in self.old.targets) (targets_in self.new.targets)) }
+        ensures same { OnOk result (index.new ≡ index.old) }
+    {
+        let mut done = 0;
+        while done < self.targets.len() {
+            let target = target_at(&self.targets, done);
+            self.link_target(alloc, kinds, index, target)?;
+            done += 1;
         }
-        push_at(&mut self.meanings, module, meaning)
+        Ok(())
+    }
+
+    // Links the names of a target that is a namespace.
+    fn link_target(
+        &mut self,
+        alloc: Global,
+        kinds: &Kinds<'_, '_, 'a>,
+        index: &mut Index<'a>,
+        target: Target<'a>,
+    ) -> Result<(), AllocError>
+        ensures right { (p : Program) → IsIndexOf p index.old → AreModulesOf p kinds.now →
+            OnOk result (Adds (targets_in self.old.targets) (IsNameOf p (target_of target.entry)) (targets_in self.new.targets)) }
+        ensures same { OnOk result (index.new ≡ index.old) }
+    {
+        match target {
+            Target::Namespace { module } => {
+                self.link(alloc, kinds, index, module)?;
+                Ok(())
+            }
+            Target::Declared { .. } => Ok(()),
+            Target::External { .. } => Ok(()),
+            Target::CommonJs { .. } => Ok(()),
+        }
     }
 
     // Notes which names a module links. Their targets are meant.
@@ -112,33 +207,105 @@ impl<'a> Meant<'a> {
         index: &mut Index<'a>,
         module: usize,
     ) -> Result<(), AllocError>
-        ensures { OnOk result (index.new ≡ index.old) }
+        ensures right { (p : Program) → IsIndexOf p index.old → AreModulesOf p kinds.now →
+            OnOk result (Adds (targets_in self.old.targets) (LinksTo p «module») (targets_in self.new.targets)) }
+        ensures same { OnOk result (index.new ≡ index.old) }
     {
         let linked = linked_names(alloc, kinds, index, module)?;
-        for (_, target) in &linked {
-            self.targets.insert(*target)?;
-        }
-        if let Some(old) = self.linked.get_mut(module) {
-            *old = linked;
-        }
+        add_targets(&mut self.targets, &linked)?;
+        put_at(&mut self.linked, module, linked);
         Ok(())
     }
 }
 
-// What a use means whose name this import binds.
+// The target at a place of those met.
+fn target_at<'a>(targets: &IndexSet<Target<'a>>, place: usize) -> Target<'a>
+    requires { place < length targets.now.keys }
+    ensures { slice_get targets.now.keys place ≡ Some result }
+{
+    targets.as_slice()[place]
+}
+
+// Puts a list in its place, where there is one.
+fn put_at<T: Drop>(lists: &mut Vec<Vec<T>>, place: usize, list: Vec<T>) {
+    if let Some(old) = lists.get_mut(place) {
+        *old = list;
+    }
+}
+
+// Adds the target that is meant, if one is.
+fn add_meant<'a>(
+    targets: &mut IndexSet<Target<'a>>,
+    meaning: Option<Meaning<'a>>,
+) -> Result<(), AllocError>
+    ensures { OnOk result (Adds (targets_in targets.old) (MeansSome meaning.entry) (targets_in targets.new)) }
+{
+    match meaning {
+        Some(meaning) => add_target(targets, meaning.target),
+        None => Ok(()),
+    }
+}
+
+// Adds a target.
+fn add_target<'a>(targets: &mut IndexSet<Target<'a>>, target: Target<'a>) -> Result<(), AllocError>
+    ensures { OnOk result (Adds (targets_in targets.old) (λ other. other ≡ target_of target.entry) (targets_in targets.new)) }
+{
+    targets.insert(target)?;
+    Ok(())
+}
+
+// Adds the targets of names.
+fn add_targets<'a>(
+    targets: &mut IndexSet<Target<'a>>,
+    linked: &[(&'a str, Target<'a>)],
+) -> Result<(), AllocError>
+    ensures { OnOk result (Adds (targets_in targets.old) (Contains (map target_in linked.now)) (targets_in targets.new)) }
+{
+    for pair in linked {
+        add_target(targets, pair.1)?;
+    }
+    Ok(())
+}
+
+// The reads around a use.
+fn reads_of<'t, 'a>(reads: &'t [Read<'a>], its: Use<'a>) -> &'t [Read<'a>]
+    ensures { result.now ≡ reads_by reads.now its.entry }
+{
+    let rest = if its.first_read < reads.len() {
+        &reads[its.first_read..]
+    } else {
+        &[]
+    };
+    if its.count < rest.len() {
+        &rest[..its.count]
+    } else {
+        rest
+    }
+}
+
+// What a use with these reads means whose name this import binds.
 fn used<'a>(
     alloc: Global,
     kinds: &Kinds<'_, '_, 'a>,
     index: &mut Index<'a>,
     module: usize,
-    tables: &Tables<'a>,
-    its: Use<'a>,
-    import: Option<&Import<'a>>,
+    reads: &[Read<'a>],
+    import: Option<Import<'a>>,
 ) -> Result<Option<Meaning<'a>>, AllocError>
-    ensures { OnOk result (index.new ≡ index.old) }
+    ensures right { IfOk result (λ found. (p : Program) → IsIndexOf p index.old → AreModulesOf p kinds.now →
+        (x : Text) (entry : ImportEntry) → option_map import_entry_of import.entry ≡ Some entry →
+        import_of (imports_in p «module») x ≡ Some entry →
+        IsMeaning p «module» x (map name_read reads.now) found) }
+    ensures same { OnOk result (index.new ≡ index.old) }
 {
+    let Some(import) = import else {
+        return Ok(None);
+    };
     match named(alloc, kinds, index, module, import)? {
-        Some(target) => Ok(Some(read(alloc, index, tables, its, target)?)),
+        Some(target) => {
+            let meaning = read(alloc, index, reads, target)?;
+            Ok(Some(meaning))
+        }
         None => Ok(None),
     }
 }
@@ -149,16 +316,19 @@ fn named<'a>(
     kinds: &Kinds<'_, '_, 'a>,
     index: &mut Index<'a>,
     module: usize,
-    import: Option<&Import<'a>>,
+    import: Import<'a>,
 ) -> Result<Option<Target<'a>>, AllocError>
-    ensures { OnOk result (index.new ≡ index.old) }
+    ensures right { IfOk result (λ found. (p : Program) → IsIndexOf p index.old → AreModulesOf p kinds.now →
+        Contains (imports_in p «module») (import_entry_of import.entry) →
+        IsImported p «module» (import_entry_of import.entry) (option_map target_of found)) }
+    ensures same { OnOk result (index.new ≡ index.old) }
 {
-    let Some(import) = import else {
-        return Ok(None);
-    };
     match taking(kinds, module, import.specifier, import.taken, None) {
         Own::Gives(given) => Ok(Some(given.target)),
-        Own::Leads(asked) => Ok(index.answer(alloc, asked)?.linked()),
+        Own::Leads(asked) => {
+            let answer = index.answer(alloc, asked)?;
+            Ok(answer.linked())
+        }
         Own::Nothing => Ok(None),
     }
 }
@@ -168,28 +338,44 @@ fn named<'a>(
 fn read<'a>(
     alloc: Global,
     index: &mut Index<'a>,
-    tables: &Tables<'a>,
-    its: Use<'a>,
+    reads: &[Read<'a>],
     target: Target<'a>,
 ) -> Result<Meaning<'a>, AllocError>
-    ensures { OnOk result (index.new ≡ index.old) }
+    ensures right { IfOk result (λ meaning. (p : Program) → IsIndexOf p index.old →
+        ReadsOn p (target_of target.entry) (map name_read reads.now) meaning.steps (target_of meaning.target)) }
+    ensures same { OnOk result (index.new ≡ index.old) }
 {
     let mut meaning = Meaning { target, steps: 0 };
-    for step in 0..its.count {
-        let Target::Namespace { module } = meaning.target else {
-            break;
-        };
-        let Some(read) = tables.reads.get(its.first_read.saturating_add(step)) else {
-            break;
-        };
-        let name = read.name;
-        let Some(target) = index.answer(alloc, Asked { module, name })?.linked() else {
-            break;
+    for read in reads {
+        let Some(next) = read_on(alloc, index, meaning.target, read.name)? else {
+            return Ok(meaning);
         };
         meaning = Meaning {
-            target,
-            steps: step.saturating_add(1),
+            target: next,
+            steps: meaning.steps + 1,
         };
     }
     Ok(meaning)
+}
+
+// What a read of a name of a target means by itself: what a name of a namespace is linked to.
+fn read_on<'a>(
+    alloc: Global,
+    index: &mut Index<'a>,
+    target: Target<'a>,
+    name: &'a str,
+) -> Result<Option<Target<'a>>, AllocError>
+    ensures right { IfOk result (λ next. (p : Program) → IsIndexOf p index.old →
+        IsNext p (target_of target.entry) name.now (option_map target_of next)) }
+    ensures same { OnOk result (index.new ≡ index.old) }
+{
+    match target {
+        Target::Namespace { module } => {
+            let answer = index.answer(alloc, Asked { module, name })?;
+            Ok(answer.linked())
+        }
+        Target::Declared { .. } => Ok(None),
+        Target::External { .. } => Ok(None),
+        Target::CommonJs { .. } => Ok(None),
+    }
 }

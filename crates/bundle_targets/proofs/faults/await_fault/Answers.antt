@@ -6,14 +6,14 @@ use Rattle.bundle_targets.proofs.faults.await_fault.Goals.{else-tables-via-then-
 use Rattle.bundle_targets.proofs.faults.await_fault.Goals as goal
 
 pub returns-then-is_common_js : goal.returns-then-is_common_js
-returns-then-is_common_js c = λ p objects w.
-    await_first p objects c.args.kinds.now w.modules c.args.module c.in_ok-tables.tables.now
+returns-then-is_common_js c = λ p w.
+    await_first p c.args.kinds.now w.modules c.args.module c.in_ok-tables.tables.now
     (table_of p c.args.kinds.now w.modules c.args.module c.in_ok-tables.tables c.tables.result c.tables.ensures c.in_ok-tables.was) _
     (sym c.is_common_js.ensures ∙ c.if-is_common_js.true) c.if-tables.true
 
 pub returns : goal.returns
-returns c = λ p objects w.
-    await_none p objects c.args.kinds.now w.modules c.args.module c.in_ok-tables.tables.now
+returns c = λ p w.
+    await_none p c.args.kinds.now w.modules c.args.module c.in_ok-tables.tables.now
     (table_of p c.args.kinds.now w.modules c.args.module c.in_ok-tables.tables c.tables.result c.tables.ensures c.in_ok-tables.was)
     (λ common awaits. elim c.else-tables.branch [
       | else-tables-via-then-tables+else-is_common_js v ↦ false≢true (sym v.if-is_common_js.false ∙ (v.is_common_js.ensures ∙ common))

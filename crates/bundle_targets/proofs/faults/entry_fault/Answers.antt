@@ -19,15 +19,15 @@ loop-call-preserved c =
     (λ leads. false≢true (sym c.if-is_of_entry.false ∙ c.is_of_entry.ensures.1 leads))
 
 pub returns-then-is_of_entry : goal.returns-then-is_of_entry
-returns-then-is_of_entry c = λ p objects w.
-    entry_first p objects c.args.kinds.now w.modules c.args.module c.deref-call-items.result.now
+returns-then-is_of_entry c = λ p w.
+    entry_first p c.args.kinds.now w.modules c.args.module c.deref-call-items.result.now
     (ap (map call_entry_of) c.deref-call-items.ensures.value ∙ (table_of p c.args.kinds.now w.modules c.args.module c.in_ok-tables.tables c.tables.result c.tables.ensures c.in_ok-tables.was).calls)
     c.loop-call.call-index _ (slice_get-get_or c.deref-call-items.result.now c.loop-call.call-index _ c.loop-call-test.true)
     c.loop-call.invariant (c.is_of_entry.ensures.0 c.if-is_of_entry.true)
 
 pub returns : goal.returns
-returns c = λ p objects w.
-    entry_none p objects c.args.kinds.now w.modules c.args.module c.deref-call-items.result.now
+returns c = λ p w.
+    entry_none p c.args.kinds.now w.modules c.args.module c.deref-call-items.result.now
     (ap (map call_entry_of) c.deref-call-items.ensures.value ∙ (table_of p c.args.kinds.now w.modules c.args.module c.in_ok-tables.tables c.tables.result c.tables.ensures c.in_ok-tables.was).calls)
     (holds_all (λ (it : RequireCall). required_of c.args.kinds.now.modules.now c.args.module it.specifier.now ≡ Some c.args.kinds.now.entry → ⊥)
     c.deref-call-items.result.now c.loop-call.call-index c.loop-call.invariant (λ less. let end = c.loop-call-test.false in omega arith))

@@ -15,15 +15,15 @@ loop-source-preserved c =
     holds_more (λ (s : Source). s.is_external ≡ false) c.deref-source-items.result.now c.loop-source.source-index _ c.loop-source.invariant c.if-source.false
 
 pub returns-then-source : goal.returns-then-source
-returns-then-source c = λ p objects w.
-    external_first p objects c.args.kinds.now w.modules c.args.module c.deref-source-items.result.now
+returns-then-source c = λ p w.
+    external_first p c.args.kinds.now w.modules c.args.module c.deref-source-items.result.now
     (ap (map asked) c.deref-source-items.ensures.value ∙ (table_of p c.args.kinds.now w.modules c.args.module c.in_ok-tables.tables c.tables.result c.tables.ensures c.in_ok-tables.was).sources)
     c.loop-source.source-index _ (w.iife ∙ c.if-not-kinds.false)
     (slice_get-get_or c.deref-source-items.result.now c.loop-source.source-index _ c.loop-source-test.true)
     c.loop-source.invariant c.if-source.true
 
 pub returns : goal.returns
-returns c = λ p objects w.
-    external_none p objects c.args.kinds.now w.modules c.args.module c.deref-source-items.result.now
+returns c = λ p w.
+    external_none p c.args.kinds.now w.modules c.args.module c.deref-source-items.result.now
     (ap (map asked) c.deref-source-items.ensures.value ∙ (table_of p c.args.kinds.now w.modules c.args.module c.in_ok-tables.tables c.tables.result c.tables.ensures c.in_ok-tables.was).sources)
     (holds_all (λ (s : Source). s.is_external ≡ false) c.deref-source-items.result.now c.loop-source.source-index c.loop-source.invariant (λ less. let end = c.loop-source-test.false in omega arith))

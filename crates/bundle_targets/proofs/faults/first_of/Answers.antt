@@ -6,15 +6,15 @@ use Rattle.bundle_targets.proofs.JudgedLemmas.{stage_more, stage_none, stage_som
 use Rattle.bundle_targets.proofs.faults.first_of.Goals as goal
 
 pub loop-module-preserved : goal.loop-module-preserved
-loop-module-preserved c = λ p objects w.
-    stage_more p objects c.args.kinds.now.list.now (stage_of c.args.stage) c.loop-module.module-index _ c.fault_in.result (c.loop-module.invariant p objects w)
-    (is_none c.fault_in.result c.in_default.not-Some) (c.fault_in.ensures p objects w)
+loop-module-preserved c = λ p w.
+    stage_more p c.args.kinds.now.list.now (stage_of c.args.stage) c.loop-module.module-index _ c.fault_in.result (c.loop-module.invariant p w)
+    (is_none c.fault_in.result c.in_default.not-Some) (c.fault_in.ensures p w)
 
 pub returns-in-Some : goal.returns-in-Some
-returns-in-Some c = λ p objects w.
-    stage_some p objects c.args.kinds.now.list.now (stage_of c.args.stage) c.loop-module.module-index _ c.fault_in.result c.in-Some.fault (c.loop-module.invariant p objects w) c.loop-module-test.true
-    c.in-Some.is (c.fault_in.ensures p objects w)
+returns-in-Some c = λ p w.
+    stage_some p c.args.kinds.now.list.now (stage_of c.args.stage) c.loop-module.module-index _ c.fault_in.result c.in-Some.fault (c.loop-module.invariant p w) c.loop-module-test.true
+    c.in-Some.is (c.fault_in.ensures p w)
 
 pub returns : goal.returns
-returns c = λ p objects w.
-    stage_none p objects c.args.kinds.now.list.now (stage_of c.args.stage) c.loop-module.module-index (c.loop-module.invariant p objects w) (λ less. let end = c.loop-module-test.false in omega arith)
+returns c = λ p w.
+    stage_none p c.args.kinds.now.list.now (stage_of c.args.stage) c.loop-module.module-index (c.loop-module.invariant p w) (λ less. let end = c.loop-module-test.false in omega arith)

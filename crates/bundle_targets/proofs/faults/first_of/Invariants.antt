@@ -7,4 +7,4 @@ use Rattle.bundle_targets.proofs.FirstLemmas.{HoldsBelow}
 use Rattle.bundle_targets.proofs.faults.first_of.Given as goal
 
 abbrev pub invariant-loop-module : goal.invariant-loop-module
-invariant-loop-module l = (p : Program) (objects : ℕ → Bool) → AreKindsOf p l.kinds → HoldsBelow (HasNone p objects (stage_of l.stage)) l.kinds.list.now l.module-index
+invariant-loop-module l = (p : Program) → AreKindsOf p l.kinds → HoldsBelow (HasNone p (stage_of l.stage)) l.kinds.list.now l.module-index

@@ -10,5 +10,5 @@ use Rattle.bundle_targets.proofs.faults.names_fault.Given as goal
 abbrev pub invariant-loop-module : goal.invariant-loop-module
 invariant-loop-module l = record {
   same : l.index ≡ l.fn.index;
-  none : (p : Program) (objects : ℕ → Bool) → AreKindsOf p l.kinds → IsIndexOf p l.fn.index → HoldsBelow (HasNone p objects 5) l.kinds.list.now l.module-index;
+  none : (p : Program) → AreKindsOf p l.kinds → IsIndexOf p l.fn.index → HoldsBelow (HasNone p 5) l.kinds.list.now l.module-index;
 }

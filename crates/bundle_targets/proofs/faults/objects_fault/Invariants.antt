@@ -3,12 +3,12 @@ use Rattle.std.proofs.Common.{◌≡◌}
 use Rattle.bundle_terms.specs.Program.{Program}
 use Rattle.bundle_index.specs.Outside.{IsIndexOf}
 use Rattle.bundle_targets.specs.Judged.{HasNone}
-use Rattle.bundle_targets.specs.Stages.{is_meant_in}
+use Rattle.bundle_targets.specs.Found.{HoldsMeant, targets_in}
 use Rattle.bundle_targets.proofs.FirstLemmas.{HoldsBelow}
 use Rattle.bundle_targets.proofs.faults.objects_fault.Given as goal
 
 abbrev pub invariant-loop-module : goal.invariant-loop-module
 invariant-loop-module l = record {
   same : l.index ≡ l.fn.index;
-  none : (p : Program) → IsIndexOf p l.fn.index → HoldsBelow (HasNone p (is_meant_in l.meant) 6) l.kinds.list.now l.module-index;
+  none : (p : Program) → IsIndexOf p l.fn.index → HoldsMeant p (targets_in l.meant) → HoldsBelow (HasNone p 6) l.kinds.list.now l.module-index;
 }
