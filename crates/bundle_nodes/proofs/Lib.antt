@@ -1,0 +1,10 @@
+mod ListFacts
+mod NodePaths
+mod NodeParts
+mod StatedElements
+mod TopNodes
+mod MemberLemmas
+pub mod PlaceLemmas
+mod ListNodes
+pub mod TreeNodes
+pub mod ModuleLemmas
