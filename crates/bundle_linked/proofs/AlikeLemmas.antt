@@ -88,6 +88,7 @@ flip w = record {
   other = λ a b c h k. w.one a b c h k;
   require = sym w.require;
   external = sym w.external;
+  iife = sym w.iife;
   entry = w.entry;
   tree = λ a b r. sym (w.tree b a r);
   leads = λ a b c s r e. w.back b a c s r e;
@@ -106,17 +107,17 @@ abbrev calls : Bool → List Text → List Item → List RequireCall
 calls require external tree = if require then filter (λ call. not (has_text call.specifier external)) (require_calls (is_free tree) tree) else []
 
 module _ (p q : Program) (R : ℕ → ℕ → Type 0) (w : IsAlike p q R) where
-  same_outside : (s : Text) → is_external p s ≡ is_external q s
+  pub same_outside : (s : Text) → is_external p s ≡ is_external q s
   same_outside s = ap (has_text s) w.external
 
-  resolves_on : (a b c : ℕ) (s : Text) → R a b → resolves p a s ≡ Some c → (d : ℕ) × R c d × (resolves q b s ≡ Some d)
+  pub resolves_on : (a b c : ℕ) (s : Text) → R a b → resolves p a s ≡ Some c → (d : ℕ) × R c d × (resolves q b s ≡ Some d)
   resolves_on a b c s r e = by (is_external p s) refl e
     where
       by : (t : Bool) → is_external p s ≡ t → (if t then None else p.leads a s) ≡ Some c → (d : ℕ) × R c d × (resolves q b s ≡ Some d)
       by true is e = absurd (none-some c e)
       by false is e = let l = w.leads a b c s r e in (l.0, l.1, ap (λ t. if t then None else q.leads b s) (sym (same_outside s) ∙ is) ∙ l.2)
 
-  same_calls : (a b : ℕ) → R a b → calls_of p a ≡ calls_of q b
+  pub same_calls : (a b : ℕ) → R a b → calls_of p a ≡ calls_of q b
   same_calls a b r = ap (λ x. calls x p.settings.external (tree_of p a)) w.require ∙ ap (λ x. calls q.settings.require x (tree_of p a)) w.external ∙ ap (calls q.settings.require q.settings.external) (w.tree a b r)
 
   same_asked : (a b : ℕ) → R a b → requests_of p.settings (is_free (tree_of p a)) (tree_of p a) ≡ requests_of q.settings (is_free (tree_of q b)) (tree_of q b)
@@ -206,15 +207,15 @@ module _ (p q : Program) (R : ℕ → ℕ → Type 0) (w : IsAlike p q R) where
   exports_on : (a b : ℕ) (entry : ExportEntry) → R a b → Contains (exports p a) entry → Contains (exports q b) entry
   exports_on a b entry r = subst (λ tree. Contains (exports_of tree) entry) (w.tree a b r)
 
-  binds_on : (a b : ℕ) (y : Text) (o : Option ImportEntry) → R a b → import_of (imports p a) y ≡ o → import_of (imports q b) y ≡ o
+  pub binds_on : (a b : ℕ) (y : Text) (o : Option ImportEntry) → R a b → import_of (imports p a) y ≡ o → import_of (imports q b) y ≡ o
   binds_on a b y o r = subst (λ tree. import_of (imports_of tree) y ≡ o) (w.tree a b r)
 
-  module_on : (a b d : ℕ) (s : Text) → R a b → IsModule p a s d → (k : ℕ) × R d k × IsModule q b s k
+  pub module_on : (a b d : ℕ) (s : Text) → R a b → IsModule p a s d → (k : ℕ) × R d k × IsModule q b s k
   module_on a b d s r is =
       let l = resolves_on p q R w a b d s r is.resolved in
       (l.0, l.1, record { resolved = l.2; es = λ common. is.es (common_js_on q p (λ a b. R b a) (flip w) l.0 d l.1 common) })
 
-  takes_on : {a : ℕ} {s : Text} {what : Taken} {t : Target} → Takes p a s what t → (b : ℕ) → R a b → (u : Target) × AlikeTarget R t u × Takes q b s what u
+  pub takes_on : {a : ℕ} {s : Text} {what : Taken} {t : Target} → Takes p a s what t → (b : ℕ) → R a b → (u : Target) × AlikeTarget R t u × Takes q b s what u
   takes_on {s = s} {what = what} (of_external e) b r = (External s what, external, of_external (sym (same_outside p q R w s) ∙ e))
   takes_on {a = a} {s = s} {what = what} (of_common_js {c = c} is common) b r =
       let l = resolves_on p q R w a b c s r is in

@@ -7,3 +7,7 @@ pub mod GraphLemmas
 pub mod ProgramLemmas
 pub mod ResolvedLemmas
 pub mod ZipLemmas
+pub mod TakenLemmas
+pub mod ObjectLemmas
+pub mod FaultLemmas
+pub mod ToldLemmas

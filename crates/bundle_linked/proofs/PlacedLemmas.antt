@@ -43,6 +43,7 @@ module _ (p : Program) (ids : List ℕ) (leads : ℕ → Text → Option ℕ) (e
     other = λ i m n h k. same_Some m n (sym h ∙ k);
     require = refl;
     external = refl;
+    iife = refl;
     entry = w.begins;
     tree = same_tree;
     leads = λ m i n s at e. let k = place-there ids n (w.there m n s e) in (k.0, at-place ids n k.0 k.1, w.leads_on i m s at ∙ ap (option_and_then (place_in ids)) e ∙ k.1);

@@ -14,9 +14,11 @@ use Rattle.bundle_terms.specs.Awaits.{awaits_outside}
 use Rattle.bundle_terms.specs.Bound.{has_free, is_free}
 use Rattle.bundle_terms.specs.Entries.{ExportEntry, Settings, declared_requests, require_calls, exports_of, imports_of, is_script, linked_calls, requests_of}
 use Rattle.bundle_terms.specs.Program.{Program, tree_of, requested, resolves, IsReached, IsList}
+use Rattle.bundle_terms.specs.Faults.{asked_names}
 use Rattle.bundle_terms.specs.Tables.{is_star, star_of}
 use Rattle.bundle_tables.specs.Sources.{told_external}
 use Rattle.bundle_tables.specs.TablesOf.{uses_common_js}
+use Rattle.bundle_tables.specs.Used.{uses_of}
 use Rattle.bundle_tables.specs.declared.table.Tables.{Tables}
 use Rattle.bundle_index.specs.declared.target.LinkModule.{LinkModule}
 use Rattle.bundle_index.specs.Leads.{leads_from, required_of}
@@ -24,12 +26,14 @@ use Rattle.bundle_index.specs.Numbered.{IsOnce}
 use Rattle.bundle_index.specs.Programs.{IsProgramOf, IsTableOf}
 use Rattle.bundle_index.specs.Said.{HasEachOnce}
 use Rattle.bundle_linked.specs.declared.module.NumberedModule.{NumberedModule}
+use Rattle.bundle_linked.specs.Alike.{IsAt}
 use Rattle.bundle_linked.specs.Graph.{asked_for, IsGraphOf}
 use Rattle.bundle_linked.specs.Leads.{place_in}
 use Rattle.bundle_linked.specs.Numbered.{AreModulesOf, IsPlacedBy, numbers}
+use Rattle.bundle_linked.proofs.AlikeLemmas.{reached_on}
 use Rattle.bundle_linked.proofs.LeadLemmas.{told-led}
 use Rattle.bundle_linked.proofs.NumberLemmas.{held, at-place, place-there, once-same}
-use Rattle.bundle_linked.proofs.PlacedLemmas.{IsPlaced, placed, same_tree, lead_back, placed_reached}
+use Rattle.bundle_linked.proofs.PlacedLemmas.{IsPlaced, is_alike, placed, same_tree, lead_back, placed_reached}
 use Rattle.bundle_linked.proofs.RequestLemmas.{requested_by}
 
 -- ---- lists side by side
@@ -71,6 +75,8 @@ table_at p q m n tables settings tree is = record {
   common_js = is.common_js ∙ ap uses_common_js tree;
   awaits = is.awaits ∙ ap awaits_outside tree;
   arguments = is.arguments ∙ ap (λ (t : List Item). has_free t (codes "arguments")) tree;
+  names = is.names ∙ ap asked_names tree;
+  uses = is.uses ∙ ap uses_of tree;
 }
 
 -- a tree of nothing requests nothing
@@ -144,7 +150,7 @@ module _ (p : Program) (modules : List NumberedModule) (entry : ℕ) (require : 
   abbrev pub by_places : Program
   by_places = placed p ids (required_of linked) at_entry
 
-  no_tree : (i : ℕ) → slice_get ids i ≡ None → tree_of by_places i ≡ []
+  pub no_tree : (i : ℕ) → slice_get ids i ≡ None → tree_of by_places i ≡ []
   no_tree i none = ap (λ o. unwrap_or (option_map (λ loaded. loaded.items) (option_and_then p.modules o)) []) none
 
   each_once_there : HasEachOnce by_places
@@ -189,6 +195,10 @@ module _ (p : Program) (modules : List NumberedModule) (entry : ℕ) (require : 
               let k = numbered_at i it is in
               let l = lead_back p ids (required_of linked) at_entry is_placed (p.leads k.0 s) d (sym (is_placed.leads_on i k.0 s k.1) ∙ e) in
               subst (λ n. d < n) (sym many) (slice_get_within ids d l.0 l.1)
+
+  -- what is reached is there
+  pub is_there : (n : ℕ) → IsReached p n → Contains ids n
+  is_there n is = let k = reached_on p by_places (IsAt ids) (is_alike p ids (required_of linked) at_entry is_placed) n is in held ids n k.0 k.1
 
   -- ---- the graph and the list
   read-back : (o : Option ℕ) → ((d : ℕ) → o ≡ Some d → Contains ids d) → option_and_then (slice_get ids) (option_and_then (place_in ids) o) ≡ o

@@ -3,12 +3,13 @@ use Rattle.std.specs.Prelude.{◌≡◌, ℕ, List, Some, slice_get}
 use Rattle.bundle_terms.specs.Nodes.{Text}
 use Rattle.bundle_terms.specs.Program.{Program, tree_of}
 
--- where R says which module of the second program a module of the first is: the entries, the trees and where specifiers lead are the same
+-- where R says which module of the second program a module of the first is: the settings, the entries, the trees and where specifiers lead are the same
 pub record IsAlike (p q : Program) (R : ℕ → ℕ → Type 0) : Type 0 where
   pub one : (a b c : ℕ) → R a b → R a c → b ≡ c
   pub other : (a b c : ℕ) → R b a → R c a → b ≡ c
   pub require : p.settings.require ≡ q.settings.require
   pub external : p.settings.external ≡ q.settings.external
+  pub iife : p.settings.iife ≡ q.settings.iife
   pub entry : R p.entry q.entry
   pub tree : (a b : ℕ) → R a b → tree_of p a ≡ tree_of q b
   pub leads : (a b c : ℕ) (s : Text) → R a b → p.leads a s ≡ Some c → (d : ℕ) × R c d × (q.leads b s ≡ Some d)

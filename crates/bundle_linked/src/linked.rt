@@ -5,15 +5,17 @@ ghost use Rattle.indexmap.specs.IndexSet.{contains};
 ghost use Rattle.bundle_graph.specs.Modules.{deps};
 ghost use Rattle.bundle_index.specs.Numbered.{IsOnce};
 ghost use Rattle.bundle_index.specs.Programs.{IsProgramOf};
-ghost use Rattle.bundle_targets.specs.Linked.{IsLinkingOf};
+ghost use Rattle.bundle_targets.specs.Linked.{IsJudgedBy, IsLinkingOf};
+ghost use Rattle.bundle_targets.specs.Meant.{AreModules};
 ghost use Rattle.bundle_terms.specs.Nodes.{numbers_once};
 ghost use Rattle.bundle_terms.specs.Program.{Program};
-ghost use Rattle.bundle_terms.specs.Tables.{IsResolution, TellsCommonJs};
+ghost use Rattle.bundle_terms.specs.Tables.{IsResolution, TellsCommonJs, TellsMeant};
 ghost use Rattle.bundle_linked.specs.Graph.{asked, asked_for, IsGraphOf};
 ghost use Rattle.bundle_linked.specs.Leads.{place_in};
 ghost use Rattle.bundle_linked.specs.Linked.{IsLinkedOf};
-ghost use Rattle.bundle_linked.specs.Numbered.{AreModulesOf};
+ghost use Rattle.bundle_linked.specs.Numbered.{AreModulesOf, numbers};
 ghost use Rattle.bundle_linked.specs.Resolved.{resolution_read};
+ghost use Rattle.bundle_linked.specs.Told.{IsTold};
 
 use crate::module::{NumberedModule, ids_of, leads_of_all};
 use bundle_graph::graph::{ModuleGraph, order};
@@ -42,8 +44,10 @@ impl<'a> LinkedModules<'a> {
         modules: &[NumberedModule<'t, 'a>],
         setting: Setting,
     ) -> Result<LinkedModules<'a>, AllocError>
-        ensures { IfOk result (λ linked. (p : Program) →
-            AreModulesOf p modules.now entry setting.require → IsLinkedOf p linked) }
+        ensures ids { IfOk result (λ linked. linked.ids.keys ≡ numbers_once (numbers modules.now)) }
+        ensures linked { IfOk result (λ linked. (p : Program) →
+            AreModulesOf p modules.now entry setting.require → p.settings.iife ≡ setting.iife →
+            IsLinkedOf p linked) }
     {
         let ids = ids_of(alloc, modules)?;
         let leads = leads_of_all(alloc, modules, &ids)?;
@@ -85,6 +89,8 @@ impl<'a> LinkedModules<'a> {
 
     /// Whether the object of a module's namespace is meant.
     pub fn is_object_meant(&self, id: ModuleId) -> bool
+        ensures told { (p : Program) → IsLinkedOf p self.now → AreModules p →
+            TellsMeant p id result }
         ensures absent { contains nat_eq self.now.ids id ≡ false → result ≡ false }
     {
         match self.ids.get_index_of(&id) {
@@ -94,7 +100,10 @@ impl<'a> LinkedModules<'a> {
     }
 
     /// The first fault of the modules, in the order in which they are judged, of a module by its place among `ids`.
-    pub fn fault(&self) -> Option<Fault<'a>> {
+    pub fn fault(&self) -> Option<Fault<'a>>
+        ensures { (p : Program) → IsLinkedOf p self.now → AreModules p →
+            IsTold p self.now.ids.keys self.now.list.items result }
+    {
         match self.linking.call_fault() {
             Some(fault) => Some(fault),
             None => self.linking.link_fault(),
@@ -194,10 +203,15 @@ fn linking_of<'l, 'a>(
     list: &[ModuleId],
     setting: Setting,
 ) -> Result<Linking<'a>, AllocError>
-    ensures { IfOk result (λ linking. (p : Program) →
+    ensures linked { IfOk result (λ linking. (p : Program) →
         IsProgramOf p modules.now (filter_map (place_in ids.now.keys) list.now)
         (unwrap_or (place_in ids.now.keys entry) (length ids.now.keys)) setting.require
         → IsLinkingOf p linking) }
+    ensures judged { IfOk result (λ linking. (p : Program) →
+        IsProgramOf p modules.now (filter_map (place_in ids.now.keys) list.now)
+        (unwrap_or (place_in ids.now.keys entry) (length ids.now.keys)) setting.require
+        → p.settings.iife ≡ setting.iife
+        → IsJudgedBy p (filter_map (place_in ids.now.keys) list.now) linking) }
 {
     let places = places_of(alloc, ids, list)?;
     let place = ids.get_index_of(&entry).unwrap_or(ids.len());

@@ -5,6 +5,7 @@ use Rattle.std.proofs.lemmas.Slice.Zip.{AllZip-long}
 use Rattle.bundle_index.specs.Leads.{required_of}
 use Rattle.bundle_index.specs.Programs.{IsProgramOf}
 use Rattle.bundle_index.specs.declared.target.LinkModule.{LinkModule}
+use Rattle.bundle_targets.specs.Linked.{IsJudgedBy}
 use Rattle.bundle_linked.specs.Graph.{IsGraphOf}
 use Rattle.bundle_linked.specs.Leads.{place_in}
 use Rattle.bundle_linked.specs.Numbered.{IsPlacedBy}
@@ -13,8 +14,8 @@ use Rattle.bundle_linked.proofs.PlacedLemmas.{is_alike}
 use Rattle.bundle_linked.proofs.ProgramLemmas as l
 use Rattle.bundle_linked.proofs.linked.LinkedModules.new.Goals as goal
 
-pub returns : goal.returns
-returns c = λ p w.
+pub returns-clause-linked : goal.returns-clause-linked
+returns-clause-linked c = λ p w iife.
     let modules = c.args.modules.now in
     let entry = c.args.entry in
     let require = c.args.setting.require in
@@ -43,9 +44,13 @@ returns c = λ p w.
     record {
       places = q;
       alike = is_alike p ids (required_of linked) at_entry is_placed;
-      linking = c.in_ok-linking.ensures q handed;
+      linking = c.in_ok-linking.ensures.linked q handed;
+      judged = subst (λ (ns : List ℕ). IsJudgedBy q (filter_map (place_in ids) ns) c.in_ok-linking.linking) c.deref-4.ensures.value (c.in_ok-linking.ensures.judged q handed iife);
+      bare = l.no_tree p modules entry require w ids ids_are linked same_tables placed_by;
       others = λ m none. w.others m (λ there. none (l.ids_hold p modules entry require w ids ids_are linked same_tables placed_by m there));
       there = λ m d s e. l.ids_hold p modules entry require w ids ids_are linked same_tables placed_by d (w.there m d s e);
       graph = l.same_graph p modules entry require w ids ids_are linked same_tables placed_by graph is_graph;
+      reached = reached;
+      listed = λ n there. l.is_there p modules entry require w ids ids_are linked same_tables placed_by n ((reached n).0 there);
       list = l.is_list p modules entry require w ids ids_are linked same_tables placed_by graph is_graph list order;
     }
