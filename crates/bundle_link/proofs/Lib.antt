@@ -2,3 +2,4 @@ mod FileLemmas
 mod ItemLemmas
 mod OnceLemmas
 mod ProgramLemmas
+mod CheckLemmas

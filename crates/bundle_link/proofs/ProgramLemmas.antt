@@ -9,12 +9,14 @@ use Rattle.bundle_piece.specs.Item.{Item}
 use Rattle.bundle_pieces.specs.Tree.{module_items}
 use Rattle.bundle_tables.specs.Sources.{told_external}
 use Rattle.bundle_tables.specs.TablesOf.{uses_common_js}
+use Rattle.bundle_tables.specs.Used.{uses_of}
 use Rattle.bundle_tables.specs.declared.table.Tables.{Tables}
 use Rattle.bundle_terms.specs.Awaits.{awaits_outside}
 use Rattle.bundle_terms.specs.Bound.{has_free, is_free}
 use Rattle.bundle_terms.specs.Entries.{declared_requests, exports_of, imports_of, is_script, linked_calls, requests_of}
 use Rattle.bundle_terms.specs.Nodes.{each_once}
 use Rattle.bundle_terms.specs.Program.{Program, tree_of}
+use Rattle.bundle_terms.specs.Faults.{asked_names}
 use Rattle.bundle_terms.specs.Tables.{is_star, star_of}
 use Rattle.bundle_index.specs.Numbered.{IsOnce}
 use Rattle.bundle_index.specs.Programs.{IsTableOf}
@@ -42,6 +44,8 @@ table_of p m config file tree tables links is read = record {
   common_js = read.common_js ∙ ap uses_common_js is;
   awaits = read.awaits ∙ ap awaits_outside is;
   arguments = read.arguments ∙ ap (λ (t : List Item). has_free t (codes "arguments")) is;
+  names = read.names ∙ ap asked_names is;
+  uses = read.uses ∙ ap uses_of is;
 }
 
 module _ (p : Program) (modules : List TransformedModule) (config : Config) (entry : ℕ) (w : AreModulesOf p modules config entry) (tables : List Tables) (read : AllZip (HasTables config) modules tables) where

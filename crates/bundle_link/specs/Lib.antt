@@ -3,3 +3,4 @@ pub mod Programs
 pub mod Read
 pub mod Refusals
 pub mod Resolved
+pub mod Checked

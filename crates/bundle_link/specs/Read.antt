@@ -6,16 +6,17 @@ use Rattle.bundle_name.specs.declared.config.Config.{Config}
 use Rattle.bundle_piece.specs.Item.{Item}
 use Rattle.bundle_tables.specs.declared.table.Tables.{Tables}
 use Rattle.bundle_tables.specs.Sources.{asked, told_external}
-use Rattle.bundle_tables.specs.TablesOf.{call_entry_of, export_entry_of, import_entry_of, uses_common_js}
+use Rattle.bundle_tables.specs.Used.{use_entry_of, uses_of}
+use Rattle.bundle_tables.specs.TablesOf.{asked_name_of, call_entry_of, export_entry_of, import_entry_of, uses_common_js}
 use Rattle.bundle_terms.specs.Awaits.{awaits_outside}
 use Rattle.bundle_terms.specs.Bound.{has_free, is_free}
 use Rattle.bundle_terms.specs.Entries.{Settings, declared_requests, exports_of, imports_of, is_script, linked_calls, requests_of}
-use Rattle.bundle_terms.specs.Faults.{IsFaultless}
+use Rattle.bundle_terms.specs.Faults.{IsFaultless, asked_names}
 use Rattle.bundle_terms.specs.Nodes.{each_once}
 use Rattle.bundle_terms.specs.Tables.{is_star, star_of}
 use Rattle.bundle_link.specs.Refusals.{Links}
 
--- the tree has no fault, and these are its requests, imports, exports that have a name, stars, what it asks for and its literal calls; whether it is a script, uses a name of CommonJS, awaits outside functions, and uses `arguments` that nothing binds
+-- the tree has no fault, and these are its requests, imports, exports that have a name, stars, what it asks for and its literal calls; whether it is a script, uses a name of CommonJS, awaits outside functions, and uses `arguments` that nothing binds; the names that it asks of others, and where imported names are used, with the reads around each
 pub record AreTablesOf (config : Config) (file : Name) (tree : List Item) (tables : Tables) : Type 0 where
   pub faultless : IsFaultless file tree
   pub requests : (settings : Settings) → Links config settings → map (λ request. request.now) tables.requests.items ≡ requests_of settings (is_free tree) tree
@@ -28,3 +29,5 @@ pub record AreTablesOf (config : Config) (file : Name) (tree : List Item) (table
   pub common_js : tables.names_common_js ≡ uses_common_js tree
   pub awaits : tables.awaits ≡ awaits_outside tree
   pub arguments : tables.has_free_arguments ≡ has_free tree (codes "arguments")
+  pub names : map asked_name_of tables.asked.items ≡ asked_names tree
+  pub uses : map (use_entry_of tables.reads.items) tables.uses.items ≡ uses_of tree

@@ -3,6 +3,7 @@
 ghost use Rattle.std.specs.Prelude.{◌≡◌, IfOk, List, Contains};
 ghost use Rattle.bundle_name.specs.FileName.{Name, name_of};
 ghost use Rattle.bundle_tables.specs.TablesOf.{fault_in};
+ghost use Rattle.bundle_targets.specs.Judged.{fault_says};
 ghost use Rattle.bundle_terms.specs.Faults.{fault_of};
 ghost use Rattle.bundle_link.specs.Refusals.{IsLinkRefusal};
 
@@ -39,7 +40,8 @@ pub(crate) fn link_refusal<'a>(
     file: &FileName,
     fault: Fault<'a>,
 ) -> Result<Error, AllocError>
-    ensures { IfOk result (λ refusal. (files : List Name) → Contains files (name_of file.now) → IsLinkRefusal files refusal) }
+    ensures named { IfOk result (λ refusal. (files : List Name) → Contains files (name_of file.now) → IsLinkRefusal files refusal) }
+    ensures told { IfOk result (λ refusal. fault_of refusal ≡ Some (fault_says (name_of file.now) fault.entry)) }
 {
     let file = file.clone()?;
     let name = String::from_str(alloc, fault.name)?;

@@ -1,14 +1,17 @@
 //! The modules of one bundle, linked.
 
-ghost use Rattle.std.specs.Prelude.{◌≡◌, Contains, IfErr, IfOk, IfSome, IsNone, false, length, map, nat_eq};
+ghost use Rattle.std.specs.Prelude.{◌≡◌, Contains, IfErr, IfOk, IfSome, IsNone, MatchResult, None, false, length, map, nat_eq};
 ghost use Rattle.std.specs.List.{AllZip};
 ghost use Rattle.indexmap.specs.IndexSet.{contains};
 ghost use Rattle.bundle_name.specs.FileName.{name_of};
 ghost use Rattle.bundle_piece.specs.Item.{item_of};
 ghost use Rattle.bundle_linked.specs.Linked.{IsLinkedOf};
 ghost use Rattle.bundle_terms.specs.Program.{Program};
-ghost use Rattle.bundle_terms.specs.Tables.{IsResolution, TellsCommonJs};
-ghost use Rattle.bundle_link.specs.Programs.{AreModulesOf, HasTables, IsLinkerOf};
+ghost use Rattle.bundle_terms.specs.Tables.{IsChecked, IsResolution, TellsCommonJs, TellsMeant};
+ghost use Rattle.bundle_targets.specs.Meant.{DeclaresDefaultOnce};
+ghost use Rattle.bundle_link.specs.Checked.{TellsLinkFault};
+ghost use Rattle.bundle_link.specs.Programs.{AreModulesOf, HasTables, IsLinkerOf, is_call, numbers};
+ghost use Rattle.bundle_terms.specs.Nodes.{numbers_once};
 ghost use Rattle.bundle_link.specs.Resolved.{resolution_says};
 ghost use Rattle.bundle_link.specs.Read.{AreTablesOf};
 ghost use Rattle.bundle_link.specs.Refusals.{IsLinkRefusal, IsRefusalOfOne, IsTreeRefusal, files_of};
@@ -137,8 +140,11 @@ impl<'a> Linker<'a> {
         self.linked.is_common_js(id)
     }
 
-    /// Whether the object of a module's namespace is meant. It takes no memory.
+    /// Whether the object of a module's namespace is meant, where no module binds `default` by an import beside a
+    /// default that has no name. It takes no memory.
     pub fn should_be_wrapped_with_a_fn(&self, id: ModuleId) -> bool
+        ensures told { (p : Program) → IsLinkerOf p self.now → DeclaresDefaultOnce p →
+            TellsMeant p id result }
         ensures absent { contains nat_eq self.now.linked.ids id ≡ false → result ≡ false }
     {
         self.linked.is_object_meant(id)
@@ -147,9 +153,13 @@ impl<'a> Linker<'a> {
     /// Refuses modules that cannot be linked, by the first fault: a literal call of `require` that is of the entry,
     /// and one of an ECMAScript module; an `await` in a CommonJS module; a star of one; a name that is asked for and
     /// not given once; a namespace object whose names are not known; where the bundle is one function's call,
-    /// an external, and an `arguments` that nothing binds. Each is judged of all modules before the next.
+    /// an external, and an `arguments` that nothing binds. Each is judged of all modules before the next, and in a
+    /// module the first of a kind in the order of the source. Whose objects are meant is as
+    /// `should_be_wrapped_with_a_fn` tells.
     pub fn check(&self) -> Result<(), Error>
         ensures refused { IfErr result (IsLinkRefusal (files_of self.now.modules.items)) }
+        ensures told { (p : Program) → IsLinkerOf p self.now → DeclaresDefaultOnce p →
+            MatchResult result (λ done. IsChecked p None) (TellsLinkFault p) }
     {
         let Some(fault) = self.linked.fault() else {
             return Ok(());
@@ -162,11 +172,16 @@ impl<'a> Linker<'a> {
 }
 
 fn setting_of(config: &Config) -> Setting
-    ensures { result.require ≡ config.now.require }
+    ensures require { result.require ≡ config.now.require }
+    ensures iife { result.iife ≡ is_call config.now.«module» }
 {
+    let iife = match config.module {
+        ModuleType::Es => false,
+        ModuleType::Iife => true,
+    };
     Setting {
         require: config.require,
-        iife: config.module == ModuleType::Iife,
+        iife,
     }
 }
 
@@ -179,6 +194,7 @@ fn linked_modules<'a>(
 ) -> Result<LinkedModules<'a>, Error>
     ensures linked { IfOk result (λ linked. (p : Program) →
         AreModulesOf p modules.now config.now entry → IsLinkedOf p linked) }
+    ensures ids { IfOk result (λ linked. linked.ids.keys ≡ numbers_once (numbers modules.now)) }
     ensures refused { IfErr result (IsRefusalOfOne modules.now) }
 {
     let tables = tables_of_all(alloc, modules, config)?;

@@ -1,6 +1,7 @@
 -- The modules are linked as those of the program are.
 use Rattle.std.proofs.Common.{◌≡◌, List, length, ap, sym, ◌∙◌, subst}
 use Rattle.std.proofs.lemmas.Slice.Zip.{AllZip-long}
+use Rattle.bundle_terms.specs.Nodes.{numbers_once}
 use Rattle.bundle_linked.specs.Numbered as n
 use Rattle.bundle_linked.specs.declared.module.NumberedModule.{NumberedModule}
 use Rattle.bundle_link.specs.Programs.{HasTables}
@@ -17,5 +18,13 @@ returns-clause-linked c = λ p w.
     let numbered = c.in_ok-numbered.numbered.items in
     let require = c.setting_of.result.require in
     let long : length c.deref.result.now ≡ length modules = ap length c.deref.ensures.value ∙ AllZip-long (HasTables config) modules tables read in
-    let known = are_numbered p modules config entry w tables read numbered require (c.in_ok-numbered.ensures.ids long) (c.in_ok-numbered.ensures.deps long) (c.in_ok-numbered.ensures.tables long ∙ c.deref.ensures.value) c.setting_of.ensures in
-    c.in_ok-new.ensures p (subst (λ (ms : List NumberedModule). n.AreModulesOf p ms entry require) (sym c.deref-2.ensures.value) known)
+    let known = are_numbered p modules config entry w tables read numbered require (c.in_ok-numbered.ensures.ids long) (c.in_ok-numbered.ensures.deps long) (c.in_ok-numbered.ensures.tables long ∙ c.deref.ensures.value) c.setting_of.ensures.require in
+    c.in_ok-new.ensures.linked p (subst (λ (ms : List NumberedModule). n.AreModulesOf p ms entry require) (sym c.deref-2.ensures.value) known) (w.iife ∙ sym c.setting_of.ensures.iife)
+
+pub returns-clause-ids : goal.returns-clause-ids
+returns-clause-ids c =
+    let modules = c.args.modules.now in
+    let long : length c.deref.result.now ≡ length modules = ap length c.deref.ensures.value ∙ AllZip-long (HasTables c.args.config.now) modules c.in_ok-tables.tables.items c.in_ok-tables.ensures.given in
+    c.in_ok-new.ensures.ids
+    ∙ ap (λ (ms : List NumberedModule). numbers_once (n.numbers ms)) c.deref-2.ensures.value
+    ∙ ap numbers_once (c.in_ok-numbered.ensures.ids long)

@@ -16,6 +16,7 @@ returns-in-Ok-clause-given c =
     let calls = rw c.in-Ok.is at c.in_ok-answer.ensures.calls in
     let arguments = rw c.in-Ok.is at c.in_ok-answer.ensures.arguments in
     let common_js = rw c.in-Ok.is at c.in_ok-answer.ensures.common_js in
+    let uses = rw c.in-Ok.is at c.in_ok-answer.ensures.uses in
     record {
       faultless = judged;
       requests = λ settings links. requests settings links.0 (links.1 ∙ ap (map string_bytes) (sym c.deref.ensures.value)) c.in_ok-names.ensures;
@@ -30,6 +31,8 @@ returns-in-Ok-clause-given c =
       common_js = common_js c.in_ok-names.ensures;
       awaits = rw c.in-Ok.is at c.in_ok-answer.ensures.awaits;
       arguments = arguments c.in_ok-names.ensures;
+      names = rw c.in-Ok.is at c.in_ok-answer.ensures.asked;
+      uses = uses c.in_ok-names.ensures;
     }
 
 pub returns-clause-refused : goal.returns-clause-refused

@@ -1,8 +1,13 @@
-use Rattle.std.proofs.Common.{Contains, length, refl, subst}
+-- The fault that linking tells is told of the file of its module.
+use Rattle.std.proofs.Common.{List, Contains, Some, length, refl, sym, ap, ◌∙◌, subst, slice_get}
+use Rattle.std.specs.Prelude.{IfSome}
 use Rattle.std.proofs.lemmas.Option.{slice_get_read}
 use Rattle.bundle_name.specs.FileName.{name_of}
+use Rattle.bundle_terms.specs.Tables.{IsChecked}
+use Rattle.bundle_targets.proofs.FirstLemmas.{is_none}
 use Rattle.bundle_link.specs.Refusals.{files_of}
 use Rattle.bundle_link.specs.declared.transformed.TransformedModule.{TransformedModule}
+use Rattle.bundle_link.proofs.CheckLemmas.{are_modules, fault_checked, module_there, none_checked}
 use Rattle.bundle_link.proofs.FileLemmas.{at_place}
 use Rattle.bundle_link.proofs.link.Linker.check.Goals as goal
 
@@ -14,5 +19,13 @@ returns-in_ok-link_refusal-in-Some-get c =
     let among = at_place (λ (m : TransformedModule). name_of m.file_name) all c.in-Some.fault.module one there in
     record {
       refused =
-          c.in_ok-link_refusal-in-Some-get.ensures (files_of c.args.self.now.modules.items) (subst (λ l. Contains (files_of l) (name_of one.file_name)) c.deref.ensures.value among);
+          c.in_ok-link_refusal-in-Some-get.ensures.named (files_of c.args.self.now.modules.items) (subst (λ l. Contains (files_of l) (name_of one.file_name)) c.deref.ensures.value among);
+      told = λ p w once.
+          subst (λ o. IfSome o (λ fault. IsChecked p (Some fault))) (sym c.in_ok-link_refusal-in-Some-get.ensures.told)
+          (fault_checked p c.args.self.now w c.fault.result c.in-Some.fault c.in-Some.is (c.fault.ensures p w.linked (are_modules p c.args.self.now w once)) one
+          (ap (λ (l : List TransformedModule). slice_get l c.in-Some.fault.module) (sym c.deref.ensures.value) ∙ there));
     }
+
+pub returns-in_default-clause-told : goal.returns-in_default-clause-told
+returns-in_default-clause-told c = λ p w once.
+    none_checked p c.args.self.now w c.fault.result (is_none c.fault.result c.in_default.not-Some) (c.fault.ensures p w.linked (are_modules p c.args.self.now w once))

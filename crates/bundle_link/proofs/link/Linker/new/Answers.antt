@@ -1,7 +1,9 @@
 -- The modules are linked as those of the program are; where memory runs out nothing is made.
-use Rattle.std.proofs.Common.{List, inl, refl, sym, subst}
+use Rattle.std.proofs.Common.{List, inl, refl, sym, ap, ◌∙◌, subst}
 use Rattle.std.proofs.lemmas.Result.{IfOk-from_err, err_from_is_err_and}
-use Rattle.bundle_link.specs.Programs.{AreModulesOf}
+use Rattle.bundle_terms.specs.Nodes.{numbers_once}
+use Rattle.bundle_link.specs.Programs.{AreModulesOf, numbers}
+use Rattle.bundle_link.proofs.CheckLemmas.{files_at, trees_of}
 use Rattle.bundle_link.specs.declared.transformed.TransformedModule.{TransformedModule}
 use Rattle.bundle_link.proofs.link.Linker.new.Goals as goal
 
@@ -21,4 +23,8 @@ returns-in_err-config-clause-refused c =
 
 pub returns-clause-linked : goal.returns-clause-linked
 returns-clause-linked c = λ p w.
-    c.in_ok-linked.ensures.linked p (subst (λ (ms : List TransformedModule). AreModulesOf p ms c.args.config.now c.args.entry) (sym c.deref.ensures.value) w)
+    record {
+      linked = c.in_ok-linked.ensures.linked p (subst (λ (ms : List TransformedModule). AreModulesOf p ms c.args.config.now c.args.entry) (sym c.deref.ensures.value) w);
+      trees = trees_of p c.args.modules.items c.args.config.now c.args.entry w;
+      files = files_at p c.args.modules.items c.args.config.now c.args.entry c.in_ok-linked.linked.ids.keys w (c.in_ok-linked.ensures.ids ∙ ap (λ (ms : List TransformedModule). numbers_once (numbers ms)) c.deref.ensures.value);
+    }

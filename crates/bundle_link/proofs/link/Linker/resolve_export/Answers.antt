@@ -8,5 +8,5 @@ use Rattle.bundle_link.proofs.link.Linker.resolve_export.Goals as goal
 pub returns-clause-found : goal.returns-clause-found
 returns-clause-found c =
     IfOk-weaker c.resolution_of.result _ _
-    (λ resolution says p w. subst (λ (told : r.Resolution). IsResolution p c.args.id c.args.name.now told) (sym says) (c.in_ok-found.ensures.found p w))
+    (λ resolution says p w. subst (λ (told : r.Resolution). IsResolution p c.args.id c.args.name.now told) (sym says) (c.in_ok-found.ensures.found p w.linked))
     c.resolution_of.ensures
