@@ -2,4 +2,5 @@ mod FileLemmas
 mod ItemLemmas
 mod OnceLemmas
 mod ProgramLemmas
+pub mod ClearedTables
 mod CheckLemmas

@@ -33,7 +33,7 @@ use Rattle.bundle_link.specs.declared.transformed.TransformedModule.{Transformed
 use Rattle.bundle_link.proofs.OnceLemmas.{each_once_of}
 
 -- what is read of the tree of a module is its table in the program
-table_of : (p : Program) (m : ℕ) (config : Config) (file : Name) (tree : List Item) (tables : Tables) → Links config p.settings → tree ≡ tree_of p m → AreTablesOf config file tree tables → IsTableOf p m tables
+pub table_of : (p : Program) (m : ℕ) (config : Config) (file : Name) (tree : List Item) (tables : Tables) → Links config p.settings → tree ≡ tree_of p m → AreTablesOf config file tree tables → IsTableOf p m tables
 table_of p m config file tree tables links is read = record {
   named = read.exports ∙ ap (λ (t : List Item). filter (λ entry. not (is_star entry)) (exports_of t)) is;
   stars = read.stars ∙ ap (λ (t : List Item). each_once (flat_map star_of (exports_of t))) is;

@@ -171,7 +171,8 @@ impl<'a> Linker<'a> {
     }
 }
 
-fn setting_of(config: &Config) -> Setting
+/// How modules are linked, by a configuration.
+pub fn setting_of(config: &Config) -> Setting
     ensures require { result.require ≡ config.now.require }
     ensures iife { result.iife ≡ is_call config.now.«module» }
 {

@@ -1,9 +1,7 @@
 -- Two programs that are one but for the numbers of their modules link alike.
-use Rattle.std.proofs.Common.{◌≡◌, ◌⊎◌, inl, inr, ℕ, zero, suc, Bool, true, false, not, List, [], ◌∷◌, ◌++◌, Option, Some, None, Contains, refl, sym, ap, ap₂, ◌∙◌, subst, if◌then◌else◌, cond, nat_eq, eqb-true, arith}
-use Rattle.std.specs.Prelude.{IsTrue, codes, filter, filter_map, map}
-use Rattle.std.specs.List.{cons_option}
-use Rattle.std.proofs.lemmas.Bool.{false≢true}
-use Rattle.std.proofs.lemmas.Option.{none-some, same_Some}
+use Rattle.std.proofs.Common.{◌≡◌, ◌⊎◌, inl, inr, ℕ, Bool, true, false, not, List, [], ◌∷◌, ◌++◌, Option, Some, None, Contains, refl, sym, ap, ap₂, ◌∙◌, subst, if◌then◌else◌, nat_eq, eqb-true, arith}
+use Rattle.std.specs.Prelude.{IsTrue, codes, filter, map}
+use Rattle.std.proofs.lemmas.Option.{none-some}
 use Rattle.bundle_piece.specs.Item.{Item}
 use Rattle.bundle_graph.specs.Walks.{Reaches, itself, along}
 use Rattle.bundle_terms.specs.Nodes.{Text, has_text, each_once, numbers_once}
@@ -11,60 +9,15 @@ use Rattle.bundle_terms.specs.Bound.{is_free, has_free}
 use Rattle.bundle_terms.specs.Entries.{Taken, Named, ImportEntry, ExportEntry, Local, Indirect, Star, RequireCall, declared_requests, require_calls, requests_of, import_of, is_script, imports_of, exports_of, has_own_entry}
 use Rattle.bundle_terms.specs.Program.{Program, tree_of, resolves, is_external, calls_of, Requests, IsReached}
 use Rattle.bundle_terms.specs.Faults.{StarsExternal}
+use Rattle.bundle_terms.specs.Judging.{requests_in}
 use Rattle.bundle_terms.specs.Linking.{exports, imports, IsRequired, IsCommonJs, Target, Declared, Namespace, External, CommonJs, IsModule, Takes, of_external, of_common_js, of_module, Origin, Gives, declaration, namespace_import, taken, given_on, starred, Linked, IsMissing, HasExternalStar, own, through}
 use Rattle.bundle_linked.specs.Alike.{IsAlike}
 use Rattle.bundle_terms.specs.Tables.{AreTwo}
+use Rattle.bundle_index.proofs.AskedLemmas.{entry_asks, star_asks}
+use Rattle.bundle_linked.proofs.AskedLemmas.{declared_requested, called_requested, resolved_inside, bound_asks}
+pub use Rattle.bundle_linked.proofs.ElementLemmas.{later, first_or_later, filter_back, filter_on, some_back, some_on}
 
--- ---- elements of lists
-pub later : {A : Type 0} (a : A) (xs : List A) (x : A) → Contains xs x → Contains (a ∷ xs) x
-later a xs x there = (suc there.0, omega (arith, there.1), there.2)
-
-pub first_or_later : {A : Type 0} (a : A) (xs : List A) (x : A) → Contains (a ∷ xs) x → (a ≡ x) ⊎ Contains xs x
-first_or_later a xs x (zero, h, e) = inl e
-first_or_later a xs x (suc i, h, e) = inr (i, omega arith, e)
-
-pub filter_back : {A : Type 0} (test : A → Bool) (xs : List A) (x : A) → Contains (filter test xs) x → Contains xs x
-filter_back test [] x (i, h, e) = absurd (omega arith)
-filter_back {A = A} test (a ∷ xs) x there = by (test a) there (filter_back test xs x)
-  where
-    by : (b : Bool) → Contains (cond b (a ∷ filter test xs) (filter test xs)) x → (Contains (filter test xs) x → Contains xs x) → Contains (a ∷ xs) x
-    by true there ih = elim (first_or_later a (filter test xs) x there) [
-      | inl e ↦ (0, omega arith, e)
-      | inr rest ↦ later a xs x (ih rest)
-    ]
-    by false there ih = later a xs x (ih there)
-
-pub filter_on : {A : Type 0} (test : A → Bool) (xs : List A) (x : A) → Contains xs x → test x ≡ true → Contains (filter test xs) x
-filter_on test [] x (i, h, e) is = absurd (omega arith)
-filter_on {A = A} test (a ∷ xs) x there is = by (test a) refl (first_or_later a xs x there) (λ rest. filter_on test xs x rest is)
-  where
-    by : (b : Bool) → test a ≡ b → (a ≡ x) ⊎ Contains xs x → (Contains xs x → Contains (filter test xs) x) → Contains (cond b (a ∷ filter test xs) (filter test xs)) x
-    by true at (inl e) ih = (0, omega arith, e)
-    by true at (inr rest) ih = later a (filter test xs) x (ih rest)
-    by false at (inl e) ih = absurd (false≢true (sym at ∙ ap test e ∙ is))
-    by false at (inr rest) ih = ih rest
-
-pub some_back : {A B : Type 0} (h : A → Option B) (xs : List A) (y : B) → Contains (filter_map h xs) y → (x : A) × Contains xs x × (h x ≡ Some y)
-some_back h [] y (i, l, e) = absurd (omega arith)
-some_back {A = A} {B = B} h (a ∷ xs) y there = by (h a) refl there (some_back h xs y)
-  where
-    by : (o : Option B) → h a ≡ o → Contains (cons_option o (filter_map h xs)) y → (Contains (filter_map h xs) y → (x : A) × Contains xs x × (h x ≡ Some y)) → (x : A) × Contains (a ∷ xs) x × (h x ≡ Some y)
-    by None is there ih = let r = ih there in (r.0, later a xs r.0 r.1, r.2)
-    by (Some b) is there ih = elim (first_or_later b (filter_map h xs) y there) [
-      | inl e ↦ (a, (0, omega arith, refl), is ∙ ap (λ z. Some z) e)
-      | inr rest ↦ let r = ih rest in (r.0, later a xs r.0 r.1, r.2)
-    ]
-
-pub some_on : {A B : Type 0} (h : A → Option B) (xs : List A) (x : A) (y : B) → Contains xs x → h x ≡ Some y → Contains (filter_map h xs) y
-some_on h [] x y (i, l, e) is = absurd (omega arith)
-some_on {A = A} {B = B} h (a ∷ xs) x y there is = by (h a) refl (first_or_later a xs x there) (λ rest. some_on h xs x y rest is)
-  where
-    by : (o : Option B) → h a ≡ o → (a ≡ x) ⊎ Contains xs x → (Contains xs x → Contains (filter_map h xs) y) → Contains (cons_option o (filter_map h xs)) y
-    by None at (inl e) ih = absurd (none-some y (sym at ∙ ap h e ∙ is))
-    by None at (inr rest) ih = ih rest
-    by (Some b) at (inl e) ih = (0, omega arith, same_Some b y (sym at ∙ ap h e ∙ is))
-    by (Some b) at (inr rest) ih = later b (filter_map h xs) y (ih rest)
-
+-- ---- numbers, each once
 pub once_back : (ns : List ℕ) (n : ℕ) → Contains (numbers_once ns) n → Contains ns n
 once_back [] n (i, h, e) = absurd (omega arith)
 once_back (m ∷ ns) n there = elim (first_or_later m (filter (λ k. not (nat_eq m k)) (numbers_once ns)) n there) [
@@ -82,8 +35,16 @@ once_on (m ∷ ns) n there = by (nat_eq m n) refl (first_or_later m ns n there) 
     by false is (inr rest) ih = later m (filter (λ k. not (nat_eq m k)) (numbers_once ns)) n (filter_on (λ k. not (nat_eq m k)) (numbers_once ns) n (ih rest) (ap not is))
 
 -- ---- one program with two numberings
+abbrev asks : Bool → List Text → List Item → List Text
+asks require external tree = each_once (filter (λ s. not (has_text s external)) (declared_requests tree)
+    ++ map (λ call. call.specifier) (if require then filter (λ call. not (has_text call.specifier external)) (require_calls (is_free tree) tree) else []))
+
+-- modules that stand for each other request the same
+pub same_asked : (p q : Program) (R : ℕ → ℕ → Type 0) (w : IsAlike p q R) (a b : ℕ) → R a b → requests_in p.settings (tree_of p a) ≡ requests_in q.settings (tree_of q b)
+same_asked p q R w a b r = ap (λ x. asks x p.settings.external (tree_of p a)) w.require ∙ ap (λ x. asks q.settings.require x (tree_of p a)) w.external ∙ ap (asks q.settings.require q.settings.external) (w.tree a b r)
+
 pub flip : {p q : Program} {R : ℕ → ℕ → Type 0} → IsAlike p q R → IsAlike q p (λ a b. R b a)
-flip w = record {
+flip {p = p} {q = q} {R = R} w = record {
   one = λ a b c h k. w.other a b c h k;
   other = λ a b c h k. w.one a b c h k;
   require = sym w.require;
@@ -91,13 +52,12 @@ flip w = record {
   iife = sym w.iife;
   entry = w.entry;
   tree = λ a b r. sym (w.tree b a r);
-  leads = λ a b c s r e. w.back b a c s r e;
-  back = λ a b d s r e. w.leads b a d s r e;
+  leads = λ a b c s r asked e. w.back b a c s r (asked_back b a s r asked) e;
+  back = λ a b d s r asked e. w.leads b a d s r (asked_back b a s r asked) e;
 }
-
-abbrev asks : Bool → List Text → List Item → List Text
-asks require external tree = each_once (filter (λ s. not (has_text s external)) (declared_requests tree)
-    ++ map (λ call. call.specifier) (if require then filter (λ call. not (has_text call.specifier external)) (require_calls (is_free tree) tree) else []))
+  where
+    asked_back : (a b : ℕ) (s : Text) → R a b → Contains (requests_in q.settings (tree_of q b)) s → Contains (requests_in p.settings (tree_of p a)) s
+    asked_back a b s r = subst (λ texts. Contains texts s) (sym (same_asked p q R w a b r))
 
 -- a tree uses a name that CommonJS gives it
 abbrev Uses : List Item → Type 0
@@ -110,24 +70,30 @@ module _ (p q : Program) (R : ℕ → ℕ → Type 0) (w : IsAlike p q R) where
   pub same_outside : (s : Text) → is_external p s ≡ is_external q s
   same_outside s = ap (has_text s) w.external
 
-  pub resolves_on : (a b c : ℕ) (s : Text) → R a b → resolves p a s ≡ Some c → (d : ℕ) × R c d × (resolves q b s ≡ Some d)
-  resolves_on a b c s r e = by (is_external p s) refl e
+  -- where a request leads
+  pub resolves_on : (a b c : ℕ) (s : Text) → R a b → Contains (requests_in p.settings (tree_of p a)) s → resolves p a s ≡ Some c → (d : ℕ) × R c d × (resolves q b s ≡ Some d)
+  resolves_on a b c s r asked e = by (is_external p s) refl e
     where
       by : (t : Bool) → is_external p s ≡ t → (if t then None else p.leads a s) ≡ Some c → (d : ℕ) × R c d × (resolves q b s ≡ Some d)
       by true is e = absurd (none-some c e)
-      by false is e = let l = w.leads a b c s r e in (l.0, l.1, ap (λ t. if t then None else q.leads b s) (sym (same_outside s) ∙ is) ∙ l.2)
+      by false is e = let l = w.leads a b c s r asked e in (l.0, l.1, ap (λ t. if t then None else q.leads b s) (sym (same_outside s) ∙ is) ∙ l.2)
+
+  -- where what a declaration asks for leads
+  pub declared_on : (a b c : ℕ) (s : Text) → R a b → Contains (declared_requests (tree_of p a)) s → resolves p a s ≡ Some c → (d : ℕ) × R c d × (resolves q b s ≡ Some d)
+  declared_on a b c s r asked e = resolves_on a b c s r (declared_requested p.settings (tree_of p a) s asked (resolved_inside p a c s e)) e
+
+  -- where a linked call leads
+  pub called_on : (a b c : ℕ) (call : RequireCall) → R a b → Contains (calls_of p a) call → resolves p a call.specifier ≡ Some c → (d : ℕ) × R c d × (resolves q b call.specifier ≡ Some d)
+  called_on a b c call r stands e = resolves_on a b c call.specifier r (called_requested p a call stands) e
 
   pub same_calls : (a b : ℕ) → R a b → calls_of p a ≡ calls_of q b
   same_calls a b r = ap (λ x. calls x p.settings.external (tree_of p a)) w.require ∙ ap (λ x. calls q.settings.require x (tree_of p a)) w.external ∙ ap (calls q.settings.require q.settings.external) (w.tree a b r)
 
-  same_asked : (a b : ℕ) → R a b → requests_of p.settings (is_free (tree_of p a)) (tree_of p a) ≡ requests_of q.settings (is_free (tree_of q b)) (tree_of q b)
-  same_asked a b r = ap (λ x. asks x p.settings.external (tree_of p a)) w.require ∙ ap (λ x. asks q.settings.require x (tree_of p a)) w.external ∙ ap (asks q.settings.require q.settings.external) (w.tree a b r)
-
   requests_on : (a b c : ℕ) → R a b → Requests p a c → (d : ℕ) × R c d × Requests q b d
   requests_on a b c r there =
       let k = some_back (resolves p a) (requests_of p.settings (is_free (tree_of p a)) (tree_of p a)) c (once_back _ c there) in
-      let l = resolves_on a b c k.0 r k.2 in
-      (l.0, l.1, once_on _ l.0 (some_on (resolves q b) (requests_of q.settings (is_free (tree_of q b)) (tree_of q b)) k.0 l.0 (subst (λ texts. Contains texts k.0) (same_asked a b r) k.1) l.2))
+      let l = resolves_on a b c k.0 r k.1 k.2 in
+      (l.0, l.1, once_on _ l.0 (some_on (resolves q b) (requests_of q.settings (is_free (tree_of q b)) (tree_of q b)) k.0 l.0 (subst (λ texts. Contains texts k.0) (same_asked p q R w a b r) k.1) l.2))
 
   reaches_on : (a c : ℕ) → Reaches (Requests p) a c → (b : ℕ) → R a b → (d : ℕ) × R c d × Reaches (Requests q) b d
   reaches_on a c (itself) b r = (b, r, itself)
@@ -142,7 +108,7 @@ module _ (p q : Program) (R : ℕ → ℕ → Type 0) (w : IsAlike p q R) where
   required_on : (a b : ℕ) → R a b → IsRequired p a → IsRequired q b
   required_on a b r (n, reached, requires) =
       let k = reached_on n reached in
-      let l = resolves_on n k.0 a requires.call.specifier k.1 requires.resolved in
+      let l = called_on n k.0 a requires.call k.1 requires.stands requires.resolved in
       (k.0, k.2, record { call = requires.call; stands = subst (λ l. Contains l requires.call) (same_calls n k.0 k.1) requires.stands; resolved = l.2 ∙ ap (λ d. Some d) (w.one a l.0 b l.1 r) })
 
   pub common_js_on : (a b : ℕ) → R a b → IsCommonJs p a → IsCommonJs q b
@@ -210,42 +176,43 @@ module _ (p q : Program) (R : ℕ → ℕ → Type 0) (w : IsAlike p q R) where
   pub binds_on : (a b : ℕ) (y : Text) (o : Option ImportEntry) → R a b → import_of (imports p a) y ≡ o → import_of (imports q b) y ≡ o
   binds_on a b y o r = subst (λ tree. import_of (imports_of tree) y ≡ o) (w.tree a b r)
 
-  pub module_on : (a b d : ℕ) (s : Text) → R a b → IsModule p a s d → (k : ℕ) × R d k × IsModule q b s k
-  module_on a b d s r is =
-      let l = resolves_on p q R w a b d s r is.resolved in
+  -- what a declaration asks for
+  pub module_on : (a b d : ℕ) (s : Text) → R a b → Contains (declared_requests (tree_of p a)) s → IsModule p a s d → (k : ℕ) × R d k × IsModule q b s k
+  module_on a b d s r asked is =
+      let l = declared_on p q R w a b d s r asked is.resolved in
       (l.0, l.1, record { resolved = l.2; es = λ common. is.es (common_js_on q p (λ a b. R b a) (flip w) l.0 d l.1 common) })
 
-  pub takes_on : {a : ℕ} {s : Text} {what : Taken} {t : Target} → Takes p a s what t → (b : ℕ) → R a b → (u : Target) × AlikeTarget R t u × Takes q b s what u
-  takes_on {s = s} {what = what} (of_external e) b r = (External s what, external, of_external (sym (same_outside p q R w s) ∙ e))
-  takes_on {a = a} {s = s} {what = what} (of_common_js {c = c} is common) b r =
-      let l = resolves_on p q R w a b c s r is in
+  pub takes_on : {a : ℕ} {s : Text} {what : Taken} {t : Target} → Takes p a s what t → (b : ℕ) → R a b → Contains (declared_requests (tree_of p a)) s → (u : Target) × AlikeTarget R t u × Takes q b s what u
+  takes_on {s = s} {what = what} (of_external e) b r asked = (External s what, external, of_external (sym (same_outside p q R w s) ∙ e))
+  takes_on {a = a} {s = s} {what = what} (of_common_js {c = c} is common) b r asked =
+      let l = declared_on p q R w a b c s r asked is in
       (CommonJs b l.0 what, common_js r l.1, of_common_js l.2 (common_js_on p q R w c l.0 l.1 common))
-  takes_on {a = a} {s = s} (of_module {d = d} is) b r =
-      let l = module_on a b d s r is in
+  takes_on {a = a} {s = s} (of_module {d = d} is) b r asked =
+      let l = module_on a b d s r asked is in
       (Namespace l.0, namespace l.1, of_module l.2)
 
   pub gives_on : {a : ℕ} {x : Text} {t : Target} {origin : Option Origin} → Gives p a x t origin → (b : ℕ) → R a b → AlikeGives q R b x t origin
   gives_on {a = a} {x = x} (declaration {y = y} stands none) b r =
       record { target = Declared b y; its = None; alike = declared r; from = tt; given = declaration (exports_on a b (Local x y) r stands) (binds_on a b y None r none) }
   gives_on {a = a} {x = x} (namespace_import {y = y} entry stands bound takes) b r =
-      let k = takes_on takes b r in
+      let k = takes_on takes b r (bound_asks (tree_of p a) y entry bound) in
       record { target = k.0; its = Some (record { «module» = b; local = y }); alike = k.1; from = (r, refl); given = namespace_import entry (exports_on a b (Local x y) r stands) (binds_on a b y (Some entry) r bound) k.2 }
   gives_on {a = a} {x = x} (taken {s = s} {what = what} stands takes) b r =
-      let k = takes_on takes b r in
+      let k = takes_on takes b r (entry_asks (tree_of p a) x s what stands) in
       record { target = k.0; its = None; alike = k.1; from = tt; given = taken (exports_on a b (Indirect x s what) r stands) k.2 }
   gives_on {a = a} {x = x} (given_on {d = d} {s = s} {y = y} stands leads more) b r =
-      let l = module_on a b d s r leads in
+      let l = module_on a b d s r (entry_asks (tree_of p a) x s (Named y) stands) leads in
       let k = gives_on more l.0 l.1 in
       record { target = k.target; its = k.its; alike = k.alike; from = k.from; given = given_on (exports_on a b (Indirect x s (Named y)) r stands) l.2 k.given }
   gives_on {a = a} {x = x} (starred {d = d} {s = s} none named stands leads more) b r =
-      let l = module_on a b d s r leads in
+      let l = module_on a b d s r (star_asks (tree_of p a) s stands) leads in
       let k = gives_on more l.0 l.1 in
       record { target = k.target; its = k.its; alike = k.alike; from = k.from; given = starred (subst (λ tree. has_own_entry tree x ≡ false) (w.tree a b r) none) named (exports_on a b (Star s) r stands) l.2 k.given }
 
   outside_on : {a : ℕ} {s : Text} → HasExternalStar p a s → (b : ℕ) → R a b → HasExternalStar q b s
   outside_on {a = a} {s = s} (own stands e) b r = own (exports_on a b (Star s) r stands) (sym (same_outside p q R w s) ∙ e)
   outside_on {a = a} (through {d = d} {r = t} stands leads more) b r =
-      let l = resolves_on p q R w a b d t r leads in
+      let l = declared_on p q R w a b d t r (star_asks (tree_of p a) t stands) leads in
       through (exports_on a b (Star t) r stands) l.2 (outside_on more l.0 l.1)
 
   pub stars_on : (a b : ℕ) → R a b → StarsExternal p a → StarsExternal q b

@@ -1,3 +1,5 @@
+pub mod ElementLemmas
+pub mod AskedLemmas
 pub mod AlikeLemmas
 pub mod NumberLemmas
 pub mod LeadLemmas
@@ -7,7 +9,9 @@ pub mod GraphLemmas
 pub mod ProgramLemmas
 pub mod ResolvedLemmas
 pub mod ZipLemmas
-pub mod TakenLemmas
+pub mod MeantLemmas
 pub mod ObjectLemmas
 pub mod FaultLemmas
 pub mod ToldLemmas
+pub mod JudgedLemmas
+pub mod FirstLemmas

@@ -5,17 +5,14 @@ use Rattle.std.proofs.lemmas.Bool.{false≢true}
 use Rattle.std.proofs.lemmas.Option.{none-some}
 use Rattle.bundle_piece.specs.Item.{Item}
 use Rattle.bundle_terms.specs.Program.{Program, tree_of}
-use Rattle.bundle_terms.specs.Linking.{Namespace}
-use Rattle.bundle_terms.specs.Meaning.{Of, IsMeant}
 use Rattle.bundle_terms.specs.Entries.{imports_of, import_of}
 use Rattle.bundle_terms.specs.Statements.{Element, written, own_statements, default_name}
 use Rattle.bundle_terms.specs.Tables.{TellsMeant}
-use Rattle.bundle_targets.specs.Meant.{IsTaken, IsModuleTree, AreModules}
-use Rattle.bundle_targets.proofs.MeantLemmas.{taken-meant, meant-taken}
+use Rattle.bundle_targets.specs.Meant.{IsModuleTree, AreModules}
 use Rattle.bundle_linked.specs.Alike.{IsAlike, IsAt}
 use Rattle.bundle_linked.proofs.AlikeLemmas.{flip}
+use Rattle.bundle_linked.proofs.MeantLemmas.{namespace_meant, namespace_there}
 use Rattle.bundle_linked.proofs.NumberLemmas.{held}
-use Rattle.bundle_linked.proofs.TakenLemmas.{namespace-taken, namespace-taken-on}
 
 -- in a tree of nothing no name occurs
 pub none-module : IsModuleTree []
@@ -30,14 +27,17 @@ none-module = record {
 abbrev IsUnbound : List Item → Type 0
 IsUnbound tree = (statement : List Element) (e : Item) → Contains (own_statements tree) statement → Contains statement (written e) → import_of (imports_of tree) default_name ≡ None
 
-module _ (p q : Program) (ids : List ℕ) (w : IsAlike p q (IsAt ids)) (are : AreModules p) where
-  meant-object : (m : ℕ) → IsMeant p (Of (Namespace m)) → IsTaken p (Namespace m)
-  meant-object m is = meant-taken p are is (Namespace m) refl tt
-
+module _ (p q : Program) (ids : List ℕ) (w : IsAlike p q (IsAt ids)) where
   pub none_object : (m : ℕ) → (Contains ids m → ⊥) → TellsMeant p m false
-  none_object m none = (λ is. absurd (false≢true is), λ is. absurd (let k = namespace-taken p q (IsAt ids) w m (meant-object m is) in none (held ids m k.0 k.1)))
+  none_object m none = (λ is. absurd (false≢true is), λ is. absurd (let k = namespace_there p q (IsAt ids) w m is in none (held ids m k.0 k.1)))
 
-  module _ (bare : (i : ℕ) → slice_get ids i ≡ None → tree_of q i ≡ []) where
+  pub object_on : (m place : ℕ) (answer : Bool) → IsAt ids m place → TellsMeant q place answer → TellsMeant p m answer
+  object_on m place answer at tells = (
+    λ is. namespace_meant q p (λ a b. IsAt ids b a) (flip w) place m at (tells.0 is),
+    λ is. tells.1 (namespace_meant p q (IsAt ids) w m place at is),
+  )
+
+  module _ (are : AreModules p) (bare : (i : ℕ) → slice_get ids i ≡ None → tree_of q i ≡ []) where
     -- what holds of each tree holds of each by places
     trees_on : (Holds : List Item → Type 0) → Holds [] → ((m : ℕ) → Holds (tree_of p m)) → (i : ℕ) → Holds (tree_of q i)
     trees_on Holds none all i = by (slice_get ids i) refl
@@ -51,15 +51,3 @@ module _ (p q : Program) (ids : List ℕ) (w : IsAlike p q (IsAt ids)) (are : Ar
       trees = trees_on IsModuleTree none-module are.trees;
       once = record { unbound = trees_on IsUnbound (λ statement e own there. refl) are.once.unbound };
     }
-
-    pub meant_on : (m place : ℕ) → IsAt ids m place → IsMeant p (Of (Namespace m)) → IsMeant q (Of (Namespace place))
-    meant_on m place at is = taken-meant q modules_on (namespace-taken-on p q (IsAt ids) w m place at (meant-object m is))
-
-    pub meant_back : (place m : ℕ) → IsAt ids m place → IsMeant q (Of (Namespace place)) → IsMeant p (Of (Namespace m))
-    meant_back place m at is = taken-meant p are (namespace-taken-on q p (λ a b. IsAt ids b a) (flip w) place m at (meant-taken q modules_on is (Namespace place) refl tt))
-
-    pub object_on : (m place : ℕ) (answer : Bool) → IsAt ids m place → TellsMeant q place answer → TellsMeant p m answer
-    object_on m place answer at tells = (
-      λ is. meant_back place m at (tells.0 is),
-      λ is. tells.1 (meant_on m place at is),
-    )

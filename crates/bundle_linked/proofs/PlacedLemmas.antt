@@ -4,12 +4,13 @@ use Rattle.std.specs.Prelude.{slice_get, option_map, unwrap_or}
 use Rattle.std.specs.Option.{option_and_then}
 use Rattle.std.proofs.lemmas.Option.{none-some, same_Some}
 use Rattle.bundle_terms.specs.Nodes.{Text}
+use Rattle.bundle_terms.specs.Judging.{requests_in}
 use Rattle.bundle_terms.specs.Program.{Program, tree_of, IsReached}
 use Rattle.bundle_linked.specs.Alike.{IsAlike, IsAt}
 use Rattle.bundle_linked.specs.Leads.{place_in}
 use Rattle.bundle_index.specs.Numbered.{IsOnce}
 use Rattle.bundle_linked.proofs.AlikeLemmas.{flip, reached_on, some_back, some_on}
-use Rattle.bundle_linked.proofs.NumberLemmas.{at-place, place-there, place-of}
+use Rattle.bundle_linked.proofs.NumberLemmas.{at-place, held, place-there, place-of}
 
 -- the program, where its modules stand at the places of these numbers
 abbrev pub placed : Program → List ℕ → (ℕ → Text → Option ℕ) → ℕ → Program
@@ -26,8 +27,8 @@ placed p ids leads entry = record {
 pub record IsPlaced (p : Program) (ids : List ℕ) (leads : ℕ → Text → Option ℕ) (entry : ℕ) : Type 0 where
   pub once : IsOnce ids
   pub begins : slice_get ids entry ≡ Some p.entry
-  pub there : (m d : ℕ) (s : Text) → p.leads m s ≡ Some d → Contains ids d
-  pub leads_on : (i m : ℕ) (s : Text) → slice_get ids i ≡ Some m → leads i s ≡ option_and_then (place_in ids) (p.leads m s)
+  pub there : (m d : ℕ) (s : Text) → Contains ids m → Contains (requests_in p.settings (tree_of p m)) s → p.leads m s ≡ Some d → Contains ids d
+  pub leads_on : (i m : ℕ) (s : Text) → slice_get ids i ≡ Some m → Contains (requests_in p.settings (tree_of p m)) s → leads i s ≡ option_and_then (place_in ids) (p.leads m s)
 
 module _ (p : Program) (ids : List ℕ) (leads : ℕ → Text → Option ℕ) (entry : ℕ) (w : IsPlaced p ids leads entry) where
   pub same_tree : (m i : ℕ) → slice_get ids i ≡ Some m → tree_of p m ≡ tree_of (placed p ids leads entry) i
@@ -46,8 +47,8 @@ module _ (p : Program) (ids : List ℕ) (leads : ℕ → Text → Option ℕ) (e
     iife = refl;
     entry = w.begins;
     tree = same_tree;
-    leads = λ m i n s at e. let k = place-there ids n (w.there m n s e) in (k.0, at-place ids n k.0 k.1, w.leads_on i m s at ∙ ap (option_and_then (place_in ids)) e ∙ k.1);
-    back = λ m i d s at e. lead_back (p.leads m s) d (sym (w.leads_on i m s at) ∙ e);
+    leads = λ m i n s at asked e. let k = place-there ids n (w.there m n s (held ids m i at) asked e) in (k.0, at-place ids n k.0 k.1, w.leads_on i m s at asked ∙ ap (option_and_then (place_in ids)) e ∙ k.1);
+    back = λ m i d s at asked e. lead_back (p.leads m s) d (sym (w.leads_on i m s at asked) ∙ e);
   }
 
   pub placed_reached : (list : List ℕ) → ((n : ℕ) → Contains list n ↔ IsReached p n) → (n : ℕ) → Contains (filter_map (place_in ids) list) n ↔ IsReached (placed p ids leads entry) n

@@ -64,7 +64,7 @@ there_is : (ns : List ℕ) (i : ℕ) → i < length ns → (n : ℕ) × (slice_g
 there_is ns i within = (get_or ns i 0, slice_get-get_or ns i 0 within)
 
 -- ---- what a tree alone says
-table_at : (p q : Program) (m n : ℕ) (tables : Tables) → p.settings ≡ q.settings → tree_of p m ≡ tree_of q n → IsTableOf p m tables → IsTableOf q n tables
+pub table_at : (p q : Program) (m n : ℕ) (tables : Tables) → p.settings ≡ q.settings → tree_of p m ≡ tree_of q n → IsTableOf p m tables → IsTableOf q n tables
 table_at p q m n tables settings tree is = record {
   named = is.named ∙ ap (λ (t : List Item). filter (λ entry. not (is_star entry)) (exports_of t)) tree;
   stars = is.stars ∙ ap (λ (t : List Item). each_once (flat_map star_of (exports_of t))) tree;
@@ -133,18 +133,22 @@ module _ (p : Program) (modules : List NumberedModule) (entry : ℕ) (require : 
   led_there : (m d : ℕ) (s : Text) → p.leads m s ≡ Some d → Contains ids d
   led_there m d s e = ids_hold d (w.there m d s e)
 
+  -- where the texts of a module lead by places
+  leads_placed : (i m : ℕ) (s : Text) → slice_get ids i ≡ Some m → required_of linked i s ≡ option_and_then (place_in ids) (p.leads m s)
+  leads_placed i m s at =
+      let st = stands i m at in
+      let each = w.each i st.its st.at in
+      ap (λ o. leads_from o s) st.linked_at
+      ∙ st.leads s
+      ∙ told-led (place_in ids) st.its.deps.now s (λ c e. place-there ids c (led_there st.its.id c s (each.leads s ∙ e)))
+      ∙ ap (option_and_then (place_in ids)) (sym (each.leads s) ∙ ap (λ n. p.leads n s) st.number)
+
   pub is_placed : IsPlaced p ids (required_of linked) at_entry
   is_placed = record {
     once = ids_once;
     begins = let k = place-there ids entry (ids_hold entry w.entry_there) in ap (λ o. slice_get ids (unwrap_or o (length ids))) k.1 ∙ at-place ids entry k.0 k.1 ∙ ap (λ n. Some n) (sym w.begins);
-    there = led_there;
-    leads_on = λ i m s at.
-        let st = stands i m at in
-        let each = w.each i st.its st.at in
-        ap (λ o. leads_from o s) st.linked_at
-        ∙ st.leads s
-        ∙ told-led (place_in ids) st.its.deps.now s (λ c e. place-there ids c (led_there st.its.id c s (each.leads s ∙ e)))
-        ∙ ap (option_and_then (place_in ids)) (sym (each.leads s) ∙ ap (λ n. p.leads n s) st.number);
+    there = λ m d s at asked e. led_there m d s e;
+    leads_on = λ i m s at asked. leads_placed i m s at;
   }
 
   abbrev pub by_places : Program
@@ -193,7 +197,7 @@ module _ (p : Program) (modules : List NumberedModule) (entry : ℕ) (require : 
           by None is = absurd (none-some d (sym (ap (λ o. leads_from o s) is) ∙ e))
           by (Some it) is =
               let k = numbered_at i it is in
-              let l = lead_back p ids (required_of linked) at_entry is_placed (p.leads k.0 s) d (sym (is_placed.leads_on i k.0 s k.1) ∙ e) in
+              let l = lead_back p ids (required_of linked) at_entry is_placed (p.leads k.0 s) d (sym (leads_placed i k.0 s k.1) ∙ e) in
               subst (λ n. d < n) (sym many) (slice_get_within ids d l.0 l.1)
 
   -- what is reached is there
@@ -221,7 +225,7 @@ module _ (p : Program) (modules : List NumberedModule) (entry : ℕ) (require : 
             ∙ requested_by p m (λ text. text.now) st.it.tables.now.requests.items (asked_for ids st.it.leads.now)
             (ap (λ (t : Tables). map (λ text. text.now) t.requests.items) st.tables ∙ each.requests ∙ ap (λ n. requests_of p.settings (is_free (tree_of p n)) (tree_of p n)) st.number)
             (λ s.
-            ap (option_and_then (slice_get ids)) (sym (ap (λ o. leads_from o s) st.linked_at) ∙ is_placed.leads_on i m s at)
+            ap (option_and_then (slice_get ids)) (sym (ap (λ o. leads_from o s) st.linked_at) ∙ leads_placed i m s at)
             ∙ read-back (p.leads m s) (λ d e. led_there m d s e))
 
     graph_path : deps graph ≡ requested p

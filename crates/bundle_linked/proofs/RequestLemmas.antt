@@ -1,5 +1,5 @@
 -- The requests of a module are of no external, and are told by places.
-use Rattle.std.proofs.Common.{◌≡◌, inl, inr, ℕ, Bool, true, false, not, List, [], ◌∷◌, Option, None, Contains, refl, sym, ap, ◌∙◌, cond, map, filter, filter_map, arith}
+use Rattle.std.proofs.Common.{◌≡◌, inl, inr, ℕ, Bool, true, false, not, List, [], ◌∷◌, Option, Some, None, Contains, refl, sym, ap, ◌∙◌, cond, map, filter, filter_map, arith}
 use Rattle.std.specs.Prelude.{bytes_eq, if◌then◌else◌}
 use Rattle.std.specs.List.{cons_option}
 use Rattle.std.proofs.lemmas.Bool.{false≢true}
@@ -8,8 +8,8 @@ use Rattle.bundle_piece.specs.Item.{Item}
 use Rattle.bundle_terms.specs.Nodes.{Text, each_once, has_text, numbers_once}
 use Rattle.bundle_terms.specs.Bound.{is_free}
 use Rattle.bundle_terms.specs.Entries.{Settings, RequireCall, declared_requests, linked_calls, require_calls, requests_of}
-use Rattle.bundle_terms.specs.Program.{Program, tree_of, resolves, requested}
-use Rattle.bundle_linked.proofs.AlikeLemmas.{later, first_or_later, filter_back}
+use Rattle.bundle_terms.specs.Program.{Program, tree_of, resolves, requested, Requests}
+use Rattle.bundle_linked.proofs.AlikeLemmas.{later, first_or_later, filter_back, some_on, once_on as numbers_once_on}
 
 passes : {A : Type 0} (test : A → Bool) (xs : List A) (x : A) → Contains (filter test xs) x → test x ≡ true
 passes test [] x (i, h, e) = absurd (omega arith)
@@ -67,3 +67,8 @@ requested_by p m text requests tell all same = ap numbers_once (some_map tell te
   where
     one : (s : Text) → Contains (requests_of p.settings (is_free (tree_of p m)) (tree_of p m)) s → tell s ≡ resolves p m s
     one s there = same s ∙ ap (λ b. if b then None else p.leads m s) (sym (no_external p.settings (is_free (tree_of p m)) (tree_of p m) s there))
+
+-- where a request leads, the module there is requested
+pub requests_to : (p : Program) (m d : ℕ) (s : Text) → Contains (requests_of p.settings (is_free (tree_of p m)) (tree_of p m)) s → p.leads m s ≡ Some d → Requests p m d
+requests_to p m d s there leads =
+    numbers_once_on _ d (some_on (resolves p m) (requests_of p.settings (is_free (tree_of p m)) (tree_of p m)) s d there (ap (λ b. if b then None else p.leads m s) (no_external p.settings (is_free (tree_of p m)) (tree_of p m) s there) ∙ leads))

@@ -61,13 +61,13 @@ module _ (p q : Program) (ids : List ℕ) (w : IsAlike p q (IsAt ids))
   places = filter_map (place_in ids) list
 
   -- a fault by numbers is one by places, and one by places is one by numbers
-  by_places : (j n stage place : ℕ) (file : Name) (f : g.Fault) → stage ≢ 2 → slice_get list j ≡ Some n → ProgramFault p file n stage place f → (k : ℕ) × (slice_get places j ≡ Some k) × ProgramFault q file k stage place f
-  by_places j n stage place file f two at there =
+  by_places : (j n stage place : ℕ) (file : Name) (f : g.Fault) → slice_get list j ≡ Some n → ProgramFault p file n stage place f → (k : ℕ) × (slice_get places j ≡ Some k) × ProgramFault q file k stage place f
+  by_places j n stage place file f at there =
       let k = placed_on ids list inside j n at in
-      (k.0, k.2, fault_on p q (IsAt ids) w meant_on there two k.0 k.1)
+      (k.0, k.2, fault_on p q (IsAt ids) w meant_on there k.0 k.1)
 
-  by_numbers : (m k stage place : ℕ) (file : Name) (f : g.Fault) → stage ≢ 2 → IsAt ids m k → ProgramFault q file k stage place f → ProgramFault p file m stage place f
-  by_numbers m k stage place file f two at there = fault_on q p (λ a b. IsAt ids b a) (flip w) meant_back there two m at
+  by_numbers : (m k stage place : ℕ) (file : Name) (f : g.Fault) → IsAt ids m k → ProgramFault q file k stage place f → ProgramFault p file m stage place f
+  by_numbers m k stage place file f at there = fault_on q p (λ a b. IsAt ids b a) (flip w) meant_back there m at
 
   told_first : (fault : Fault) (from below : ℕ) → IsFirst q places from below fault
       → ((stage : ℕ) → from ≤ stage → stage < below → stage ≢ 2)
@@ -84,9 +84,9 @@ module _ (p q : Program) (ids : List ℕ) (w : IsAlike p q (IsAt ids))
         stage = first.stage;
         checked = checked;
         place = first.place;
-        there = λ file. by_numbers m.0 fault.module first.stage first.place file (fault_says file fault) checked m.1 (first.there file);
+        there = λ file. by_numbers m.0 fault.module first.stage first.place file (fault_says file fault) m.1 (first.there file);
         first = λ j n other its file f two at there.
-            let r = by_places j n other its file f two at there in
+            let r = by_places j n other its file f at there in
             let o = others j r.0 other its file f two r.1 r.2 in
             elim o.1 [
               | inl later ↦ earlier_stage (let e = first.ended in omega (arith, e, later))
@@ -117,7 +117,7 @@ module _ (p q : Program) (ids : List ℕ) (w : IsAlike p q (IsAt ids))
   pub told_links : (calls links : Option Fault) → calls ≡ None → IsJudged q places 0 2 calls → IsJudged q places 3 9 links → IsTold p ids list links
   told_links calls None none first judged = λ n stage place file f two there fault.
       let j = got list n there in
-      let r = by_places j.0 n stage place file f two j.1 fault in
+      let r = by_places j.0 n stage place file f j.1 fault in
       elim (in_range stage two (stage_below fault)) [
         | inl early ↦ subst (IsJudged q places 0 2) none first j.0 r.0 stage place file f (omega arith) early r.1 r.2
         | inr late ↦ judged j.0 r.0 stage place file f late (stage_below fault) r.1 r.2

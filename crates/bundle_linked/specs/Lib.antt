@@ -5,3 +5,4 @@ pub mod Linked
 pub mod Told
 pub mod Numbered
 pub mod Resolved
+pub mod First

@@ -218,8 +218,8 @@ fn linking_of<'l, 'a>(
     Linking::new(alloc, modules, &places, place, setting)
 }
 
-// The places of these modules.
-fn places_of(
+/// The places of modules among these numbers.
+pub fn places_of(
     alloc: Global,
     ids: &IndexSet<ModuleId>,
     list: &[ModuleId],

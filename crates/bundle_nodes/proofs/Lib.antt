@@ -8,3 +8,6 @@ pub mod PlaceLemmas
 mod ListNodes
 pub mod TreeNodes
 pub mod ModuleLemmas
+pub mod DefaultLemmas
+pub mod ClearedUses
+pub mod ClearedNodes

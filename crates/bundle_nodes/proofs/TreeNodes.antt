@@ -1,6 +1,7 @@
 -- The list of every module is whole nodes in a node.
-use Rattle.std.proofs.Common.{◌≡◌, ℕ, refl, List, [], ◌∷◌, ◌++◌, Option, Some, None}
+use Rattle.std.proofs.Common.{◌≡◌, inl, inr, ℕ, zero, true, refl, sym, ap, ◌∙◌, subst, List, [], ◌∷◌, ◌++◌, append_assoc, Contains, Option, Some, None, string_bytes}
 use Rattle.std.specs.List.{flat_map}
+use Rattle.std.proofs.lemmas.Bool.{false≢true}
 use Rattle.bundle_leaf.specs.declared.ident.Ident as v_ident
 use Rattle.bundle_leaf.specs.declared.ident.IdentName as v_ident_name
 use Rattle.bundle_leaf.specs.declared.ident.PrivateName as v_private_name
@@ -45,7 +46,9 @@ use Rattle.bundle_piece.specs.declared.piece.Role.{Role}
 use Rattle.bundle_piece.specs.Item as h
 use Rattle.bundle_piece.specs.Item.{Item}
 use Rattle.bundle_pieces.specs.Tree.{ident_items, ident_name_items, private_name_items, binding_ident_items, str_items, number_items, big_int_items, regex_items, lit_items, tpl_element_items, stmt_items, for_init_items, for_head_items, held_option_boxed_stmt, held_option_block_stmt, held_option_catch_clause, held_option_for_init, row_of_stmt, row_of_switch_case, decl_items, row_of_var_declarator, expr_items, arrow_body_items, held_callee, held_opt_chain_base, held_option_expr, held_option_boxed_expr, place_of_expr_or_spread, held_option_each_expr_or_spread, row_of_expr, row_of_expr_or_spread, row_of_option_expr_or_spread, prop_or_spread_items, prop_items, held_prop_name, held_member_prop, held_super_prop, row_of_prop_or_spread, pat_items, object_pat_prop_items, assign_target_items, held_option_pat, place_of_pat, row_of_pat, row_of_option_pat, row_of_object_pat_prop, class_member_items, row_of_param, row_of_class_member, option_items, class_items, function_items, module_export_name_items, import_specifier_items, export_specifier_items, role_of_names, default_decl_items, module_decl_items, module_item_items, module_items}
-use Rattle.bundle_nodes.specs.Nested.{AreNodes, nothing, hole}
+use Rattle.bundle_terms.specs.Nodes.{begins_in, begins_with, side_by_side}
+use Rattle.bundle_nodes.specs.Nested.{AreNodes, nothing, hole, BeginsBound, is_import_specifier, HasSpecifiers}
+use Rattle.bundle_nodes.proofs.ListFacts.{there-cases, only-one}
 use Rattle.bundle_nodes.proofs.ListNodes.{IsOne, join, each_nodes, in_node, one_name, one_node, one_member}
 
 -- what stands in an option
@@ -326,10 +329,30 @@ module_export_name_nodes role field (i_module_export_name.Str it) = (str_one fie
 other_name_nodes : (it : Option v_module_export_name.ModuleExportName) → AreNodes (option_items (module_export_name_items r.Word 1) it)
 other_name_nodes it = option_nodes (module_export_name_items r.Word 1) (module_export_name_nodes r.Word 1) it
 
-import_specifier_nodes : (field : ℕ) (it : v_import_specifier.ImportSpecifier) → AreNodes (import_specifier_items field it)
-import_specifier_nodes field (i_import_specifier.ImportNamedSpecifier local imported) = in_node field _ (join (ident_one r.Binding 0 local).nodes (other_name_nodes imported)) tt
-import_specifier_nodes field (i_import_specifier.ImportDefaultSpecifier local) = in_node field _ (ident_one r.Binding 0 local).nodes tt
-import_specifier_nodes field (i_import_specifier.ImportStarAsSpecifier local) = in_node field _ (ident_one r.Binding 0 local).nodes tt
+-- the local name in front of what else stands in a specifier
+local_name : (local : v_ident.Ident) (rest : List Item) → BeginsBound (ident_items r.Binding 0 local ++ rest)
+local_name local rest = record { sym = string_bytes local.sym; ctxt = local.ctxt; rest = rest; is = refl }
+
+import_specifier_one : (field : ℕ) (it : v_import_specifier.ImportSpecifier) → IsOne field (import_specifier_items field it)
+import_specifier_one field (i_import_specifier.ImportNamedSpecifier local imported) = one_node field _ (join (ident_one r.Binding 0 local).nodes (other_name_nodes imported)) (local_name local (option_items (module_export_name_items r.Word 1) imported))
+import_specifier_one field (i_import_specifier.ImportDefaultSpecifier local) = one_node field _ (ident_one r.Binding 0 local).nodes (local_name local [])
+import_specifier_one field (i_import_specifier.ImportStarAsSpecifier local) = one_node field _ (ident_one r.Binding 0 local).nodes (local_name local [])
+
+import_specifier_begins : (field : ℕ) (it : v_import_specifier.ImportSpecifier) → begins_with is_import_specifier (import_specifier_items field it) ≡ true
+import_specifier_begins field (i_import_specifier.ImportNamedSpecifier local imported) = refl
+import_specifier_begins field (i_import_specifier.ImportDefaultSpecifier local) = refl
+import_specifier_begins field (i_import_specifier.ImportStarAsSpecifier local) = refl
+
+-- in front of the source stand specifiers
+specifiers_in_front : (list : List v_import_specifier.ImportSpecifier) (src : v_str.Str) → HasSpecifiers (flat_map (import_specifier_items 0) list ++ str_items 1 src)
+specifiers_in_front [] src part there begins = absurd (false≢true (ap (begins_in 0) (only-one (str_items 1 src) part there) ∙ begins))
+specifiers_in_front (it ∷ list) src part there begins =
+    let rest : List Item = flat_map (import_specifier_items 0) list ++ str_items 1 src in
+    let sides : side_by_side zero ((import_specifier_items 0 it ++ flat_map (import_specifier_items 0) list) ++ str_items 1 src) ≡ import_specifier_items 0 it ∷ side_by_side zero rest = ap (side_by_side zero) (append_assoc (import_specifier_items 0 it) (flat_map (import_specifier_items 0) list) (str_items 1 src)) ∙ (import_specifier_one 0 it).beside rest in
+    elim (there-cases (import_specifier_items 0 it) (side_by_side zero rest) part (subst (λ nodes. Contains nodes part) sides there)) [
+      | inl same ↦ ap (begins_with is_import_specifier) (sym same) ∙ import_specifier_begins 0 it
+      | inr more ↦ specifiers_in_front list src part more begins
+    ]
 
 export_specifier_nodes : (role : Role) (field : ℕ) (it : v_export_specifier.ExportSpecifier) → AreNodes (export_specifier_items role field it)
 export_specifier_nodes role field (i_export_specifier.ExportNamespaceSpecifier name) = in_node field _ (module_export_name_nodes r.Word 0 name) tt
@@ -349,7 +372,7 @@ exports_nodes : (role : Role) (list : List v_export_specifier.ExportSpecifier) �
 exports_nodes role list = each_nodes (export_specifier_items role 0) (export_specifier_nodes role 0) list
 
 module_decl_nodes : (field : ℕ) (it : v_module_decl.ModuleDecl) → AreNodes (module_decl_items field it)
-module_decl_nodes field (i_module_decl.ImportDecl specifiers src meta) = in_node field _ (join (each_nodes (import_specifier_items 0) (import_specifier_nodes 0) specifiers.items) (str_one 1 src).nodes) tt
+module_decl_nodes field (i_module_decl.ImportDecl specifiers src meta) = in_node field _ (join (each_nodes (import_specifier_items 0) (λ it. (import_specifier_one 0 it).nodes) specifiers.items) (str_one 1 src).nodes) (specifiers_in_front specifiers.items src)
 module_decl_nodes field (i_module_decl.ExportDecl decl) = in_node field _ (decl_nodes 0 decl) tt
 module_decl_nodes field (i_module_decl.NamedExport specifiers src meta) = in_node field _ (join (exports_nodes (role_of_names src) specifiers.items) (source_nodes src)) tt
 module_decl_nodes field (i_module_decl.ExportDefaultDecl decl) = in_node field _ (default_decl_nodes 0 decl) tt

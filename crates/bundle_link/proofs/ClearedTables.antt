@@ -1,0 +1,51 @@
+-- What is read of a tree is read of it cleared too: so it is the table of a module whose tree is kept cleared.
+use Rattle.std.proofs.Common.{◌≡◌, ℕ, true, List, Contains, map, sym, ap, ◌∙◌}
+use Rattle.std.specs.Prelude.{codes, filter, not}
+use Rattle.std.specs.List.{flat_map}
+use Rattle.bundle_name.specs.FileName.{Name}
+use Rattle.bundle_name.specs.declared.config.Config.{Config}
+use Rattle.bundle_piece.specs.Item.{Item}
+use Rattle.bundle_tables.specs.Sources.{told_external}
+use Rattle.bundle_tables.specs.declared.table.Tables.{Tables}
+use Rattle.bundle_terms.specs.Nodes.{Text, each_once}
+use Rattle.bundle_terms.specs.Entries.{ExportEntry, exports_of, is_named}
+use Rattle.bundle_terms.specs.Faults.{IsFaultless}
+use Rattle.bundle_terms.specs.Program.{Program, tree_of}
+use Rattle.bundle_terms.specs.Tables.{is_star, star_of}
+use Rattle.bundle_terms.specs.Cleared.{cleared}
+use Rattle.bundle_cleared.proofs.EntryLemmas.{imports_of-cleared, exports_of-cleared, declared_requests-cleared, asked_names-cleared}
+use Rattle.bundle_cleared.proofs.CallLemmas as calls
+use Rattle.bundle_cleared.proofs.CallLemmas.{has_free-cleared, linked_calls-cleared, is_script-cleared, awaits_outside-cleared}
+use Rattle.bundle_cleared.proofs.FaultLemmas as faults
+use Rattle.bundle_nodes.proofs.ClearedUses.{uses_of-cleared, uses_common_js-cleared}
+use Rattle.bundle_index.specs.Programs.{IsTableOf}
+use Rattle.bundle_link.specs.Read.{AreTablesOf}
+use Rattle.bundle_link.specs.Refusals.{Links}
+use Rattle.bundle_link.proofs.OnceLemmas.{each_once_of}
+use Rattle.bundle_link.proofs.ProgramLemmas.{table_of}
+
+-- the tables of a tree are those of the cleared tree
+pub cleared-tables : (config : Config) (file : Name) (tree : List Item) (tables : Tables) → AreTablesOf config file tree tables → AreTablesOf config file (cleared tree) tables
+cleared-tables config file tree tables read = record {
+  faultless = faults.faultless file tree read.faultless;
+  requests = λ settings links. read.requests settings links ∙ sym (calls.requests settings tree);
+  imports = read.imports ∙ sym (imports_of-cleared tree);
+  exports = read.exports ∙ ap (filter (λ entry. not (is_star entry))) (sym (exports_of-cleared tree));
+  stars = read.stars ∙ ap (λ (entries : List ExportEntry). each_once (flat_map star_of entries)) (sym (exports_of-cleared tree));
+  sources = λ settings links. read.sources settings links ∙ ap (map (told_external settings.external)) (sym (declared_requests-cleared tree));
+  calls = λ settings links. read.calls settings links ∙ sym (linked_calls-cleared settings tree);
+  script = read.script ∙ sym (is_script-cleared tree);
+  common_js = read.common_js ∙ sym (uses_common_js-cleared tree);
+  awaits = read.awaits ∙ sym (awaits_outside-cleared tree);
+  arguments = read.arguments ∙ sym (has_free-cleared tree (codes "arguments"));
+  names = read.names ∙ sym (asked_names-cleared tree);
+  uses = read.uses ∙ sym (uses_of-cleared tree);
+}
+
+-- so they are the table of a module of the program whose tree is the cleared one
+pub cleared-table : (p : Program) (m : ℕ) (config : Config) (file : Name) (tree : List Item) (tables : Tables) → Links config p.settings → tree_of p m ≡ cleared tree → AreTablesOf config file tree tables → IsTableOf p m tables
+cleared-table p m config file tree tables links is read = table_of p m config file (cleared tree) tables links (sym is) (cleared-tables config file tree tables read)
+
+-- a cleared tree whose tree has no fault has no two exports of one name
+pub cleared-once : (file : Name) (tree : List Item) → IsFaultless file tree → (x : Text) (a b : ExportEntry) → Contains (exports_of (cleared tree)) a → Contains (exports_of (cleared tree)) b → is_named x a ≡ true → is_named x b ≡ true → a ≡ b
+cleared-once file tree none = each_once_of file (cleared tree) (faults.faultless file tree none)
