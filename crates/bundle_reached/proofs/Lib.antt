@@ -1,0 +1,5 @@
+pub mod GraphLemmas
+pub mod NumbersLemmas
+pub mod OrderLemmas
+pub mod ReachedLemmas
+pub mod ToldLemmas
