@@ -1,0 +1,5 @@
+pub mod AskedLemmas
+pub mod HookLemmas
+pub mod LinkedLemmas
+pub mod PartLemmas
+pub mod SourceLemmas

@@ -1,2 +1,5 @@
 pub mod Unlinked
 pub mod Source
+pub mod Linked
+pub mod Hook
+pub mod Asked

@@ -1,28 +1,43 @@
--- What a module as it was read says, and why it is not read.
-use Rattle.std.specs.Prelude.{◌≡◌, IfSome, List, map, string_bytes}
-use Rattle.bundle_name.specs.FileName.{Name}
-use Rattle.bundle_name.specs.declared.config.Config.{Config}
-use Rattle.bundle_name.specs.declared.error.Error.{Error}
-use Rattle.bundle_piece.specs.Item.{Item, item_of}
-use Rattle.bundle_tables.specs.declared.table.Tables.{Tables}
-use Rattle.bundle_terms.specs.Bound.{is_free}
-use Rattle.bundle_terms.specs.Entries.{Settings, requests_of}
-use Rattle.bundle_terms.specs.Faults.{fault_of, IsFirstTreeFault}
+-- What is read of the files of a call, as what is kept of them says it.
+use Rattle.std.specs.Prelude.{◌≡◌, ℕ, List, Some, true, Contains, length, map, slice_get}
+use Rattle.bundle_name.specs.FileName.{name_of}
+use Rattle.bundle_piece.specs.Item.{item_of}
+use Rattle.bundle_pieces.specs.Tree.{module_items}
+use Rattle.bundle_tree.specs.declared.load.ModuleData.{ModuleData}
+use Rattle.bundle_terms.specs.Nodes.{Text}
+use Rattle.bundle_terms.specs.Cleared.{cleared}
+use Rattle.bundle_terms.specs.Entries.{ExportEntry, has_import_meta, is_named}
+use Rattle.bundle_terms.specs.Linking.{exports}
+use Rattle.bundle_terms.specs.Program.{Loaded, Program, module_of, tree_of}
+use Rattle.bundle_index.specs.Programs.{IsTableOf}
+use Rattle.bundle_targets.specs.Meant.{IsModuleTree}
+use Rattle.bundle_reached.specs.Files.{AreNotedOf}
+use Rattle.bundle_nodes.specs.Default.{DeclaresDefaultAlone}
+use Rattle.bundle_entry.specs.declared.source.Program.{Program as Read}
 use Rattle.bundle_entry.specs.declared.source.Source.{Source}
 
--- the refusal is for memory, or tells of the first fault of the tree
-abbrev pub IsTreeRefusal : Name → List Item → Error → Type 0
-IsTreeRefusal file tree refusal = IfSome (fault_of refusal) (IsFirstTreeFault file tree)
+-- a module as it is kept: its contexts and notes are gone
+abbrev pub kept_as : ModuleData → Loaded
+kept_as given = record { file_name = name_of given.file_name; items = cleared (module_items 0 given.«module») }
 
--- the settings link what a configuration says
-abbrev pub Links : Config → Settings → Type 0
-Links config settings = (settings.require ≡ config.require) × (settings.external ≡ map string_bytes config.external_modules.items)
+-- what was read is module m of a program, with the name that its loader gave, its list, its table, and whether it has `import.meta`; it is the tree of a module, and has one entry of each name
+pub record IsSourceOf (p : Program) (m : ℕ) (source : Source) : Type 0 where
+  pub loaded : Loaded
+  pub there : module_of p m ≡ Some loaded
+  pub given : name_of source.given.now ≡ loaded.file_name
+  pub list : tree_of p m ≡ cleared (map item_of source.pieces.items)
+  pub table : IsTableOf p m source.tables
+  pub meta : source.tables.has_import_meta ≡ has_import_meta (tree_of p m)
+  pub tree : IsModuleTree (tree_of p m)
+  pub default : DeclaresDefaultAlone (tree_of p m)
+  pub once : (x : Text) (a b : ExportEntry) → Contains (exports p m) a → Contains (exports p m) b → is_named x a ≡ true → is_named x b ≡ true → a ≡ b
 
--- the requests of these tables are those of the tree
-abbrev pub HasRequests : Config → List Item → Tables → Type 0
-HasRequests config tree tables = (settings : Settings) → Links config settings → map (λ request. request.now) tables.requests.items ≡ requests_of settings (is_free tree) tree
+-- the same of modules in turn
+pub record AreSourcesOf (p : Program) (numbers : List ℕ) (sources : List Source) : Type 0 where
+  pub long : length sources ≡ length numbers
+  pub each : (place m : ℕ) (source : Source) → slice_get numbers place ≡ Some m → slice_get sources place ≡ Some source → IsSourceOf p m source
 
--- what was read is this tree, with its tables
-pub record IsReadOf (config : Config) (tree : List Item) (source : Source) : Type 0 where
-  pub list : map item_of source.pieces.items ≡ tree
-  pub requests : HasRequests config tree source.tables
+-- the files of a call and what was read of them are those of a program
+pub record IsProgramOf (p : Program) (read : Read) : Type 0 where
+  pub files : AreNotedOf p read.files
+  pub sources : AreSourcesOf p read.files.ids.keys read.sources.items

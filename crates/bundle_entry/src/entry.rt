@@ -1,34 +1,25 @@
-//! An entry: what its modules' names are linked to, or the first fault; what the hook answers; and its module.
+//! The module of an entry that has no fault, and what the hook answers for its modules.
 
-use crate::fault::{refuse_doubled, refuse_link};
-use crate::made::{file_at, file_of, made, source_at};
+ghost use Rattle.std.specs.Prelude.{◌≡◌, ℕ, false, IfErr, IfNone, IfOk, IfSome, IsTrue, Some, length, slice_get};
+ghost use Rattle.bundle_name.specs.FileName.{name_of};
+ghost use Rattle.bundle_terms.specs.Entries.{has_import_meta};
+ghost use Rattle.bundle_terms.specs.Faults.{fault_of};
+ghost use Rattle.bundle_terms.specs.Program.{Program as ProgramLem, tree_of};
+ghost use Rattle.bundle_entry.specs.Asked.{AreAnsweredBefore, IsAnsweredFor, IsAskedModule, IsRefusedAt, IsRefusedFor};
+ghost use Rattle.bundle_entry.specs.Linked.{IsCallOf, IsLinkedEntry, IsReachedIn};
+ghost use Rattle.bundle_entry.specs.Unlinked.{MayBeMerging, error_of};
+
+use crate::call::{Call, file_at, source_at};
+use crate::linked::Linked;
+use crate::made::made;
 use crate::meta::{ReadMeta, ask, read_meta};
-use crate::reached::{Reached, reached_from};
-use crate::source::Program;
 use crate::unlinked::Unlinked;
 use bundle_ast::{KeyValueProp, Module};
-use bundle_denote::{ModuleKind, first_doubled};
-use bundle_id::ModuleId;
-use bundle_name::config::{Config, ModuleType};
+use bundle_link::link::setting_of;
 use bundle_name::file_name::FileName;
-use bundle_targets::{Fault, LinkModule, Linking, Setting};
+use bundle_reached::Reached;
 use bundle_tree::hook::Hook;
 use std::alloc::{AllocError, Global};
-
-/// What the bundle of an entry is made of: the files that were read, the settings, and the entry's file.
-#[derive(Clone, Copy)]
-pub struct Call<'p, 'x> {
-    pub program: &'p Program<'x>,
-    pub config: &'p Config,
-    pub entry: &'p FileName,
-}
-
-/// The modules that an entry reaches, and what their names are linked to.
-#[derive(Drop)]
-pub struct Linked<'x> {
-    reached: Reached,
-    linking: Linking<'x>,
-}
 
 /// What the hook answered for a module, by its number.
 #[derive(Drop)]
@@ -37,31 +28,16 @@ pub struct Answer {
     properties: Vec<KeyValueProp>,
 }
 
-/// Links the modules that an entry reaches. Refused by the first fault, or where memory runs out.
-pub fn linked_entry<'p, 'x>(
-    alloc: Global,
-    call: &Call<'p, 'x>,
-    entry: ModuleId,
-) -> Result<Linked<'x>, Unlinked> {
-    let reached = reached_from(alloc, call.program, entry)?;
-    let linking = linking_of(alloc, call, &reached)?;
-    Ok(Linked { reached, linking })
-}
-
 /// The module of an entry that has no fault, of whose modules none asked the hook.
 pub fn module_of<'p, 'x>(
     alloc: Global,
     call: &Call<'p, 'x>,
     linked: &Linked<'x>,
-) -> Result<Module, Unlinked> {
+) -> Result<Module, Unlinked>
+    ensures { IfErr result MayBeMerging }
+{
     let none = Vec::new(alloc);
-    made(
-        alloc,
-        call,
-        &linked.reached,
-        &linked.linking,
-        none.as_slice(),
-    )
+    made(alloc, call, linked, none.as_slice())
 }
 
 /// The module of an entry that has no fault, with what the hook answered, which is lent as long as what was read.
@@ -70,15 +46,11 @@ pub fn module_with_answers<'p, 'x>(
     call: &Call<'p, 'x>,
     linked: &Linked<'x>,
     answers: &'x [Answer],
-) -> Result<Module, Unlinked> {
+) -> Result<Module, Unlinked>
+    ensures { IfErr result MayBeMerging }
+{
     let metas = read_answers(alloc, linked.reached.places.len(), answers)?;
-    made(
-        alloc,
-        call,
-        &linked.reached,
-        &linked.linking,
-        metas.as_slice(),
-    )
+    made(alloc, call, linked, metas.as_slice())
 }
 
 // The answers as they were read, by the numbers of their modules, of which there are so many.
@@ -100,111 +72,81 @@ fn read_answers<'y>(
     Ok(metas)
 }
 
-// What the names of the modules are linked to. Refused by the first fault.
-fn linking_of<'p, 'x>(
-    alloc: Global,
-    call: &Call<'p, 'x>,
-    reached: &Reached,
-) -> Result<Linking<'x>, Unlinked> {
-    let mut modules = Vec::new(alloc);
-    for (module, leads) in reached.leads.iter().enumerate() {
-        if let Some(source) = source_at(call, reached, module) {
-            let tables = &source.tables;
-            modules.push(LinkModule { tables, leads })?;
-        }
-    }
-    let mut list = Vec::new(alloc);
-    for module in 0..modules.len() {
-        list.push(module)?;
-    }
-    let setting = Setting {
-        require: call.config.require,
-        iife: call.config.module == ModuleType::Iife,
-    };
-    let entry = list.len().saturating_sub(1);
-    let linking = Linking::new(alloc, modules.as_slice(), list.as_slice(), entry, setting)?;
-    refuse_fault(alloc, call, reached, linking.call_fault())?;
-    for module in &list {
-        judge_names(alloc, call, reached, &linking, *module)?;
-    }
-    refuse_fault(alloc, call, reached, linking.link_fault())?;
-    Ok(linking)
-}
-
-fn refuse_fault<'p, 'x>(
-    alloc: Global,
-    call: &Call<'p, 'x>,
-    reached: &Reached,
-    fault: Option<Fault<'x>>,
-) -> Result<(), Unlinked> {
-    let Some(fault) = fault else {
-        return Ok(());
-    };
-    match file_of(call, reached, Some(fault.module)) {
-        Some(file) => refuse_link(alloc, file, fault),
-        None => refuse_link(alloc, call.entry, fault),
-    }
-}
-
-fn kind_of(linking: &Linking, module: usize) -> ModuleKind {
-    match linking.is_common_js(module) {
-        true => ModuleKind::Cjs,
-        false => ModuleKind::Es,
-    }
-}
-
-// Refuses a module that declares a name twice.
-fn judge_names<'p, 'x>(
-    alloc: Global,
-    call: &Call<'p, 'x>,
-    reached: &Reached,
-    linking: &Linking<'x>,
-    module: usize,
-) -> Result<(), Unlinked> {
-    let kind = kind_of(linking, module);
-    if let Some(source) = source_at(call, reached, module) {
-        if let Some(doubled) = first_doubled(alloc, source.pieces.as_slice(), kind)? {
-            if let Some((file, _)) = file_at(call, reached, module) {
-                return refuse_doubled(alloc, file, doubled);
-            }
-        }
-    }
-    Ok(())
-}
-
-/// What the hook answers for each module that has `import.meta`, in the order of the list.
+/// What the hook answers for each module that has `import.meta`, in the order of the list. Refused
+/// where the hook fails or its answer has a fault, by the first of these, or where memory runs out.
 pub fn ask_all<'p, 'x>(
     alloc: Global,
     call: &Call<'p, 'x>,
     hook: &dyn Hook,
     linked: &Linked<'x>,
-) -> Result<Vec<Answer>, Unlinked> {
+) -> Result<Vec<Answer>, Unlinked>
+    ensures answered { IfOk result (λ answers. (p : ProgramLem) (entry : ℕ) →
+        IsCallOf p entry call.now → IsLinkedEntry p call.now linked.now →
+        AreAnsweredBefore (may_give hook.now) p linked.now.reached.list.items
+        (length linked.now.reached.list.items)) }
+    ensures refused { IfErr result (λ unlinked. (p : ProgramLem) (entry : ℕ) →
+        IsCallOf p entry call.now → IsLinkedEntry p call.now linked.now →
+        IfSome (fault_of (error_of unlinked))
+        (IsRefusedAt (may_give hook.now) (may_fail_hook hook.now) p linked.now.reached.list.items)) }
+{
     let reached = &linked.reached;
     let mut answers = Vec::new(alloc);
     for module in 0..reached.places.len() {
-        if let Some(source) = source_at(call, reached, module) {
-            if source.tables.has_import_meta {
-                let properties = ask_one(alloc, call, hook, reached, module, source.given)?;
-                answers.push(Answer { module, properties })?;
-            }
+        if let Some(properties) = ask_at(alloc, call, hook, reached, module)? {
+            answers.push(Answer { module, properties })?;
         }
     }
     Ok(answers)
 }
 
-// What the hook answers for a module, to which its loader gave this name.
-fn ask_one<'p, 'x>(
+// What the hook answers for a module, if that has `import.meta`.
+fn ask_at<'p, 'x>(
     alloc: Global,
     call: &Call<'p, 'x>,
     hook: &dyn Hook,
     reached: &Reached,
     module: usize,
-    given: &FileName,
-) -> Result<Vec<KeyValueProp>, Unlinked> {
-    let Some((file, _)) = file_at(call, reached, module) else {
-        return Ok(Vec::new(alloc));
-    };
-    let is_entry = module == reached.places.len().saturating_sub(1);
-    let is_iife = call.config.module == ModuleType::Iife;
-    ask(alloc, hook, file, given, is_entry, is_iife)
+) -> Result<Option<Vec<KeyValueProp>>, Unlinked>
+    ensures answered { IfOk result (λ answer. (p : ProgramLem) (entry m : ℕ) →
+        IsCallOf p entry call.now → IsReachedIn p call.now reached.now →
+        slice_get reached.now.list.items «module» ≡ Some m →
+        IsTrue (has_import_meta (tree_of p m)) → IsAnsweredFor (may_give hook.now) p m) }
+    ensures refused { IfErr result (λ unlinked. (p : ProgramLem) (entry m : ℕ) →
+        IsCallOf p entry call.now → IsReachedIn p call.now reached.now →
+        slice_get reached.now.list.items «module» ≡ Some m →
+        IfSome (fault_of (error_of unlinked))
+        (IsRefusedFor (may_give hook.now) (may_fail_hook hook.now) p m)) }
+{
+    match asked_at(call, reached, module) {
+        Some((file, given)) => {
+            let is_entry = module == reached.places.len().saturating_sub(1);
+            let is_iife = setting_of(call.config).iife;
+            let properties = ask(alloc, hook, file, given, is_entry, is_iife)?;
+            Ok(Some(properties))
+        }
+        None => Ok(None),
+    }
+}
+
+// The file of a module that has `import.meta`, and the name that its loader gave it.
+fn asked_at<'p, 'x>(
+    call: &Call<'p, 'x>,
+    reached: &Reached,
+    module: usize,
+) -> Option<(&'x FileName, &'x FileName)>
+    ensures asked { IfSome result (λ names. (p : ProgramLem) (entry m : ℕ) →
+        IsCallOf p entry call.now → IsReachedIn p call.now reached.now →
+        slice_get reached.now.list.items «module» ≡ Some m →
+        IsAskedModule p m (name_of names.0.now) (name_of names.1.now)) }
+    ensures unasked { IfNone result ((p : ProgramLem) (entry m : ℕ) →
+        IsCallOf p entry call.now → IsReachedIn p call.now reached.now →
+        slice_get reached.now.list.items «module» ≡ Some m →
+        has_import_meta (tree_of p m) ≡ false) }
+{
+    let source = source_at(call, reached, module)?;
+    let (file, _) = file_at(call, reached, module)?;
+    match source.tables.has_import_meta {
+        true => Some((file, source.given)),
+        false => None,
+    }
 }

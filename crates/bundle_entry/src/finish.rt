@@ -1,7 +1,6 @@
 //! The module of what was merged: no binding has a keyword's name, no two names clash, and it is one function's call
 //! where the settings say so.
 
-use crate::unlinked::Unlinked;
 use bundle_ast::Module;
 use bundle_denote::{Denotations, ModuleKind, Reading, denotations};
 use bundle_merge::{Merged, order_items};
@@ -11,7 +10,7 @@ use bundle_piece::Piece;
 use std::alloc::{AllocError, Global};
 
 /// The module of what was merged.
-pub fn finished(alloc: Global, merged: &Merged, config: &Config) -> Result<Module, Unlinked> {
+pub fn finished(alloc: Global, merged: &Merged, config: &Config) -> Result<Module, AllocError> {
     let ordered = order_items(alloc, merged)?;
     let list = ordered.list.as_slice();
     let denoted = denotations(alloc, list, ModuleKind::Es, Reading::ByContext)?;
@@ -23,10 +22,10 @@ pub fn finished(alloc: Global, merged: &Merged, config: &Config) -> Result<Modul
     let changes = changes_of(alloc, list, &denoted, &names, contexts)?;
     let changes = changes.as_slice();
     match config.module {
-        ModuleType::Es => Ok(ordered.module(alloc, merged, changes)?),
+        ModuleType::Es => ordered.module(alloc, merged, changes),
         ModuleType::Iife => {
             let is_async = awaits_outside(alloc, list)?;
-            Ok(ordered.call(alloc, merged, changes, is_async)?)
+            ordered.call(alloc, merged, changes, is_async)
         }
     }
 }

@@ -2,15 +2,19 @@
 //! answers, and the module that stands for all of them.
 #![tactic(auto)]
 
+mod blocks;
+mod call;
 mod entry;
 mod fault;
 mod finish;
+mod linked;
 mod made;
 mod meta;
-mod reached;
 mod source;
 mod unlinked;
 
-pub use entry::{Answer, Call, Linked, ask_all, linked_entry, module_of, module_with_answers};
-pub use source::{Program, Source, program_of, requests_of, source_of};
+pub use call::Call;
+pub use entry::{Answer, ask_all, module_of, module_with_answers};
+pub use linked::{Linked, linked_entry};
+pub use source::{Program, Source, program_of, source_of};
 pub use unlinked::Unlinked;

@@ -1,18 +1,20 @@
 //! The module that the modules of an entry make.
 
-use crate::entry::Call;
+ghost use Rattle.std.specs.Prelude.{IfErr, IfOk};
+ghost use Rattle.bundle_entry.specs.Unlinked.{MayBeMerging};
+
+use crate::call::{Call, file_at, file_of, source_at};
 use crate::finish::finished;
+use crate::linked::Linked;
 use crate::meta::ReadMeta;
-use crate::reached::Reached;
-use crate::source::Source;
 use crate::unlinked::Unlinked;
 use bundle_ast::Module;
 use bundle_denote::{Denotations, ModuleKind, Reading, denotations};
-use bundle_id::ModuleId;
 use bundle_merge::{
     Answered, BundleParts, Contexts, MergeError, Merged, Meta, Part, local_context, merge_modules,
 };
 use bundle_name::file_name::FileName;
+use bundle_reached::Reached;
 use bundle_targets::Linking;
 use indexmap::IndexMap;
 use std::alloc::{AllocError, Global};
@@ -42,24 +44,28 @@ fn read_common_js<'p, 'x>(
 pub fn made<'t, 'p: 't, 'x>(
     alloc: Global,
     call: &Call<'p, 'x>,
-    reached: &'t Reached,
-    linking: &'t Linking<'x>,
+    linked: &'t Linked<'x>,
     metas: &'t [Option<ReadMeta<'x>>],
-) -> Result<Module, Unlinked> {
+) -> Result<Module, Unlinked>
+    ensures { IfErr result MayBeMerging }
+{
+    let (reached, linking) = (&linked.reached, &linked.linking);
     let kinds = read_common_js(alloc, call, reached, linking)?;
-    let merged = merged_of(alloc, call, reached, linking, kinds.as_slice(), metas)?;
-    finished(alloc, &merged, call.config)
+    let merged = merged_of(alloc, call, linked, kinds.as_slice(), metas)?;
+    Ok(finished(alloc, &merged, call.config)?)
 }
 
 // The items that all modules make, where these are the names of the CommonJS ones.
 fn merged_of<'t, 'p: 't, 'x>(
     alloc: Global,
     call: &Call<'p, 'x>,
-    reached: &'t Reached,
-    linking: &'t Linking<'x>,
+    linked: &'t Linked<'x>,
     kinds: &'t [Option<Denotations<'x>>],
     metas: &'t [Option<ReadMeta<'x>>],
-) -> Result<Merged<'x>, Unlinked> {
+) -> Result<Merged<'x>, Unlinked>
+    ensures { IfErr result MayBeMerging }
+{
+    let reached = &linked.reached;
     let mut parts = Vec::new(alloc);
     for (module, leads) in reached.leads.iter().enumerate() {
         if let Some(part) = part_of(call, reached, module, leads, kinds, metas) {
@@ -68,14 +74,16 @@ fn merged_of<'t, 'p: 't, 'x>(
     }
     let bundle = BundleParts {
         parts: parts.as_slice(),
-        linking,
-        blocks: reached.blocks.as_slice(),
+        linking: &linked.linking,
+        blocks: linked.blocks.as_slice(),
         contexts: Contexts::above(call.program.count),
     };
     match merge_modules(alloc, &bundle) {
         Ok(merged) => Ok(merged),
         Err(MergeError::OutOfMemory) => Err(Unlinked::OutOfMemory),
-        Err(MergeError::ContextsUsedUp { module }) => refuse_contexts(call, reached, module),
+        Err(MergeError::ContextsUsedUp { module }) => {
+            Err(contexts_refusal(call, reached, module)?)
+        }
     }
 }
 
@@ -119,42 +127,16 @@ fn meta_at<'t, 'x>(metas: &'t [Option<ReadMeta<'x>>], module: usize) -> Option<M
 
 // The refusal where contexts run out for a module's names or, without one, for those of the linker's own, which stand
 // in no file but the entry's.
-fn refuse_contexts<'p, 'x>(
+fn contexts_refusal<'p, 'x>(
     call: &Call<'p, 'x>,
     reached: &Reached,
     module: Option<usize>,
-) -> Result<Merged<'x>, Unlinked> {
+) -> Result<Unlinked, AllocError>
+    ensures { IfOk result MayBeMerging }
+{
     let file = match file_of(call, reached, module) {
         Some(file) => file.clone()?,
         None => call.entry.clone()?,
     };
-    Err(Unlinked::ContextsUsedUp { file })
-}
-
-/// The source of a module, by its number.
-pub fn source_at<'t, 'p: 't, 'x>(
-    call: &Call<'p, 'x>,
-    reached: &Reached,
-    module: usize,
-) -> Option<&'t Source<'x>> {
-    call.program.sources.get(*reached.places.get(module)?)
-}
-
-/// The file of a module, by its number, and that file's number.
-pub fn file_at<'p, 'x>(
-    call: &Call<'p, 'x>,
-    reached: &Reached,
-    module: usize,
-) -> Option<(&'x FileName, &'x ModuleId)> {
-    call.program.files.get_index(*reached.places.get(module)?)
-}
-
-/// The file of a module, if there is one.
-pub fn file_of<'p, 'x>(
-    call: &Call<'p, 'x>,
-    reached: &Reached,
-    module: Option<usize>,
-) -> Option<&'x FileName> {
-    let (file, _) = file_at(call, reached, module?)?;
-    Some(file)
+    Ok(Unlinked::ContextsUsedUp { file })
 }

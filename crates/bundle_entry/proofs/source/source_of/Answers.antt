@@ -1,11 +1,13 @@
 -- The list is that of the module.
-use Rattle.std.proofs.Common.{ap, sym, ◌∙◌, subst, map}
+use Rattle.std.proofs.Common.{ap, refl, sym, ◌∙◌, subst, map}
 use Rattle.bundle_denote.specs.Listed.{IsTable}
 use Rattle.bundle_piece.specs.Item.{item_of}
 use Rattle.bundle_places.specs.Declarations.{BySymbol}
 use Rattle.bundle_places.specs.Scopes.{Es}
+use Rattle.bundle_terms.specs.Entries.{has_import_meta}
 use Rattle.bundle_terms.specs.Faults.{IsFaultless}
-use Rattle.bundle_entry.specs.Source.{HasRequests}
+use Rattle.bundle_link.specs.Read.{AreTablesOf}
+use Rattle.bundle_entry.proofs.SourceLemmas.{read_as}
 use Rattle.bundle_entry.proofs.source.source_of.Goals as goal
 
 pub tables_in-requires : goal.tables_in-requires
@@ -15,7 +17,8 @@ tables_in-requires c = record {
 }
 
 pub returns : goal.returns
-returns c = record {
-  list = c.in_ok-pieces.ensures;
-  requests = subst (λ tree. HasRequests c.args.config.now tree c.in_ok-tables.tables) (ap (map item_of) c.as_slice-2.ensures.value ∙ c.in_ok-pieces.ensures) c.in_ok-tables.ensures;
-}
+returns c = λ p m links there.
+    let list = ap (map item_of) c.as_slice-2.ensures.value ∙ c.in_ok-pieces.ensures in
+    read_as p m c.args.config.now c.requires.0 c.args.loaded.now _ links there refl c.in_ok-pieces.ensures
+    (subst (λ tree. AreTablesOf c.args.config.now c.requires.0 tree c.in_ok-tables.tables) list (c.in_ok-tables.ensures.given c.requires.0))
+    (c.in_ok-tables.ensures.meta ∙ ap has_import_meta list)
