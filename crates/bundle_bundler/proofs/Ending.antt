@@ -1,5 +1,5 @@
 -- How a call ends.
-use Rattle.std.proofs.Common.{◌≡◌, ℕ, Bool, List, [], Result, map, refl, sym, subst, ◌∙◌, inl, inr}
+use Rattle.std.proofs.Common.{◌≡◌, ℕ, Bool, List, [], Result, map, sym, subst, ◌∙◌, inl, inr}
 use Rattle.std.specs.Prelude.{IfErr, IfSome}
 use Rattle.std.specs.Result.{IsErrAnd}
 use Rattle.std.specs.declared.alloc.Global.{Global}
@@ -8,7 +8,6 @@ use Rattle.bundle_ast.specs.declared.expr.Expr.{Expr}
 use Rattle.bundle_ast.specs.declared.prop.KeyValueProp.{KeyValueProp}
 use Rattle.bundle_entry.specs.Unlinked.{error_of}
 use Rattle.bundle_entry.specs.declared.unlinked.Unlinked.{Unlinked}
-use Rattle.bundle_entry.specs.declared.unlinked.Unlinked.TheVariants as u
 use Rattle.bundle_name.specs.FileName.{Name}
 use Rattle.bundle_name.specs.declared.error.Error.{Error}
 use Rattle.bundle_name.specs.declared.file_name.FileName.{FileName}
@@ -21,6 +20,7 @@ use Rattle.bundle_terms.specs.Judging.{Entry, Outcome, GoesOn, Refused, NumbersE
 use Rattle.bundle_bundler.specs.Bundler.{files_of}
 use Rattle.bundle_bundler.specs.Judged.{asked_by, AreApart, IsFaultOfList, IsRefusedBy}
 use Rattle.bundle_bundler.specs.Kept.{entry_of, parties_of}
+use Rattle.bundle_bundler.specs.Linking.{IsRefusalOfEntries}
 use Rattle.bundle_bundler.proofs.Counting.{same_files}
 use Rattle.bundle_bundler.proofs.Doubling.{apart_distinct}
 use Rattle.bundle_bundler.proofs.Finding.{handed_on}
@@ -72,11 +72,11 @@ module _ (parties : Parties) (settings : Settings) where
   refused_list result e entries old is told =
       handed_on result e (IsRefusedBy parties settings (map entry_of entries) old old) is (told_as (fault_of e) (IsFaultOfList (map entry_of entries)) _ (λ f (later, doubled, same). inl (subst (λ x. Refuses parties settings (map entry_of entries) old x old) (sym same) (j.by_list later doubled))) told)
 
-  -- linking refuses
-  linking : (entries : List Entry) (old new : Kept) → Completes parties settings entries old new → (unlinked : Unlinked) → IsRefusedBy parties settings entries old new (error_of unlinked)
-  linking entries old new done u.OutOfMemory = tt
-  linking entries old new done _ = inr (done, refl)
+  -- an entry is refused, or contexts are used up
+  linking : (entries : List Entry) (old new : Kept) → Completes parties settings entries old new → (unlinked : Unlinked) → IsRefusalOfEntries parties settings new entries unlinked → IsRefusedBy parties settings entries old new (error_of unlinked)
+  linking entries old new done unlinked told =
+      told_as (fault_of (error_of unlinked)) _ _ (λ fault why. elim why [ inl refuses ↦ inl (j.by_entry done.distinct done.numbered done.loaded refuses) | inr contexts ↦ inr (done, contexts) ]) told
 
-  pub refused_linking : {T : Type 0} (result : Result T Error) (entries : List Entry) (old new : Kept) (unlinked : Unlinked) → IsErrAnd result (λ x. x ≡ error_of unlinked) → Completes parties settings entries old new → IfErr result (IsRefusedBy parties settings entries old new)
-  refused_linking result entries old new unlinked is done =
-      handed_on result (error_of unlinked) (IsRefusedBy parties settings entries old new) is (linking entries old new done unlinked)
+  pub refused_linking : {T : Type 0} (result : Result T Error) (entries : List Entry) (old new : Kept) (unlinked : Unlinked) → IsErrAnd result (λ x. x ≡ error_of unlinked) → Completes parties settings entries old new → IsRefusalOfEntries parties settings new entries unlinked → IfErr result (IsRefusedBy parties settings entries old new)
+  refused_linking result entries old new unlinked is done told =
+      handed_on result (error_of unlinked) (IsRefusedBy parties settings entries old new) is (linking entries old new done unlinked told)

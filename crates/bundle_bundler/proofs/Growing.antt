@@ -19,7 +19,7 @@ use Rattle.bundle_tree.specs.declared.load.ModuleData.{ModuleData}
 use Rattle.bundle_tree.specs.declared.resolve.ResolveError.{ResolveError}
 use Rattle.bundle_terms.specs.Program.{Loaded}
 use Rattle.bundle_terms.specs.Kept as k
-use Rattle.bundle_terms.specs.Kept.{Asked, Answers, GrowsTo, Kept, Stays, kept_file, kept_module, number_in}
+use Rattle.bundle_terms.specs.Kept.{Asked, Answers, GrowsTo, Kept, Stays, asked_eq, kept_file, kept_module, number_in}
 use Rattle.bundle_terms.proofs.KeptLemmas.{stays}
 use Rattle.bundle_kept.specs.declared.kept.Request.{Request}
 use Rattle.bundle_kept.specs.Kept.{asked_of}
@@ -111,10 +111,19 @@ same_longer test (e ∷ es) more x is = by (test e.0) is (same_longer test es mo
     by true h further = h
     by false h further = further h
 
--- and so does what has no fault
+-- a module stays as it is kept
+pub still_module : (c d : Kept) → Stays c d → (file : Name) (loaded : Loaded) → kept_module c file ≡ Some loaded → kept_module d file ≡ Some loaded
+still_module c d s file loaded is =
+    subst (λ (trees : List (Name × Loaded)). lookup (name_eq file) trees ≡ Some loaded) (sym s.trees.1) (same_longer (name_eq file) c.trees s.trees.0 loaded is)
+
+-- a request leads where it led
+pub still_file : (c d : Kept) → Stays c d → (asked : Asked) (file : Name) → kept_file c asked ≡ Some file → kept_file d asked ≡ Some file
+still_file c d s asked file is =
+    subst (λ (resolved : List (Asked × Name)). lookup (asked_eq asked) resolved ≡ Some file) (sym s.resolved.1) (same_longer (asked_eq asked) c.resolved s.resolved.0 file is)
+
+-- and what has no fault has none
 pub still_sound : (c d : Kept) → Stays c d → (file : Name) → IsSound c file → IsSound d file
-still_sound c d s file (loaded, is, faultless) =
-    (loaded, subst (λ (trees : List (Name × Loaded)). lookup (name_eq file) trees ≡ Some loaded) (sym s.trees.1) (same_longer (name_eq file) c.trees s.trees.0 loaded is), faultless)
+still_sound c d s file (loaded, is, faultless) = (loaded, still_module c d s file loaded is, faultless)
 
 -- what was met stays so
 pub still_met : (c d : Kept) → Stays c d → (file : Name) → IsMet c file → IsMet d file

@@ -12,3 +12,8 @@ pub mod Counting
 pub mod Ending
 pub mod Stepping
 pub mod Reading
+pub mod Leading
+pub mod Programs
+pub mod Linking
+pub mod Sources
+pub mod Bundling

@@ -76,7 +76,7 @@ listed es file i at =
     subst (λ (names : List Name). Contains names (name_of file)) (names_of_keys es) (Contains-slice_get _ i (name_of file) (slice_get-position (map (λ (e : FileName × ℕ). e.0) es) file i at))
 
 -- a longer list has the same at the places of the shorter
-front_at : {X : Type 0} (xs more : List X) (i : ℕ) → i < length xs → slice_get (xs ++ more) i ≡ slice_get xs i
+pub front_at : {X : Type 0} (xs more : List X) (i : ℕ) → i < length xs → slice_get (xs ++ more) i ≡ slice_get xs i
 front_at [] more i within = let no : ⊥ = omega arith in absurd no
 front_at (x ∷ xs) more zero within = refl
 front_at (x ∷ xs) more (suc i) within = let less : i < length xs = omega arith in front_at xs more i less

@@ -1,5 +1,5 @@
 -- Numbers of the entries' files stay as what is kept grows.
-use Rattle.std.proofs.Common.{◌≡◌, ℕ, ◌+◌, ◌<◌, List, [], ◌∷◌, ◌++◌, take, length, get_or, map, Contains, ◌⊎◌, inl, inr, refl, sym, ap, subst, ◌∙◌, append-nil, append_assoc, suc, zero, arith}
+use Rattle.std.proofs.Common.{◌≡◌, ℕ, ◌+◌, ◌<◌, List, [], ◌∷◌, ◌++◌, take, length, get_or, map, Contains, refl, sym, ap, subst, ◌∙◌, suc, zero, arith}
 use Rattle.std.proofs.lemmas.List.{take_more}
 use Rattle.std.proofs.lemmas.List.Elements.{Contains-get_or}
 use Rattle.std.proofs.lemmas.Slice.Zip.{all_zipped_more}
@@ -11,9 +11,7 @@ use Rattle.bundle_name.specs.declared.file_name.FileName.{FileName}
 use Rattle.bundle_terms.specs.Kept.{Kept, Stays}
 use Rattle.bundle_tree.specs.declared.load.ModuleData.{ModuleData}
 use Rattle.bundle_bundler.specs.Kept.{Advances}
-use Rattle.bundle_bundler.specs.Bundler.{files_of, HasNumber, IsNamedAndNumbered}
-use Rattle.bundle_bundler.specs.declared.bundle.Bundle.{Bundle}
-use Rattle.bundle_bundler.specs.declared.bundle.BundleKind.TheVariants.{Named}
+use Rattle.bundle_bundler.specs.Bundler.{files_of, HasNumber}
 use Rattle.bundle_bundler.proofs.Growing.{still_numbered}
 
 pub all_still_numbered : (old new : Kept) → Stays old new → (entries : List (String Global × FileName)) (ids : List ℕ) → AllZip (HasNumber old) entries ids → AllZip (HasNumber new) entries ids
@@ -46,33 +44,6 @@ entry_listed entries i entry within at =
     let count : length (files_of entries) ≡ length entries = long file entries in
     let inside : i < length (files_of entries) = omega (arith, within, count) in
     subst (Contains (files_of entries)) (read_at file entries i entry ∙ ap file at) (Contains-get_or (files_of entries) i (file entry) inside)
-
--- Bundles of entries that stand in turn.
-
--- where no number is left, no entry is
-no_entry : (kept : Kept) (rest : List (String Global × FileName)) → AllZip (HasNumber kept) rest [] → rest ≡ []
-no_entry kept [] all = refl
-no_entry kept (entry ∷ rest) all = absurd all
-
--- these are the bundles so far of entries of which these are left, with these numbers
-abbrev pub AreSoFar : Kept → (entries rest : List (String Global × FileName)) → List ℕ → List Bundle → Type 0
-AreSoFar kept entries rest ids bundles =
-    AllZip (HasNumber kept) rest ids × ((more : List Bundle) → AllZip (IsNamedAndNumbered kept) rest more → AllZip (IsNamedAndNumbered kept) entries (bundles ++ more))
-
--- where nothing is left, they are all
-pub bundles_all : (kept : Kept) (entries rest : List (String Global × FileName)) (ids : List ℕ) (bundles : List Bundle) → (rest ≡ []) ⊎ (ids ≡ []) → AreSoFar kept entries rest ids bundles → AllZip (IsNamedAndNumbered kept) entries bundles
-bundles_all kept entries rest ids bundles over so_far =
-    let none : rest ≡ [] = elim over [ inl is ↦ is | inr is ↦ no_entry kept rest (subst (λ xs. AllZip (HasNumber kept) rest xs) is so_far.0) ] in
-    subst (λ xs. AllZip (IsNamedAndNumbered kept) entries xs) (append-nil bundles) (so_far.1 [] (subst (λ xs. AllZip (IsNamedAndNumbered kept) xs []) (sym none) tt))
-
--- one more
-pub bundles_more : (kept : Kept) (entries rest left : List (String Global × FileName)) (ids numbers : List ℕ) (bundles made : List Bundle) (entry : String Global × FileName) (id : ℕ) (bundle : Bundle)
-    → rest ≡ entry ∷ left → ids ≡ id ∷ numbers → made ≡ bundles ++ bundle ∷ [] → bundle.kind ≡ Named entry.0 → bundle.id ≡ id
-    → AreSoFar kept entries rest ids bundles → AreSoFar kept entries left numbers made
-bundles_more kept entries rest left ids numbers bundles made entry id bundle is_rest is_ids is_made named numbered so_far =
-    let all : AllZip (HasNumber kept) (entry ∷ left) (id ∷ numbers) = subst (λ xs. AllZip (HasNumber kept) xs (id ∷ numbers)) is_rest (subst (λ xs. AllZip (HasNumber kept) rest xs) is_ids so_far.0) in
-    let its : IsNamedAndNumbered kept entry bundle = (named, subst (λ n. HasNumber kept entry n) (sym numbered) all.0) in
-    (all.1, λ more are. subst (λ xs. AllZip (IsNamedAndNumbered kept) entries (xs ++ more)) (sym is_made) (subst (λ xs. AllZip (IsNamedAndNumbered kept) entries xs) (sym (append_assoc bundles (bundle ∷ []) more)) (so_far.1 (bundle ∷ more) (subst (λ xs. AllZip (IsNamedAndNumbered kept) xs (bundle ∷ more)) (sym is_rest) (its, are)))))
 
 -- Lists that are counted.
 

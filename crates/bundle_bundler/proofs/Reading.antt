@@ -5,7 +5,7 @@ use Rattle.std.specs.Prelude.{IfSome, IsSome}
 use Rattle.std.proofs.lemmas.Option.{same_Some}
 use Rattle.bundle_cleared.proofs.CallLemmas.{requests}
 use Rattle.bundle_cleared.proofs.FaultLemmas.{faultless, faultless_of_cleared, first_fault}
-use Rattle.bundle_entry.specs.Source.{IsTreeRefusal, Links}
+use Rattle.bundle_link.specs.Refusals.{IsTreeRefusal, Links}
 use Rattle.bundle_name.specs.declared.error.Error.{Error}
 use Rattle.bundle_name.specs.FileName.{Name}
 use Rattle.bundle_name.specs.declared.config.Config.{Config}

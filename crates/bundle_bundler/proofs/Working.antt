@@ -53,7 +53,7 @@ LoadsOn parties settings list longer place old now =
     (outcome : Outcome) (last : Kept) → LoadsAll parties settings longer place now outcome last → LoadsAll parties settings list 0 old outcome last
 
 -- where a place is empty, the list has ended
-none_past : {X : Type 0} (xs : List X) (n : ℕ) → slice_get xs n ≡ None → length xs ≤ n
+pub none_past : {X : Type 0} (xs : List X) (n : ℕ) → slice_get xs n ≡ None → length xs ≤ n
 none_past [] n none = omega arith
 none_past (x ∷ xs) zero none = cc
 none_past (x ∷ xs) (suc n) none = let le : length xs ≤ n = none_past xs n none in omega (arith, le)

@@ -1,4 +1,4 @@
--- What a bundler is made of, and what a bundle of an entry is, as far as its name and its number go.
+-- What a bundler is made of, and the numbers of entries' files.
 use Rattle.std.specs.Prelude.{◌≡◌, ℕ, List, Some, map}
 use Rattle.std.specs.declared.alloc.Global.{Global}
 use Rattle.std.specs.declared.dyn_box.DynBox.{DynBox}
@@ -8,9 +8,7 @@ use Rattle.bundle_name.specs.declared.file_name.FileName.{FileName}
 use Rattle.bundle_terms.specs.Kept.{Kept, number_in}
 use Rattle.bundle_name.specs.declared.config.Config.{Config}
 use Rattle.bundle_bundler.specs.Kept.{kept_of}
-use Rattle.bundle_bundler.specs.declared.bundle.Bundle.{Bundle}
 use Rattle.bundle_bundler.specs.declared.bundler.Bundler.{Bundler}
-use Rattle.bundle_bundler.specs.declared.bundle.BundleKind.TheVariants.{Named}
 
 -- what a bundler keeps
 abbrev pub kept_by : {L R H : Type 0} {Is : H → Type 0} → Bundler L R H Is → Kept
@@ -39,7 +37,3 @@ files_of entries = map (λ entry. name_of entry.1) entries
 -- the number of an entry's file
 abbrev pub HasNumber : Kept → String Global × FileName → ℕ → Type 0
 HasNumber kept entry id = number_in kept (name_of entry.1) ≡ Some id
-
--- a bundle is named as its entry, and has the number of its file
-abbrev pub IsNamedAndNumbered : Kept → String Global × FileName → Bundle → Type 0
-IsNamedAndNumbered kept entry bundle = (bundle.kind ≡ Named entry.0) × HasNumber kept entry bundle.id

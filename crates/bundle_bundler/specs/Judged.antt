@@ -1,13 +1,19 @@
--- How a call ends, in the order of judging.
+-- How a call ends, in the order of judging, and what a bundle of an entry is, but for its tree.
 use Rattle.std.specs.Prelude.{◌≡◌, ◌⊎◌, ℕ, ◌<◌, slice_get, Some, Bool, true, false, IfSome, IsTrue, List, Result, Ok, Err}
+use Rattle.std.specs.declared.alloc.Global.{Global}
+use Rattle.std.specs.declared.string.String.{String}
 use Rattle.bundle_name.specs.FileName.{Name}
+use Rattle.bundle_name.specs.declared.file_name.FileName.{FileName}
 use Rattle.bundle_name.specs.declared.error.Error.{Error}
 use Rattle.bundle_tree.specs.declared.load.ModuleData.{ModuleData}
 use Rattle.bundle_terms.specs.Entries.{Settings}
 use Rattle.bundle_terms.specs.Kept.{Kept}
-use Rattle.bundle_terms.specs.Faults.{Fault, LoadFails, ResolveFails, TooManyModules, DoubledExport, UndeclaredExport, DoubledEntry, Parties, fault_of}
-use Rattle.bundle_terms.specs.Judging.{Entry, Outcome, GoesOn, Refused, IsDoubledEntry, Refuses, Completes}
-use Rattle.bundle_bundler.specs.Kept.{parties_of}
+use Rattle.bundle_terms.specs.Faults.{Fault, ContextsUsedUp, DoubledEntry, Parties, fault_of}
+use Rattle.bundle_terms.specs.Judging.{Entry, Outcome, GoesOn, Refused, IsDoubledEntry, Refuses, Completes, AcceptsProgram, IsProgramOf}
+use Rattle.bundle_terms.specs.Program.{Program}
+use Rattle.bundle_bundler.specs.Kept.{entry_of, parties_of}
+use Rattle.bundle_bundler.specs.declared.bundle.Bundle.{Bundle}
+use Rattle.bundle_bundler.specs.declared.bundle.BundleKind.TheVariants.{Named}
 
 -- a part of the judging ends as the result says: it goes on, or is refused by the fault that is told; want of memory tells of none
 abbrev pub Ends : {T : Type 0} → Result T Error → (Outcome → Type 0) → Type 0
@@ -32,18 +38,20 @@ AreApart entries = (i j : ℕ) (a b : Entry) → i < j → slice_get entries i �
 abbrev pub IsFaultOfList : List Entry → Fault → Type 0
 IsFaultOfList entries fault = (later : Entry) × IsDoubledEntry entries later × (fault ≡ DoubledEntry later.file later.name)
 
--- whether linking may tell of a fault: it is none of the list, of loading or of a file's exports by themselves
-abbrev pub may_be_linking : Fault → Bool
-may_be_linking (LoadFails file) = false
-may_be_linking (ResolveFails file specifier) = false
-may_be_linking (TooManyModules file) = false
-may_be_linking (DoubledExport file name) = false
-may_be_linking (UndeclaredExport file name) = false
-may_be_linking (DoubledEntry file name) = false
-may_be_linking _ = true
+-- whether the fault is that contexts are used up: they may be while modules are merged; whether they are is not said yet
+abbrev pub may_be_contexts : Fault → Bool
+may_be_contexts (ContextsUsedUp file) = true
+may_be_contexts _ = false
 
--- why there is no bundle: the first fault in the order of judging, or want of memory. Where all that the entries reach was loaded
--- and no file of it is at fault by itself, so that a fault is one of linking, no more is said of it yet
+-- why there is no bundle: the first fault in the order of judging, or want of memory; or contexts are used up, where all that the entries reach is kept
 abbrev pub IsRefusedBy : Parties → Settings → List Entry → (old new : Kept) → Error → Type 0
 IsRefusedBy parties settings entries old new refusal =
-    IfSome (fault_of refusal) (λ fault. Refuses parties settings entries old fault new ⊎ (Completes parties settings entries old new × IsTrue (may_be_linking fault)))
+    IfSome (fault_of refusal) (λ fault. Refuses parties settings entries old fault new ⊎ (Completes parties settings entries old new × IsTrue (may_be_contexts fault)))
+
+-- a bundle of an entry over what is kept: it is named as the entry, has the number of its file, and the program of the entry is accepted
+pub record IsBundledFor (parties : Parties) (settings : Settings) (kept : Kept) (entry : String Global × FileName) (bundle : Bundle) : Type 0 where
+  pub its_name : bundle.kind ≡ Named entry.0
+  pub p : Program
+  pub its_program : IsProgramOf kept settings (entry_of entry) p
+  pub its_id : bundle.id ≡ p.entry
+  pub accepted : AcceptsProgram p parties

@@ -1,19 +1,15 @@
 -- What a bundler keeps, its parties and its settings, in the words of the definitions.
-use Rattle.std.specs.Prelude.{◌≡◌, ◌⊎◌, ℕ, Bool, true, false, List, Some, Contains, IsSome, map, flat_map}
+use Rattle.std.specs.Prelude.{◌≡◌, ◌⊎◌, ℕ, Bool, List, Some, Contains, IsSome, map}
 use Rattle.std.specs.String.{string_bytes}
 use Rattle.std.specs.declared.alloc.Global.{Global}
 use Rattle.std.specs.declared.string.String.{String}
-use Rattle.bundle_piece.specs.Item.{Item}
 use Rattle.bundle_ast.specs.declared.expr.Expr.{Expr}
 use Rattle.bundle_ast.specs.declared.prop.KeyValueProp.{KeyValueProp}
-use Rattle.bundle_pieces.specs.Tree.{key_value_prop_items, module_items}
+use Rattle.bundle_pieces.specs.Tree.{module_items}
 use Rattle.bundle_name.specs.FileName.{Name, name_of}
 use Rattle.bundle_name.specs.declared.config.Config.{Config}
-use Rattle.bundle_name.specs.declared.config.ModuleType.{ModuleType}
-use Rattle.bundle_name.specs.declared.config.ModuleType.TheVariants.{Es, Iife}
 use Rattle.bundle_name.specs.declared.file_name.FileName.{FileName}
 use Rattle.bundle_tree.specs.declared.load.ModuleData.{ModuleData}
-use Rattle.bundle_terms.specs.Cleared.{cleared}
 use Rattle.bundle_terms.specs.Entries.{Settings}
 use Rattle.bundle_terms.specs.Program.{Loaded}
 use Rattle.bundle_terms.specs.Kept.{Asked, Answers, GrowsTo, Kept, kept_file, kept_module}
@@ -21,14 +17,13 @@ use Rattle.bundle_terms.specs.Faults.{Parties}
 use Rattle.bundle_terms.specs.Judging.{Entry}
 use Rattle.bundle_kept.specs.Kept.{names_in, trees_in, resolved_in}
 use Rattle.bundle_kept.specs.declared.kept.Kept as store
+use Rattle.bundle_link.specs.Programs.{is_call}
+pub use Rattle.bundle_entry.specs.Source.{kept_as}
+pub use Rattle.bundle_entry.specs.Hook.{Holds}
 
 -- a module as its loader hands it in
 abbrev pub handed_in : ModuleData → Loaded
 handed_in given = record { file_name = name_of given.file_name; items = module_items 0 given.«module» }
-
--- a module as it is kept: its contexts and notes are gone
-abbrev pub kept_as : ModuleData → Loaded
-kept_as given = record { file_name = name_of given.file_name; items = cleared (module_items 0 given.«module») }
 
 -- what is kept
 abbrev pub kept_of : store.Kept ModuleData → Kept
@@ -44,12 +39,6 @@ pub record HandsIn (may_load : Name → ModuleData → Type 0) (file : Name) (lo
 abbrev pub answers_of : (Name → ModuleData → Type 0) → (Name → List ℕ → Name → Type 0) → Answers
 answers_of may_load may_resolve = record { may_load = HandsIn may_load; may_resolve = λ asked. may_resolve asked.file asked.specifier }
 
--- a hook that may give properties answers their list
-pub record Holds (may_give : Name → Bool → List (KeyValueProp Expr) → Type 0) (file : Name) (is_entry : Bool) (items : List Item) : Type 0 where
-  pub given : List (KeyValueProp Expr)
-  pub may : may_give file is_entry given
-  pub is : items ≡ flat_map (key_value_prop_items 0) given
-
 -- what loader, resolver and hook may answer, and where they may fail
 abbrev pub parties_of : (Name → ModuleData → Type 0) → (Name → Type 0) → (Name → List ℕ → Name → Type 0) → (Name → List ℕ → Type 0) → (Name → Bool → List (KeyValueProp Expr) → Type 0) → (Name → Bool → Type 0) → Parties
 parties_of may_load may_fail_load may_resolve may_fail_resolve may_give may_fail_hook = record {
@@ -59,11 +48,6 @@ parties_of may_load may_fail_load may_resolve may_fail_resolve may_give may_fail
   may_fail_to_resolve = λ asked. may_fail_resolve asked.file asked.specifier;
   may_fail_to_answer = may_fail_hook;
 }
-
--- whether a bundle is one function's call
-abbrev pub is_call : ModuleType → Bool
-is_call Es = false
-is_call Iife = true
 
 -- the settings
 abbrev pub settings_of : Config → Settings

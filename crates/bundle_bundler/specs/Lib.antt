@@ -4,3 +4,4 @@ pub mod Bundler
 pub mod Loading
 pub mod Refusal
 pub mod Judged
+pub mod Linking

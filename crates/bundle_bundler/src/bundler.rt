@@ -5,12 +5,13 @@ ghost use Rattle.std.specs.List.{AllZip};
 ghost use Rattle.bundle_name.specs.FileName.{name_of};
 ghost use Rattle.bundle_terms.specs.Faults.{DoubledEntry, fault_of};
 ghost use Rattle.bundle_terms.specs.Judging.{Completes, NumbersEach};
-ghost use Rattle.bundle_terms.specs.Kept.{nothing_kept, GrowsTo, Kept, Stays};
-ghost use Rattle.bundle_bundler.specs.Bundler.{config_of, files_of, hook_of, kept_by, loader_of, resolver_of, HasNumber, IsNamedAndNumbered};
-ghost use Rattle.bundle_bundler.specs.Judged.{Ends, AreApart, IsFaultOfList, IsRefusedBy};
+ghost use Rattle.bundle_terms.specs.Kept.{nothing_kept, GrowsTo, Stays};
+ghost use Rattle.bundle_bundler.specs.Bundler.{config_of, files_of, hook_of, kept_by, loader_of, resolver_of, HasNumber};
+ghost use Rattle.bundle_bundler.specs.Judged.{Ends, AreApart, IsBundledFor, IsFaultOfList, IsRefusedBy};
 ghost use Rattle.bundle_bundler.specs.Kept.{answers_of, entry_of, kept_of, parties_of, settings_of};
 ghost use Rattle.bundle_bundler.specs.Library.{IsToldOf, MovesOn};
-ghost use Rattle.bundle_bundler.specs.Loading.{files_on, AreSound, AreMet};
+ghost use Rattle.bundle_bundler.specs.Linking.{answered_by, IsLoaded, IsNumberedOn, IsReadOf, IsRefusalOfEntries};
+ghost use Rattle.bundle_bundler.specs.Loading.{files_on, AreMet, AreNumbered, AreSound};
 ghost use Rattle.bundle_bundler.specs.Refusal.{IsRefusedLoading};
 
 use crate::bundle::{Bundle, BundleKind};
@@ -76,8 +77,12 @@ impl<L: Load + Drop, R: Resolve + Drop> Bundler<L, R> {
         ensures resolver { resolver_of self.new ≡ resolver_of self.old }
         ensures config { config_of self.new ≡ config_of self.old }
         ensures hook { hook_of self.new ≡ hook_of self.old }
-        ensures bundles { IfOk result (λ bundles.
-            AllZip (IsNamedAndNumbered (kept_by self.new)) entries.items bundles.items) }
+        ensures bundles { IfOk result (λ bundles. AllZip (IsBundledFor
+            (parties_of
+            (L.may_load (loader_of self.old)) (L.may_fail_load (loader_of self.old))
+            (R.may_resolve (resolver_of self.old)) (R.may_fail_resolve (resolver_of self.old))
+            (may_give (hook_of self.old)) (may_fail_hook (hook_of self.old)))
+            (settings_of (config_of self.old)) (kept_by self.new)) entries.items bundles.items) }
         ensures refused { IfErr result (IsRefusedLoading (parties_of
             (L.may_load (loader_of self.old)) (L.may_fail_load (loader_of self.old))
             (R.may_resolve (resolver_of self.old)) (R.may_fail_resolve (resolver_of self.old))
@@ -150,6 +155,8 @@ fn numbered<L: Load + Drop, R: Resolve + Drop>(
     entries: &[(String, FileName)],
 ) -> Result<(LoadList, Vec<ModuleId>), Error>
     ensures numbered { IfOk result (λ made. AllZip (HasNumber (kept_of library.new.kept)) entries.now made.1.items) }
+    ensures listed { IfOk result (λ made. AreNumbered (kept_of library.new.kept) made.0) }
+    ensures unasked { IfOk result (λ made. made.0.deps.items ≡ []) }
     ensures met { IfOk result (λ made. AreMet (kept_of library.new.kept) (files_on made.0)) }
     ensures grows { MovesOn L.may_load R.may_resolve (files_of entries.now) library.old library.new }
     ensures refused { (max_modules : ℕ) → IfErr result (IsToldOf L.may_fail_load R.may_fail_resolve max_modules library.new) }
@@ -177,7 +184,14 @@ fn linked_bundles<L: Load + Drop, R: Resolve + Drop>(
     ids: Vec<ModuleId>,
 ) -> Result<Vec<Bundle>, Unlinked>
     requires { AreSound (kept_of library.now.kept) (files_on list.now) }
-    ensures bundles { IfOk result (λ bundles. (kept : Kept) → AllZip (HasNumber kept) entries.items ids.items → AllZip (IsNamedAndNumbered kept) entries.items bundles.items) }
+    ensures bundles { IfOk result (λ bundles. IsLoaded (settings_of config.now) (kept_of library.now.kept) list.now →
+        AllZip (IsNumberedOn (kept_of library.now.kept) list.now) entries.items ids.items →
+        AllZip (IsBundledFor (answered_by (may_give hook.now) (may_fail_hook hook.now))
+        (settings_of config.now) (kept_of library.now.kept)) entries.items bundles.items) }
+    ensures refused { IfErr result (λ unlinked. IsLoaded (settings_of config.now) (kept_of library.now.kept) list.now →
+        AllZip (IsNumberedOn (kept_of library.now.kept) list.now) entries.items ids.items →
+        IsRefusalOfEntries (answered_by (may_give hook.now) (may_fail_hook hook.now))
+        (settings_of config.now) (kept_of library.now.kept) (map entry_of entries.items) unlinked) }
 {
     let program = program_on(library, alloc, list, config)?;
     bundles_of(alloc, library, list, &program, config, hook, entries, ids)
@@ -195,7 +209,14 @@ fn bundles_of<'x, L: Load + Drop, R: Resolve + Drop>(
     ids: Vec<ModuleId>,
 ) -> Result<Vec<Bundle>, Unlinked>
     requires { AreSound (kept_of library.now.kept) (files_on list.now) }
-    ensures bundles { IfOk result (λ bundles. (kept : Kept) → AllZip (HasNumber kept) entries.items ids.items → AllZip (IsNamedAndNumbered kept) entries.items bundles.items) }
+    ensures bundles { IfOk result (λ bundles. IsReadOf (settings_of config.now) (kept_of library.now.kept) list.now program.now →
+        AllZip (IsNumberedOn (kept_of library.now.kept) list.now) entries.items ids.items →
+        AllZip (IsBundledFor (answered_by (may_give hook.now) (may_fail_hook hook.now))
+        (settings_of config.now) (kept_of library.now.kept)) entries.items bundles.items) }
+    ensures refused { IfErr result (λ unlinked. IsReadOf (settings_of config.now) (kept_of library.now.kept) list.now program.now →
+        AllZip (IsNumberedOn (kept_of library.now.kept) list.now) entries.items ids.items →
+        IsRefusalOfEntries (answered_by (may_give hook.now) (may_fail_hook hook.now))
+        (settings_of config.now) (kept_of library.now.kept) (map entry_of entries.items) unlinked) }
 {
     let mut bundles = Vec::new(alloc);
     for (entry, id) in entries.into_iter().zip(ids) {

@@ -1,7 +1,13 @@
 //! The module of an entry.
 
-ghost use Rattle.bundle_bundler.specs.Kept.{kept_of};
-ghost use Rattle.bundle_bundler.specs.Loading.{files_on, AreSound};
+ghost use Rattle.std.specs.Prelude.{Contains, IfErr, OnOk};
+ghost use Rattle.bundle_terms.specs.Faults.{IsFaultlessProgram};
+ghost use Rattle.bundle_terms.specs.Judging.{AcceptsProgram};
+ghost use Rattle.bundle_terms.specs.Kept.{program_of};
+ghost use Rattle.bundle_entry.specs.Unlinked.{MayBeMerging};
+ghost use Rattle.bundle_bundler.specs.Kept.{kept_of, settings_of};
+ghost use Rattle.bundle_bundler.specs.Linking.{answered_by, IsLoaded, IsReadOf, IsRefusalOfProgram};
+ghost use Rattle.bundle_bundler.specs.Loading.{files_on, ids_on, AreSound};
 
 use crate::library::Library;
 use crate::load::LoadList;
@@ -27,6 +33,16 @@ pub fn module_on<'p, 'x, L: Load + Drop, R: Resolve + Drop>(
     entry: ModuleId,
 ) -> Result<Module, Unlinked>
     requires { AreSound (kept_of library.now.kept) (files_on list.now) }
+    ensures accepted { OnOk result (
+        IsReadOf (settings_of call.now.config.now) (kept_of library.now.kept) list.now call.now.program.now →
+        Contains (ids_on list.now) entry → AcceptsProgram
+        (program_of (kept_of library.now.kept) (settings_of call.now.config.now) entry)
+        (answered_by (may_give hook.now) (may_fail_hook hook.now))) }
+    ensures refused { IfErr result (λ unlinked.
+        IsReadOf (settings_of call.now.config.now) (kept_of library.now.kept) list.now call.now.program.now →
+        Contains (ids_on list.now) entry → IsRefusalOfProgram
+        (answered_by (may_give hook.now) (may_fail_hook hook.now))
+        (program_of (kept_of library.now.kept) (settings_of call.now.config.now) entry) unlinked) }
 {
     let linked = linked_entry(alloc, call, entry)?;
     let answers = ask_all(alloc, call, hook, &linked)?;
@@ -56,6 +72,9 @@ fn answered_module<'y, L: Load + Drop, R: Resolve + Drop>(
     answers: &'y [Answer],
 ) -> Result<Module, Unlinked>
     requires { AreSound (kept_of library.now.kept) (files_on list.now) }
+    ensures { IfErr result (λ unlinked. IsLoaded (settings_of config.now) (kept_of library.now.kept) list.now →
+        Contains (ids_on list.now) entry →
+        IsFaultlessProgram (program_of (kept_of library.now.kept) (settings_of config.now) entry) → MayBeMerging unlinked) }
 {
     let program = program_on(library, alloc, list, config)?;
     let call = Call {

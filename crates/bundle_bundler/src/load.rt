@@ -1,22 +1,23 @@
 //! The load list: the files that an entry needs, in the order in which they are met.
 
-ghost use Rattle.std.specs.Prelude.{◌≡◌, ◌∷◌, ℕ, suc, map, slice_get, string_bytes, [], List, Some, IsSome, IfOk, IfErr, IfSome, OnOk};
+ghost use Rattle.std.specs.Prelude.{◌≡◌, ◌++◌, ◌∷◌, ℕ, suc, length, map, slice_get, string_bytes, [], List, Some, IsSome, IfOk, IfErr, IfSome, OnOk};
 ghost use Rattle.std.specs.Option.{option_map};
 ghost use Rattle.bundle_name.specs.FileName.{Name, name_of};
+ghost use Rattle.bundle_name.specs.ModuleIdGenerator.{IsDistinct};
 ghost use Rattle.bundle_terms.specs.Faults.{IsFaultless, IsFirstTreeFault, fault_of};
 ghost use Rattle.bundle_terms.specs.Judging.{Asks, LoadsAll, requests_in};
-ghost use Rattle.bundle_terms.specs.Kept.{kept_file, kept_module};
+ghost use Rattle.bundle_terms.specs.Kept.{Kept, kept_file, kept_module, number_in};
 ghost use Rattle.bundle_terms.specs.Program.{Loaded};
 ghost use Rattle.bundle_kept.specs.Kept.{asked_of};
 ghost use Rattle.bundle_bundler.specs.Judged.{Ends, LeadsOn, asked_by};
 ghost use Rattle.bundle_bundler.specs.Kept.{kept_of, settings_of, IsKept, IsMet};
 ghost use Rattle.bundle_bundler.specs.Library.{IsToldOf, MovesOn};
-ghost use Rattle.bundle_bundler.specs.Loading.{files_on, AreMet, AreSound, Begins, IsPlaced, IsSound};
+ghost use Rattle.bundle_bundler.specs.Loading.{files_on, ids_on, AllLead, AreAsked, AreMet, AreNumbered, AreSound, Begins, IsNoted, IsPlaced, IsSound, LeadsTo};
 
 use crate::library::Library;
-use bundle_entry::requests_of;
 use bundle_id::ModuleId;
 use bundle_kept::Request;
+use bundle_link::tables::requests_of;
 use bundle_name::config::Config;
 use bundle_name::error::Error;
 use bundle_name::file_name::FileName;
@@ -25,58 +26,64 @@ use bundle_tree::resolve::Resolve;
 use indexmap::IndexMap;
 use std::alloc::{AllocError, Global};
 
-/// Files with their numbers, in the order in which they were met, and for each that was worked on the
-/// places of the files that its specifiers lead to.
+/// Files with their numbers, in the order in which they were met, and for each that was worked on its requests, in their
+/// order, each with the number of the file to which it leads.
 #[derive(Debug, Drop)]
 pub struct LoadList {
     pub files: IndexMap<FileName, ModuleId>,
-    pub requests: Vec<IndexMap<String, usize>>,
+    pub deps: Vec<Vec<(String, ModuleId)>>,
 }
 
 impl LoadList {
     /// A list without files. It takes no memory.
     pub(crate) fn new(alloc: Global) -> LoadList
-        ensures { files_on result ≡ [] }
+        ensures files { files_on result ≡ [] }
+        ensures deps { result.deps.items ≡ [] }
     {
         LoadList {
             files: IndexMap::new(alloc),
-            requests: Vec::new(alloc),
+            deps: Vec::new(alloc),
         }
     }
 
-    /// The place of a file, which goes last where it has none yet.
-    pub(crate) fn place(&mut self, file: &FileName, id: ModuleId) -> Result<usize, AllocError>
-        ensures { OnOk result (IsPlaced (files_on self.old) (name_of file.now) (files_on self.new)) }
+    /// Puts a file with its number on the list, where it goes last unless it is there.
+    pub(crate) fn place(&mut self, file: &FileName, id: ModuleId) -> Result<(), AllocError>
+        ensures placed { OnOk result (IsPlaced (files_on self.old) (name_of file.now) (files_on self.new)) }
+        ensures numbered { (kept : Kept) → number_in kept (name_of file.now) ≡ Some id → AreNumbered kept self.old → OnOk result (AreNumbered kept self.new) }
+        ensures deps { self.new.deps ≡ self.old.deps }
     {
-        if let Some(place) = self.files.get_index_of(file) {
-            return Ok(place);
+        if let Some(_place) = self.files.get_index_of(file) {
+            return Ok(());
         }
-        let place = self.files.len();
         self.files.insert(file.clone()?, id)?;
-        Ok(place)
+        Ok(())
     }
 
-    // The file at a place.
+    // The file at a place. No file has two.
     fn file_at(&self, place: usize) -> Result<Option<FileName>, AllocError>
-        ensures { IfOk result (λ file. option_map name_of file ≡ slice_get (files_on self.now) place) }
+        ensures file { IfOk result (λ file. option_map name_of file ≡ slice_get (files_on self.now) place) }
+        ensures once { IsDistinct (files_on self.now) }
     {
+        // `len` says that no file stands twice.
+        let _count = self.files.len();
         match self.files.get_index(place) {
             Some((file, _)) => Ok(Some(file.clone()?)),
             None => Ok(None),
         }
     }
 
-    // Notes where the specifiers of the next file lead.
-    fn add_requests(&mut self, places: IndexMap<String, usize>) -> Result<(), AllocError>
-        ensures { files_on self.new ≡ files_on self.old }
+    // Notes the requests of the next file.
+    fn add_deps(&mut self, its: Vec<(String, ModuleId)>) -> Result<(), AllocError>
+        ensures files { self.new.files ≡ self.old.files }
+        ensures deps { OnOk result (self.new.deps.items ≡ self.old.deps.items ++ its ∷ []) }
     {
-        self.requests.push(places)?;
+        self.deps.push(its)?;
         Ok(())
     }
 }
 
 /// Loads the files on a list and all files that they need, first in first out, and gives the list of all. Each file on it
-/// is kept, and none is at fault by itself.
+/// is kept, and none is at fault by itself; each has its number, and its requests are noted.
 pub(crate) fn load_all<L: Load + Drop, R: Resolve + Drop>(
     library: &mut Library<L, R>,
     alloc: Global,
@@ -87,6 +94,11 @@ pub(crate) fn load_all<L: Load + Drop, R: Resolve + Drop>(
     ensures grows { (entries : List Name) → MovesOn L.may_load R.may_resolve entries library.old library.new }
     ensures refused { IfErr result (IsToldOf L.may_fail_load R.may_fail_resolve config.now.max_modules library.new) }
     ensures loaded { IfOk result (λ list. AreSound (kept_of library.new.kept) (files_on list)) }
+    ensures begins { IfOk result (λ made. Begins (files_on list) (files_on made)) }
+    ensures once { IfOk result (λ made. IsDistinct (files_on made)) }
+    ensures numbered { IfOk result (λ made. AreNumbered (kept_of library.old.kept) list → AreNumbered (kept_of library.new.kept) made) }
+    ensures asked { IfOk result (λ made. list.deps.items ≡ [] → AreNumbered (kept_of library.old.kept) list →
+        AreAsked (settings_of config.now) (kept_of library.new.kept) made × (length made.deps.items ≡ length (files_on made))) }
     ensures judged { Ends result (λ outcome. LoadsAll
         (asked_by L.may_load L.may_fail_load R.may_resolve R.may_fail_resolve library.old.loader library.old.resolver)
         (settings_of config.now) (files_on list) 0 (kept_of library.old.kept) outcome (kept_of library.new.kept)) }
@@ -119,6 +131,9 @@ fn work_on<L: Load + Drop, R: Resolve + Drop>(
     ensures loaded { OnOk result (IsSound (kept_of library.new.kept) (name_of file.now)) }
     ensures met { OnOk result (AreMet (kept_of library.new.kept) (files_on list.new)) }
     ensures begins { OnOk result (Begins (files_on list.old) (files_on list.new)) }
+    ensures numbered { OnOk result (AreNumbered (kept_of library.old.kept) list.old → AreNumbered (kept_of library.new.kept) list.new) }
+    ensures asked { OnOk result (AreNumbered (kept_of library.old.kept) list.old →
+        IsNoted (settings_of config.now) (kept_of library.new.kept) (name_of file.now) list.old list.new) }
     ensures judged { (place : ℕ) → slice_get (files_on list.old) place ≡ Some (name_of file.now) →
         let parties = asked_by L.may_load L.may_fail_load R.may_resolve R.may_fail_resolve library.old.loader library.old.resolver in
         LeadsOn result
@@ -128,63 +143,62 @@ fn work_on<L: Load + Drop, R: Resolve + Drop>(
 {
     library.load(alloc, file, config)?;
     let specifiers = kept_requests(library, alloc, file, config)?;
-    let places = ask_each(library, alloc, list, file, specifiers)?;
-    list.add_requests(places)?;
+    let deps = ask_each(library, alloc, list, file, specifiers)?;
+    list.add_deps(deps)?;
     Ok(())
 }
 
-// The places of the files that `file` means by these specifiers, which get numbers and go on the list where they are new
-// there.
+// These specifiers of `file`, each with the number of the file that it means, which gets one and goes on the list where it
+// is new there.
 fn ask_each<L: Load + Drop, R: Resolve + Drop>(
     library: &mut Library<L, R>,
     alloc: Global,
     list: &mut LoadList,
     file: &FileName,
     specifiers: Vec<String>,
-) -> Result<IndexMap<String, usize>, Error>
+) -> Result<Vec<(String, ModuleId)>, Error>
     requires met { AreMet (kept_of library.old.kept) (files_on list.old) }
     requires loaded { IsKept (kept_of library.old.kept) (name_of file.now) }
     ensures grows { (entries : List Name) → MovesOn L.may_load R.may_resolve entries library.old library.new }
     ensures refused { (max_modules : ℕ) → IfErr result (IsToldOf L.may_fail_load R.may_fail_resolve max_modules library.new) }
     ensures met { OnOk result (AreMet (kept_of library.new.kept) (files_on list.new)) }
     ensures begins { OnOk result (Begins (files_on list.old) (files_on list.new)) }
+    ensures numbered { OnOk result (AreNumbered (kept_of library.old.kept) list.old → AreNumbered (kept_of library.new.kept) list.new) }
+    ensures asked { IfOk result (λ deps. map (λ dep. string_bytes dep.0) deps.items ≡ map string_bytes specifiers.items) }
+    ensures leads { IfOk result (λ deps. AreNumbered (kept_of library.old.kept) list.old →
+        AllLead (kept_of library.new.kept) (ids_on list.new) (name_of file.now) deps.items) }
+    ensures deps { list.new.deps ≡ list.old.deps }
     ensures judged { Ends result (λ outcome. Asks
         (asked_by L.may_load L.may_fail_load R.may_resolve R.may_fail_resolve library.old.loader library.old.resolver)
         (name_of file.now) (map string_bytes specifiers.items)
         (kept_of library.old.kept) (files_on list.old) outcome (kept_of library.new.kept) (files_on list.new)) }
 {
-    let mut places = IndexMap::new(alloc);
+    let mut deps = Vec::new(alloc);
     for specifier in specifiers {
-        let place = place_of(library, alloc, list, file, &specifier)?;
-        add_place(&mut places, specifier, place)?;
+        let id = id_of(library, alloc, list, file, &specifier)?;
+        deps.push((specifier, id))?;
     }
-    Ok(places)
+    Ok(deps)
 }
 
-fn add_place(
-    places: &mut IndexMap<String, usize>,
-    specifier: String,
-    place: usize,
-) -> Result<(), AllocError> {
-    places.insert(specifier, place)?;
-    Ok(())
-}
-
-// The place of the file that `file` means by a specifier, which gets a number and goes on the list where
-// it is new there.
-fn place_of<L: Load + Drop, R: Resolve + Drop>(
+// The number of the file that `file` means by a specifier, which gets one and goes on the list where it is new there.
+fn id_of<L: Load + Drop, R: Resolve + Drop>(
     library: &mut Library<L, R>,
     alloc: Global,
     list: &mut LoadList,
     file: &FileName,
     specifier: &String,
-) -> Result<usize, Error>
+) -> Result<ModuleId, Error>
     requires met { AreMet (kept_of library.old.kept) (files_on list.old) }
     requires loaded { IsKept (kept_of library.old.kept) (name_of file.now) }
     ensures grows { (entries : List Name) → MovesOn L.may_load R.may_resolve entries library.old library.new }
     ensures refused { (max_modules : ℕ) → IfErr result (IsToldOf L.may_fail_load R.may_fail_resolve max_modules library.new) }
     ensures met { OnOk result (AreMet (kept_of library.new.kept) (files_on list.new)) }
     ensures begins { OnOk result (Begins (files_on list.old) (files_on list.new)) }
+    ensures numbered { OnOk result (AreNumbered (kept_of library.old.kept) list.old → AreNumbered (kept_of library.new.kept) list.new) }
+    ensures leads { IfOk result (λ id. AreNumbered (kept_of library.old.kept) list.old →
+        LeadsTo (kept_of library.new.kept) (ids_on list.new) (name_of file.now) (specifier.now, id)) }
+    ensures deps { list.new.deps ≡ list.old.deps }
     ensures judged { Ends result (λ outcome. Asks
         (asked_by L.may_load L.may_fail_load R.may_resolve R.may_fail_resolve library.old.loader library.old.resolver)
         (name_of file.now) (string_bytes specifier.now ∷ [])
@@ -194,7 +208,8 @@ fn place_of<L: Load + Drop, R: Resolve + Drop>(
     library.resolve(alloc, &request)?;
     let target = target_of(library, &request)?;
     let id = library.id(&target)?;
-    Ok(list.place(&target, id)?)
+    list.place(&target, id)?;
+    Ok(id)
 }
 
 fn request_of(file: &FileName, specifier: &String) -> Result<Request, AllocError>
@@ -233,5 +248,5 @@ fn kept_requests<L: Load + Drop, R: Resolve + Drop>(
         IsFaultless (name_of file.now) loaded.items × (map string_bytes texts.items ≡ requests_in (settings_of config.now) loaded.items)) }
 {
     let loaded = library.module(file).unwrap();
-    requests_of(alloc, file, loaded, config)
+    requests_of(alloc, file, &loaded.module, config)
 }

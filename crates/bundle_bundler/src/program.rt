@@ -1,8 +1,12 @@
 //! What the files of a load list say.
 
+ghost use Rattle.std.specs.Prelude.{◌≡◌, ℕ, Some, IfOk};
 ghost use Rattle.bundle_name.specs.FileName.{name_of};
-ghost use Rattle.bundle_bundler.specs.Kept.{kept_of};
-ghost use Rattle.bundle_bundler.specs.Loading.{files_on, AreSound, IsSound};
+ghost use Rattle.bundle_terms.specs.Kept.{number_in, program_of as program_of_lem};
+ghost use Rattle.bundle_entry.specs.Source.{AreSourcesOf, IsSourceOf};
+ghost use Rattle.bundle_bundler.specs.Kept.{kept_of, settings_of};
+ghost use Rattle.bundle_bundler.specs.Linking.{IsLoaded, IsReadOf};
+ghost use Rattle.bundle_bundler.specs.Loading.{files_on, ids_on, AreNumbered, AreSound, IsSound};
 
 use crate::library::Library;
 use crate::load::LoadList;
@@ -21,9 +25,12 @@ pub fn program_on<'x, L: Load + Drop, R: Resolve + Drop>(
     config: &Config,
 ) -> Result<Program<'x>, AllocError>
     requires { AreSound (kept_of library.now.kept) (files_on list.now) }
+    ensures { IfOk result (λ program.
+        IsLoaded (settings_of config.now) (kept_of library.entry.now.kept) list.entry.now →
+        IsReadOf (settings_of config.now) (kept_of library.entry.now.kept) list.entry.now program) }
 {
     let sources = sources_on(library, alloc, list, config)?;
-    program_of(alloc, &list.files, list.requests.as_slice(), sources)
+    program_of(alloc, &list.files, list.deps.as_slice(), sources)
 }
 
 // What was read of each file.
@@ -34,6 +41,9 @@ fn sources_on<'x, L: Load + Drop, R: Resolve + Drop>(
     config: &Config,
 ) -> Result<Vec<Source<'x>>, AllocError>
     requires { AreSound (kept_of library.now.kept) (files_on list.now) }
+    ensures { IfOk result (λ sources. (entry : ℕ) → AreNumbered (kept_of library.entry.now.kept) list.entry.now →
+        AreSourcesOf (program_of_lem (kept_of library.entry.now.kept) (settings_of config.now) entry)
+        (ids_on list.entry.now) sources.items) }
 {
     let mut sources = Vec::new(alloc);
     for (file, _) in &list.files {
@@ -50,6 +60,9 @@ fn kept_source<'x, L: Load + Drop, R: Resolve + Drop>(
     config: &Config,
 ) -> Result<Source<'x>, AllocError>
     requires { IsSound (kept_of library.now.kept) (name_of file.now) }
+    ensures { IfOk result (λ source. (entry m : ℕ) →
+        number_in (kept_of library.entry.now.kept) (name_of file.entry.now) ≡ Some m →
+        IsSourceOf (program_of_lem (kept_of library.entry.now.kept) (settings_of config.now) entry) m source) }
 {
     let loaded = library.module(file).unwrap();
     source_of(alloc, loaded, config)

@@ -1,5 +1,5 @@
 -- What is kept grows by the number of each file, the files before it keep theirs, and those on the list were met.
-use Rattle.std.proofs.Common.{[], inl, subst, sym}
+use Rattle.std.proofs.Common.{[], ap, inl, subst, sym, ◌∙◌}
 use Rattle.std.specs.List.{AllZip}
 use Rattle.bundle_bundler.specs.Bundler.{files_of, HasNumber}
 use Rattle.bundle_bundler.specs.Kept.{kept_of}
@@ -8,12 +8,13 @@ use Rattle.bundle_bundler.proofs.Counting.{as_many_files, files_from, listed_all
 use Rattle.bundle_bundler.proofs.Finding.{handed_on}
 use Rattle.bundle_bundler.proofs.Growing.{advances_refl, advances_stays, advances_trans}
 use Rattle.bundle_bundler.proofs.Judging.{ends_handed}
+use Rattle.bundle_bundler.proofs.Leading.{none_numbered, still_all_numbered}
 use Rattle.bundle_bundler.proofs.Loading.{all_met_placed, none_met_of, still_all_met}
 use Rattle.bundle_bundler.proofs.Numbered.{entry_listed, numbered_more}
 use Rattle.bundle_bundler.proofs.bundler.numbered.Goals as goal
 
 pub loop-file-init : goal.loop-file-init
-loop-file-init g c = (advances_refl _ _ (files_of c.args.entries.now) _ _ (kept_of c.args.library.now.kept), subst (λ ids. AllZip (HasNumber (kept_of c.args.library.now.kept)) [] ids) (sym c.new-ids.ensures.items) tt, none_met_of (kept_of c.args.library.now.kept) (files_on c.new-list.result) c.new-list.ensures, λ outcome last numbers. numbers, λ apart. c.new-list.ensures)
+loop-file-init g c = (advances_refl _ _ (files_of c.args.entries.now) _ _ (kept_of c.args.library.now.kept), subst (λ ids. AllZip (HasNumber (kept_of c.args.library.now.kept)) [] ids) (sym c.new-ids.ensures.items) tt, none_met_of (kept_of c.args.library.now.kept) (files_on c.new-list.result) c.new-list.ensures.files, λ outcome last numbers. numbers, λ apart. c.new-list.ensures.files, none_numbered (kept_of c.args.library.now.kept) c.new-list.result.files.entries c.new-list.ensures.files, c.new-list.ensures.deps)
 
 pub returns-in_err-id-clause-grows : goal.returns-in_err-id-clause-grows
 returns-in_err-id-clause-grows g c =
@@ -36,9 +37,11 @@ loop-file-preserved g c =
     let stays = advances_stays _ _ (files_of c.args.entries.now) _ _ _ _ (kept_of c.loop-file.library.kept) (kept_of c.id.new.self.kept) step in (
       advances_trans _ _ (files_of c.args.entries.now) _ _ _ _ _ _ _ _ _ c.loop-file.invariant.0 step,
       numbered_more _ _ stays c.args.entries.now c.loop-file.ids.items _ c.loop-file.file-index _ _ c.loop-file-test.true (sym c.loop-file-item.is) c.in_ok-push.ensures.items c.loop-file.invariant.1 c.in_ok-id.ensures.numbered,
-      all_met_placed (kept_of c.id.new.self.kept) (files_on c.loop-file.list) (files_on c.place.new.self) _ c.in_ok-place.ensures (still_all_met _ _ stays (files_on c.loop-file.list) c.loop-file.invariant.2) c.in_ok-id.ensures.met,
+      all_met_placed (kept_of c.id.new.self.kept) (files_on c.loop-file.list) (files_on c.place.new.self) _ c.in_ok-place.ensures.placed (still_all_met _ _ stays (files_on c.loop-file.list) c.loop-file.invariant.2) c.in_ok-id.ensures.met,
       numbers_next (files_of c.args.entries.now) _ _ _ (kept_of c.args.library.now.kept) (kept_of c.loop-file.library.kept) (kept_of c.id.new.self.kept) (files_from c.args.entries.now c.loop-file.file-index _ c.loop-file-test.true (sym c.loop-file-item.is)) c.loop-file.invariant.3 c.in_ok-id.ensures.judged,
-      listed_more c.args.entries.now c.loop-file.file-index _ c.loop-file-test.true (sym c.loop-file-item.is) (files_on c.loop-file.list) (files_on c.place.new.self) c.in_ok-place.ensures c.loop-file.invariant.4,
+      listed_more c.args.entries.now c.loop-file.file-index _ c.loop-file-test.true (sym c.loop-file-item.is) (files_on c.loop-file.list) (files_on c.place.new.self) c.in_ok-place.ensures.placed c.loop-file.invariant.4,
+      c.in_ok-place.ensures.numbered (kept_of c.id.new.self.kept) c.in_ok-id.ensures.numbered (still_all_numbered _ _ stays c.loop-file.list.files.entries c.loop-file.invariant.5),
+      ap (λ deps. deps.items) c.in_ok-place.ensures.deps ∙ c.loop-file.invariant.6,
     )
 
 pub returns-in_err-id-clause-judged : goal.returns-in_err-id-clause-judged

@@ -1,11 +1,12 @@
 -- What was kept is still kept, the files before the index have these numbers and stand on the list, if they are apart, those on
--- the list were met, and what is numbered from the index on is numbered of the whole.
-use Rattle.std.proofs.Common.{◌≡◌, drop, map, take}
+-- the list were met, and what is numbered from the index on is numbered of the whole; each file on the list has its number there, and
+-- none was worked on.
+use Rattle.std.proofs.Common.{◌≡◌, [], drop, map, take}
 use Rattle.std.specs.List.{AllZip}
 use Rattle.bundle_bundler.specs.Bundler.{files_of, HasNumber}
 use Rattle.bundle_bundler.specs.Judged.{AreApart}
 use Rattle.bundle_bundler.specs.Kept.{entry_of, kept_of, Advances}
-use Rattle.bundle_bundler.specs.Loading.{files_on, AreMet}
+use Rattle.bundle_bundler.specs.Loading.{files_on, AreMet, AreNumbered}
 use Rattle.bundle_bundler.proofs.Counting.{NumbersOn}
 use Rattle.bundle_bundler.proofs.bundler.numbered.Given as goal
 
@@ -16,3 +17,5 @@ invariant-loop-file g l =
     × AreMet (kept_of l.library.kept) (files_on l.list)
     × NumbersOn (files_of l.entries) (drop l.file-index (files_of l.entries)) (kept_of l.initial.library.kept) (kept_of l.library.kept)
     × (AreApart (map entry_of l.entries) → files_on l.list ≡ take l.file-index (files_of l.entries))
+    × AreNumbered (kept_of l.library.kept) l.list
+    × (l.list.deps.items ≡ [])

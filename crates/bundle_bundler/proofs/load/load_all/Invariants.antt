@@ -1,10 +1,12 @@
 -- What was kept before the loop is still kept, the files on the list were met, those before the place are kept and not at fault, and what is
--- judged from that place on is judged of the whole.
-use Rattle.std.proofs.Common.{◌≤◌, List, length}
+-- judged from that place on is judged of the whole; the list begins with what stood on it, its files have their numbers if they had, and the
+-- requests of those before the place are noted.
+use Rattle.std.proofs.Common.{◌≡◌, ◌≤◌, List, [], length}
 use Rattle.bundle_name.specs.FileName.{Name}
 use Rattle.bundle_bundler.specs.Judged.{asked_by}
 use Rattle.bundle_bundler.specs.Kept.{kept_of, settings_of, Advances}
-use Rattle.bundle_bundler.specs.Loading.{files_on, AreMet}
+use Rattle.bundle_bundler.specs.Loading.{files_on, AreMet, AreNumbered, Begins}
+use Rattle.bundle_bundler.proofs.Leading.{AreAskedTo}
 use Rattle.bundle_bundler.proofs.Loading.{AreSoundBefore}
 use Rattle.bundle_bundler.proofs.Working.{LoadsOn}
 use Rattle.bundle_bundler.proofs.load.load_all.Given as goal
@@ -17,3 +19,6 @@ invariant-loop-place g l =
     × (l.place ≤ length (files_on l.list))
     × LoadsOn (asked_by g.L.Load.may_load g.L.Load.may_fail_load g.R.Resolve.may_resolve g.R.Resolve.may_fail_resolve l.initial.library.loader l.initial.library.resolver)
     (settings_of l.config) (files_on l.fn.list) (files_on l.list) l.place (kept_of l.initial.library.kept) (kept_of l.library.kept)
+    × Begins (files_on l.fn.list) (files_on l.list)
+    × (AreNumbered (kept_of l.initial.library.kept) l.fn.list → AreNumbered (kept_of l.library.kept) l.list)
+    × (l.fn.list.deps.items ≡ [] → AreNumbered (kept_of l.initial.library.kept) l.fn.list → AreAskedTo (settings_of l.config) (kept_of l.library.kept) l.list.files.entries l.list.deps.items l.place)

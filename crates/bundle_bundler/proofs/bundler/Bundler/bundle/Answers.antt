@@ -2,16 +2,20 @@
 use Rattle.std.proofs.Common.{eqb-true, refl, sym, ap, map, subst, ◌∙◌}
 use Rattle.std.proofs.lemmas.List.{nil_from_length}
 use Rattle.std.specs.Prelude.{IfSome}
+use Rattle.std.specs.List.{AllZip}
 use Rattle.bundle_terms.specs.Faults.{fault_of}
 use Rattle.bundle_terms.specs.Judging.{GoesOn, Refused, NumbersEach}
 use Rattle.bundle_terms.specs.Kept as k
 use Rattle.bundle_entry.specs.Unlinked.{error_of}
 use Rattle.bundle_bundler.specs.Bundler.{files_of}
-use Rattle.bundle_bundler.specs.Judged.{AreApart, IsFaultOfList}
-use Rattle.bundle_bundler.specs.Kept.{entry_of, kept_of, settings_of}
+use Rattle.bundle_bundler.specs.Judged.{AreApart, IsBundledFor, IsFaultOfList}
+use Rattle.bundle_bundler.specs.Kept.{entry_of, kept_of, parties_of, settings_of}
+use Rattle.bundle_bundler.specs.Linking.{IsRefusalOfEntries}
 use Rattle.bundle_bundler.specs.Loading.{files_on}
+use Rattle.bundle_bundler.proofs.Bundling.{all_bundled_as, all_on, along}
 use Rattle.bundle_bundler.proofs.Ending.{completes, completes_none, refused_linking, refused_list, refused_loading, refused_number, with_hook}
 use Rattle.bundle_bundler.proofs.Growing.{advances_stays, advances_trans}
+use Rattle.bundle_bundler.proofs.Linking.{by_hook_alone, refusal_as}
 use Rattle.bundle_bundler.proofs.Numbered.{advances_for, all_still_numbered, numbered_along}
 use Rattle.bundle_bundler.proofs.Refusing.{refused_of, unlinked_right}
 use Rattle.bundle_bundler.proofs.bundler.Bundler.bundle.Goals as goal
@@ -91,8 +95,11 @@ returns-in_err-linked_bundles-clause-refused g c =
 
 pub returns-clause-bundles : goal.returns-clause-bundles
 returns-clause-bundles g c =
-    c.in_ok-linked_bundles.ensures.bundles (kept_of c.load_all.new.library.kept) (all_still_numbered (kept_of c.numbered.new.library.kept) (kept_of c.load_all.new.library.kept) (advances_stays _ _ (files_of c.args.entries.items) _ _ _ _ _ _ (c.in_ok-list-2.ensures.grows (files_of c.args.entries.items))) c.args.entries.items c.in_ok-list.ids.items
-    (numbered_along (kept_of c.numbered.new.library.kept) _ _ _ c.as_slice-2.ensures.value c.in_ok-list.ensures.numbered))
+    along c.deref_box-1.ensures.1 (λ v. AllZip (IsBundledFor (parties_of (g.L.Load.may_load c.args.self.now.library.loader) (g.L.Load.may_fail_load c.args.self.now.library.loader) (g.R.Resolve.may_resolve c.args.self.now.library.resolver) (g.R.Resolve.may_fail_resolve c.args.self.now.library.resolver) ((goal.Hook-dyn g v).may_give v.1) ((goal.Hook-dyn g v).may_fail_hook v.1)) (settings_of c.args.self.now.config) (kept_of c.load_all.new.library.kept)) c.args.entries.items c.in_ok-linked_bundles.field-0.items)
+    (all_bundled_as _ _ (by_hook_alone (g.L.Load.may_load c.args.self.now.library.loader) (g.L.Load.may_fail_load c.args.self.now.library.loader) (g.R.Resolve.may_resolve c.args.self.now.library.resolver) (g.R.Resolve.may_fail_resolve c.args.self.now.library.resolver) _ _) (settings_of c.args.self.now.config) (kept_of c.load_all.new.library.kept) c.args.entries.items c.in_ok-linked_bundles.field-0.items
+    (c.in_ok-linked_bundles.ensures.bundles (record { once = c.in_ok-list-2.ensures.once; numbered = c.in_ok-list-2.ensures.numbered c.in_ok-list.ensures.listed; asked = (c.in_ok-list-2.ensures.asked c.in_ok-list.ensures.unasked c.in_ok-list.ensures.listed).0; long = (c.in_ok-list-2.ensures.asked c.in_ok-list.ensures.unasked c.in_ok-list.ensures.listed).1 })
+    (all_on (kept_of c.load_all.new.library.kept) c.in_ok-list-2.list (c.in_ok-list-2.ensures.numbered c.in_ok-list.ensures.listed) c.args.entries.items c.in_ok-list.ids.items (files_on c.in_ok-list.list) c.in_ok-list-2.ensures.begins (c.in_ok-list.ensures.all (subst (λ xs. AreApart (map entry_of xs)) (c.as_slice.ensures.value ∙ sym c.as_slice-2.ensures.value) c.in_ok-refuse_doubled_entry.ensures.apart) ∙ ap files_of c.as_slice-2.ensures.value) (all_still_numbered (kept_of c.numbered.new.library.kept) (kept_of c.load_all.new.library.kept) (advances_stays _ _ (files_of c.args.entries.items) _ _ _ _ _ _ (c.in_ok-list-2.ensures.grows (files_of c.args.entries.items))) c.args.entries.items c.in_ok-list.ids.items
+    (numbered_along (kept_of c.numbered.new.library.kept) _ _ _ c.as_slice-2.ensures.value c.in_ok-list.ensures.numbered)))))
 
 pub returns-then-is_empty-clause-completes : goal.returns-then-is_empty-clause-completes
 returns-then-is_empty-clause-completes g c = completes_none _ (settings_of c.args.self.now.config) (kept_of c.args.self.now.library.kept) c.args.entries.items (nil_from_length c.args.entries.items (sym c.args.entries.ok.0 ∙ eqb-true _ 0 (sym c.is_empty.ensures ∙ c.if-is_empty.true)))
@@ -117,6 +124,11 @@ pub returns-in_err-linked_bundles-clause-judged : goal.returns-in_err-linked_bun
 returns-in_err-linked_bundles-clause-judged g c =
     refused_linking _ (settings_of c.args.self.now.config) _ (map entry_of c.args.entries.items) (kept_of c.args.self.now.library.kept) (kept_of c.load_all.new.library.kept) c.in_err-linked_bundles.field-0.0 c.from_residual-in_err-linked_bundles.ensures.1
     (completes _ (settings_of c.args.self.now.config) c.args.entries.items (subst (λ xs. AreApart (map entry_of xs)) c.as_slice.ensures.value c.in_ok-refuse_doubled_entry.ensures.apart) (kept_of c.args.self.now.library.kept) (kept_of c.numbered.new.library.kept) (kept_of c.load_all.new.library.kept) (files_on c.in_ok-list.list) (subst (λ xs. NumbersEach (kept_of c.args.self.now.library.kept) (files_of xs) GoesOn (kept_of c.numbered.new.library.kept)) c.as_slice-2.ensures.value c.in_ok-list.ensures.judged) (c.in_ok-list.ensures.all (subst (λ xs. AreApart (map entry_of xs)) (c.as_slice.ensures.value ∙ sym c.as_slice-2.ensures.value) c.in_ok-refuse_doubled_entry.ensures.apart) ∙ ap files_of c.as_slice-2.ensures.value) (with_hook g.L.Load.may_load g.L.Load.may_fail_load g.R.Resolve.may_resolve g.R.Resolve.may_fail_resolve _ _ (settings_of c.args.self.now.config) c.args.self.now.library.loader c.numbered.new.library.loader c.args.self.now.library.resolver c.numbered.new.library.resolver (files_on c.in_ok-list.list) 0 (kept_of c.numbered.new.library.kept) (kept_of c.load_all.new.library.kept) GoesOn c.in_ok-list.ensures.grows.loader c.in_ok-list.ensures.grows.resolver c.in_ok-list-2.ensures.judged))
+    (along c.deref_box-1.ensures.1 (λ v. IsRefusalOfEntries (parties_of (g.L.Load.may_load c.args.self.now.library.loader) (g.L.Load.may_fail_load c.args.self.now.library.loader) (g.R.Resolve.may_resolve c.args.self.now.library.resolver) (g.R.Resolve.may_fail_resolve c.args.self.now.library.resolver) ((goal.Hook-dyn g v).may_give v.1) ((goal.Hook-dyn g v).may_fail_hook v.1)) (settings_of c.args.self.now.config) (kept_of c.load_all.new.library.kept) (map entry_of c.args.entries.items) c.in_err-linked_bundles.field-0.0)
+    (refusal_as _ _ (by_hook_alone (g.L.Load.may_load c.args.self.now.library.loader) (g.L.Load.may_fail_load c.args.self.now.library.loader) (g.R.Resolve.may_resolve c.args.self.now.library.resolver) (g.R.Resolve.may_fail_resolve c.args.self.now.library.resolver) _ _) (kept_of c.load_all.new.library.kept) (settings_of c.args.self.now.config) (map entry_of c.args.entries.items) c.in_err-linked_bundles.field-0.0
+    (c.in_err-linked_bundles.ensures.refused (record { once = c.in_ok-list-2.ensures.once; numbered = c.in_ok-list-2.ensures.numbered c.in_ok-list.ensures.listed; asked = (c.in_ok-list-2.ensures.asked c.in_ok-list.ensures.unasked c.in_ok-list.ensures.listed).0; long = (c.in_ok-list-2.ensures.asked c.in_ok-list.ensures.unasked c.in_ok-list.ensures.listed).1 })
+    (all_on (kept_of c.load_all.new.library.kept) c.in_ok-list-2.list (c.in_ok-list-2.ensures.numbered c.in_ok-list.ensures.listed) c.args.entries.items c.in_ok-list.ids.items (files_on c.in_ok-list.list) c.in_ok-list-2.ensures.begins (c.in_ok-list.ensures.all (subst (λ xs. AreApart (map entry_of xs)) (c.as_slice.ensures.value ∙ sym c.as_slice-2.ensures.value) c.in_ok-refuse_doubled_entry.ensures.apart) ∙ ap files_of c.as_slice-2.ensures.value) (all_still_numbered (kept_of c.numbered.new.library.kept) (kept_of c.load_all.new.library.kept) (advances_stays _ _ (files_of c.args.entries.items) _ _ _ _ _ _ (c.in_ok-list-2.ensures.grows (files_of c.args.entries.items))) c.args.entries.items c.in_ok-list.ids.items
+    (numbered_along (kept_of c.numbered.new.library.kept) _ _ _ c.as_slice-2.ensures.value c.in_ok-list.ensures.numbered))))))
 
 pub returns-clause-completes : goal.returns-clause-completes
 returns-clause-completes g c =

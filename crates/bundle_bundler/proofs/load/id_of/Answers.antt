@@ -7,11 +7,12 @@ use Rattle.bundle_bundler.specs.Judged.{asked_by}
 use Rattle.bundle_bundler.specs.Kept.{kept_of}
 use Rattle.bundle_bundler.specs.Loading.{files_on}
 use Rattle.bundle_bundler.proofs.Finding.{handed_on}
+use Rattle.bundle_bundler.proofs.Leading.{leads_placed, still_all_numbered}
 use Rattle.bundle_bundler.proofs.Growing.{advances_refl, advances_stays, advances_trans}
 use Rattle.bundle_bundler.proofs.Loading.{all_met_placed, begins_placed, still_all_met}
 use Rattle.bundle_bundler.proofs.Judging.{ends_handed}
 use Rattle.bundle_bundler.proofs.Placing.{ask_failed, ask_placed, ask_used_up}
-use Rattle.bundle_bundler.proofs.load.place_of.Goals as goal
+use Rattle.bundle_bundler.proofs.load.id_of.Goals as goal
 
 pub returns-in_err-request-clause-grows : goal.returns-in_err-request-clause-grows
 returns-in_err-request-clause-grows g c = λ entries. advances_refl _ _ entries _ _ (kept_of c.args.library.now.kept)
@@ -38,10 +39,10 @@ pub returns-clause-met : goal.returns-clause-met
 returns-clause-met g c =
     let grown = advances_trans _ _ [] _ _ _ _ _ _ _ _ _ (c.in_ok-resolve.ensures.grows []) (c.in_ok-id.ensures.grows [] (inr (asked_of c.in_ok-request.request, c.in_ok-target.ensures))) in
     let stays = advances_stays _ _ [] _ _ _ _ (kept_of c.args.library.now.kept) (kept_of c.id.new.self.kept) grown in
-    all_met_placed (kept_of c.id.new.self.kept) (files_on c.args.list.now) (files_on c.place.new.self) (name_of c.in_ok-target.target) c.in_ok-place.ensures (still_all_met _ _ stays (files_on c.args.list.now) c.requires.met) c.in_ok-id.ensures.met
+    all_met_placed (kept_of c.id.new.self.kept) (files_on c.args.list.now) (files_on c.place.new.self) (name_of c.in_ok-target.target) c.in_ok-place.ensures.placed (still_all_met _ _ stays (files_on c.args.list.now) c.requires.met) c.in_ok-id.ensures.met
 
 pub returns-clause-begins : goal.returns-clause-begins
-returns-clause-begins g c = begins_placed _ _ _ c.in_ok-place.ensures
+returns-clause-begins g c = begins_placed _ _ _ c.in_ok-place.ensures.placed
 
 pub returns-in_err-resolve-clause-judged : goal.returns-in_err-resolve-clause-judged
 returns-in_err-resolve-clause-judged g c =
@@ -57,4 +58,18 @@ returns-in_err-id-clause-judged g c =
 
 pub returns-clause-judged : goal.returns-clause-judged
 returns-clause-judged g c =
-    ask_placed (asked_by g.L.Load.may_load g.L.Load.may_fail_load g.R.Resolve.may_resolve g.R.Resolve.may_fail_resolve c.args.library.now.loader c.args.library.now.resolver) (name_of c.args.file.now) (string_bytes c.args.specifier.now) c.in_ok-request.request c.in_ok-request.ensures.file c.in_ok-request.ensures.specifier (kept_of c.args.library.now.kept) (kept_of c.resolve.new.self.kept) (kept_of c.id.new.self.kept) (files_on c.args.list.now) (files_on c.place.new.self) (name_of c.in_ok-target.target) (c.in_ok-resolve.ensures.resolved (name_of c.in_ok-target.target) c.in_ok-target.ensures) (still_all_met _ _ (advances_stays _ _ [] _ _ _ _ (kept_of c.args.library.now.kept) (kept_of c.resolve.new.self.kept) (c.in_ok-resolve.ensures.grows [])) (files_on c.args.list.now) c.requires.met) c.in_ok-id.ensures.known c.in_ok-id.ensures.judged c.in_ok-place.ensures
+    ask_placed (asked_by g.L.Load.may_load g.L.Load.may_fail_load g.R.Resolve.may_resolve g.R.Resolve.may_fail_resolve c.args.library.now.loader c.args.library.now.resolver) (name_of c.args.file.now) (string_bytes c.args.specifier.now) c.in_ok-request.request c.in_ok-request.ensures.file c.in_ok-request.ensures.specifier (kept_of c.args.library.now.kept) (kept_of c.resolve.new.self.kept) (kept_of c.id.new.self.kept) (files_on c.args.list.now) (files_on c.place.new.self) (name_of c.in_ok-target.target) (c.in_ok-resolve.ensures.resolved (name_of c.in_ok-target.target) c.in_ok-target.ensures) (still_all_met _ _ (advances_stays _ _ [] _ _ _ _ (kept_of c.args.library.now.kept) (kept_of c.resolve.new.self.kept) (c.in_ok-resolve.ensures.grows [])) (files_on c.args.list.now) c.requires.met) c.in_ok-id.ensures.known c.in_ok-id.ensures.judged c.in_ok-place.ensures.placed
+
+pub returns-clause-numbered : goal.returns-clause-numbered
+returns-clause-numbered g c = λ numbered.
+    let grown = advances_trans _ _ [] _ _ _ _ _ _ _ _ _ (c.in_ok-resolve.ensures.grows []) (c.in_ok-id.ensures.grows [] (inr (asked_of c.in_ok-request.request, c.in_ok-target.ensures))) in
+    let stays = advances_stays _ _ [] _ _ _ _ (kept_of c.args.library.now.kept) (kept_of c.id.new.self.kept) grown in
+    c.in_ok-place.ensures.numbered (kept_of c.id.new.self.kept) c.in_ok-id.ensures.numbered (still_all_numbered _ _ stays c.args.list.now.files.entries numbered)
+
+pub returns-clause-leads : goal.returns-clause-leads
+returns-clause-leads g c = λ numbered.
+    let grown = advances_trans _ _ [] _ _ _ _ _ _ _ _ _ (c.in_ok-resolve.ensures.grows []) (c.in_ok-id.ensures.grows [] (inr (asked_of c.in_ok-request.request, c.in_ok-target.ensures))) in
+    let stays = advances_stays _ _ [] _ _ _ _ (kept_of c.args.library.now.kept) (kept_of c.id.new.self.kept) grown in
+    let later = advances_stays _ _ [] _ _ _ _ (kept_of c.resolve.new.self.kept) (kept_of c.id.new.self.kept) (c.in_ok-id.ensures.grows [] (inr (asked_of c.in_ok-request.request, c.in_ok-target.ensures))) in
+    leads_placed (kept_of c.resolve.new.self.kept) (kept_of c.id.new.self.kept) later c.args.list.now.files.entries c.place.new.self.files.entries (name_of c.args.file.now) (name_of c.in_ok-target.target) c.args.specifier.now c.in_ok-id.id c.in_ok-request.request c.in_ok-request.ensures.file c.in_ok-request.ensures.specifier c.in_ok-target.ensures c.in_ok-id.ensures.numbered c.in_ok-place.ensures.placed
+    (c.in_ok-place.ensures.numbered (kept_of c.id.new.self.kept) c.in_ok-id.ensures.numbered (still_all_numbered _ _ stays c.args.list.now.files.entries numbered))
