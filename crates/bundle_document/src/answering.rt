@@ -29,8 +29,8 @@ pub fn answer<W: Write, E: Write>(
     errors: &mut E,
 ) -> u8
     ensures status { (result ≡ 0) ⊎ (result ≡ 1) ⊎ (result ≡ 3) }
-    ensures written { result ≡ 0 → (text : List ℕ) × IsAnswer document text × Appends (W.contents output.old) (W.contents output.new) (text ++ codes "\n") }
-    ensures cut_off { result ≡ 3 → (text : List ℕ) × IsAnswer document text × AppendsFront (W.contents output.old) (W.contents output.new) (text ++ codes "\n") }
+    ensures written { result ≡ 0 → (text : List ℕ) × IsAnswer (may_give hook) (may_fail_hook hook) document text × Appends (W.contents output.old) (W.contents output.new) (text ++ codes "\n") }
+    ensures cut_off { result ≡ 3 → (text : List ℕ) × IsAnswer (may_give hook) (may_fail_hook hook) document text × AppendsFront (W.contents output.old) (W.contents output.new) (text ++ codes "\n") }
     ensures refused { result ≡ 1 → (refusal : Error) × IsRefusal (may_give hook) (may_fail_hook hook) document refusal × AppendsFront (E.contents errors.old) (E.contents errors.new) (line_in refusal) }
     ensures no_output { result ≡ 1 → output.new ≡ output.old }
     ensures no_error { result ≢ 1 → errors.new ≡ errors.old }
@@ -70,7 +70,7 @@ fn line_of(alloc: Global, refusal: &Error) -> Result<String, AllocError>
 
 // The text of the bundles that a document asks for.
 fn answer_text(alloc: Global, document: Document, hook: Box<dyn Hook>) -> Result<String, Error>
-    ensures made { IfOk result (λ text. IsAnswer document (string_bytes text)) }
+    ensures made { IfOk result (λ text. IsAnswer (may_give hook) (may_fail_hook hook) document (string_bytes text)) }
     ensures refused { IfErr result (IsRefusal (may_give hook) (may_fail_hook hook) document) }
 {
     let Document {
