@@ -2,21 +2,23 @@
 
 ghost use Rattle.std.specs.Prelude.{◌≡◌, ◌++◌, ◌∷◌, [], filter, map, not, List, IfOk, OnOk};
 ghost use Rattle.bundle_piece.specs.Item.{item_of};
-ghost use Rattle.bundle_terms.specs.Entries.{declared_requests, exports_of as exports_of_lem, imports_of as imports_of_lem, ImportEntry};
-ghost use Rattle.bundle_terms.specs.Faults.{asked_names, listed_names};
+ghost use Rattle.bundle_terms.specs.Entries.{declared_requests, exports_of as exports_of_lem, imports_of as imports_of_lem, imports_of_item, is_module_declaration as is_module_declaration_lem, requests_of_item, ImportEntry};
+ghost use Rattle.bundle_terms.specs.Faults.{asked_names, listed_names, names_listed};
 ghost use Rattle.bundle_terms.specs.Tables.{is_star, star_of};
-ghost use Rattle.bundle_terms.specs.Nodes.{each_once};
-ghost use Rattle.std.specs.List.{flat_map};
-ghost use Rattle.bundle_tables.specs.Exported.{import_by, Finds};
+ghost use Rattle.bundle_terms.specs.Nodes.{begins_with, each_once};
+ghost use Rattle.std.specs.List.{flat_map, list_any};
+ghost use Rattle.bundle_tables.specs.Asked.{asked_in};
+ghost use Rattle.bundle_tables.specs.Exported.{import_by, named_by, Finds};
 ghost use Rattle.bundle_tables.specs.Listed.{listed_as};
-ghost use Rattle.bundle_tables.specs.Sources.{asked, has_external};
+ghost use Rattle.bundle_tables.specs.Parted.{part_items};
+ghost use Rattle.bundle_tables.specs.Sources.{asked, has_external, star_in};
 ghost use Rattle.bundle_tables.specs.TablesOf.{asked_name_of, export_entry_of, has_declaration as has_declaration_lem, import_entry_of};
 
 use crate::asked::asked_of;
 use crate::exports::exports_of;
 use crate::imports::{has_declaration, imports_of};
 use crate::listed::{Listed, listed_of};
-use crate::parts::top_items;
+use crate::parts::{Part, top_items};
 use crate::sources::{sources_of, stars_of};
 use crate::table::{AskedName, Export, Import, Source};
 use bundle_piece::Piece;
@@ -45,7 +47,6 @@ pub struct Given<'a> {
 }
 
 /// What a module imports and exports. `external` are the texts that are external.
-#[tactic(auto, using(std::proofs::lemmas::Grind::common_steps, crate::proofs::ImportLemmas::imports_placed, crate::proofs::ImportLemmas::declared_placed, crate::proofs::ExportLemmas::exports_placed, crate::proofs::ExportLemmas::imports_found, crate::proofs::ExportLemmas::requests_placed, crate::proofs::ExportLemmas::stars_placed, crate::proofs::ListedLemmas::listed_placed))]
 pub fn entries_of<'a>(
     alloc: Global,
     pieces: &[Piece<'a>],
@@ -64,21 +65,69 @@ pub fn entries_of<'a>(
     ensures listed { IfOk result (λ entries. map listed_as entries.given.listed.items ≡ listed_names (map item_of pieces.now)) }
 {
     let tops = top_items(alloc, pieces)?;
-    let imports = imports_of(alloc, &tops)?;
-    let is_declared_module = has_declaration(&tops);
+    let entries = entries_in(alloc, &tops, external)?;
+    Ok(entries)
+}
+
+// What the top items of a module import and give.
+fn entries_in<'a>(
+    alloc: Global,
+    tops: &[Part<'_, 'a>],
+    external: &IndexSet<&str>,
+) -> Result<Entries<'a>, AllocError>
+    ensures imports { IfOk result (λ entries. map import_entry_of entries.imports.items ≡ flat_map imports_of_item (map part_items tops.now)) }
+    ensures locals { IfOk result (λ entries. Finds entries.locals (map import_entry_of entries.imports.items)) }
+    ensures declared { IfOk result (λ entries.
+        entries.is_declared_module ≡ list_any (λ top. begins_with is_module_declaration_lem (part_items top)) tops.now) }
+    ensures exports { IfOk result (λ entries.
+        map export_entry_of entries.given.exports.items ≡ flat_map (named_by (import_by entries.locals)) (map part_items tops.now)) }
+    ensures asked { IfOk result (λ entries.
+        map asked_name_of entries.given.asked.items ≡ flat_map (asked_in (import_by entries.locals)) (map part_items tops.now)) }
+    ensures stars { IfOk result (λ entries.
+        map (λ key. key.now) entries.given.stars.keys ≡ each_once (flat_map star_in (map part_items tops.now))) }
+    ensures sources { IfOk result (λ entries.
+        map asked entries.given.sources.items ≡ map (has_external external.now) (flat_map requests_of_item (map part_items tops.now))) }
+    ensures listed { IfOk result (λ entries. map listed_as entries.given.listed.items ≡ flat_map names_listed (map part_items tops.now)) }
+{
+    let imports = imports_of(alloc, tops)?;
     let locals = locals_of(alloc, &imports)?;
-    let given = Given {
-        exports: exports_of(alloc, &tops, &locals)?,
-        asked: asked_of(alloc, &tops, &locals)?,
-        stars: stars_of(alloc, &tops)?,
-        sources: sources_of(alloc, &tops, external)?,
-        listed: listed_of(alloc, &tops)?,
-    };
+    let given = given_in(alloc, tops, &locals, external)?;
     Ok(Entries {
         imports,
         locals,
         given,
-        is_declared_module,
+        is_declared_module: has_declaration(tops),
+    })
+}
+
+// What the top items of a module give and ask for. `locals` are the imports of the names that imports bind.
+fn given_in<'a>(
+    alloc: Global,
+    tops: &[Part<'_, 'a>],
+    locals: &IndexMap<&'a str, Import<'a>>,
+    external: &IndexSet<&str>,
+) -> Result<Given<'a>, AllocError>
+    ensures exports { IfOk result (λ given.
+        map export_entry_of given.exports.items ≡ flat_map (named_by (import_by locals.now)) (map part_items tops.now)) }
+    ensures asked { IfOk result (λ given.
+        map asked_name_of given.asked.items ≡ flat_map (asked_in (import_by locals.now)) (map part_items tops.now)) }
+    ensures stars { IfOk result (λ given.
+        map (λ key. key.now) given.stars.keys ≡ each_once (flat_map star_in (map part_items tops.now))) }
+    ensures sources { IfOk result (λ given.
+        map asked given.sources.items ≡ map (has_external external.now) (flat_map requests_of_item (map part_items tops.now))) }
+    ensures listed { IfOk result (λ given. map listed_as given.listed.items ≡ flat_map names_listed (map part_items tops.now)) }
+{
+    let exports = exports_of(alloc, tops, locals)?;
+    let asked = asked_of(alloc, tops, locals)?;
+    let stars = stars_of(alloc, tops)?;
+    let sources = sources_of(alloc, tops, external)?;
+    let listed = listed_of(alloc, tops)?;
+    Ok(Given {
+        exports,
+        asked,
+        stars,
+        sources,
+        listed,
     })
 }
 

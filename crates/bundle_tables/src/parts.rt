@@ -136,8 +136,7 @@ pub fn behind<'p, 'a>(pieces: &'p [Piece<'a>], at: usize) -> &'p [Piece<'a>]
     ensures there { result.now ≡ drop at pieces.now }
     ensures length { length result.now + at ≡ length pieces.now }
 {
-    let (_, behind) = pieces.split_at(at);
-    behind
+    &pieces[at..]
 }
 
 // All of a list but its first element.

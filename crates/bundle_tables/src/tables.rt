@@ -24,7 +24,7 @@ use crate::faults::first_fault;
 use crate::free::{has_free, names_common_js};
 use crate::nodes::has_import_meta;
 use crate::table::{RequireCall, Source, Tables, TreeFault};
-use crate::walk::found_in;
+use crate::walk::{Found, found_in};
 use bundle_denote::Denotations;
 use bundle_naming::awaits_outside;
 use bundle_piece::Piece;
@@ -83,9 +83,8 @@ pub fn tables_of<'a>(
     if let Some(fault) = first {
         return Ok(Err(fault));
     }
-    let calls = linked_calls(alloc, pieces, denotations, require, &external)?;
-    let tables = joined(alloc, pieces, denotations, entries, calls)?;
-    Ok(Ok(tables))
+    let made = made_of(alloc, pieces, denotations, require, &external, &entries)?;
+    Ok(Ok(put_together(pieces, denotations, entries, made)))
 }
 
 // The texts, each once.
@@ -99,58 +98,98 @@ fn texts<'t>(alloc: Global, list: &'t [String]) -> Result<IndexSet<&'t str>, All
     Ok(texts)
 }
 
-// The tables of a module without fault.
-fn joined<'a>(
+// What the tables of a module have beside what it imports and gives.
+#[derive(Drop)]
+struct Made<'a> {
+    calls: Vec<RequireCall<'a>>,
+    requests: Vec<&'a str>,
+    stars: Vec<&'a str>,
+    found: Found<'a>,
+    awaits: bool,
+}
+
+// What the tables of a module have beside what it imports and gives.
+fn made_of<'a>(
     alloc: Global,
     pieces: &[Piece<'a>],
     denotations: &Denotations<'a>,
-    entries: Entries<'a>,
-    calls: Vec<RequireCall<'a>>,
-) -> Result<Tables<'a>, AllocError>
-    ensures meta { IfOk result (λ tables. tables.has_import_meta ≡ has_import_meta_lem (map item_of pieces.now)) }
-    ensures imports { IfOk result (λ tables. tables.imports.items ≡ entries.entry.imports.items) }
-    ensures exports { IfOk result (λ tables. tables.exports.items ≡ entries.entry.given.exports.items) }
-    ensures asked { IfOk result (λ tables. tables.asked.items ≡ entries.entry.given.asked.items) }
-    ensures calls { IfOk result (λ tables. tables.calls.items ≡ calls.entry.items) }
-    ensures requests { IfOk result (λ tables. map (λ request. request.now) tables.requests.items
-        ≡ each_once (unexternal entries.entry.given.sources.items ++ map (λ call. call.specifier.now) calls.entry.items)) }
-    ensures sources { IfOk result (λ tables. tables.sources.items ≡ entries.entry.given.sources.items) }
-    ensures stars { IfOk result (λ tables. tables.stars.items ≡ entries.entry.given.stars.keys) }
-    ensures script { IfOk result (λ tables. tables.is_script ≡ (not entries.entry.is_declared_module && not (has_import_meta_lem (map item_of pieces.now)))) }
-    ensures awaits { IfOk result (λ tables. tables.awaits ≡ awaits_outside_lem (map item_of pieces.now)) }
-    ensures reads { IfOk result (λ tables. map (read_places tables.reads.items) tables.uses.items ≡ map begin_in_turn tables.uses.items) }
-    ensures uses { IfOk result (λ tables. Finds entries.entry.locals (imports_of_lem (map item_of pieces.now)) →
+    require: bool,
+    external: &IndexSet<&str>,
+    entries: &Entries<'a>,
+) -> Result<Made<'a>, AllocError>
+    ensures calls { IfOk result (λ made. (settings : Settings) → settings.require ≡ require → HasTexts external.now settings.external →
         IsTable BySymbol Es (map item_of pieces.now) denotations.now →
-        map (use_entry_of tables.reads.items) tables.uses.items ≡ uses_of (map item_of pieces.now)) }
-    ensures common_js { IfOk result (λ tables.
-        IsTable BySymbol Es (map item_of pieces.now) denotations.now → tables.names_common_js ≡ uses_common_js (map item_of pieces.now)) }
-    ensures arguments { IfOk result (λ tables.
-        IsTable BySymbol Es (map item_of pieces.now) denotations.now → tables.has_free_arguments ≡ has_free_lem (map item_of pieces.now) (codes "arguments")) }
+        map call_entry_of made.calls.items ≡ linked_calls_lem settings (is_free (map item_of pieces.now)) (map item_of pieces.now)) }
+    ensures requests { IfOk result (λ made. map (λ request. request.now) made.requests.items
+        ≡ each_once (unexternal entries.now.given.sources.items ++ map (λ call. call.specifier.now) made.calls.items)) }
+    ensures stars { IfOk result (λ made. made.stars.items ≡ entries.now.given.stars.keys) }
+    ensures awaits { IfOk result (λ made. made.awaits ≡ awaits_outside_lem (map item_of pieces.now)) }
+    ensures reads { IfOk result (λ made. map (read_places made.found.reads.items) made.found.uses.items ≡ map begin_in_turn made.found.uses.items) }
+    ensures uses { IfOk result (λ made. Finds entries.now.locals (imports_of_lem (map item_of pieces.now)) →
+        IsTable BySymbol Es (map item_of pieces.now) denotations.now →
+        map (use_entry_of made.found.reads.items) made.found.uses.items ≡ uses_of (map item_of pieces.now)) }
 {
-    let found = found_in(alloc, pieces, denotations, &entries.locals)?;
     let awaits = awaits_outside(alloc, pieces)?;
-    let has_import_meta = has_import_meta(pieces);
-    let is_script = !entries.is_declared_module && !has_import_meta;
-    let imports = entries.imports;
-    let given = entries.given;
-    let requests = requests(alloc, &given, calls.as_slice())?;
-    let stars = given.stars.iter().copied().collect(alloc)?;
-    Ok(Tables {
+    let calls = linked_calls(alloc, pieces, denotations, require, external)?;
+    let requests = requests(alloc, &entries.given, &calls)?;
+    let stars = entries.given.stars.iter().copied().collect(alloc)?;
+    let found = found_in(alloc, pieces, denotations, &entries.locals)?;
+    Ok(Made {
+        calls,
         requests,
+        stars,
+        found,
+        awaits,
+    })
+}
+
+// The tables of a module of their parts.
+fn put_together<'a>(
+    pieces: &[Piece<'a>],
+    denotations: &Denotations<'a>,
+    entries: Entries<'a>,
+    made: Made<'a>,
+) -> Tables<'a>
+    ensures meta { result.has_import_meta ≡ has_import_meta_lem (map item_of pieces.now) }
+    ensures imports { result.imports.items ≡ entries.entry.imports.items }
+    ensures exports { result.exports.items ≡ entries.entry.given.exports.items }
+    ensures asked { result.asked.items ≡ entries.entry.given.asked.items }
+    ensures calls { result.calls.items ≡ made.entry.calls.items }
+    ensures requests { result.requests.items ≡ made.entry.requests.items }
+    ensures sources { result.sources.items ≡ entries.entry.given.sources.items }
+    ensures stars { result.stars.items ≡ made.entry.stars.items }
+    ensures script { result.is_script ≡ (not entries.entry.is_declared_module && not (has_import_meta_lem (map item_of pieces.now))) }
+    ensures awaits { result.awaits ≡ made.entry.awaits }
+    ensures reads { result.reads.items ≡ made.entry.found.reads.items }
+    ensures uses { result.uses.items ≡ made.entry.found.uses.items }
+    ensures common_js { IsTable BySymbol Es (map item_of pieces.now) denotations.now → result.names_common_js ≡ uses_common_js (map item_of pieces.now) }
+    ensures arguments { IsTable BySymbol Es (map item_of pieces.now) denotations.now →
+        result.has_free_arguments ≡ has_free_lem (map item_of pieces.now) (codes "arguments") }
+{
+    let has_import_meta = has_import_meta(pieces);
+    let Entries {
+        imports,
+        given,
+        is_declared_module,
+        ..
+    } = entries;
+    let Found { uses, reads } = made.found;
+    Tables {
+        requests: made.requests,
         imports,
         exports: given.exports,
         asked: given.asked,
-        stars,
+        stars: made.stars,
         sources: given.sources,
-        calls,
-        uses: found.uses,
-        reads: found.reads,
-        is_script,
+        calls: made.calls,
+        uses,
+        reads,
+        is_script: !is_declared_module && !has_import_meta,
         has_import_meta,
         names_common_js: names_common_js(pieces, denotations),
-        awaits,
+        awaits: made.awaits,
         has_free_arguments: has_free(pieces, denotations, "arguments"),
-    })
+    }
 }
 
 // What a module asks to be loaded: what is not external, and the literal calls that are linked, each text once.
