@@ -1,15 +1,17 @@
 -- The table of a walk that was searched whole.
-use Rattle.std.proofs.Common.{◌≡◌, ℕ, List, sym, subst}
+use Rattle.std.proofs.Common.{◌≡◌, ℕ, List, Result, Ok, Err, IfOk, sym, subst}
 use Rattle.bundle_piece.specs.Item.{Item}
 use Rattle.bundle_places.specs.Scopes as s
 use Rattle.bundle_places.specs.Declarations as d
 use Rattle.bundle_denote.specs.declared.table.Denotations.{Denotations}
 use Rattle.bundle_denote.specs.declared.walk.Walk.{Walk}
 use Rattle.bundle_denote.specs.declared.homes.Homes.{Homes}
+use Rattle.bundle_denote.specs.declared.denote.Found.{Found}
 use Rattle.bundle_denote.specs.declared.denote.Search.{Search}
+use Rattle.bundle_denote.specs.Kinds.{reading_as}
 use Rattle.bundle_denote.specs.Steps.{names_of, IsWhole}
 use Rattle.bundle_denote.specs.Ready.{HasArguments, AreHomes, HoldsImplied}
-use Rattle.bundle_denote.specs.Searched.{keys_of, AreOwn, Searches}
+use Rattle.bundle_denote.specs.Searched.{keys_of, AreOwn, MakesTable, Searches}
 use Rattle.bundle_denote.specs.Listed.{IsTable}
 use Rattle.bundle_denote.proofs.StartLemmas.{ready-first, own-numbers}
 use Rattle.bundle_denote.proofs.ListedLemmas.{table-whole}
@@ -20,3 +22,12 @@ table-made reading kind items walk homes of first last table whole arguments kno
   where
     own : AreOwn walk (d.declared reading kind items) of (keys_of first)
     own = subst (λ (l : List ℕ). AreOwn walk (d.declared reading kind items) l (keys_of first)) (sym same_of) (subst (AreOwn walk (d.declared reading kind items) homes.of.items) (sym same_keys) (own-numbers reading kind items walk homes whole known))
+
+-- what holds of each result that is no error
+pub if_ok : {T E : Type 0} {P Q : T → Type 0} (r : Result T E) → ((x : T) → P x → Q x) → IfOk r P → IfOk r Q
+if_ok (Ok x) f known = f x known
+if_ok (Err e) f known = known
+
+-- a walk over a whole list in one reading was searched in it
+pub whole-made : (reading : d.Reading) (kind : s.ModuleKind) (items : List Item) (walk : Walk) (found : Found) → reading_as walk.reading ≡ reading → IsWhole walk reading kind items → HasArguments walk → ((kind : s.ModuleKind) (items : List Item) → IsWhole walk (reading_as walk.reading) kind items → HasArguments walk → MakesTable (reading_as walk.reading) kind items walk found) → MakesTable reading kind items walk found
+whole-made reading kind items walk found is whole arguments made = subst (λ (r : d.Reading). MakesTable r kind items walk found) is (made kind items (subst (λ (r : d.Reading). IsWhole walk r kind items) (sym is) whole) arguments)

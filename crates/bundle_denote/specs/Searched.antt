@@ -1,14 +1,17 @@
 -- What the search for the binding of a name does.
 use Rattle.std.specs.Prelude.{◌≡◌, ℕ, true, false, List, Option, Some, None, slice_get}
 use Rattle.std.specs.List.{AllZip}
+use Rattle.bundle_piece.specs.Item.{Item}
 use Rattle.bundle_places.specs.Places as p
 use Rattle.bundle_places.specs.Scopes as s
 use Rattle.bundle_places.specs.Declarations as d
 use Rattle.bundle_places.specs.Homes as o
 use Rattle.bundle_places.specs.Denotes as e
+use Rattle.bundle_denote.specs.declared.table.Denotations.{Denotations}
 use Rattle.bundle_denote.specs.declared.table.Denoted.{Denoted}
 use Rattle.bundle_denote.specs.declared.walk.Occurrence.{Occurrence}
 use Rattle.bundle_denote.specs.declared.walk.Walk.{Walk}
+use Rattle.bundle_denote.specs.declared.denote.Found.{Found}
 use Rattle.bundle_denote.specs.declared.denote.Search.{Search}
 use Rattle.bundle_denote.specs.Numbers.{AreAround, Keeps}
 use Rattle.bundle_denote.specs.Chains.{AreInOrder, IsOnce}
@@ -16,7 +19,7 @@ use Rattle.bundle_denote.specs.Bound.{Key, put_key, reads, TellsBound, TellsImpl
 use Rattle.bundle_denote.specs.Walked.{IsSeen}
 use Rattle.bundle_denote.specs.Steps.{scopes_of, names_of}
 use Rattle.bundle_denote.specs.Ready.{Matches, FindsAlone}
-use Rattle.bundle_denote.specs.Listed.{copied_from, copy_of}
+use Rattle.bundle_denote.specs.Listed.{IsTable, copied_from, copy_of}
 
 -- the keys of the bindings
 abbrev pub keys_of : Search → List Key
@@ -73,3 +76,7 @@ pub record IsSearchedTo (reading : d.Reading) (walk : Walk) (of : List ℕ) (all
 -- these occurrences were gone over
 abbrev pub Searches : d.Reading → Walk → List ℕ → (old new : Search) → List Denoted → List Occurrence → Type 0
 Searches reading walk of old new table seen = (all : List d.Declared) → IsReady reading walk all old → AreOwn walk all of (keys_of old) → IsSearchedTo reading walk of all new table seen
+
+-- with the scopes of a walk, what was found along it makes the table of a list
+abbrev pub MakesTable : d.Reading → s.ModuleKind → List Item → Walk → Found → Type 0
+MakesTable reading kind items walk found = (table : Denotations) → table.scopes.items ≡ walk.scopes.items → table.bindings.items ≡ found.bindings.items → table.occurrences.items ≡ found.occurrences.items → IsTable reading kind items table

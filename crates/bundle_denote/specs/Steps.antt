@@ -2,6 +2,7 @@
 use Rattle.std.specs.Prelude.{◌≡◌, ℕ, ◌+◌, Bool as Truth, cond, List, [], ◌∷◌, ◌++◌, Option, Some, None, map, length, reverse, option_map, slice_get}
 use Rattle.std.specs.List.{AllZip}
 use Rattle.std.specs.Option.{option_to_list}
+use Rattle.bundle_piece.specs.declared.piece.Node.TheVariants as n
 use Rattle.bundle_piece.specs.declared.piece.Role.{Role}
 use Rattle.bundle_piece.specs.Item.{Item, Head, head_of}
 use Rattle.bundle_places.specs.Places as p
@@ -31,6 +32,20 @@ IsWalkAt walk items place = IsAt (reading_as walk.reading) (kind_as walk.kind) i
 abbrev pub IsTidyAt : Walk → ℕ → Type 0
 IsTidyAt walk place = IsTidy (scopes_of walk) (names_of walk) place
 
+-- a walk that has met nothing, before its module begins
+pub record IsBlank (walk : Walk) : Type 0 where
+  pub scopes : walk.scopes.items ≡ []
+  pub names : walk.names.keys ≡ []
+  pub declarations : walk.declarations.items ≡ []
+  pub occurrences : walk.occurrences.items ≡ []
+  pub outer : walk.outer.items ≡ []
+  pub node : walk.inner.node ≡ n.Module
+  pub way : walk.inner.way ≡ None
+  pub variable : walk.inner.variable ≡ None
+  pub around : walk.inner.around ≡ top_number (kind_as walk.kind)
+  pub own : walk.inner.own ≡ None
+  pub top : walk.top ≡ top_number (kind_as walk.kind)
+
 -- what no step changes
 pub record Stays (old new : Walk) : Type 0 where
   pub top : new.top ≡ old.top
@@ -40,6 +55,12 @@ pub record Stays (old new : Walk) : Type 0 where
 -- a walk goes on by what stands at a place
 pub record Goes (old new : Walk) (items : List Item) (place : ℕ) : Type 0 where
   pub is_at : IsWalkAt new items (place + 1)
+  pub stays : Stays old new
+
+-- the module of a walk begins
+pub record Starts (old new : Walk) : Type 0 where
+  pub is_at : (items : List Item) → IsWalkAt new items 0
+  pub tidy : IsTidyAt new 0
   pub stays : Stays old new
 
 -- the scope that a node makes

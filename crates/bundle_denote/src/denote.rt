@@ -1,8 +1,9 @@
 //! What each occurrence of a list denotes.
 
-ghost use Rattle.std.specs.Prelude.{◌≡◌, ◌<◌, ◌||◌, ◌&&◌, IfOk, OnOk, Some, length, map, slice_get};
+ghost use Rattle.std.specs.Prelude.{◌≡◌, ◌<◌, ◌||◌, ◌&&◌, IfOk, List, OnOk, Some, length, map, slice_get};
 ghost use Rattle.std.specs.List.{list_any};
-ghost use Rattle.bundle_piece.specs.Item.{item_of};
+ghost use Rattle.bundle_piece.specs.Item.{Item, item_of};
+ghost use Rattle.bundle_places.specs.Scopes.{ModuleKind as ModuleKindLem};
 ghost use Rattle.bundle_places.specs.Declarations.{ByContext, BySymbol};
 ghost use Rattle.bundle_places.specs.Denotes.{is_unresolved as is_unresolved_lem};
 ghost use Rattle.bundle_places.specs.Homes.{is_arguments as is_arguments_lem, is_function as is_function_lem};
@@ -10,15 +11,15 @@ ghost use Rattle.bundle_denote.specs.Kinds.{kind_as, reading_as};
 ghost use Rattle.bundle_denote.specs.Numbers.{name_as, numbered};
 ghost use Rattle.bundle_denote.specs.Chains.{nearest_at, passes};
 ghost use Rattle.bundle_denote.specs.Bound.{Key, same_key, binds_at as binds_at_lem, is_written_key as is_written_key_lem, is_written_name as is_written_name_lem};
-ghost use Rattle.bundle_denote.specs.Ready.{AreSeenNamed, HasArguments, HoldsImplied, is_implied_key};
-ghost use Rattle.bundle_denote.specs.Searched.{Denotes, DenotesSeen, Puts, Searches};
+ghost use Rattle.bundle_denote.specs.Ready.{AreNamed, AreSeenNamed, HasArguments, HoldsImplied, is_implied_key};
+ghost use Rattle.bundle_denote.specs.Searched.{Denotes, DenotesSeen, MakesTable, Puts, Searches};
 ghost use Rattle.bundle_denote.specs.Listed.{IsTable};
-ghost use Rattle.bundle_denote.specs.Steps.{IsWhole};
+ghost use Rattle.bundle_denote.specs.Steps.{IsBlank, IsWhole, Stays};
 
-use crate::homes::{Bindings, Homes, alone_of, homes_of, outer_at, scope_at};
+use crate::homes::{Bindings, alone_of, homes_of, outer_at, scope_at};
 use crate::kinds::is_function;
 use crate::table::{Binding, Denotations, Denoted, ModuleKind, Reading, Scope, Way};
-use crate::walk::{Name, Occurrence, Walk, number_of, walked};
+use crate::walk::{Name, Occurrence, Walk, number_of};
 use bundle_piece::Piece;
 use indexmap::IndexSet;
 use std::alloc::{AllocError, Global};
@@ -33,36 +34,77 @@ pub fn denotations<'a>(
 ) -> Result<Denotations<'a>, AllocError>
     ensures { IfOk result (IsTable (reading_as reading) (kind_as kind) (map item_of pieces.now)) }
 {
-    let walk = walked_with_arguments(alloc, pieces, kind, reading)?;
-    let homes = homes_of(alloc, &walk)?;
-    let Homes { bindings, of } = homes;
-    let implied = implied_in(alloc, &walk.names, &bindings.keys, reading)?;
-    let mut search = Search { bindings, implied };
-    let occurrences = search.entries(alloc, &walk, &of, reading)?;
-    Ok(Denotations {
-        scopes: walk.scopes,
-        bindings: search.bindings.items,
-        occurrences,
-    })
+    let mut walk = Walk::new(alloc, pieces.len(), kind, reading);
+    let found = found_along(alloc, &mut walk, pieces)?;
+    Ok(table_of(walk, found))
 }
 
-// One pass over a list, where the name `arguments` without a context has a number too.
-fn walked_with_arguments<'a>(
-    alloc: Global,
-    pieces: &[Piece<'a>],
-    kind: ModuleKind,
-    reading: Reading,
-) -> Result<Walk<'a>, AllocError>
-    ensures whole { IfOk result (λ walk. IsWhole walk (reading_as reading) (kind_as kind) (map item_of pieces.now)) }
-    ensures arguments { IfOk result HasArguments }
+// The bindings of a list, and what each of its occurrences denotes.
+#[derive(Drop)]
+struct Found<'a> {
+    bindings: Vec<Binding<'a>>,
+    occurrences: Vec<Denoted>,
+}
+
+// The table of a list, by what was met and what was found along it.
+fn table_of<'a>(walk: Walk<'a>, found: Found<'a>) -> Denotations<'a>
+    ensures scopes { result.scopes.items ≡ walk.entry.scopes.items }
+    ensures bindings { result.bindings.items ≡ found.entry.bindings.items }
+    ensures occurrences { result.occurrences.items ≡ found.entry.occurrences.items }
 {
-    let mut walk = walked(alloc, pieces, kind, reading)?;
+    Denotations {
+        scopes: walk.scopes,
+        bindings: found.bindings,
+        occurrences: found.occurrences,
+    }
+}
+
+// Goes over a list, and finds the bindings and what each occurrence denotes.
+fn found_along<'a>(
+    alloc: Global,
+    walk: &mut Walk<'a>,
+    pieces: &[Piece<'a>],
+) -> Result<Found<'a>, AllocError>
+    requires { IsBlank walk.old }
+    ensures { IfOk result (MakesTable (reading_as walk.old.reading) (kind_as walk.old.kind) (map item_of pieces.now) walk.new) }
+{
+    go_over_with_arguments(walk, pieces)?;
+    searched(alloc, walk)
+}
+
+// Goes over a list, where the name `arguments` without a context gets a number too.
+fn go_over_with_arguments<'a>(walk: &mut Walk<'a>, pieces: &[Piece<'a>]) -> Result<(), AllocError>
+    requires { IsBlank walk.old }
+    ensures whole { OnOk result (IsWhole walk.new (reading_as walk.old.reading) (kind_as walk.old.kind) (map item_of pieces.now)) }
+    ensures arguments { OnOk result (HasArguments walk.new) }
+    ensures stays { OnOk result (Stays walk.old walk.new) }
+{
+    walk.go_over(pieces)?;
     let arguments = Name {
         sym: "arguments",
         ctxt: None,
     };
     number_of(&mut walk.names, arguments)?;
-    Ok(walk)
+    Ok(())
+}
+
+// The same by what was met in one pass over the list.
+fn searched<'a>(alloc: Global, walk: &Walk<'a>) -> Result<Found<'a>, AllocError>
+    requires named { AreNamed walk.now }
+    requires seen { AreSeenNamed walk.now }
+    ensures { IfOk result (λ found. (kind : ModuleKindLem) (items : List Item) → IsWhole walk.now (reading_as walk.now.reading) kind items → HasArguments walk.now → MakesTable (reading_as walk.now.reading) kind items walk.now found) }
+{
+    let homes = homes_of(alloc, walk)?;
+    let implied = implied_in(alloc, &walk.names, &homes.bindings.keys, walk.reading)?;
+    let mut search = Search {
+        bindings: homes.bindings,
+        implied,
+    };
+    let occurrences = search.entries(alloc, walk, &homes.of, walk.reading)?;
+    Ok(Found {
+        bindings: search.bindings.items,
+        occurrences,
+    })
 }
 
 // The search for bindings along the occurrences: the bindings, to which the `arguments` of a function is added

@@ -13,13 +13,14 @@ ghost use Rattle.bundle_denote.specs.Numbers.{AreAround, numbered};
 ghost use Rattle.bundle_denote.specs.Chains.{scope_at as scope_at_lem};
 ghost use Rattle.bundle_denote.specs.Bound.{Key, same_key};
 ghost use Rattle.bundle_denote.specs.Ready.{AreNamed};
+ghost use Rattle.bundle_denote.specs.Steps.{IsBlank};
 ghost use Rattle.bundle_denote.specs.Barred.{Holds, IsToldOf, Reaches, TellsFirst, begins_wrapped, has_any, is_key_in, passed_at};
 ghost use Rattle.bundle_denote.specs.Listed.{place_and_symbol, told_of};
 
 use crate::homes::{outer_at, scope_at, taker_of, takes_at};
 use crate::kinds::{is_var, is_wrapper, joins_outer};
 use crate::table::{Doubled, ModuleKind, Reading, Scope, ScopeKind, Way};
-use crate::walk::{Declaration, Walk, walked};
+use crate::walk::{Declaration, Walk};
 use bundle_piece::Piece;
 use indexmap::IndexSet;
 use std::alloc::{AllocError, Global};
@@ -34,25 +35,23 @@ pub fn first_doubled<'a>(
 ) -> Result<Option<Doubled<'a>>, AllocError>
     ensures { IfOk result (λ found. option_map told_of found ≡ option_map place_and_symbol (first_doubled_lem (kind_as kind) (map item_of pieces.now))) }
 {
-    let walk = walked(alloc, pieces, kind, Reading::BySymbol)?;
-    let doubled = first_of(alloc, &walk)?;
-    Ok(doubled)
+    let mut walk = Walk::new(alloc, pieces.len(), kind, Reading::BySymbol);
+    doubled_along(alloc, &mut walk, pieces)
 }
 
-// The same by what was met in one pass over the list.
-fn first_of<'a>(alloc: Global, walk: &Walk<'a>) -> Result<Option<Doubled<'a>>, AllocError>
-    requires { AreNamed walk.now }
-    ensures { IfOk result (TellsFirst walk.now) }
+// The same, by a walk that goes over the list.
+fn doubled_along<'a>(
+    alloc: Global,
+    walk: &mut Walk<'a>,
+    pieces: &[Piece<'a>],
+) -> Result<Option<Doubled<'a>>, AllocError>
+    requires blank { IsBlank walk.old }
+    requires reading { walk.old.reading ≡ Reading.BySymbol }
+    ensures { IfOk result (λ found. option_map told_of found ≡ option_map place_and_symbol (first_doubled_lem (kind_as walk.old.kind) (map item_of pieces.now))) }
 {
+    walk.go_over(pieces)?;
     let mut met = Met::new(alloc);
-    for declaration in &walk.declarations {
-        let reach = reach_of(alloc, walk, *declaration)?;
-        if met.excludes(declaration.name, &reach) {
-            return Ok(Some(doubled_at(walk, *declaration)));
-        }
-        met.add(declaration.name, &reach)?;
-    }
-    Ok(None)
+    met.first_excluded(alloc, walk)
 }
 
 // What is told of a declaration that is doubled.
@@ -216,6 +215,27 @@ impl Met {
             taken: IndexSet::new(alloc),
             barred: IndexSet::new(alloc),
         }
+    }
+
+    // The first declaration of a walk that may not stand beside those before it, which are added.
+    fn first_excluded<'a>(
+        &mut self,
+        alloc: Global,
+        walk: &Walk<'a>,
+    ) -> Result<Option<Doubled<'a>>, AllocError>
+        requires named { AreNamed walk.now }
+        requires taken { self.old.taken.keys ≡ [] }
+        requires barred { self.old.barred.keys ≡ [] }
+        ensures { IfOk result (TellsFirst walk.now) }
+    {
+        for declaration in &walk.declarations {
+            let reach = reach_of(alloc, walk, *declaration)?;
+            if self.excludes(declaration.name, &reach) {
+                return Ok(Some(doubled_at(walk, *declaration)));
+            }
+            self.add(declaration.name, &reach)?;
+        }
+        Ok(None)
     }
 
     // Whether one that was met may not have a name beside a declaration that reaches so far.

@@ -9,14 +9,14 @@ pub enum ModuleKind {
 }
 
 /// How names are read: by the symbol alone, or by symbol and context.
-#[derive(Clone, Copy, PartialEq, Eq, Debug)]
+#[derive(Clone, Copy)]
 pub enum Reading {
     BySymbol,
     ByContext,
 }
 
 /// What makes a scope.
-#[derive(Clone, Copy, PartialEq, Eq, Debug)]
+#[derive(Clone, Copy, PartialEq, Eq)]
 pub enum ScopeKind {
     /// The parameters `module` and `exports` of a CommonJS module.
     Wrapper,
@@ -46,7 +46,7 @@ pub enum ScopeKind {
 
 /// A scope. They are numbered in the order of their nodes' beginnings, an outer one before those inside.
 /// Of an ECMAScript module, 0 is the top; of a CommonJS module, 0 is the wrapper and 1 the top.
-#[derive(Clone, Copy, PartialEq, Eq, Debug)]
+#[derive(Clone, Copy)]
 pub struct Scope {
     pub kind: ScopeKind,
     /// The number of the scope around it.
@@ -63,7 +63,7 @@ pub struct Scope {
 }
 
 /// How a name is declared.
-#[derive(Clone, Copy, PartialEq, Eq, Debug)]
+#[derive(Clone, Copy, PartialEq, Eq)]
 pub enum Way {
     Import,
     Var,
@@ -89,7 +89,7 @@ pub enum Way {
 }
 
 /// A binding: one for each scope and name, where by context the name is symbol and context.
-#[derive(Clone, Copy, PartialEq, Eq, Debug)]
+#[derive(Clone, Copy)]
 pub struct Binding<'a> {
     /// The number of the scope that binds it.
     pub scope: usize,
@@ -104,7 +104,7 @@ pub struct Binding<'a> {
 }
 
 /// An identifier that binds a name or refers to one.
-#[derive(Clone, Copy, PartialEq, Eq, Debug)]
+#[derive(Clone, Copy)]
 pub struct Denoted {
     pub place: usize,
     /// The number of the innermost scope around it.

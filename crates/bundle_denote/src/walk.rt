@@ -1,14 +1,14 @@
 //! One pass over a list: the scopes, the declarations and the occurrences, with names as numbers.
 
-ghost use Rattle.std.specs.Prelude.{◌≡◌, ◌+◌, ◌<◌, ◌++◌, ◌∷◌, [], IfOk, List, OnOk, cond, drop, map, length, slice_get};
+ghost use Rattle.std.specs.Prelude.{◌≡◌, ◌+◌, ◌<◌, ◌++◌, ◌∷◌, [], IfOk, OnOk, cond, drop, map, length, slice_get};
 ghost use Rattle.std.specs.Option.{option_map, option_to_list};
-ghost use Rattle.bundle_piece.specs.Item.{Item, head_of, item_of};
+ghost use Rattle.bundle_piece.specs.Item.{head_of, item_of};
 ghost use Rattle.bundle_places.specs.Places.{is_binding};
 ghost use Rattle.bundle_places.specs.Scopes.{block_in as block_in_lem, exports_default};
 ghost use Rattle.bundle_places.specs.Declarations.{is_pattern as is_pattern_lem, is_loop_head as is_loop_head_lem, name_of as name_of_lem};
 ghost use Rattle.bundle_denote.specs.Chains.{top_number};
 ghost use Rattle.bundle_denote.specs.Kinds.{kind_as, kind_made, kind_named, reading_as, scope_as, way_in as way_in_lem, way_of_variable as way_of_variable_lem};
-ghost use Rattle.bundle_denote.specs.Steps.{Begins, Ends, Goes, IsTidyAt, IsWalkAt, IsWhole, Occurs};
+ghost use Rattle.bundle_denote.specs.Steps.{Begins, Ends, Goes, IsBlank, IsTidyAt, IsWalkAt, IsWhole, Occurs, Starts, Stays};
 ghost use Rattle.bundle_denote.specs.Numbers.{Keeps, name_as, numbered, in_scope};
 ghost use Rattle.bundle_denote.specs.Walked.{IsAlone, IsDefault, StaysOnce, begins_node_by, begins_nameless, declared_as, is_identifier_by, is_nameless_by, is_occurrence as is_occurrence_lem, scope_in as scope_in_lem};
 
@@ -22,14 +22,14 @@ use indexmap::IndexSet;
 use std::alloc::{AllocError, Global};
 
 /// A name: its symbol, and its context where names are read by symbol and context.
-#[derive(Clone, Copy, PartialEq, Eq, Hash, Debug)]
+#[derive(Clone, Copy, PartialEq, Eq, Hash)]
 pub(crate) struct Name<'a> {
     pub(crate) sym: &'a str,
     pub(crate) ctxt: Option<u32>,
 }
 
 /// A name where it is declared: its number, and the innermost scope around the place.
-#[derive(Clone, Copy, Debug)]
+#[derive(Clone, Copy)]
 pub(crate) struct Declaration {
     pub(crate) place: usize,
     pub(crate) name: usize,
@@ -39,7 +39,7 @@ pub(crate) struct Declaration {
 
 /// An identifier that binds a name or refers to one: the number of the name, the innermost scope around it,
 /// and the number of its declaration where it is one.
-#[derive(Clone, Copy, Debug)]
+#[derive(Clone, Copy)]
 pub(crate) struct Occurrence {
     pub(crate) place: usize,
     pub(crate) name: usize,
@@ -49,7 +49,7 @@ pub(crate) struct Occurrence {
 
 /// A node that is open: how it declares a name that stands in it, and the names of the declarators in it; the
 /// innermost scope around it, and the scope that it makes.
-#[derive(Clone, Copy, Debug)]
+#[derive(Clone, Copy)]
 pub(crate) struct Open<'a> {
     pub(crate) node: Node<'a>,
     pub(crate) way: Option<Way>,
@@ -69,100 +69,94 @@ pub(crate) struct Walk<'a> {
     pub(crate) top: usize,
     inner: Open<'a>,
     outer: Vec<Open<'a>>,
-    kind: ModuleKind,
-    reading: Reading,
+    pub(crate) kind: ModuleKind,
+    pub(crate) reading: Reading,
     length: usize,
 }
 
-/// Goes over a list.
-pub(crate) fn walked<'a>(
-    alloc: Global,
-    pieces: &[Piece<'a>],
-    kind: ModuleKind,
-    reading: Reading,
-) -> Result<Walk<'a>, AllocError>
-    ensures { IfOk result (λ walk. IsWhole walk (reading_as reading) (kind_as kind) (map item_of pieces.now)) }
-{
-    let mut walk = Walk::of_kind(alloc, pieces.len(), kind, reading)?;
-    for place in 0..pieces.len() {
-        walk.step(pieces, place)?;
-    }
-    Ok(walk)
-}
-
 impl<'a> Walk<'a> {
-    // Before a module of either kind.
-    fn of_kind(
-        alloc: Global,
-        length: usize,
-        kind: ModuleKind,
-        reading: Reading,
-    ) -> Result<Walk<'a>, AllocError>
-        ensures at { IfOk result (λ walk. (items : List Item) → IsWalkAt walk items 0) }
-        ensures tidy { IfOk result (λ walk. IsTidyAt walk 0) }
-        ensures kind { IfOk result (λ walk. walk.kind ≡ kind) }
-        ensures top { IfOk result (λ walk. walk.top ≡ top_number (kind_as kind)) }
-        ensures reading { IfOk result (λ walk. walk.reading ≡ reading) }
+    /// Nothing was met yet, in a list of this length.
+    pub(crate) fn new(alloc: Global, length: usize, kind: ModuleKind, reading: Reading) -> Walk<'a>
+        ensures blank { IsBlank result }
+        ensures kind { result.kind ≡ kind }
+        ensures reading { result.reading ≡ reading }
     {
-        match kind {
-            ModuleKind::Es => Walk::module(alloc, length, reading),
-            ModuleKind::Cjs => Walk::wrapped(alloc, length, reading),
-        }
-    }
-
-    // Before an ECMAScript module.
-    fn module(alloc: Global, length: usize, reading: Reading) -> Result<Walk<'a>, AllocError>
-        ensures at { IfOk result (λ walk. (items : List Item) → IsWalkAt walk items 0) }
-        ensures tidy { IfOk result (λ walk. IsTidyAt walk 0) }
-        ensures kind { IfOk result (λ walk. walk.kind ≡ ModuleKind.Es) }
-        ensures top { IfOk result (λ walk. walk.top ≡ 0) }
-        ensures reading { IfOk result (λ walk. walk.reading ≡ reading) }
-    {
-        let mut scopes = Vec::new(alloc);
-        let top = add_scope(&mut scopes, ScopeKind::Top, None, 0, 0, length)?;
-        Ok(Walk {
-            scopes,
+        let top = top_of(kind);
+        Walk {
+            scopes: Vec::new(alloc),
             names: IndexSet::new(alloc),
             declarations: Vec::new(alloc),
             occurrences: Vec::new(alloc),
             top,
             inner: outermost(top),
             outer: Vec::new(alloc),
-            kind: ModuleKind::Es,
+            kind,
             reading,
             length,
-        })
+        }
     }
 
-    // Before a CommonJS module, whose parameters are declared.
-    fn wrapped(alloc: Global, length: usize, reading: Reading) -> Result<Walk<'a>, AllocError>
-        ensures at { IfOk result (λ walk. (items : List Item) → IsWalkAt walk items 0) }
-        ensures tidy { IfOk result (λ walk. IsTidyAt walk 0) }
-        ensures kind { IfOk result (λ walk. walk.kind ≡ ModuleKind.Cjs) }
-        ensures top { IfOk result (λ walk. walk.top ≡ 1) }
-        ensures reading { IfOk result (λ walk. walk.reading ≡ reading) }
+    /// Goes over a list.
+    pub(crate) fn go_over(&mut self, pieces: &[Piece<'a>]) -> Result<(), AllocError>
+        requires { IsBlank self.old }
+        ensures whole { OnOk result (IsWhole self.new (reading_as self.old.reading) (kind_as self.old.kind) (map item_of pieces.now)) }
+        ensures stays { OnOk result (Stays self.old self.new) }
     {
-        let mut scopes = Vec::new(alloc);
-        let wrapper = add_scope(&mut scopes, ScopeKind::Wrapper, None, 0, 0, length)?;
-        let top = add_scope(&mut scopes, ScopeKind::Top, Some(wrapper), 0, 0, length)?;
-        let mut names = IndexSet::new(alloc);
-        let mut declarations = Vec::new(alloc);
-        let module = alone(&mut names, "module", Way::Wrapper, 0, wrapper)?;
-        declarations.push(module)?;
-        let exports = alone(&mut names, "exports", Way::Wrapper, 0, wrapper)?;
-        declarations.push(exports)?;
-        Ok(Walk {
-            scopes,
-            names,
-            declarations,
-            occurrences: Vec::new(alloc),
-            top,
-            inner: outermost(top),
-            outer: Vec::new(alloc),
-            kind: ModuleKind::Cjs,
-            reading,
-            length,
-        })
+        self.start()?;
+        for place in 0..pieces.len() {
+            self.step(pieces, place)?;
+        }
+        Ok(())
+    }
+
+    // The module begins.
+    fn start(&mut self) -> Result<(), AllocError>
+        requires { IsBlank self.old }
+        ensures { OnOk result (Starts self.old self.new) }
+    {
+        match self.kind {
+            ModuleKind::Es => self.start_top(),
+            ModuleKind::Cjs => self.start_wrapped(),
+        }
+    }
+
+    // An ECMAScript module begins.
+    fn start_top(&mut self) -> Result<(), AllocError>
+        requires blank { IsBlank self.old }
+        requires kind { self.old.kind ≡ ModuleKind.Es }
+        ensures { OnOk result (Starts self.old self.new) }
+    {
+        add_scope(&mut self.scopes, ScopeKind::Top, None, 0, 0, self.length)?;
+        Ok(())
+    }
+
+    // A CommonJS module begins, whose parameters are declared.
+    fn start_wrapped(&mut self) -> Result<(), AllocError>
+        requires blank { IsBlank self.old }
+        requires kind { self.old.kind ≡ ModuleKind.Cjs }
+        ensures { OnOk result (Starts self.old self.new) }
+    {
+        let wrapper = add_scope(
+            &mut self.scopes,
+            ScopeKind::Wrapper,
+            None,
+            0,
+            0,
+            self.length,
+        )?;
+        add_scope(
+            &mut self.scopes,
+            ScopeKind::Top,
+            Some(wrapper),
+            0,
+            0,
+            self.length,
+        )?;
+        let module = alone(&mut self.names, "module", Way::Wrapper, 0, wrapper)?;
+        self.declarations.push(module)?;
+        let exports = alone(&mut self.names, "exports", Way::Wrapper, 0, wrapper)?;
+        self.declarations.push(exports)?;
+        Ok(())
     }
 
     // Goes on by the piece at a place.
@@ -204,12 +198,12 @@ impl<'a> Walk<'a> {
     {
         let default = default_at(&mut self.names, &pieces[place..], place, self.top)?;
         push_some(&mut self.declarations, default)?;
-        let around = scope_in(self.inner, field);
+        let around = scope_in(&self.inner, field);
         cover(&mut self.scopes, around, place);
-        let made = made_by(node, self.inner, around, place, self.length);
+        let made = made_by(&node, &self.inner, around, place, self.length);
         let own = push_scope(&mut self.scopes, made)?;
         self.outer.push(self.inner)?;
-        self.inner = opened(node, field, self.inner, around, own);
+        self.inner = opened(node, field, &self.inner, around, own);
         Ok(())
     }
 
@@ -224,10 +218,10 @@ impl<'a> Walk<'a> {
     ) -> Result<(), AllocError>
         ensures { OnOk result (Occurs self.old self.new place field sym.now ctxt role) }
     {
-        let scope = scope_in(self.inner, field);
+        let scope = scope_in(&self.inner, field);
         cover(&mut self.scopes, scope, place);
         let name = number_of(&mut self.names, name_of(self.reading, sym, ctxt))?;
-        let way = way_for(self.inner, role);
+        let way = way_for(&self.inner, role);
         let declared = declared_by(way, place, name, scope);
         let declaration = push_some(&mut self.declarations, declared)?;
         self.occurrences.push(Occurrence {
@@ -244,7 +238,19 @@ impl<'a> Walk<'a> {
         ensures { Ends self.old self.new }
     {
         end_scope(&mut self.scopes, self.inner.own, place);
-        self.inner = self.outer.pop().unwrap_or(self.inner);
+        if let Some(outer) = self.outer.pop() {
+            self.inner = outer;
+        }
+    }
+}
+
+// The number of the scope of a module's top.
+fn top_of(kind: ModuleKind) -> usize
+    ensures { result ≡ top_number (kind_as kind) }
+{
+    match kind {
+        ModuleKind::Es => 0,
+        ModuleKind::Cjs => 1,
     }
 }
 
@@ -269,13 +275,13 @@ fn outermost<'a>(top: usize) -> Open<'a>
 fn opened<'a>(
     node: Node<'a>,
     field: u8,
-    inner: Open<'a>,
+    inner: &Open<'a>,
     around: usize,
     own: Option<usize>,
 ) -> Open<'a>
     ensures node { result.node ≡ node.entry }
-    ensures way { result.way ≡ cond (is_pattern_lem (head_of node.entry)) inner.entry.way (way_in_lem (head_of node.entry) inner.entry.variable (exports_default (head_of inner.entry.node))) }
-    ensures variable { result.variable ≡ way_of_variable_lem (head_of node.entry) (is_loop_head_lem (head_of inner.entry.node) field) }
+    ensures way { result.way ≡ cond (is_pattern_lem (head_of node.entry)) inner.now.way (way_in_lem (head_of node.entry) inner.now.variable (exports_default (head_of inner.now.node))) }
+    ensures variable { result.variable ≡ way_of_variable_lem (head_of node.entry) (is_loop_head_lem (head_of inner.now.node) field) }
     ensures around { result.around ≡ around }
     ensures own { result.own ≡ own }
 {
@@ -294,8 +300,8 @@ fn opened<'a>(
 }
 
 // The number of the innermost scope around what stands in this field of an open node.
-fn scope_in<'a>(node: Open<'a>, field: u8) -> usize
-    ensures { result ≡ scope_in_lem node.entry field }
+fn scope_in<'a>(node: &Open<'a>, field: u8) -> usize
+    ensures { result ≡ scope_in_lem node.now field }
 {
     match node.own {
         None => node.around,
@@ -309,16 +315,16 @@ fn scope_in<'a>(node: Open<'a>, field: u8) -> usize
 
 // The scope that a node makes, where it makes one.
 fn made_by<'a>(
-    node: Node<'a>,
-    inner: Open<'a>,
+    node: &Node<'a>,
+    inner: &Open<'a>,
     around: usize,
     place: usize,
     length: usize,
 ) -> Option<Scope>
-    ensures { option_map numbered result ≡ option_map (in_scope place around) (kind_made (head_of node.entry) (kind_named (block_in_lem (head_of inner.entry.node))) (exports_default (head_of inner.entry.node))) }
+    ensures { option_map numbered result ≡ option_map (in_scope place around) (kind_made (head_of node.now) (kind_named (block_in_lem (head_of inner.now.node))) (exports_default (head_of inner.now.node))) }
 {
-    let kind = kind_of_scope(&node, block_in(&inner.node), is_default(&inner.node))?;
-    let from = if leaves_first_out(&node) {
+    let kind = kind_of_scope(node, block_in(&inner.node), is_default(&inner.node))?;
+    let from = if leaves_first_out(node) {
         length
     } else {
         place.saturating_add(1)
@@ -344,8 +350,8 @@ fn is_occurrence<'a>(piece: Piece<'a>) -> bool
 }
 
 // How an identifier declares its name, with this node around it.
-fn way_for<'a>(inner: Open<'a>, role: Role) -> Option<Way>
-    ensures { result ≡ cond (is_binding role) inner.entry.way None }
+fn way_for<'a>(inner: &Open<'a>, role: Role) -> Option<Way>
+    ensures { result ≡ cond (is_binding role) inner.now.way None }
 {
     if role == Role::Binding {
         inner.way

@@ -1,19 +1,13 @@
--- The tables tell what each occurrence denotes.
-use Rattle.std.proofs.Common.{map, refl}
+-- The table is that of the whole list.
+use Rattle.std.proofs.Common.{map, ap, subst}
 use Rattle.bundle_piece.specs.Item.{item_of}
-use Rattle.bundle_denote.specs.declared.denote.Search.{Search}
+use Rattle.bundle_places.specs.Scopes.{ModuleKind}
+use Rattle.bundle_places.specs.Declarations.{Reading}
 use Rattle.bundle_denote.specs.Kinds.{reading_as, kind_as}
-use Rattle.bundle_denote.proofs.StartLemmas.{whole-named, whole-seen}
-use Rattle.bundle_denote.proofs.TableLemmas.{table-made}
+use Rattle.bundle_denote.specs.Searched.{MakesTable}
 use Rattle.bundle_denote.proofs.denote.denotations.Goals as goal
-
-pub homes_of-requires : goal.homes_of-requires
-homes_of-requires c = whole-named (reading_as c.args.reading) (kind_as c.args.kind) (map item_of c.args.pieces.now) c.in_ok-walk.walk c.in_ok-walk.ensures.whole
-
-pub entries-requires : goal.entries-requires
-entries-requires c = whole-seen (reading_as c.args.reading) (kind_as c.args.kind) (map item_of c.args.pieces.now) c.in_ok-walk.walk c.in_ok-walk.ensures.whole
 
 pub returns : goal.returns
 returns c =
-    let first : Search = record { bindings = c.in_ok-homes.homes.bindings; implied = c.in_ok-implied.implied } in
-    table-made (reading_as c.args.reading) (kind_as c.args.kind) (map item_of c.args.pieces.now) c.in_ok-walk.walk c.in_ok-homes.homes c.deref.result.now first c.entries.new.self _ c.in_ok-walk.ensures.whole c.in_ok-walk.ensures.arguments c.in_ok-homes.ensures c.in_ok-implied.ensures refl refl c.deref.ensures.value c.in_ok-occurrences.ensures refl refl
+    let made = subst (λ (k : ModuleKind). MakesTable (reading_as c.new-walk.result.reading) k (map item_of c.args.pieces.now) c.found_along.new.walk c.in_ok-found.found) (ap kind_as c.new-walk.ensures.kind) c.in_ok-found.ensures in
+    subst (λ (r : Reading). MakesTable r (kind_as c.args.kind) (map item_of c.args.pieces.now) c.found_along.new.walk c.in_ok-found.found) (ap reading_as c.new-walk.ensures.reading) made c.table_of.result c.table_of.ensures.scopes c.table_of.ensures.bindings c.table_of.ensures.occurrences

@@ -5,7 +5,7 @@ use Rattle.bundle_places.specs.Scopes.{ModuleKind}
 use Rattle.bundle_places.specs.Declarations.{BySymbol, declared}
 use Rattle.bundle_denote.specs.Steps.{IsWhole}
 use Rattle.bundle_denote.specs.Barred.{HasMetFirst}
-use Rattle.bundle_denote.proofs.doubled.first_of.Given as goal
+use Rattle.bundle_denote.proofs.doubled.Met.first_excluded.Given as goal
 
 abbrev pub invariant-loop-declaration : goal.invariant-loop-declaration
-invariant-loop-declaration l = (kind : ModuleKind) (items : List Item) → IsWhole l.fn.walk BySymbol kind items → HasMetFirst l.fn.walk (declared BySymbol kind items) l.declaration-index l.met
+invariant-loop-declaration l = (kind : ModuleKind) (items : List Item) → IsWhole l.fn.walk BySymbol kind items → HasMetFirst l.fn.walk (declared BySymbol kind items) l.declaration-index l.self
