@@ -30,11 +30,11 @@ pub(crate) fn seen_here<'a>(
     frames: &[Frame<'a>],
     number: usize,
     place: usize,
-    piece: Piece<'a>,
+    piece: &Piece<'a>,
 ) -> Option<Seen>
-    ensures { (at : Place) → at.place ≡ place → AreSeconds (map item_of item.now) seconds.now → AreOpen (map item_of item.now) (λ p. slice_index_or told.now p no_told) (reverse frames.now) at.path → result ≡ seen_by number (λ p. slice_index_or told.now p no_told) (map item_of item.now) (occurrence_of at (item_of piece.entry)) }
+    ensures { (at : Place) → at.place ≡ place → AreSeconds (map item_of item.now) seconds.now → AreOpen (map item_of item.now) (λ p. slice_index_or told.now p no_told) (reverse frames.now) at.path → result ≡ seen_by number (λ p. slice_index_or told.now p no_told) (map item_of item.now) (occurrence_of at (item_of piece.now)) }
 {
-    match piece {
+    match *piece {
         Piece::Ident { field, role, .. } => match binding_at(told, place, role) {
             None => None,
             Some(binding) => Some(seen_at(item, seconds, frames, number, binding, field, role)),
@@ -74,7 +74,7 @@ fn spot_at<'a>(frames: &[Frame<'a>], field: u8) -> Spot
     ensures { (item : List Item) (told : ℕ → ToldLem) (path : List Around) → AreOpen item told (reverse frames.now) path → IsSpot item told result (path_in_field field path) }
 {
     if frames.len() > 0 {
-        Spot::inside(frames[frames.len() - 1], field)
+        Spot::inside(&frames[frames.len() - 1], field)
     } else {
         Spot::outside()
     }
@@ -164,8 +164,8 @@ fn is_prototype_read<'a>(
     ensures { (told : ℕ → ToldLem) (path : List Around) → AreSeconds (map item_of item.now) seconds.now → AreOpen (map item_of item.now) told (reverse frames.now) path → result ≡ is_prototype_read_lem (map item_of item.now) (path_in_field field path) }
 {
     if frames.len() > 0 {
-        let frame = frames[frames.len() - 1];
-        let reads = reads_member(item, seconds, frame.begins, "prototype");
+        let begins = frames[frames.len() - 1].begins;
+        let reads = reads_member(item, seconds, begins, "prototype");
         both(field == 0, reads)
     } else {
         false

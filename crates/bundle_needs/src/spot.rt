@@ -56,24 +56,29 @@ impl Spot {
     }
 
     /// A place directly in this field of an open node.
-    pub(crate) fn inside<'a>(frame: Frame<'a>, field: u8) -> Spot
-        ensures known { (outer : List Around) → IsKnown frame.entry.spot outer → IsKnown result (path_in frame.entry field outer) }
-        ensures later { (outer : List Around) → frame.entry.spot.is_later ≡ runs_later outer → result.is_later ≡ runs_later (path_in frame.entry field outer) }
-        ensures assign { (item : List Item) (told : ℕ → ToldLem) (outer : List Around) → frame.entry.is_object_assign ≡ calls_assign item told (head_of frame.entry.node) frame.entry.begins → frame.entry.spot.is_in_assign ≡ is_in_assign_of (λ place. (told place).is_object) item outer → result.is_in_assign ≡ is_in_assign_of (λ place. (told place).is_object) item (path_in frame.entry field outer) }
-        ensures empty { (item : List Item) (outer : List Around) → no_value_at item frame.entry.spot.declarator ≡ has_no_value item outer → no_value_at item result.declarator ≡ has_no_value item (path_in frame.entry field outer) }
+    pub(crate) fn inside<'a>(frame: &Frame<'a>, field: u8) -> Spot
+        ensures known { (outer : List Around) → IsKnown frame.now.spot outer → IsKnown result (path_in frame.now field outer) }
+        ensures later { (outer : List Around) → frame.now.spot.is_later ≡ runs_later outer → result.is_later ≡ runs_later (path_in frame.now field outer) }
+        ensures assign { (item : List Item) (told : ℕ → ToldLem) (outer : List Around) → frame.now.is_object_assign ≡ calls_assign item told (head_of frame.now.node) frame.now.begins → frame.now.spot.is_in_assign ≡ is_in_assign_of (λ place. (told place).is_object) item outer → result.is_in_assign ≡ is_in_assign_of (λ place. (told place).is_object) item (path_in frame.now field outer) }
+        ensures empty { (item : List Item) (outer : List Around) → no_value_at item frame.now.spot.declarator ≡ has_no_value item outer → no_value_at item result.declarator ≡ has_no_value item (path_in frame.now field outer) }
     {
         let node = frame.node;
         let outer = frame.spot;
         let is_step = is_chain_step(node, field);
         let is_parenthesis = is_parenthesis(node);
-        let is_assigned = assigns(node, field)
-            || (passes_targets(node, field) && outer.is_assigned);
+        let passes_on = either(is_step, is_parenthesis);
+        let passes = both(passes_targets(node, field), outer.is_assigned);
+        let is_assigned = either(assigns(node, field), passes);
+        let is_argument = both(is_any_call(node), field == 1);
         Spot {
             is_assigned,
-            ends_chain: ((is_step || is_parenthesis) && outer.ends_chain) || is_assigned,
-            roots_chain: (is_step && outer.ends_chain) || (is_parenthesis && outer.roots_chain),
+            ends_chain: either(both(passes_on, outer.ends_chain), is_assigned),
+            roots_chain: either(
+                both(is_step, outer.ends_chain),
+                both(is_parenthesis, outer.roots_chain),
+            ),
             is_in_assign: is_in_assign_in(frame, field),
-            is_in_argument: (is_any_call(node) && field == 1) || outer.is_in_argument,
+            is_in_argument: either(is_argument, outer.is_in_argument),
             is_later: is_later_in(frame, field),
             declarator: declarator_in(frame),
         }
@@ -81,8 +86,8 @@ impl Spot {
 }
 
 // Whether what stands in this field of an open node lies in an argument of a call of `Object.assign`.
-fn is_in_assign_in<'a>(frame: Frame<'a>, field: u8) -> bool
-    ensures { (item : List Item) (told : ℕ → ToldLem) (outer : List Around) → frame.entry.is_object_assign ≡ calls_assign item told (head_of frame.entry.node) frame.entry.begins → frame.entry.spot.is_in_assign ≡ is_in_assign_of (λ place. (told place).is_object) item outer → result ≡ is_in_assign_of (λ place. (told place).is_object) item (path_in frame.entry field outer) }
+fn is_in_assign_in<'a>(frame: &Frame<'a>, field: u8) -> bool
+    ensures { (item : List Item) (told : ℕ → ToldLem) (outer : List Around) → frame.now.is_object_assign ≡ calls_assign item told (head_of frame.now.node) frame.now.begins → frame.now.spot.is_in_assign ≡ is_in_assign_of (λ place. (told place).is_object) item outer → result ≡ is_in_assign_of (λ place. (told place).is_object) item (path_in frame.now field outer) }
 {
     if field == 1 {
         either(frame.is_object_assign, frame.spot.is_in_assign)
@@ -106,8 +111,8 @@ pub(crate) fn both(one: bool, other: bool) -> bool
 }
 
 // Where the nearest declarator around what stands in an open node begins.
-fn declarator_in<'a>(frame: Frame<'a>) -> Option<usize>
-    ensures { (item : List Item) (field : ℕ) (outer : List Around) → no_value_at item frame.entry.spot.declarator ≡ has_no_value item outer → no_value_at item result ≡ has_no_value item (path_in frame.entry field outer) }
+fn declarator_in<'a>(frame: &Frame<'a>) -> Option<usize>
+    ensures { (item : List Item) (field : ℕ) (outer : List Around) → no_value_at item frame.now.spot.declarator ≡ has_no_value item outer → no_value_at item result ≡ has_no_value item (path_in frame.now field outer) }
 {
     if is_declarator(frame.node) {
         Some(frame.begins)
@@ -186,8 +191,8 @@ fn is_any_call<'a>(node: Node<'a>) -> bool
 
 // Whether what stands in this field of an open node runs later than the item.
 #[tactic(auto, using(crate::proofs::LaterLemmas::later_inside))]
-fn is_later_in<'a>(frame: Frame<'a>, field: u8) -> bool
-    ensures { (outer : List Around) → frame.entry.spot.is_later ≡ runs_later outer → result ≡ runs_later (path_in frame.entry field outer) }
+fn is_later_in<'a>(frame: &Frame<'a>, field: u8) -> bool
+    ensures { (outer : List Around) → frame.now.spot.is_later ≡ runs_later outer → result ≡ runs_later (path_in frame.now field outer) }
 {
     delays(frame.node, field) || frame.spot.is_later
 }

@@ -1,6 +1,6 @@
 //! The identifiers of the items of a list that denote a name of the top.
 
-ghost use Rattle.std.specs.Prelude.{◌≡◌, ℕ, ◌<◌, ◌++◌, ◌∷◌, List, IfOk, OnOk, drop, length, map, reverse, slice_index_or, slice_range};
+ghost use Rattle.std.specs.Prelude.{◌≡◌, ℕ, ◌<◌, ◌++◌, ◌∷◌, [], List, IfOk, OnOk, drop, length, map, reverse, slice_index_or, slice_range};
 ghost use Rattle.std.specs.Option.{option_to_list};
 ghost use Rattle.bundle_piece.specs.Item.{Item, item_of};
 ghost use Rattle.bundle_places.specs.Places.{Around, outer_path, path_past};
@@ -71,10 +71,26 @@ fn item_seen<'a>(
 {
     let seconds = seconds_of(alloc, item)?;
     let mut frames: Vec<Frame<'a>> = Vec::new(alloc);
+    seen_along(seen, &mut frames, item, told, &seconds, number)
+}
+
+// The same by the second children of its nodes, where no node is open so far.
+fn seen_along<'a>(
+    seen: &mut Vec<Seen>,
+    frames: &mut Vec<Frame<'a>>,
+    item: &[Piece<'a>],
+    told: &[Told],
+    seconds: &[Option<usize>],
+    number: usize,
+) -> Result<(), AllocError>
+    requires closed { frames.old.items ≡ [] }
+    requires seconds { AreSeconds (map item_of item.now) seconds.now }
+    ensures { OnOk result (seen.new.items ≡ seen.old.items ++ seen_of_item number (λ p. slice_index_or told.now p no_told) (map item_of item.now)) }
+{
     for (place, piece) in item.iter().enumerate() {
-        let one = seen_here(item, told, &seconds, &frames, number, place, *piece);
+        let one = seen_here(item, told, seconds, frames, number, place, piece);
         push_some(seen, one)?;
-        step_past(item, told, &seconds, &mut frames, place, *piece)?;
+        step_past(item, told, seconds, frames, place, piece)?;
     }
     Ok(())
 }
@@ -99,12 +115,12 @@ fn step_past<'a>(
     seconds: &[Option<usize>],
     frames: &mut Vec<Frame<'a>>,
     place: usize,
-    piece: Piece<'a>,
+    piece: &Piece<'a>,
 ) -> Result<(), AllocError>
     requires { place < length item.now }
-    ensures { OnOk result ((path : List Around) → AreSeconds (map item_of item.now) seconds.now → AreOpen (map item_of item.now) (λ p. slice_index_or told.now p no_told) (reverse frames.old.items) path → AreOpen (map item_of item.now) (λ p. slice_index_or told.now p no_told) (reverse frames.new.items) (path_past place path (item_of piece.entry))) }
+    ensures { OnOk result ((path : List Around) → AreSeconds (map item_of item.now) seconds.now → AreOpen (map item_of item.now) (λ p. slice_index_or told.now p no_told) (reverse frames.old.items) path → AreOpen (map item_of item.now) (λ p. slice_index_or told.now p no_told) (reverse frames.new.items) (path_past place path (item_of piece.now))) }
 {
-    match piece {
+    match *piece {
         Piece::Open { field, node } => {
             let frame = frame_at(item, told, seconds, frames, place, field, node);
             push_frame(frames, frame)?;

@@ -5,7 +5,7 @@ use Rattle.bundle_places.specs.Places.{occurrences, spot_before}
 use Rattle.bundle_needs.specs.Told.{no_told}
 use Rattle.bundle_needs.specs.Open.{AreOpen}
 use Rattle.bundle_needs.specs.Cut.{seen_among}
-use Rattle.bundle_needs.proofs.walk.item_seen.Given as goal
+use Rattle.bundle_needs.proofs.walk.seen_along.Given as goal
 
 abbrev pub invariant-loop-place : goal.invariant-loop-place
 invariant-loop-place l = record {
