@@ -9,7 +9,7 @@ use bundle_piece::{Node, Piece};
 use std::alloc::{AllocError, Global};
 
 /// What stands directly in a node: it stands outside functions, or in one, or in one unless it is the key.
-#[derive(Clone, Copy, PartialEq, Eq, Debug)]
+#[derive(Clone, Copy)]
 pub(crate) enum Standing {
     Outside,
     Inside,

@@ -7,7 +7,7 @@ ghost use Rattle.bundle_naming.specs.Called.{context_of as context_of_lem, text_
 use std::alloc::{AllocError, Global};
 
 /// What becomes of the contexts of a list whose bindings are named.
-#[derive(Clone, Copy, PartialEq, Eq, Debug)]
+#[derive(Clone, Copy)]
 pub enum Contexts {
     /// They stay, but for those that the names say.
     Keep,
