@@ -6,7 +6,7 @@ use bundle_leaf::{
 
 /// One element of the list of a tree, borrowed from the tree. `field` is the number of the field, from
 /// 0 on, in which the element lies in the node around it; fields that hold no node count too.
-#[derive(Clone, Copy, PartialEq, Eq, Debug)]
+#[derive(Clone, Copy)]
 pub enum Piece<'a> {
     /// A node begins.
     Open {
