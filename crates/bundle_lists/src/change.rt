@@ -3,7 +3,7 @@
 use crate::mark::Name;
 
 /// An identifier that is to stand in the place of another, and whether what is short there is spelled out.
-#[derive(Clone, Copy, PartialEq, Eq, Debug)]
+#[derive(Clone, Copy)]
 pub struct Change<'a> {
     pub ident: Name<'a>,
     pub is_spelled_out: bool,

@@ -1,22 +1,23 @@
 //! The marks of a tree, and its occurrences.
 
 ghost use Rattle.std.specs.Prelude.{◌≡◌, ◌++◌, ◌∷◌, [], OnOk, IfOk, map, option_to_list};
-ghost use Rattle.bundle_piece.specs.Item.{item_of};
-ghost use Rattle.bundle_terms.specs.Rebuilds.{listed, marks_of as marks_of_lem, marks_of_item};
+ghost use Rattle.bundle_piece.specs.Item.{head_of, item_of};
+ghost use Rattle.bundle_places.specs.Places.{is_binding};
+ghost use Rattle.bundle_terms.specs.Rebuilds.{Begins, BeginsWord, Occurs, listed, marks_of as marks_of_lem, marks_of_item};
 ghost use Rattle.bundle_lists.specs.Marks.{listed_as, listed_of, mark_of};
 
 use bundle_piece::{Node as Head, Piece, Role};
 use std::alloc::{AllocError, Global};
 
 /// An identifier, borrowed from the tree: its text, and the number of its context.
-#[derive(Clone, Copy, PartialEq, Eq, PartialOrd, Ord, Hash, Debug)]
+#[derive(Clone, Copy, PartialEq, Eq, Debug)]
 pub struct Name<'a> {
     pub sym: &'a str,
     pub ctxt: u32,
 }
 
 /// An identifier that binds a name or refers to one.
-#[derive(Clone, Copy, PartialEq, Eq, Debug)]
+#[derive(Clone, Copy)]
 pub struct Occurrence<'a> {
     pub id: Name<'a>,
     pub binding: bool,
@@ -31,7 +32,7 @@ pub enum Node<'a> {
 
 /// One mark of a tree. `field` is the number of the field, from 0 on, in which a node lies in the node
 /// around it.
-#[derive(Clone, Copy, PartialEq, Eq, Debug)]
+#[derive(Clone, Copy)]
 pub enum Mark<'a> {
     /// A node begins.
     Open { field: u8, node: Node<'a> },
@@ -47,28 +48,24 @@ pub fn marks_of<'a>(alloc: Global, pieces: &[Piece<'a>]) -> Result<Vec<Mark<'a>>
 {
     let mut marks = Vec::new(alloc);
     for piece in pieces {
-        add_marks(&mut marks, *piece)?;
+        add_marks(&mut marks, piece)?;
     }
     Ok(marks)
 }
 
 // Adds the marks of one element of the list.
-fn add_marks<'a>(marks: &mut Vec<Mark<'a>>, piece: Piece<'a>) -> Result<(), AllocError>
-    ensures { OnOk result (map mark_of marks.new.items ≡ map mark_of marks.old.items ++ marks_of_item (item_of piece.entry)) }
+fn add_marks<'a>(marks: &mut Vec<Mark<'a>>, piece: &Piece<'a>) -> Result<(), AllocError>
+    ensures { OnOk result (map mark_of marks.new.items ≡ map mark_of marks.old.items ++ marks_of_item (item_of piece.now)) }
 {
     match piece {
-        Piece::Open { field, node } => {
-            let node = Node::Named(node);
-            marks.push(Mark::Open { field, node })?;
-        }
+        Piece::Open { field, node } => marks.push(node_mark(*field, *node))?,
         Piece::Ident {
             field,
             sym,
             role: Role::Word,
             ..
         } => {
-            let node = Node::Word { sym };
-            marks.push(Mark::Open { field, node })?;
+            marks.push(word_mark(*field, sym))?;
             marks.push(Mark::Close)?;
         }
         Piece::Ident {
@@ -77,14 +74,37 @@ fn add_marks<'a>(marks: &mut Vec<Mark<'a>>, piece: Piece<'a>) -> Result<(), Allo
             role,
             ..
         } => {
-            let id = Name { sym, ctxt };
-            let binding = role == Role::Binding;
-            marks.push(Mark::Ident(Occurrence { id, binding }))?;
+            marks.push(ident_mark(sym, *ctxt, *role))?;
         }
         Piece::Hole { .. } => {}
         Piece::Close => marks.push(Mark::Close)?,
     }
     Ok(())
+}
+
+// The mark of a node that begins.
+fn node_mark<'a>(field: u8, head: Head<'a>) -> Mark<'a>
+    ensures { mark_of result ≡ Begins field (head_of head.entry) }
+{
+    let node = Node::Named(head);
+    Mark::Open { field, node }
+}
+
+// The mark of a plain word that begins.
+fn word_mark<'a>(field: u8, sym: &'a str) -> Mark<'a>
+    ensures { mark_of result ≡ BeginsWord field sym.now }
+{
+    let node = Node::Word { sym };
+    Mark::Open { field, node }
+}
+
+// The mark of an identifier that binds or refers.
+fn ident_mark<'a>(sym: &'a str, ctxt: u32, role: Role) -> Mark<'a>
+    ensures { mark_of result ≡ Occurs (sym.now, ctxt) (is_binding role) }
+{
+    let id = Name { sym, ctxt };
+    let binding = role == Role::Binding;
+    Mark::Ident(Occurrence { id, binding })
 }
 
 /// The identifiers of a tree that bind or refer, in its order. Refused only where memory runs out.
