@@ -1,9 +1,9 @@
 -- A graph of statements and its rows, after a node or an edge is added.
-use Rattle.std.proofs.Common.{◌≡◌, ◌≢◌, Bool, true, false, cond, ◌&&◌, nat_eq, eqb-true, eq-eqb, ℕ, zero, suc, ◌+◌, ◌-◌, ◌<◌, ◌≤◌, ◌⊎◌, ◌↔◌, List, [], ◌∷◌, ◌++◌, length, get_or, set, map, Contains, Some, None, IsSome, Result, Ok, IfOk, OnOk, position, refl, sym, ap, ◌∙◌, subst, inl, inr, arith}
+use Rattle.std.proofs.Common.{◌≡◌, ◌≢◌, Bool, true, false, cond, ◌&&◌, nat_eq, eqb-true, eq-eqb, ℕ, zero, suc, ◌+◌, ◌-◌, ◌<◌, ◌≤◌, ◌⊎◌, ◌↔◌, List, [], ◌∷◌, ◌++◌, length, get_or, set, map, Contains, Some, None, IsSome, Result, Ok, IfOk, position, refl, sym, ap, ◌∙◌, subst, inl, inr, arith}
 use Rattle.std.specs.List.{list_any, IsDistinct, AllByRecursion}
 use Rattle.std.specs.Map.{lookup, keys_of}
 use Rattle.std.proofs.lemmas.Bool.{cases_eq, cases_lt, false≢true}
-use Rattle.std.proofs.lemmas.List.{get_or_past, get_or_push, get_or_append_left, get_or-append_right, get_or-set_same, get_or-set_other, length_push, length-set, length-map, set-set}
+use Rattle.std.proofs.lemmas.List.{get_or_past, get_or_push, get_or_append_left, get_or-append_right, get_or-set_same, get_or-set_other, length_push, length-set, length-map}
 use Rattle.std.proofs.lemmas.List.Elements.{Contains-append_left}
 use Rattle.std.proofs.lemmas.Map.Keys.{IsDistinct-cons, IsDistinct-head, IsDistinct-tail}
 use Rattle.indexmap.specs.IndexMap.{insert_entry}
@@ -433,10 +433,10 @@ pub record Linked (g h : Statements) (old new : List (List ℕ)) (a b : ℕ) (r 
   pub joins : (i j : ℕ) → HasBit new i j ↔ Joins old (place g.nodes a) to i j
   pub len : length new ≡ length old
 
-module _ {D E B : Type 0} (f : D → List (ℕ × Required)) (keys nodes : List ℕ) (ds items : List D) (a b : ℕ) (r : Required) (len : length (map f ds) ≡ length keys) (same_nodes : nodes ≡ keys) (same_items : items ≡ ds) where
+module _ {D : Type 0} (f : D → List (ℕ × Required)) (keys nodes : List ℕ) (ds items : List D) (a b : ℕ) (r : Required) (len : length (map f ds) ≡ length keys) (same_nodes : nodes ≡ keys) (same_items : items ≡ ds) where
   -- from a node that is there
-  pub link_written : (i : ℕ) → position (nat_eq a) nodes ≡ Some i → (d wide again new : D) → d ≡ get_or items i d → f wide ≡ f d → again ≡ get_or (set items i wide) i again → (s : Result B E) (x : B) → s ≡ Ok x → OnOk s (f new ≡ insert_entry nat_eq (f again) b r) → HasLink (seen_statements f keys ds) (seen_statements f nodes (set (set items i wide) i new)) a b r × (i ≡ place keys a)
-  link_written i at d wide again new read same reread s x ok wrote = (link_in (seen_statements f keys ds) a b r len p.1 (seen_statements f nodes (set (set items i wide) i new)) same_nodes lists, sym p.0)
+  pub link_written : (i : ℕ) → position (nat_eq a) nodes ≡ Some i → (d new : D) → d ≡ get_or items i d → f new ≡ insert_entry nat_eq (f d) b r → HasLink (seen_statements f keys ds) (seen_statements f nodes (set items i new)) a b r × (i ≡ place keys a)
+  link_written i at d new read wrote = (link_in (seen_statements f keys ds) a b r len p.1 (seen_statements f nodes (set items i new)) same_nodes lists, sym p.0)
     where
       p : (place keys a ≡ i) × (place keys a < length keys)
       p = position-Some_place keys a i (ap (λ l. position (nat_eq a) l) (sym same_nodes) ∙ at)
@@ -444,18 +444,15 @@ module _ {D E B : Type 0} (f : D → List (ℕ × Required)) (keys nodes : List 
       within : i < length ds
       within = omega (arith, p.0, p.1, len, length-map ds f)
 
-      in_items : i < length items
-      in_items = subst (λ (l : List D). i < length l) (sym same_items) within
+      row : f d ≡ get_or (map f ds) (place keys a) []
+      row = seen-read f ds items i d same_items within read ∙ ap (λ k. get_or (map f ds) k []) (sym p.0)
 
-      row : f again ≡ get_or (map f ds) (place keys a) []
-      row = ap f (reread ∙ get_or-set_same items i wide again in_items) ∙ (same ∙ (seen-read f ds items i d same_items within read ∙ ap (λ k. get_or (map f ds) k []) (sym p.0)))
-
-      lists : map f (set (set items i wide) i new) ≡ set (map f ds) (place keys a) (insert_entry nat_eq (get_or (map f ds) (place keys a) []) b r)
-      lists = ap (map f) (set-set items i wide new) ∙ (seen-set f ds items i new same_items ∙ (ap (λ y. set (map f ds) i y) (subst (λ q. OnOk q (f new ≡ insert_entry nat_eq (f again) b r)) ok wrote ∙ ap (λ l. insert_entry nat_eq l b r) row) ∙ ap (λ k. set (map f ds) k (insert_entry nat_eq (get_or (map f ds) (place keys a) []) b r)) (sym p.0)))
+      lists : map f (set items i new) ≡ set (map f ds) (place keys a) (insert_entry nat_eq (get_or (map f ds) (place keys a) []) b r)
+      lists = seen-set f ds items i new same_items ∙ (ap (λ y. set (map f ds) i y) (wrote ∙ ap (λ l. insert_entry nat_eq l b r) row) ∙ ap (λ k. set (map f ds) k (insert_entry nat_eq (get_or (map f ds) (place keys a) []) b r)) (sym p.0))
 
   -- from a new node
-  pub link_new : position (nat_eq a) nodes ≡ None → (e d : D) → f e ≡ [] → (s : Result B E) (x : B) → s ≡ Ok x → OnOk s (f d ≡ insert_entry nat_eq (f e) b r) → (pushed : List D) → pushed ≡ items ++ d ∷ [] → {C F : Type 0} (t : Result C F) (y : C) → t ≡ Ok y → (after : List ℕ) → IfOk t (λ _. after ≡ added nodes a) → HasLink (seen_statements f keys ds) (seen_statements f after pushed) a b r × (length keys ≡ place keys a)
-  link_new none e d fresh s x ok wrote pushed push t y done after inserted = (link_out (seen_statements f keys ds) a b r len out' (seen_statements f after pushed) names lists, sym out')
+  pub link_new : position (nat_eq a) nodes ≡ None → (e d : D) → f e ≡ [] → f d ≡ insert_entry nat_eq (f e) b r → (pushed : List D) → pushed ≡ items ++ d ∷ [] → {C F : Type 0} (t : Result C F) (y : C) → t ≡ Ok y → (after : List ℕ) → IfOk t (λ _. after ≡ added nodes a) → HasLink (seen_statements f keys ds) (seen_statements f after pushed) a b r × (length keys ≡ place keys a)
+  link_new none e d fresh wrote pushed push t y done after inserted = (link_out (seen_statements f keys ds) a b r len out' (seen_statements f after pushed) names lists, sym out')
     where
       out' : place keys a ≡ length keys
       out' = position-None_place keys a (ap (λ l. position (nat_eq a) l) (sym same_nodes) ∙ none)
@@ -464,7 +461,7 @@ module _ {D E B : Type 0} (f : D → List (ℕ × Required)) (keys nodes : List 
       names = keys_pushed t y keys nodes after a done inserted same_nodes (missing keys a out')
 
       first : f d ≡ insert_entry nat_eq [] b r
-      first = subst (λ q. OnOk q (f d ≡ insert_entry nat_eq (f e) b r)) ok wrote ∙ ap (λ l. insert_entry nat_eq l b r) fresh
+      first = wrote ∙ ap (λ l. insert_entry nat_eq l b r) fresh
 
       lists : map f pushed ≡ map f ds ++ insert_entry nat_eq [] b r ∷ []
       lists = seen-push f ds items pushed d (insert_entry nat_eq [] b r) push same_items first

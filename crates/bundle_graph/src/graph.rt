@@ -1,6 +1,6 @@
 //! Which module requests which.
 
-ghost use Rattle.std.specs.Prelude.{◌≡◌, ◌≢◌, ℕ, ◌+◌, ◌<◌, ◌≤◌, ◌↔◌, nat_eq, All, Contains, IsTrue, IfOk, OnOk, OnErr, MatchBool, map, slice_index, length};
+ghost use Rattle.std.specs.Prelude.{◌≡◌, ◌≢◌, [], ℕ, ◌+◌, ◌<◌, ◌≤◌, ◌↔◌, nat_eq, All, Contains, IsTrue, IfOk, OnOk, OnErr, MatchBool, map, slice_index, length};
 ghost use Rattle.bundle_graph.specs.Bits.{Both, BothAt, IsEdge, IsEdgeAt, IsLast, IsNotLast};
 ghost use Rattle.bundle_graph.specs.Blocks.{AreBlocks, BlocksOf, Members};
 ghost use Rattle.std.specs.List.{IsDistinct};
@@ -138,6 +138,23 @@ pub fn order(
     let mut listed = Vec::new(alloc);
     let mut seen = IndexSet::new(alloc);
     let mut begun = Vec::new(alloc);
+    list_reached(graph, entry, &mut listed, &mut seen, &mut begun)?;
+    Ok(listed)
+}
+
+/// Lists what is reached from the entry. `seen` has what is met, and `begun` what is begun, the last on top.
+fn list_reached(
+    graph: &ModuleGraph,
+    entry: ModuleId,
+    listed: &mut Vec<ModuleId>,
+    seen: &mut IndexSet<ModuleId>,
+    begun: &mut Vec<Visit>,
+) -> Result<(), AllocError>
+    requires listed { listed.old.items ≡ [] }
+    requires seen { seen.old.keys ≡ [] }
+    requires begun { begun.old.items ≡ [] }
+    ensures { OnOk result (IsOrder graph.now entry listed.new.items) }
+{
     seen.insert(entry)?;
     begun.push(Visit { id: entry, next: 0 })?;
     while let Some(visit) = begun.pop() {
@@ -158,7 +175,7 @@ pub fn order(
             }
         }
     }
-    Ok(listed)
+    Ok(())
 }
 
 /// The blocks of several modules, or of one that requests itself, among all that the entry

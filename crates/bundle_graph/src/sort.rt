@@ -1,7 +1,9 @@
 //! Which statement depends on which.
 
-ghost use Rattle.std.specs.Prelude.{◌≡◌, ℕ, ◌↔◌, Contains, IsTrue, IfOk, OnOk, OnErr, length};
+ghost use Rattle.std.specs.Prelude.{◌≡◌, ℕ, ◌<◌, ◌↔◌, nat_eq, Contains, IsTrue, IfOk, OnOk, OnErr, length};
 ghost use Rattle.std.specs.List.Sorted.{IsStrictlyIncreasing};
+ghost use Rattle.indexmap.specs.IndexMap.{insert_entry};
+ghost use Rattle.bundle_graph.specs.Bits.{HasBit, IsTransitive, Joins, SameRows};
 ghost use Rattle.bundle_graph.specs.Nodes.{added, place};
 ghost use Rattle.bundle_graph.specs.Walks.{Path};
 ghost use Rattle.bundle_graph.specs.Statements as spec;
@@ -102,15 +104,11 @@ impl StmtDepGraph {
         match self.nodes.get_index_of(&a) {
             Some(from) => {
                 let edges = &mut self.edges[from];
-                edges.reserve(1)?;
-                self.rows.connect(from, to)?;
-                let edges = &mut self.edges[from];
-                edges.insert(b, required).unwrap();
+                add_end(edges, &mut self.rows, (from, to), b, required)?;
             }
             None => {
                 let mut edges = IndexMap::new(alloc);
-                edges.insert(b, required)?;
-                self.rows.connect(count, to)?;
+                add_end(&mut edges, &mut self.rows, (count, to), b, required)?;
                 self.edges.push(edges).unwrap();
                 self.nodes.insert(a).unwrap();
             }
@@ -189,6 +187,30 @@ impl StmtDepGraph {
             _ => false,
         }
     }
+}
+
+/// Adds an end to the edges of a node, and the edge between their two places to the rows. All stays as it was
+/// where memory runs out.
+fn add_end(
+    edges: &mut IndexMap<usize, Required>,
+    rows: &mut Rows,
+    places: (usize, usize),
+    end: usize,
+    required: Required,
+) -> Result<(), AllocError>
+    requires from_in { places.0 < length rows.old }
+    requires to_in { places.1 < length rows.old }
+    requires closed { IsTransitive rows.old }
+    ensures len { length rows.new ≡ length rows.old }
+    ensures edges { OnOk result (edges.new.entries ≡ insert_entry nat_eq edges.old.entries end required) }
+    ensures rows { OnOk result ((i j : ℕ) → HasBit rows.new i j ↔ Joins rows.old places.0 places.1 i j) }
+    ensures same_edges { OnErr result (edges.new.entries ≡ edges.old.entries) }
+    ensures same_rows { OnErr result (SameRows rows.old rows.new) }
+{
+    edges.reserve(1)?;
+    rows.connect(places.0, places.1)?;
+    edges.insert(end, required).unwrap();
+    Ok(())
 }
 
 /// What an edge weighs, once it is added again.

@@ -9,50 +9,10 @@ use Rattle.bundle_graph.proofs.NodeLemmas.{seen-unchanged, seen-push, keys_pushe
 use Rattle.bundle_graph.proofs.ModuleLemmas.{pushed_if_ok}
 use Rattle.bundle_graph.proofs.StatementLemmas.{IsExact-same, IsExact-transitive, seen_statements, Linked, link_written, link_new, linked_in, linked_out, place_after_within}
 use Rattle.bundle_graph.proofs.sort.StmtDepGraph.add_edge.Goals as goal
-use Rattle.bundle_graph.proofs.sort.StmtDepGraph.add_edge.Goals.{in-Some+in_ok-reserve-in-Some+in_ok-connect-in-Some, in-None+in_ok-insert-in-None+in_ok-connect-in-None}
+use Rattle.bundle_graph.proofs.sort.StmtDepGraph.add_edge.Goals.{in-Some+in_ok-add_end-in-Some, in-None+in_ok-add_end-in-None}
 
-pub invariant_of-self-in_err-reserve-in-Some : goal.invariant_of-self-in_err-reserve-in-Some
-invariant_of-self-in_err-reserve-in-Some c =
-    let a = c.args.a in
-    let b = c.args.b in
-    let keys = c.self.inside.nodes.keys in
-    let ds = c.self.inside.edges.items in
-    let g = seen_statements (λ e. e.entries) keys ds in
-    let rows = c.extend_to.new.self in
-    let exact : IsExact g rows = IsExact-same g c.self.inside.rows rows c.self.invariant c.extend_to.ensures.same c.extend_to.ensures.longer in
-    let nodes = c.reserve.new.self.keys in
-    let items = c.reserve-2.new.self.items in
-    let same_nodes : nodes ≡ keys = c.in_ok-reserve.ensures.keys in
-    let same_items : items ≡ ds = c.in_ok-reserve-2.ensures.items in
-    let p = position-Some_place nodes a c.in-Some.from (sym c.get_index_of.ensures.index ∙ c.in-Some.is) in
-    let within : c.in-Some.from < length ds = omega (arith, p.0, p.1, c.self.invariant.len, length-map ds (λ e. e.entries), ap length same_nodes) in
-    let lists = seen-unchanged (λ e. e.entries) ds items c.in-Some.from c.index_mut-edges.result.now c.reserve-in-Some.new.self same_items within c.index_mut-edges.ensures.value c.reserve-in-Some.ensures.entries in
-    let now = seen_statements (λ e. e.entries) nodes (set items c.in-Some.from c.reserve-in-Some.new.self) in
-    let e : now ≡ g = λ i. record { nodes = same_nodes i; edges = lists i } in
-    subst (λ x. IsExact x rows) (sym e) exact
-
-pub returns-in_err-reserve-in-Some-clause-err : goal.returns-in_err-reserve-in-Some-clause-err
-returns-in_err-reserve-in-Some-clause-err c =
-    let a = c.args.a in
-    let b = c.args.b in
-    let keys = c.self.inside.nodes.keys in
-    let ds = c.self.inside.edges.items in
-    let g = seen_statements (λ e. e.entries) keys ds in
-    let rows = c.extend_to.new.self in
-    let exact : IsExact g rows = IsExact-same g c.self.inside.rows rows c.self.invariant c.extend_to.ensures.same c.extend_to.ensures.longer in
-    let nodes = c.reserve.new.self.keys in
-    let items = c.reserve-2.new.self.items in
-    let same_nodes : nodes ≡ keys = c.in_ok-reserve.ensures.keys in
-    let same_items : items ≡ ds = c.in_ok-reserve-2.ensures.items in
-    let p = position-Some_place nodes a c.in-Some.from (sym c.get_index_of.ensures.index ∙ c.in-Some.is) in
-    let within : c.in-Some.from < length ds = omega (arith, p.0, p.1, c.self.invariant.len, length-map ds (λ e. e.entries), ap length same_nodes) in
-    let lists = seen-unchanged (λ e. e.entries) ds items c.in-Some.from c.index_mut-edges.result.now c.reserve-in-Some.new.self same_items within c.index_mut-edges.ensures.value c.reserve-in-Some.ensures.entries in
-    let now = seen_statements (λ e. e.entries) nodes (set items c.in-Some.from c.reserve-in-Some.new.self) in
-    let e : now ≡ g = λ i. record { nodes = same_nodes i; edges = lists i } in
-    on_err c.from_residual-in_err-reserve-in-Some.result (now ≡ c.args.self.now) (e ∙ c.self.view_is)
-
-pub connect-requires-clause-to_in : goal.connect-requires-clause-to_in
-connect-requires-clause-to_in c =
+pub add_end-requires-clause-to_in : goal.add_end-requires-clause-to_in
+add_end-requires-clause-to_in c =
     let a = c.args.a in
     let b = c.args.b in
     let keys = c.self.inside.nodes.keys in
@@ -68,8 +28,8 @@ connect-requires-clause-to_in c =
     let enough : length keys + 2 ≤ length rows = omega (arith, c.in_ok-extend_to.ensures.ok, c.len-count.ensures.len) in
     omega (arith, at, enough, place_after_within keys a b)
 
-pub connect-requires-clause-closed : goal.connect-requires-clause-closed
-connect-requires-clause-closed c =
+pub add_end-requires-clause-closed : goal.add_end-requires-clause-closed
+add_end-requires-clause-closed c =
     let a = c.args.a in
     let b = c.args.b in
     let keys = c.self.inside.nodes.keys in
@@ -79,8 +39,8 @@ connect-requires-clause-closed c =
     let exact : IsExact g rows = IsExact-same g c.self.inside.rows rows c.self.invariant c.extend_to.ensures.same c.extend_to.ensures.longer in
     IsExact-transitive g rows exact
 
-pub connect-requires-in-None-clause-to_in : goal.connect-requires-in-None-clause-to_in
-connect-requires-in-None-clause-to_in c =
+pub add_end-requires-in-None-clause-to_in : goal.add_end-requires-in-None-clause-to_in
+add_end-requires-in-None-clause-to_in c =
     let a = c.args.a in
     let b = c.args.b in
     let keys = c.self.inside.nodes.keys in
@@ -96,8 +56,8 @@ connect-requires-in-None-clause-to_in c =
     let enough : length keys + 2 ≤ length rows = omega (arith, c.in_ok-extend_to.ensures.ok, c.len-count.ensures.len) in
     omega (arith, at, enough, place_after_within keys a b)
 
-pub connect-requires-in-None-clause-closed : goal.connect-requires-in-None-clause-closed
-connect-requires-in-None-clause-closed c =
+pub add_end-requires-in-None-clause-closed : goal.add_end-requires-in-None-clause-closed
+add_end-requires-in-None-clause-closed c =
     let a = c.args.a in
     let b = c.args.b in
     let keys = c.self.inside.nodes.keys in
@@ -107,8 +67,8 @@ connect-requires-in-None-clause-closed c =
     let exact : IsExact g rows = IsExact-same g c.self.inside.rows rows c.self.invariant c.extend_to.ensures.same c.extend_to.ensures.longer in
     IsExact-transitive g rows exact
 
-pub invariant_of-self-in_err-connect-in-Some : goal.invariant_of-self-in_err-connect-in-Some
-invariant_of-self-in_err-connect-in-Some c =
+pub invariant_of-self-in_err-add_end-in-Some : goal.invariant_of-self-in_err-add_end-in-Some
+invariant_of-self-in_err-add_end-in-Some c =
     let a = c.args.a in
     let b = c.args.b in
     let keys = c.self.inside.nodes.keys in
@@ -122,14 +82,14 @@ invariant_of-self-in_err-connect-in-Some c =
     let same_items : items ≡ ds = c.in_ok-reserve-2.ensures.items in
     let p = position-Some_place nodes a c.in-Some.from (sym c.get_index_of.ensures.index ∙ c.in-Some.is) in
     let within : c.in-Some.from < length ds = omega (arith, p.0, p.1, c.self.invariant.len, length-map ds (λ e. e.entries), ap length same_nodes) in
-    let lists = seen-unchanged (λ e. e.entries) ds items c.in-Some.from c.index_mut-edges.result.now c.reserve-in-Some.new.self same_items within c.index_mut-edges.ensures.value c.reserve-in-Some.ensures.entries in
-    let now = seen_statements (λ e. e.entries) nodes (set items c.in-Some.from c.reserve-in-Some.new.self) in
+    let lists = seen-unchanged (λ e. e.entries) ds items c.in-Some.from c.index_mut-edges.result.now c.add_end.new.edges same_items within c.index_mut-edges.ensures.value c.in_err-add_end-in-Some.ensures.same_edges in
+    let now = seen_statements (λ e. e.entries) nodes (set items c.in-Some.from c.add_end.new.edges) in
     let e : now ≡ g = λ i. record { nodes = same_nodes i; edges = lists i } in
-    let kept = IsExact-same g rows c.connect.new.self exact c.in_err-connect-in-Some.ensures.err (omega (arith, c.connect.ensures.len)) in
-    subst (λ x. IsExact x c.connect.new.self) (sym e) kept
+    let kept = IsExact-same g rows c.add_end.new.rows exact c.in_err-add_end-in-Some.ensures.same_rows (omega (arith, c.add_end.ensures.len)) in
+    subst (λ x. IsExact x c.add_end.new.rows) (sym e) kept
 
-pub returns-in_err-connect-in-Some-clause-err : goal.returns-in_err-connect-in-Some-clause-err
-returns-in_err-connect-in-Some-clause-err c =
+pub returns-in_err-add_end-in-Some-clause-err : goal.returns-in_err-add_end-in-Some-clause-err
+returns-in_err-add_end-in-Some-clause-err c =
     let a = c.args.a in
     let b = c.args.b in
     let keys = c.self.inside.nodes.keys in
@@ -143,10 +103,10 @@ returns-in_err-connect-in-Some-clause-err c =
     let same_items : items ≡ ds = c.in_ok-reserve-2.ensures.items in
     let p = position-Some_place nodes a c.in-Some.from (sym c.get_index_of.ensures.index ∙ c.in-Some.is) in
     let within : c.in-Some.from < length ds = omega (arith, p.0, p.1, c.self.invariant.len, length-map ds (λ e. e.entries), ap length same_nodes) in
-    let lists = seen-unchanged (λ e. e.entries) ds items c.in-Some.from c.index_mut-edges.result.now c.reserve-in-Some.new.self same_items within c.index_mut-edges.ensures.value c.reserve-in-Some.ensures.entries in
-    let now = seen_statements (λ e. e.entries) nodes (set items c.in-Some.from c.reserve-in-Some.new.self) in
+    let lists = seen-unchanged (λ e. e.entries) ds items c.in-Some.from c.index_mut-edges.result.now c.add_end.new.edges same_items within c.index_mut-edges.ensures.value c.in_err-add_end-in-Some.ensures.same_edges in
+    let now = seen_statements (λ e. e.entries) nodes (set items c.in-Some.from c.add_end.new.edges) in
     let e : now ≡ g = λ i. record { nodes = same_nodes i; edges = lists i } in
-    on_err c.from_residual-in_err-connect-in-Some.result (now ≡ c.args.self.now) (e ∙ c.self.view_is)
+    on_err c.from_residual-in_err-add_end-in-Some.result (now ≡ c.args.self.now) (e ∙ c.self.view_is)
 
 pub invariant_of-self-then-not-contains : goal.invariant_of-self-then-not-contains
 invariant_of-self-then-not-contains c =
@@ -169,14 +129,14 @@ invariant_of-self-then-not-contains c =
     let half = c.match-get_index_of.self-inside in
     let linked : Linked g (seen_statements (λ e. e.entries) half.nodes.keys half.edges.items) rows half.rows a b r to =
     elim c.match-get_index_of.branch [
-      | in-Some+in_ok-reserve-in-Some+in_ok-connect-in-Some w ↦
-          let l = link_written (λ e. e.entries) keys nodes ds items a b r c.self.invariant.len same_nodes same_items w.in-Some.from (sym c.get_index_of.ensures.index ∙ w.in-Some.is) w.index_mut-edges.result.now w.reserve-in-Some.new.self w.index_mut-edges-in-Some.result.now w.insert.new.self w.index_mut-edges.ensures.value w.reserve-in-Some.ensures.entries w.index_mut-edges-in-Some.ensures.value w.insert.result w.unwrap.result w.unwrap.ensures w.insert.ensures.entries in
+      | in-Some+in_ok-add_end-in-Some w ↦
+          let l = link_written (λ e. e.entries) keys nodes ds items a b r c.self.invariant.len same_nodes same_items w.in-Some.from (sym c.get_index_of.ensures.index ∙ w.in-Some.is) w.index_mut-edges.result.now w.add_end.new.edges w.index_mut-edges.ensures.value w.in_ok-add_end-in-Some.ensures.edges in
           subst (λ x. Linked g (seen_statements (λ e. e.entries) x.nodes.keys x.edges.items) rows x.rows a b r to) (sym w.self-inside-is)
-          (record { link = l.0; joins = subst (λ f. (i j : ℕ) → HasBit w.connect.new.self i j ↔ Joins rows f to i j) l.1 w.in_ok-connect-in-Some.ensures.ok; len = w.connect.ensures.len })
-      | in-None+in_ok-insert-in-None+in_ok-connect-in-None w ↦
-          let l = link_new (λ e. e.entries) keys nodes ds items a b r c.self.invariant.len same_nodes same_items (sym c.get_index_of.ensures.index ∙ w.in-None.is) w.new-edges.result w.insert-in-None.new.self w.new-edges.ensures.empty w.insert-in-None.result w.in_ok-insert-in-None.field-0 w.in_ok-insert-in-None.was w.insert-in-None.ensures.entries w.push.new.self.items (pushed_if_ok w.push.result w.unwrap-in-None.result w.push.new.self.items items w.insert-in-None.new.self w.unwrap-in-None.ensures w.push.ensures.items) w.insert-in-None-2.result w.unwrap-in-None-2.result w.unwrap-in-None-2.ensures w.insert-in-None-2.new.self.keys w.insert-in-None-2.ensures.keys in
+          (record { link = l.0; joins = subst (λ f. (i j : ℕ) → HasBit w.add_end.new.rows i j ↔ Joins rows f to i j) l.1 w.in_ok-add_end-in-Some.ensures.rows; len = w.add_end.ensures.len })
+      | in-None+in_ok-add_end-in-None w ↦
+          let l = link_new (λ e. e.entries) keys nodes ds items a b r c.self.invariant.len same_nodes same_items (sym c.get_index_of.ensures.index ∙ w.in-None.is) w.new-edges.result w.add_end-in-None.new.edges w.new-edges.ensures.empty w.in_ok-add_end-in-None.ensures.edges w.push.new.self.items (pushed_if_ok w.push.result w.unwrap.result w.push.new.self.items items w.add_end-in-None.new.edges w.unwrap.ensures w.push.ensures.items) w.insert.result w.unwrap-in-None.result w.unwrap-in-None.ensures w.insert.new.self.keys w.insert.ensures.keys in
           subst (λ x. Linked g (seen_statements (λ e. e.entries) x.nodes.keys x.edges.items) rows x.rows a b r to) (sym w.self-inside-is)
-          (record { link = l.0; joins = subst (λ f. (i j : ℕ) → HasBit w.connect-in-None.new.self i j ↔ Joins rows f to i j) (c.len-count.ensures.len ∙ l.1) w.in_ok-connect-in-None.ensures.ok; len = w.connect-in-None.ensures.len })
+          (record { link = l.0; joins = subst (λ f. (i j : ℕ) → HasBit w.add_end-in-None.new.rows i j ↔ Joins rows f to i j) (c.len-count.ensures.len ∙ l.1) w.in_ok-add_end-in-None.ensures.rows; len = w.add_end-in-None.ensures.len })
     ] in
     let h = seen_statements (λ e. e.entries) half.nodes.keys half.edges.items in
     let absent : list_any (nat_eq b) half.nodes.keys ≡ false = sym c.contains.ensures ∙ c.if-not-contains.true in
@@ -208,14 +168,14 @@ returns-then-not-contains-clause-ok c =
     let half = c.match-get_index_of.self-inside in
     let linked : Linked g (seen_statements (λ e. e.entries) half.nodes.keys half.edges.items) rows half.rows a b r to =
     elim c.match-get_index_of.branch [
-      | in-Some+in_ok-reserve-in-Some+in_ok-connect-in-Some w ↦
-          let l = link_written (λ e. e.entries) keys nodes ds items a b r c.self.invariant.len same_nodes same_items w.in-Some.from (sym c.get_index_of.ensures.index ∙ w.in-Some.is) w.index_mut-edges.result.now w.reserve-in-Some.new.self w.index_mut-edges-in-Some.result.now w.insert.new.self w.index_mut-edges.ensures.value w.reserve-in-Some.ensures.entries w.index_mut-edges-in-Some.ensures.value w.insert.result w.unwrap.result w.unwrap.ensures w.insert.ensures.entries in
+      | in-Some+in_ok-add_end-in-Some w ↦
+          let l = link_written (λ e. e.entries) keys nodes ds items a b r c.self.invariant.len same_nodes same_items w.in-Some.from (sym c.get_index_of.ensures.index ∙ w.in-Some.is) w.index_mut-edges.result.now w.add_end.new.edges w.index_mut-edges.ensures.value w.in_ok-add_end-in-Some.ensures.edges in
           subst (λ x. Linked g (seen_statements (λ e. e.entries) x.nodes.keys x.edges.items) rows x.rows a b r to) (sym w.self-inside-is)
-          (record { link = l.0; joins = subst (λ f. (i j : ℕ) → HasBit w.connect.new.self i j ↔ Joins rows f to i j) l.1 w.in_ok-connect-in-Some.ensures.ok; len = w.connect.ensures.len })
-      | in-None+in_ok-insert-in-None+in_ok-connect-in-None w ↦
-          let l = link_new (λ e. e.entries) keys nodes ds items a b r c.self.invariant.len same_nodes same_items (sym c.get_index_of.ensures.index ∙ w.in-None.is) w.new-edges.result w.insert-in-None.new.self w.new-edges.ensures.empty w.insert-in-None.result w.in_ok-insert-in-None.field-0 w.in_ok-insert-in-None.was w.insert-in-None.ensures.entries w.push.new.self.items (pushed_if_ok w.push.result w.unwrap-in-None.result w.push.new.self.items items w.insert-in-None.new.self w.unwrap-in-None.ensures w.push.ensures.items) w.insert-in-None-2.result w.unwrap-in-None-2.result w.unwrap-in-None-2.ensures w.insert-in-None-2.new.self.keys w.insert-in-None-2.ensures.keys in
+          (record { link = l.0; joins = subst (λ f. (i j : ℕ) → HasBit w.add_end.new.rows i j ↔ Joins rows f to i j) l.1 w.in_ok-add_end-in-Some.ensures.rows; len = w.add_end.ensures.len })
+      | in-None+in_ok-add_end-in-None w ↦
+          let l = link_new (λ e. e.entries) keys nodes ds items a b r c.self.invariant.len same_nodes same_items (sym c.get_index_of.ensures.index ∙ w.in-None.is) w.new-edges.result w.add_end-in-None.new.edges w.new-edges.ensures.empty w.in_ok-add_end-in-None.ensures.edges w.push.new.self.items (pushed_if_ok w.push.result w.unwrap.result w.push.new.self.items items w.add_end-in-None.new.edges w.unwrap.ensures w.push.ensures.items) w.insert.result w.unwrap-in-None.result w.unwrap-in-None.ensures w.insert.new.self.keys w.insert.ensures.keys in
           subst (λ x. Linked g (seen_statements (λ e. e.entries) x.nodes.keys x.edges.items) rows x.rows a b r to) (sym w.self-inside-is)
-          (record { link = l.0; joins = subst (λ f. (i j : ℕ) → HasBit w.connect-in-None.new.self i j ↔ Joins rows f to i j) (c.len-count.ensures.len ∙ l.1) w.in_ok-connect-in-None.ensures.ok; len = w.connect-in-None.ensures.len })
+          (record { link = l.0; joins = subst (λ f. (i j : ℕ) → HasBit w.add_end-in-None.new.rows i j ↔ Joins rows f to i j) (c.len-count.ensures.len ∙ l.1) w.in_ok-add_end-in-None.ensures.rows; len = w.add_end-in-None.ensures.len })
     ] in
     let h = seen_statements (λ e. e.entries) half.nodes.keys half.edges.items in
     let absent : list_any (nat_eq b) half.nodes.keys ≡ false = sym c.contains.ensures ∙ c.if-not-contains.true in
@@ -247,14 +207,14 @@ invariant_of-self-else-not-contains c =
     let half = c.match-get_index_of.self-inside in
     let linked : Linked g (seen_statements (λ e. e.entries) half.nodes.keys half.edges.items) rows half.rows a b r to =
     elim c.match-get_index_of.branch [
-      | in-Some+in_ok-reserve-in-Some+in_ok-connect-in-Some w ↦
-          let l = link_written (λ e. e.entries) keys nodes ds items a b r c.self.invariant.len same_nodes same_items w.in-Some.from (sym c.get_index_of.ensures.index ∙ w.in-Some.is) w.index_mut-edges.result.now w.reserve-in-Some.new.self w.index_mut-edges-in-Some.result.now w.insert.new.self w.index_mut-edges.ensures.value w.reserve-in-Some.ensures.entries w.index_mut-edges-in-Some.ensures.value w.insert.result w.unwrap.result w.unwrap.ensures w.insert.ensures.entries in
+      | in-Some+in_ok-add_end-in-Some w ↦
+          let l = link_written (λ e. e.entries) keys nodes ds items a b r c.self.invariant.len same_nodes same_items w.in-Some.from (sym c.get_index_of.ensures.index ∙ w.in-Some.is) w.index_mut-edges.result.now w.add_end.new.edges w.index_mut-edges.ensures.value w.in_ok-add_end-in-Some.ensures.edges in
           subst (λ x. Linked g (seen_statements (λ e. e.entries) x.nodes.keys x.edges.items) rows x.rows a b r to) (sym w.self-inside-is)
-          (record { link = l.0; joins = subst (λ f. (i j : ℕ) → HasBit w.connect.new.self i j ↔ Joins rows f to i j) l.1 w.in_ok-connect-in-Some.ensures.ok; len = w.connect.ensures.len })
-      | in-None+in_ok-insert-in-None+in_ok-connect-in-None w ↦
-          let l = link_new (λ e. e.entries) keys nodes ds items a b r c.self.invariant.len same_nodes same_items (sym c.get_index_of.ensures.index ∙ w.in-None.is) w.new-edges.result w.insert-in-None.new.self w.new-edges.ensures.empty w.insert-in-None.result w.in_ok-insert-in-None.field-0 w.in_ok-insert-in-None.was w.insert-in-None.ensures.entries w.push.new.self.items (pushed_if_ok w.push.result w.unwrap-in-None.result w.push.new.self.items items w.insert-in-None.new.self w.unwrap-in-None.ensures w.push.ensures.items) w.insert-in-None-2.result w.unwrap-in-None-2.result w.unwrap-in-None-2.ensures w.insert-in-None-2.new.self.keys w.insert-in-None-2.ensures.keys in
+          (record { link = l.0; joins = subst (λ f. (i j : ℕ) → HasBit w.add_end.new.rows i j ↔ Joins rows f to i j) l.1 w.in_ok-add_end-in-Some.ensures.rows; len = w.add_end.ensures.len })
+      | in-None+in_ok-add_end-in-None w ↦
+          let l = link_new (λ e. e.entries) keys nodes ds items a b r c.self.invariant.len same_nodes same_items (sym c.get_index_of.ensures.index ∙ w.in-None.is) w.new-edges.result w.add_end-in-None.new.edges w.new-edges.ensures.empty w.in_ok-add_end-in-None.ensures.edges w.push.new.self.items (pushed_if_ok w.push.result w.unwrap.result w.push.new.self.items items w.add_end-in-None.new.edges w.unwrap.ensures w.push.ensures.items) w.insert.result w.unwrap-in-None.result w.unwrap-in-None.ensures w.insert.new.self.keys w.insert.ensures.keys in
           subst (λ x. Linked g (seen_statements (λ e. e.entries) x.nodes.keys x.edges.items) rows x.rows a b r to) (sym w.self-inside-is)
-          (record { link = l.0; joins = subst (λ f. (i j : ℕ) → HasBit w.connect-in-None.new.self i j ↔ Joins rows f to i j) (c.len-count.ensures.len ∙ l.1) w.in_ok-connect-in-None.ensures.ok; len = w.connect-in-None.ensures.len })
+          (record { link = l.0; joins = subst (λ f. (i j : ℕ) → HasBit w.add_end-in-None.new.rows i j ↔ Joins rows f to i j) (c.len-count.ensures.len ∙ l.1) w.in_ok-add_end-in-None.ensures.rows; len = w.add_end-in-None.ensures.len })
     ] in
     let h = seen_statements (λ e. e.entries) half.nodes.keys half.edges.items in
     let k = h in
@@ -283,14 +243,14 @@ returns-else-not-contains-clause-ok c =
     let half = c.match-get_index_of.self-inside in
     let linked : Linked g (seen_statements (λ e. e.entries) half.nodes.keys half.edges.items) rows half.rows a b r to =
     elim c.match-get_index_of.branch [
-      | in-Some+in_ok-reserve-in-Some+in_ok-connect-in-Some w ↦
-          let l = link_written (λ e. e.entries) keys nodes ds items a b r c.self.invariant.len same_nodes same_items w.in-Some.from (sym c.get_index_of.ensures.index ∙ w.in-Some.is) w.index_mut-edges.result.now w.reserve-in-Some.new.self w.index_mut-edges-in-Some.result.now w.insert.new.self w.index_mut-edges.ensures.value w.reserve-in-Some.ensures.entries w.index_mut-edges-in-Some.ensures.value w.insert.result w.unwrap.result w.unwrap.ensures w.insert.ensures.entries in
+      | in-Some+in_ok-add_end-in-Some w ↦
+          let l = link_written (λ e. e.entries) keys nodes ds items a b r c.self.invariant.len same_nodes same_items w.in-Some.from (sym c.get_index_of.ensures.index ∙ w.in-Some.is) w.index_mut-edges.result.now w.add_end.new.edges w.index_mut-edges.ensures.value w.in_ok-add_end-in-Some.ensures.edges in
           subst (λ x. Linked g (seen_statements (λ e. e.entries) x.nodes.keys x.edges.items) rows x.rows a b r to) (sym w.self-inside-is)
-          (record { link = l.0; joins = subst (λ f. (i j : ℕ) → HasBit w.connect.new.self i j ↔ Joins rows f to i j) l.1 w.in_ok-connect-in-Some.ensures.ok; len = w.connect.ensures.len })
-      | in-None+in_ok-insert-in-None+in_ok-connect-in-None w ↦
-          let l = link_new (λ e. e.entries) keys nodes ds items a b r c.self.invariant.len same_nodes same_items (sym c.get_index_of.ensures.index ∙ w.in-None.is) w.new-edges.result w.insert-in-None.new.self w.new-edges.ensures.empty w.insert-in-None.result w.in_ok-insert-in-None.field-0 w.in_ok-insert-in-None.was w.insert-in-None.ensures.entries w.push.new.self.items (pushed_if_ok w.push.result w.unwrap-in-None.result w.push.new.self.items items w.insert-in-None.new.self w.unwrap-in-None.ensures w.push.ensures.items) w.insert-in-None-2.result w.unwrap-in-None-2.result w.unwrap-in-None-2.ensures w.insert-in-None-2.new.self.keys w.insert-in-None-2.ensures.keys in
+          (record { link = l.0; joins = subst (λ f. (i j : ℕ) → HasBit w.add_end.new.rows i j ↔ Joins rows f to i j) l.1 w.in_ok-add_end-in-Some.ensures.rows; len = w.add_end.ensures.len })
+      | in-None+in_ok-add_end-in-None w ↦
+          let l = link_new (λ e. e.entries) keys nodes ds items a b r c.self.invariant.len same_nodes same_items (sym c.get_index_of.ensures.index ∙ w.in-None.is) w.new-edges.result w.add_end-in-None.new.edges w.new-edges.ensures.empty w.in_ok-add_end-in-None.ensures.edges w.push.new.self.items (pushed_if_ok w.push.result w.unwrap.result w.push.new.self.items items w.add_end-in-None.new.edges w.unwrap.ensures w.push.ensures.items) w.insert.result w.unwrap-in-None.result w.unwrap-in-None.ensures w.insert.new.self.keys w.insert.ensures.keys in
           subst (λ x. Linked g (seen_statements (λ e. e.entries) x.nodes.keys x.edges.items) rows x.rows a b r to) (sym w.self-inside-is)
-          (record { link = l.0; joins = subst (λ f. (i j : ℕ) → HasBit w.connect-in-None.new.self i j ↔ Joins rows f to i j) (c.len-count.ensures.len ∙ l.1) w.in_ok-connect-in-None.ensures.ok; len = w.connect-in-None.ensures.len })
+          (record { link = l.0; joins = subst (λ f. (i j : ℕ) → HasBit w.add_end-in-None.new.rows i j ↔ Joins rows f to i j) (c.len-count.ensures.len ∙ l.1) w.in_ok-add_end-in-None.ensures.rows; len = w.add_end-in-None.ensures.len })
     ] in
     let h = seen_statements (λ e. e.entries) half.nodes.keys half.edges.items in
     let k = h in

@@ -2,7 +2,7 @@ use Rattle.std.proofs.Common.{reverse}
 use Rattle.bundle_graph.specs.Modules.{deps}
 use Rattle.bundle_graph.proofs.OrderLemmas.{Walking}
 use Rattle.bundle_graph.proofs.WorkLemmas.{work}
-use Rattle.bundle_graph.proofs.graph.order.Given as goal
+use Rattle.bundle_graph.proofs.graph.list_reached.Given as goal
 
 abbrev pub invariant-loop-visit : goal.invariant-loop-visit
 invariant-loop-visit l = Walking (deps l.graph) l.fn.entry (reverse l.begun.items) l.listed.items l.seen.keys

@@ -7,14 +7,14 @@ use Rattle.bundle_graph.specs.Modules.{deps}
 use Rattle.bundle_graph.proofs.NodeLemmas.{added-out}
 use Rattle.bundle_graph.proofs.OrderLemmas.{IsOrder-from_lists, Walking, Walking-ends, order-starts, order-lists, order-passes, order-begins, not-true, not-false}
 use Rattle.bundle_graph.proofs.WorkLemmas.{work, work-begins}
-use Rattle.bundle_graph.proofs.graph.order.Goals as goal
+use Rattle.bundle_graph.proofs.graph.list_reached.Goals as goal
 
 pub loop-visit-init : goal.loop-visit-init
 loop-visit-init c =
     let first : Visit = record { id = c.args.entry; next = 0 } in
-    let stack : c.push.new.self.items ≡ first ∷ [] = c.in_ok-push.ensures.items ∙ ap (λ l. l ++ first ∷ []) c.new-begun.ensures.items in
-    let seen : c.insert.new.self.keys ≡ c.args.entry ∷ [] = c.in_ok-insert.ensures.keys ∙ ap (λ l. added l c.args.entry) c.new-seen.ensures.empty in
-    order-starts (deps c.args.graph.now) c.args.entry first refl c.push.new.self.items stack c.insert.new.self.keys seen c.new-listed.result.items c.new-listed.ensures.items
+    let stack : c.push.new.self.items ≡ first ∷ [] = c.in_ok-push.ensures.items ∙ ap (λ l. l ++ first ∷ []) c.requires.begun in
+    let seen : c.insert.new.self.keys ≡ c.args.entry ∷ [] = c.in_ok-insert.ensures.keys ∙ ap (λ l. added l c.args.entry) c.requires.seen in
+    order-starts (deps c.args.graph.now) c.args.entry first refl c.push.new.self.items stack c.insert.new.self.keys seen c.args.listed.now.items c.requires.listed
 
 pub loop-visit-preserved-in-Continue-branch-3 : goal.loop-visit-preserved-in-Continue-branch-3
 loop-visit-preserved-in-Continue-branch-3 c =
