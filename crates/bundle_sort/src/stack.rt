@@ -5,7 +5,7 @@
 //! stand for the pairs that were used: that its needs were put above it once, and up to which item
 //! of its module the earlier ones were.
 
-ghost use Rattle.std.specs.Prelude.{◌≡◌, ◌≢◌, ℕ, ◌+◌, ◌-◌, ◌<◌, ◌≤◌, ◌++◌, ◌↔◌, nat_eq, IsTrue, IfOk, OnOk, Contains, map, length, reverse, slice_index};
+ghost use Rattle.std.specs.Prelude.{◌≡◌, ◌≢◌, ℕ, ◌+◌, ◌-◌, ◌<◌, ◌≤◌, ◌++◌, ◌↔◌, nat_eq, IsTrue, false, IfOk, OnOk, Contains, map, length, reverse, slice_index};
 ghost use Rattle.std.specs.List.{filter};
 ghost use Rattle.bundle_sort.specs.Numbers.{fresh, Needs, IsInOrder, IsOut, is_awaited, is_settled, HasNone, AreSkips};
 
@@ -41,9 +41,42 @@ pub(crate) fn sort_numbers(
     ensures { IfOk result (λ order. IsInOrder (map (λ v. v.items) needs.now) ranks.now firsts.now order.items) }
 {
     let mut stack = all_items(alloc, needs.len())?;
-    let mut progress = begin(alloc, firsts)?;
     let mut skips = vec![in alloc; 0; needs.len()]?;
     let mut settled = vec![in alloc; false; needs.len()]?;
+    put_out(
+        alloc,
+        needs,
+        ranks,
+        firsts,
+        &mut stack,
+        &mut skips,
+        &mut settled,
+    )
+}
+
+/// The items in the order in which they are put out, from a stack of them all. No item is to be passed over
+/// yet (`skips`), and none is known to wait for nothing (`settled`).
+fn put_out(
+    alloc: Global,
+    needs: &[Vec<usize>],
+    ranks: &[usize],
+    firsts: &[usize],
+    stack: &mut Vec<usize>,
+    skips: &mut [usize],
+    settled: &mut [bool],
+) -> Result<Vec<usize>, AllocError>
+    requires ranks_len { length ranks.now ≡ length needs.now }
+    requires firsts_len { length firsts.now ≡ length needs.now }
+    requires within { (s t : ℕ) → Needs (map (λ v. v.items) needs.now) s t → t < length needs.now }
+    requires stack_len { length stack.old.items ≡ length needs.now }
+    requires stack_each { (k : ℕ) → k < length needs.now → slice_index stack.old.items k ≡ length needs.now - 1 - k }
+    requires skips_len { length skips.old ≡ length needs.now }
+    requires skips { (t : ℕ) → slice_index skips.old t ≡ 0 }
+    requires settled_len { length settled.old ≡ length needs.now }
+    requires settled { (t : ℕ) → is_settled settled.old t ≡ false }
+    ensures { IfOk result (λ order. IsInOrder (map (λ v. v.items) needs.now) ranks.now firsts.now order.items) }
+{
+    let mut progress = begin(alloc, firsts)?;
     let mut order = Vec::new(alloc);
     while let Some(top) = stack.last() {
         let item = *top;
@@ -52,14 +85,7 @@ pub(crate) fn sort_numbers(
             stack.pop();
             continue;
         }
-        let awaited = push_awaited(
-            &mut stack,
-            &mut settled,
-            &needs[item],
-            ranks,
-            &progress,
-            item,
-        )?;
+        let awaited = push_awaited(stack, settled, &needs[item], ranks, &progress, item)?;
         if awaited {
             progress[item] = Progress {
                 begun: true,
@@ -67,7 +93,7 @@ pub(crate) fn sort_numbers(
             };
             continue;
         }
-        let left = first_left(&progress, &mut skips, known.next, item);
+        let left = first_left(&progress, skips, known.next, item);
         if left < item {
             progress[item] = Progress {
                 next: left + 1,

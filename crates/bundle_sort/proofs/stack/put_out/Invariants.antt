@@ -3,15 +3,15 @@ use Rattle.bundle_sort.specs.Numbers.{AreSkips}
 use Rattle.bundle_sort.proofs.SortLemmas.{Sorting}
 use Rattle.bundle_sort.proofs.StepLemmas.{AreSettled}
 use Rattle.bundle_sort.proofs.WorkLemmas.{work}
-use Rattle.bundle_sort.proofs.stack.sort_numbers.Given as goal
+use Rattle.bundle_sort.proofs.stack.put_out.Given as goal
 
 abbrev pub invariant-loop-top : goal.invariant-loop-top
 invariant-loop-top l = record {
   sorting : Sorting (map (λ v. v.items) l.needs) l.ranks l.firsts l.stack.items l.progress.items l.order.items;
-  skips : AreSkips l.progress.items l.skips.items;
-  skips_len : length l.skips.items ≡ length l.progress.items;
-  settled : AreSettled (map (λ v. v.items) l.needs) l.ranks l.progress.items l.settled.items;
-  settled_len : length l.settled.items ≡ length l.progress.items;
+  skips : AreSkips l.progress.items l.skips;
+  skips_len : length l.skips ≡ length l.progress.items;
+  settled : AreSettled (map (λ v. v.items) l.needs) l.ranks l.progress.items l.settled;
+  settled_len : length l.settled ≡ length l.progress.items;
 }
 
 abbrev pub decreases-loop-top : goal.decreases-loop-top
