@@ -11,7 +11,7 @@ ghost use Rattle.bundle_index.specs.Outside.{IsIndexOf};
 ghost use Rattle.bundle_index.specs.Leads.{lead_of};
 ghost use Rattle.bundle_index.specs.Numbered.{Noted, HoldsAt, IsEmpty, IsNumbered, names_of, values_of, note, notes_of, starred};
 ghost use Rattle.bundle_index.specs.Programs.{AreModulesOf};
-ghost use Rattle.bundle_index.specs.Linked.{StarReaches};
+ghost use Rattle.bundle_index.specs.Linked.{IsGraphOf, StarReaches};
 ghost use Rattle.bundle_index.specs.Says.{Tells, answer_says, linked_of, target_of};
 
 use crate::kinds::Kinds;
@@ -63,21 +63,9 @@ impl<'a> Index<'a> {
     pub fn new(alloc: Global, kinds: &Kinds<'_, '_, 'a>) -> Result<Index<'a>, AllocError>
         ensures { IfOk result (λ index. (p : Program) → AreModulesOf p kinds.now → IsIndexOf p index) }
     {
-        let mut numbers = Numbers {
-            names: IndexSet::new(alloc),
-            given: IndexSet::new(alloc),
-        };
-        let links = links_of(alloc, kinds, &mut numbers)?;
-        let search = Search::new(alloc, links)?;
-        let stars = outside_links(alloc, kinds)?;
-        let outside = Search::new(alloc, stars)?;
-        let externals = Stars::new(alloc, kinds)?;
-        Ok(Index {
-            numbers,
-            search,
-            outside,
-            stars: externals,
-        })
+        let named = Named::new(alloc, kinds)?;
+        let starred = Starred::new(alloc, kinds)?;
+        Ok(joined(named, starred))
     }
 
     /// What is given for a name, which is noted.
@@ -140,6 +128,80 @@ impl<'a> Index<'a> {
     {
         let found = self.outside.found(alloc, (number, 0))?;
         Ok(is_given(found))
+    }
+}
+
+// Numbers of names and of what is given, with the search over them.
+#[derive(Drop)]
+struct Named<'a> {
+    numbers: Numbers<'a>,
+    search: Search,
+}
+
+impl<'a> Named<'a> {
+    // What the tables of modules say.
+    fn new(alloc: Global, kinds: &Kinds<'_, '_, 'a>) -> Result<Named<'a>, AllocError>
+        ensures { IfOk result (λ named. (p : Program) → AreModulesOf p kinds.now →
+            IsGraphOf p (names_of named.numbers) (values_of named.numbers) named.search) }
+    {
+        let mut numbers = Numbers::new(alloc);
+        let search = search_of(alloc, kinds, &mut numbers)?;
+        Ok(Named { numbers, search })
+    }
+}
+
+// The search over the numbers of what the tables of modules say.
+fn search_of<'a>(
+    alloc: Global,
+    kinds: &Kinds<'_, '_, 'a>,
+    numbers: &mut Numbers<'a>,
+) -> Result<Search, AllocError>
+    ensures { IsEmpty numbers.old →
+        IfOk result (λ search. IsNumbered kinds.now (names_of numbers.new) (values_of numbers.new) search) }
+{
+    let links = links_of(alloc, kinds, numbers)?;
+    Search::new(alloc, links)
+}
+
+// The externals that modules star, with the search for the modules that star one over a chain.
+#[derive(Drop)]
+struct Starred<'a> {
+    stars: Stars<'a>,
+    outside: Search,
+}
+
+impl<'a> Starred<'a> {
+    // What modules star.
+    fn new(alloc: Global, kinds: &Kinds<'_, '_, 'a>) -> Result<Starred<'a>, AllocError>
+        ensures { IfOk result (λ starred. (p : Program) → AreModulesOf p kinds.now → (m : ℕ) →
+            ((v : ℕ) × IsGiven starred.outside (m, 0) v) ↔ StarsExternal p m) }
+    {
+        let stars = Stars::new(alloc, kinds)?;
+        let outside = outside_of(alloc, kinds)?;
+        Ok(Starred { stars, outside })
+    }
+}
+
+// The search for the modules that star an external over a chain.
+fn outside_of<'a>(alloc: Global, kinds: &Kinds<'_, '_, 'a>) -> Result<Search, AllocError>
+    ensures { IfOk result (λ outside. (p : Program) → AreModulesOf p kinds.now → (m : ℕ) →
+        ((v : ℕ) × IsGiven outside (m, 0) v) ↔ StarsExternal p m) }
+{
+    let links = outside_links(alloc, kinds)?;
+    Search::new(alloc, links)
+}
+
+// The index of both.
+fn joined<'a>(named: Named<'a>, starred: Starred<'a>) -> Index<'a>
+    ensures numbers { result.numbers ≡ named.entry.numbers }
+    ensures search { result.search ≡ named.entry.search }
+    ensures outside { result.outside ≡ starred.entry.outside }
+{
+    Index {
+        numbers: named.numbers,
+        search: named.search,
+        outside: starred.outside,
+        stars: starred.stars,
     }
 }
 

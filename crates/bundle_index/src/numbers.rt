@@ -2,7 +2,7 @@
 
 ghost use Rattle.std.specs.Prelude.{◌≡◌, IfOk, OnOk, slice_get};
 ghost use Rattle.bundle_index.specs.Said.{IsNumber};
-ghost use Rattle.bundle_index.specs.Numbered.{Inserts, IsSpot, Reaches, names_of, values_of};
+ghost use Rattle.bundle_index.specs.Numbered.{Inserts, IsEmpty, IsSpot, Reaches, names_of, values_of};
 ghost use Rattle.bundle_index.specs.Says.{answer_says, double, own_says, told_of, value_of};
 
 use crate::index::Answer;
@@ -19,6 +19,16 @@ pub(crate) struct Numbers<'a> {
 }
 
 impl<'a> Numbers<'a> {
+    // No name, and nothing that is given.
+    pub(crate) fn new(alloc: Global) -> Numbers<'a>
+        ensures { IsEmpty result }
+    {
+        Numbers {
+            names: IndexSet::new(alloc),
+            given: IndexSet::new(alloc),
+        }
+    }
+
     // The number of a name.
     pub(crate) fn of_name(&mut self, name: &'a str) -> Result<usize, AllocError>
         ensures names { IfOk result (λ n. Inserts (names_of self.old) (names_of self.new) name.now n) }

@@ -4,7 +4,7 @@ use bundle_tables::{Tables, Taken};
 use indexmap::IndexMap;
 
 /// What a name can stand for.
-#[derive(Clone, Copy, PartialEq, Eq, Hash, Debug)]
+#[derive(Clone, Copy, PartialEq, Eq, Hash)]
 pub enum Target<'a> {
     /// A declaration of a module.
     Declared {
@@ -36,7 +36,7 @@ pub struct LinkModule<'t, 'a> {
 }
 
 /// How a bundle is linked: whether literal calls of `require` are, and whether it is one function's call.
-#[derive(Clone, Copy, PartialEq, Eq, Debug)]
+#[derive(Clone, Copy)]
 pub struct Setting {
     pub require: bool,
     pub iife: bool,

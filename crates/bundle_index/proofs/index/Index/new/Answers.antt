@@ -1,20 +1,17 @@
-use Rattle.std.proofs.Common.{sym, subst}
-use Rattle.bundle_given.specs.Graph.{Graph, graph_of}
-use Rattle.bundle_index.specs.Leads.{lead_of}
-use Rattle.bundle_index.specs.Numbered.{IsNumbered, all_starred, names_of, values_of}
-use Rattle.bundle_index.specs.Handed.{numbered}
-use Rattle.bundle_index.specs.Outside.{IsOutside, starring}
-use Rattle.bundle_index.proofs.ProgramLemmas.{is_graph_of}
-use Rattle.bundle_index.proofs.OutsideLemmas.{outside_tells}
+use Rattle.std.proofs.Common.{◌↔◌, ℕ, sym, subst}
+use Rattle.bundle_terms.specs.Faults.{StarsExternal}
+use Rattle.bundle_given.specs.Graph.{Graph}
+use Rattle.bundle_given.specs.Given.{Given}
+use Rattle.bundle_index.specs.declared.numbers.Numbers.{Numbers}
+use Rattle.bundle_index.specs.Linked.{IsGraphOf}
+use Rattle.bundle_index.specs.Numbered.{names_of, values_of}
 use Rattle.bundle_index.proofs.index.Index.new.Goals as goal
 
 pub returns : goal.returns
 returns c = λ p w.
-    let kinds = c.args.kinds.now in
-    let names = names_of c.links_of.new.numbers in
-    let values = values_of c.links_of.new.numbers in
-    let numbered_right = c.in_ok-links.ensures (record { names = c.new.ensures.empty; values = c.new-2.ensures.empty }) in
+    let named = c.in_ok-named.named in
     record {
-      names = is_graph_of p kinds w names values c.in_ok-search.search (subst (λ (g : Graph). IsNumbered kinds names values g) (sym c.in_ok-search.ensures) numbered_right);
-      outside = outside_tells p kinds w c.in_ok-outside.outside (subst (λ (g : Graph). IsOutside (numbered (starring (lead_of kinds)) 0 kinds.modules.now) (all_starred (lead_of kinds) 0 kinds.modules.now) g) (sym c.in_ok-outside.ensures) c.in_ok-stars.ensures);
+      names = subst (λ (numbers : Numbers). IsGraphOf p (names_of numbers) (values_of numbers) c.joined.result.search) (sym c.joined.ensures.numbers)
+          (subst (λ (search : Graph). IsGraphOf p (names_of named.numbers) (values_of named.numbers) search) (sym c.joined.ensures.search) (c.in_ok-named.ensures p w));
+      outside = λ m. subst (λ (outside : Graph). ((v : ℕ) × Given outside (m, 0) v) ↔ StarsExternal p m) (sym c.joined.ensures.outside) (c.in_ok-starred.ensures p w m);
     }
