@@ -23,11 +23,21 @@ use bundle_targets::{LinkModule, Linking};
 use std::alloc::{AllocError, Global};
 
 /// The modules that an entry reaches, what their names are linked to, and the blocks of those that reach each other.
-#[derive(Drop)]
 pub struct Linked<'x> {
     pub(crate) reached: Reached,
     pub(crate) linking: Linking<'x>,
     pub(crate) blocks: Vec<Block>,
+}
+
+// By hand, so that who lets go of one only calls this.
+impl<'x> Drop for Linked<'x> {
+    fn drop(self) {
+        let Linked {
+            reached: _reached,
+            linking: _linking,
+            blocks: _blocks,
+        } = self;
+    }
 }
 
 /// Links the modules that an entry reaches. Refused by the first fault, or where memory runs out.
