@@ -2,8 +2,8 @@
 
 ghost use Rattle.std.specs.Prelude.{◌≡◌, IfOk};
 ghost use Rattle.bundle_given.specs.Graph.{graph_of};
-ghost use Rattle.bundle_given.specs.Given.{IsAnswer, Notes};
-ghost use Rattle.bundle_given.specs.Reached.{IsReach};
+ghost use Rattle.bundle_given.specs.Given.{AreAnswers, IsAnswer, Notes};
+ghost use Rattle.bundle_given.specs.Reached.{IsNoted, IsReach};
 
 use crate::answer::Answer;
 use crate::index::Index;
@@ -62,17 +62,7 @@ impl Search {
         if let Some(answer) = self.answers.get(&at).copied() {
             return Ok(answer);
         }
-        let mut line = IndexSet::new(alloc);
-        let answer = answer_in_line(
-            alloc,
-            &self.index,
-            &self.answers,
-            &mut self.reach,
-            at,
-            &mut line,
-        )?;
-        note(&mut self.answers, line.as_slice(), answer)?;
-        Ok(answer)
+        answer_anew(alloc, &self.index, &mut self.answers, &mut self.reach, at)
     }
 
     /// The modules to which stars lead from one, each once, itself first.
@@ -81,6 +71,26 @@ impl Search {
     {
         self.index.reach(alloc, start)
     }
+}
+
+// The answer for a name, looked for and then noted.
+fn answer_anew(
+    alloc: Global,
+    index: &Index,
+    answers: &mut IndexMap<(usize, usize), Answer>,
+    reach: &mut IndexSet<usize>,
+    at: (usize, usize),
+) -> Result<Answer, AllocError>
+    requires right { AreAnswers index.now answers.old.entries }
+    requires noted { IsNoted index.now reach.old.keys }
+    ensures answer { IfOk result (λ answer. IsAnswer index.now at answer) }
+    ensures right { AreAnswers index.now answers.new.entries }
+    ensures noted { IsNoted index.now reach.new.keys }
+{
+    let mut line = IndexSet::new(alloc);
+    let answer = answer_in_line(alloc, index, &*answers, reach, at, &mut line)?;
+    note(answers, line.as_slice(), answer)?;
+    Ok(answer)
 }
 
 // Notes an answer for names.
