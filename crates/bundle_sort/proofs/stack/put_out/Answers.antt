@@ -1,4 +1,4 @@
-use Rattle.std.proofs.Common.{rules, refl, sym, ap, ◌∙◌, subst, arith, ◌≡◌, ◌≢◌, ℕ, ◌+◌, ◌<◌, ◌≤◌, ◌++◌, ◌↔◌, IsTrue, Contains, map, length, reverse, ◌-◌, true, false, List, [], get_or, set}
+use Rattle.std.proofs.Common.{rules, refl, sym, ap, ◌∙◌, subst, arith, ◌≡◌, ◌≢◌, ℕ, ◌+◌, ◌<◌, ◌≤◌, ◌++◌, ◌↔◌, IsTrue, Contains, map, length, reverse, ◌-◌, true, List, [], get_or, set}
 use Rattle.std.specs.List.{filter}
 use Rattle.std.proofs.lemmas.List.{length-map, get_or-map, length-set, nil_from_length, get_or_default}
 use Rattle.std.proofs.lemmas.Bool.{false≢true}
