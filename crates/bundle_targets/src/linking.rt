@@ -1,13 +1,16 @@
 //! The modules of one bundle, linked.
 
-ghost use Rattle.std.specs.Prelude.{◌≡◌, IfOk, List, ℕ};
+ghost use Rattle.std.specs.Prelude.{◌≡◌, IfOk, OnOk, List, ℕ};
 ghost use Rattle.bundle_terms.specs.Linking.{IsMissing};
 ghost use Rattle.bundle_terms.specs.Program.{Program};
 ghost use Rattle.bundle_terms.specs.Tables.{IsResolution, TellsCommonJs, TellsMeant};
-ghost use Rattle.bundle_index.specs.Programs.{IsProgramOf};
+ghost use Rattle.bundle_index.specs.Outside.{IsIndexOf};
+ghost use Rattle.bundle_index.specs.Programs.{AreModulesOf, IsProgramOf};
+ghost use Rattle.bundle_targets.specs.Found.{HoldsMeant, targets_in};
 ghost use Rattle.bundle_targets.specs.Judged.{IsJudged};
 ghost use Rattle.bundle_targets.specs.Linked.{IsJudgedBy, IsLinkingOf, found_says};
 ghost use Rattle.bundle_targets.specs.Meant.{AreModules};
+ghost use Rattle.bundle_targets.specs.Stages.{AreKindsOf};
 
 use crate::faults::{call_fault_of, link_fault_of};
 use crate::meant::{Meant, meant_in};
@@ -32,6 +35,82 @@ pub struct Linking<'a> {
     outside: Outside<'a>,
     call_fault: Option<Fault<'a>>,
     link_fault: Option<Fault<'a>>,
+}
+
+// The linking of modules of these kinds, whose names are indexed.
+fn joined<'a>(alloc: Global, kinds: Kinds<'_, '_, 'a>, indexed: Indexed<'a>) -> Linking<'a>
+    ensures index { result.index ≡ indexed.entry.index }
+    ensures common_js { result.common_js.items ≡ kinds.entry.common_js.items }
+    ensures meant { result.meant.targets ≡ indexed.entry.found.meant.targets }
+    ensures links { result.link_fault ≡ indexed.entry.found.link_fault }
+    ensures calls { (p : Program) → AreKindsOf p kinds.entry → IsJudged p kinds.entry.list.now 0 2 result.call_fault }
+{
+    let call_fault = call_fault_of(&kinds);
+    let Kinds { common_js, .. } = kinds;
+    let Indexed { index, found } = indexed;
+    Linking {
+        alloc,
+        index,
+        common_js,
+        meant: found.meant,
+        outside: found.outside,
+        call_fault,
+        link_fault: found.link_fault,
+    }
+}
+
+// The index of modules, with what is found by it.
+#[derive(Drop)]
+struct Indexed<'a> {
+    index: Index<'a>,
+    found: Found<'a>,
+}
+
+impl<'a> Indexed<'a> {
+    // The index of modules of these kinds.
+    fn new(alloc: Global, kinds: &Kinds<'_, '_, 'a>) -> Result<Indexed<'a>, AllocError>
+        ensures index { IfOk result (λ indexed. (p : Program) → AreModulesOf p kinds.now → IsIndexOf p indexed.index) }
+        ensures meant { IfOk result (λ indexed. (p : Program) → AreModulesOf p kinds.now → AreModules p →
+            HoldsMeant p (targets_in indexed.found.meant.targets)) }
+        ensures judged { IfOk result (λ indexed. (p : Program) → AreKindsOf p kinds.now → AreModules p →
+            IsJudged p kinds.now.list.now 3 9 indexed.found.link_fault) }
+    {
+        let mut index = Index::new(alloc, kinds)?;
+        let found = Found::new(alloc, kinds, &mut index)?;
+        Ok(Indexed { index, found })
+    }
+}
+
+// What is meant, the first fault of the linking, and what is taken from outside.
+#[derive(Drop)]
+struct Found<'a> {
+    meant: Meant<'a>,
+    link_fault: Option<Fault<'a>>,
+    outside: Outside<'a>,
+}
+
+impl<'a> Found<'a> {
+    // What is found by an index.
+    fn new(
+        alloc: Global,
+        kinds: &Kinds<'_, '_, 'a>,
+        index: &mut Index<'a>,
+    ) -> Result<Found<'a>, AllocError>
+        ensures meant { IfOk result (λ found. (p : Program) → IsIndexOf p index.old → AreModulesOf p kinds.now →
+            AreModules p → HoldsMeant p (targets_in found.meant.targets)) }
+        ensures judged { IfOk result (λ found. (p : Program) → IsIndexOf p index.old → AreKindsOf p kinds.now →
+            AreModules p → IsJudged p kinds.now.list.now 3 9 found.link_fault) }
+        ensures same { OnOk result (index.new ≡ index.old) }
+    {
+        let meant = meant_in(alloc, kinds, index)?;
+        let link_fault = link_fault_of(alloc, kinds, index, &meant.targets)?;
+        let outside = Outside::new(alloc, kinds, &*index, &meant)?;
+        Ok(Found {
+            meant,
+            link_fault,
+            outside,
+        })
+    }
 }
 
 /// What is taken of externals and CommonJS modules.
@@ -79,21 +158,8 @@ impl<'a> Linking<'a> {
             p.settings.iife ≡ setting.iife → IsJudgedBy p list.now linking) }
     {
         let kinds = Kinds::new(alloc, modules, list, entry, setting)?;
-        let mut index = Index::new(alloc, &kinds)?;
-        let meant = meant_in(alloc, &kinds, &mut index)?;
-        let outside = Outside::new(alloc, &kinds, &index, &meant)?;
-        let link_fault = link_fault_of(alloc, &kinds, &mut index, &meant.targets)?;
-        let call_fault = call_fault_of(&kinds);
-        let Kinds { common_js, .. } = kinds;
-        Ok(Linking {
-            alloc,
-            index,
-            common_js,
-            meant,
-            outside,
-            call_fault,
-            link_fault,
-        })
+        let indexed = Indexed::new(alloc, &kinds)?;
+        Ok(joined(alloc, kinds, indexed))
     }
 
     /// What a module gives for a name.

@@ -7,6 +7,7 @@ ghost use Rattle.bundle_terms.specs.Nodes.{Text};
 ghost use Rattle.bundle_terms.specs.Linking.{imports as imports_in};
 ghost use Rattle.bundle_terms.specs.Program.{Program, tree_of};
 ghost use Rattle.bundle_terms.specs.Tables.{TellsMeant};
+ghost use Rattle.bundle_tables.specs.Exported.{Finds};
 ghost use Rattle.bundle_tables.specs.TablesOf.{import_entry_of};
 ghost use Rattle.bundle_given.specs.Given.{Adds};
 ghost use Rattle.bundle_index.specs.Outside.{IsIndexOf};
@@ -138,6 +139,25 @@ impl<'a> Meant<'a> {
         ensures same { OnOk result (index.new ≡ index.old) }
     {
         let locals = locals_of(alloc, tables)?;
+        self.add_uses_by(alloc, kinds, index, module, tables, &locals)
+    }
+
+    // The same, where these are what the imports of the module bind.
+    fn add_uses_by(
+        &mut self,
+        alloc: Global,
+        kinds: &Kinds<'_, '_, 'a>,
+        index: &mut Index<'a>,
+        module: usize,
+        tables: &Tables<'a>,
+        locals: &IndexMap<&'a str, Import<'a>>,
+    ) -> Result<(), AllocError>
+        ensures right { (p : Program) → IsIndexOf p index.old → AreModulesOf p kinds.now →
+            IsTableOf p «module» tables.now → Finds locals.now (map import_entry_of tables.now.imports.items) →
+            OnOk result (Adds (targets_in self.old.targets)
+            (AnyMeans p «module» (map (use_entry_of tables.now.reads.items) tables.now.uses.items)) (targets_in self.new.targets)) }
+        ensures same { OnOk result (index.new ≡ index.old) }
+    {
         for its in &tables.uses {
             let import = locals.get(&its.local).copied();
             let reads = reads_of(&tables.reads, *its);

@@ -86,13 +86,24 @@ pub fn loads_of<'a>(
 ) -> Result<Vec<Vec<Loaded<'a>>>, AllocError> {
     let mut places = IndexMap::new(alloc);
     let mut loads = no_lists(alloc, kinds.modules.len())?;
-    for taker in kinds.list {
-        if let (Some(tables), Some(own)) = (kinds.tables(*taker), loads.get_mut(*taker)) {
-            note_loads(alloc, kinds, *taker, tables, &mut places, own)?;
-        }
-    }
+    note_all_loads(alloc, kinds, &mut places, &mut loads)?;
     add_loads(&mut loads, &places, meant)?;
     Ok(loads)
+}
+
+// Notes the CommonJS modules that listed modules import or re-export, with their places.
+fn note_all_loads<'a>(
+    alloc: Global,
+    kinds: &Kinds<'_, '_, 'a>,
+    places: &mut IndexMap<(usize, usize), usize>,
+    loads: &mut Vec<Vec<Loaded<'a>>>,
+) -> Result<(), AllocError> {
+    for taker in kinds.list {
+        if let (Some(tables), Some(own)) = (kinds.tables(*taker), loads.get_mut(*taker)) {
+            note_loads(alloc, kinds, *taker, tables, places, own)?;
+        }
+    }
+    Ok(())
 }
 
 // Notes the CommonJS modules that a module imports or re-exports, each once, with their places.
@@ -174,10 +185,30 @@ pub fn external_stars_of<'a>(
     module: usize,
     externals: &[External<'a>],
 ) -> Result<Vec<&'a str>, AllocError> {
+    let reach = index.reach(alloc, module)?;
+    let starred = starred_by(alloc, index, &reach)?;
+    starred_among(alloc, externals, &starred)
+}
+
+// The externals that these modules star.
+fn starred_by<'a>(
+    alloc: Global,
+    index: &Index<'a>,
+    modules: &IndexSet<usize>,
+) -> Result<IndexSet<&'a str>, AllocError> {
     let mut starred = IndexSet::new(alloc);
-    for other in &index.reach(alloc, module)? {
-        add_all(&mut starred, index.starred_externals(*other))?;
+    for module in modules {
+        add_all(&mut starred, index.starred_externals(*module))?;
     }
+    Ok(starred)
+}
+
+// Of these externals those that are starred.
+fn starred_among<'a>(
+    alloc: Global,
+    externals: &[External<'a>],
+    starred: &IndexSet<&'a str>,
+) -> Result<Vec<&'a str>, AllocError> {
     let mut ordered = Vec::new(alloc);
     for external in externals {
         if starred.contains(&external.specifier) {

@@ -3,7 +3,7 @@
 pub use bundle_index::target::{LinkModule, Setting, Target};
 
 /// What a module gives for a name (ECMA-262, 16.2.1.6.3 ResolveExport).
-#[derive(Clone, Copy, PartialEq, Eq, Debug)]
+#[derive(Clone, Copy)]
 pub enum Resolution<'a> {
     /// One target.
     One(Target<'a>),
@@ -18,7 +18,7 @@ pub enum Resolution<'a> {
 
 /// What a use of an imported name means: the target, and how many of the reads around the name it
 /// replaces with it.
-#[derive(Clone, Copy, PartialEq, Eq, Debug)]
+#[derive(Clone, Copy)]
 pub struct Meaning<'a> {
     pub target: Target<'a>,
     pub steps: usize,
