@@ -4,7 +4,7 @@ use bundle_tables::{Tables, Taken};
 use indexmap::IndexMap;
 
 /// What a name can stand for.
-#[derive(Clone, Copy, PartialEq, Eq, Hash, Debug)]
+#[derive(Clone, Copy, PartialEq, Eq, Hash)]
 pub enum Target<'a> {
     /// A declaration of a module.
     Declared {

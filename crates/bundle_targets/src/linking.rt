@@ -26,7 +26,6 @@ use std::alloc::{AllocError, Global};
 
 /// What each name of the modules of a bundle stands for, which of the modules are CommonJS, what of them is
 /// meant, and what is wrong with them.
-#[derive(Drop)]
 pub struct Linking<'a> {
     alloc: Global,
     index: Index<'a>,
@@ -35,6 +34,21 @@ pub struct Linking<'a> {
     outside: Outside<'a>,
     call_fault: Option<Fault<'a>>,
     link_fault: Option<Fault<'a>>,
+}
+
+// By hand, so that who lets go of one only calls this.
+impl<'a> Drop for Linking<'a> {
+    fn drop(self) {
+        let Linking {
+            alloc: _alloc,
+            index: _index,
+            common_js: _common_js,
+            meant: _meant,
+            outside: _outside,
+            call_fault: _call_fault,
+            link_fault: _link_fault,
+        } = self;
+    }
 }
 
 // The linking of modules of these kinds, whose names are indexed.
