@@ -1,3 +1,4 @@
+pub mod Entries
 pub mod Error
 pub mod Form
 pub mod Layout

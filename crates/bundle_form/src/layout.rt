@@ -1,9 +1,10 @@
 //! How each node is written: its name, and the keys of the fields that hold nodes.
 
-ghost use Rattle.std.specs.Prelude.{◌≡◌, [], ◌∷◌};
+ghost use Rattle.std.specs.Prelude.{◌≡◌};
 ghost use Rattle.bundle_piece.specs.Item.{head_of};
-ghost use Rattle.bundle_form.specs.Form.{name, fields, one as one_field, optional as optional_field, list as list_field, places as places_field};
-ghost use Rattle.bundle_form.specs.Layout.{listed, field_of};
+ghost use Rattle.bundle_form.specs.Form.{name, fields};
+ghost use Rattle.bundle_form.specs.Entries.{entry_field, laid_out};
+ghost use Rattle.bundle_form.specs.Layout.{field_of, listed};
 
 use bundle_piece::Node;
 
@@ -28,62 +29,49 @@ pub struct Field {
     pub shape: Shape,
 }
 
-fn one(number: u8, key: &'static str) -> Field
-    ensures { field_of result ≡ one_field number key.now }
+// A field that holds nodes: what stands there, the field's number, and its key.
+enum Entry {
+    One(u8, &'static str),
+    Optional(u8, &'static str),
+    List(u8, &'static str),
+    Places(u8, &'static str),
+}
+
+// The fields of a node that hold nodes, in the order of their numbers.
+enum Layout {
+    Nothing,
+    Single(Entry),
+    Pair(Entry, Entry),
+    Triple(Entry, Entry, Entry),
+    Four(Entry, Entry, Entry, Entry),
+}
+
+// The field of an entry.
+fn as_field(entry: Entry) -> Field
+    ensures { field_of result ≡ entry_field entry }
 {
-    Field {
-        number,
-        key,
-        shape: Shape::One,
+    match entry {
+        Entry::One(number, key) => Field {
+            number,
+            key,
+            shape: Shape::One,
+        },
+        Entry::Optional(number, key) => Field {
+            number,
+            key,
+            shape: Shape::Optional,
+        },
+        Entry::List(number, key) => Field {
+            number,
+            key,
+            shape: Shape::List,
+        },
+        Entry::Places(number, key) => Field {
+            number,
+            key,
+            shape: Shape::Places,
+        },
     }
-}
-
-fn optional(number: u8, key: &'static str) -> Field
-    ensures { field_of result ≡ optional_field number key.now }
-{
-    Field {
-        number,
-        key,
-        shape: Shape::Optional,
-    }
-}
-
-fn list(number: u8, key: &'static str) -> Field
-    ensures { field_of result ≡ list_field number key.now }
-{
-    Field {
-        number,
-        key,
-        shape: Shape::List,
-    }
-}
-
-fn places(number: u8, key: &'static str) -> Field
-    ensures { field_of result ≡ places_field number key.now }
-{
-    Field {
-        number,
-        key,
-        shape: Shape::Places,
-    }
-}
-
-fn single(first: Field) -> [Option<Field>; 4]
-    ensures { listed result ≡ field_of first ∷ [] }
-{
-    [Some(first), None, None, None]
-}
-
-fn pair(first: Field, second: Field) -> [Option<Field>; 4]
-    ensures { listed result ≡ field_of first ∷ field_of second ∷ [] }
-{
-    [Some(first), Some(second), None, None]
-}
-
-fn triple(first: Field, second: Field, third: Field) -> [Option<Field>; 4]
-    ensures { listed result ≡ field_of first ∷ field_of second ∷ field_of third ∷ [] }
-{
-    [Some(first), Some(second), Some(third), None]
 }
 
 /// The name of a node, which stands under `type`.
@@ -200,104 +188,159 @@ pub fn name_of(node: &Node) -> &'static str
 pub fn fields_of(node: &Node) -> [Option<Field>; 4]
     ensures { listed result ≡ fields (head_of node.now) }
 {
+    match layout_of(node) {
+        Layout::Nothing => [None, None, None, None],
+        Layout::Single(first) => [Some(as_field(first)), None, None, None],
+        Layout::Pair(first, second) => [Some(as_field(first)), Some(as_field(second)), None, None],
+        Layout::Triple(first, second, third) => [
+            Some(as_field(first)),
+            Some(as_field(second)),
+            Some(as_field(third)),
+            None,
+        ],
+        Layout::Four(first, second, third, fourth) => [
+            Some(as_field(first)),
+            Some(as_field(second)),
+            Some(as_field(third)),
+            Some(as_field(fourth)),
+        ],
+    }
+}
+
+// The same as data: calls in so many arms make the check dear.
+fn layout_of(node: &Node) -> Layout
+    ensures { laid_out result ≡ fields (head_of node.now) }
+{
     match node {
         // Modules (ECMA-262, 16.2).
-        Node::Module => single(list(0, "body")),
-        Node::ImportDecl { .. } => pair(list(0, "specifiers"), one(1, "src")),
-        Node::ImportNamedSpecifier => pair(one(0, "local"), optional(1, "imported")),
-        Node::ImportDefaultSpecifier => single(one(0, "local")),
-        Node::ImportStarAsSpecifier => single(one(0, "local")),
-        Node::ExportDecl => single(one(0, "decl")),
-        Node::NamedExport { .. } => pair(list(0, "specifiers"), optional(1, "src")),
-        Node::ExportNamespaceSpecifier => single(one(0, "name")),
-        Node::ExportNamedSpecifier => pair(one(0, "orig"), optional(1, "exported")),
-        Node::ExportDefaultDecl => single(one(0, "decl")),
-        Node::ExportDefaultExpr => single(one(0, "expr")),
-        Node::ExportAll { .. } => single(one(0, "src")),
-        // Statements (ECMA-262, 14).
-        Node::BlockStmt => single(list(0, "stmts")),
-        Node::WithStmt => pair(one(0, "obj"), one(1, "body")),
-        Node::ReturnStmt => single(optional(0, "arg")),
-        Node::LabeledStmt => pair(one(0, "label"), one(1, "body")),
-        Node::BreakStmt => single(optional(0, "label")),
-        Node::ContinueStmt => single(optional(0, "label")),
-        Node::IfStmt => triple(one(0, "test"), one(1, "cons"), optional(2, "alt")),
-        Node::SwitchStmt => pair(one(0, "discriminant"), list(1, "cases")),
-        Node::SwitchCase => pair(optional(0, "test"), list(1, "cons")),
-        Node::ThrowStmt => single(one(0, "arg")),
-        Node::TryStmt => triple(
-            one(0, "block"),
-            optional(1, "handler"),
-            optional(2, "finalizer"),
+        Node::Module => Layout::Single(Entry::List(0, "body")),
+        Node::ImportDecl { .. } => Layout::Pair(Entry::List(0, "specifiers"), Entry::One(1, "src")),
+        Node::ImportNamedSpecifier => Layout::Pair(
+            Entry::One(0, "local"),
+            Entry::Optional(1, "imported"),
         ),
-        Node::CatchClause => pair(optional(0, "param"), one(1, "body")),
-        Node::WhileStmt => pair(one(0, "test"), one(1, "body")),
-        Node::DoWhileStmt => pair(one(0, "body"), one(1, "test")),
-        Node::ForStmt => [
-            Some(optional(0, "init")),
-            Some(optional(1, "test")),
-            Some(optional(2, "update")),
-            Some(one(3, "body")),
-        ],
-        Node::ForInStmt => triple(one(0, "left"), one(1, "right"), one(2, "body")),
-        Node::ForOfStmt { .. } => triple(one(1, "left"), one(2, "right"), one(3, "body")),
-        Node::ExprStmt => single(one(0, "expr")),
+        Node::ImportDefaultSpecifier => Layout::Single(Entry::One(0, "local")),
+        Node::ImportStarAsSpecifier => Layout::Single(Entry::One(0, "local")),
+        Node::ExportDecl => Layout::Single(Entry::One(0, "decl")),
+        Node::NamedExport { .. } => Layout::Pair(
+            Entry::List(0, "specifiers"),
+            Entry::Optional(1, "src"),
+        ),
+        Node::ExportNamespaceSpecifier => Layout::Single(Entry::One(0, "name")),
+        Node::ExportNamedSpecifier => Layout::Pair(
+            Entry::One(0, "orig"),
+            Entry::Optional(1, "exported"),
+        ),
+        Node::ExportDefaultDecl => Layout::Single(Entry::One(0, "decl")),
+        Node::ExportDefaultExpr => Layout::Single(Entry::One(0, "expr")),
+        Node::ExportAll { .. } => Layout::Single(Entry::One(0, "src")),
+        // Statements (ECMA-262, 14).
+        Node::BlockStmt => Layout::Single(Entry::List(0, "stmts")),
+        Node::WithStmt => Layout::Pair(Entry::One(0, "obj"), Entry::One(1, "body")),
+        Node::ReturnStmt => Layout::Single(Entry::Optional(0, "arg")),
+        Node::LabeledStmt => Layout::Pair(Entry::One(0, "label"), Entry::One(1, "body")),
+        Node::BreakStmt => Layout::Single(Entry::Optional(0, "label")),
+        Node::ContinueStmt => Layout::Single(Entry::Optional(0, "label")),
+        Node::IfStmt => Layout::Triple(
+            Entry::One(0, "test"),
+            Entry::One(1, "cons"),
+            Entry::Optional(2, "alt"),
+        ),
+        Node::SwitchStmt => Layout::Pair(Entry::One(0, "discriminant"), Entry::List(1, "cases")),
+        Node::SwitchCase => Layout::Pair(Entry::Optional(0, "test"), Entry::List(1, "cons")),
+        Node::ThrowStmt => Layout::Single(Entry::One(0, "arg")),
+        Node::TryStmt => Layout::Triple(
+            Entry::One(0, "block"),
+            Entry::Optional(1, "handler"),
+            Entry::Optional(2, "finalizer"),
+        ),
+        Node::CatchClause => Layout::Pair(Entry::Optional(0, "param"), Entry::One(1, "body")),
+        Node::WhileStmt => Layout::Pair(Entry::One(0, "test"), Entry::One(1, "body")),
+        Node::DoWhileStmt => Layout::Pair(Entry::One(0, "body"), Entry::One(1, "test")),
+        Node::ForStmt => Layout::Four(
+            Entry::Optional(0, "init"),
+            Entry::Optional(1, "test"),
+            Entry::Optional(2, "update"),
+            Entry::One(3, "body"),
+        ),
+        Node::ForInStmt => Layout::Triple(
+            Entry::One(0, "left"),
+            Entry::One(1, "right"),
+            Entry::One(2, "body"),
+        ),
+        Node::ForOfStmt { .. } => Layout::Triple(
+            Entry::One(1, "left"),
+            Entry::One(2, "right"),
+            Entry::One(3, "body"),
+        ),
+        Node::ExprStmt => Layout::Single(Entry::One(0, "expr")),
         // Declarations (ECMA-262, 14.3, 15.2 and 15.7).
-        Node::ClassDecl => pair(one(0, "ident"), one(1, "class")),
-        Node::FnDecl => pair(one(0, "ident"), one(1, "function")),
-        Node::VarDecl { .. } => single(list(1, "decls")),
-        Node::VarDeclarator => pair(one(0, "name"), optional(1, "init")),
+        Node::ClassDecl => Layout::Pair(Entry::One(0, "ident"), Entry::One(1, "class")),
+        Node::FnDecl => Layout::Pair(Entry::One(0, "ident"), Entry::One(1, "function")),
+        Node::VarDecl { .. } => Layout::Single(Entry::List(1, "decls")),
+        Node::VarDeclarator => Layout::Pair(Entry::One(0, "name"), Entry::Optional(1, "init")),
         // Expressions (ECMA-262, 13).
-        Node::ArrayLit => single(places(0, "elems")),
-        Node::ObjectLit => single(list(0, "props")),
-        Node::FnExpr => pair(optional(0, "ident"), one(1, "function")),
-        Node::UnaryExpr { .. } => single(one(1, "arg")),
-        Node::UpdateExpr { .. } => single(one(2, "arg")),
-        Node::BinExpr { .. } => pair(one(1, "left"), one(2, "right")),
-        Node::AssignExpr { .. } => pair(one(1, "left"), one(2, "right")),
-        Node::MemberExpr => pair(one(0, "obj"), one(1, "prop")),
-        Node::SuperPropExpr => single(one(0, "prop")),
-        Node::CondExpr => triple(one(0, "test"), one(1, "cons"), one(2, "alt")),
-        Node::CallExpr => pair(one(0, "callee"), list(1, "args")),
-        Node::NewExpr { has_args: true } => pair(one(0, "callee"), list(1, "args")),
-        Node::NewExpr { .. } => pair(one(0, "callee"), optional(1, "args")),
-        Node::SeqExpr => single(list(0, "exprs")),
-        Node::Tpl => pair(list(0, "exprs"), list(1, "quasis")),
-        Node::TaggedTpl => pair(one(0, "tag"), one(1, "tpl")),
-        Node::ArrowExpr { .. } => pair(list(0, "params"), one(1, "body")),
-        Node::ClassExpr => pair(optional(0, "ident"), one(1, "class")),
-        Node::YieldExpr { .. } => single(optional(0, "arg")),
-        Node::AwaitExpr => single(one(0, "arg")),
-        Node::ParenExpr => single(one(0, "expr")),
-        Node::OptChainExpr { .. } => single(one(1, "base")),
-        Node::OptCall => pair(one(0, "callee"), list(1, "args")),
-        Node::ExprOrSpread { .. } => single(one(1, "expr")),
+        Node::ArrayLit => Layout::Single(Entry::Places(0, "elems")),
+        Node::ObjectLit => Layout::Single(Entry::List(0, "props")),
+        Node::FnExpr => Layout::Pair(Entry::Optional(0, "ident"), Entry::One(1, "function")),
+        Node::UnaryExpr { .. } => Layout::Single(Entry::One(1, "arg")),
+        Node::UpdateExpr { .. } => Layout::Single(Entry::One(2, "arg")),
+        Node::BinExpr { .. } => Layout::Pair(Entry::One(1, "left"), Entry::One(2, "right")),
+        Node::AssignExpr { .. } => Layout::Pair(Entry::One(1, "left"), Entry::One(2, "right")),
+        Node::MemberExpr => Layout::Pair(Entry::One(0, "obj"), Entry::One(1, "prop")),
+        Node::SuperPropExpr => Layout::Single(Entry::One(0, "prop")),
+        Node::CondExpr => Layout::Triple(
+            Entry::One(0, "test"),
+            Entry::One(1, "cons"),
+            Entry::One(2, "alt"),
+        ),
+        Node::CallExpr => Layout::Pair(Entry::One(0, "callee"), Entry::List(1, "args")),
+        Node::NewExpr { has_args: true } => Layout::Pair(
+            Entry::One(0, "callee"),
+            Entry::List(1, "args"),
+        ),
+        Node::NewExpr { .. } => Layout::Pair(Entry::One(0, "callee"), Entry::Optional(1, "args")),
+        Node::SeqExpr => Layout::Single(Entry::List(0, "exprs")),
+        Node::Tpl => Layout::Pair(Entry::List(0, "exprs"), Entry::List(1, "quasis")),
+        Node::TaggedTpl => Layout::Pair(Entry::One(0, "tag"), Entry::One(1, "tpl")),
+        Node::ArrowExpr { .. } => Layout::Pair(Entry::List(0, "params"), Entry::One(1, "body")),
+        Node::ClassExpr => Layout::Pair(Entry::Optional(0, "ident"), Entry::One(1, "class")),
+        Node::YieldExpr { .. } => Layout::Single(Entry::Optional(0, "arg")),
+        Node::AwaitExpr => Layout::Single(Entry::One(0, "arg")),
+        Node::ParenExpr => Layout::Single(Entry::One(0, "expr")),
+        Node::OptChainExpr { .. } => Layout::Single(Entry::One(1, "base")),
+        Node::OptCall => Layout::Pair(Entry::One(0, "callee"), Entry::List(1, "args")),
+        Node::ExprOrSpread { .. } => Layout::Single(Entry::One(1, "expr")),
         // Functions and classes (ECMA-262, 15).
-        Node::Function { .. } => pair(list(0, "params"), one(1, "body")),
-        Node::Param => single(one(0, "pat")),
-        Node::Class => pair(optional(0, "super_class"), list(1, "body")),
-        Node::Constructor => pair(list(0, "params"), one(1, "body")),
-        Node::ClassMethod { .. } => pair(one(0, "key"), one(1, "function")),
-        Node::PrivateMethod { .. } => pair(one(0, "key"), one(1, "function")),
-        Node::ClassProp { .. } => pair(one(0, "key"), optional(1, "value")),
-        Node::PrivateProp { .. } => pair(one(0, "key"), optional(1, "value")),
-        Node::StaticBlock => single(one(0, "body")),
+        Node::Function { .. } => Layout::Pair(Entry::List(0, "params"), Entry::One(1, "body")),
+        Node::Param => Layout::Single(Entry::One(0, "pat")),
+        Node::Class => Layout::Pair(Entry::Optional(0, "super_class"), Entry::List(1, "body")),
+        Node::Constructor => Layout::Pair(Entry::List(0, "params"), Entry::One(1, "body")),
+        Node::ClassMethod { .. } => Layout::Pair(Entry::One(0, "key"), Entry::One(1, "function")),
+        Node::PrivateMethod { .. } => Layout::Pair(Entry::One(0, "key"), Entry::One(1, "function")),
+        Node::ClassProp { .. } => Layout::Pair(Entry::One(0, "key"), Entry::Optional(1, "value")),
+        Node::PrivateProp { .. } => Layout::Pair(Entry::One(0, "key"), Entry::Optional(1, "value")),
+        Node::StaticBlock => Layout::Single(Entry::One(0, "body")),
         // Names and literals (ECMA-262, 12.7 and 13.2.3).
         // Properties of object literals (ECMA-262, 13.2.5).
-        Node::SpreadElement => single(one(0, "expr")),
-        Node::KeyValueProp => pair(one(0, "key"), one(1, "value")),
-        Node::GetterProp => pair(one(0, "key"), one(1, "body")),
-        Node::SetterProp => triple(one(0, "key"), one(1, "param"), one(2, "body")),
-        Node::MethodProp => pair(one(0, "key"), one(1, "function")),
-        Node::ComputedPropName => single(one(0, "expr")),
+        Node::SpreadElement => Layout::Single(Entry::One(0, "expr")),
+        Node::KeyValueProp => Layout::Pair(Entry::One(0, "key"), Entry::One(1, "value")),
+        Node::GetterProp => Layout::Pair(Entry::One(0, "key"), Entry::One(1, "body")),
+        Node::SetterProp => Layout::Triple(
+            Entry::One(0, "key"),
+            Entry::One(1, "param"),
+            Entry::One(2, "body"),
+        ),
+        Node::MethodProp => Layout::Pair(Entry::One(0, "key"), Entry::One(1, "function")),
+        Node::ComputedPropName => Layout::Single(Entry::One(0, "expr")),
         // Patterns (ECMA-262, 14.3.3).
-        Node::BindingIdent => single(one(0, "id")),
-        Node::ArrayPat => single(places(0, "elems")),
-        Node::ObjectPat => single(list(0, "props")),
-        Node::RestPat => single(one(0, "arg")),
-        Node::AssignPat => pair(one(0, "left"), one(1, "right")),
-        Node::KeyValuePatProp => pair(one(0, "key"), one(1, "value")),
-        Node::AssignPatProp => pair(one(0, "key"), optional(1, "value")),
-        _ => [None, None, None, None],
+        Node::BindingIdent => Layout::Single(Entry::One(0, "id")),
+        Node::ArrayPat => Layout::Single(Entry::Places(0, "elems")),
+        Node::ObjectPat => Layout::Single(Entry::List(0, "props")),
+        Node::RestPat => Layout::Single(Entry::One(0, "arg")),
+        Node::AssignPat => Layout::Pair(Entry::One(0, "left"), Entry::One(1, "right")),
+        Node::KeyValuePatProp => Layout::Pair(Entry::One(0, "key"), Entry::One(1, "value")),
+        Node::AssignPatProp => Layout::Pair(Entry::One(0, "key"), Entry::Optional(1, "value")),
+        _ => Layout::Nothing,
     }
 }
