@@ -1,8 +1,8 @@
 //! The modules of one bundle, linked.
 
-ghost use Rattle.std.specs.Prelude.{◌≡◌, Contains, IfErr, IfOk, IfSome, IsNone, MatchResult, None, false, length, map, nat_eq};
+ghost use Rattle.std.specs.Prelude.{◌≡◌, ℕ, Contains, IfErr, IfOk, IfSome, IsNone, MatchResult, None, Some, false, length, map, nat_eq, option_map, slice_get};
 ghost use Rattle.std.specs.List.{AllZip};
-ghost use Rattle.indexmap.specs.IndexSet.{contains};
+ghost use Rattle.indexmap.specs.IndexSet.{contains, index_of_by};
 ghost use Rattle.bundle_name.specs.FileName.{name_of};
 ghost use Rattle.bundle_piece.specs.Item.{item_of};
 ghost use Rattle.bundle_linked.specs.Linked.{IsLinkedOf};
@@ -94,6 +94,8 @@ impl<'a> Linker<'a> {
     pub fn module(&self, id: ModuleId) -> Option<&TransformedModule<'a>>
         ensures found { IfSome result (λ m. Contains self.now.modules.items m.now) }
         ensures absent { contains nat_eq self.now.linked.ids id ≡ false → IsNone result }
+        ensures at { (k : ℕ) → index_of_by (nat_eq id) self.now.linked.ids ≡ Some k →
+            option_map (λ m. m.now) result ≡ slice_get self.now.modules.items k }
     {
         self.modules.get(self.linked.ids.get_index_of(&id)?)
     }
