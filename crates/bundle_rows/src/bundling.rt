@@ -1,11 +1,12 @@
 //! Rows of the kind `bundler`: what two calls of one bundler answer for `document`, each with what its parties were
 //! asked, a file to load, a specifier to resolve, or a file whose properties of `import.meta` are wanted. `fails_at` is
 //! the number of the request that fails, from 1 on, for memory where `is_memory` is true. Where `is_noted` is true the
-//! loader hands in trees with contexts and notes, which must not show.
+//! loader hands in trees with contexts and notes, which must not show: a bundle with a note gives no text.
 
 use crate::documents::document_of;
 use crate::parties::{Shelf, Watch, WatchedHook};
 use anyhow::{Context, Result};
+use bundle_ast::{Decl, ModuleItem, Stmt};
 use bundle_bundler::{Bundle, Bundler};
 use bundle_document::{Document, MetaHook, bundles_text};
 use bundle_name::{Error, FileName};
@@ -75,11 +76,31 @@ fn answer_text(
     watch: &Watch,
 ) -> Result<String, Error> {
     let text = match answered {
-        Ok(bundles) => bundles_text(alloc, bundles.as_slice())?,
+        Ok(bundles) => clean_text(alloc, bundles.as_slice())?,
         Err(refusal) => shown(alloc, refusal)?,
     };
     let asked = watch.taken(alloc);
     Ok(format!(in alloc; "{text} after{asked}")?)
+}
+
+// The text of bundles, or a word where something is noted on a declaration at the top of one.
+fn clean_text(alloc: Global, bundles: &[Bundle]) -> Result<String, Error> {
+    for bundle in bundles {
+        if bundle.module.body.iter().any(has_notes) {
+            return Ok(String::from_str(alloc, "noted")?);
+        }
+    }
+    bundles_text(alloc, bundles)
+}
+
+// Whether something is noted on a declaration.
+fn has_notes(item: &ModuleItem) -> bool {
+    match item {
+        ModuleItem::Stmt(Stmt::Decl(Decl::VarDecl(decl))) => {
+            decl.meta.injected || decl.meta.export_ctxt.is_some()
+        }
+        _ => false,
+    }
 }
 
 fn shown(alloc: Global, refusal: Error) -> Result<String, AllocError> {

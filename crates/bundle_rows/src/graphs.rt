@@ -107,15 +107,38 @@ fn add_runs(text: &mut String, graph: &StmtDepGraph, from: usize, count: usize) 
 /// What is reached among modules, the order in which it is listed, the cycles, and requests.
 pub(crate) fn modules_text(alloc: Global, row: &Value) -> Result<String> {
     let ids = ids_in(alloc, number_under(row, "upto")?)?;
-    let graph = module_graph_of(alloc, list(row, "edges"), ids.as_slice())?;
-    let entry = id_in(ids.as_slice(), number_under(row, "entry")?)?;
-    let mut text = listed_text(alloc, &graph, entry)?;
-    for ask in list(row, "asks") {
-        let id = id_in(ids.as_slice(), number_at(ask, 0)?)?;
-        write!(text, ", {id} requests")?;
-        add_ids(&mut text, "", graph.deps_of(id))?;
-    }
+    modules_among(alloc, row, ids.as_slice())
+}
+
+fn modules_among(alloc: Global, row: &Value, ids: &[ModuleId]) -> Result<String> {
+    let graph = module_graph_of(alloc, list(row, "edges"), ids)?;
+    reached_text(alloc, row, ids, &graph)
+}
+
+fn reached_text(
+    alloc: Global,
+    row: &Value,
+    ids: &[ModuleId],
+    graph: &ModuleGraph,
+) -> Result<String> {
+    let entry = id_in(ids, number_under(row, "entry")?)?;
+    let mut text = listed_text(alloc, graph, entry)?;
+    add_requests(&mut text, graph, ids, list(row, "asks"))?;
     Ok(text)
+}
+
+fn add_requests(
+    text: &mut String,
+    graph: &ModuleGraph,
+    ids: &[ModuleId],
+    asks: &[Value],
+) -> Result<()> {
+    for ask in asks {
+        let id = id_in(ids, number_at(ask, 0)?)?;
+        write!(text, ", {id} requests")?;
+        add_ids(text, "", graph.deps_of(id))?;
+    }
+    Ok(())
 }
 
 // The id of a number.
