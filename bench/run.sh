@@ -10,14 +10,14 @@ copy=$(mktemp -d)
 trap 'rm -rf "$copy"' EXIT
 
 mkdir "$copy/crates"
-cp -r "$top/crates/bundle_id" "$top/crates/bundle_graph" "$bench/bench_graph" "$copy/crates/"
+cp -r "$top/crates/bundle_tree_names" "$top/crates/bundle_order_graph" "$bench/bench_graph" "$copy/crates/"
 # The gate takes no source that it does not prove, so these stand here under another name.
 for source in "$copy"/crates/bench_graph/src/*.rt.txt; do
     mv "$source" "${source%.txt}"
 done
 cp "$top/HANDLES" "$copy/"
 grep -E '^bundle_(id|graph)( |:)' "$top/crates.txt" > "$copy/crates.txt"
-echo 'bench_graph: bundle_id bundle_graph' >> "$copy/crates.txt"
+echo 'bench_graph: bundle_tree_names bundle_order_graph' >> "$copy/crates.txt"
 
 cd "$copy/crates/bench_graph"
 if ! rt run 2> "$copy/log"; then

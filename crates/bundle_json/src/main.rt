@@ -1,7 +1,7 @@
 //! Bundles the modules of a JSON document, from standard input to standard output.
 #![tactic(auto)]
 
-use bundle_document::{answer, read_document};
+use bundle_json_document::{answer, read_document};
 use std::io::Write;
 use std::process::ExitCode;
 

@@ -2,21 +2,21 @@
 use Rattle.std.proofs.Common.{◌≡◌, ℕ, List, Option, Some, None, refl, sym, ap, ◌∙◌, subst}
 use Rattle.std.specs.Prelude.{slice_get}
 use Rattle.std.proofs.lemmas.Option.{none-some, same_Some}
-use Rattle.bundle_name.specs.FileName.{name_of}
-use Rattle.bundle_name.specs.declared.config.Config.{Config}
-use Rattle.bundle_terms.specs.Nodes.{numbers_once}
-use Rattle.bundle_terms.specs.Program.{Program, file_of, tree_of}
-use Rattle.bundle_terms.specs.Tables.{IsChecked, IsFirstLinkFault}
-use Rattle.bundle_nodes.proofs.ModuleLemmas.{is-module-tree}
-use Rattle.bundle_nodes.proofs.PlaceLemmas.{no-tree}
-use Rattle.bundle_targets.specs.Meant.{AreModules, DeclaresDefaultOnce, IsModuleTree}
-use Rattle.bundle_targets.specs.Judged.{fault_says}
-use Rattle.bundle_targets.specs.declared.target.Fault.{Fault}
-use Rattle.bundle_linked.specs.Alike.{IsAt}
-use Rattle.bundle_linked.specs.Told.{IsFirstTold, IsTold}
-use Rattle.bundle_linked.specs.Leads.{place_in}
-use Rattle.bundle_linked.proofs.NumberLemmas.{at-place, once-same, place-there}
-use Rattle.bundle_linked.proofs.ProgramLemmas.{mapped}
+use Rattle.bundle_tree_names.specs.FileName.{name_of}
+use Rattle.bundle_tree_names.specs.declared.config.Config.{Config}
+use Rattle.bundle_rules.specs.Nodes.{numbers_once}
+use Rattle.bundle_rules.specs.Program.{Program, file_of, tree_of}
+use Rattle.bundle_rules.specs.Tables.{IsChecked, IsFirstLinkFault}
+use Rattle.bundle_link_reached.proofs.ModuleLemmas.{is-module-tree}
+use Rattle.bundle_link_reached.proofs.PlaceLemmas.{no-tree}
+use Rattle.bundle_link_targets.specs.Meant.{AreModules, DeclaresDefaultOnce, IsModuleTree}
+use Rattle.bundle_link_targets.specs.Judged.{fault_says}
+use Rattle.bundle_link_targets.specs.declared.target.Fault.{Fault}
+use Rattle.bundle_link_reached.specs.Alike.{IsAt}
+use Rattle.bundle_link_reached.specs.Told.{IsFirstTold, IsTold}
+use Rattle.bundle_link_reached.specs.Leads.{place_in}
+use Rattle.bundle_link_reached.proofs.NumberLemmas.{at-place, once-same, place-there}
+use Rattle.bundle_link_reached.proofs.ProgramLemmas.{mapped}
 use Rattle.bundle_link.specs.Programs.{AreModulesOf, IsLinkerOf, numbers}
 use Rattle.bundle_link.specs.declared.link.Linker.{Linker}
 use Rattle.bundle_link.specs.declared.transformed.TransformedModule.{TransformedModule}
@@ -45,7 +45,7 @@ are_modules p linker w once = record { trees = w.trees; once = once }
 module _ (p : Program) (linker : Linker) (w : IsLinkerOf p linker) where
   -- no fault is told: none is there
   pub none_checked : (told : Option Fault) → told ≡ None → IsTold p linker.linked.ids.keys linker.linked.list.items told → IsChecked p None
-  none_checked told none is = λ m stage place file f two reached its_file there.
+  none_checked told none is = λ m stage place file f two reached there.
       subst (IsTold p linker.linked.ids.keys linker.linked.list.items) none is m stage place file f two ((w.linked.reached m).1 reached) there
 
   module _ (told : Option Fault) (fault : Fault) (some : told ≡ Some fault) (is : IsTold p linker.linked.ids.keys linker.linked.list.items told) where

@@ -2,23 +2,23 @@
 use Rattle.std.proofs.Common.{◌≡◌, ℕ, true, List, Contains, map, sym, ap, ◌∙◌}
 use Rattle.std.specs.Prelude.{codes, filter, not}
 use Rattle.std.specs.List.{flat_map}
-use Rattle.bundle_name.specs.FileName.{Name}
-use Rattle.bundle_name.specs.declared.config.Config.{Config}
-use Rattle.bundle_piece.specs.Item.{Item}
-use Rattle.bundle_tables.specs.Sources.{told_external}
-use Rattle.bundle_tables.specs.declared.table.Tables.{Tables}
-use Rattle.bundle_terms.specs.Nodes.{Text, each_once}
-use Rattle.bundle_terms.specs.Entries.{ExportEntry, exports_of, is_named}
-use Rattle.bundle_terms.specs.Faults.{IsFaultless}
-use Rattle.bundle_terms.specs.Program.{Program, tree_of}
-use Rattle.bundle_terms.specs.Tables.{is_star, star_of}
-use Rattle.bundle_terms.specs.Cleared.{cleared}
-use Rattle.bundle_cleared.proofs.EntryLemmas.{imports_of-cleared, exports_of-cleared, declared_requests-cleared, asked_names-cleared}
-use Rattle.bundle_cleared.proofs.CallLemmas as calls
-use Rattle.bundle_cleared.proofs.CallLemmas.{has_free-cleared, linked_calls-cleared, is_script-cleared, awaits_outside-cleared}
-use Rattle.bundle_cleared.proofs.FaultLemmas as faults
-use Rattle.bundle_nodes.proofs.ClearedUses.{uses_of-cleared, uses_common_js-cleared}
-use Rattle.bundle_index.specs.Programs.{IsTableOf}
+use Rattle.bundle_tree_names.specs.FileName.{Name}
+use Rattle.bundle_tree_names.specs.declared.config.Config.{Config}
+use Rattle.bundle_tree_piece.specs.Item.{Item}
+use Rattle.bundle_link_tables.specs.Sources.{told_external}
+use Rattle.bundle_link_tables.specs.declared.table.Tables.{Tables}
+use Rattle.bundle_rules.specs.Nodes.{Text, each_once}
+use Rattle.bundle_rules.specs.Entries.{ExportEntry, exports_of, is_named}
+use Rattle.bundle_rules.specs.Faults.{IsFaultless}
+use Rattle.bundle_rules.specs.Program.{Program, tree_of}
+use Rattle.bundle_rules.specs.Tables.{is_star, star_of}
+use Rattle.bundle_rules.specs.Cleared.{cleared}
+use Rattle.bundle_rules.proofs.EntryLemmas.{imports_of-cleared, exports_of-cleared, declared_requests-cleared, asked_names-cleared}
+use Rattle.bundle_rules.proofs.CallLemmas as calls
+use Rattle.bundle_rules.proofs.CallLemmas.{has_free-cleared, linked_calls-cleared, is_script-cleared, awaits_outside-cleared}
+use Rattle.bundle_rules.proofs.FaultLemmas as faults
+use Rattle.bundle_link_reached.proofs.ClearedUses.{uses_of-cleared, uses_common_js-cleared}
+use Rattle.bundle_link_index.specs.Programs.{IsTableOf}
 use Rattle.bundle_link.specs.Read.{AreTablesOf}
 use Rattle.bundle_link.specs.Refusals.{Links}
 use Rattle.bundle_link.proofs.OnceLemmas.{each_once_of}

@@ -5,19 +5,19 @@ use Rattle.std.specs.List.{flat_map}
 use Rattle.std.specs.declared.alloc.Global.{Global}
 use Rattle.std.proofs.lemmas.Bool.{or_parts}
 use Rattle.std.proofs.lemmas.List.{map-append}
-use Rattle.bundle_name.specs.FileName.{Name}
-use Rattle.bundle_piece.specs.Item.{Item}
-use Rattle.bundle_terms.specs.Nodes.{Text, each_once, has_text}
-use Rattle.bundle_terms.specs.Faults.{IsFaultless}
-use Rattle.bundle_terms.specs.Tables.{is_star, star_of}
-use Rattle.bundle_terms.specs.Entries as e
-use Rattle.bundle_tables.specs.declared.table.Export.{Export}
-use Rattle.bundle_tables.specs.declared.table.Tables.{Tables}
-use Rattle.bundle_tables.specs.Judged.{doubled_name}
-use Rattle.bundle_tables.specs.TablesOf.{export_entry_of}
-use Rattle.bundle_tables.proofs.DoubledLemmas.{undoubled_next}
-use Rattle.bundle_tables.proofs.FaultLemmas.{doubled_filter, faultless_once}
-use Rattle.bundle_tables.proofs.LocalLemmas.{one_more}
+use Rattle.bundle_tree_names.specs.FileName.{Name}
+use Rattle.bundle_tree_piece.specs.Item.{Item}
+use Rattle.bundle_rules.specs.Nodes.{Text, each_once, has_text}
+use Rattle.bundle_rules.specs.Faults.{IsFaultless}
+use Rattle.bundle_rules.specs.Tables.{is_star, star_of}
+use Rattle.bundle_rules.specs.Entries as e
+use Rattle.bundle_link_tables.specs.declared.table.Export.{Export}
+use Rattle.bundle_link_tables.specs.declared.table.Tables.{Tables}
+use Rattle.bundle_link_tables.specs.Judged.{doubled_name}
+use Rattle.bundle_link_tables.specs.TablesOf.{export_entry_of}
+use Rattle.bundle_link_tables.proofs.DoubledLemmas.{undoubled_next}
+use Rattle.bundle_link_tables.proofs.FaultLemmas.{doubled_filter, faultless_once}
+use Rattle.bundle_link_tables.proofs.LocalLemmas.{one_more}
 use Rattle.bundle_link.specs.declared.tables.ExportEntry.{ExportEntry}
 use Rattle.bundle_link.specs.declared.tables.Exports.{Exports}
 use Rattle.bundle_link.specs.Owned.{entry_key, entry_says, export_says, exports_say}

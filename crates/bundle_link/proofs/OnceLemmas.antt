@@ -4,11 +4,11 @@ use Rattle.std.specs.Prelude.{slice_get}
 use Rattle.std.proofs.lemmas.Bool.{false≢true}
 use Rattle.std.proofs.lemmas.Option.{same_Some}
 use Rattle.std.proofs.lemmas.Slice.Eq.{bytes_eq-Decides}
-use Rattle.bundle_name.specs.FileName.{Name}
-use Rattle.bundle_piece.specs.Item.{Item}
-use Rattle.bundle_terms.specs.Nodes.{Text}
-use Rattle.bundle_terms.specs.Entries.{ExportEntry, Local, Indirect, Star, exports_of, is_named}
-use Rattle.bundle_terms.specs.Faults.{IsFaultless, doubled_export, DoubledExport, entry_name}
+use Rattle.bundle_tree_names.specs.FileName.{Name}
+use Rattle.bundle_tree_piece.specs.Item.{Item}
+use Rattle.bundle_rules.specs.Nodes.{Text}
+use Rattle.bundle_rules.specs.Entries.{ExportEntry, Local, Indirect, Star, exports_of, is_named}
+use Rattle.bundle_rules.specs.Faults.{IsFaultless, doubled_export, DoubledExport, entry_name}
 
 got : {A : Type 0} (xs : List A) (x : A) → Contains xs x → (i : ℕ) × (slice_get xs i ≡ Some x)
 got [] x (i, h, e) = absurd (omega arith)

@@ -3,29 +3,29 @@ use Rattle.std.proofs.Common.{◌≡◌, ℕ, Bool, List, Option, Some, None, Co
 use Rattle.std.specs.Prelude.{codes, filter, not, slice_get}
 use Rattle.std.specs.List.{AllZip, flat_map}
 use Rattle.std.proofs.lemmas.Option.{none-some, same_Some}
-use Rattle.bundle_name.specs.FileName.{Name, name_of}
-use Rattle.bundle_name.specs.declared.config.Config.{Config}
-use Rattle.bundle_piece.specs.Item.{Item}
-use Rattle.bundle_pieces.specs.Tree.{module_items}
-use Rattle.bundle_tables.specs.Sources.{told_external}
-use Rattle.bundle_tables.specs.TablesOf.{uses_common_js}
-use Rattle.bundle_tables.specs.Used.{uses_of}
-use Rattle.bundle_tables.specs.declared.table.Tables.{Tables}
-use Rattle.bundle_terms.specs.Awaits.{awaits_outside}
-use Rattle.bundle_terms.specs.Bound.{has_free, is_free}
-use Rattle.bundle_terms.specs.Entries.{declared_requests, exports_of, imports_of, is_script, linked_calls, requests_of}
-use Rattle.bundle_terms.specs.Nodes.{each_once}
-use Rattle.bundle_terms.specs.Program.{Program, tree_of}
-use Rattle.bundle_terms.specs.Faults.{asked_names}
-use Rattle.bundle_terms.specs.Tables.{is_star, star_of}
-use Rattle.bundle_index.specs.Numbered.{IsOnce}
-use Rattle.bundle_index.specs.Programs.{IsTableOf}
-use Rattle.bundle_index.specs.Said.{HasEachOnce}
-use Rattle.bundle_linked.specs.Leads.{led, place_in}
-use Rattle.bundle_linked.specs.Numbered as n
-use Rattle.bundle_linked.specs.declared.module.NumberedModule.{NumberedModule}
-use Rattle.bundle_linked.proofs.NumberLemmas.{at-place, place-there}
-use Rattle.bundle_linked.proofs.ProgramLemmas.{beside, led_beside, mapped, no_export, zip_left}
+use Rattle.bundle_tree_names.specs.FileName.{Name, name_of}
+use Rattle.bundle_tree_names.specs.declared.config.Config.{Config}
+use Rattle.bundle_tree_piece.specs.Item.{Item}
+use Rattle.bundle_tree_listed.specs.Tree.{module_items}
+use Rattle.bundle_link_tables.specs.Sources.{told_external}
+use Rattle.bundle_link_tables.specs.TablesOf.{uses_common_js}
+use Rattle.bundle_link_tables.specs.Used.{uses_of}
+use Rattle.bundle_link_tables.specs.declared.table.Tables.{Tables}
+use Rattle.bundle_rules.specs.Awaits.{awaits_outside}
+use Rattle.bundle_rules.specs.Bound.{has_free, is_free}
+use Rattle.bundle_rules.specs.Entries.{declared_requests, exports_of, imports_of, is_script, linked_calls, requests_of}
+use Rattle.bundle_rules.specs.Nodes.{each_once}
+use Rattle.bundle_rules.specs.Program.{Program, tree_of}
+use Rattle.bundle_rules.specs.Faults.{asked_names}
+use Rattle.bundle_rules.specs.Tables.{is_star, star_of}
+use Rattle.bundle_link_index.specs.Numbered.{IsOnce}
+use Rattle.bundle_link_index.specs.Programs.{IsTableOf}
+use Rattle.bundle_link_index.specs.Said.{HasEachOnce}
+use Rattle.bundle_link_reached.specs.Leads.{led, place_in}
+use Rattle.bundle_link_reached.specs.Numbered as n
+use Rattle.bundle_link_reached.specs.declared.module.NumberedModule.{NumberedModule}
+use Rattle.bundle_link_reached.proofs.NumberLemmas.{at-place, place-there}
+use Rattle.bundle_link_reached.proofs.ProgramLemmas.{beside, led_beside, mapped, no_export, zip_left}
 use Rattle.bundle_link.specs.Programs.{AreModulesOf, HasTables, numbers}
 use Rattle.bundle_link.specs.Read.{AreTablesOf}
 use Rattle.bundle_link.specs.Refusals.{Links}

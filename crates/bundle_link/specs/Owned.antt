@@ -1,8 +1,8 @@
 -- What the entries with texts of their own say, in the words of the definitions.
 use Rattle.std.specs.Prelude.{String, string_bytes, List, map}
 use Rattle.std.specs.declared.alloc.Global.{Global}
-use Rattle.bundle_terms.specs.Nodes.{Text}
-use Rattle.bundle_terms.specs.Entries as e
+use Rattle.bundle_rules.specs.Nodes.{Text}
+use Rattle.bundle_rules.specs.Entries as e
 use Rattle.bundle_link.specs.declared.tables.ImportName.{ImportName}
 use Rattle.bundle_link.specs.declared.tables.ImportName.TheVariants as n
 use Rattle.bundle_link.specs.declared.tables.Import.{Import}

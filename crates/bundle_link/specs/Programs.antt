@@ -1,18 +1,18 @@
 -- When modules that a linker is handed are those of a program.
 use Rattle.std.specs.Prelude.{◌≡◌, ℕ, Bool, true, false, List, [], Some, Contains, map, slice_get}
-use Rattle.bundle_name.specs.FileName.{name_of}
-use Rattle.bundle_name.specs.declared.config.Config.{Config}
-use Rattle.bundle_name.specs.declared.config.ModuleType.{ModuleType}
-use Rattle.bundle_name.specs.declared.config.ModuleType.TheVariants.{Es, Iife}
-use Rattle.bundle_pieces.specs.Tree.{module_items}
-use Rattle.bundle_tables.specs.declared.table.Tables.{Tables}
-use Rattle.bundle_terms.specs.Nodes.{Text}
-use Rattle.bundle_terms.specs.Program.{Program, file_of, tree_of}
-use Rattle.bundle_index.specs.Numbered.{IsOnce}
-use Rattle.bundle_linked.specs.Alike.{IsAt}
-use Rattle.bundle_linked.specs.Leads.{led}
-use Rattle.bundle_linked.specs.Linked.{IsLinkedOf}
-use Rattle.bundle_targets.specs.Meant.{IsModuleTree}
+use Rattle.bundle_tree_names.specs.FileName.{name_of}
+use Rattle.bundle_tree_names.specs.declared.config.Config.{Config}
+use Rattle.bundle_tree_names.specs.declared.config.ModuleType.{ModuleType}
+use Rattle.bundle_tree_names.specs.declared.config.ModuleType.TheVariants.{Es, Iife}
+use Rattle.bundle_tree_listed.specs.Tree.{module_items}
+use Rattle.bundle_link_tables.specs.declared.table.Tables.{Tables}
+use Rattle.bundle_rules.specs.Nodes.{Text}
+use Rattle.bundle_rules.specs.Program.{Program, file_of, tree_of}
+use Rattle.bundle_link_index.specs.Numbered.{IsOnce}
+use Rattle.bundle_link_reached.specs.Alike.{IsAt}
+use Rattle.bundle_link_reached.specs.Leads.{led}
+use Rattle.bundle_link_reached.specs.Linked.{IsLinkedOf}
+use Rattle.bundle_link_targets.specs.Meant.{IsModuleTree}
 use Rattle.bundle_link.specs.Read.{AreTablesOf}
 use Rattle.bundle_link.specs.Refusals.{Links}
 use Rattle.bundle_link.specs.declared.link.Linker.{Linker}

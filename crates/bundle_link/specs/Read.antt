@@ -1,19 +1,19 @@
 -- The tables of a module are those of its list.
 use Rattle.std.specs.Prelude.{◌≡◌, List, codes, filter, map, not}
 use Rattle.std.specs.List.{flat_map}
-use Rattle.bundle_name.specs.FileName.{Name}
-use Rattle.bundle_name.specs.declared.config.Config.{Config}
-use Rattle.bundle_piece.specs.Item.{Item}
-use Rattle.bundle_tables.specs.declared.table.Tables.{Tables}
-use Rattle.bundle_tables.specs.Sources.{asked, told_external}
-use Rattle.bundle_tables.specs.Used.{use_entry_of, uses_of}
-use Rattle.bundle_tables.specs.TablesOf.{asked_name_of, call_entry_of, export_entry_of, import_entry_of, uses_common_js}
-use Rattle.bundle_terms.specs.Awaits.{awaits_outside}
-use Rattle.bundle_terms.specs.Bound.{has_free, is_free}
-use Rattle.bundle_terms.specs.Entries.{Settings, declared_requests, exports_of, imports_of, is_script, linked_calls, requests_of}
-use Rattle.bundle_terms.specs.Faults.{IsFaultless, asked_names}
-use Rattle.bundle_terms.specs.Nodes.{each_once}
-use Rattle.bundle_terms.specs.Tables.{is_star, star_of}
+use Rattle.bundle_tree_names.specs.FileName.{Name}
+use Rattle.bundle_tree_names.specs.declared.config.Config.{Config}
+use Rattle.bundle_tree_piece.specs.Item.{Item}
+use Rattle.bundle_link_tables.specs.declared.table.Tables.{Tables}
+use Rattle.bundle_link_tables.specs.Sources.{asked, told_external}
+use Rattle.bundle_link_tables.specs.Used.{use_entry_of, uses_of}
+use Rattle.bundle_link_tables.specs.TablesOf.{asked_name_of, call_entry_of, export_entry_of, import_entry_of, uses_common_js}
+use Rattle.bundle_rules.specs.Awaits.{awaits_outside}
+use Rattle.bundle_rules.specs.Bound.{has_free, is_free}
+use Rattle.bundle_rules.specs.Entries.{Settings, declared_requests, exports_of, imports_of, is_script, linked_calls, requests_of}
+use Rattle.bundle_rules.specs.Faults.{IsFaultless, asked_names}
+use Rattle.bundle_rules.specs.Nodes.{each_once}
+use Rattle.bundle_rules.specs.Tables.{is_star, star_of}
 use Rattle.bundle_link.specs.Refusals.{Links}
 
 -- the tree has no fault, and these are its requests, imports, exports that have a name, stars, what it asks for and its literal calls; whether it is a script, uses a name of CommonJS, awaits outside functions, and uses `arguments` that nothing binds; the names that it asks of others, and where imported names are used, with the reads around each

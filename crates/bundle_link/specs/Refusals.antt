@@ -1,13 +1,13 @@
 -- Why the table of a module is not given, and why modules are not linked.
 use Rattle.std.specs.Prelude.{◌≡◌, ◌⊎◌, IfSome, List, Contains, map, string_bytes}
-use Rattle.bundle_name.specs.FileName.{Name, name_of}
-use Rattle.bundle_name.specs.declared.config.Config.{Config}
-use Rattle.bundle_name.specs.declared.error.Error.{Error}
-use Rattle.bundle_name.specs.declared.error.Error.TheVariants as e
-use Rattle.bundle_piece.specs.Item.{Item}
-use Rattle.bundle_pieces.specs.Tree.{module_items}
-use Rattle.bundle_terms.specs.Entries.{Settings}
-use Rattle.bundle_terms.specs.Faults.{fault_of, IsFirstTreeFault}
+use Rattle.bundle_tree_names.specs.FileName.{Name, name_of}
+use Rattle.bundle_tree_names.specs.declared.config.Config.{Config}
+use Rattle.bundle_tree_names.specs.declared.error.Error.{Error}
+use Rattle.bundle_tree_names.specs.declared.error.Error.TheVariants as e
+use Rattle.bundle_tree_piece.specs.Item.{Item}
+use Rattle.bundle_tree_listed.specs.Tree.{module_items}
+use Rattle.bundle_rules.specs.Entries.{Settings}
+use Rattle.bundle_rules.specs.Faults.{fault_of, IsFirstTreeFault}
 use Rattle.bundle_link.specs.declared.transformed.TransformedModule.{TransformedModule}
 
 -- the refusal is for memory, or tells of the first fault of the tree

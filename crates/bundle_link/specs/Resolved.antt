@@ -2,9 +2,9 @@
 use Rattle.std.specs.Prelude.{Option, Some, None, string_bytes}
 use Rattle.std.specs.declared.string.String.{String}
 use Rattle.std.specs.declared.alloc.Global.{Global}
-use Rattle.bundle_terms.specs.Entries as e
-use Rattle.bundle_terms.specs.Linking as l
-use Rattle.bundle_terms.specs.Tables as r
+use Rattle.bundle_rules.specs.Entries as e
+use Rattle.bundle_rules.specs.Linking as l
+use Rattle.bundle_rules.specs.Tables as r
 use Rattle.bundle_link.specs.declared.target.Target.{Target}
 use Rattle.bundle_link.specs.declared.target.Target.TheVariants as t
 use Rattle.bundle_link.specs.declared.target.Resolution.{Resolution}

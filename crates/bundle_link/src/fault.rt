@@ -1,15 +1,15 @@
 //! The refusal for each fault that stands in a tree or between modules.
 
 ghost use Rattle.std.specs.Prelude.{◌≡◌, IfOk, List, Contains};
-ghost use Rattle.bundle_name.specs.FileName.{Name, name_of};
-ghost use Rattle.bundle_tables.specs.TablesOf.{fault_in};
-ghost use Rattle.bundle_targets.specs.Judged.{fault_says};
-ghost use Rattle.bundle_terms.specs.Faults.{fault_of};
+ghost use Rattle.bundle_tree_names.specs.FileName.{Name, name_of};
+ghost use Rattle.bundle_link_tables.specs.TablesOf.{fault_in};
+ghost use Rattle.bundle_link_targets.specs.Judged.{fault_says};
+ghost use Rattle.bundle_rules.specs.Faults.{fault_of};
 ghost use Rattle.bundle_link.specs.Refusals.{IsLinkRefusal};
 
-use bundle_name::{Error, FileName};
-use bundle_tables::TreeFault;
-use bundle_targets::{Fault, FaultKind};
+use bundle_link_tables::TreeFault;
+use bundle_link_targets::{Fault, FaultKind};
+use bundle_tree_names::{Error, FileName};
 use std::alloc::{AllocError, Global};
 
 /// The refusal for a fault of the tree of a file.
@@ -18,7 +18,8 @@ pub(crate) fn tree_refusal<'a>(
     file: &FileName,
     fault: TreeFault<'a>,
 ) -> Result<Error, AllocError>
-    ensures { IfOk result (λ refusal. fault_of refusal ≡ Some (fault_in (name_of file.now) fault.entry)) }
+    ensures { IfOk result (λ refusal.
+        fault_of refusal ≡ Some (fault_in (name_of file.now) fault.entry)) }
 {
     let file = file.clone()?;
     Ok(match fault {
@@ -40,8 +41,10 @@ pub(crate) fn link_refusal<'a>(
     file: &FileName,
     fault: Fault<'a>,
 ) -> Result<Error, AllocError>
-    ensures named { IfOk result (λ refusal. (files : List Name) → Contains files (name_of file.now) → IsLinkRefusal files refusal) }
-    ensures told { IfOk result (λ refusal. fault_of refusal ≡ Some (fault_says (name_of file.now) fault.entry)) }
+    ensures named { IfOk result (λ refusal.
+        (files : List Name) → Contains files (name_of file.now) → IsLinkRefusal files refusal) }
+    ensures told { IfOk result (λ refusal.
+        fault_of refusal ≡ Some (fault_says (name_of file.now) fault.entry)) }
 {
     let file = file.clone()?;
     let name = String::from_str(alloc, fault.name)?;

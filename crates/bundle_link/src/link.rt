@@ -3,15 +3,15 @@
 ghost use Rattle.std.specs.Prelude.{◌≡◌, ℕ, Contains, IfErr, IfOk, IfSome, IsNone, MatchResult, None, Some, false, length, map, nat_eq, option_map, slice_get};
 ghost use Rattle.std.specs.List.{AllZip};
 ghost use Rattle.indexmap.specs.IndexSet.{contains, index_of_by};
-ghost use Rattle.bundle_name.specs.FileName.{name_of};
-ghost use Rattle.bundle_piece.specs.Item.{item_of};
-ghost use Rattle.bundle_linked.specs.Linked.{IsLinkedOf};
-ghost use Rattle.bundle_terms.specs.Program.{Program};
-ghost use Rattle.bundle_terms.specs.Tables.{IsChecked, IsResolution, TellsCommonJs, TellsMeant};
-ghost use Rattle.bundle_targets.specs.Meant.{DeclaresDefaultOnce};
+ghost use Rattle.bundle_tree_names.specs.FileName.{name_of};
+ghost use Rattle.bundle_tree_piece.specs.Item.{item_of};
+ghost use Rattle.bundle_link_reached.specs.Linked.{IsLinkedOf};
+ghost use Rattle.bundle_rules.specs.Program.{Program};
+ghost use Rattle.bundle_rules.specs.Tables.{IsChecked, IsResolution, TellsCommonJs, TellsMeant};
+ghost use Rattle.bundle_link_targets.specs.Meant.{DeclaresDefaultOnce};
 ghost use Rattle.bundle_link.specs.Checked.{TellsLinkFault};
 ghost use Rattle.bundle_link.specs.Programs.{AreModulesOf, HasTables, IsLinkerOf, is_call, numbers};
-ghost use Rattle.bundle_terms.specs.Nodes.{numbers_once};
+ghost use Rattle.bundle_rules.specs.Nodes.{numbers_once};
 ghost use Rattle.bundle_link.specs.Resolved.{resolution_says};
 ghost use Rattle.bundle_link.specs.Read.{AreTablesOf};
 ghost use Rattle.bundle_link.specs.Refusals.{IsLinkRefusal, IsRefusalOfOne, IsTreeRefusal, files_of};
@@ -21,13 +21,12 @@ use crate::tables::{read, read_list};
 use crate::target::resolution_of;
 pub use crate::target::{Resolution, Target};
 pub use crate::transformed::TransformedModule;
-use bundle_graph::graph::ModuleGraph;
-use bundle_id::ModuleId;
-use bundle_linked::{LinkedModules, NumberedModule};
-use bundle_name::{Config, Error, FileName, ModuleType};
-use bundle_piece::Piece;
-use bundle_tables::Tables;
-use bundle_targets::{LinkModule, Linking, Setting};
+use bundle_link_reached::{LinkedModules, NumberedModule};
+use bundle_link_tables::Tables;
+use bundle_link_targets::{LinkModule, Linking, Setting};
+use bundle_order_graph::graph::ModuleGraph;
+use bundle_tree_names::{Config, Error, FileName, ModuleId, ModuleType};
+use bundle_tree_piece::Piece;
 use std::alloc::{AllocError, Global};
 
 /// Tells what each name of the modules of a bundle stands for, which of the modules are CommonJS, and what is wrong
@@ -104,7 +103,8 @@ impl<'a> Linker<'a> {
     /// where memory runs out.
     pub fn tables_of<'x>(&self, file: &FileName, pieces: &[Piece<'x>]) -> Result<Tables<'x>, Error>
         ensures refused { IfErr result (IsTreeRefusal (name_of file.now) (map item_of pieces.now)) }
-        ensures given { IfOk result (AreTablesOf self.now.config (name_of file.now) (map item_of pieces.now)) }
+        ensures given { IfOk result
+            (AreTablesOf self.now.config (name_of file.now) (map item_of pieces.now)) }
     {
         read_list(self.alloc, file, pieces, &self.config)
     }
@@ -128,7 +128,8 @@ impl<'a> Linker<'a> {
     pub fn resolve_export(&self, id: ModuleId, name: &str) -> Result<Resolution, AllocError>
         ensures found { IfOk result (λ resolution. (p : Program) → IsLinkerOf p self.now →
             IsResolution p id name.now (resolution_says resolution)) }
-        ensures absent { contains nat_eq self.now.linked.ids id ≡ false → IfOk result (λ resolution. resolution ≡ Resolution.None) }
+        ensures absent { contains nat_eq self.now.linked.ids id ≡ false →
+            IfOk result (λ resolution. resolution ≡ Resolution.None) }
     {
         let found = self.linked.resolve(id, name)?;
         resolution_of(self.alloc, &self.linked.ids, found)
@@ -235,7 +236,8 @@ fn tables_of_all<'a>(
     modules: &[TransformedModule<'a>],
     config: &Config,
 ) -> Result<Vec<Tables<'a>>, Error>
-    ensures given { IfOk result (λ tables. AllZip (HasTables config.now) modules.now tables.items) }
+    ensures given { IfOk result (λ tables.
+        AllZip (HasTables config.now) modules.now tables.items) }
     ensures refused { IfErr result (IsRefusalOfOne modules.now) }
 {
     let mut tables = Vec::new(alloc);

@@ -4,26 +4,26 @@
 //! exported twice, an exported name that the module's top does not bind, a `with` statement.
 
 ghost use Rattle.std.specs.Prelude.{◌≡◌, ◌++◌, ◌∷◌, [], IfOk, IfErr, OnOk, None, false, map, string_bytes};
-ghost use Rattle.bundle_name.specs.FileName.{name_of};
-ghost use Rattle.bundle_piece.specs.Item.{item_of};
-ghost use Rattle.bundle_pieces.specs.Tree.{module_items};
-ghost use Rattle.bundle_tables.specs.Judged.{doubled_name};
-ghost use Rattle.bundle_tables.specs.TablesOf.{entry_by_origin, export_entry_of, import_entry_of, taken_of};
-ghost use Rattle.bundle_terms.specs.Entries.{Settings};
-ghost use Rattle.bundle_terms.specs.Nodes.{has_text, Text};
-ghost use Rattle.bundle_terms.specs.Tables as t;
-ghost use Rattle.bundle_terms.specs.Tables.{IsExportTable, IsImportTable, IsRequestTable};
+ghost use Rattle.bundle_tree_names.specs.FileName.{name_of};
+ghost use Rattle.bundle_tree_piece.specs.Item.{item_of};
+ghost use Rattle.bundle_tree_listed.specs.Tree.{module_items};
+ghost use Rattle.bundle_link_tables.specs.Judged.{doubled_name};
+ghost use Rattle.bundle_link_tables.specs.TablesOf.{entry_by_origin, export_entry_of, import_entry_of, taken_of};
+ghost use Rattle.bundle_rules.specs.Entries.{Settings};
+ghost use Rattle.bundle_rules.specs.Nodes.{has_text, Text};
+ghost use Rattle.bundle_rules.specs.Tables as t;
+ghost use Rattle.bundle_rules.specs.Tables.{IsExportTable, IsImportTable, IsRequestTable};
 ghost use Rattle.bundle_link.specs.Owned.{entry_key, entry_says, export_says, exports_say, import_says, name_says};
 ghost use Rattle.bundle_link.specs.Read.{AreTablesOf};
 ghost use Rattle.bundle_link.specs.Refusals.{IsTreeRefusal, Links};
 
 use crate::fault::tree_refusal;
-use bundle_ast::Module;
-use bundle_denote::{ModuleKind, Reading, denotations};
-use bundle_listing::pieces_of_module;
-use bundle_name::{Config, Error, FileName};
-use bundle_piece::Piece;
-use bundle_tables::{Export, Import as Read, Origin, Tables, Taken, tables_of};
+use bundle_link_tables::{Export, Import as Read, Origin, Tables, Taken, tables_of};
+use bundle_scope_denote::{ModuleKind, Reading, denotations};
+use bundle_tree_ast::Module;
+use bundle_tree_list::pieces_of_module;
+use bundle_tree_names::{Config, Error, FileName};
+use bundle_tree_piece::Piece;
 use indexmap::IndexMap;
 use std::alloc::{AllocError, Global};
 
@@ -69,9 +69,13 @@ pub fn requests_of(
     module: &Module,
     config: &Config,
 ) -> Result<Vec<String>, Error>
-    ensures refused { IfErr result (IsTreeRefusal (name_of file.now) (module_items 0 «module».now)) }
-    ensures given { IfOk result (λ requests. (settings : Settings) → Links config.now settings →
-        IsRequestTable settings (name_of file.now) (module_items 0 «module».now) (t.Given (map (λ text. string_bytes text) requests.items))) }
+    ensures refused { IfErr result
+        (IsTreeRefusal (name_of file.now) (module_items 0 «module».now)) }
+    ensures given { IfOk result (λ requests.
+        (settings : Settings) →
+        Links config.now settings →
+        IsRequestTable settings (name_of file.now) (module_items 0 «module».now)
+        (t.Given (map (λ text. string_bytes text) requests.items))) }
 {
     let tables = read(alloc, file, module, config)?;
     Ok(owned_texts(alloc, &tables.requests)?)
@@ -84,9 +88,11 @@ pub fn imports_of(
     module: &Module,
     config: &Config,
 ) -> Result<Vec<Import>, Error>
-    ensures refused { IfErr result (IsTreeRefusal (name_of file.now) (module_items 0 «module».now)) }
+    ensures refused { IfErr result
+        (IsTreeRefusal (name_of file.now) (module_items 0 «module».now)) }
     ensures given { IfOk result (λ imports.
-        IsImportTable (name_of file.now) (module_items 0 «module».now) (t.Given (map import_says imports.items))) }
+        IsImportTable (name_of file.now) (module_items 0 «module».now)
+        (t.Given (map import_says imports.items))) }
 {
     let tables = read(alloc, file, module, config)?;
     Ok(owned_imports(alloc, &tables.imports)?)
@@ -99,9 +105,11 @@ pub fn exports_of(
     module: &Module,
     config: &Config,
 ) -> Result<Exports, Error>
-    ensures refused { IfErr result (IsTreeRefusal (name_of file.now) (module_items 0 «module».now)) }
+    ensures refused { IfErr result
+        (IsTreeRefusal (name_of file.now) (module_items 0 «module».now)) }
     ensures given { IfOk result (λ exports.
-        IsExportTable (name_of file.now) (module_items 0 «module».now) (t.Given (exports_say exports))) }
+        IsExportTable (name_of file.now) (module_items 0 «module».now)
+        (t.Given (exports_say exports))) }
 {
     let tables = read(alloc, file, module, config)?;
     Ok(owned_exports(alloc, &tables)?)
@@ -114,8 +122,10 @@ pub(crate) fn read<'a>(
     module: &'a Module,
     config: &Config,
 ) -> Result<Tables<'a>, Error>
-    ensures refused { IfErr result (IsTreeRefusal (name_of file.now) (module_items 0 «module».now)) }
-    ensures given { IfOk result (AreTablesOf config.now (name_of file.now) (module_items 0 «module».now)) }
+    ensures refused { IfErr result
+        (IsTreeRefusal (name_of file.now) (module_items 0 «module».now)) }
+    ensures given { IfOk result
+        (AreTablesOf config.now (name_of file.now) (module_items 0 «module».now)) }
 {
     let pieces = pieces_of_module(alloc, module)?;
     read_list(alloc, file, &pieces, config)
@@ -129,7 +139,8 @@ pub(crate) fn read_list<'a>(
     config: &Config,
 ) -> Result<Tables<'a>, Error>
     ensures refused { IfErr result (IsTreeRefusal (name_of file.now) (map item_of pieces.now)) }
-    ensures given { IfOk result (AreTablesOf config.now (name_of file.now) (map item_of pieces.now)) }
+    ensures given { IfOk result
+        (AreTablesOf config.now (name_of file.now) (map item_of pieces.now)) }
 {
     let names = denotations(alloc, pieces, ModuleKind::Es, Reading::BySymbol)?;
     let answer = tables_of(
@@ -147,7 +158,8 @@ pub(crate) fn read_list<'a>(
 
 // The texts, each as a text of its own.
 fn owned_texts<'a>(alloc: Global, texts: &[&'a str]) -> Result<Vec<String>, AllocError>
-    ensures { IfOk result (λ owned. map (λ text. string_bytes text) owned.items ≡ map (λ text. text.now) texts.now) }
+    ensures { IfOk result (λ owned.
+        map (λ text. string_bytes text) owned.items ≡ map (λ text. text.now) texts.now) }
 {
     let mut owned = Vec::new(alloc);
     for text in texts {
@@ -158,7 +170,8 @@ fn owned_texts<'a>(alloc: Global, texts: &[&'a str]) -> Result<Vec<String>, Allo
 
 // The imports, with texts of their own.
 fn owned_imports<'a>(alloc: Global, imports: &[Read<'a>]) -> Result<Vec<Import>, AllocError>
-    ensures { IfOk result (λ owned. map import_says owned.items ≡ map import_entry_of imports.now) }
+    ensures { IfOk result (λ owned.
+        map import_says owned.items ≡ map import_entry_of imports.now) }
 {
     let mut owned = Vec::new(alloc);
     for import in imports {
@@ -188,10 +201,12 @@ fn import_name<'a>(alloc: Global, taken: Taken<'a>) -> Result<ImportName, AllocE
 
 // The exports, with texts of their own.
 fn owned_exports<'a>(alloc: Global, tables: &Tables<'a>) -> Result<Exports, AllocError>
-    ensures items { IfOk result (λ owned. doubled_name [] (map export_entry_of tables.now.exports.items) ≡ None →
+    ensures items { IfOk result (λ owned.
+        doubled_name [] (map export_entry_of tables.now.exports.items) ≡ None →
         map entry_says owned.items.entries ≡ map export_entry_of tables.now.exports.items) }
     ensures stars { IfOk result (λ owned.
-        map (λ text. string_bytes text) owned.stars.items ≡ map (λ text. text.now) tables.now.stars.items) }
+        map (λ text. string_bytes text) owned.stars.items
+        ≡ map (λ text. text.now) tables.now.stars.items) }
 {
     let items = owned_items(alloc, &tables.exports)?;
     let stars = owned_texts(alloc, &tables.stars)?;
@@ -220,8 +235,11 @@ fn add_item<'a>(
     export: Export<'a>,
 ) -> Result<(), AllocError>
     ensures { has_text export.entry.name.now (map entry_key items.old.entries) ≡ false →
-        OnOk result ((map entry_key items.new.entries ≡ map entry_key items.old.entries ++ export.entry.name.now ∷ [])
-        × (map entry_says items.new.entries ≡ map entry_says items.old.entries ++ export_entry_of export.entry ∷ [])) }
+        OnOk result
+        ((map entry_key items.new.entries
+        ≡ map entry_key items.old.entries ++ export.entry.name.now ∷ [])
+        × (map entry_says items.new.entries
+        ≡ map entry_says items.old.entries ++ export_entry_of export.entry ∷ [])) }
 {
     let name = String::from_str(alloc, export.name)?;
     let entry = export_entry(alloc, export.origin)?;
@@ -230,7 +248,8 @@ fn add_item<'a>(
 }
 
 fn export_entry<'a>(alloc: Global, origin: Origin<'a>) -> Result<ExportEntry, AllocError>
-    ensures { IfOk result (λ entry. (name : Text) → export_says name entry ≡ entry_by_origin name origin.entry) }
+    ensures { IfOk result (λ entry.
+        (name : Text) → export_says name entry ≡ entry_by_origin name origin.entry) }
 {
     Ok(match origin {
         Origin::Local { name } => ExportEntry::Local(String::from_str(alloc, name)?),

@@ -1,14 +1,14 @@
 //! What the names that modules export stand for, with the numbers of modules and texts of their own.
 
 ghost use Rattle.std.specs.Prelude.{◌≡◌, IfOk, option_map, slice_get};
-ghost use Rattle.bundle_terms.specs.Linking.{Declared};
-ghost use Rattle.bundle_tables.specs.TablesOf.{taken_of};
-ghost use Rattle.bundle_linked.specs.Resolved.{common_js, one, resolution_read, target_read, two};
+ghost use Rattle.bundle_rules.specs.Linking.{Declared};
+ghost use Rattle.bundle_link_tables.specs.TablesOf.{taken_of};
+ghost use Rattle.bundle_link_reached.specs.Resolved.{common_js, one, resolution_read, target_read, two};
 ghost use Rattle.bundle_link.specs.Resolved.{resolution_says, taken_says, target_says};
 
-use bundle_id::ModuleId;
-use bundle_tables::Taken;
-use bundle_targets as places;
+use bundle_link_tables::Taken;
+use bundle_link_targets as places;
+use bundle_tree_names::ModuleId;
 use indexmap::IndexSet;
 use std::alloc::{AllocError, Global};
 
@@ -45,7 +45,8 @@ pub(crate) fn resolution_of<'a>(
     ids: &IndexSet<ModuleId>,
     found: places::Resolution<'a>,
 ) -> Result<Resolution, AllocError>
-    ensures { IfOk result (λ resolution. resolution_says resolution ≡ resolution_read ids.now.keys found.entry) }
+    ensures { IfOk result (λ resolution.
+        resolution_says resolution ≡ resolution_read ids.now.keys found.entry) }
 {
     match found {
         places::Resolution::One(target) => one_target(alloc, ids, target),
@@ -60,7 +61,8 @@ fn one_target<'a>(
     ids: &IndexSet<ModuleId>,
     target: places::Target<'a>,
 ) -> Result<Resolution, AllocError>
-    ensures { IfOk result (λ resolution. resolution_says resolution ≡ one (target_read ids.now.keys target.entry)) }
+    ensures { IfOk result (λ resolution.
+        resolution_says resolution ≡ one (target_read ids.now.keys target.entry)) }
 {
     Ok(match target_of(alloc, ids, target)? {
         Some(target) => Resolution::One(target),
@@ -74,7 +76,9 @@ fn two_targets<'a>(
     first: places::Target<'a>,
     second: places::Target<'a>,
 ) -> Result<Resolution, AllocError>
-    ensures { IfOk result (λ resolution. resolution_says resolution ≡ two (target_read ids.now.keys first.entry) (target_read ids.now.keys second.entry)) }
+    ensures { IfOk result (λ resolution.
+        resolution_says resolution
+        ≡ two (target_read ids.now.keys first.entry) (target_read ids.now.keys second.entry)) }
 {
     let first = target_of(alloc, ids, first)?;
     let second = target_of(alloc, ids, second)?;
@@ -90,7 +94,8 @@ fn target_of<'a>(
     ids: &IndexSet<ModuleId>,
     target: places::Target<'a>,
 ) -> Result<Option<Target>, AllocError>
-    ensures { IfOk result (λ answer. option_map target_says answer ≡ target_read ids.now.keys target.entry) }
+    ensures { IfOk result (λ answer.
+        option_map target_says answer ≡ target_read ids.now.keys target.entry) }
 {
     match target {
         places::Target::Declared { module, name } => declared(alloc, id_at(ids, module), name),
@@ -112,7 +117,8 @@ fn target_of<'a>(
 }
 
 fn declared(alloc: Global, id: Option<ModuleId>, name: &str) -> Result<Option<Target>, AllocError>
-    ensures { IfOk result (λ answer. option_map target_says answer ≡ option_map (λ n. Declared n name.now) id) }
+    ensures { IfOk result (λ answer.
+        option_map target_says answer ≡ option_map (λ n. Declared n name.now) id) }
 {
     Ok(match id {
         Some(id) => Some(Target::Decl(id, String::from_str(alloc, name)?)),
@@ -126,7 +132,8 @@ fn common_js_of<'a>(
     id: Option<ModuleId>,
     taken: Taken<'a>,
 ) -> Result<Option<Target>, AllocError>
-    ensures { IfOk result (λ answer. option_map target_says answer ≡ common_js taker id (taken_of taken.entry)) }
+    ensures { IfOk result (λ answer.
+        option_map target_says answer ≡ common_js taker id (taken_of taken.entry)) }
 {
     Ok(match (taker, id) {
         (Some(taker), Some(id)) => Some(Target::Cjs(taker, id, name_in(alloc, taken)?)),

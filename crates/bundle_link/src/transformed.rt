@@ -2,9 +2,8 @@
 
 ghost use Rattle.std.specs.Prelude.{◌≡◌};
 
-use bundle_ast::Module;
-use bundle_id::{ModuleId, SyntaxContext};
-use bundle_name::FileName;
+use bundle_tree_ast::Module;
+use bundle_tree_names::{FileName, ModuleId, SyntaxContext};
 
 /// A module of a bundle: its file, its number, the contexts of the names of its top and of its exports, its tree, and
 /// the number of the module to which each of its requests leads.

@@ -1,1 +1,4 @@
 pub mod Owned
+pub mod Composed
+pub mod Idents
+pub mod Renamings

@@ -1,7 +1,7 @@
 -- What the marks and the occurrences stand for.
-use Rattle.bundle_terms.specs.Rebuilds.{TreeMark, Ends, Occurs, Listed}
-use Rattle.bundle_lists.specs.Marks.{begin_of}
-use Rattle.bundle_renaming.specs.Idents.{ident_named}
+use Rattle.bundle_rules.specs.Rebuilds.{TreeMark, Ends, Occurs, Listed}
+use Rattle.bundle_tree_places.specs.Marks.{begin_of}
+use Rattle.bundle_marks.specs.Idents.{ident_named}
 use Rattle.bundle_marks.specs.declared.items.Occurrence.{Occurrence}
 use Rattle.bundle_marks.specs.declared.items.Mark.{Mark}
 use Rattle.bundle_marks.specs.declared.items.Mark.TheVariants as m

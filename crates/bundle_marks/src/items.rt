@@ -2,17 +2,18 @@
 
 ghost use Rattle.std.specs.Prelude.{◌≡◌, IfOk, map};
 ghost use Rattle.std.specs.List.{flat_map};
-ghost use Rattle.bundle_pieces.specs.Tree.{module_item_items};
-ghost use Rattle.bundle_terms.specs.Rebuilds.{listed, marks_of as marks_of_lem};
-ghost use Rattle.bundle_lists.specs.Marks.{listed_of as lent_as, mark_of as lent_mark};
+ghost use Rattle.bundle_tree_listed.specs.Tree.{module_item_items};
+ghost use Rattle.bundle_rules.specs.Rebuilds as rebuilds;
+ghost use Rattle.bundle_rules.specs.Rebuilds.{listed};
+ghost use Rattle.bundle_tree_places.specs.Marks.{listed_of as lent_as, mark_of as lent_mark};
 ghost use Rattle.bundle_marks.specs.Owned.{listed_of, mark_of};
 
-use bundle_ast::ModuleItem;
-use bundle_id::SyntaxContext;
-use bundle_listing::pieces;
-use bundle_lists as lent;
-use bundle_lists::{Node, marks_of, occurrences_of};
 use bundle_tree::Id;
+use bundle_tree_ast::ModuleItem;
+use bundle_tree_list::pieces;
+use bundle_tree_names::SyntaxContext;
+use bundle_tree_places as lent;
+use bundle_tree_places::{Node, marks_of, occurrences_of};
 use std::alloc::{AllocError, Global};
 
 /// An identifier that binds a name or refers to one.
@@ -37,7 +38,8 @@ pub enum Mark<'a> {
 /// The marks of the items of a module, in their order: where each node begins and ends, and the identifiers
 /// that bind or refer. The items stand in field 0, as in a `Module`. Refused only where memory runs out.
 pub fn marks<'a>(alloc: Global, items: &'a [ModuleItem]) -> Result<Vec<Mark<'a>>, AllocError>
-    ensures { IfOk result (λ marks. map mark_of marks.items ≡ marks_of_lem (flat_map (module_item_items 0) items.now)) }
+    ensures { IfOk result (λ marks.
+        map mark_of marks.items ≡ rebuilds.marks_of (flat_map (module_item_items 0) items.now)) }
 {
     let marks = lent_marks(alloc, items)?;
     own_marks(alloc, &marks)
@@ -46,7 +48,8 @@ pub fn marks<'a>(alloc: Global, items: &'a [ModuleItem]) -> Result<Vec<Mark<'a>>
 /// The identifiers that bind or refer in the items of a module, in their order (ECMA-262, 8.2). Refused only
 /// where memory runs out.
 pub fn occurrences(alloc: Global, items: &[ModuleItem]) -> Result<Vec<Occurrence>, AllocError>
-    ensures { IfOk result (λ occurrences. map listed_of occurrences.items ≡ listed (flat_map (module_item_items 0) items.now)) }
+    ensures { IfOk result (λ occurrences.
+        map listed_of occurrences.items ≡ listed (flat_map (module_item_items 0) items.now)) }
 {
     let occurrences = lent_occurrences(alloc, items)?;
     own_occurrences(alloc, &occurrences)
@@ -54,7 +57,9 @@ pub fn occurrences(alloc: Global, items: &[ModuleItem]) -> Result<Vec<Occurrence
 
 // The marks of the items, with texts that are lent from them.
 fn lent_marks<'a>(alloc: Global, items: &'a [ModuleItem]) -> Result<Vec<lent::Mark<'a>>, AllocError>
-    ensures { IfOk result (λ marks. map lent_mark marks.items ≡ marks_of_lem (flat_map (module_item_items 0) items.now)) }
+    ensures { IfOk result (λ marks.
+        map lent_mark marks.items
+        ≡ rebuilds.marks_of (flat_map (module_item_items 0) items.now)) }
 {
     let list = pieces(alloc, items)?;
     marks_of(alloc, list.as_slice())
@@ -65,7 +70,8 @@ pub(crate) fn lent_occurrences<'a>(
     alloc: Global,
     items: &'a [ModuleItem],
 ) -> Result<Vec<lent::Occurrence<'a>>, AllocError>
-    ensures { IfOk result (λ occurrences. map lent_as occurrences.items ≡ listed (flat_map (module_item_items 0) items.now)) }
+    ensures { IfOk result (λ occurrences.
+        map lent_as occurrences.items ≡ listed (flat_map (module_item_items 0) items.now)) }
 {
     let list = pieces(alloc, items)?;
     occurrences_of(alloc, list.as_slice())

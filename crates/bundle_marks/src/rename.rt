@@ -4,18 +4,19 @@
 ghost use Rattle.std.specs.Prelude.{◌≡◌, IfOk, map, unwrap_or};
 ghost use Rattle.std.specs.List.{flat_map};
 ghost use Rattle.std.specs.Map.{lookup};
-ghost use Rattle.bundle_pieces.specs.Tree.{module_item_items};
-ghost use Rattle.bundle_terms.specs.Rebuilds.{becomes_by, change_to as change_to_lem, changes_to, ident_eq, renamed_by, with_idents as with_idents_lem};
-ghost use Rattle.bundle_lists.specs.Changes.{change_of};
-ghost use Rattle.bundle_lists.specs.Marks.{ident_of};
-ghost use Rattle.bundle_renaming.specs.Idents.{ident_in, ident_named, pair_named};
+ghost use Rattle.bundle_tree_listed.specs.Tree.{module_item_items};
+ghost use Rattle.bundle_rules.specs.Rebuilds as rebuilds;
+ghost use Rattle.bundle_rules.specs.Rebuilds.{becomes_by, changes_to, ident_eq, renamed_by};
+ghost use Rattle.bundle_tree_places.specs.Changes.{change_of};
+ghost use Rattle.bundle_tree_places.specs.Marks.{ident_of};
+ghost use Rattle.bundle_marks.specs.Idents.{ident_in, ident_named, pair_named};
 
 use crate::items::lent_occurrences;
-use bundle_ast::{Ident, ModuleItem};
-use bundle_id::SyntaxContext;
-use bundle_lists::{Change, Name, Occurrence};
-use bundle_rewrite::rebuild_items;
 use bundle_tree::Id;
+use bundle_tree_ast::{Ident, ModuleItem};
+use bundle_tree_names::SyntaxContext;
+use bundle_tree_places::{Change, Name, Occurrence};
+use bundle_tree_rewrite::rebuild_items;
 use std::alloc::{AllocError, Global};
 use std::collections::BTreeMap;
 
@@ -28,7 +29,10 @@ pub fn with_idents(
     items: &[ModuleItem],
     idents: &[Ident],
 ) -> Result<Vec<ModuleItem>, AllocError>
-    ensures { IfOk result (λ made. flat_map (module_item_items 0) made.items ≡ with_idents_lem (flat_map (module_item_items 0) items.now) (map ident_in idents.now)) }
+    ensures { IfOk result (λ made.
+        flat_map (module_item_items 0) made.items
+        ≡ rebuilds.with_idents (flat_map (module_item_items 0) items.now)
+        (map ident_in idents.now)) }
 {
     let listed = lent_occurrences(alloc, items)?;
     let changes = changes_between(alloc, &listed, idents)?;
@@ -43,7 +47,10 @@ pub fn rename_ids<'a>(
     items: &'a [ModuleItem],
     renaming: &'a BTreeMap<Id, Id>,
 ) -> Result<Vec<ModuleItem>, AllocError>
-    ensures { IfOk result (λ made. flat_map (module_item_items 0) made.items ≡ renamed_by (map pair_named renaming.now.entries) (flat_map (module_item_items 0) items.now)) }
+    ensures { IfOk result (λ made.
+        flat_map (module_item_items 0) made.items
+        ≡ renamed_by (map pair_named renaming.now.entries)
+        (flat_map (module_item_items 0) items.now)) }
 {
     let listed = lent_occurrences(alloc, items)?;
     let changes = changes_by(alloc, &listed, renaming)?;
@@ -56,7 +63,9 @@ fn changes_between<'a, 'b>(
     listed: &[Occurrence<'a>],
     idents: &'b [Ident],
 ) -> Result<Vec<Change<'b>>, AllocError>
-    ensures { IfOk result (λ changes. map change_of changes.items ≡ changes_to (map (λ o. ident_of o.id) listed.now) (map ident_in idents.now)) }
+    ensures { IfOk result (λ changes.
+        map change_of changes.items
+        ≡ changes_to (map (λ o. ident_of o.id) listed.now) (map ident_in idents.now)) }
 {
     let mut changes = Vec::new(alloc);
     for (old, new) in listed.iter().zip(idents) {
@@ -78,7 +87,13 @@ fn changes_by<'a>(
     listed: &[Occurrence<'a>],
     renaming: &'a BTreeMap<Id, Id>,
 ) -> Result<Vec<Change<'a>>, AllocError>
-    ensures { IfOk result (λ changes. map change_of changes.items ≡ map (λ o. change_to_lem (ident_of o.id) (becomes_by (map pair_named renaming.now.entries) (ident_of o.id))) listed.now) }
+    ensures { IfOk result (λ changes.
+        map change_of changes.items
+        ≡ map
+        (λ o.
+        rebuilds.change_to (ident_of o.id)
+        (becomes_by (map pair_named renaming.now.entries) (ident_of o.id)))
+        listed.now) }
 {
     let mut changes = Vec::new(alloc);
     let mut text = String::new(alloc);
@@ -99,7 +114,9 @@ fn changes_by<'a>(
 
 // What the identifier of this name becomes.
 fn becomes<'a>(renaming: &'a BTreeMap<Id, Id>, id: &Id, ident: Name<'a>) -> Name<'a>
-    ensures { ident_of result ≡ unwrap_or (lookup (ident_eq (ident_named id.now)) (map pair_named renaming.now.entries)) (ident_of ident.entry) }
+    ensures { ident_of result
+        ≡ unwrap_or (lookup (ident_eq (ident_named id.now)) (map pair_named renaming.now.entries))
+        (ident_of ident.entry) }
 {
     match renaming.get(id) {
         Some(new) => Name {

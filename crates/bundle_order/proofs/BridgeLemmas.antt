@@ -3,16 +3,16 @@ use Rattle.std.proofs.Common.{◌≡◌, ◌↔◌, Bool, true, false, cond, ℕ
 use Rattle.std.specs.Option.{option_map}
 use Rattle.std.proofs.lemmas.Option.{none-some, same_Some, slice_get-map}
 use Rattle.std.proofs.lemmas.List.{length-map}
-use Rattle.bundle_graph.specs.Walks.{Path}
-use Rattle.bundle_graph.proofs.WalkLemmas.{Path-mono}
-use Rattle.bundle_sort.specs.declared.SortItem.{SortItem}
-use Rattle.bundle_sort.specs.Numbers as n
-use Rattle.bundle_sort.specs.Items as i
-use Rattle.bundle_sort.specs.Items.{Names, to_need, to_earlier}
-use Rattle.bundle_terms.specs.Order as o
-use Rattle.bundle_terms.specs.Order.{Group, IsStrong, IsWeak, by_need, by_own_order}
-use Rattle.bundle_mentions.specs.Found.{AreFound}
-use Rattle.bundle_needs.specs.Cut.{dependencies_of}
+use Rattle.bundle_order_graph.specs.Walks.{Path}
+use Rattle.bundle_order_graph.proofs.WalkLemmas.{Path-mono}
+use Rattle.bundle_order_sort.specs.declared.SortItem.{SortItem}
+use Rattle.bundle_order_sort.specs.Numbers as n
+use Rattle.bundle_order_sort.specs.Items as i
+use Rattle.bundle_order_sort.specs.Items.{Names, to_need, to_earlier}
+use Rattle.bundle_rules.specs.Order as o
+use Rattle.bundle_rules.specs.Order.{Group, IsStrong, IsWeak, by_need, by_own_order}
+use Rattle.bundle_order_needs.specs.Found.{AreFound}
+use Rattle.bundle_order_needs.specs.Cut.{dependencies_of}
 use Rattle.bundle_order.specs.Owned.{AreTogether, owner_of}
 use Rattle.bundle_order.proofs.FoundLemmas.{has, Depends-forth, Depends-back}
 

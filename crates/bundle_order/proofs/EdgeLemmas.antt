@@ -3,13 +3,13 @@ use Rattle.std.proofs.Common.{◌≡◌, ◌≢◌, Bool, true, false, ◌&&◌,
 use Rattle.std.proofs.lemmas.Bool.{cases_lt, false≢true, and_parts, and_from}
 use Rattle.std.proofs.lemmas.Option.{same_Some}
 use Rattle.std.proofs.lemmas.List.Elements.{Contains-append_left, Contains-append_right, Contains-append_cases, Contains-push, Contains-push_cases}
-use Rattle.bundle_graph.specs.Statements.{Statements, weight, strongest, IsDependency, AddsDependency}
-use Rattle.bundle_graph.specs.declared.sort.Required.{Required}
-use Rattle.bundle_graph.specs.declared.sort.Required.TheVariants.{Always, Maybe}
-use Rattle.bundle_sort.specs.declared.Dependency.{Dependency}
-use Rattle.bundle_sort.specs.declared.SortItem.{SortItem}
-use Rattle.bundle_sort.specs.Items.{Names, Depends}
-use Rattle.bundle_sort.proofs.ItemLemmas.{Depends-within}
+use Rattle.bundle_order_graph.specs.Statements.{Statements, weight, strongest, IsDependency, AddsDependency}
+use Rattle.bundle_order_graph.specs.declared.sort.Required.{Required}
+use Rattle.bundle_order_graph.specs.declared.sort.Required.TheVariants.{Always, Maybe}
+use Rattle.bundle_order_sort.specs.declared.Dependency.{Dependency}
+use Rattle.bundle_order_sort.specs.declared.SortItem.{SortItem}
+use Rattle.bundle_order_sort.specs.Items.{Names, Depends}
+use Rattle.bundle_order_sort.proofs.ItemLemmas.{Depends-within}
 use Rattle.bundle_order.specs.Items.{AreNodes, AreBetween, IsAlways, how_required, IsGraphOf, AreApart, Lists, Gains, Grows}
 
 -- ---- one dependency

@@ -4,14 +4,14 @@ use Rattle.std.specs.Option.{option_and_then}
 use Rattle.std.proofs.lemmas.Bool.{false≢true, cases_eq}
 use Rattle.std.proofs.lemmas.Option.{none-some, same_Some, slice_get_within}
 use Rattle.std.proofs.lemmas.List.{length-map}
-use Rattle.bundle_sort.specs.declared.Dependency.{Dependency}
-use Rattle.bundle_sort.specs.declared.SortItem.{SortItem}
-use Rattle.bundle_sort.specs.Items.{Names, Depends}
-use Rattle.bundle_terms.specs.Order as o
-use Rattle.bundle_terms.specs.Order.{Group, Mention, mention_at, by_member, by_prototype, by_value, SetsUpBy}
-use Rattle.bundle_mentions.specs.Found.{AreFound, HasFound}
-use Rattle.bundle_mentions.proofs.ListLemmas.{Contains-none, Contains-cons}
-use Rattle.bundle_needs.specs.Cut.{dependencies_of}
+use Rattle.bundle_order_sort.specs.declared.Dependency.{Dependency}
+use Rattle.bundle_order_sort.specs.declared.SortItem.{SortItem}
+use Rattle.bundle_order_sort.specs.Items.{Names, Depends}
+use Rattle.bundle_rules.specs.Order as o
+use Rattle.bundle_rules.specs.Order.{Group, Mention, mention_at, by_member, by_prototype, by_value, SetsUpBy}
+use Rattle.bundle_order_needs.specs.Found.{AreFound, HasFound}
+use Rattle.bundle_order_needs.proofs.ListLemmas.{Contains-none, Contains-cons}
+use Rattle.bundle_order_needs.specs.Cut.{dependencies_of}
 
 -- ---- what an item depends on, by its number
 row-at : (items : List SortItem) (s : ℕ) (d : Dependency) → Contains (get_or (map dependencies_of items) s []) d → (item : SortItem) × (slice_get items s ≡ Some item) × Contains item.dependencies.items d

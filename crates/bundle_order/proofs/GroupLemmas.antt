@@ -2,11 +2,11 @@
 use Rattle.std.proofs.Common.{◌≡◌, ℕ, ◌+◌, ◌-◌, List, [], ◌∷◌, ◌++◌, length, take, drop, refl, sym, ap, ◌∙◌, append_assoc, append-nil, arith}
 use Rattle.std.specs.List.{slice_range}
 use Rattle.std.proofs.lemmas.List.{length-append, map-append}
-use Rattle.bundle_piece.specs.Item.{Item}
-use Rattle.bundle_terms.specs.Sorting.{flat}
-use Rattle.bundle_terms.specs.Statements.{TopItem, placed}
-use Rattle.bundle_needs.specs.declared.needs.ItemRange.{ItemRange}
-use Rattle.bundle_needs.specs.Cut.{cut_item, cut_items}
+use Rattle.bundle_tree_piece.specs.Item.{Item}
+use Rattle.bundle_rules.specs.Sorting.{flat}
+use Rattle.bundle_rules.specs.Statements.{TopItem, placed}
+use Rattle.bundle_order_needs.specs.declared.needs.ItemRange.{ItemRange}
+use Rattle.bundle_order_needs.specs.Cut.{cut_item, cut_items}
 use Rattle.bundle_order.specs.Grouped.{begun}
 
 drop-front : {X : Type 0} (xs ys : List X) → drop (length xs) (xs ++ ys) ≡ ys

@@ -1,10 +1,10 @@
 -- The nodes of a graph of items, to which some are added.
 use Rattle.std.proofs.Common.{◌≡◌, ℕ, ◌+◌, ◌<◌, inl, inr, Contains, refl, sym, ◌∙◌, subst, arith}
 use Rattle.std.proofs.lemmas.Bool.{cases_lt}
-use Rattle.bundle_graph.specs.Nodes.{added}
-use Rattle.bundle_graph.specs.Statements.{Statements, AddsStatement, AddsDependency, no_statements}
-use Rattle.bundle_graph.specs.declared.sort.Required.{Required}
-use Rattle.bundle_graph.proofs.NodeLemmas.{Contains-added_old, Contains-added_new, Contains-added_cases}
+use Rattle.bundle_order_graph.specs.Nodes.{added}
+use Rattle.bundle_order_graph.specs.Statements.{Statements, AddsStatement, AddsDependency, no_statements}
+use Rattle.bundle_order_graph.specs.declared.sort.Required.{Required}
+use Rattle.bundle_order_graph.proofs.NodeLemmas.{Contains-added_old, Contains-added_new, Contains-added_cases}
 use Rattle.bundle_order.specs.Items.{AreNodes, AreApart}
 
 pub no_nodes : AreApart no_statements 0

@@ -1,13 +1,13 @@
 -- The lists of items are the nodes that stand in their module.
 use Rattle.std.proofs.Common.{◌≡◌, zero, List, [], ◌∷◌, ◌++◌, map, refl, ap, ◌∙◌, append_assoc}
-use Rattle.bundle_ast.specs.declared.module.ModuleItem.{ModuleItem}
-use Rattle.bundle_piece.specs.Item as h
-use Rattle.bundle_piece.specs.Item.{Item}
-use Rattle.bundle_pieces.specs.Tree.{module_item_items}
-use Rattle.bundle_terms.specs.Nodes.{parts, side_by_side}
-use Rattle.bundle_terms.specs.Parts.{tree_of_items}
-use Rattle.bundle_terms.specs.Sorting.{flat}
-use Rattle.bundle_equal.proofs.Modules.{item_single}
+use Rattle.bundle_tree_ast.specs.declared.module.ModuleItem.{ModuleItem}
+use Rattle.bundle_tree_piece.specs.Item as h
+use Rattle.bundle_tree_piece.specs.Item.{Item}
+use Rattle.bundle_tree_listed.specs.Tree.{module_item_items}
+use Rattle.bundle_rules.specs.Nodes.{parts, side_by_side}
+use Rattle.bundle_rules.specs.Parts.{tree_of_items}
+use Rattle.bundle_rules.specs.Sorting.{flat}
+use Rattle.bundle_tree_list.proofs.Modules.{item_single}
 
 pub whole : (items : List ModuleItem) → parts (tree_of_items (flat (map (module_item_items 0) items))) ≡ map (module_item_items 0) items
 whole [] = refl

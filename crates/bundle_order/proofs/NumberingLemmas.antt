@@ -5,11 +5,11 @@ use Rattle.std.proofs.lemmas.Bool.{cases_lt, cases_eq, false≢true}
 use Rattle.std.proofs.lemmas.List.{length-append, length-map, map-append, get_or-map, get_or_default, length-take-le, take_more}
 use Rattle.std.proofs.lemmas.List.Elements.{Contains-append_left, Contains-append_right, Contains-append_cases}
 use Rattle.std.proofs.lemmas.Map.Keys.{apart_from_distinct}
-use Rattle.bundle_piece.specs.Item.{Item}
-use Rattle.bundle_mentions.proofs.ListLemmas.{Contains-none, Contains-cons}
-use Rattle.bundle_terms.specs.Sorting.{Numbered, free_items, is_injected, numbered_items, owned_items}
+use Rattle.bundle_tree_piece.specs.Item.{Item}
+use Rattle.bundle_order_needs.proofs.ListLemmas.{Contains-none, Contains-cons}
+use Rattle.bundle_rules.specs.Sorting.{Numbered, free_items, is_injected, numbered_items, owned_items}
 use Rattle.bundle_order.specs.declared.number.Place.{Place}
-use Rattle.bundle_arrange.specs.Arranged.{IsArrangement}
+use Rattle.bundle_order_sort.specs.Arranged.{IsArrangement}
 use Rattle.bundle_order.specs.Owned.{owner_by}
 use Rattle.bundle_order.specs.Numbering.{all_places, at_of, chosen_places, is_chosen, numbered_at, owners_of, place_of}
 

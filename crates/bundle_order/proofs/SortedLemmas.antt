@@ -4,22 +4,22 @@ use Rattle.std.specs.List.{AllZip, flat_map}
 use Rattle.std.specs.Option.{option_map}
 use Rattle.std.proofs.lemmas.Option.{get_or_from_slice_get, slice_get-map, slice_get-get_or}
 use Rattle.std.proofs.lemmas.List.{length-map, map-append, get_or_default}
-use Rattle.bundle_ast.specs.declared.module.ModuleItem.{ModuleItem}
-use Rattle.bundle_piece.specs.Item.{Item}
-use Rattle.bundle_pieces.specs.Tree.{module_item_items}
-use Rattle.bundle_places.specs.Declarations.{ByContext}
-use Rattle.bundle_places.specs.Scopes.{Top}
-use Rattle.bundle_sort.specs.declared.SortItem.{SortItem}
-use Rattle.bundle_sort.specs.Items as i
-use Rattle.bundle_terms.specs.Order.{Group, IsGoodOrder, group_of}
-use Rattle.bundle_terms.specs.Parts.{tree_of_items}
-use Rattle.bundle_terms.specs.Sorting.{IsSorted, Numbered, flat, group_of_items, numbered_items}
-use Rattle.bundle_terms.specs.Statements.{placed}
-use Rattle.bundle_mentions.specs.Found.{AreFound}
-use Rattle.bundle_mentions.proofs.ListLemmas.{Contains-cons}
-use Rattle.bundle_needs.specs.Cut.{dependencies_of}
+use Rattle.bundle_tree_ast.specs.declared.module.ModuleItem.{ModuleItem}
+use Rattle.bundle_tree_piece.specs.Item.{Item}
+use Rattle.bundle_tree_listed.specs.Tree.{module_item_items}
+use Rattle.bundle_rules.specs.Declarations.{ByContext}
+use Rattle.bundle_rules.specs.Scopes.{Top}
+use Rattle.bundle_order_sort.specs.declared.SortItem.{SortItem}
+use Rattle.bundle_order_sort.specs.Items as i
+use Rattle.bundle_rules.specs.Order.{Group, IsGoodOrder, group_of}
+use Rattle.bundle_rules.specs.Parts.{tree_of_items}
+use Rattle.bundle_rules.specs.Sorting.{IsSorted, Numbered, flat, group_of_items, numbered_items}
+use Rattle.bundle_rules.specs.Statements.{placed}
+use Rattle.bundle_order_needs.specs.Found.{AreFound}
+use Rattle.bundle_order_needs.proofs.ListLemmas.{Contains-cons}
+use Rattle.bundle_order_needs.specs.Cut.{dependencies_of}
 use Rattle.bundle_order.specs.declared.number.Place.{Place}
-use Rattle.bundle_arrange.specs.Arranged.{AreArranged, IsArrangement}
+use Rattle.bundle_order_sort.specs.Arranged.{AreArranged, IsArrangement}
 use Rattle.bundle_order.specs.Grouped.{group_placed}
 use Rattle.bundle_order.specs.Numbering.{IsOwnOrder, IsSortedBy, all_places, at_of, numbered_at, owners_of}
 use Rattle.bundle_order.specs.Owned.{AreTogether, owner_of}

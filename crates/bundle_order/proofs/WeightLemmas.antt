@@ -1,15 +1,15 @@
 -- The graph of items of which all dependencies were found has just these.
 use Rattle.std.proofs.Common.{◌≡◌, Bool, true, false, ℕ, List, map, Option, Some, None, is_some, refl, sym, ap, ◌∙◌}
 use Rattle.std.proofs.lemmas.Bool.{false≢true}
-use Rattle.bundle_graph.specs.Statements.{Statements, weight}
-use Rattle.bundle_graph.specs.declared.sort.Required.{Required}
-use Rattle.bundle_graph.specs.declared.sort.Required.TheVariants.{Always, Maybe}
-use Rattle.bundle_sort.specs.declared.SortItem.{SortItem}
-use Rattle.bundle_sort.specs.Items.{Names}
-use Rattle.bundle_terms.specs.Order.{Group, IsWeak}
-use Rattle.bundle_terms.specs.Sorting.{IsDependency}
-use Rattle.bundle_mentions.specs.Found.{AreFound}
-use Rattle.bundle_needs.specs.Cut.{dependencies_of}
+use Rattle.bundle_order_graph.specs.Statements.{Statements, weight}
+use Rattle.bundle_order_graph.specs.declared.sort.Required.{Required}
+use Rattle.bundle_order_graph.specs.declared.sort.Required.TheVariants.{Always, Maybe}
+use Rattle.bundle_order_sort.specs.declared.SortItem.{SortItem}
+use Rattle.bundle_order_sort.specs.Items.{Names}
+use Rattle.bundle_rules.specs.Order.{Group, IsWeak}
+use Rattle.bundle_rules.specs.Sorting.{IsDependency}
+use Rattle.bundle_order_needs.specs.Found.{AreFound}
+use Rattle.bundle_order_needs.specs.Cut.{dependencies_of}
 use Rattle.bundle_order.specs.Items.{IsGraphOf}
 use Rattle.bundle_order.proofs.FoundLemmas.{has, names}
 

@@ -1,17 +1,17 @@
 -- Items of modules in one list, as they are to be put in order.
 use Rattle.std.specs.Prelude.{◌≡◌, ℕ, ◌<◌, ◌≤◌, ◌&&◌, nat_le, nat_lt, List, ◌∷◌, ◌++◌, Option, Some, None, map, slice_get, if◌then◌else◌}
 use Rattle.std.specs.declared.ops.Range.{Range}
-use Rattle.bundle_piece.specs.Item as h
-use Rattle.bundle_piece.specs.Item.{Item, item_of}
-use Rattle.bundle_places.specs.Declarations.{ByContext}
-use Rattle.bundle_places.specs.Scopes.{Top}
-use Rattle.bundle_terms.specs.Order as o
-use Rattle.bundle_terms.specs.Order.{group_of}
-use Rattle.bundle_terms.specs.Parts.{tree_of_items}
-use Rattle.bundle_terms.specs.Sorting.{flat}
-use Rattle.bundle_terms.specs.Statements.{placed}
-use Rattle.bundle_needs.specs.Cut.{cut_items}
-use Rattle.bundle_needs.specs.Owners.{module_of}
+use Rattle.bundle_tree_piece.specs.Item as h
+use Rattle.bundle_tree_piece.specs.Item.{Item, item_of}
+use Rattle.bundle_rules.specs.Declarations.{ByContext}
+use Rattle.bundle_rules.specs.Scopes.{Top}
+use Rattle.bundle_rules.specs.Order as o
+use Rattle.bundle_rules.specs.Order.{group_of}
+use Rattle.bundle_rules.specs.Parts.{tree_of_items}
+use Rattle.bundle_rules.specs.Sorting.{flat}
+use Rattle.bundle_rules.specs.Statements.{placed}
+use Rattle.bundle_order_needs.specs.Cut.{cut_items}
+use Rattle.bundle_order_needs.specs.Owners.{module_of}
 use Rattle.bundle_order.specs.declared.group.Group.{Group}
 
 -- the list of a module that is still open, with these items

@@ -1,11 +1,11 @@
 -- The graph of what items depend on.
 use Rattle.std.specs.Prelude.{◌≡◌, ◌≢◌, ℕ, ◌<◌, ◌↔◌, ◌⊎◌, Bool, true, false, List, length, Some, None, Contains}
-use Rattle.bundle_graph.specs.Statements.{Statements, weight, IsDependency}
-use Rattle.bundle_graph.specs.declared.sort.Required.{Required}
-use Rattle.bundle_graph.specs.declared.sort.Required.TheVariants.{Always, Maybe}
-use Rattle.bundle_sort.specs.declared.Dependency.{Dependency}
-use Rattle.bundle_sort.specs.declared.SortItem.{SortItem}
-use Rattle.bundle_sort.specs.Items.{Names, Depends}
+use Rattle.bundle_order_graph.specs.Statements.{Statements, weight, IsDependency}
+use Rattle.bundle_order_graph.specs.declared.sort.Required.{Required}
+use Rattle.bundle_order_graph.specs.declared.sort.Required.TheVariants.{Always, Maybe}
+use Rattle.bundle_order_sort.specs.declared.Dependency.{Dependency}
+use Rattle.bundle_order_sort.specs.declared.SortItem.{SortItem}
+use Rattle.bundle_order_sort.specs.Items.{Names, Depends}
 
 -- the nodes are the numbers of so many items
 abbrev pub AreNodes : Statements → ℕ → Type 0

@@ -1,11 +1,11 @@
 -- The numbering of items that are to be sorted: those of modules in their order, and then the free ones.
 use Rattle.std.specs.Prelude.{◌≡◌, ℕ, ◌+◌, Bool, true, false, not, cond, List, [], ◌∷◌, ◌++◌, Option, length, map, slice_get, slice_index_or, option_map}
 use Rattle.std.specs.List.{AllZip}
-use Rattle.bundle_piece.specs.Item.{Item}
-use Rattle.bundle_terms.specs.Order.{IsGoodOrder}
-use Rattle.bundle_terms.specs.Sorting.{Numbered, flat, group_of_items, is_injected, numbered_items}
+use Rattle.bundle_tree_piece.specs.Item.{Item}
+use Rattle.bundle_rules.specs.Order.{IsGoodOrder}
+use Rattle.bundle_rules.specs.Sorting.{Numbered, flat, group_of_items, is_injected, numbered_items}
 use Rattle.bundle_order.specs.declared.number.Place.{Place}
-use Rattle.bundle_arrange.specs.Arranged.{IsArrangement}
+use Rattle.bundle_order_sort.specs.Arranged.{IsArrangement}
 use Rattle.bundle_order.specs.Owned.{owner_by}
 
 -- the number of its module for each item of a list of modules, counted from k on

@@ -1,6 +1,6 @@
 -- To which module items belong that are to be put in order.
 use Rattle.std.specs.Prelude.{◌≡◌, ℕ, ◌≤◌, Bool, List, Option, Some, None, cond, slice_get}
-use Rattle.bundle_sort.specs.declared.SortItem.{SortItem}
+use Rattle.bundle_order_sort.specs.declared.SortItem.{SortItem}
 
 -- the module that is told, or none where the item is free
 abbrev pub owner_by : ℕ × Bool → Option ℕ

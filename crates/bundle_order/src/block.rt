@@ -2,15 +2,15 @@
 
 ghost use Rattle.std.specs.Prelude.{◌≡◌, ℕ, IfOk, List, length, map};
 ghost use Rattle.std.specs.List.{flat_map};
-ghost use Rattle.bundle_ast.specs.declared.module.ModuleItem.{ModuleItem};
-ghost use Rattle.bundle_piece.specs.Item.{Item, item_of};
-ghost use Rattle.bundle_pieces.specs.Tree.{module_item_items};
+ghost use Rattle.bundle_tree_ast.specs.declared.module.ModuleItem.{ModuleItem};
+ghost use Rattle.bundle_tree_piece.specs.Item.{Item, item_of};
+ghost use Rattle.bundle_tree_listed.specs.Tree.{module_item_items};
 ghost use Rattle.bundle_order.specs.Numbering.{IsOwnOrder, IsSortedBy, owners_of};
 
 use crate::group::group_at;
 use crate::number::{ats_of, places_by, places_of};
-use bundle_piece::Piece;
-use bundle_sort::sort_items;
+use bundle_order_sort::sort_items;
+use bundle_tree_piece::Piece;
 use std::alloc::{AllocError, Global};
 
 /// The places of the items of several modules in the order in which they are to stand, where these are their lists and
@@ -21,7 +21,12 @@ pub fn sorted_places<'a>(
     owners: &[usize],
 ) -> Result<Vec<usize>, AllocError>
     requires { length owners.now ≡ length lists.now }
-    ensures { IfOk result (λ order. (items : List ModuleItem) (modules : List (List (List Item))) → map (λ v. map item_of v.items) lists.now ≡ map (module_item_items 0) items → map (module_item_items 0) items ≡ flat_map (λ items. items) modules → owners.now ≡ owners_of 0 modules → IsSortedBy modules (map (module_item_items 0) items) order.items) }
+    ensures { IfOk result (λ order.
+        (items : List ModuleItem) (modules : List (List (List Item))) →
+        map (λ v. map item_of v.items) lists.now ≡ map (module_item_items 0) items →
+        map (module_item_items 0) items ≡ flat_map (λ items. items) modules →
+        owners.now ≡ owners_of 0 modules →
+        IsSortedBy modules (map (module_item_items 0) items) order.items) }
 {
     let places = places_of(alloc, lists, owners)?;
     let group = group_at(alloc, lists, &places)?;
@@ -34,7 +39,8 @@ pub fn sorted_places<'a>(
 /// The places of the items of one module in their order, and then those of the free ones, where these are their lists.
 /// Refused only where memory runs out.
 pub fn own_places<'a>(alloc: Global, lists: &[Vec<Piece<'a>>]) -> Result<Vec<usize>, AllocError>
-    ensures { IfOk result (λ order. IsOwnOrder (map (λ v. map item_of v.items) lists.now) order.items) }
+    ensures { IfOk result (λ order.
+        IsOwnOrder (map (λ v. map item_of v.items) lists.now) order.items) }
 {
     let owners = vec![in alloc; 0usize; lists.len()]?;
     let places = places_of(alloc, lists, &owners)?;

@@ -1,21 +1,21 @@
 //! Items that are to stand in one order: their list as that of a module, and where each stands in it.
 
 ghost use Rattle.std.specs.Prelude.{◌≡◌, ℕ, ◌+◌, ◌<◌, ◌++◌, ◌∷◌, [], All, IfOk, List, OnOk, Option, length, map, slice_range};
-ghost use Rattle.bundle_piece.specs.Item.{Item, item_of};
-ghost use Rattle.bundle_pieces.specs.Tree.{module_item_items};
-ghost use Rattle.bundle_mentions.specs.Found.{AreFound};
-ghost use Rattle.bundle_needs.specs.Cut.{dependencies_of};
+ghost use Rattle.bundle_tree_piece.specs.Item.{Item, item_of};
+ghost use Rattle.bundle_tree_listed.specs.Tree.{module_item_items};
+ghost use Rattle.bundle_order_needs.specs.Found.{AreFound};
+ghost use Rattle.bundle_order_needs.specs.Cut.{dependencies_of};
 ghost use Rattle.bundle_order.specs.Grouped.{IsGroup, group_placed};
 ghost use Rattle.bundle_order.specs.Numbering.{numbered_at};
 ghost use Rattle.bundle_order.specs.Owned.{owner_of};
 
 use crate::number::Place;
-use bundle_ast::ModuleItem;
-use bundle_denote::{ModuleKind, Reading, denotations};
-use bundle_listing::pieces;
-use bundle_needs::{ItemRange, dependencies};
-use bundle_piece::{Node, Piece};
-use bundle_sort::SortItem;
+use bundle_order_needs::{ItemRange, dependencies};
+use bundle_order_sort::SortItem;
+use bundle_scope_denote::{ModuleKind, Reading, denotations};
+use bundle_tree_ast::ModuleItem;
+use bundle_tree_list::pieces;
+use bundle_tree_piece::{Node, Piece};
 use std::alloc::{AllocError, Global};
 
 /// The list of a module with the items that were added, without its end, and where each stands.
@@ -44,8 +44,12 @@ impl<'a> Group<'a> {
 
     /// Adds an item, which has this list: one of a module, or a free one.
     pub(crate) fn add(&mut self, item: &[Piece<'a>], owner: Option<usize>) -> Result<(), AllocError>
-        ensures len { OnOk result (length self.new.ranges.items ≡ length self.old.ranges.items + 1) }
-        ensures group { OnOk result ((lists : List (List Item)) (owners : List (Option ℕ)) → IsGroup self.old lists owners → IsGroup self.new (lists ++ map item_of item.now ∷ []) (owners ++ owner ∷ [])) }
+        ensures len { OnOk result
+            (length self.new.ranges.items ≡ length self.old.ranges.items + 1) }
+        ensures group { OnOk result
+            ((lists : List (List Item)) (owners : List (Option ℕ)) →
+            IsGroup self.old lists owners →
+            IsGroup self.new (lists ++ map item_of item.now ∷ []) (owners ++ owner ∷ [])) }
     {
         let from = self.list.len();
         self.list.extend_from_slice(item)?;
@@ -60,9 +64,15 @@ impl<'a> Group<'a> {
 
     /// What the items depend on.
     pub(crate) fn dependencies(mut self, alloc: Global) -> Result<Vec<SortItem>, AllocError>
-        ensures len { IfOk result (λ items. length items.items ≡ length self.entry.ranges.items) }
-        ensures owned { IfOk result (λ items. (lists : List (List Item)) (owners : List (Option ℕ)) → IsGroup self.entry lists owners → map owner_of items.items ≡ owners) }
-        ensures found { IfOk result (λ items. (lists : List (List Item)) (owners : List (Option ℕ)) → IsGroup self.entry lists owners → AreFound (group_placed lists owners) (map dependencies_of items.items)) }
+        ensures len { IfOk result (λ items.
+            length items.items ≡ length self.entry.ranges.items) }
+        ensures owned { IfOk result (λ items.
+            (lists : List (List Item)) (owners : List (Option ℕ)) →
+            IsGroup self.entry lists owners → map owner_of items.items ≡ owners) }
+        ensures found { IfOk result (λ items.
+            (lists : List (List Item)) (owners : List (Option ℕ)) →
+            IsGroup self.entry lists owners →
+            AreFound (group_placed lists owners) (map dependencies_of items.items)) }
     {
         self.list.push(Piece::Close)?;
         let table = denotations(alloc, &self.list, ModuleKind::Es, Reading::ByContext)?;
@@ -78,7 +88,9 @@ pub(crate) fn group_at<'a>(
     places: &[Place],
 ) -> Result<Group<'a>, AllocError>
     requires { All (λ place. place.at < length lists.now) places.now }
-    ensures { IfOk result (λ group. let numbered = map (numbered_at (map (λ v. map item_of v.items) lists.now)) places.now in IsGroup group (map (λ one. one.0) numbered) (map (λ one. one.1) numbered)) }
+    ensures { IfOk result (λ group.
+        let numbered = map (numbered_at (map (λ v. map item_of v.items) lists.now)) places.now in
+        IsGroup group (map (λ one. one.0) numbered) (map (λ one. one.1) numbered)) }
 {
     let mut group = Group::new(alloc)?;
     for place in places {
@@ -93,7 +105,8 @@ pub(crate) fn lists_of<'a>(
     items: &'a [ModuleItem],
 ) -> Result<Vec<Vec<Piece<'a>>>, AllocError>
     ensures len { IfOk result (λ lists. length lists.items ≡ length items.now) }
-    ensures lists { IfOk result (λ lists. map (λ v. map item_of v.items) lists.items ≡ map (module_item_items 0) items.now) }
+    ensures lists { IfOk result (λ lists.
+        map (λ v. map item_of v.items) lists.items ≡ map (module_item_items 0) items.now) }
 {
     let mut lists = Vec::new(alloc);
     for place in 0..items.len() {
@@ -110,7 +123,9 @@ fn list_of<'a>(
     place: usize,
 ) -> Result<Vec<Piece<'a>>, AllocError>
     requires { place < length items.now }
-    ensures { IfOk result (λ list. map item_of list.items ∷ [] ≡ map (module_item_items 0) (slice_range items.now place (place + 1))) }
+    ensures { IfOk result (λ list.
+        map item_of list.items ∷ []
+        ≡ map (module_item_items 0) (slice_range items.now place (place + 1))) }
 {
     let one = &items[place..place + 1];
     let list = pieces(alloc, one)?;

@@ -9,4 +9,4 @@ pub mod sort;
 mod sorting;
 
 pub use block::{own_places, sorted_places};
-pub use bundle_graph::graph;
+pub use bundle_order_graph::graph;

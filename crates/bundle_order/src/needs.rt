@@ -1,18 +1,18 @@
 //! What items depend on, as a graph.
 
 ghost use Rattle.std.specs.Prelude.{◌≡◌, ◌≢◌, ℕ, ◌<◌, ◌≤◌, ◌↔◌, [], ◌∷◌, IfOk, IfErr, IsTrue, OnOk, Some, length, map, slice_get};
-ghost use Rattle.bundle_piece.specs.Item.{item_of};
-ghost use Rattle.bundle_pieces.specs.Tree.{module_item_items};
-ghost use Rattle.bundle_terms.specs.Sorting.{AreDependencies, owners_by};
+ghost use Rattle.bundle_tree_piece.specs.Item.{item_of};
+ghost use Rattle.bundle_tree_listed.specs.Tree.{module_item_items};
+ghost use Rattle.bundle_rules.specs.Sorting.{AreDependencies, owners_by};
 ghost use Rattle.bundle_order.specs.Grouped.{AreAscending, ArePast, IsGroup, ends_of, owner_at};
 ghost use Rattle.bundle_order.specs.Items.{how_required, AreApart, AreBetween, AreNodes, Grows, IsGraphOf};
 
 use crate::group::{Group, lists_of};
-use bundle_ast::ModuleItem;
-use bundle_graph::sort::{Required, StmtDepGraph};
-use bundle_name::Error;
-use bundle_piece::Piece;
-use bundle_sort::{Dependency, SortItem};
+use bundle_order_graph::sort::{Required, StmtDepGraph};
+use bundle_order_sort::{Dependency, SortItem};
+use bundle_tree_ast::ModuleItem;
+use bundle_tree_names::Error;
+use bundle_tree_piece::Piece;
 use std::alloc::{AllocError, Global};
 use std::ops::Range;
 
@@ -29,7 +29,9 @@ pub fn calc_deps(
 ) -> Result<StmtDepGraph, Error>
     ensures nodes { IfOk result (λ graph. AreNodes graph (length items.now)) }
     ensures edges { IfOk result (λ graph. AreBetween graph (length items.now)) }
-    ensures dependencies { IfOk result (λ graph. AreAscending (map ends_of modules.now) → AreDependencies (map (module_item_items 0) items.now) (map ends_of modules.now) graph) }
+    ensures dependencies { IfOk result (λ graph.
+        AreAscending (map ends_of modules.now) →
+        AreDependencies (map (module_item_items 0) items.now) (map ends_of modules.now) graph) }
     ensures refused { IfErr result (λ refusal. refusal ≡ Error.OutOfMemory) }
 {
     let lists = lists_of(alloc, items)?;
@@ -45,7 +47,10 @@ fn group_by<'a>(
     modules: &[Range<usize>],
 ) -> Result<Group<'a>, AllocError>
     ensures len { IfOk result (λ group. length group.ranges.items ≡ length lists.now) }
-    ensures group { IfOk result (λ group. AreAscending (map ends_of modules.now) → IsGroup group (map (λ v. map item_of v.items) lists.now) (owners_by (map ends_of modules.now) 0 (map (λ v. map item_of v.items) lists.now))) }
+    ensures group { IfOk result (λ group.
+        AreAscending (map ends_of modules.now) →
+        IsGroup group (map (λ v. map item_of v.items) lists.now)
+        (owners_by (map ends_of modules.now) 0 (map (λ v. map item_of v.items) lists.now))) }
 {
     let mut group = Group::new(alloc)?;
     let mut module = 0usize;
@@ -60,8 +65,10 @@ fn group_by<'a>(
 fn range_from(modules: &[Range<usize>], first: usize, number: usize) -> usize
     requires { first ≤ length modules.now }
     ensures within { result ≤ length modules.now }
-    ensures past { ArePast (map ends_of modules.now) first number → ArePast (map ends_of modules.now) result number }
-    ensures at { (range : ℕ × ℕ) → slice_get (map ends_of modules.now) result ≡ Some range → number < range.1 }
+    ensures past { ArePast (map ends_of modules.now) first number →
+        ArePast (map ends_of modules.now) result number }
+    ensures at { (range : ℕ × ℕ) →
+        slice_get (map ends_of modules.now) result ≡ Some range → number < range.1 }
 {
     let mut at = first;
     while at < modules.len() && modules[at].end <= number {
@@ -72,7 +79,8 @@ fn range_from(modules: &[Range<usize>], first: usize, number: usize) -> usize
 
 // The number of this range, where it holds the item.
 fn module_at(modules: &[Range<usize>], module: usize, number: usize) -> Option<usize>
-    ensures { result ≡ owner_at number «module» (slice_get (map ends_of modules.now) «module») }
+    ensures { result
+        ≡ owner_at number «module» (slice_get (map ends_of modules.now) «module») }
 {
     let range = modules.get(module)?;
     if range.start <= number && number < range.end {

@@ -1,11 +1,13 @@
 //! The numbering of items that are to be sorted: those of modules in their order, and then the free ones.
 
 ghost use Rattle.std.specs.Prelude.{◌≡◌, ℕ, ◌<◌, ◌++◌, ◌∷◌, [], Contains, IfOk, OnOk, cond, length, map, slice_index};
-ghost use Rattle.bundle_piece.specs.Item.{head_of, item_of};
-ghost use Rattle.bundle_terms.specs.Sorting.{is_injected as is_injected_lem, is_injected_head};
-ghost use Rattle.bundle_order.specs.Numbering.{all_places, at_of, chosen_places, is_chosen as is_chosen_lem, place_of};
+ghost use Rattle.bundle_tree_piece.specs.Item.{head_of, item_of};
+ghost use Rattle.bundle_rules.specs.Sorting as sorting;
+ghost use Rattle.bundle_rules.specs.Sorting.{is_injected_head};
+ghost use Rattle.bundle_order.specs.Numbering as numbering;
+ghost use Rattle.bundle_order.specs.Numbering.{all_places, at_of, chosen_places, place_of};
 
-use bundle_piece::{Node, Piece};
+use bundle_tree_piece::{Node, Piece};
 use std::alloc::{AllocError, Global};
 
 /// An item's place among all, and its module, or none where it is free.
@@ -23,7 +25,8 @@ pub(crate) fn places_of<'a>(
     owners: &[usize],
 ) -> Result<Vec<Place>, AllocError>
     requires { length owners.now ≡ length lists.now }
-    ensures { IfOk result (λ places. places.items ≡ all_places (map (λ v. map item_of v.items) lists.now) owners.now) }
+    ensures { IfOk result (λ places.
+        places.items ≡ all_places (map (λ v. map item_of v.items) lists.now) owners.now) }
 {
     let mut places = Vec::new(alloc);
     add_places(&mut places, lists, owners, false)?;
@@ -39,7 +42,10 @@ fn add_places<'a>(
     are_free: bool,
 ) -> Result<(), AllocError>
     requires { length owners.now ≡ length lists.now }
-    ensures { OnOk result (places.new.items ≡ places.old.items ++ chosen_places are_free 0 (map (λ v. map item_of v.items) lists.now) owners.now) }
+    ensures { OnOk result
+        (places.new.items
+        ≡ places.old.items
+        ++ chosen_places are_free 0 (map (λ v. map item_of v.items) lists.now) owners.now) }
 {
     for (at, list) in lists.iter().enumerate() {
         add_place(places, list, at, owners[at], are_free)?;
@@ -55,7 +61,11 @@ fn add_place<'a>(
     number: usize,
     are_free: bool,
 ) -> Result<(), AllocError>
-    ensures { OnOk result (places.new.items ≡ places.old.items ++ cond (is_chosen_lem are_free (map item_of item.now)) (place_of are_free at number ∷ []) []) }
+    ensures { OnOk result
+        (places.new.items
+        ≡ places.old.items
+        ++ cond (numbering.is_chosen are_free (map item_of item.now))
+        (place_of are_free at number ∷ []) []) }
 {
     if !is_chosen(item, are_free) {
         return Ok(());
@@ -74,7 +84,7 @@ fn place_at(at: usize, number: usize, are_free: bool) -> Place
 
 // Whether an item is one of the free ones, or one of the others.
 fn is_chosen<'a>(item: &[Piece<'a>], are_free: bool) -> bool
-    ensures { result ≡ is_chosen_lem are_free (map item_of item.now) }
+    ensures { result ≡ numbering.is_chosen are_free (map item_of item.now) }
 {
     if are_free {
         is_injected(item)
@@ -85,7 +95,7 @@ fn is_chosen<'a>(item: &[Piece<'a>], are_free: bool) -> bool
 
 // Whether the linker noted the item as its own.
 fn is_injected<'a>(item: &[Piece<'a>]) -> bool
-    ensures { result ≡ is_injected_lem (map item_of item.now) }
+    ensures { result ≡ sorting.is_injected (map item_of item.now) }
 {
     match item.first() {
         Some(Piece::Open { node, .. }) => is_noted(*node),
@@ -112,7 +122,8 @@ pub(crate) fn places_by(
     numbers: &[usize],
 ) -> Result<Vec<usize>, AllocError>
     requires { (n : ℕ) → Contains numbers.now n → n < length places.now }
-    ensures { IfOk result (λ order. order.items ≡ map (λ n. slice_index (map at_of places.now) n) numbers.now) }
+    ensures { IfOk result (λ order.
+        order.items ≡ map (λ n. slice_index (map at_of places.now) n) numbers.now) }
 {
     let mut order = Vec::new(alloc);
     for number in numbers {

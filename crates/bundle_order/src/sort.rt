@@ -2,4 +2,4 @@
 
 pub use crate::needs::calc_deps;
 pub use crate::sorting::{in_own_order, sort_stmts};
-pub use bundle_graph::sort::{EdgeDirection, Required, StmtDepGraph};
+pub use bundle_order_graph::sort::{EdgeDirection, Required, StmtDepGraph};

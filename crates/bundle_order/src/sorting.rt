@@ -2,24 +2,27 @@
 
 ghost use Rattle.std.specs.Prelude.{◌≡◌, ℕ, ◌++◌, ◌∷◌, [], IfErr, IfOk, IsPermutation, List, OnErr, OnOk, length, map};
 ghost use Rattle.std.specs.List.{flat_map};
-ghost use Rattle.bundle_piece.specs.Item.{Item};
-ghost use Rattle.bundle_pieces.specs.Tree.{module_item_items};
-ghost use Rattle.bundle_terms.specs.Sorting.{IsSorted, numbered_items};
+ghost use Rattle.bundle_tree_piece.specs.Item.{Item};
+ghost use Rattle.bundle_tree_listed.specs.Tree.{module_item_items};
+ghost use Rattle.bundle_rules.specs.Sorting.{IsSorted, numbered_items};
 ghost use Rattle.bundle_order.specs.Numbering.{IsOwnOrder, IsSortedBy, owners_of};
 
 use crate::block::{own_places, sorted_places};
 use crate::group::lists_of;
-use bundle_arrange::arrange;
-use bundle_ast::{Module, ModuleItem};
-use bundle_name::Error;
+use bundle_order_sort::arrange;
+use bundle_tree_ast::{Module, ModuleItem};
+use bundle_tree_names::Error;
 use std::alloc::{AllocError, Global};
 
 /// The items of all modules in one order, each once: after what they need, and in the order of their module. An
 /// item that the linker noted as its own is free: its module's order does not bind it. Refused only where memory
 /// runs out.
 pub fn sort_stmts(alloc: Global, modules: Vec<Vec<ModuleItem>>) -> Result<Vec<ModuleItem>, Error>
-    ensures sorted { IfOk result (λ sorted. IsSorted (map (λ items. map (module_item_items 0) items.items) modules.items) (map (module_item_items 0) sorted.items)) }
-    ensures moved { IfOk result (λ sorted. IsPermutation (flat_map (λ items. items.items) modules.items) sorted.items) }
+    ensures sorted { IfOk result (λ sorted.
+        IsSorted (map (λ items. map (module_item_items 0) items.items) modules.items)
+        (map (module_item_items 0) sorted.items)) }
+    ensures moved { IfOk result (λ sorted.
+        IsPermutation (flat_map (λ items. items.items) modules.items) sorted.items) }
     ensures refused { IfErr result (λ refusal. refusal ≡ Error.OutOfMemory) }
 {
     let owners = owners_in(alloc, &modules);
@@ -34,7 +37,9 @@ pub fn sort_stmts(alloc: Global, modules: Vec<Vec<ModuleItem>>) -> Result<Vec<Mo
 /// The items of one module in their order, and then those that the linker noted as its own. Refused only where
 /// memory runs out.
 pub fn in_own_order(alloc: Global, items: Vec<ModuleItem>) -> Result<Vec<ModuleItem>, Error>
-    ensures listed { IfOk result (λ listed. map (module_item_items 0) listed.items ≡ map (λ one. one.0) (numbered_items (map (module_item_items 0) items.items ∷ []))) }
+    ensures listed { IfOk result (λ listed.
+        map (module_item_items 0) listed.items
+        ≡ map (λ one. one.0) (numbered_items (map (module_item_items 0) items.items ∷ []))) }
     ensures moved { IfOk result (λ listed. IsPermutation items.items listed.items) }
     ensures refused { IfErr result (λ refusal. refusal ≡ Error.OutOfMemory) }
 {
@@ -54,7 +59,8 @@ fn own_order_of(alloc: Global, items: &[ModuleItem]) -> Result<Vec<usize>, Alloc
 
 // The numbers of the modules of the items.
 fn owners_in(alloc: Global, modules: &[Vec<ModuleItem>]) -> Result<Vec<usize>, AllocError>
-    ensures { IfOk result (λ owners. owners.items ≡ owners_of 0 (map (λ v. v.items) modules.now)) }
+    ensures { IfOk result (λ owners.
+        owners.items ≡ owners_of 0 (map (λ v. v.items) modules.now)) }
 {
     let mut owners = Vec::new(alloc);
     for (number, items) in modules.iter().enumerate() {
@@ -65,7 +71,8 @@ fn owners_in(alloc: Global, modules: &[Vec<ModuleItem>]) -> Result<Vec<usize>, A
 
 // Adds the number of a module for each of its items.
 fn add_owner(owners: &mut Vec<usize>, number: usize, items: &[ModuleItem]) -> Result<(), AllocError>
-    ensures { OnOk result (owners.new.items ≡ owners.old.items ++ map (λ item. number) items.now) }
+    ensures { OnOk result
+        (owners.new.items ≡ owners.old.items ++ map (λ item. number) items.now) }
 {
     for _ in 0..items.len() {
         owners.push(number)?;
@@ -75,7 +82,8 @@ fn add_owner(owners: &mut Vec<usize>, number: usize, items: &[ModuleItem]) -> Re
 
 // All items, as they stand. They are let go of as modules, which a call does.
 fn joined(alloc: Global, modules: Vec<Vec<ModuleItem>>) -> Result<Module, AllocError>
-    ensures { IfOk result (λ all. all.body.items ≡ flat_map (λ items. items.items) modules.items) }
+    ensures { IfOk result (λ all.
+        all.body.items ≡ flat_map (λ items. items.items) modules.items) }
 {
     let mut rest = modules;
     let mut all = Module {
@@ -97,7 +105,11 @@ fn joined(alloc: Global, modules: Vec<Vec<ModuleItem>>) -> Result<Module, AllocE
 // The places of the items in the order in which they are to stand, where these are the numbers of their modules.
 fn order_of(alloc: Global, items: &[ModuleItem], owners: &[usize]) -> Result<Vec<usize>, AllocError>
     requires { length owners.now ≡ length items.now }
-    ensures { IfOk result (λ order. (modules : List (List (List Item))) → map (module_item_items 0) items.now ≡ flat_map (λ items. items) modules → owners.now ≡ owners_of 0 modules → IsSortedBy modules (map (module_item_items 0) items.now) order.items) }
+    ensures { IfOk result (λ order.
+        (modules : List (List (List Item))) →
+        map (module_item_items 0) items.now ≡ flat_map (λ items. items) modules →
+        owners.now ≡ owners_of 0 modules →
+        IsSortedBy modules (map (module_item_items 0) items.now) order.items) }
 {
     let lists = lists_of(alloc, items)?;
     let order = sorted_places(alloc, &lists, owners)?;

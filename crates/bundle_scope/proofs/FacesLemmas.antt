@@ -1,19 +1,19 @@
 -- The same identifiers in other contexts.
 use Rattle.std.proofs.Common.{◌≡◌, ◌⊎◌, ℕ, Some, subst, false, not, List, [], ◌∷◌, length, map, bytes_eq, inl, inr, arith, refl, ap, sym, ◌∙◌}
 use Rattle.std.proofs.lemmas.Slice.Eq.{bytes_eq-Decides}
-use Rattle.bundle_piece.specs.Item.{Item}
-use Rattle.bundle_places.specs.Places.{Occurrence as Place, occurrences}
-use Rattle.bundle_places.specs.Scopes.{ModuleKind}
-use Rattle.bundle_terms.specs.Nodes.{Text}
-use Rattle.bundle_terms.specs.Idents as terms
-use Rattle.bundle_terms.specs.Idents.{Ident, idents}
-use Rattle.bundle_terms.specs.Rebuilds.{Change, changes_to, change_to, listed, rebuilt}
-use Rattle.bundle_terms.specs.Renamed.{IsResolvedFrom}
-use Rattle.bundle_lists.specs.declared.mark.Occurrence.{Occurrence}
-use Rattle.bundle_lists.specs.Marks.{ident_of, listed_of}
-use Rattle.bundle_lists.proofs.RenameLemmas.{idents-listed}
-use Rattle.bundle_contexts.specs.declared.contexts.Resolution.{Resolution}
-use Rattle.bundle_contexts.specs.Resolution.{AreFit, ResolvesFit, tree_with, with_contexts}
+use Rattle.bundle_tree_piece.specs.Item.{Item}
+use Rattle.bundle_rules.specs.Places.{Occurrence as Place, occurrences}
+use Rattle.bundle_rules.specs.Scopes.{ModuleKind}
+use Rattle.bundle_rules.specs.Nodes.{Text}
+use Rattle.bundle_rules.specs.Idents as terms
+use Rattle.bundle_rules.specs.Idents.{Ident, idents}
+use Rattle.bundle_rules.specs.Rebuilds.{Change, changes_to, change_to, listed, rebuilt}
+use Rattle.bundle_rules.specs.Renamed.{IsResolvedFrom}
+use Rattle.bundle_tree_places.specs.declared.mark.Occurrence.{Occurrence}
+use Rattle.bundle_tree_places.specs.Marks.{ident_of, listed_of}
+use Rattle.bundle_tree_places.proofs.RenameLemmas.{idents-listed}
+use Rattle.bundle_scope_names.specs.declared.contexts.Resolution.{Resolution}
+use Rattle.bundle_scope_names.specs.Resolution.{AreFit, ResolvesFit, tree_with, with_contexts}
 use Rattle.bundle_scope.specs.Faces.{in_contexts}
 
 -- a change that keeps the symbol spells nothing out

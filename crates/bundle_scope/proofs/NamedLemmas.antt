@@ -1,12 +1,12 @@
 -- The same tree, in which bindings are called otherwise.
 use Rattle.std.proofs.Common.{◌≡◌, List, map, ap₂}
-use Rattle.bundle_piece.specs.Item.{Item}
-use Rattle.bundle_terms.specs.Idents.{idents}
-use Rattle.bundle_terms.specs.Rebuilds.{rebuilt, with_idents}
-use Rattle.bundle_denote.specs.declared.table.Denotations.{Denotations}
-use Rattle.bundle_naming.specs.declared.names.Contexts.{Contexts}
-use Rattle.bundle_naming.specs.declared.names.Names.{Names}
-use Rattle.bundle_naming.specs.Called.{name_changes}
+use Rattle.bundle_tree_piece.specs.Item.{Item}
+use Rattle.bundle_rules.specs.Idents.{idents}
+use Rattle.bundle_rules.specs.Rebuilds.{rebuilt, with_idents}
+use Rattle.bundle_scope_denote.specs.declared.table.Denotations.{Denotations}
+use Rattle.bundle_scope_names.specs.declared.names.Contexts.{Contexts}
+use Rattle.bundle_scope_names.specs.declared.names.Names.{Names}
+use Rattle.bundle_scope_names.specs.Called.{name_changes}
 use Rattle.bundle_scope.specs.Named.{called_by}
 
 -- what is rebuilt by these changes of a list is the tree with these names, where both are that tree

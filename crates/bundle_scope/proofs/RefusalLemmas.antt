@@ -1,8 +1,8 @@
 -- The name that is told.
 use Rattle.std.proofs.Common.{◌≡◌, ℕ, List, Option, Some, None, option_map, refl, ap, sym, ◌∙◌}
-use Rattle.bundle_places.specs.Declarations.{Declared}
-use Rattle.bundle_denote.specs.declared.table.Doubled.{Doubled}
-use Rattle.bundle_denote.specs.Listed.{place_and_symbol, told_of}
+use Rattle.bundle_rules.specs.Declarations.{Declared}
+use Rattle.bundle_scope_denote.specs.declared.table.Doubled.{Doubled}
+use Rattle.bundle_scope_denote.specs.Listed.{place_and_symbol, told_of}
 
 -- what is told of a declaration is told with its name
 pub told-is : (found : Option Declared) (doubled : Doubled) (told : Option Doubled) → told ≡ Some doubled → option_map told_of told ≡ option_map place_and_symbol found → option_map (λ declared. declared.name.sym) found ≡ Some doubled.name.now

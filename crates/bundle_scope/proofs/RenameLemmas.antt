@@ -1,12 +1,12 @@
 -- The items that a renaming makes.
 use Rattle.std.proofs.Common.{◌≡◌, ℕ, Bool, List, map, ap, sym, ◌∙◌}
-use Rattle.bundle_piece.specs.Item.{Item}
-use Rattle.bundle_terms.specs.Nodes.{Text}
-use Rattle.bundle_terms.specs.Rebuilds.{Change, Renaming, change_by, listed, rebuilt, renamed_all}
-use Rattle.bundle_lists.specs.declared.mark.Occurrence.{Occurrence}
-use Rattle.bundle_lists.specs.Marks.{ident_of, listed_of}
-use Rattle.bundle_lists.proofs.RenameLemmas.{idents-listed}
-use Rattle.bundle_renaming.proofs.LawLemmas.{map-map}
+use Rattle.bundle_tree_piece.specs.Item.{Item}
+use Rattle.bundle_rules.specs.Nodes.{Text}
+use Rattle.bundle_rules.specs.Rebuilds.{Change, Renaming, change_by, listed, rebuilt, renamed_all}
+use Rattle.bundle_tree_places.specs.declared.mark.Occurrence.{Occurrence}
+use Rattle.bundle_tree_places.specs.Marks.{ident_of, listed_of}
+use Rattle.bundle_tree_places.proofs.RenameLemmas.{idents-listed}
+use Rattle.bundle_marks.proofs.LawLemmas.{map-map}
 
 -- the same text and the same context make the same change
 pub both : {x y : Text} {m n : ℕ} {b : Bool} → x ≡ y → m ≡ n → (let a : Change = record { ident = (x, m); is_spelled_out = b } in a) ≡ record { ident = (y, n); is_spelled_out = b }

@@ -1,9 +1,9 @@
 -- Trees that are the same, the contexts of plain words aside.
 use Rattle.std.proofs.Common.{◌≡◌, ℕ, zero, suc, List, [], ◌∷◌, ◌++◌, get_or, set, refl, ap, ap₂, sym, ◌∙◌}
 use Rattle.std.specs.List.{flat_map}
-use Rattle.bundle_piece.specs.Item as h
-use Rattle.bundle_piece.specs.Item.{Item, Head}
-use Rattle.bundle_pieces.specs.Tree.{node}
+use Rattle.bundle_tree_piece.specs.Item as h
+use Rattle.bundle_tree_piece.specs.Item.{Item, Head}
+use Rattle.bundle_tree_listed.specs.Tree.{node}
 use Rattle.bundle_scope.specs.Named.{word_aside, words_aside}
 
 words-append : (xs ys : List Item) → words_aside (xs ++ ys) ≡ words_aside xs ++ words_aside ys

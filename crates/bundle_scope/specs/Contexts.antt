@@ -1,6 +1,6 @@
 -- What contexts hold.
 use Rattle.std.specs.Prelude.{◌≡◌, ◌≤◌, ℕ}
-use Rattle.bundle_name.specs.FileName.{Name}
+use Rattle.bundle_tree_names.specs.FileName.{Name}
 
 -- contexts as plain data: whose they are, that of the names of the top, and the next number
 pub record Held : Type 0 where

@@ -1,6 +1,6 @@
 -- What the calls on trees say of identifiers.
 use Rattle.std.specs.Prelude.{ℕ, List, [], ◌∷◌}
-use Rattle.bundle_terms.specs.Idents.{Ident}
+use Rattle.bundle_rules.specs.Idents.{Ident}
 
 -- identifiers with other contexts, in turn
 abbrev pub in_contexts : List Ident → List ℕ → List Ident

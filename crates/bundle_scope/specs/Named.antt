@@ -1,19 +1,19 @@
 -- What is said of a tree whose bindings are called otherwise.
 use Rattle.std.specs.Prelude.{◌≡◌, List, length, map, string_bytes}
 use Rattle.std.specs.Option.{option_map}
-use Rattle.bundle_piece.specs.declared.piece.Role.TheVariants.{Word as IsWord}
-use Rattle.bundle_piece.specs.Item as h
-use Rattle.bundle_piece.specs.Item.{Item}
-use Rattle.bundle_places.specs.Scopes.{Es}
-use Rattle.bundle_places.specs.Declarations.{ByContext}
-use Rattle.bundle_terms.specs.Idents.{Ident, idents}
-use Rattle.bundle_terms.specs.Rebuilds.{with_idents}
-use Rattle.bundle_denote.specs.declared.table.Denotations.{Denotations}
-use Rattle.bundle_denote.specs.Listed.{IsTable}
-use Rattle.bundle_naming.specs.declared.names.Names.{Names}
-use Rattle.bundle_naming.specs.declared.names.Contexts.{Contexts}
-use Rattle.bundle_naming.specs.declared.names.Contexts.TheVariants.{Keep, Clear}
-use Rattle.bundle_naming.specs.Called.{called_in, in_context, keyword_text}
+use Rattle.bundle_tree_piece.specs.declared.piece.Role.TheVariants.{Word as IsWord}
+use Rattle.bundle_tree_piece.specs.Item as h
+use Rattle.bundle_tree_piece.specs.Item.{Item}
+use Rattle.bundle_rules.specs.Scopes.{Es}
+use Rattle.bundle_rules.specs.Declarations.{ByContext}
+use Rattle.bundle_rules.specs.Idents.{Ident, idents}
+use Rattle.bundle_rules.specs.Rebuilds.{with_idents}
+use Rattle.bundle_scope_denote.specs.declared.table.Denotations.{Denotations}
+use Rattle.bundle_scope_denote.specs.Listed.{IsTable}
+use Rattle.bundle_scope_names.specs.declared.names.Names.{Names}
+use Rattle.bundle_scope_names.specs.declared.names.Contexts.{Contexts}
+use Rattle.bundle_scope_names.specs.declared.names.Contexts.TheVariants.{Keep, Clear}
+use Rattle.bundle_scope_names.specs.Called.{called_in, in_context, keyword_text}
 
 -- what the identifiers of a tree become, by this table of what they denote and these names of bindings, where contexts stay or are 0
 abbrev pub called_by : Denotations → Names → Contexts → List Item → List Ident

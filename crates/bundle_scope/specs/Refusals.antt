@@ -3,16 +3,16 @@ use Rattle.std.specs.Prelude.{◌≡◌, List, Option, Some, string_bytes}
 use Rattle.std.specs.Option.{option_map}
 use Rattle.std.specs.declared.alloc.Global.{Global}
 use Rattle.std.specs.declared.string.String.{String}
-use Rattle.bundle_piece.specs.Item.{Item}
-use Rattle.bundle_places.specs.Scopes.{ModuleKind}
-use Rattle.bundle_places.specs.Doubled.{first_doubled}
-use Rattle.bundle_terms.specs.Nodes.{Text}
-use Rattle.bundle_terms.specs.Renamed.{MayLackContexts}
-use Rattle.bundle_name.specs.FileName.{Name, name_of}
-use Rattle.bundle_name.specs.declared.file_name.FileName.{FileName}
-use Rattle.bundle_name.specs.declared.error.Error.{Error}
-use Rattle.bundle_name.specs.declared.error.Error.TheVariants.{ContextsUsedUp, DoubledDeclaration, OutOfMemory}
-use Rattle.bundle_contexts.specs.Resolution.{AreFit}
+use Rattle.bundle_tree_piece.specs.Item.{Item}
+use Rattle.bundle_rules.specs.Scopes.{ModuleKind}
+use Rattle.bundle_rules.specs.Doubled.{first_doubled}
+use Rattle.bundle_rules.specs.Nodes.{Text}
+use Rattle.bundle_rules.specs.Renamed.{MayLackContexts}
+use Rattle.bundle_tree_names.specs.FileName.{Name, name_of}
+use Rattle.bundle_tree_names.specs.declared.file_name.FileName.{FileName}
+use Rattle.bundle_tree_names.specs.declared.error.Error.{Error}
+use Rattle.bundle_tree_names.specs.declared.error.Error.TheVariants.{ContextsUsedUp, DoubledDeclaration, OutOfMemory}
+use Rattle.bundle_scope_names.specs.Resolution.{AreFit}
 use Rattle.bundle_scope.specs.Contexts.{Held}
 
 -- the first name of a tree that is declared where it may not be declared again

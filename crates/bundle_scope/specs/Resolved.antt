@@ -1,11 +1,11 @@
 -- What a resolver owes for the tree of a module.
 use Rattle.std.specs.Prelude.{◌≡◌, ◌≤◌, List, None, Some}
-use Rattle.bundle_piece.specs.Item.{Item}
-use Rattle.bundle_places.specs.Scopes.{ModuleKind}
-use Rattle.bundle_places.specs.Doubled.{first_doubled}
-use Rattle.bundle_terms.specs.Renamed.{IsResolvedFrom}
-use Rattle.bundle_contexts.specs.Resolution.{AreFit, ResolvesFit}
-use Rattle.bundle_contexts.specs.declared.contexts.Resolution.{Resolution}
+use Rattle.bundle_tree_piece.specs.Item.{Item}
+use Rattle.bundle_rules.specs.Scopes.{ModuleKind}
+use Rattle.bundle_rules.specs.Doubled.{first_doubled}
+use Rattle.bundle_rules.specs.Renamed.{IsResolvedFrom}
+use Rattle.bundle_scope_names.specs.Resolution.{AreFit, ResolvesFit}
+use Rattle.bundle_scope_names.specs.declared.contexts.Resolution.{Resolution}
 use Rattle.bundle_scope.specs.Contexts.{Held}
 
 -- where the contexts are fit, the tree is resolved by them: the numbers that were given are those from the next one before to the next one after

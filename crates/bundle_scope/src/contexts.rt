@@ -1,10 +1,9 @@
 //! The numbers by which names of one symbol are kept apart.
 
 ghost use Rattle.std.specs.Prelude.{◌≡◌, ◌≤◌};
-ghost use Rattle.bundle_name.specs.FileName.{name_of};
+ghost use Rattle.bundle_tree_names.specs.FileName.{name_of};
 
-use bundle_id::SyntaxContext;
-use bundle_name::FileName;
+use bundle_tree_names::{FileName, SyntaxContext};
 use std::marker::Model;
 
 /// The contexts of a file: that of the names of its top, and those from the next number on, for all else.
@@ -16,7 +15,7 @@ pub struct Contexts {
 }
 
 impl Model for Contexts {
-    ghost use Rattle.bundle_name.specs.FileName.{name_of};
+    ghost use Rattle.bundle_tree_names.specs.FileName.{name_of};
     ghost use Rattle.bundle_scope.specs.Contexts.{Held};
 
     ghost Value = { Held };

@@ -1,15 +1,15 @@
 //! The list of the items of a module, with what occurs in it.
 
 ghost use Rattle.std.specs.Prelude.{◌≡◌, IfOk, map};
-ghost use Rattle.bundle_piece.specs.Item.{item_of};
-ghost use Rattle.bundle_terms.specs.Rebuilds.{listed};
-ghost use Rattle.bundle_lists.specs.Marks.{listed_of};
-ghost use Rattle.bundle_renaming.specs.Composed.{list_of};
+ghost use Rattle.bundle_tree_piece.specs.Item.{item_of};
+ghost use Rattle.bundle_rules.specs.Rebuilds.{listed};
+ghost use Rattle.bundle_tree_places.specs.Marks.{listed_of};
+ghost use Rattle.bundle_marks.specs.Composed.{list_of};
 
-use bundle_ast::ModuleItem;
-use bundle_listing::pieces;
-use bundle_lists::{Occurrence, occurrences_of};
-use bundle_piece::Piece;
+use bundle_tree_ast::ModuleItem;
+use bundle_tree_list::pieces;
+use bundle_tree_piece::Piece;
+use bundle_tree_places::{Occurrence, occurrences_of};
 use std::alloc::{AllocError, Global};
 
 /// The list of the items of a module, and its occurrences.
@@ -25,7 +25,8 @@ pub(crate) fn listing_of<'a>(
     items: &'a [ModuleItem],
 ) -> Result<Listing<'a>, AllocError>
     ensures list { IfOk result (λ it. map item_of it.list.items ≡ list_of items.now) }
-    ensures occurrences { IfOk result (λ it. map listed_of it.occurrences.items ≡ listed (list_of items.now)) }
+    ensures occurrences { IfOk result (λ it.
+        map listed_of it.occurrences.items ≡ listed (list_of items.now)) }
 {
     let list = pieces(alloc, items)?;
     let occurrences = occurrences_of(alloc, &list)?;

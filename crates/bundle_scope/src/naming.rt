@@ -1,16 +1,16 @@
 //! The names of a bundle: without keywords, and without clashes once contexts are gone.
 
 ghost use Rattle.std.specs.Prelude.{◌≡◌, IfErr, IfOk};
-ghost use Rattle.bundle_renaming.specs.Composed.{list_of};
+ghost use Rattle.bundle_marks.specs.Composed.{list_of};
 ghost use Rattle.bundle_scope.specs.Named.{RenamesBindings, RenamesKeywords};
 
 use crate::words::clear_words;
-use bundle_ast::Module;
-use bundle_denote::{ModuleKind, Reading, denotations};
-use bundle_listing::pieces;
-use bundle_name::Error;
-use bundle_naming::{Contexts, Names, changes_of, hygienic_names, keyword_names};
-use bundle_rewrite::rebuild_items;
+use bundle_scope_denote::{ModuleKind, Reading, denotations};
+use bundle_scope_names::{Contexts, Names, changes_of, hygienic_names, keyword_names};
+use bundle_tree_ast::Module;
+use bundle_tree_list::pieces;
+use bundle_tree_names::Error;
+use bundle_tree_rewrite::rebuild_items;
 use std::alloc::Global;
 
 /// The renamer of keywords.
@@ -21,7 +21,8 @@ impl KeywordRenamer {
     /// The module in which each binding with the symbol of a reserved word has `__` before it, wherever it
     /// occurs (ECMA-262, 12.7.2). Globals stay, and all other names. Refused only where memory runs out.
     pub fn run(alloc: Global, module: &Module) -> Result<Module, Error>
-        ensures renamed { IfOk result (λ made. RenamesKeywords (list_of «module».now.body.items) (list_of made.body.items)) }
+        ensures renamed { IfOk result (λ made.
+            RenamesKeywords (list_of «module».now.body.items) (list_of made.body.items)) }
         ensures refused { IfErr result (λ refusal. refusal ≡ Error.OutOfMemory) }
     {
         let items = module.body.as_slice();
@@ -37,7 +38,8 @@ impl KeywordRenamer {
 /// The module in which each name denotes by its symbol what it denoted by symbol and context, and each context
 /// is 0. No binding is renamed without need, and globals keep their names. Refused only where memory runs out.
 pub fn hygiene(alloc: Global, module: &Module) -> Result<Module, Error>
-    ensures renamed { IfOk result (λ made. RenamesBindings (list_of «module».now.body.items) (list_of made.body.items)) }
+    ensures renamed { IfOk result (λ made.
+        RenamesBindings (list_of «module».now.body.items) (list_of made.body.items)) }
     ensures refused { IfErr result (λ refusal. refusal ≡ Error.OutOfMemory) }
 {
     let items = module.body.as_slice();

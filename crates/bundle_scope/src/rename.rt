@@ -2,22 +2,22 @@
 
 ghost use Rattle.std.specs.Prelude.{◌≡◌, false, IfErr, IfOk, map, unwrap_or};
 ghost use Rattle.std.specs.Map.{lookup};
-ghost use Rattle.bundle_pieces.specs.Tree.{module_item_items};
-ghost use Rattle.bundle_terms.specs.Rebuilds.{change_by as change_by_lem, ident_eq, renamed_all};
-ghost use Rattle.bundle_lists.specs.Changes.{change_of};
-ghost use Rattle.bundle_lists.specs.Marks.{ident_of};
-ghost use Rattle.bundle_renaming.specs.Idents.{ident_named};
-ghost use Rattle.bundle_renaming.specs.Composed.{list_of};
-ghost use Rattle.bundle_renaming.specs.Renamings.{unchanged};
+ghost use Rattle.bundle_tree_listed.specs.Tree.{module_item_items};
+ghost use Rattle.bundle_rules.specs.Rebuilds as rebuilds;
+ghost use Rattle.bundle_rules.specs.Rebuilds.{ident_eq, renamed_all};
+ghost use Rattle.bundle_tree_places.specs.Changes.{change_of};
+ghost use Rattle.bundle_tree_places.specs.Marks.{ident_of};
+ghost use Rattle.bundle_marks.specs.Idents.{ident_named};
+ghost use Rattle.bundle_marks.specs.Composed.{list_of};
+ghost use Rattle.bundle_marks.specs.Renamings.{unchanged};
 
 use crate::listing::listing_of;
-use bundle_ast::ModuleItem;
-use bundle_id::SyntaxContext;
-use bundle_lists::{Change, Name, Occurrence};
-use bundle_name::Error;
-use bundle_renaming::Renaming;
-use bundle_rewrite::{rebuild_item, rebuild_items};
+use bundle_marks::Renaming;
 use bundle_tree::Id;
+use bundle_tree_ast::ModuleItem;
+use bundle_tree_names::{Error, SyntaxContext};
+use bundle_tree_places::{Change, Name, Occurrence};
+use bundle_tree_rewrite::{rebuild_item, rebuild_items};
 use std::alloc::{AllocError, Global};
 use std::slice;
 
@@ -28,7 +28,8 @@ pub fn rename_all(
     items: &[ModuleItem],
     renaming: &Renaming,
 ) -> Result<Vec<ModuleItem>, Error>
-    ensures renamed { IfOk result (λ made. list_of made.items ≡ renamed_all renaming.now (list_of items.now)) }
+    ensures renamed { IfOk result (λ made.
+        list_of made.items ≡ renamed_all renaming.now (list_of items.now)) }
     ensures refused { IfErr result (λ refusal. refusal ≡ Error.OutOfMemory) }
 {
     let listing = listing_of(alloc, items)?;
@@ -43,7 +44,8 @@ pub fn rename_item(
     item: &ModuleItem,
     renaming: &Renaming,
 ) -> Result<ModuleItem, AllocError>
-    ensures { IfOk result (λ made. module_item_items 0 made ≡ renamed_all renaming.now (module_item_items 0 item.now)) }
+    ensures { IfOk result (λ made.
+        module_item_items 0 made ≡ renamed_all renaming.now (module_item_items 0 item.now)) }
 {
     let listing = listing_of(alloc, slice::from_ref(item))?;
     let changes = changes_by(alloc, &listing.occurrences, renaming)?;
@@ -56,7 +58,9 @@ fn changes_by<'a>(
     listed: &[Occurrence<'a>],
     renaming: &'a Renaming,
 ) -> Result<Vec<Change<'a>>, AllocError>
-    ensures { IfOk result (λ changes. map change_of changes.items ≡ map (λ o. change_by_lem renaming.now (ident_of o.id)) listed.now) }
+    ensures { IfOk result (λ changes.
+        map change_of changes.items
+        ≡ map (λ o. rebuilds.change_by renaming.now (ident_of o.id)) listed.now) }
 {
     let mut changes = Vec::new(alloc);
     let mut text = String::new(alloc);
@@ -74,7 +78,9 @@ fn changes_by<'a>(
 
 // The change of the identifier of this name.
 fn change_by<'a>(renaming: &'a Renaming, id: &Id, ident: Name<'a>) -> Change<'a>
-    ensures { change_of result ≡ unwrap_or (lookup (ident_eq (ident_named id.now)) renaming.now) (unchanged (ident_of ident.entry)) }
+    ensures { change_of result
+        ≡ unwrap_or (lookup (ident_eq (ident_named id.now)) renaming.now)
+        (unchanged (ident_of ident.entry)) }
 {
     match renaming.step(id) {
         Some(step) => Change {

@@ -1,14 +1,14 @@
 //! The resolver: the contexts of a module tell apart what its names denote.
 
 ghost use Rattle.std.specs.Prelude.{◌≡◌, IfErr, IfOk, None, OnErr, OnOk, map};
-ghost use Rattle.bundle_piece.specs.Item.{item_of};
-ghost use Rattle.bundle_places.specs.Doubled.{first_doubled as first_doubled_lem};
-ghost use Rattle.bundle_terms.specs.Rebuilds.{change_to as change_to_lem, changes_to as changes_to_lem};
-ghost use Rattle.bundle_lists.specs.Changes.{change_of};
-ghost use Rattle.bundle_lists.specs.Marks.{ident_of};
-ghost use Rattle.bundle_name.specs.FileName.{name_of};
-ghost use Rattle.bundle_denote.specs.Kinds.{kind_as};
-ghost use Rattle.bundle_renaming.specs.Composed.{list_of};
+ghost use Rattle.bundle_tree_piece.specs.Item.{item_of};
+ghost use Rattle.bundle_rules.specs.Doubled as Doubled;
+ghost use Rattle.bundle_rules.specs.Rebuilds as rebuilds;
+ghost use Rattle.bundle_tree_places.specs.Changes.{change_of};
+ghost use Rattle.bundle_tree_places.specs.Marks.{ident_of};
+ghost use Rattle.bundle_tree_names.specs.FileName.{name_of};
+ghost use Rattle.bundle_scope_denote.specs.Kinds.{kind_as};
+ghost use Rattle.bundle_marks.specs.Composed.{list_of};
 ghost use Rattle.bundle_scope.specs.Contexts.{HasGiven};
 ghost use Rattle.bundle_scope.specs.Faces.{in_contexts};
 ghost use Rattle.bundle_scope.specs.Resolved.{IsJudged, IsResolvedBy};
@@ -16,13 +16,13 @@ ghost use Rattle.bundle_scope.specs.Refusals.{IsDoubled, IsUsedUp, MayRefuse};
 
 use crate::contexts::Contexts;
 use crate::listing::listing_of;
-use bundle_ast::Module;
-use bundle_contexts::{Resolution, contexts_of};
-use bundle_denote::{ModuleKind, first_doubled};
-use bundle_lists::{Change, Name, Occurrence};
-use bundle_name::{Error, FileName};
-use bundle_piece::Piece;
-use bundle_rewrite::rebuild_items;
+use bundle_scope_denote::{ModuleKind, first_doubled};
+use bundle_scope_names::{Resolution, contexts_of};
+use bundle_tree_ast::Module;
+use bundle_tree_names::{Error, FileName};
+use bundle_tree_piece::Piece;
+use bundle_tree_places::{Change, Name, Occurrence};
+use bundle_tree_rewrite::rebuild_items;
 use std::alloc::{AllocError, Global};
 
 /// The module with contexts by which two of its identifiers are equal exactly where they denote one binding or
@@ -38,10 +38,14 @@ pub fn resolve_scopes(
     kind: ModuleKind,
     contexts: &mut Contexts,
 ) -> Result<Module, Error>
-    ensures resolved { IfOk result (λ made. IsResolvedBy (kind_as kind) contexts.old contexts.new (list_of «module».now.body.items) (list_of made.body.items)) }
-    ensures undoubled { OnOk result (first_doubled_lem (kind_as kind) (list_of «module».now.body.items) ≡ None) }
+    ensures resolved { IfOk result (λ made.
+        IsResolvedBy (kind_as kind) contexts.old contexts.new (list_of «module».now.body.items)
+        (list_of made.body.items)) }
+    ensures undoubled { OnOk result
+        (Doubled.first_doubled (kind_as kind) (list_of «module».now.body.items) ≡ None) }
     ensures given { OnOk result (HasGiven contexts.old contexts.new) }
-    ensures refused { IfErr result (MayRefuse (kind_as kind) contexts.old (list_of «module».now.body.items)) }
+    ensures refused { IfErr result
+        (MayRefuse (kind_as kind) contexts.old (list_of «module».now.body.items)) }
     ensures unchanged { OnErr result (contexts.new ≡ contexts.old) }
 {
     let items = module.body.as_slice();
@@ -98,7 +102,10 @@ fn changes_to<'a>(
     occurrences: &[Occurrence<'a>],
     contexts: &[u32],
 ) -> Result<Vec<Change<'a>>, AllocError>
-    ensures { IfOk result (λ changes. map change_of changes.items ≡ changes_to_lem (map (λ o. ident_of o.id) occurrences.now) (in_contexts (map (λ o. ident_of o.id) occurrences.now) contexts.now)) }
+    ensures { IfOk result (λ changes.
+        map change_of changes.items
+        ≡ rebuilds.changes_to (map (λ o. ident_of o.id) occurrences.now)
+        (in_contexts (map (λ o. ident_of o.id) occurrences.now) contexts.now)) }
 {
     let mut changes = Vec::new(alloc);
     for (occurrence, context) in occurrences.iter().zip(contexts) {
@@ -109,7 +116,8 @@ fn changes_to<'a>(
 
 // The same symbol in another context.
 fn change_to<'a>(old: Name<'a>, context: u32) -> Change<'a>
-    ensures { change_of result ≡ change_to_lem (ident_of old.entry) ((ident_of old.entry).0, context) }
+    ensures { change_of result
+        ≡ rebuilds.change_to (ident_of old.entry) ((ident_of old.entry).0, context) }
 {
     Change {
         ident: Name {

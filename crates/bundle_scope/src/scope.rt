@@ -3,6 +3,5 @@
 pub use crate::contexts::Contexts;
 pub use crate::rename::{rename_all, rename_item};
 pub use crate::resolve::resolve_scopes;
-pub use bundle_denote::ModuleKind;
-pub use bundle_marks::{Occurrence, occurrences, rename_ids};
-pub use bundle_renaming::Renaming;
+pub use bundle_marks::{Occurrence, Renaming, occurrences, rename_ids};
+pub use bundle_scope_denote::ModuleKind;

@@ -1,13 +1,13 @@
 //! The identifiers of a module that denote nothing in it: names of other modules, and those that it exports under.
 
 ghost use Rattle.std.specs.Prelude.{◌≡◌, ℕ, flat_map};
-ghost use Rattle.bundle_piece.specs.declared.piece.Role.TheVariants as role;
-ghost use Rattle.bundle_pieces.specs.Tree.{export_specifier_items, import_specifier_items, module_decl_items, module_export_name_items, module_item_items, option_items};
-ghost use Rattle.bundle_renaming.specs.Composed.{list_of};
+ghost use Rattle.bundle_tree_piece.specs.declared.piece.Role.TheVariants as role;
+ghost use Rattle.bundle_tree_listed.specs.Tree.{export_specifier_items, import_specifier_items, module_decl_items, module_export_name_items, module_item_items, option_items};
+ghost use Rattle.bundle_marks.specs.Composed.{list_of};
 ghost use Rattle.bundle_scope.specs.Named.{words_aside};
 
-use bundle_ast::{ExportSpecifier, ImportSpecifier, ModuleDecl, ModuleExportName, ModuleItem};
-use bundle_id::SyntaxContext;
+use bundle_tree_ast::{ExportSpecifier, ImportSpecifier, ModuleDecl, ModuleExportName, ModuleItem};
+use bundle_tree_names::SyntaxContext;
 
 /// Makes the context of each name that is imported or exported 0.
 pub(crate) fn clear_words(items: &mut Vec<ModuleItem>)
@@ -19,7 +19,8 @@ pub(crate) fn clear_words(items: &mut Vec<ModuleItem>)
 }
 
 fn clear_item(item: &mut ModuleItem)
-    ensures { words_aside (module_item_items 0 item.new) ≡ words_aside (module_item_items 0 item.old) }
+    ensures { words_aside (module_item_items 0 item.new)
+        ≡ words_aside (module_item_items 0 item.old) }
 {
     if let ModuleItem::ModuleDecl(decl) = item {
         clear_decl(decl);
@@ -27,7 +28,8 @@ fn clear_item(item: &mut ModuleItem)
 }
 
 fn clear_decl(decl: &mut ModuleDecl)
-    ensures { words_aside (module_decl_items 0 decl.new) ≡ words_aside (module_decl_items 0 decl.old) }
+    ensures { words_aside (module_decl_items 0 decl.new)
+        ≡ words_aside (module_decl_items 0 decl.old) }
 {
     match decl {
         ModuleDecl::ImportDecl { specifiers, .. } => clear_imports(specifiers),
@@ -45,7 +47,8 @@ fn clear_decl(decl: &mut ModuleDecl)
 }
 
 fn clear_imports(specifiers: &mut Vec<ImportSpecifier>)
-    ensures { words_aside (flat_map (import_specifier_items 0) specifiers.new.items) ≡ words_aside (flat_map (import_specifier_items 0) specifiers.old.items) }
+    ensures { words_aside (flat_map (import_specifier_items 0) specifiers.new.items)
+        ≡ words_aside (flat_map (import_specifier_items 0) specifiers.old.items) }
 {
     for place in 0..specifiers.len() {
         clear_import(&mut specifiers[place]);
@@ -54,7 +57,8 @@ fn clear_imports(specifiers: &mut Vec<ImportSpecifier>)
 
 // The specifiers of a list with names of this module.
 fn clear_exports(specifiers: &mut Vec<ExportSpecifier>)
-    ensures { words_aside (flat_map (export_specifier_items role.Reference 0) specifiers.new.items) ≡ words_aside (flat_map (export_specifier_items role.Reference 0) specifiers.old.items) }
+    ensures { words_aside (flat_map (export_specifier_items role.Reference 0) specifiers.new.items)
+        ≡ words_aside (flat_map (export_specifier_items role.Reference 0) specifiers.old.items) }
 {
     for place in 0..specifiers.len() {
         clear_export(&mut specifiers[place]);
@@ -63,7 +67,8 @@ fn clear_exports(specifiers: &mut Vec<ExportSpecifier>)
 
 // The specifiers of a list with names of another module.
 fn clear_names(specifiers: &mut Vec<ExportSpecifier>)
-    ensures { words_aside (flat_map (export_specifier_items role.Word 0) specifiers.new.items) ≡ words_aside (flat_map (export_specifier_items role.Word 0) specifiers.old.items) }
+    ensures { words_aside (flat_map (export_specifier_items role.Word 0) specifiers.new.items)
+        ≡ words_aside (flat_map (export_specifier_items role.Word 0) specifiers.old.items) }
 {
     for place in 0..specifiers.len() {
         clear_both(&mut specifiers[place]);
@@ -71,7 +76,8 @@ fn clear_names(specifiers: &mut Vec<ExportSpecifier>)
 }
 
 fn clear_import(specifier: &mut ImportSpecifier)
-    ensures { words_aside (import_specifier_items 0 specifier.new) ≡ words_aside (import_specifier_items 0 specifier.old) }
+    ensures { words_aside (import_specifier_items 0 specifier.new)
+        ≡ words_aside (import_specifier_items 0 specifier.old) }
 {
     match specifier {
         ImportSpecifier::ImportNamedSpecifier { imported, .. } => clear_option(imported),
@@ -82,8 +88,10 @@ fn clear_import(specifier: &mut ImportSpecifier)
 
 // The name under which a specifier exports.
 fn clear_export(specifier: &mut ExportSpecifier)
-    ensures own { words_aside (export_specifier_items role.Reference 0 specifier.new) ≡ words_aside (export_specifier_items role.Reference 0 specifier.old) }
-    ensures other { words_aside (export_specifier_items role.Word 0 specifier.new) ≡ words_aside (export_specifier_items role.Word 0 specifier.old) }
+    ensures own { words_aside (export_specifier_items role.Reference 0 specifier.new)
+        ≡ words_aside (export_specifier_items role.Reference 0 specifier.old) }
+    ensures other { words_aside (export_specifier_items role.Word 0 specifier.new)
+        ≡ words_aside (export_specifier_items role.Word 0 specifier.old) }
 {
     match specifier {
         ExportSpecifier::ExportNamespaceSpecifier { name } => clear_name(name),
@@ -93,7 +101,8 @@ fn clear_export(specifier: &mut ExportSpecifier)
 
 // The names in a specifier with names of another module.
 fn clear_both(specifier: &mut ExportSpecifier)
-    ensures { words_aside (export_specifier_items role.Word 0 specifier.new) ≡ words_aside (export_specifier_items role.Word 0 specifier.old) }
+    ensures { words_aside (export_specifier_items role.Word 0 specifier.new)
+        ≡ words_aside (export_specifier_items role.Word 0 specifier.old) }
 {
     clear_orig(specifier);
     clear_export(specifier);
@@ -101,7 +110,8 @@ fn clear_both(specifier: &mut ExportSpecifier)
 
 // The name that a specifier takes from another module.
 fn clear_orig(specifier: &mut ExportSpecifier)
-    ensures { words_aside (export_specifier_items role.Word 0 specifier.new) ≡ words_aside (export_specifier_items role.Word 0 specifier.old) }
+    ensures { words_aside (export_specifier_items role.Word 0 specifier.new)
+        ≡ words_aside (export_specifier_items role.Word 0 specifier.old) }
 {
     match specifier {
         ExportSpecifier::ExportNamespaceSpecifier { .. } => {}
@@ -110,7 +120,8 @@ fn clear_orig(specifier: &mut ExportSpecifier)
 }
 
 fn clear_option(name: &mut Option<ModuleExportName>)
-    ensures { words_aside (option_items (module_export_name_items role.Word 1) name.new) ≡ words_aside (option_items (module_export_name_items role.Word 1) name.old) }
+    ensures { words_aside (option_items (module_export_name_items role.Word 1) name.new)
+        ≡ words_aside (option_items (module_export_name_items role.Word 1) name.old) }
 {
     if let Some(name) = name {
         clear_name(name);
@@ -118,7 +129,9 @@ fn clear_option(name: &mut Option<ModuleExportName>)
 }
 
 fn clear_name(name: &mut ModuleExportName)
-    ensures { (field : ℕ) → words_aside (module_export_name_items role.Word field name.new) ≡ words_aside (module_export_name_items role.Word field name.old) }
+    ensures { (field : ℕ) →
+        words_aside (module_export_name_items role.Word field name.new)
+        ≡ words_aside (module_export_name_items role.Word field name.old) }
 {
     match name {
         ModuleExportName::Ident(ident) => ident.ctxt = SyntaxContext::empty(),

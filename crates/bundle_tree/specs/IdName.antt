@@ -7,9 +7,9 @@ use Rattle.std.specs.Cmp.Lexicographic.{slice_cmp}
 use Rattle.std.specs.Str.{bytes_eq}
 use Rattle.std.specs.String.{string_bytes}
 use Rattle.std.specs.declared.cmp.Ordering.{Ordering}
-use Rattle.bundle_leaf.specs.declared.ident.Ident.{Ident}
-use Rattle.bundle_ast.specs.declared.expr.Expr.{Expr}
-use Rattle.bundle_ast.specs.declared.expr.Expr.TheVariants as expr
+use Rattle.bundle_tree_leaf.specs.declared.ident.Ident.{Ident}
+use Rattle.bundle_tree_ast.specs.declared.expr.Expr.{Expr}
+use Rattle.bundle_tree_ast.specs.declared.expr.Expr.TheVariants as expr
 
 -- a name as plain data: the bytes of its symbol, and the number of its context
 pub record IdName : Type 0 where

@@ -2,8 +2,8 @@
 
 ghost use Rattle.std.specs.Prelude.{◌≡◌, IfOk, Err};
 
-use bundle_ast::KeyValueProp;
-use bundle_name::file_name::FileName;
+use bundle_tree_ast::KeyValueProp;
+use bundle_tree_names::file_name::FileName;
 use std::alloc::Global;
 use thiserror::Error;
 
@@ -31,9 +31,9 @@ pub enum HookError {
 /// it may give two answers.
 pub trait Hook: Drop {
     ghost use Rattle.std.specs.Prelude.{ℕ, List, Bool};
-    ghost use Rattle.bundle_name.specs.FileName.{name_of, Name};
-    ghost use Rattle.bundle_ast.specs.declared.prop.KeyValueProp.{KeyValueProp};
-    ghost use Rattle.bundle_ast.specs.declared.expr.Expr.{Expr};
+    ghost use Rattle.bundle_tree_names.specs.FileName.{name_of, Name};
+    ghost use Rattle.bundle_tree_ast.specs.declared.prop.KeyValueProp.{KeyValueProp};
+    ghost use Rattle.bundle_tree_ast.specs.declared.expr.Expr.{Expr};
 
     /// The lists that it may give for a file, the entry or not.
     ghost may_give: { Self → Name → Bool → List (KeyValueProp Expr) → Type 0 };
@@ -47,6 +47,7 @@ pub trait Hook: Drop {
         alloc: Global,
         module: &ModuleRecord,
     ) -> Result<Vec<KeyValueProp>, HookError>
-        ensures answer { IfOk result (λ props. may_give self.now (name_of module.now.file_name) module.now.is_entry props.items) }
+        ensures answer { IfOk result (λ props.
+            may_give self.now (name_of module.now.file_name) module.now.is_entry props.items) }
         ensures failure { result ≡ Err HookError.Failed → may_fail_hook self.now (name_of module.now.file_name) module.now.is_entry };
 }

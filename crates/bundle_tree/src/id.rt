@@ -4,10 +4,9 @@ ghost use Rattle.std.specs.Prelude.{◌≡◌, ◌↔◌, IsTrue, IfOk, IfErr};
 ghost use Rattle.std.specs.String.{string_bytes};
 ghost use Rattle.bundle_tree.specs.IdName.{ident_name};
 
-use bundle_ast::Expr;
-use bundle_id::SyntaxContext;
-use bundle_leaf::Ident;
-use bundle_name::Error;
+use bundle_tree_ast::Expr;
+use bundle_tree_leaf::Ident;
+use bundle_tree_names::{Error, SyntaxContext};
 use std::alloc::{AllocError, Global};
 use std::cmp::Ordering;
 use std::fmt;

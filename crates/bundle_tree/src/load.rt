@@ -1,10 +1,10 @@
 //! The loader: from the name of a file to its module.
 
 ghost use Rattle.std.specs.Prelude.{◌≡◌, IfOk, Err};
-ghost use Rattle.bundle_name.specs.FileName.{name_of};
+ghost use Rattle.bundle_tree_names.specs.FileName.{name_of};
 
-use bundle_ast::Module;
-use bundle_name::file_name::FileName;
+use bundle_tree_ast::Module;
+use bundle_tree_names::file_name::FileName;
 use std::alloc::Global;
 use thiserror::Error;
 
@@ -31,7 +31,7 @@ pub enum LoadError {
 /// may fail; asked twice, it may give two answers.
 pub trait Load {
     ghost use Rattle.std.specs.Prelude.{ℕ};
-    ghost use Rattle.bundle_name.specs.FileName.{Name};
+    ghost use Rattle.bundle_tree_names.specs.FileName.{Name};
     ghost use Rattle.bundle_tree.specs.declared.load.ModuleData.{ModuleData};
 
     /// The answers that it may give for a name.

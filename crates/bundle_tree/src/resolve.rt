@@ -1,9 +1,9 @@
 //! The resolver: from the specifier of an import to the name of a file.
 
 ghost use Rattle.std.specs.Prelude.{◌≡◌, IfOk, Err};
-ghost use Rattle.bundle_name.specs.FileName.{name_of};
+ghost use Rattle.bundle_tree_names.specs.FileName.{name_of};
 
-use bundle_name::file_name::FileName;
+use bundle_tree_names::file_name::FileName;
 use std::alloc::Global;
 use thiserror::Error;
 
@@ -23,7 +23,7 @@ pub enum ResolveError {
 /// answers.
 pub trait Resolve {
     ghost use Rattle.std.specs.Prelude.{ℕ, List};
-    ghost use Rattle.bundle_name.specs.FileName.{Name};
+    ghost use Rattle.bundle_tree_names.specs.FileName.{Name};
 
     /// The files that it may give for a specifier, as the text of the specifier stands in a file.
     ghost may_resolve: { Self → Name → List ℕ → Name → Type 0 };
@@ -38,7 +38,8 @@ pub trait Resolve {
         base: &FileName,
         specifier: &str,
     ) -> Result<FileName, ResolveError>
-        ensures answer { IfOk result (λ file. may_resolve self.now (name_of base.now) specifier.now (name_of file)) }
+        ensures answer { IfOk result (λ file.
+            may_resolve self.now (name_of base.now) specifier.now (name_of file)) }
         ensures failure { result ≡ Err ResolveError.Failed → may_fail_resolve self.now (name_of base.now) specifier.now };
 }
 

@@ -1,9 +1,9 @@
 -- The modules are linked as those of the program are.
 use Rattle.std.proofs.Common.{◌≡◌, List, length, ap, sym, ◌∙◌, subst}
 use Rattle.std.proofs.lemmas.Slice.Zip.{AllZip-long}
-use Rattle.bundle_terms.specs.Nodes.{numbers_once}
-use Rattle.bundle_linked.specs.Numbered as n
-use Rattle.bundle_linked.specs.declared.module.NumberedModule.{NumberedModule}
+use Rattle.bundle_rules.specs.Nodes.{numbers_once}
+use Rattle.bundle_link_reached.specs.Numbered as n
+use Rattle.bundle_link_reached.specs.declared.module.NumberedModule.{NumberedModule}
 use Rattle.bundle_link.specs.Programs.{HasTables}
 use Rattle.bundle_link.proofs.ProgramLemmas.{are_numbered}
 use Rattle.bundle_link.proofs.link.linked_modules.Goals as goal

@@ -1,6 +1,6 @@
 -- The exports are those of the table, in which no name is doubled.
-use Rattle.bundle_name.specs.FileName.{name_of}
-use Rattle.bundle_pieces.specs.Tree.{module_items}
+use Rattle.bundle_tree_names.specs.FileName.{name_of}
+use Rattle.bundle_tree_listed.specs.Tree.{module_items}
 use Rattle.bundle_link.proofs.ItemLemmas.{exported}
 use Rattle.bundle_link.proofs.tables.exports_of.Goals as goal
 

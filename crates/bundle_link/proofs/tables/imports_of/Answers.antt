@@ -1,6 +1,6 @@
 -- The imports are those of the table.
 use Rattle.std.proofs.Common.{ap, ◌∙◌, map}
-use Rattle.bundle_tables.specs.TablesOf.{import_entry_of}
+use Rattle.bundle_link_tables.specs.TablesOf.{import_entry_of}
 use Rattle.bundle_link.proofs.tables.imports_of.Goals as goal
 
 pub returns-clause-given : goal.returns-clause-given

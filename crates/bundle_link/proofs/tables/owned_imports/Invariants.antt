@@ -1,6 +1,6 @@
 -- The imports so far are those that were passed.
 use Rattle.std.proofs.Common.{◌≡◌, map, take}
-use Rattle.bundle_tables.specs.TablesOf.{import_entry_of}
+use Rattle.bundle_link_tables.specs.TablesOf.{import_entry_of}
 use Rattle.bundle_link.specs.Owned.{import_says}
 use Rattle.bundle_link.proofs.tables.owned_imports.Given as goal
 

@@ -1,7 +1,7 @@
 -- Where no name is doubled, none was met that follows, and those that were passed are there.
 use Rattle.std.proofs.Common.{◌≡◌, [], None, drop, map, take}
-use Rattle.bundle_tables.specs.Judged.{doubled_name}
-use Rattle.bundle_tables.specs.TablesOf.{export_entry_of}
+use Rattle.bundle_link_tables.specs.Judged.{doubled_name}
+use Rattle.bundle_link_tables.specs.TablesOf.{export_entry_of}
 use Rattle.bundle_link.specs.Owned.{entry_key, entry_says}
 use Rattle.bundle_link.proofs.tables.owned_items.Given as goal
 

@@ -1,11 +1,11 @@
 -- The tables are those of the list, and the fault is its first.
 use Rattle.std.proofs.Common.{ap, sym, ◌∙◌, subst, map, string_bytes}
 use Rattle.std.specs.Prelude.{IfSome}
-use Rattle.bundle_name.specs.FileName.{name_of}
-use Rattle.bundle_piece.specs.Item.{item_of}
-use Rattle.bundle_tables.specs.Sources.{told_external}
-use Rattle.bundle_terms.specs.Entries.{declared_requests}
-use Rattle.bundle_terms.specs.Faults.{IsFirstTreeFault}
+use Rattle.bundle_tree_names.specs.FileName.{name_of}
+use Rattle.bundle_tree_piece.specs.Item.{item_of}
+use Rattle.bundle_link_tables.specs.Sources.{told_external}
+use Rattle.bundle_rules.specs.Entries.{declared_requests}
+use Rattle.bundle_rules.specs.Faults.{IsFirstTreeFault}
 use Rattle.bundle_link.proofs.tables.read_list.Goals as goal
 
 pub returns-in-Ok-clause-given : goal.returns-in-Ok-clause-given

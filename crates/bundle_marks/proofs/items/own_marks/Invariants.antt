@@ -1,6 +1,6 @@
 -- The marks so far are those passed.
 use Rattle.std.proofs.Common.{◌≡◌, map, take}
-use Rattle.bundle_lists.specs.Marks.{mark_of as lent_mark}
+use Rattle.bundle_tree_places.specs.Marks.{mark_of as lent_mark}
 use Rattle.bundle_marks.specs.Owned.{mark_of}
 use Rattle.bundle_marks.proofs.items.own_marks.Given as goal
 

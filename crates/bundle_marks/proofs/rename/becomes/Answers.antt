@@ -1,9 +1,9 @@
 -- The map is asked for the name.
 use Rattle.std.proofs.Common.{◌≡◌, unwrap_or, ap, sym, ◌∙◌}
 use Rattle.std.specs.Option.{option_map}
-use Rattle.bundle_lists.specs.Marks.{ident_of}
-use Rattle.bundle_renaming.specs.Idents.{ident_named}
-use Rattle.bundle_marks.proofs.RenamingLemmas.{lookup-named, both}
+use Rattle.bundle_tree_places.specs.Marks.{ident_of}
+use Rattle.bundle_marks.specs.Idents.{ident_named}
+use Rattle.bundle_marks.proofs.RenameLemmas.{lookup-named, both}
 use Rattle.bundle_marks.proofs.rename.becomes.Goals as goal
 
 pub returns-in-Some : goal.returns-in-Some

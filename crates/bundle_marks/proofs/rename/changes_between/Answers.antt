@@ -1,10 +1,10 @@
 -- Where nothing is left of one of the lists, all changes are there.
 use Rattle.std.proofs.Common.{List, ◌++◌, map, inl, inr, append-nil, ap, sym, ◌∙◌}
-use Rattle.bundle_terms.specs.Rebuilds.{Change}
-use Rattle.bundle_lists.specs.Changes.{change_of}
-use Rattle.bundle_lists.specs.Marks.{ident_of}
-use Rattle.bundle_lists.proofs.RenameLemmas.{changes_to-none}
-use Rattle.bundle_renaming.specs.Idents.{ident_in}
+use Rattle.bundle_rules.specs.Rebuilds.{Change}
+use Rattle.bundle_tree_places.specs.Changes.{change_of}
+use Rattle.bundle_tree_places.specs.Marks.{ident_of}
+use Rattle.bundle_tree_places.proofs.RenameLemmas.{changes_to-none}
+use Rattle.bundle_marks.specs.Idents.{ident_in}
 use Rattle.bundle_marks.proofs.rename.changes_between.Goals as goal
 
 pub returns : goal.returns

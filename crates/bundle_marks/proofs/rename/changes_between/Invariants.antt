@@ -1,9 +1,9 @@
 -- The changes so far, and those of what is left of both lists, are all.
 use Rattle.std.proofs.Common.{◌≡◌, ◌++◌, map}
-use Rattle.bundle_terms.specs.Rebuilds.{changes_to}
-use Rattle.bundle_lists.specs.Changes.{change_of}
-use Rattle.bundle_lists.specs.Marks.{ident_of}
-use Rattle.bundle_renaming.specs.Idents.{ident_in}
+use Rattle.bundle_rules.specs.Rebuilds.{changes_to}
+use Rattle.bundle_tree_places.specs.Changes.{change_of}
+use Rattle.bundle_tree_places.specs.Marks.{ident_of}
+use Rattle.bundle_marks.specs.Idents.{ident_in}
 use Rattle.bundle_marks.proofs.rename.changes_between.Given as goal
 
 abbrev pub invariant-loop-old : goal.invariant-loop-old

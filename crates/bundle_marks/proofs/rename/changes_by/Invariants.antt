@@ -1,9 +1,9 @@
 -- The changes so far are those of the occurrences passed.
 use Rattle.std.proofs.Common.{◌≡◌, map, take}
-use Rattle.bundle_terms.specs.Rebuilds.{becomes_by, change_to}
-use Rattle.bundle_lists.specs.Changes.{change_of}
-use Rattle.bundle_lists.specs.Marks.{ident_of}
-use Rattle.bundle_renaming.specs.Idents.{pair_named}
+use Rattle.bundle_rules.specs.Rebuilds.{becomes_by, change_to}
+use Rattle.bundle_tree_places.specs.Changes.{change_of}
+use Rattle.bundle_tree_places.specs.Marks.{ident_of}
+use Rattle.bundle_marks.specs.Idents.{pair_named}
 use Rattle.bundle_marks.proofs.rename.changes_by.Given as goal
 
 abbrev pub invariant-loop-occurrence : goal.invariant-loop-occurrence

@@ -2,11 +2,11 @@
 use Rattle.std.proofs.Common.{map, ap, ◌∙◌}
 use Rattle.std.proofs.lemmas.Result.{IfOk-weaker}
 use Rattle.std.specs.List.{flat_map}
-use Rattle.bundle_pieces.specs.Tree.{module_item_items}
-use Rattle.bundle_lists.specs.Changes.{change_of}
-use Rattle.bundle_lists.specs.Marks.{listed_of}
-use Rattle.bundle_lists.proofs.RenameLemmas.{renamed-is}
-use Rattle.bundle_renaming.specs.Idents.{pair_named}
+use Rattle.bundle_tree_listed.specs.Tree.{module_item_items}
+use Rattle.bundle_tree_places.specs.Changes.{change_of}
+use Rattle.bundle_tree_places.specs.Marks.{listed_of}
+use Rattle.bundle_tree_places.proofs.RenameLemmas.{renamed-is}
+use Rattle.bundle_marks.specs.Idents.{pair_named}
 use Rattle.bundle_marks.proofs.rename.rename_ids.Goals as goal
 
 pub returns : goal.returns

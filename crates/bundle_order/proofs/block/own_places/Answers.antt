@@ -1,7 +1,7 @@
 use Rattle.std.proofs.Common.{◌≡◌, Vec, Global, List, [], ◌∷◌, map, replicate, sym, ap, ◌∙◌}
 use Rattle.std.proofs.lemmas.List.{length-map}
-use Rattle.bundle_piece.specs.declared.piece.Piece.{Piece}
-use Rattle.bundle_piece.specs.Item.{Item, item_of}
+use Rattle.bundle_tree_piece.specs.declared.piece.Piece.{Piece}
+use Rattle.bundle_tree_piece.specs.Item.{Item, item_of}
 use Rattle.bundle_order.specs.declared.number.Place.{Place}
 use Rattle.bundle_order.specs.Numbering.{at_of, owners_of}
 use Rattle.bundle_order.proofs.SortedLemmas.{IsOwnOrder-places, same-owner}

@@ -1,13 +1,13 @@
 -- The places are in the order in which the items are sorted.
 use Rattle.std.proofs.Common.{◌≡◌, ◌<◌, ℕ, All, Vec, Global, List, Contains, length, get_or, map, sym, ap, ◌∙◌, subst, arith}
 use Rattle.std.proofs.lemmas.List.{length-map}
-use Rattle.bundle_ast.specs.declared.module.ModuleItem.{ModuleItem}
-use Rattle.bundle_piece.specs.declared.piece.Piece.{Piece}
-use Rattle.bundle_piece.specs.Item.{Item, item_of}
-use Rattle.bundle_pieces.specs.Tree.{module_item_items}
-use Rattle.bundle_sort.specs.declared.SortItem.{SortItem}
-use Rattle.bundle_sort.specs.Items.{IsGoodOrder}
-use Rattle.bundle_terms.specs.Sorting.{Numbered}
+use Rattle.bundle_tree_ast.specs.declared.module.ModuleItem.{ModuleItem}
+use Rattle.bundle_tree_piece.specs.declared.piece.Piece.{Piece}
+use Rattle.bundle_tree_piece.specs.Item.{Item, item_of}
+use Rattle.bundle_tree_listed.specs.Tree.{module_item_items}
+use Rattle.bundle_order_sort.specs.declared.SortItem.{SortItem}
+use Rattle.bundle_order_sort.specs.Items.{IsGoodOrder}
+use Rattle.bundle_rules.specs.Sorting.{Numbered}
 use Rattle.bundle_order.specs.declared.number.Place.{Place}
 use Rattle.bundle_order.specs.Grouped.{IsGroup}
 use Rattle.bundle_order.specs.Numbering.{all_places, at_of, numbered_at}

@@ -1,9 +1,9 @@
 -- One more item was added.
 use Rattle.std.proofs.Common.{◌≡◌, ℕ, ◌+◌, ◌<◌, ◌++◌, ◌∷◌, [], Vec, Global, Option, List, length, get_or, map, take, sym, ap, ◌∙◌, subst}
 use Rattle.std.proofs.lemmas.List.{get_or-map, map-append, take_all, take_more}
-use Rattle.bundle_piece.specs.declared.piece.Piece.{Piece}
-use Rattle.bundle_piece.specs.Item.{Item, item_of}
-use Rattle.bundle_terms.specs.Sorting.{Numbered}
+use Rattle.bundle_tree_piece.specs.declared.piece.Piece.{Piece}
+use Rattle.bundle_tree_piece.specs.Item.{Item, item_of}
+use Rattle.bundle_rules.specs.Sorting.{Numbered}
 use Rattle.bundle_order.specs.declared.group.Group.{Group}
 use Rattle.bundle_order.specs.declared.number.Place.{Place}
 use Rattle.bundle_order.specs.Grouped.{IsGroup}

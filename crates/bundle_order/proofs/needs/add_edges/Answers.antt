@@ -1,8 +1,8 @@
 -- One more dependency.
 use Rattle.std.proofs.Common.{ℕ, ◌+◌, ◌<◌, List, [], ◌∷◌, length, get_or, take, sym, subst}
 use Rattle.std.proofs.lemmas.List.{take_more, take_all}
-use Rattle.bundle_graph.specs.Statements.{Statements}
-use Rattle.bundle_sort.specs.declared.Dependency.{Dependency}
+use Rattle.bundle_order_graph.specs.Statements.{Statements}
+use Rattle.bundle_order_sort.specs.declared.Dependency.{Dependency}
 use Rattle.bundle_order.specs.Items.{Grows}
 use Rattle.bundle_order.proofs.EdgeLemmas.{Grows-none, Grows-more}
 use Rattle.bundle_order.proofs.needs.add_edges.Goals as goal

@@ -1,19 +1,19 @@
 -- There are as many dependencies as items.
 use Rattle.std.proofs.Common.{◌≡◌, Vec, Global, List, length, map, sym, ap, ◌∙◌, subst}
 use Rattle.std.proofs.lemmas.List.{length-map}
-use Rattle.bundle_graph.specs.Statements.{weight}
-use Rattle.bundle_piece.specs.declared.piece.Piece.{Piece}
-use Rattle.bundle_piece.specs.Item.{Item, item_of}
-use Rattle.bundle_pieces.specs.Tree.{module_item_items}
-use Rattle.bundle_places.specs.Declarations.{ByContext}
-use Rattle.bundle_places.specs.Scopes.{Top}
-use Rattle.bundle_sort.specs.declared.SortItem.{SortItem}
-use Rattle.bundle_terms.specs.Order.{Group, group_of}
-use Rattle.bundle_terms.specs.Parts.{tree_of_items}
-use Rattle.bundle_terms.specs.Sorting.{IsDependency, flat, group_of_items, owners_by}
-use Rattle.bundle_terms.specs.Statements.{placed}
-use Rattle.bundle_mentions.specs.Found.{AreFound}
-use Rattle.bundle_needs.specs.Cut.{dependencies_of}
+use Rattle.bundle_order_graph.specs.Statements.{weight}
+use Rattle.bundle_tree_piece.specs.declared.piece.Piece.{Piece}
+use Rattle.bundle_tree_piece.specs.Item.{Item, item_of}
+use Rattle.bundle_tree_listed.specs.Tree.{module_item_items}
+use Rattle.bundle_rules.specs.Declarations.{ByContext}
+use Rattle.bundle_rules.specs.Scopes.{Top}
+use Rattle.bundle_order_sort.specs.declared.SortItem.{SortItem}
+use Rattle.bundle_rules.specs.Order.{Group, group_of}
+use Rattle.bundle_rules.specs.Parts.{tree_of_items}
+use Rattle.bundle_rules.specs.Sorting.{IsDependency, flat, group_of_items, owners_by}
+use Rattle.bundle_rules.specs.Statements.{placed}
+use Rattle.bundle_order_needs.specs.Found.{AreFound}
+use Rattle.bundle_order_needs.specs.Cut.{dependencies_of}
 use Rattle.bundle_order.specs.Grouped.{IsGroup, ends_of, group_placed}
 use Rattle.bundle_order.specs.Items.{AreNodes, AreBetween}
 use Rattle.bundle_order.proofs.EdgeLemmas.{AreBetween-graph}

@@ -1,7 +1,7 @@
 -- One more item.
 use Rattle.std.proofs.Common.{List, length, refl, subst}
 use Rattle.std.proofs.lemmas.Option.{slice_get_read}
-use Rattle.bundle_sort.specs.declared.Dependency.{Dependency}
+use Rattle.bundle_order_sort.specs.declared.Dependency.{Dependency}
 use Rattle.bundle_order.specs.Items.{Grows}
 use Rattle.bundle_order.proofs.EdgeLemmas.{IsGraphTo-none, IsGraphTo-more, IsGraphOf-all}
 use Rattle.bundle_order.proofs.needs.graph_of.Goals as goal

@@ -1,8 +1,8 @@
 use Rattle.std.proofs.Common.{◌≡◌, ℕ, ◌+◌, Vec, Global, Option, List, [], ◌∷◌, ◌++◌, length, get_or, map, take, slice_get, sym, ap, ◌∙◌, subst, arith}
 use Rattle.std.proofs.lemmas.List.{length-map, length-take-le, map-append, take_all, take_more}
-use Rattle.bundle_piece.specs.declared.piece.Piece.{Piece}
-use Rattle.bundle_piece.specs.Item.{Item, item_of}
-use Rattle.bundle_terms.specs.Sorting.{owner_in, owners_by}
+use Rattle.bundle_tree_piece.specs.declared.piece.Piece.{Piece}
+use Rattle.bundle_tree_piece.specs.Item.{Item, item_of}
+use Rattle.bundle_rules.specs.Sorting.{owner_in, owners_by}
 use Rattle.bundle_order.specs.Grouped.{IsGroup, ends_of, owner_at}
 use Rattle.bundle_order.proofs.OwnerLemmas.{owner-is, owners-push}
 use Rattle.bundle_order.proofs.needs.group_by.Goals as goal

@@ -1,7 +1,7 @@
 -- Each item passed was added, with the module that its range tells.
 use Rattle.std.proofs.Common.{◌≡◌, ◌≤◌, length, map, take}
-use Rattle.bundle_piece.specs.Item.{item_of}
-use Rattle.bundle_terms.specs.Sorting.{owners_by}
+use Rattle.bundle_tree_piece.specs.Item.{item_of}
+use Rattle.bundle_rules.specs.Sorting.{owners_by}
 use Rattle.bundle_order.specs.Grouped.{AreAscending, ArePast, IsGroup, ends_of}
 use Rattle.bundle_order.proofs.needs.group_by.Given as goal
 

@@ -1,7 +1,7 @@
 use Rattle.std.proofs.Common.{◌++◌, ◌∷◌, [], Vec, Global, ℕ, List, append_assoc, append-nil, cond, get_or, map, take, sym, ap, ◌∙◌, arith}
 use Rattle.std.proofs.lemmas.List.{take_all}
-use Rattle.bundle_piece.specs.declared.piece.Piece.{Piece}
-use Rattle.bundle_piece.specs.Item.{Item, item_of}
+use Rattle.bundle_tree_piece.specs.declared.piece.Piece.{Piece}
+use Rattle.bundle_tree_piece.specs.Item.{Item, item_of}
 use Rattle.bundle_order.specs.declared.number.Place.{Place}
 use Rattle.bundle_order.specs.Numbering.{chosen_places, is_chosen, place_of}
 use Rattle.bundle_order.proofs.NumberingLemmas.{chosen-more}

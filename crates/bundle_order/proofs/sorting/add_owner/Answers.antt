@@ -1,6 +1,6 @@
 use Rattle.std.proofs.Common.{◌≡◌, ◌+◌, ◌<◌, ◌++◌, ◌∷◌, [], ℕ, zero, suc, List, length, map, take, append-nil, append_assoc, refl, sym, ap, ◌∙◌, arith}
 use Rattle.std.proofs.lemmas.List.{take_all}
-use Rattle.bundle_ast.specs.declared.module.ModuleItem.{ModuleItem}
+use Rattle.bundle_tree_ast.specs.declared.module.ModuleItem.{ModuleItem}
 use Rattle.bundle_order.proofs.sorting.add_owner.Goals as goal
 
 one_more : {X : Type 0} (xs : List X) (n k : ℕ) → k < length xs → map (λ (x : X). n) (take k xs) ++ n ∷ [] ≡ map (λ (x : X). n) (take (suc k) xs)

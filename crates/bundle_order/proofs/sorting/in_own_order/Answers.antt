@@ -1,6 +1,6 @@
 use Rattle.std.proofs.Common.{Vec, Global, ℕ, List, map, sym, ap, ◌∙◌, subst}
-use Rattle.bundle_ast.specs.declared.module.ModuleItem.{ModuleItem}
-use Rattle.bundle_pieces.specs.Tree.{module_item_items}
+use Rattle.bundle_tree_ast.specs.declared.module.ModuleItem.{ModuleItem}
+use Rattle.bundle_tree_listed.specs.Tree.{module_item_items}
 use Rattle.bundle_order.specs.Numbering.{IsOwnOrder}
 use Rattle.bundle_order.proofs.SortedLemmas.{own-listed}
 use Rattle.bundle_order.proofs.sorting.in_own_order.Goals as goal

@@ -1,6 +1,6 @@
 use Rattle.std.proofs.Common.{◌≡◌, ◌+◌, ◌++◌, ◌∷◌, [], ℕ, Vec, Global, List, length, get_or, map, take, sym, ap, ◌∙◌, arith}
 use Rattle.std.proofs.lemmas.List.{length-map, length-take-le, map-append, take_all, take_more}
-use Rattle.bundle_ast.specs.declared.module.ModuleItem.{ModuleItem}
+use Rattle.bundle_tree_ast.specs.declared.module.ModuleItem.{ModuleItem}
 use Rattle.bundle_order.specs.Numbering.{owners_of}
 use Rattle.bundle_order.proofs.SortedLemmas.{owners-push}
 use Rattle.bundle_order.proofs.sorting.owners_in.Goals as goal

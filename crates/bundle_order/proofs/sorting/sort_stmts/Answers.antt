@@ -1,10 +1,10 @@
 -- The items are sorted as their places are.
 use Rattle.std.proofs.Common.{◌≡◌, Vec, Global, ℕ, List, length, map, sym, ap, ◌∙◌, subst}
 use Rattle.std.specs.List.{flat_map}
-use Rattle.bundle_ast.specs.declared.module.ModuleItem.{ModuleItem}
-use Rattle.bundle_piece.specs.Item.{Item}
-use Rattle.bundle_pieces.specs.Tree.{module_item_items}
-use Rattle.bundle_terms.specs.Sorting.{IsSorted}
+use Rattle.bundle_tree_ast.specs.declared.module.ModuleItem.{ModuleItem}
+use Rattle.bundle_tree_piece.specs.Item.{Item}
+use Rattle.bundle_tree_listed.specs.Tree.{module_item_items}
+use Rattle.bundle_rules.specs.Sorting.{IsSorted}
 use Rattle.bundle_order.specs.Numbering.{IsSortedBy, owners_of}
 use Rattle.bundle_order.proofs.SortedLemmas.{IsSorted-all, as-long}
 use Rattle.bundle_order.proofs.sorting.sort_stmts.Goals as goal

@@ -1,13 +1,13 @@
 -- The tree has the names, and the contexts of plain words count for nothing.
 use Rattle.std.proofs.Common.{map, ap, ◌∙◌, subst}
-use Rattle.bundle_piece.specs.Item.{item_of}
-use Rattle.bundle_places.specs.Scopes.{Es}
-use Rattle.bundle_places.specs.Declarations.{ByContext}
-use Rattle.bundle_terms.specs.Rebuilds.{rebuilt}
-use Rattle.bundle_lists.specs.Changes.{change_of}
-use Rattle.bundle_denote.specs.Listed.{IsTable}
-use Rattle.bundle_naming.specs.declared.names.Contexts.TheVariants.{Clear}
-use Rattle.bundle_renaming.specs.Composed.{list_of}
+use Rattle.bundle_tree_piece.specs.Item.{item_of}
+use Rattle.bundle_rules.specs.Scopes.{Es}
+use Rattle.bundle_rules.specs.Declarations.{ByContext}
+use Rattle.bundle_rules.specs.Rebuilds.{rebuilt}
+use Rattle.bundle_tree_places.specs.Changes.{change_of}
+use Rattle.bundle_scope_denote.specs.Listed.{IsTable}
+use Rattle.bundle_scope_names.specs.declared.names.Contexts.TheVariants.{Clear}
+use Rattle.bundle_marks.specs.Composed.{list_of}
 use Rattle.bundle_scope.specs.Named.{words_aside}
 use Rattle.bundle_scope.proofs.NamedLemmas.{called-is}
 use Rattle.bundle_scope.proofs.naming.hygiene.Goals as goal

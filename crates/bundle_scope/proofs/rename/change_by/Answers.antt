@@ -1,7 +1,7 @@
 -- The renaming is asked for the name.
 use Rattle.std.proofs.Common.{unwrap_or, ap, ◌∙◌}
-use Rattle.bundle_lists.specs.Marks.{ident_of}
-use Rattle.bundle_renaming.specs.Renamings.{unchanged}
+use Rattle.bundle_tree_places.specs.Marks.{ident_of}
+use Rattle.bundle_marks.specs.Renamings.{unchanged}
 use Rattle.bundle_scope.proofs.RenameLemmas.{both}
 use Rattle.bundle_scope.proofs.rename.change_by.Goals as goal
 

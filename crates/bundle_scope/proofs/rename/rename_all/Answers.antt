@@ -1,8 +1,8 @@
 -- The changes are those by the renaming.
 use Rattle.std.proofs.Common.{map, ap, ◌∙◌}
-use Rattle.bundle_lists.specs.Changes.{change_of}
-use Rattle.bundle_lists.specs.Marks.{listed_of}
-use Rattle.bundle_renaming.specs.Composed.{list_of}
+use Rattle.bundle_tree_places.specs.Changes.{change_of}
+use Rattle.bundle_tree_places.specs.Marks.{listed_of}
+use Rattle.bundle_marks.specs.Composed.{list_of}
 use Rattle.bundle_scope.proofs.RenameLemmas.{renamed_all-is}
 use Rattle.bundle_scope.proofs.rename.rename_all.Goals as goal
 

@@ -2,11 +2,11 @@
 use Rattle.std.proofs.Common.{map, ap, ◌∙◌}
 use Rattle.std.proofs.lemmas.List.{append-nil}
 use Rattle.std.proofs.lemmas.Result.{IfOk-weaker}
-use Rattle.bundle_lists.specs.Changes.{change_of}
-use Rattle.bundle_lists.specs.Marks.{listed_of}
-use Rattle.bundle_pieces.specs.Tree.{module_item_items}
-use Rattle.bundle_renaming.specs.Composed.{list_of}
-use Rattle.bundle_terms.specs.Rebuilds.{listed}
+use Rattle.bundle_tree_places.specs.Changes.{change_of}
+use Rattle.bundle_tree_places.specs.Marks.{listed_of}
+use Rattle.bundle_tree_listed.specs.Tree.{module_item_items}
+use Rattle.bundle_marks.specs.Composed.{list_of}
+use Rattle.bundle_rules.specs.Rebuilds.{listed}
 use Rattle.bundle_scope.proofs.RenameLemmas.{renamed_all-is}
 use Rattle.bundle_scope.proofs.rename.rename_item.Goals as goal
 

@@ -1,8 +1,8 @@
 -- Where nothing is left of one of the lists, all changes are there.
 use Rattle.std.proofs.Common.{List, ◌++◌, map, inl, inr, append-nil, ap, sym, ◌∙◌}
-use Rattle.bundle_terms.specs.Rebuilds.{Change}
-use Rattle.bundle_lists.specs.Changes.{change_of}
-use Rattle.bundle_lists.specs.Marks.{ident_of}
+use Rattle.bundle_rules.specs.Rebuilds.{Change}
+use Rattle.bundle_tree_places.specs.Changes.{change_of}
+use Rattle.bundle_tree_places.specs.Marks.{ident_of}
 use Rattle.bundle_scope.proofs.FacesLemmas.{none-left}
 use Rattle.bundle_scope.proofs.resolve.changes_to.Goals as goal
 

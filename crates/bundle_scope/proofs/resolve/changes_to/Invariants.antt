@@ -1,8 +1,8 @@
 -- The changes so far, and those of what is left of both lists, are all.
 use Rattle.std.proofs.Common.{◌≡◌, ◌++◌, map}
-use Rattle.bundle_terms.specs.Rebuilds.{changes_to}
-use Rattle.bundle_lists.specs.Changes.{change_of}
-use Rattle.bundle_lists.specs.Marks.{ident_of}
+use Rattle.bundle_rules.specs.Rebuilds.{changes_to}
+use Rattle.bundle_tree_places.specs.Changes.{change_of}
+use Rattle.bundle_tree_places.specs.Marks.{ident_of}
 use Rattle.bundle_scope.specs.Faces.{in_contexts}
 use Rattle.bundle_scope.proofs.resolve.changes_to.Given as goal
 

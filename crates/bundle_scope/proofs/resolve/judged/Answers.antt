@@ -1,8 +1,8 @@
 -- The name is that of the first declaration that is doubled.
 use Rattle.std.proofs.Common.{map, subst}
-use Rattle.bundle_piece.specs.Item.{item_of}
-use Rattle.bundle_places.specs.Doubled.{first_doubled}
-use Rattle.bundle_denote.specs.Kinds.{kind_as}
+use Rattle.bundle_tree_piece.specs.Item.{item_of}
+use Rattle.bundle_rules.specs.Doubled.{first_doubled}
+use Rattle.bundle_scope_denote.specs.Kinds.{kind_as}
 use Rattle.bundle_scope.specs.Refusals.{IsDoubled, doubled}
 use Rattle.bundle_scope.proofs.RefusalLemmas.{told-is}
 use Rattle.bundle_scope.proofs.resolve.judged.Goals as goal

@@ -1,11 +1,11 @@
 -- The tree that is made is the tree with the contexts.
 use Rattle.std.proofs.Common.{List, ℕ, map, ap, ◌∙◌}
-use Rattle.bundle_piece.specs.Item.{item_of}
-use Rattle.bundle_terms.specs.Rebuilds.{changes_to, listed, rebuilt}
-use Rattle.bundle_lists.specs.Changes.{change_of}
-use Rattle.bundle_lists.specs.Marks.{ident_of, listed_of}
-use Rattle.bundle_denote.specs.Kinds.{kind_as}
-use Rattle.bundle_renaming.specs.Composed.{list_of}
+use Rattle.bundle_tree_piece.specs.Item.{item_of}
+use Rattle.bundle_rules.specs.Rebuilds.{changes_to, listed, rebuilt}
+use Rattle.bundle_tree_places.specs.Changes.{change_of}
+use Rattle.bundle_tree_places.specs.Marks.{ident_of, listed_of}
+use Rattle.bundle_scope_denote.specs.Kinds.{kind_as}
+use Rattle.bundle_marks.specs.Composed.{list_of}
 use Rattle.bundle_scope.specs.Faces.{in_contexts}
 use Rattle.bundle_scope.proofs.FacesLemmas.{resolved-so}
 use Rattle.bundle_scope.proofs.resolve.resolve_scopes.Goals as goal

@@ -1,8 +1,8 @@
 -- One more is the same, the contexts of plain words aside.
 use Rattle.std.proofs.Common.{ap, ◌∙◌}
 use Rattle.std.proofs.lemmas.List.{length-set}
-use Rattle.bundle_piece.specs.declared.piece.Role.TheVariants.{Reference}
-use Rattle.bundle_pieces.specs.Tree.{export_specifier_items}
+use Rattle.bundle_tree_piece.specs.declared.piece.Role.TheVariants.{Reference}
+use Rattle.bundle_tree_listed.specs.Tree.{export_specifier_items}
 use Rattle.bundle_scope.specs.Named.{words_aside}
 use Rattle.bundle_scope.proofs.WordsLemmas.{words_set}
 use Rattle.bundle_scope.proofs.words.clear_exports.Goals as goal

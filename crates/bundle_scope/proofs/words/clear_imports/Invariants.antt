@@ -1,7 +1,7 @@
 -- The lists so far are the same, the contexts of plain words aside.
 use Rattle.std.proofs.Common.{◌≡◌, length}
 use Rattle.std.specs.List.{flat_map}
-use Rattle.bundle_pieces.specs.Tree.{import_specifier_items}
+use Rattle.bundle_tree_listed.specs.Tree.{import_specifier_items}
 use Rattle.bundle_scope.specs.Named.{words_aside}
 use Rattle.bundle_scope.proofs.words.clear_imports.Given as goal
 

@@ -1,8 +1,8 @@
 -- The lists so far are the same, the contexts of plain words aside.
 use Rattle.std.proofs.Common.{◌≡◌, length}
 use Rattle.std.specs.List.{flat_map}
-use Rattle.bundle_piece.specs.declared.piece.Role.TheVariants.{Word}
-use Rattle.bundle_pieces.specs.Tree.{export_specifier_items}
+use Rattle.bundle_tree_piece.specs.declared.piece.Role.TheVariants.{Word}
+use Rattle.bundle_tree_listed.specs.Tree.{export_specifier_items}
 use Rattle.bundle_scope.specs.Named.{words_aside}
 use Rattle.bundle_scope.proofs.words.clear_names.Given as goal
 

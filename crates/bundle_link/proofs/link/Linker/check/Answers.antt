@@ -2,9 +2,9 @@
 use Rattle.std.proofs.Common.{List, Contains, Some, length, refl, sym, ap, ◌∙◌, subst, slice_get}
 use Rattle.std.specs.Prelude.{IfSome}
 use Rattle.std.proofs.lemmas.Option.{slice_get_read}
-use Rattle.bundle_name.specs.FileName.{name_of}
-use Rattle.bundle_terms.specs.Tables.{IsChecked}
-use Rattle.bundle_targets.proofs.FirstLemmas.{is_none}
+use Rattle.bundle_tree_names.specs.FileName.{name_of}
+use Rattle.bundle_rules.specs.Tables.{IsChecked}
+use Rattle.bundle_link_targets.proofs.FirstLemmas.{is_none}
 use Rattle.bundle_link.specs.Refusals.{files_of}
 use Rattle.bundle_link.specs.declared.transformed.TransformedModule.{TransformedModule}
 use Rattle.bundle_link.proofs.CheckLemmas.{are_modules, fault_checked, module_there, none_checked}

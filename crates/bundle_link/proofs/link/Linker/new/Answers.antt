@@ -1,7 +1,7 @@
 -- The modules are linked as those of the program are; where memory runs out nothing is made.
 use Rattle.std.proofs.Common.{List, inl, refl, sym, ap, ◌∙◌, subst}
 use Rattle.std.proofs.lemmas.Result.{IfOk-from_err, err_from_is_err_and}
-use Rattle.bundle_terms.specs.Nodes.{numbers_once}
+use Rattle.bundle_rules.specs.Nodes.{numbers_once}
 use Rattle.bundle_link.specs.Programs.{AreModulesOf, numbers}
 use Rattle.bundle_link.proofs.CheckLemmas.{files_at, trees_of}
 use Rattle.bundle_link.specs.declared.transformed.TransformedModule.{TransformedModule}

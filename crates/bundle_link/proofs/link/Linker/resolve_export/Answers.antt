@@ -1,8 +1,8 @@
 -- What is found by places is handed out with the numbers of modules.
 use Rattle.std.proofs.Common.{sym, subst}
 use Rattle.std.proofs.lemmas.Result.{IfOk-weaker}
-use Rattle.bundle_terms.specs.Tables as r
-use Rattle.bundle_terms.specs.Tables.{IsResolution}
+use Rattle.bundle_rules.specs.Tables as r
+use Rattle.bundle_rules.specs.Tables.{IsResolution}
 use Rattle.bundle_link.proofs.link.Linker.resolve_export.Goals as goal
 
 pub returns-clause-found : goal.returns-clause-found

@@ -2,11 +2,11 @@
 use Rattle.std.proofs.Common.{◌≡◌, ℕ, ◌+◌, Bool, true, false, not, cond, Option, None, Some, is_some, unwrap_or, List, [], ◌∷◌, ◌++◌, length, map, refl, sym, ap, ◌∙◌, arith}
 use Rattle.std.proofs.lemmas.Bool.{false≢true}
 use Rattle.std.proofs.lemmas.List.{length-append, length-map, map-append}
-use Rattle.bundle_piece.specs.declared.piece.Piece.{Piece}
-use Rattle.bundle_piece.specs.Item.{Item, item_of}
-use Rattle.bundle_needs.specs.declared.needs.ItemRange.{ItemRange}
-use Rattle.bundle_needs.specs.Cut.{cut_items}
-use Rattle.bundle_needs.specs.Owners.{module_of}
+use Rattle.bundle_tree_piece.specs.declared.piece.Piece.{Piece}
+use Rattle.bundle_tree_piece.specs.Item.{Item, item_of}
+use Rattle.bundle_order_needs.specs.declared.needs.ItemRange.{ItemRange}
+use Rattle.bundle_order_needs.specs.Cut.{cut_items}
+use Rattle.bundle_order_needs.specs.Owners.{module_of}
 use Rattle.bundle_order.specs.Grouped.{begun}
 use Rattle.bundle_order.proofs.GroupLemmas.{begun-push, cut-more}
 use Rattle.bundle_order.proofs.group.Group.add.Goals as goal

@@ -1,21 +1,21 @@
 -- What is found in the closed list is that of the items.
 use Rattle.std.proofs.Common.{◌≡◌, ℕ, Bool, Option, List, [], ◌∷◌, ◌++◌, map, refl, sym, ap, ◌∙◌, subst}
 use Rattle.std.proofs.lemmas.List.{map-append}
-use Rattle.bundle_piece.specs.declared.piece.Piece.{Piece}
-use Rattle.bundle_piece.specs.declared.piece.Piece.TheVariants as p
-use Rattle.bundle_piece.specs.Item as h
-use Rattle.bundle_piece.specs.Item.{Item, item_of}
-use Rattle.bundle_places.specs.Scopes.{Es, Top}
-use Rattle.bundle_places.specs.Declarations.{ByContext}
-use Rattle.bundle_terms.specs.Order.{group_of}
-use Rattle.bundle_terms.specs.Parts.{tree_of_items}
-use Rattle.bundle_terms.specs.Sorting.{flat}
-use Rattle.bundle_terms.specs.Statements.{TopItem, placed}
-use Rattle.bundle_denote.specs.Listed.{IsTable}
-use Rattle.bundle_mentions.specs.Found.{AreFound}
-use Rattle.bundle_needs.specs.declared.needs.ItemRange.{ItemRange}
-use Rattle.bundle_needs.specs.Cut.{cut_items, dependencies_of}
-use Rattle.bundle_needs.specs.Owners.{module_of, sorted_owner_of, owner_of as range_owner}
+use Rattle.bundle_tree_piece.specs.declared.piece.Piece.{Piece}
+use Rattle.bundle_tree_piece.specs.declared.piece.Piece.TheVariants as p
+use Rattle.bundle_tree_piece.specs.Item as h
+use Rattle.bundle_tree_piece.specs.Item.{Item, item_of}
+use Rattle.bundle_rules.specs.Scopes.{Es, Top}
+use Rattle.bundle_rules.specs.Declarations.{ByContext}
+use Rattle.bundle_rules.specs.Order.{group_of}
+use Rattle.bundle_rules.specs.Parts.{tree_of_items}
+use Rattle.bundle_rules.specs.Sorting.{flat}
+use Rattle.bundle_rules.specs.Statements.{TopItem, placed}
+use Rattle.bundle_scope_denote.specs.Listed.{IsTable}
+use Rattle.bundle_order_needs.specs.Found.{AreFound}
+use Rattle.bundle_order_needs.specs.declared.needs.ItemRange.{ItemRange}
+use Rattle.bundle_order_needs.specs.Cut.{cut_items, dependencies_of}
+use Rattle.bundle_order_needs.specs.Owners.{module_of, sorted_owner_of, owner_of as range_owner}
 use Rattle.bundle_order.specs.Owned.{owner_by}
 use Rattle.bundle_order.proofs.group.Group.dependencies.Goals as goal
 

@@ -1,4 +1,0 @@
-pub mod Merged
-pub mod Places
-pub mod Plan
-pub mod Rows

@@ -1,9 +1,0 @@
--- What was read of a list is the program of each entry.
-use Rattle.std.proofs.Common.{refl}
-use Rattle.bundle_bundler.specs.Kept.{kept_of, settings_of}
-use Rattle.bundle_bundler.proofs.Sources.{read_of}
-use Rattle.bundle_bundler.proofs.program.program_on.Goals as goal
-
-pub returns : goal.returns
-returns g c =
-    read_of c.program_of.result (settings_of c.args.config.now) (kept_of c.args.library.now.kept) c.args.list.now _ _ _ refl c.as_slice.ensures.value c.in_ok-sources.ensures c.program_of.ensures.program c.program_of.ensures.files

@@ -1,9 +1,0 @@
-pub mod HeadLemmas
-pub mod PathLemmas
-pub mod DenotesLemmas
-pub mod NodeLemmas
-pub mod EntryLemmas
-pub mod CallLemmas
-pub mod FaultLemmas
-pub mod ReadLemmas
-pub mod CountLemmas

@@ -1,9 +1,0 @@
--- The modules before this one are answered.
-use Rattle.std.specs.Prelude.{ℕ}
-use Rattle.bundle_terms.specs.Program.{Program}
-use Rattle.bundle_entry.specs.Asked.{AreAnsweredBefore}
-use Rattle.bundle_entry.specs.Linked.{IsCallOf, IsLinkedEntry}
-use Rattle.bundle_entry.proofs.entry.ask_all.Given as goal
-
-abbrev pub invariant-loop-module : goal.invariant-loop-module
-invariant-loop-module g l = (p : Program) (entry : ℕ) → IsCallOf p entry l.call → IsLinkedEntry p l.call l.linked → AreAnsweredBefore ((goal.Hook-dyn g l.hook.now).may_give l.hook.now.1) p l.linked.reached.list.items l.«module»

@@ -1,8 +1,0 @@
--- The occurrences tell it.
-use Rattle.std.proofs.Common.{◌∙◌, codes, map}
-use Rattle.bundle_piece.specs.Item.{item_of}
-use Rattle.bundle_tables.proofs.FreeLemmas.{has_free_told}
-use Rattle.bundle_entry.proofs.meta.has_free_arguments.Goals as goal
-
-pub returns : goal.returns
-returns c = λ is. c.some_free.ensures ∙ has_free_told (map item_of c.args.pieces.now) c.args.names.now is (codes "arguments")

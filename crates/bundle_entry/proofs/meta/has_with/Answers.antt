@@ -1,8 +1,0 @@
--- The list has one if some element begins one.
-use Rattle.std.proofs.Common.{◌∙◌}
-use Rattle.bundle_terms.specs.Bundle.{is_with}
-use Rattle.bundle_tables.proofs.HeadLemmas.{has_head_any}
-use Rattle.bundle_entry.proofs.meta.has_with.Goals as goal
-
-pub returns : goal.returns
-returns c = c.some_with.ensures ∙ has_head_any is_with c.args.pieces.now

@@ -1,6 +1,0 @@
-use Rattle.std.proofs.Common.{◌∙◌, sym}
-use Rattle.bundle_form.proofs.Plain.{as_bool-plain}
-use Rattle.bundle_form.proofs.seen.as_bool.Goals as goal
-
-pub returns : goal.returns
-returns c = c.as_bool.ensures ∙ sym (as_bool-plain _)

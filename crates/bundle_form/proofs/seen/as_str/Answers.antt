@@ -1,6 +1,0 @@
-use Rattle.std.proofs.Common.{◌∙◌, sym}
-use Rattle.bundle_form.proofs.Plain.{as_str-plain}
-use Rattle.bundle_form.proofs.seen.as_str.Goals as goal
-
-pub returns : goal.returns
-returns c = c.as_str.ensures ∙ sym (as_str-plain _)

@@ -1,8 +1,0 @@
--- The copies so far are those of the items passed.
-use Rattle.std.proofs.Common.{◌≡◌, flat_map, take}
-use Rattle.bundle_pieces.specs.Tree.{stmt_items}
-use Rattle.bundle_forms.specs.Wrapped.{stated}
-use Rattle.bundle_forms.proofs.statements.statements.Given as goal
-
-abbrev pub invariant-loop-item : goal.invariant-loop-item
-invariant-loop-item l = flat_map (stmt_items 0) l.stmts.items ≡ flat_map stated (take l.item-index l.items)

@@ -1,5 +1,0 @@
-use Rattle.bundle_graph.proofs.BitLemmas.{JoinedTo}
-use Rattle.bundle_graph.proofs.rows.Row.union.Given as goal
-
-abbrev pub invariant-loop-at : goal.invariant-loop-at
-invariant-loop-at l = JoinedTo l.initial.self-inside.words.items l.other-items l.at l.grown l.self-inside.words.items

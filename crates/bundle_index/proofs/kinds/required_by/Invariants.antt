@@ -1,6 +1,0 @@
-use Rattle.std.proofs.Common.{take}
-use Rattle.bundle_index.specs.Handed.{HasNumbers, required_by}
-use Rattle.bundle_index.proofs.kinds.required_by.Given as goal
-
-abbrev pub invariant-loop-number : goal.invariant-loop-number
-invariant-loop-number l = HasNumbers l.required (required_by l.modules (take l.number-index l.list))

@@ -1,9 +1,0 @@
--- The parameters so far are those of the names passed.
-use Rattle.std.proofs.Common.{◌≡◌, flat_map, map, take}
-use Rattle.bundle_pieces.specs.Tree.{param_items}
-use Rattle.bundle_lists.specs.Marks.{ident_of}
-use Rattle.bundle_inject.specs.Listed.{parameter}
-use Rattle.bundle_inject.proofs.function.parameters.Given as goal
-
-abbrev pub invariant-loop-name : goal.invariant-loop-name
-invariant-loop-name l = flat_map (param_items 0) l.params.items ≡ flat_map parameter (map ident_of (take l.name-index l.names))

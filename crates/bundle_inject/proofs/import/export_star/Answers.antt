@@ -1,9 +1,0 @@
--- A string alone.
-use Rattle.std.proofs.Common.{ap}
-use Rattle.bundle_piece.specs.Item as h
-use Rattle.bundle_pieces.specs.Tree.{node}
-use Rattle.bundle_terms.specs.Statements.{no_notes}
-use Rattle.bundle_inject.proofs.import.export_star.Goals as goal
-
-pub returns : goal.returns
-returns c = ap (node 0 (h.ExportAll no_notes)) (c.in_ok-src.ensures 0)

@@ -1,6 +1,0 @@
-use Rattle.std.proofs.Common.{◌≡◌, ℕ, ◌<◌, true, get_or}
-use Rattle.bundle_inline.specs.Chains.{is_last_at}
-use Rattle.bundle_inline.proofs.chains.are_last.Given as goal
-
-abbrev pub invariant-loop-end : goal.invariant-loop-end
-invariant-loop-end l = (k : ℕ) → k < l.end-index → is_last_at l.next (get_or l.ends k 0) ≡ true

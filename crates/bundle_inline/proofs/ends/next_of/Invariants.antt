@@ -1,7 +1,0 @@
--- Those that were passed.
-use Rattle.std.proofs.Common.{◌≡◌, take}
-use Rattle.bundle_inline.specs.Pairs.{next_by}
-use Rattle.bundle_inline.proofs.ends.next_of.Given as goal
-
-abbrev pub invariant-loop-pair : goal.invariant-loop-pair
-invariant-loop-pair l = l.next.items ≡ next_by l.numbers (take l.pair-index l.pairs)

@@ -1,6 +1,0 @@
--- The pairs that were passed have their numbers.
-use Rattle.bundle_inline.specs.Pairs.{AreNumbers}
-use Rattle.bundle_inline.proofs.ends.numbers_of.Given as goal
-
-abbrev pub invariant-loop-number : goal.invariant-loop-number
-invariant-loop-number l = AreNumbers l.pairs l.number l.numbers

@@ -1,4 +1,0 @@
-pub mod Aliased
-pub mod Chains
-pub mod Made
-pub mod Pairs

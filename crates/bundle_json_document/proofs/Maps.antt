@@ -1,0 +1,154 @@
+-- Members of an object beside the entries of a map: those that are put in as they are read, and those that are put
+-- in the order of their names.
+use Rattle.std.proofs.Common.{◌≡◌, ◌+◌, ◌<◌, ℕ, List, [], ◌∷◌, ◌++◌, length, take, get_or, Bor, String, Global, Ordering, Less, Equal, Greater, string_bytes, string_cmp, nat_cmp, refl, ap, sym, subst, append_assoc, ◌∙◌}
+use Rattle.std.proofs.lemmas.Cmp.{nat_list_cmp_total}
+use Rattle.std.proofs.lemmas.List.{take_more}
+use Rattle.std.specs.BTreeMap.{insert_entry}
+use Rattle.std.specs.Cmp.Lexicographic.{slice_cmp}
+use Rattle.std.specs.List.{AllByRecursion, AllZip}
+use Rattle.std.specs.List.Sorted.{IsStrictlySortedBy}
+use Rattle.std.specs.Map.{keys_of}
+use Rattle.std.specs.Ordering.{match_ordering, ordering_reverse}
+use Rattle.json.specs.Value.{members_view}
+use Rattle.json.specs.declared.value.Value.{Value}
+use Rattle.serde_json.specs.Data.{Data, Members, no_members, member, object, put}
+use Rattle.serde_json.specs.View.{members_of}
+use Rattle.bundle_json_form.specs.Plain.{plain_members, seen}
+use Rattle.bundle_json_document.specs.Document.{IsMap}
+use Rattle.bundle_json_document.specs.Seen.{last_members}
+use Rattle.bundle_json_document.proofs.Lists.{zip_more}
+
+-- the same name, and what is asked of the value
+abbrev pub Named : {X : Type 0} → (Data → X → Type 0) → String Global × Data → String Global × X → Type 0
+Named R m x = (string_bytes m.0 ≡ string_bytes x.0) × R m.1 x.1
+
+-- the members stand one by one for the entries of a map
+abbrev pub AreEntries : {X : Type 0} → (Data → X → Type 0) → List (String Global × X) → Members → Type 0
+AreEntries R xs ms = (them : List (String Global × Data)) × (ms ≡ members_of them) × AllZip (Named R) them xs
+
+pub no_entry : {X : Type 0} (R : Data → X → Type 0) → AreEntries R [] no_members
+no_entry R = ([], refl, tt)
+
+pub is_map : {X : Type 0} (R : Data → X → Type 0) (xs : List (String Global × X)) (ms : Members) → AreEntries R xs ms → IsMap R xs (object ms)
+is_map R xs ms are = (are.0, ap object are.1, are.2)
+
+put_at : (o : Ordering) (a b c : List (String Global × Data)) → members_of (match_ordering o a b c) ≡ match_ordering o (members_of a) (members_of b) (members_of c)
+put_at Less a b c = refl
+put_at Equal a b c = refl
+put_at Greater a b c = refl
+
+put_entry : (them : List (String Global × Data)) (k : String Global) (d : Data) → members_of (insert_entry string_cmp them k d) ≡ put (string_bytes k) d (members_of them)
+put_entry [] k d = refl
+put_entry (m ∷ them) k d = put_at (string_cmp k m.0) _ _ _ ∙ rw (put_entry them k d)
+
+zip_at : {A B : Type 0} (R : A → B → Type 0) (o : Ordering) (a b c : List A) (x y z : List B) → AllZip R a x → AllZip R b y → AllZip R c z → AllZip R (match_ordering o a b c) (match_ordering o x y z)
+zip_at R Less a b c x y z less equal greater = less
+zip_at R Equal a b c x y z less equal greater = equal
+zip_at R Greater a b c x y z less equal greater = greater
+
+zip_put : {X : Type 0} (R : Data → X → Type 0) (them : List (String Global × Data)) (xs : List (String Global × X)) (k : String Global) (d : Data) (x : X) → AllZip (Named R) them xs → R d x
+    → AllZip (Named R) (insert_entry string_cmp them k d) (insert_entry string_cmp xs k x)
+zip_put R [] [] k d x all here = ((refl, here), tt)
+zip_put R [] (y ∷ xs) k d x all here = absurd all
+zip_put R (m ∷ them) [] k d x all here = absurd all
+zip_put R (m ∷ them) (y ∷ xs) k d x all here =
+    let same : string_cmp k m.0 ≡ string_cmp k y.0 = ap (slice_cmp nat_cmp (string_bytes k)) all.0.0 in
+    rw same (zip_at (Named R) (string_cmp k y.0) _ _ _ _ _ _ ((refl, here), all) ((all.0.0, here), all.1) (all.0, zip_put R them xs k d x all.1 here))
+
+-- one member is put in
+pub entry_put : {X : Type 0} (R : Data → X → Type 0) (xs new : List (String Global × X)) (ms : Members) (key : List ℕ) (k : String Global) (d : Data) (x : X) → AreEntries R xs ms → string_bytes k ≡ key → R d x
+    → new ≡ insert_entry string_cmp xs k x → AreEntries R new (put key d ms)
+entry_put R xs new ms key k d x are named here is =
+    (insert_entry string_cmp are.0 k d, ap (put key d) are.1 ∙ ap (λ it. put it d (members_of are.0)) (sym named) ∙ sym (put_entry are.0 k d), subst (AllZip (Named R) (insert_entry string_cmp are.0 k d)) (sym is) (zip_put R are.0 xs k d x are.2 here))
+
+-- The last member of each key.
+
+abbrev pub Entry : Type 0
+Entry = Bor (List ℕ) × Bor (Value Global)
+
+abbrev text_cmp : Bor (List ℕ) → Bor (List ℕ) → Ordering
+text_cmp a b = slice_cmp nat_cmp a.now b.now
+
+last_at : (o : Ordering) (a b c : List Entry) → last_members (match_ordering o a b c) ≡ match_ordering o (last_members a) (last_members b) (last_members c)
+last_at Less a b c = refl
+last_at Equal a b c = refl
+last_at Greater a b c = refl
+
+pub last_put : (es : List Entry) (k : Bor (List ℕ)) (v : Bor (Value Global)) → last_members (insert_entry text_cmp es k v) ≡ put k.now (seen v.now) (last_members es)
+last_put [] k v = refl
+last_put (e ∷ es) k v = last_at (text_cmp k e.0) _ _ _ ∙ rw (last_put es k v)
+
+pub plain-then : (ms : List (Bor (List ℕ) × Value Global)) (m : Bor (List ℕ) × Value Global) (old : Members) → plain_members (members_view (ms ++ m ∷ [])) old ≡ put m.0.now (seen m.1) (plain_members (members_view ms) old)
+plain-then [] m old = refl
+plain-then (n ∷ ms) m old = plain-then ms m (put n.0.now (seen n.1) old)
+
+-- one member more, the last of its key
+pub last_turn : (all : List (Bor (List ℕ) × Value Global)) (i : ℕ) (m : Bor (List ℕ) × Value Global) (es new : List Entry) (v : Bor (Value Global)) → i < length all → m ≡ get_or all i m
+    → last_members es ≡ plain_members (members_view (take i all)) no_members → v.now ≡ m.1 → new ≡ insert_entry text_cmp es m.0 v → last_members new ≡ plain_members (members_view (take (i + 1) all)) no_members
+last_turn all i m es new v inside is so_far shown is_new =
+    let front : take (i + 1) all ≡ take i all ++ m ∷ [] = take_more all i m inside ∙ ap (λ it. take i all ++ it ∷ []) (sym is) in
+    ap last_members is_new ∙ last_put es m.0 v ∙ ap (put m.0.now (seen v.now)) so_far ∙ ap (λ x. put m.0.now (seen x) (plain_members (members_view (take i all)) no_members)) shown ∙ sym (plain-then (take i all) m no_members)
+    ∙ ap (λ it. plain_members (members_view it) no_members) (sym front)
+
+-- the same name, and what is asked of the value
+abbrev pub Under : {X : Type 0} → (Data → X → Type 0) → Entry → String Global × X → Type 0
+Under R m x = (m.0.now ≡ string_bytes x.0) × R (seen m.1.now) x.1
+
+-- a key above all others goes last
+insert_last : {X : Type 0} (es : List (String Global × X)) (k : String Global) (x : X) → AllByRecursion (λ e. string_cmp k e.0 ≡ Greater) es → insert_entry string_cmp es k x ≡ es ++ (k, x) ∷ []
+insert_last [] k x above = refl
+insert_last (e ∷ es) k x above = rw above.0 (ap (λ them. e ∷ them) (insert_last es k x above.1))
+
+below_middle : (first : Entry) (done : List Entry) (e : Entry) (more : List Entry) → AllByRecursion (λ y. text_cmp first.0 y ≡ Less) (keys_of (done ++ e ∷ more)) → text_cmp first.0 e.0 ≡ Less
+below_middle first [] e more below = below.0
+below_middle first (m ∷ done) e more below = below_middle first done e more below.1
+
+above_all : {X : Type 0} (R : Data → X → Type 0) (done : List Entry) (es : List (String Global × X)) (e : Entry) (more : List Entry) (k : String Global) → AllZip (Under R) done es
+    → IsStrictlySortedBy text_cmp (keys_of (done ++ e ∷ more)) → e.0.now ≡ string_bytes k → AllByRecursion (λ it. string_cmp k it.0 ≡ Greater) es
+unfolding IsStrictlySortedBy
+above_all R [] [] e more k all sorted same = tt
+above_all R [] (f ∷ es) e more k all sorted same = absurd all
+above_all R (m ∷ done) [] e more k all sorted same = absurd all
+above_all R (m ∷ done) (f ∷ es) e more k all sorted same =
+    let above : slice_cmp nat_cmp e.0.now m.0.now ≡ Greater =
+    nat_list_cmp_total.antisymm e.0.now m.0.now ∙ ap ordering_reverse (below_middle m done e more sorted.0) in
+    let here : slice_cmp nat_cmp (string_bytes k) (string_bytes f.0) ≡ Greater = rw (sym same, sym all.0.0) above in
+    (here, above_all R done es e more k all.1 sorted.1 same)
+
+-- one member more
+members_more : {X : Type 0} (R : Data → X → Type 0) (done : List Entry) (es new : List (String Global × X)) (e : Entry) (more : List Entry) (k : String Global) (x : X) → AllZip (Under R) done es
+    → IsStrictlySortedBy text_cmp (keys_of (done ++ e ∷ more)) → e.0.now ≡ string_bytes k → R (seen e.1.now) x → new ≡ insert_entry string_cmp es k x → AllZip (Under R) (done ++ e ∷ []) new
+members_more R done es new e more k x all sorted same here put =
+    let last : new ≡ es ++ (k, x) ∷ [] = put ∙ insert_last es k x (above_all R done es e more k all sorted same) in
+    rw last (zip_more (Under R) done es e (k, x) all (same, here))
+
+-- one turn of a loop over members: those that are done, and those that are left
+pub turn : {X : Type 0} (R : Data → X → Type 0) (all left more : List Entry) (es new : List (String Global × X)) (e : Entry) (k : String Global) (x : X)
+    → (done : List Entry) × (all ≡ done ++ left) × AllZip (Under R) done es
+    → left ≡ e ∷ more → IsStrictlySortedBy text_cmp (keys_of all) → e.0.now ≡ string_bytes k → R (seen e.1.now) x → new ≡ insert_entry string_cmp es k x
+    → (done : List Entry) × (all ≡ done ++ more) × AllZip (Under R) done new
+turn R all left more es new e k x before first sorted same here put =
+    let done = before.0 in
+    let split : all ≡ done ++ e ∷ more = before.1 ∙ ap (λ it. done ++ it) first in
+    (done ++ e ∷ [], split ∙ sym (append_assoc done (e ∷ []) more), members_more R done es new e more k x before.2 (subst (λ it. IsStrictlySortedBy text_cmp (keys_of it)) split sorted) same here put)
+
+-- the members one by one
+pub each_named : {X : Type 0} (R : Data → X → Type 0) (es : List Entry) (xs : List (String Global × X)) → AllZip (Under R) es xs → AreEntries R xs (last_members es)
+each_named R [] [] all = ([], refl, tt)
+each_named R [] (x ∷ xs) all = absurd all
+each_named R (e ∷ es) [] all = absurd all
+each_named R (e ∷ es) (x ∷ xs) all =
+    let rest = each_named R es xs all.1 in
+    ((x.0, seen e.1.now) ∷ rest.0, ap (member e.0.now (seen e.1.now)) rest.1 ∙ ap (λ k. member k (seen e.1.now) (members_of rest.0)) all.0.0, ((refl, all.0.1), rest.2))
+
+append_nil : {A : Type 0} (xs : List A) → xs ++ [] ≡ xs
+append_nil [] = refl
+append_nil (x ∷ xs) = ap (λ r. x ∷ r) (append_nil xs)
+
+-- the map of the last member of each key
+pub last_map : {X : Type 0} (R : Data → X → Type 0) (all left : List Entry) (xs : List (String Global × X)) → (done : List Entry) × (all ≡ done ++ left) × AllZip (Under R) done xs → left ≡ []
+    → IsMap R xs (object (last_members all))
+last_map R all left xs before none =
+    let done = before.0 in
+    let split : all ≡ done = before.1 ∙ ap (λ it. done ++ it) none ∙ append_nil done in
+    is_map R xs (last_members all) (subst (λ it. AreEntries R xs (last_members it)) (sym split) (each_named R done xs before.2))

@@ -1,0 +1,17 @@
+use Rattle.std.proofs.Common.{◌≡◌, [], string_bytes, sym, arith, rules}
+use Rattle.bundle_json_document.specs.Document.{AreProperties}
+use Rattle.bundle_json_document.proofs.Maps.{last_map, turn}
+use Rattle.bundle_json_document.proofs.forms.lists_in.Goals as goal
+
+pub loop-name-preserved : goal.loop-name-preserved
+loop-name-preserved c =
+    let l = c.loop-name in
+    let copied : string_bytes c.in_ok-file.file ≡ c.in-Some.name.now.now = search rules in
+    turn AreProperties c.args.members.now.entries l.name-iterator c.next.new.self l.lists.entries c.insert.new.self.entries (c.in-Some.name.now, c.in-Some.value.now) c.in_ok-file.file c.in_ok-made.made
+    l.invariant c.in-Some.ensures.steps c.iter-name-items.ensures.ordered (sym copied) c.in_ok-made.ensures c.in_ok-insert.ensures.entries
+
+pub returns : goal.returns
+returns c =
+    let l = c.loop-name in
+    let over : l.name-iterator ≡ [] = grind arith in
+    last_map AreProperties c.args.members.now.entries l.name-iterator l.lists.entries l.invariant over

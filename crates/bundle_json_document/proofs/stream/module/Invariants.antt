@@ -1,0 +1,11 @@
+use Rattle.std.proofs.Common.{◌≤◌, length}
+use Rattle.serde_json.specs.Data.{Members}
+use Rattle.bundle_json_document.specs.Stream.{AreModuleParts}
+use Rattle.bundle_json_document.proofs.Turns.{ReadsMembers}
+use Rattle.bundle_json_document.proofs.stream.module.Given as goal
+
+abbrev pub invariant-members : goal.invariant-members
+invariant-members l = (ms : Members) × ReadsMembers 124 l.initial.reader l.reader ms × AreModuleParts ms l.parts × (length l.reader ≤ length l.initial.reader)
+
+abbrev pub decreases-members : goal.decreases-members
+decreases-members l = length l.reader

@@ -1,0 +1,102 @@
+-- What is read from the tokens of a text, while it is read.
+use Rattle.std.specs.Prelude.{◌≡◌, ℕ, List, [], Bool, true, false, not, ◌&&◌, Option, Some, None, IsSomeAnd, codes, flat_map}
+use Rattle.std.specs.BTreeMap.{BTreeMap}
+use Rattle.std.specs.declared.alloc.Global.{Global}
+use Rattle.std.specs.declared.string.String.{String}
+use Rattle.std.specs.declared.vec.Vec.{Vec}
+use Rattle.json.specs.Token.{Token}
+use Rattle.json.specs.Json as json
+use Rattle.serde_json.specs.Data.{Num, Data, Members, object, put}
+use Rattle.serde_json.specs.Find.{as_array, get_member, is_float}
+use Rattle.serde_json.specs.Read.{number_of, of_json, converted}
+use Rattle.serde_json.specs.Written.{has_float}
+use Rattle.bundle_tree_ast.specs.declared.expr.Expr.{Expr}
+use Rattle.bundle_tree_ast.specs.declared.module.Module.{Module}
+use Rattle.bundle_tree_ast.specs.declared.module.ModuleItem.{ModuleItem}
+use Rattle.bundle_tree_ast.specs.declared.prop.KeyValueProp.{KeyValueProp}
+use Rattle.bundle_tree_listed.specs.Tree.{module_item_items}
+use Rattle.bundle_json_form.specs.Form.{text_at, top, AreForms}
+use Rattle.bundle_tree_names.specs.declared.config.Config.{Config}
+use Rattle.bundle_tree_names.specs.declared.file_name.FileName.{FileName}
+use Rattle.bundle_json_document.specs.Document.{no_notes, AreLists, AreSettings, IsEntry, IsList, IsMap, IsModule}
+use Rattle.bundle_json_document.specs.declared.stream.ModuleParts.{ModuleParts}
+use Rattle.bundle_json_document.specs.declared.stream.Parts.{Parts}
+
+-- a number that is there and no float
+abbrev pub is_whole_number : Option Num → Bool
+is_whole_number None = false
+is_whole_number (Some n) = not (is_float n)
+
+-- no number is a float, nor beyond all floats
+abbrev mutual
+  pub is_whole : json.Json → Bool
+  is_whole json.null = true
+  is_whole (json.boolean b) = true
+  is_whole (json.number s) = is_whole_number (number_of s)
+  is_whole (json.string s) = true
+  is_whole (json.array js) = items_are_whole js
+  is_whole (json.object ms) = members_are_whole ms
+
+  pub items_are_whole : json.Items → Bool
+  items_are_whole json.no_items = true
+  items_are_whole (json.item j js) = is_whole j && items_are_whole js
+
+  pub members_are_whole : json.Members → Bool
+  members_are_whole json.no_members = true
+  members_are_whole (json.member k j ms) = is_whole j && members_are_whole ms
+
+-- the tokens `old` are those of the value `d` and then `new`, and no number in it is a float
+pub record IsNext (depth : ℕ) (old new : List Token) (d : Data) : Type 0 where
+  pub read : converted of_json (json.value depth old) ≡ Some (d, new)
+  pub no_float : has_float d ≡ false
+
+-- what is kept of the value under a key: what it stands for, and nothing where there is no value
+abbrev pub IsKept : {X : Type 0} → (Data → X → Type 0) → Option Data → Option X → Type 0
+IsKept R None None = Unit {0}
+IsKept R None (Some x) = ⊥
+IsKept R (Some d) None = ⊥
+IsKept R (Some d) (Some x) = R d x
+
+-- what each part of a document stands for
+
+abbrev pub AreSettingsIn : Data → Config → Type 0
+AreSettingsIn d config = AreSettings (Some d) config
+
+abbrev pub AreEntriesIn : Data → Vec (String Global × FileName) Global → Type 0
+AreEntriesIn d entries = IsList IsEntry entries.items d
+
+abbrev pub AreFilesIn : Data → BTreeMap (String Global) Module → Type 0
+AreFilesIn d files = IsMap IsModule files.entries d
+
+abbrev pub AreListsIn : Data → BTreeMap (String Global) (Vec (KeyValueProp Expr) Global) → Type 0
+AreListsIn d lists = AreLists (Some d) lists.entries
+
+-- what is kept of the members of a document
+pub record AreParts (ms : Members) (parts : Parts) : Type 0 where
+  pub config : IsKept AreSettingsIn (get_member (codes "config") ms) parts.config
+  pub entries : IsKept AreEntriesIn (get_member (codes "entries") ms) parts.entries
+  pub files : IsKept AreFilesIn (get_member (codes "files") ms) parts.files
+  pub lists : IsKept AreListsIn (get_member (codes "meta") ms) parts.lists
+
+-- the value has the forms of these items, one behind the other
+abbrev pub AreItems : Data → List ModuleItem → Type 0
+AreItems d items = IsSomeAnd (as_array d) (λ ds. AreForms no_notes top ds (flat_map (module_item_items 0) items))
+
+-- the items under a key, none where there is no value
+abbrev pub IsBody : Option Data → List ModuleItem → Type 0
+IsBody None items = items ≡ []
+IsBody (Some d) items = AreItems d items
+
+-- what is kept of the members of a module
+pub record AreModuleParts (ms : Members) (parts : ModuleParts) : Type 0 where
+  pub kind : parts.is_module ≡ true → text_at (codes "type") (object ms) ≡ Some (codes "Module")
+  pub body : IsBody (get_member (codes "body") ms) parts.items.body.items
+
+-- The value of a member under this key comes next, and what was kept of the members before it becomes what is kept of
+-- them and it.
+
+abbrev pub KeepsMember : List Token → List Token → List ℕ → Parts → Parts → Type 0
+KeepsMember ts rest key old new = (d : Data) × IsNext 126 ts rest d × ((ms : Members) → AreParts ms old → AreParts (put key d ms) new)
+
+abbrev pub KeepsModuleMember : List Token → List Token → List ℕ → ModuleParts → ModuleParts → Type 0
+KeepsModuleMember ts rest key old new = (d : Data) × IsNext 124 ts rest d × ((ms : Members) → AreModuleParts ms old → AreModuleParts (put key d ms) new)

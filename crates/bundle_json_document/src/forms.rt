@@ -1,0 +1,147 @@
+//! What stands in the values of a document: entries, modules and lists of properties.
+
+ghost use Rattle.std.specs.Prelude.{◌≡◌, IfOk};
+ghost use Rattle.serde_json.specs.Data.{object};
+ghost use Rattle.bundle_json_form.specs.Plain.{seen};
+ghost use Rattle.bundle_json_document.specs.Document.{no_notes, AreLists, AreProperties, IsEntry, IsList, IsMap, IsModule};
+ghost use Rattle.bundle_json_document.specs.Seen.{found, last_members};
+
+use crate::error::DocumentError;
+use crate::values::{Members, items_in, members_in, text_in};
+use bundle_json_form::{read_module, read_properties};
+use bundle_tree_ast::{ExportMetadata, KeyValueProp, Module};
+use bundle_tree_names::file_name::FileName;
+use bundle_tree_restore::{build_module, build_properties};
+use json::Value;
+use std::alloc::Global;
+use std::collections::BTreeMap;
+
+/// The properties of `import.meta`, by the names of files.
+pub(crate) type Lists = BTreeMap<String, Vec<KeyValueProp>>;
+
+/// The entries in a list. Refused where it is none, and for memory.
+pub(crate) fn entries(
+    alloc: Global,
+    value: &Value<'_>,
+) -> Result<Vec<(String, FileName)>, DocumentError>
+    ensures { IfOk result (λ entries. IsList IsEntry entries.items (seen value.now)) }
+{
+    let items = items_in(value)?;
+    let mut entries = Vec::new(alloc);
+    for item in items {
+        let entry = entry(alloc, item)?;
+        entries.push(entry)?;
+    }
+    Ok(entries)
+}
+
+// An entry: a pair of its name and its file.
+fn entry(alloc: Global, value: &Value<'_>) -> Result<(String, FileName), DocumentError>
+    ensures { IfOk result (IsEntry (seen value.now)) }
+{
+    let [name, file] = items_in(value)? else {
+        return Err(DocumentError::Form);
+    };
+    let name = text_in(alloc, name)?;
+    let file = FileName::Real(text_in(alloc, file)?);
+    Ok((name, file))
+}
+
+/// The modules under their names; `notes` is what is noted on what is handed in. Refused where one is of
+/// another form, and for memory.
+pub(crate) fn files<'v, 'a>(
+    alloc: Global,
+    value: &'v Value<'a>,
+    notes: &'a ExportMetadata,
+) -> Result<BTreeMap<String, Module>, DocumentError>
+    requires { notes.now ≡ no_notes }
+    ensures { IfOk result (λ files. IsMap IsModule files.entries (seen value.now)) }
+{
+    let members = members_in(alloc, value)?;
+    files_in(alloc, &members, notes)
+}
+
+// The modules under the names of these members.
+fn files_in<'v, 'a>(
+    alloc: Global,
+    members: &Members<'v, 'a>,
+    notes: &'a ExportMetadata,
+) -> Result<BTreeMap<String, Module>, DocumentError>
+    requires { notes.now ≡ no_notes }
+    ensures { IfOk result (λ files.
+        IsMap IsModule files.entries (object (last_members members.now.entries))) }
+{
+    let mut files = BTreeMap::new(alloc);
+    for (name, value) in members.iter() {
+        let made = module_in(alloc, value, notes)?;
+        let file = String::from_str(alloc, name)?;
+        drop(files.insert(file, made)?);
+    }
+    Ok(files)
+}
+
+// The module that has this form.
+fn module_in<'v, 'a>(
+    alloc: Global,
+    value: &'v Value<'a>,
+    notes: &'a ExportMetadata,
+) -> Result<Module, DocumentError>
+    requires { notes.now ≡ no_notes }
+    ensures { IfOk result (IsModule (seen value.now)) }
+{
+    let pieces = read_module(alloc, value, notes)?;
+    let made = build_module(alloc, pieces.as_slice())?;
+    Ok(made)
+}
+
+/// The lists of properties under the names of their files, none where nothing is said. Refused where one
+/// is of another form, and for memory.
+pub(crate) fn lists<'v, 'a>(
+    alloc: Global,
+    value: Option<&'v Value<'a>>,
+    notes: &'a ExportMetadata,
+) -> Result<Lists, DocumentError>
+    requires { notes.now ≡ no_notes }
+    ensures { IfOk result (λ lists. AreLists (found value.entry) lists.entries) }
+{
+    match value {
+        None => Ok(BTreeMap::new(alloc)),
+        Some(value) => {
+            let members = members_in(alloc, value)?;
+            lists_in(alloc, &members, notes)
+        }
+    }
+}
+
+// The lists of properties under the names of these members.
+fn lists_in<'v, 'a>(
+    alloc: Global,
+    members: &Members<'v, 'a>,
+    notes: &'a ExportMetadata,
+) -> Result<Lists, DocumentError>
+    requires { notes.now ≡ no_notes }
+    ensures { IfOk result (λ lists.
+        IsMap AreProperties lists.entries (object (last_members members.now.entries))) }
+{
+    let mut lists = BTreeMap::new(alloc);
+    for (name, value) in members.iter() {
+        let made = properties_in(alloc, value, notes)?;
+        let file = String::from_str(alloc, name)?;
+        drop(lists.insert(file, made)?);
+    }
+    Ok(lists)
+}
+
+// The properties that have the forms in this list.
+fn properties_in<'v, 'a>(
+    alloc: Global,
+    value: &'v Value<'a>,
+    notes: &'a ExportMetadata,
+) -> Result<Vec<KeyValueProp>, DocumentError>
+    requires { notes.now ≡ no_notes }
+    ensures { IfOk result (AreProperties (seen value.now)) }
+{
+    let pieces = read_properties(alloc, value, notes)?;
+    let made = build_properties(alloc, pieces.as_slice())?;
+    Ok(made)
+}

@@ -1,0 +1,206 @@
+//! From the JSON form of a tree to its list.
+
+ghost use Rattle.std.specs.Prelude.{◌≡◌, ◌+◌, [], ◌∷◌, ◌++◌, Some, map, codes, IfOk, OnOk, IsSomeAnd};
+ghost use Rattle.serde_json.specs.Find.{as_array, get};
+ghost use Rattle.bundle_tree_piece.specs.Item.{head_of, item_of};
+ghost use Rattle.bundle_json_form.specs.Form.{text_at, top, values, place_in as place_of_field, IsForm, AreForms};
+ghost use Rattle.bundle_json_form.specs.Layout.{field_of};
+ghost use Rattle.bundle_json_form.specs.Reading.{Grows};
+ghost use Rattle.bundle_json_form.specs.Plain.{items_seen, seen};
+
+use crate::error::FormError;
+use crate::layout::{Field, Shape, fields_of};
+use crate::node::Object;
+use crate::role::{Place, role_in, role_of_ident};
+use crate::seen::{get as get_in, is_null, items};
+use bundle_tree_leaf::kind::ExportMetadata;
+use bundle_tree_piece::{Node, Piece, Role};
+use json::Value;
+use std::alloc::Global;
+
+/// How deep nodes may nest: deeper than a document may.
+const LEVELS: u8 = 255;
+
+/// The pieces of the module whose JSON form `value` is; its declarations have the notes `meta`. Refused
+/// where it is another form, and for memory.
+pub fn read_module<'v, 'a>(
+    alloc: Global,
+    value: &'v Value<'a>,
+    meta: &'a ExportMetadata,
+) -> Result<Vec<Piece<'a>>, FormError>
+    ensures { IfOk result (λ list. IsForm meta.now top (seen value.now) (map item_of list.items)) }
+{
+    let mut pieces = Vec::new(alloc);
+    read_node(&mut pieces, Object { value, meta }, Place::top(), LEVELS)?;
+    Ok(pieces)
+}
+
+/// The pieces of the properties whose JSON forms stand in the list `value`, each in field 0. Refused
+/// where it is no list of forms, and for memory.
+pub fn read_properties<'v, 'a>(
+    alloc: Global,
+    value: &'v Value<'a>,
+    meta: &'a ExportMetadata,
+) -> Result<Vec<Piece<'a>>, FormError>
+    ensures { IfOk result (λ list. IsSomeAnd (as_array (seen value.now))
+        (λ forms. AreForms meta.now top forms (map item_of list.items))) }
+{
+    let mut pieces = Vec::new(alloc);
+    let list = items(value).ok_or(FormError::Form)?;
+    read_list(&mut pieces, list, meta, Place::top(), LEVELS)?;
+    Ok(pieces)
+}
+
+// How many levels are left below.
+fn below(levels: u8) -> Result<u8, FormError>
+    ensures { IfOk result (λ less. less + 1 ≡ levels) }
+{
+    match levels.checked_sub(1) {
+        Some(less) => Ok(less),
+        None => Err(FormError::Form),
+    }
+}
+
+fn add<'a>(pieces: &mut Vec<Piece<'a>>, piece: Piece<'a>) -> Result<(), FormError>
+    ensures { OnOk result
+        (map item_of pieces.new.items
+        ≡ map item_of pieces.old.items ++ item_of piece.entry ∷ []) }
+{
+    pieces.push(piece)?;
+    Ok(())
+}
+
+// Adds the node that the object stands for.
+#[cycle(read)]
+fn read_node<'v, 'a>(
+    pieces: &mut Vec<Piece<'a>>,
+    object: Object<'v, 'a>,
+    place: Place,
+    levels: u8,
+) -> Result<(), FormError>
+    ensures { OnOk result (Grows (IsForm object.entry.meta.now place (seen object.entry.value.now))
+        (map item_of pieces.old.items) (map item_of pieces.new.items)) }
+{
+    if object.text("type")? == "Ident" {
+        return read_ident(pieces, object, place);
+    }
+    let node = object.node()?;
+    let field = place.field;
+    add(pieces, Piece::Open { field, node })?;
+    let less = below(levels)?;
+    for field in fields_of(&node) {
+        if let Some(field) = field {
+            read_field(pieces, object, &node, place.names, field, less)?;
+        }
+    }
+    add(pieces, Piece::Close)
+}
+
+// Adds the identifier that the object stands for.
+fn read_ident<'v, 'a>(
+    pieces: &mut Vec<Piece<'a>>,
+    object: Object<'v, 'a>,
+    place: Place,
+) -> Result<(), FormError>
+    requires { text_at (codes "type") (seen object.value.now) ≡ Some (codes "Ident") }
+    ensures { OnOk result (Grows (IsForm object.entry.meta.now place (seen object.entry.value.now))
+        (map item_of pieces.old.items) (map item_of pieces.new.items)) }
+{
+    let sym = object.text("sym")?;
+    let Place {
+        field,
+        ident: role,
+        ..
+    } = place;
+    add(
+        pieces,
+        Piece::Ident {
+            field,
+            sym,
+            ctxt: 0,
+            role,
+        },
+    )
+}
+
+// Where the nodes in a field of `node` stand, whose names as a pattern are `names`.
+fn place_in(object: Object<'_, '_>, node: &Node, names: Role, field: Field) -> Place
+    ensures { result
+        ≡ place_of_field (head_of node.now) names (seen object.entry.value.now) (field_of field) }
+{
+    let number = field.number;
+    Place {
+        field: number,
+        ident: role_of_ident(node, number, names),
+        names: role_in(node, number, names, object.has("src")),
+        has_holes: match field.shape {
+            Shape::Places => true,
+            _ => false,
+        },
+    }
+}
+
+// Adds what stands in a field of a node.
+#[cycle(read)]
+fn read_field<'v, 'a>(
+    pieces: &mut Vec<Piece<'a>>,
+    object: Object<'v, 'a>,
+    node: &Node<'a>,
+    names: Role,
+    field: Field,
+    levels: u8,
+) -> Result<(), FormError>
+    ensures { OnOk result (IsSomeAnd
+        (values field.shape (get field.key.now (seen object.entry.value.now)))
+        (λ forms. Grows
+        (AreForms object.entry.meta.now
+        (place_of_field (head_of node.now) names (seen object.entry.value.now) (field_of field))
+        forms)
+        (map item_of pieces.old.items) (map item_of pieces.new.items))) }
+{
+    let place = place_in(object, node, names, field);
+    let meta = object.meta;
+    let Some(value) = get_in(object.value, field.key) else {
+        return match field.shape {
+            Shape::One => Err(FormError::Form),
+            Shape::Optional | Shape::List | Shape::Places => Ok(()),
+        };
+    };
+    match field.shape {
+        Shape::One => read_node(pieces, Object { value, meta }, place, levels),
+        Shape::Optional => {
+            if is_null(value) {
+                Ok(())
+            } else {
+                read_node(pieces, Object { value, meta }, place, levels)
+            }
+        }
+        Shape::List | Shape::Places => match items(value) {
+            Some(list) => read_list(pieces, list, meta, place, levels),
+            None => Err(FormError::Form),
+        },
+    }
+}
+
+// Adds the nodes of a list.
+#[cycle(read)]
+fn read_list<'v, 'a>(
+    pieces: &mut Vec<Piece<'a>>,
+    list: &'v [Value<'a>],
+    meta: &'a ExportMetadata,
+    place: Place,
+    levels: u8,
+) -> Result<(), FormError>
+    ensures { OnOk result (Grows (AreForms meta.now place (items_seen list.now))
+        (map item_of pieces.old.items) (map item_of pieces.new.items)) }
+{
+    for value in list {
+        if place.has_holes && is_null(value) {
+            let field = place.field;
+            add(pieces, Piece::Hole { field })?;
+        } else {
+            read_node(pieces, Object { value, meta }, place, levels)?;
+        }
+    }
+    Ok(())
+}

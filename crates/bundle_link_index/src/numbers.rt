@@ -1,0 +1,106 @@
+//! Numbers for names and for what is given.
+
+ghost use Rattle.std.specs.Prelude.{◌≡◌, IfOk, OnOk, slice_get};
+ghost use Rattle.bundle_link_index.specs.Said.{IsNumber};
+ghost use Rattle.bundle_link_index.specs.Numbered.{Inserts, IsEmpty, IsSpot, Reaches, names_of, values_of};
+ghost use Rattle.bundle_link_index.specs.Says.{answer_says, double, own_says, told_of, value_of};
+
+use crate::index::Answer;
+use crate::own::{Given, Own};
+use bundle_link_search as places;
+use indexmap::IndexSet;
+use std::alloc::{AllocError, Global};
+
+/// Names, and what own entries give, each once: its number is its place.
+#[derive(Drop)]
+pub(crate) struct Numbers<'a> {
+    pub(crate) names: IndexSet<&'a str>,
+    pub(crate) given: IndexSet<Given<'a>>,
+}
+
+impl<'a> Numbers<'a> {
+    // No name, and nothing that is given.
+    pub(crate) fn new(alloc: Global) -> Numbers<'a>
+        ensures { IsEmpty result }
+    {
+        Numbers {
+            names: IndexSet::new(alloc),
+            given: IndexSet::new(alloc),
+        }
+    }
+
+    // The number of a name.
+    pub(crate) fn of_name(&mut self, name: &'a str) -> Result<usize, AllocError>
+        ensures names { IfOk result (λ n.
+            Inserts (names_of self.old) (names_of self.new) name.now n) }
+        ensures values { OnOk result (values_of self.new ≡ values_of self.old) }
+    {
+        let (number, _) = self.names.insert_full(name)?;
+        Ok(number)
+    }
+
+    // The number of what is given.
+    pub(crate) fn of_given(&mut self, given: Given<'a>) -> Result<usize, AllocError>
+        ensures values { IfOk result (λ n.
+            Inserts (values_of self.old) (values_of self.new) (value_of given.entry) n) }
+        ensures names { OnOk result (names_of self.new ≡ names_of self.old) }
+    {
+        let (number, _) = self.given.insert_full(given)?;
+        Ok(number)
+    }
+
+    // What an own entry says, by numbers.
+    pub(crate) fn of_own(&mut self, own: Own<'a>) -> Result<places::Own, AllocError>
+        ensures number { IfOk result (λ its.
+            IsNumber (names_of self.new) (values_of self.new) (own_says own.entry) its) }
+        ensures more { OnOk result (Reaches self.old self.new) }
+    {
+        match own {
+            Own::Gives(given) => {
+                let number = self.of_given(given)?;
+                Ok(places::Own::Gives(number))
+            }
+            Own::Leads(asked) => {
+                let number = self.of_name(asked.name)?;
+                Ok(places::Own::Leads((asked.module, number)))
+            }
+            Own::Nothing => Ok(places::Own::Nothing),
+        }
+    }
+
+    // The number of a name of a module, where it has one.
+    pub(crate) fn spot(&self, number: usize, name: &str) -> Option<(usize, usize)>
+        ensures { IsSpot (names_of self.now) number name.now result }
+    {
+        match self.names.get_index_of(&name) {
+            Some(place) => Some((number, place)),
+            None => None,
+        }
+    }
+
+    // What was found by numbers.
+    pub(crate) fn answer(&self, found: places::Answer) -> Answer<'a>
+        ensures { answer_says result ≡ told_of (values_of self.now) found }
+    {
+        match found {
+            places::Answer::Missing => Answer::None,
+            places::Answer::One(value) => match self.given.get_index(value) {
+                Some(given) => Answer::One(*given),
+                None => Answer::None,
+            },
+            places::Answer::Two(first, second) => self.two(first, second),
+        }
+    }
+
+    // Two that were found.
+    fn two(&self, first: usize, second: usize) -> Answer<'a>
+        ensures { answer_says result
+            ≡ double (slice_get (values_of self.now) first)
+            (slice_get (values_of self.now) second) }
+    {
+        match (self.given.get_index(first), self.given.get_index(second)) {
+            (Some(first), Some(second)) => Answer::Two(*first, *second),
+            _ => Answer::None,
+        }
+    }
+}

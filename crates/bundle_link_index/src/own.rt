@@ -1,0 +1,146 @@
+//! What own entries of modules say.
+
+ghost use Rattle.std.specs.Prelude.{◌≡◌, ◌++◌, ◌∷◌, [], IfOk, OnOk, List, map, option_map};
+ghost use Rattle.bundle_rules.specs.Entries.{ImportEntry};
+ghost use Rattle.bundle_link_tables.specs.Exported.{Finds};
+ghost use Rattle.bundle_link_tables.specs.TablesOf.{export_entry_of, import_entry_of, taken_of};
+ghost use Rattle.bundle_link_index.specs.Said.{said_by, said_of, said_local, target_only};
+ghost use Rattle.bundle_link_index.specs.Leads.{lead_of};
+ghost use Rattle.bundle_link_index.specs.Says.{origin_of, own_says};
+
+use crate::kinds::{Kinds, Lead};
+use crate::target::Target;
+use bundle_link_tables::{Export, Import, Origin, Tables, Taken};
+use indexmap::IndexMap;
+use std::alloc::{AllocError, Global};
+
+/// A name of a module.
+#[derive(Clone, Copy, PartialEq, Eq, Hash)]
+pub struct Asked<'a> {
+    pub module: usize,
+    pub name: &'a str,
+}
+
+/// A target that is given, and the module and name bound by `import * as` with which it goes, if there is
+/// one. Two of equal target that go with different ones count as two.
+#[derive(Clone, Copy, PartialEq, Eq, Hash)]
+pub struct Given<'a> {
+    pub target: Target<'a>,
+    pub origin: Option<Asked<'a>>,
+}
+
+/// What an own entry of a module says.
+#[derive(Clone, Copy)]
+pub enum Own<'a> {
+    /// It gives this.
+    Gives(Given<'a>),
+    /// It gives what this name of an ECMAScript module gives.
+    Leads(Asked<'a>),
+    /// It gives nothing.
+    Nothing,
+}
+
+/// The first import of each name that the imports of a module bind.
+pub fn locals_of<'a>(
+    alloc: Global,
+    tables: &Tables<'a>,
+) -> Result<IndexMap<&'a str, Import<'a>>, AllocError>
+    ensures { IfOk result (λ locals. Finds locals (map import_entry_of tables.now.imports.items)) }
+{
+    let mut locals = IndexMap::new(alloc);
+    for import in &tables.imports {
+        note_import(&mut locals, *import)?;
+    }
+    Ok(locals)
+}
+
+// Notes an import, unless one of that name was noted.
+fn note_import<'a>(
+    locals: &mut IndexMap<&'a str, Import<'a>>,
+    import: Import<'a>,
+) -> Result<(), AllocError>
+    ensures { (before : List ImportEntry) → Finds locals.old before →
+        OnOk result (Finds locals.new (before ++ import_entry_of import.entry ∷ [])) }
+{
+    if !(&*locals).contains_key(&import.local) {
+        locals.insert(import.local, import)?;
+    }
+    Ok(())
+}
+
+/// What a module takes by a specifier. A target that is given goes with the origin.
+pub fn taking<'a>(
+    kinds: &Kinds<'_, '_, 'a>,
+    taker: usize,
+    specifier: &'a str,
+    taken: Taken<'a>,
+    origin: Option<Asked<'a>>,
+) -> Own<'a>
+    ensures { own_says result
+        ≡ said_by taker specifier.now (option_map origin_of origin.entry) (taken_of taken.entry)
+        (lead_of kinds.now taker specifier.now) }
+{
+    let target = match kinds.lead(taker, specifier) {
+        Lead::External => Target::External { specifier, taken },
+        Lead::CommonJs(module) => Target::CommonJs {
+            taker,
+            module,
+            taken,
+        },
+        Lead::Module(module) => match taken {
+            Taken::Whole => Target::Namespace { module },
+            Taken::Named(name) => return Own::Leads(Asked { module, name }),
+        },
+        Lead::Nowhere => return Own::Nothing,
+    };
+    Own::Gives(Given { target, origin })
+}
+
+/// What an export of a module says.
+pub fn own_entry<'a>(
+    kinds: &Kinds<'_, '_, 'a>,
+    number: usize,
+    locals: &IndexMap<&'a str, Import<'a>>,
+    export: Export<'a>,
+) -> Own<'a>
+    ensures { (imports : List ImportEntry) →
+        Finds locals.now imports →
+        own_says result
+        ≡ said_of (lead_of kinds.now number) number imports (export_entry_of export.entry) }
+{
+    match export.origin {
+        Origin::Indirect { specifier, taken } => taking(kinds, number, specifier, taken, None),
+        Origin::Local { name } => local_entry(kinds, number, name, locals.get(&name).copied()),
+    }
+}
+
+// What a name of a module's own gives, where this import binds it, or none.
+fn local_entry<'a>(
+    kinds: &Kinds<'_, '_, 'a>,
+    module: usize,
+    name: &'a str,
+    import: Option<Import<'a>>,
+) -> Own<'a>
+    ensures { own_says result
+        ≡ said_local (lead_of kinds.now «module») «module» name.now
+        (option_map import_entry_of import.entry) }
+{
+    let own = Some(Asked { module, name });
+    match import {
+        None => Own::Gives(Given {
+            target: Target::Declared { module, name },
+            origin: None,
+        }),
+        Some(import) => given_only(taking(kinds, module, import.specifier, import.taken, own)),
+    }
+}
+
+// What is given by itself.
+fn given_only<'a>(own: Own<'a>) -> Own<'a>
+    ensures { own_says result ≡ target_only (own_says own.entry) }
+{
+    match own {
+        Own::Gives(given) => Own::Gives(given),
+        Own::Leads(_) | Own::Nothing => Own::Nothing,
+    }
+}

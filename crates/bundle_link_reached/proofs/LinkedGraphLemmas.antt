@@ -1,0 +1,39 @@
+-- One more module in a graph.
+use Rattle.std.proofs.Common.{◌≡◌, ◌≢◌, inl, inr, ℕ, ◌+◌, List, [], Some, None, sym, ap, ◌∙◌, arith}
+use Rattle.std.specs.Prelude.{slice_get}
+use Rattle.std.proofs.lemmas.Bool.{cases_lt}
+use Rattle.std.proofs.lemmas.Option.{none-some, same_Some}
+use Rattle.bundle_order_graph.specs.Modules.{Modules, deps}
+use Rattle.bundle_rules.specs.Nodes.{numbers_once}
+use Rattle.bundle_link_index.specs.declared.target.LinkModule.{LinkModule}
+use Rattle.bundle_link_reached.specs.Graph.{asked, IsGraphOf}
+use Rattle.bundle_link_index.specs.Numbered.{IsOnce}
+
+module _ (ids : List ℕ) (modules : List LinkModule) (n : ℕ) where
+  pub graph-more : (g h : Modules) (m : ℕ) (its : LinkModule) → IsOnce ids → slice_get ids n ≡ Some m → slice_get modules n ≡ Some its → IsGraphOf ids modules n g
+      → (deps g m ≡ [] → deps h m ≡ numbers_once (asked ids its.leads.now its.tables.now.requests.items)) → ((k : ℕ) → k ≢ m → deps h k ≡ deps g k) → IsGraphOf ids modules (n + 1) h
+  graph-more g h m its once at_ids at_modules is own others = record {
+    own = λ i k other within at there. elim (cases_lt i n) [
+      | inl before ↦ others k (λ e. absurd (omega (arith, before, once i n m (at ∙ ap (λ y. Some y) e) at_ids))) ∙ is.own i k other before at there
+      | inr after ↦
+          let e : n ≡ i = omega arith in
+          let same_m : m ≡ k = same_Some m k (sym at_ids ∙ ap (slice_get ids) e ∙ at) in
+          let same_its : its ≡ other = same_Some its other (sym at_modules ∙ ap (slice_get modules) e ∙ there) in
+          ap (deps h) (sym same_m)
+          ∙ own (is.others m (λ j before at_j. absurd (omega (arith, before, once j n m at_j at_ids))))
+          ∙ ap (λ (it : LinkModule). numbers_once (asked ids it.leads.now it.tables.now.requests.items)) same_its
+    ];
+    others = λ k none.
+        others k (λ e. none n (omega arith) (at_ids ∙ ap (λ y. Some y) (sym e)))
+        ∙ is.others k (λ i before at. none i (omega arith) at);
+  }
+
+  -- a place with no number
+  pub graph-none : (g : Modules) → slice_get ids n ≡ None → IsGraphOf ids modules n g → IsGraphOf ids modules (n + 1) g
+  graph-none g none is = record {
+    own = λ i k other within at there. elim (cases_lt i n) [
+      | inl before ↦ is.own i k other before at there
+      | inr after ↦ let e : i ≡ n = omega arith in absurd (none-some k (sym none ∙ ap (slice_get ids) (sym e) ∙ at))
+    ];
+    others = λ k no. is.others k (λ i before at. no i (omega arith) at);
+  }

@@ -1,0 +1,27 @@
+use Rattle.std.proofs.Common.{◌≡◌, ◌-◌, ℕ, List, Option, Result, length, sym, ◌∙◌, subst}
+use Rattle.bundle_link_index.specs.Programs.{IsProgramOf}
+use Rattle.bundle_link_targets.specs.Linked.{IsJudgedBy}
+use Rattle.bundle_link_targets.specs.declared.linking.Linking.{Linking}
+use Rattle.bundle_link_reached.specs.Judged.{IsJudgedAs, IsReadable, TellsFirst, numbers_below}
+use Rattle.bundle_link_reached.specs.declared.judging.Told.{Told}
+use Rattle.bundle_link_reached.proofs.judging.judged.Goals as goal
+use Rattle.bundle_link_reached.proofs.judging.judged.Goals.{in-Some, in-None}
+
+pub returns : goal.returns
+returns c = λ q w.
+    let modules = c.args.modules.now in
+    let n = length modules in
+    let require = c.args.setting.require in
+    let linking = c.in_ok-linking.linking in
+    let list_is : c.deref.result.now ≡ numbers_below n = c.deref.ensures.value ∙ c.in_ok-list.ensures in
+    let at_entry = subst (λ (entry : ℕ). IsProgramOf q modules (numbers_below n) entry require) (sym c.saturating_sub-entry.ensures) w.program in
+    let handed = subst (λ (list : List ℕ). IsProgramOf q modules list c.saturating_sub-entry.result require) (sym list_is) at_entry in
+    let linked = c.in_ok-linking.ensures.linked q handed in
+    let by_list = subst (λ (list : List ℕ). IsJudgedBy q list linking) list_is (c.in_ok-linking.ensures.judged q handed w.iife) in
+    let by_lists = subst (λ (k : ℕ). IsJudgedBy q (numbers_below k) linking) (sym w.long) by_list in
+    let first = c.in_ok-fault.ensures q (subst (IsReadable q) (sym w.long) w.readable) w.same linked by_lists in
+    let told : TellsFirst q n c.in_ok-fault.fault = subst (λ (k : ℕ). TellsFirst q k c.in_ok-fault.fault) w.long first in
+    elim c.match-fault.branch [
+      | in-Some b ↦ subst (λ (r : Result Linking Told). IsJudgedAs q n r) (sym b.result-is) (subst (λ (o : Option Told). TellsFirst q n o) b.in-Some.is told)
+      | in-None b ↦ subst (λ (r : Result Linking Told). IsJudgedAs q n r) (sym b.result-is) (subst (λ (o : Option Told). TellsFirst q n o) b.in-None.is told, linked)
+    ]

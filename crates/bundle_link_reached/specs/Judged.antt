@@ -1,0 +1,87 @@
+-- When what is read of modules is that of a program, and what is told of them is its first fault.
+use Rattle.std.specs.Prelude.{◌≡◌, ℕ, zero, suc, ◌<◌, ◌-◌, List, [], ◌∷◌, ◌++◌, Option, Some, None, Result, Ok, Err, length, map, slice_get}
+use Rattle.std.specs.Borrow.{Bor}
+use Rattle.bundle_tree_piece.specs.Item.{Item, item_of}
+use Rattle.bundle_tree_piece.specs.declared.piece.Piece.{Piece}
+use Rattle.bundle_tree_names.specs.FileName.{Name}
+use Rattle.bundle_rules.specs.Scopes.{ModuleKind}
+use Rattle.bundle_rules.specs.Declarations.{Declared}
+use Rattle.bundle_rules.specs.Doubled.{first_doubled}
+use Rattle.bundle_scope_denote.specs.declared.table.Doubled.{Doubled}
+use Rattle.bundle_rules.specs.Program.{Program, tree_of}
+use Rattle.bundle_rules.specs.Meaning.{HasKind}
+use Rattle.bundle_rules.specs.Faults.{Fault, DoubledDeclaration}
+use Rattle.bundle_link_index.specs.Programs.{IsProgramOf}
+use Rattle.bundle_link_index.specs.declared.target.LinkModule.{LinkModule}
+use Rattle.bundle_link_index.specs.declared.target.Setting.{Setting}
+use Rattle.bundle_link_targets.specs.Judged.{fault_says}
+use Rattle.bundle_link_targets.specs.Linked.{IsLinkingOf}
+use Rattle.bundle_link_targets.specs.Meant.{IsModuleTree}
+use Rattle.bundle_link_targets.specs.declared.linking.Linking.{Linking}
+use Rattle.bundle_link_reached.specs.Default.{DeclaresDefaultAlone}
+use Rattle.bundle_link_reached.specs.First.{IsFirstOf, HasNoFault}
+use Rattle.bundle_link_reached.specs.declared.judging.Told.{Told}
+use Rattle.bundle_link_reached.specs.declared.judging.Told.TheVariants as t
+
+-- the numbers below n
+abbrev pub numbers_below : ℕ → List ℕ
+numbers_below zero = []
+numbers_below (suc n) = numbers_below n ++ n ∷ []
+
+-- the trees of a program are those of modules, and stand at the places below n
+pub record IsReadable (q : Program) (n : ℕ) : Type 0 where
+  pub trees : (m : ℕ) → IsModuleTree (tree_of q m)
+  pub default : (m : ℕ) → DeclaresDefaultAlone (tree_of q m)
+  pub others : (m : ℕ) → (m < n → ⊥) → tree_of q m ≡ []
+
+-- in these lists just the names are declared twice that are so in the trees
+abbrev pub AreListsOf : Program → List (Bor (List Piece)) → Type 0
+AreListsOf q lists = (m : ℕ) (list : Bor (List Piece)) → slice_get lists m ≡ Some list → (kind : ModuleKind) → first_doubled kind (map item_of list.now) ≡ first_doubled kind (tree_of q m)
+
+-- the modules and the lists are those of a program, the last of them that of the entry
+pub record AreReadOf (q : Program) (modules : List LinkModule) (lists : List (Bor (List Piece))) (setting : Setting) : Type 0 where
+  pub program : IsProgramOf q modules (numbers_below (length modules)) (length modules - 1) setting.require
+  pub iife : q.settings.iife ≡ setting.iife
+  pub readable : IsReadable q (length modules)
+  pub long : length lists ≡ length modules
+  pub same : AreListsOf q lists
+
+-- the place of the module of a fault
+abbrev pub module_of : Told → ℕ
+module_of (t.Link fault) = fault.module
+module_of (t.Doubled m doubled) = m
+
+-- what is told of the file of that module
+abbrev pub says : Told → Name → Fault
+says (t.Link fault) file = fault_says file fault
+says (t.Doubled m doubled) file = DoubledDeclaration file doubled.name.now
+
+-- the first of the faults is told, and none exactly where no module has one
+abbrev pub TellsFirst : Program → ℕ → Option Told → Type 0
+TellsFirst q n None = HasNoFault q n
+TellsFirst q n (Some told) = IsFirstOf q n (module_of told) (says told)
+
+-- modules are linked where none has a fault, and else the first is told
+abbrev pub IsJudgedAs : Program → ℕ → Result Linking Told → Type 0
+IsJudgedAs q n (Ok linking) = HasNoFault q n × IsLinkingOf q linking
+IsJudgedAs q n (Err told) = TellsFirst q n (Some told)
+
+-- none of the modules before the place declares a name twice
+abbrev pub HasNoDoubled : Program → ℕ → Type 0
+HasNoDoubled q n = (m : ℕ) (kind : ModuleKind) → m < n → HasKind q m kind → first_doubled kind (tree_of q m) ≡ None
+
+-- the first module that declares a name twice, with the name
+pub record IsFirstDoubled (q : Program) (n m : ℕ) (doubled : Doubled) : Type 0 where
+  pub within : m < n
+  pub kind : ModuleKind
+  pub its_kind : HasKind q m kind
+  pub declared : Declared
+  pub there : first_doubled kind (tree_of q m) ≡ Some declared
+  pub name : doubled.name.now ≡ declared.name.sym
+  pub none_before : HasNoDoubled q m
+
+-- it is told, and none where no module declares a name twice
+abbrev pub TellsDoubled : Program → ℕ → Option Told → Type 0
+TellsDoubled q n None = HasNoDoubled q n
+TellsDoubled q n (Some (t.Link fault)) = ⊥
+TellsDoubled q n (Some (t.Doubled m doubled)) = IsFirstDoubled q n m doubled

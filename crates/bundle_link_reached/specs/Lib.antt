@@ -1,0 +1,13 @@
+pub mod Alike
+pub mod Graph
+pub mod Leads
+pub mod Linked
+pub mod Told
+pub mod Numbered
+pub mod Resolved
+pub mod First
+pub mod Files
+pub mod Reached
+pub mod Judged
+pub mod Nested
+pub mod Default

@@ -1,0 +1,28 @@
+-- What is asked for and is not external.
+use Rattle.std.proofs.Common.{◌≡◌, Bool, true, false, List, [], ◌∷◌, ◌++◌, refl, ap, ◌∙◌, map}
+use Rattle.std.specs.Prelude.{filter, not, if◌then◌else◌}
+use Rattle.bundle_rules.specs.Nodes.{Text, has_text}
+use Rattle.bundle_link_tables.specs.Sources.{asked, told_external, unexternal, unexternal_one}
+use Rattle.bundle_link_tables.specs.declared.table.Source.{Source}
+
+pub asked_here : (source : Source) → source.is_external ≡ false → unexternal_one source ≡ source.specifier.now ∷ []
+asked_here source is = ap (λ b. if b then [] else source.specifier.now ∷ []) is
+
+pub asked_outside : (source : Source) → source.is_external ≡ true → unexternal_one source ≡ []
+asked_outside source is = ap (λ b. if b then [] else source.specifier.now ∷ []) is
+
+-- what is left out of the sources is left out of the texts
+pub unexternal_filter : (external : List Text) (sources : List Source) (texts : List Text) → map asked sources ≡ map (told_external external) texts → unexternal sources ≡ filter (λ s. not (has_text s external)) texts
+unexternal_filter external [] [] are = refl
+unexternal_filter external [] (x ∷ texts) are = cc
+unexternal_filter external (source ∷ sources) [] are = cc
+unexternal_filter external (source ∷ sources) (x ∷ texts) are =
+    let first : asked source ≡ told_external external x = cc in
+    let others : map asked sources ≡ map (told_external external) texts = cc in
+    ap (λ l. unexternal_one source ++ l) (unexternal_filter external sources texts others)
+    ∙ ap (λ told. (if told.1 then [] else told.0 ∷ []) ++ filter (λ s. not (has_text s external)) texts) first
+    ∙ step (has_text x external)
+  where
+    step : (b : Bool) → (if b then [] else x ∷ []) ++ filter (λ s. not (has_text s external)) texts ≡ (if not b then x ∷ filter (λ s. not (has_text s external)) texts else filter (λ s. not (has_text s external)) texts)
+    step true = refl
+    step false = refl

@@ -1,0 +1,51 @@
+-- The tables of the list by the texts of the call, or its first fault.
+use Rattle.std.proofs.Common.{◌≡◌, None, rules, ◌++◌, ap, sym, ◌∙◌, map, string_bytes}
+use Rattle.std.specs.Borrow.{Bor}
+use Rattle.bundle_tree_piece.specs.Item.{item_of}
+use Rattle.bundle_rules.specs.Bound.{is_free}
+use Rattle.bundle_rules.specs.Nodes.{Text, has_text}
+use Rattle.bundle_link_tables.specs.Sources.{asked, told_external}
+use Rattle.bundle_link_tables.specs.Listed.{listed_as}
+use Rattle.bundle_link_tables.specs.TablesOf.{export_entry_of}
+use Rattle.bundle_link_tables.specs.Used.{use_entry_of}
+use Rattle.bundle_link_tables.proofs.ExportLemmas.{told_all}
+use Rattle.bundle_link_tables.proofs.RequestLemmas.{requested}
+use Rattle.bundle_link_tables.proofs.ToldLemmas.{found_first, found_none, told_by_tree}
+use Rattle.bundle_link_tables.proofs.tables.tables_of.Goals as goal
+
+pub returns-clause-sources : goal.returns-clause-sources
+returns-clause-sources c =
+    let texts = map string_bytes c.args.external.now in
+    ap (map asked) c.put_together.ensures.sources ∙ c.in_ok-entries.ensures.sources ∙ told_all c.in_ok-external.external texts _ c.in_ok-external.ensures
+
+pub returns-clause-requests : goal.returns-clause-requests
+returns-clause-requests c = λ settings same said is.
+    let texts = map string_bytes c.args.external.now in
+    let tree = map item_of c.args.pieces.now in
+    ap (map (λ (request : Bor Text). request.now)) c.put_together.ensures.requests
+    ∙ c.in_ok-made.ensures.requests
+    ∙ requested settings (is_free tree) tree texts c.in_ok-entries.entries.given.sources.items c.in_ok-made.made.calls.items said
+    (c.in_ok-entries.ensures.sources ∙ told_all c.in_ok-external.external texts _ c.in_ok-external.ensures)
+    (c.in_ok-made.ensures.calls settings same (λ x. c.in_ok-external.ensures x ∙ ap (has_text x) (sym said)) is)
+
+pub returns-clause-judged : goal.returns-clause-judged
+returns-clause-judged c = λ file is.
+    let none : c.in_ok-first.first ≡ None = search rules in
+    let tree = map item_of c.args.pieces.now in
+    let given = c.in_ok-entries.entries.given in
+    found_none file tree c.in_ok-first.first none
+    (c.in_ok-first.ensures file ∙ told_by_tree file tree c.args.denotations.now (map export_entry_of given.exports.items) (map listed_as given.listed.items) is c.in_ok-entries.ensures.exports c.in_ok-entries.ensures.listed)
+
+pub returns-in-Some-clause-judged : goal.returns-in-Some-clause-judged
+returns-in-Some-clause-judged c = λ file is.
+    let tree = map item_of c.args.pieces.now in
+    let given = c.in_ok-entries.entries.given in
+    found_first file tree c.in_ok-first.first c.in-Some.fault c.in-Some.is
+    (c.in_ok-first.ensures file ∙ told_by_tree file tree c.args.denotations.now (map export_entry_of given.exports.items) (map listed_as given.listed.items) is c.in_ok-entries.ensures.exports c.in_ok-entries.ensures.listed)
+
+pub returns-clause-uses : goal.returns-clause-uses
+returns-clause-uses c = λ is.
+    let made = c.in_ok-made.made in
+    ap (λ l. map (use_entry_of l) c.put_together.result.uses.items) c.put_together.ensures.reads
+    ∙ ap (map (use_entry_of made.found.reads.items)) c.put_together.ensures.uses
+    ∙ c.in_ok-made.ensures.uses c.in_ok-entries.ensures.locals is

@@ -1,0 +1,9 @@
+pub mod Asked
+pub mod Exported
+pub mod Free
+pub mod Judged
+pub mod Listed
+pub mod Sources
+pub mod TablesOf
+pub mod Used
+pub mod Walked

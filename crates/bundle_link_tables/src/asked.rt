@@ -1,0 +1,119 @@
+//! The names that imports and indirect exports ask of other modules.
+
+ghost use Rattle.std.specs.Prelude.{◌≡◌, ◌++◌, map, IfOk, OnOk};
+ghost use Rattle.std.specs.List.{flat_map};
+ghost use Rattle.bundle_rules.specs.Entries.{imports_of_item};
+ghost use Rattle.bundle_rules.specs.Faults.{asked_by_export, asked_by_import};
+ghost use Rattle.bundle_link_tables.specs.Asked.{asked_in};
+ghost use Rattle.bundle_link_tables.specs.Exported.{import_by, named_by};
+ghost use Rattle.bundle_tree_places.specs.Parted.{part_items};
+ghost use Rattle.bundle_link_tables.specs.TablesOf.{asked_name_of, export_entry_of, import_entry_of};
+
+use crate::exports::add_exports;
+use crate::imports::add_imports;
+use crate::table::{AskedName, Export, Import, Origin, Taken};
+use bundle_tree_places::parts::Part;
+use indexmap::IndexMap;
+use std::alloc::{AllocError, Global};
+
+/// The names that a module's top items ask of other modules, in the order of the source. `locals` holds the first import of
+/// each name that imports bind.
+pub fn asked_of<'a>(
+    alloc: Global,
+    tops: &[Part<'_, 'a>],
+    locals: &IndexMap<&'a str, Import<'a>>,
+) -> Result<Vec<AskedName<'a>>, AllocError>
+    ensures { IfOk result (λ asked.
+        map asked_name_of asked.items
+        ≡ flat_map (asked_in (import_by locals.now)) (map part_items tops.now)) }
+{
+    let mut asked = Vec::new(alloc);
+    for top in tops {
+        add_asked(alloc, &mut asked, *top, locals)?;
+    }
+    Ok(asked)
+}
+
+// Adds what a top item asks for.
+fn add_asked<'a>(
+    alloc: Global,
+    asked: &mut Vec<AskedName<'a>>,
+    item: Part<'_, 'a>,
+    locals: &IndexMap<&'a str, Import<'a>>,
+) -> Result<(), AllocError>
+    ensures { OnOk result
+        (map asked_name_of asked.new.items
+        ≡ map asked_name_of asked.old.items
+        ++ asked_in (import_by locals.now) (part_items item.entry)) }
+{
+    add_imported(alloc, asked, item)?;
+    add_exported(alloc, asked, item, locals)
+}
+
+// Adds what the imports of a top item ask for.
+fn add_imported<'a>(
+    alloc: Global,
+    asked: &mut Vec<AskedName<'a>>,
+    item: Part<'_, 'a>,
+) -> Result<(), AllocError>
+    ensures { OnOk result
+        (map asked_name_of asked.new.items
+        ≡ map asked_name_of asked.old.items
+        ++ flat_map asked_by_import (imports_of_item (part_items item.entry))) }
+{
+    let mut imports = Vec::new(alloc);
+    add_imports(alloc, &mut imports, item)?;
+    for import in &imports {
+        add_by_import(asked, *import)?;
+    }
+    Ok(())
+}
+
+// Adds what an import asks for, unless it takes the whole.
+fn add_by_import<'a>(asked: &mut Vec<AskedName<'a>>, import: Import<'a>) -> Result<(), AllocError>
+    ensures { OnOk result (map asked_name_of asked.new.items
+        ≡ map asked_name_of asked.old.items ++ asked_by_import (import_entry_of import.entry)) }
+{
+    if let Taken::Named(name) = import.taken {
+        asked.push(AskedName {
+            specifier: import.specifier,
+            name,
+        })?;
+    }
+    Ok(())
+}
+
+// Adds what the exports of a top item ask for.
+fn add_exported<'a>(
+    alloc: Global,
+    asked: &mut Vec<AskedName<'a>>,
+    item: Part<'_, 'a>,
+    locals: &IndexMap<&'a str, Import<'a>>,
+) -> Result<(), AllocError>
+    ensures { OnOk result
+        (map asked_name_of asked.new.items
+        ≡ map asked_name_of asked.old.items
+        ++ flat_map asked_by_export (named_by (import_by locals.now) (part_items item.entry))) }
+{
+    let mut exports = Vec::new(alloc);
+    add_exports(alloc, &mut exports, item, locals)?;
+    for export in &exports {
+        add_by_export(asked, *export)?;
+    }
+    Ok(())
+}
+
+// Adds what an indirect export asks for, unless it takes the whole.
+fn add_by_export<'a>(asked: &mut Vec<AskedName<'a>>, export: Export<'a>) -> Result<(), AllocError>
+    ensures { OnOk result (map asked_name_of asked.new.items
+        ≡ map asked_name_of asked.old.items ++ asked_by_export (export_entry_of export.entry)) }
+{
+    if let Origin::Indirect {
+        specifier,
+        taken: Taken::Named(name),
+    } = export.origin
+    {
+        asked.push(AskedName { specifier, name })?;
+    }
+    Ok(())
+}

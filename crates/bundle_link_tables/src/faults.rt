@@ -1,0 +1,93 @@
+//! What is wrong with a module by itself.
+
+ghost use Rattle.std.specs.Prelude.{◌≡◌, [], map, option_map, bytes_eq, IfOk};
+ghost use Rattle.bundle_tree_names.specs.FileName.{Name};
+ghost use Rattle.bundle_tree_piece.specs.Item.{item_of};
+ghost use Rattle.bundle_rules.specs.Bundle.{is_with};
+ghost use Rattle.bundle_rules.specs.Nodes.{has_head, has_text};
+ghost use Rattle.bundle_link_tables.specs.Free.{told_top_names};
+ghost use Rattle.bundle_link_tables.specs.Judged as judged;
+ghost use Rattle.bundle_link_tables.specs.Listed.{listed_as};
+ghost use Rattle.bundle_link_tables.specs.TablesOf.{export_entry_of, fault_in};
+ghost use Rattle.indexmap.specs.IndexSet.{contains_by};
+
+use crate::entries::Given;
+use crate::free::top_names;
+use crate::listed::Listed;
+use crate::table::{Export, TreeFault};
+use bundle_scope_denote::Denotations;
+use bundle_tree_piece::Piece;
+use bundle_tree_places::nodes::has_with;
+use indexmap::IndexSet;
+use std::alloc::{AllocError, Global};
+
+/// The first fault of a module by itself: a name that is exported twice, one in an export list without `from` that
+/// the top does not bind, or a `with` statement.
+#[tactic(auto, using(std::proofs::lemmas::Grind::common_steps, crate::proofs::ToldLemmas::told_doubled, crate::proofs::ToldLemmas::told_undeclared, crate::proofs::ToldLemmas::told_with, crate::proofs::ToldLemmas::told_none, crate::proofs::FaultLemmas::undeclared_alike))]
+pub fn first_fault<'a>(
+    alloc: Global,
+    pieces: &[Piece<'a>],
+    denotations: &Denotations<'a>,
+    given: &Given<'a>,
+) -> Result<Option<TreeFault<'a>>, AllocError>
+    ensures { (file : Name) →
+        IfOk result (λ fault.
+        option_map (fault_in file) fault
+        ≡ judged.first_fault file
+        (judged.doubled_name [] (map export_entry_of given.now.exports.items))
+        (judged.undeclared_name
+        (λ x. has_text x (told_top_names denotations.now (map item_of pieces.now)))
+        (map listed_as given.now.listed.items))
+        (has_head is_with (map item_of pieces.now))) }
+{
+    if let Some(name) = doubled_name(alloc, &given.exports)? {
+        return Ok(Some(TreeFault::DoubledExport { name }));
+    }
+    let declared = top_names(alloc, pieces, denotations)?;
+    if let Some(name) = undeclared_name(&given.listed, &declared) {
+        return Ok(Some(TreeFault::UndeclaredExport { name }));
+    }
+    if has_with(pieces) {
+        return Ok(Some(TreeFault::With));
+    }
+    Ok(None)
+}
+
+// The first name that an earlier export has.
+fn doubled_name<'a>(alloc: Global, exports: &[Export<'a>]) -> Result<Option<&'a str>, AllocError>
+    ensures { IfOk result (λ found.
+        option_map (λ name. name.now) found
+        ≡ judged.doubled_name [] (map export_entry_of exports.now)) }
+{
+    let mut met = IndexSet::new(alloc);
+    for export in exports {
+        if (&met).contains(&export.name) {
+            return Ok(Some(export.name));
+        }
+        met.insert(export.name)?;
+    }
+    Ok(None)
+}
+
+// The first name in an export list without `from` that is a string, or that is not declared.
+fn undeclared_name<'a>(listed: &[Listed<'a>], declared: &IndexSet<&str>) -> Option<&'a str>
+    ensures { option_map (λ name. name.now) result
+        ≡ judged.undeclared_name (λ x. contains_by (λ k. bytes_eq x k.now) declared.now)
+        (map listed_as listed.now) }
+{
+    for name in listed {
+        if is_undeclared(*name, declared) {
+            return Some(name.name);
+        }
+    }
+    None
+}
+
+// Whether a listed name is a string, or not declared.
+fn is_undeclared(listed: Listed, declared: &IndexSet<&str>) -> bool
+    ensures { result
+        ≡ judged.is_undeclared (λ x. contains_by (λ k. bytes_eq x k.now) declared.now)
+        (listed_as listed.entry) }
+{
+    listed.is_string || !(&*declared).contains(&listed.name)
+}

@@ -1,0 +1,21 @@
+//! The tables of one module, from its list and from what its names denote: requests, imports, exports,
+//! literal calls of `require`, uses of imported names, and what is wrong with the module by itself.
+#![tactic(auto)]
+
+mod asked;
+mod calls;
+mod entries;
+mod exports;
+mod faults;
+mod free;
+mod imports;
+mod listed;
+mod sources;
+pub mod table;
+pub mod tables;
+mod walk;
+
+pub use table::{
+    AskedName, Export, Import, Origin, Read, RequireCall, Source, Tables, Taken, TreeFault, Use,
+};
+pub use tables::tables_of;

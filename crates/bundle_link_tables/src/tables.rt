@@ -1,0 +1,290 @@
+//! The tables of a module from its list.
+
+ghost use Rattle.std.specs.Prelude.{◌≡◌, codes, IfOk, MatchResult, filter, map, not, string_bytes, ◌&&◌, ◌++◌, ◌∷◌, [], List, OnOk};
+ghost use Rattle.std.specs.List.{flat_map};
+ghost use Rattle.bundle_tree_names.specs.FileName.{Name};
+ghost use Rattle.bundle_tree_piece.specs.Item.{item_of};
+ghost use Rattle.bundle_rules.specs.Declarations.{BySymbol};
+ghost use Rattle.bundle_rules.specs.Scopes.{Es};
+ghost use Rattle.bundle_scope_denote.specs.Listed.{IsTable};
+ghost use Rattle.bundle_rules.specs.Awaits as Awaits;
+ghost use Rattle.bundle_rules.specs.Bound as bound;
+ghost use Rattle.bundle_rules.specs.Bound.{is_free};
+ghost use Rattle.bundle_rules.specs.Entries as the_entries;
+ghost use Rattle.bundle_rules.specs.Entries.{Settings, declared_requests, requests_of};
+ghost use Rattle.bundle_rules.specs.Faults.{asked_names, IsFaultless, IsFirstTreeFault};
+ghost use Rattle.bundle_rules.specs.Nodes.{each_once, Text};
+ghost use Rattle.bundle_rules.specs.Tables.{is_star, star_of};
+ghost use Rattle.bundle_link_tables.specs.Sources.{asked, told_external, unexternal, unexternal_one, HasTexts};
+ghost use Rattle.bundle_link_tables.specs.Exported.{Finds};
+ghost use Rattle.bundle_link_tables.specs.Used.{begin_in_turn, read_places, use_entry_of, uses_of};
+ghost use Rattle.bundle_link_tables.specs.TablesOf.{asked_name_of, call_entry_of, export_entry_of, fault_in, import_entry_of, uses_common_js};
+
+use crate::calls::linked_calls;
+use crate::entries::{Entries, Given, entries_of};
+use crate::faults::first_fault;
+use crate::free::{has_free, names_common_js};
+use crate::table::{RequireCall, Source, Tables, TreeFault};
+use crate::walk::{Found, found_in};
+use bundle_scope_denote::Denotations;
+use bundle_tree_piece::Piece;
+use bundle_tree_places::awaits_outside;
+use bundle_tree_places::nodes::has_import_meta;
+use indexmap::IndexSet;
+use std::alloc::{AllocError, Global};
+
+/// The tables of a module, or the first fault of the module by itself: exports that are doubled are judged before
+/// those that are undeclared, and these before `with`.
+///
+/// `denotations` are those of the list as an ECMAScript module, by symbol. `require` says whether literal
+/// calls of `require` are linked, and `external` which texts are external.
+pub fn tables_of<'a>(
+    alloc: Global,
+    pieces: &[Piece<'a>],
+    denotations: &Denotations<'a>,
+    require: bool,
+    external: &[String],
+) -> Result<Result<Tables<'a>, TreeFault<'a>>, AllocError>
+    ensures meta { IfOk result (λ answer. IfOk answer (λ tables.
+        tables.has_import_meta ≡ the_entries.has_import_meta (map item_of pieces.now))) }
+    ensures imports { IfOk result (λ answer.
+        IfOk answer (λ tables.
+        map import_entry_of tables.imports.items
+        ≡ the_entries.imports_of (map item_of pieces.now))) }
+    ensures exports { IfOk result (λ answer.
+        IfOk answer (λ tables.
+        map export_entry_of tables.exports.items
+        ≡ filter (λ entry. not (is_star entry))
+        (the_entries.exports_of (map item_of pieces.now)))) }
+    ensures asked { IfOk result (λ answer. IfOk answer (λ tables.
+        map asked_name_of tables.asked.items ≡ asked_names (map item_of pieces.now))) }
+    ensures stars { IfOk result (λ answer.
+        IfOk answer (λ tables.
+        map (λ star. star.now) tables.stars.items
+        ≡ each_once (flat_map star_of (the_entries.exports_of (map item_of pieces.now))))) }
+    ensures sources { IfOk result (λ answer.
+        IfOk answer (λ tables.
+        map asked tables.sources.items
+        ≡ map (told_external (map string_bytes external.now))
+        (declared_requests (map item_of pieces.now)))) }
+    ensures calls { IfOk result (λ answer.
+        IfOk answer (λ tables.
+        (settings : Settings) →
+        settings.require ≡ require →
+        settings.external ≡ map string_bytes external.now →
+        IsTable BySymbol Es (map item_of pieces.now) denotations.now →
+        map call_entry_of tables.calls.items
+        ≡ the_entries.linked_calls settings (is_free (map item_of pieces.now))
+        (map item_of pieces.now))) }
+    ensures requests { IfOk result (λ answer.
+        IfOk answer (λ tables.
+        (settings : Settings) →
+        settings.require ≡ require →
+        settings.external ≡ map string_bytes external.now →
+        IsTable BySymbol Es (map item_of pieces.now) denotations.now →
+        map (λ request. request.now) tables.requests.items
+        ≡ requests_of settings (is_free (map item_of pieces.now)) (map item_of pieces.now))) }
+    ensures script { IfOk result (λ answer. IfOk answer (λ tables.
+        tables.is_script ≡ the_entries.is_script (map item_of pieces.now))) }
+    ensures common_js { IfOk result (λ answer.
+        IfOk answer (λ tables.
+        IsTable BySymbol Es (map item_of pieces.now) denotations.now →
+        tables.names_common_js ≡ uses_common_js (map item_of pieces.now))) }
+    ensures arguments { IfOk result (λ answer.
+        IfOk answer (λ tables.
+        IsTable BySymbol Es (map item_of pieces.now) denotations.now →
+        tables.has_free_arguments
+        ≡ bound.has_free (map item_of pieces.now) (codes "arguments"))) }
+    ensures awaits { IfOk result (λ answer.
+        IfOk answer (λ tables. tables.awaits ≡ Awaits.awaits_outside (map item_of pieces.now))) }
+    ensures reads { IfOk result (λ answer.
+        IfOk answer (λ tables.
+        map (read_places tables.reads.items) tables.uses.items
+        ≡ map begin_in_turn tables.uses.items)) }
+    ensures uses { IfOk result (λ answer.
+        IfOk answer (λ tables.
+        IsTable BySymbol Es (map item_of pieces.now) denotations.now →
+        map (use_entry_of tables.reads.items) tables.uses.items
+        ≡ uses_of (map item_of pieces.now))) }
+    ensures judged { IfOk result (λ answer.
+        (file : Name) →
+        IsTable BySymbol Es (map item_of pieces.now) denotations.now →
+        MatchResult answer (λ tables. IsFaultless file (map item_of pieces.now))
+        (λ fault. IsFirstTreeFault file (map item_of pieces.now) (fault_in file fault))) }
+{
+    let external = texts(alloc, external)?;
+    let entries = entries_of(alloc, pieces, &external)?;
+    let first = first_fault(alloc, pieces, denotations, &entries.given)?;
+    if let Some(fault) = first {
+        return Ok(Err(fault));
+    }
+    let made = made_of(alloc, pieces, denotations, require, &external, &entries)?;
+    Ok(Ok(put_together(pieces, denotations, entries, made)))
+}
+
+// The texts, each once.
+fn texts<'t>(alloc: Global, list: &'t [String]) -> Result<IndexSet<&'t str>, AllocError>
+    ensures { IfOk result (λ texts. HasTexts texts (map string_bytes list.now)) }
+{
+    let mut texts = IndexSet::new(alloc);
+    for text in list {
+        texts.insert(text.as_str())?;
+    }
+    Ok(texts)
+}
+
+// What the tables of a module have beside what it imports and gives.
+#[derive(Drop)]
+struct Made<'a> {
+    calls: Vec<RequireCall<'a>>,
+    requests: Vec<&'a str>,
+    stars: Vec<&'a str>,
+    found: Found<'a>,
+    awaits: bool,
+}
+
+// What the tables of a module have beside what it imports and gives.
+fn made_of<'a>(
+    alloc: Global,
+    pieces: &[Piece<'a>],
+    denotations: &Denotations<'a>,
+    require: bool,
+    external: &IndexSet<&str>,
+    entries: &Entries<'a>,
+) -> Result<Made<'a>, AllocError>
+    ensures calls { IfOk result (λ made.
+        (settings : Settings) →
+        settings.require ≡ require →
+        HasTexts external.now settings.external →
+        IsTable BySymbol Es (map item_of pieces.now) denotations.now →
+        map call_entry_of made.calls.items
+        ≡ the_entries.linked_calls settings (is_free (map item_of pieces.now))
+        (map item_of pieces.now)) }
+    ensures requests { IfOk result (λ made.
+        map (λ request. request.now) made.requests.items
+        ≡ each_once
+        (unexternal entries.now.given.sources.items
+        ++ map (λ call. call.specifier.now) made.calls.items)) }
+    ensures stars { IfOk result (λ made. made.stars.items ≡ entries.now.given.stars.keys) }
+    ensures awaits { IfOk result (λ made.
+        made.awaits ≡ Awaits.awaits_outside (map item_of pieces.now)) }
+    ensures reads { IfOk result (λ made.
+        map (read_places made.found.reads.items) made.found.uses.items
+        ≡ map begin_in_turn made.found.uses.items) }
+    ensures uses { IfOk result (λ made.
+        Finds entries.now.locals (the_entries.imports_of (map item_of pieces.now)) →
+        IsTable BySymbol Es (map item_of pieces.now) denotations.now →
+        map (use_entry_of made.found.reads.items) made.found.uses.items
+        ≡ uses_of (map item_of pieces.now)) }
+{
+    let awaits = awaits_outside(alloc, pieces)?;
+    let calls = linked_calls(alloc, pieces, denotations, require, external)?;
+    let requests = requests(alloc, &entries.given, &calls)?;
+    let stars = entries.given.stars.iter().copied().collect(alloc)?;
+    let found = found_in(alloc, pieces, denotations, &entries.locals)?;
+    Ok(Made {
+        calls,
+        requests,
+        stars,
+        found,
+        awaits,
+    })
+}
+
+// The tables of a module of their parts.
+fn put_together<'a>(
+    pieces: &[Piece<'a>],
+    denotations: &Denotations<'a>,
+    entries: Entries<'a>,
+    made: Made<'a>,
+) -> Tables<'a>
+    ensures meta { result.has_import_meta ≡ the_entries.has_import_meta (map item_of pieces.now) }
+    ensures imports { result.imports.items ≡ entries.entry.imports.items }
+    ensures exports { result.exports.items ≡ entries.entry.given.exports.items }
+    ensures asked { result.asked.items ≡ entries.entry.given.asked.items }
+    ensures calls { result.calls.items ≡ made.entry.calls.items }
+    ensures requests { result.requests.items ≡ made.entry.requests.items }
+    ensures sources { result.sources.items ≡ entries.entry.given.sources.items }
+    ensures stars { result.stars.items ≡ made.entry.stars.items }
+    ensures script { result.is_script
+        ≡ (not entries.entry.is_declared_module
+        && not (the_entries.has_import_meta (map item_of pieces.now))) }
+    ensures awaits { result.awaits ≡ made.entry.awaits }
+    ensures reads { result.reads.items ≡ made.entry.found.reads.items }
+    ensures uses { result.uses.items ≡ made.entry.found.uses.items }
+    ensures common_js { IsTable BySymbol Es (map item_of pieces.now) denotations.now →
+        result.names_common_js ≡ uses_common_js (map item_of pieces.now) }
+    ensures arguments { IsTable BySymbol Es (map item_of pieces.now) denotations.now →
+        result.has_free_arguments ≡ bound.has_free (map item_of pieces.now) (codes "arguments") }
+{
+    let has_import_meta = has_import_meta(pieces);
+    let Entries {
+        imports,
+        given,
+        is_declared_module,
+        ..
+    } = entries;
+    let Found { uses, reads } = made.found;
+    Tables {
+        requests: made.requests,
+        imports,
+        exports: given.exports,
+        asked: given.asked,
+        stars: made.stars,
+        sources: given.sources,
+        calls: made.calls,
+        uses,
+        reads,
+        is_script: !is_declared_module && !has_import_meta,
+        has_import_meta,
+        names_common_js: names_common_js(pieces, denotations),
+        awaits: made.awaits,
+        has_free_arguments: has_free(pieces, denotations, "arguments"),
+    }
+}
+
+// What a module asks to be loaded: what is not external, and the literal calls that are linked, each text once.
+fn requests<'a>(
+    alloc: Global,
+    given: &Given<'a>,
+    calls: &[RequireCall<'a>],
+) -> Result<Vec<&'a str>, AllocError>
+    ensures { IfOk result (λ requests.
+        map (λ request. request.now) requests.items
+        ≡ each_once
+        (unexternal given.now.sources.items ++ map (λ call. call.specifier.now) calls.now)) }
+{
+    let mut texts = IndexSet::new(alloc);
+    for source in &given.sources {
+        add_request(&mut texts, *source)?;
+    }
+    for call in calls {
+        add_called(&mut texts, *call)?;
+    }
+    texts.iter().copied().collect(alloc)
+}
+
+// Adds what an import or an export asks for, unless it is external.
+fn add_request<'a>(texts: &mut IndexSet<&'a str>, source: Source<'a>) -> Result<(), AllocError>
+    ensures { (seen : List Text) →
+        map (λ key. key.now) texts.old.keys ≡ each_once seen →
+        OnOk result
+        (map (λ key. key.now) texts.new.keys ≡ each_once (seen ++ unexternal_one source.entry)) }
+{
+    if !source.is_external {
+        texts.insert(source.specifier)?;
+    }
+    Ok(())
+}
+
+// Adds what a literal call asks for.
+fn add_called<'a>(texts: &mut IndexSet<&'a str>, call: RequireCall<'a>) -> Result<(), AllocError>
+    ensures { (seen : List Text) →
+        map (λ key. key.now) texts.old.keys ≡ each_once seen →
+        OnOk result
+        (map (λ key. key.now) texts.new.keys
+        ≡ each_once (seen ++ call.entry.specifier.now ∷ [])) }
+{
+    texts.insert(call.specifier)?;
+    Ok(())
+}

@@ -1,0 +1,8 @@
+use Rattle.std.proofs.Common.{◌≡◌, take}
+use Rattle.bundle_rules.specs.Nodes.{each_once}
+use Rattle.bundle_link_targets.specs.Names.{texts_in}
+use Rattle.bundle_link_targets.specs.Taken.{outside_of}
+use Rattle.bundle_link_targets.proofs.taken.specifiers_of.Given as goal
+
+abbrev pub invariant-loop-module : goal.invariant-loop-module
+invariant-loop-module l = texts_in l.specifiers ≡ each_once (outside_of l.kinds.modules.now (take l.module-index l.kinds.list.now))

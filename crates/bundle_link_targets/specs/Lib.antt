@@ -1,0 +1,10 @@
+pub mod Lists
+pub mod Linked
+pub mod Judged
+pub mod Stages
+pub mod Meant
+pub mod Names
+pub mod Found
+pub mod Handed
+pub mod Taken
+pub mod Symbols

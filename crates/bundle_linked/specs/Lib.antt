@@ -1,8 +1,0 @@
-pub mod Alike
-pub mod Graph
-pub mod Leads
-pub mod Linked
-pub mod Told
-pub mod Numbered
-pub mod Resolved
-pub mod First

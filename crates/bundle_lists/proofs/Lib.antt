@@ -1,9 +1,0 @@
-pub mod Copies
-pub mod EditExamples
-pub mod EditsLemmas
-pub mod ListLemmas
-pub mod MarksLemmas
-pub mod Progress
-pub mod ProgressLemmas
-pub mod RenameLemmas
-pub mod Spelled

@@ -1,5 +1,0 @@
-pub mod DependLemmas
-pub mod EventLemmas
-pub mod ListLemmas
-pub mod ProvideLemmas
-pub mod RenumberLemmas

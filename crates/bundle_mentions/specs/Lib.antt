@@ -1,4 +1,0 @@
-pub mod Found
-pub mod Providing
-pub mod Renumbered
-pub mod Seen

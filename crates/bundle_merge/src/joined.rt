@@ -1,0 +1,197 @@
+//! One module of the modules of a linker: they are read, linked and merged by their places on its list.
+
+ghost use Rattle.std.specs.Prelude.{◌≡◌, ◌≤◌, IfErr, IfOk, List, OnErr, OnOk};
+ghost use Rattle.bundle_tree_names.specs.FileName.{name_of};
+ghost use Rattle.bundle_tree_piece.specs.Item.{Item};
+ghost use Rattle.bundle_rules.specs.Parts as Parts;
+ghost use Rattle.bundle_scope.specs.Contexts.{HasGiven};
+ghost use Rattle.bundle_scope.specs.Refusals.{IsUsedUp};
+ghost use Rattle.bundle_merge.specs.Refusals.{IsLack, IsRefusalOfOne, MayRefuse};
+
+use crate::prepared::{copies_of, places_of};
+use crate::read::{Read, read_module};
+use bundle_link::link::Linker;
+use bundle_link_targets::Linking;
+use bundle_merge_items::{
+    Block, BundleParts, Contexts as Numbers, MergeError, Merged, Part, merge_modules, order_items,
+};
+use bundle_merge_modules::Modules;
+use bundle_order_sort::plan_of;
+use bundle_scope::scope::Contexts;
+use bundle_tree_ast::Module;
+use bundle_tree_names::{Error, FileName, ModuleId};
+use indexmap::IndexSet;
+use std::alloc::{AllocError, Global};
+
+/// The items of all modules that the entry of a linker reaches, as one module's, the body of the entry, in the order
+/// in which they are to stand. A name that a module declares has its local context, a global 1, and any other name a
+/// context from the next one on.
+///
+/// `prepared` holds the resolved items of each of these modules: names of the top have the local context, globals 1,
+/// and no two modules have another context in common. Where `import.meta` stands in a module, the first of its items is
+/// the statement that holds it, whose name has a context of its own; it is taken over as it is. The caller sees to
+/// that, and that the linker's check accepts the modules, and the next context is above all that there are.
+///
+/// Refused where contexts run out, where memory does, and by a fault that one of the modules has by itself. The
+/// contexts are then unchanged.
+pub fn merge_into_entry<'a>(
+    alloc: Global,
+    linker: &Linker<'a>,
+    prepared: &Modules,
+    contexts: &mut Contexts,
+) -> Result<Modules, Error>
+    ensures merged { IfOk result (λ merged.
+        (items : List (List Item)) × (merged ≡ Parts.parts_of linker.now.entry items)) }
+    ensures given { OnOk result (HasGiven contexts.old contexts.new) }
+    ensures refused { IfErr result (MayRefuse contexts.old.file linker.now.modules.items) }
+    ensures unchanged { OnErr result (contexts.new ≡ contexts.old) }
+{
+    let places = places_of(alloc, linker.list())?;
+    let (module, next) = joined(alloc, linker, &places, prepared, contexts)?;
+    let merged = Modules::from(alloc, linker.entry(), module)?;
+    contexts.go_to(next);
+    Ok(merged)
+}
+
+// The module that all modules make, and the next context behind it.
+fn joined<'a>(
+    alloc: Global,
+    linker: &Linker<'a>,
+    places: &IndexSet<ModuleId>,
+    prepared: &Modules,
+    contexts: &Contexts,
+) -> Result<(Module, u32), Error>
+    ensures given { IfOk result (λ made. contexts.now.next ≤ made.1) }
+    ensures refused { IfErr result (MayRefuse contexts.now.file linker.now.modules.items) }
+{
+    let copies = copies_of(alloc, places, prepared)?;
+    joined_of(alloc, linker, places, &copies, contexts)
+}
+
+// The same of copies of their items.
+fn joined_of<'a>(
+    alloc: Global,
+    linker: &Linker<'a>,
+    places: &IndexSet<ModuleId>,
+    copies: &[Module],
+    contexts: &Contexts,
+) -> Result<(Module, u32), Error>
+    ensures given { IfOk result (λ made. contexts.now.next ≤ made.1) }
+    ensures refused { IfErr result (MayRefuse contexts.now.file linker.now.modules.items) }
+{
+    let reads = read_all(alloc, linker, places, copies)?;
+    match merged_of(alloc, linker, &reads, contexts.next()) {
+        Ok(merged) => ordered(alloc, &merged, contexts),
+        Err(MergeError::OutOfMemory) => Err(Error::OutOfMemory),
+        Err(MergeError::ContextsUsedUp { .. }) => Err(lack_of_contexts(contexts.file())?),
+    }
+}
+
+// The modules on the linker's list, read from these items.
+fn read_all<'a, 'x>(
+    alloc: Global,
+    linker: &Linker<'a>,
+    places: &IndexSet<ModuleId>,
+    copies: &'x [Module],
+) -> Result<Vec<Read<'x>>, Error>
+    ensures { IfErr result (IsRefusalOfOne linker.now.modules.items) }
+{
+    let mut reads = Vec::new(alloc);
+    for (id, module) in linker.list().iter().zip(copies) {
+        if let Some(known) = linker.module(*id) {
+            reads.push(read_module(alloc, linker, known, places, module)?)?;
+        }
+    }
+    Ok(reads)
+}
+
+// What these modules are merged to, with contexts from the next one on.
+fn merged_of<'a, 'x>(
+    alloc: Global,
+    linker: &Linker<'a>,
+    reads: &[Read<'x>],
+    next: u32,
+) -> Result<Merged<'x>, MergeError> {
+    let blocks = blocks_of(alloc, linker)?;
+    let linking = linking_of(alloc, linker, reads)?;
+    merged_by(alloc, reads, &linking, &blocks, next)
+}
+
+// The blocks of the modules on the list, by the places of these.
+fn blocks_of<'a>(alloc: Global, linker: &Linker<'a>) -> Result<Vec<Block>, AllocError> {
+    let plan = plan_of(alloc, linker.graph(), linker.entry(), linker.list())?;
+    let mut blocks = Vec::new(alloc);
+    for block in &plan.blocks {
+        blocks.push(Block {
+            modules: block.places.to_vec(alloc)?,
+            is_sorted: block.is_cycle,
+        })?;
+    }
+    Ok(blocks)
+}
+
+// What the names of these modules stand for.
+fn linking_of<'a, 'x>(
+    alloc: Global,
+    linker: &Linker<'a>,
+    reads: &[Read<'x>],
+) -> Result<Linking<'x>, AllocError> {
+    let mut modules = Vec::new(alloc);
+    for read in reads {
+        modules.push(read.link_module())?;
+    }
+    linker.linking_of(&modules)
+}
+
+fn merged_by<'x>(
+    alloc: Global,
+    reads: &[Read<'x>],
+    linking: &Linking<'x>,
+    blocks: &[Block],
+    next: u32,
+) -> Result<Merged<'x>, MergeError> {
+    let parts = parts_of(alloc, reads)?;
+    let bundle = BundleParts {
+        parts: &parts,
+        linking,
+        blocks,
+        contexts: Numbers::from_next(next),
+    };
+    merge_modules(alloc, &bundle)
+}
+
+fn parts_of<'t, 'x>(alloc: Global, reads: &'t [Read<'x>]) -> Result<Vec<Part<'t, 'x>>, AllocError> {
+    let mut parts = Vec::new(alloc);
+    for read in reads {
+        parts.push(read.part())?;
+    }
+    Ok(parts)
+}
+
+// The module of what was merged, in its order, and the next context.
+fn ordered<'x>(
+    alloc: Global,
+    merged: &Merged<'x>,
+    contexts: &Contexts,
+) -> Result<(Module, u32), Error>
+    ensures given { IfOk result (λ made. contexts.now.next ≤ made.1) }
+    ensures refused { IfErr result (IsLack contexts.now.file) }
+{
+    match merged.contexts.next() {
+        Some(next) => Ok((module_of(alloc, merged)?, next.max(contexts.next()))),
+        None => Err(lack_of_contexts(contexts.file())?),
+    }
+}
+
+fn module_of<'x>(alloc: Global, merged: &Merged<'x>) -> Result<Module, AllocError> {
+    order_items(alloc, merged)?.module(alloc, merged, &[])
+}
+
+// That the contexts of a file do not suffice.
+fn lack_of_contexts(file: &FileName) -> Result<Error, AllocError>
+    ensures { IfOk result (IsUsedUp (name_of file.now)) }
+{
+    Ok(Error::ContextsUsedUp {
+        file: file.clone()?,
+    })
+}

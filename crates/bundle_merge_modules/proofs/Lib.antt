@@ -1,0 +1,10 @@
+mod PlacedLemmas
+mod SortLemmas
+mod TreeLemmas
+mod AliasLemmas
+mod EndLemmas
+mod InlineLemmas
+mod InlinedLemmas
+mod PairLemmas
+mod PigeonLemmas
+mod WalkLemmas

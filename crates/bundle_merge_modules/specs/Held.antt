@@ -1,0 +1,52 @@
+-- Items of modules as the trees that they are.
+use Rattle.std.specs.Prelude.{◌≡◌, ℕ, Bool, List, [], ◌∷◌, Option, Some, None, Result, Ok, map, option_map}
+use Rattle.std.specs.Borrow.{Bor}
+use Rattle.std.specs.declared.alloc.Global.{Global}
+use Rattle.std.specs.declared.vec.Vec.{Vec}
+use Rattle.bundle_tree_ast.specs.declared.module.ModuleItem.{ModuleItem}
+use Rattle.bundle_tree_piece.specs.Item.{Item}
+use Rattle.bundle_tree_listed.specs.Tree.{module_item_items}
+use Rattle.bundle_merge_parts.specs.Parts.{Held, Owned as OwnedOf}
+use Rattle.bundle_rules.specs.Parts.{HoldsOfParts, Owned, Parts}
+
+-- an item with its module
+abbrev pub tree_of : OwnedOf ModuleItem → Owned
+tree_of pair = (pair.0, module_item_items 0 pair.1)
+
+-- items, each with its module
+abbrev pub trees_of : List (OwnedOf ModuleItem) → List Owned
+trees_of pairs = map tree_of pairs
+
+-- the three parts
+abbrev pub parts_held : Held ModuleItem → Parts
+parts_held held = record { prepended = trees_of held.prepended; bodies = trees_of held.bodies; appended = trees_of held.appended }
+
+-- a call for a module and an item may answer this
+abbrev pub Asks : (ℕ → Bor ModuleItem → Bool → Type 0) → ℕ → List Item → Bool → Type 0
+Asks calls m item answer = (given : Bor ModuleItem) × (module_item_items 0 given.now ≡ item) × calls m given answer
+
+-- a call for a module and an item may answer that item
+abbrev pub Replies : {E : Type 0} → (ℕ → Bor ModuleItem → Result ModuleItem E → Type 0) → ℕ → List Item → List Item → Type 0
+Replies calls m item answer =
+    (given : Bor ModuleItem) × (got : ModuleItem) × (module_item_items 0 given.now ≡ item) × calls m given (Ok got) × (module_item_items 0 got ≡ answer)
+
+-- a call for a module and these items may answer those
+abbrev pub Answers : {E : Type 0} → (ℕ → Bor (List ModuleItem) → Result (Vec ModuleItem Global) E → Type 0) → ℕ → List (List Item) → List (List Item) → Type 0
+Answers calls m items answer =
+    (given : Bor (List ModuleItem)) × (got : Vec ModuleItem Global) × (map (module_item_items 0) given.now ≡ items) × calls m given (Ok got)
+    × (map (module_item_items 0) got.items ≡ answer)
+
+-- a call for a module and an item may answer that item, or none
+abbrev pub Picks : {E : Type 0} → (ℕ → Bor ModuleItem → Result (Option ModuleItem) E → Type 0) → ℕ → List Item → Option (List Item) → Type 0
+Picks calls m item answer =
+    (given : Bor ModuleItem) × (got : Option ModuleItem) × (module_item_items 0 given.now ≡ item) × calls m given (Ok got) × (option_map (module_item_items 0) got ≡ answer)
+
+-- `Picked May old new`: an item for which none is answered goes, and any other is replaced by its answer
+pub data Picked (May : ℕ → List Item → Option (List Item) → Type 0) : List Owned → List Owned → Type 0 where
+  over : Picked May [] []
+  goes : {m : ℕ} {item : List Item} {old new : List Owned} → May m item None → Picked May old new → Picked May ((m, item) ∷ old) new
+  stays : {m : ℕ} {item answer : List Item} {old new : List Owned} → May m item (Some answer) → Picked May old new → Picked May ((m, item) ∷ old) ((m, answer) ∷ new)
+
+-- each item is replaced by its answer, or goes
+abbrev pub MapsSome : (ℕ → List Item → Option (List Item) → Type 0) → Parts → Parts → Type 0
+MapsSome May before after = HoldsOfParts (Picked May) before after

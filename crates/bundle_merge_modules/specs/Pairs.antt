@@ -1,0 +1,51 @@
+-- Aliases as pairs of names: what is an alias, and of what.
+use Rattle.std.specs.Prelude.{◌≡◌, ◌≢◌, ℕ, ◌<◌, List, Option, Some, None, map, slice_get, slice_index, ◌⊎◌}
+use Rattle.std.specs.BTreeMap.{BTreeMap, get}
+use Rattle.std.specs.Map.{lookup}
+use Rattle.bundle_rules.specs.Aliases.{ChainEnd}
+use Rattle.bundle_rules.specs.Idents.{Ident}
+use Rattle.bundle_rules.specs.Rebuilds.{Renaming, change_by, change_to, ident_eq}
+use Rattle.bundle_marks.specs.Idents.{ident_named}
+use Rattle.bundle_tree.specs.IdName.{IdName, name_cmp}
+
+-- what is an alias, and of what
+abbrev pub Pair : Type 0
+Pair = IdName × IdName
+
+-- one of the pairs makes a an alias of b
+abbrev pub IsPair : List Pair → Ident → Ident → Type 0
+IsPair pairs a b = (i : ℕ) × (pair : Pair) × (slice_get pairs i ≡ Some pair) × (ident_named pair.0 ≡ a) × (ident_named pair.1 ≡ b)
+
+-- none is an alias of two
+abbrev pub AreOnce : List Pair → Type 0
+AreOnce pairs = (a b c : Ident) → IsPair pairs a b → IsPair pairs a c → b ≡ c
+
+-- each identifier becomes the end of its chain
+abbrev pub LeadsToEnds : (Ident → Ident → Type 0) → Renaming → Type 0
+LeadsToEnds Alias renaming = (ident : Ident) → (end : Ident) × ChainEnd Alias ident end × (change_by renaming ident ≡ change_to ident end)
+
+-- the number of a pair by what is an alias there, of the first so many pairs
+pub record AreNumbers (pairs : List Pair) (count : ℕ) (numbers : BTreeMap IdName ℕ) : Type 0 where
+  pub found : (name : IdName) (i : ℕ) → get name_cmp numbers name ≡ Some i → (pair : Pair) × (slice_get pairs i ≡ Some pair) × (pair.0 ≡ name)
+  pub none : (name : IdName) (i : ℕ) (pair : Pair) → get name_cmp numbers name ≡ None → i < count → slice_get pairs i ≡ Some pair → pair.0 ≢ name
+
+-- which pair each leads to
+abbrev pub next_by : BTreeMap IdName ℕ → List Pair → List (Option ℕ)
+next_by numbers pairs = map (λ pair. get name_cmp numbers pair.1) pairs
+
+-- what a renaming says of an identifier that is an alias of one of the first so many pairs, and of any other
+pub record Stepped (pairs : List Pair) (ends : List ℕ) (renaming : Renaming) (ident : Ident) : Type 0 where
+  pub i : ℕ
+  pub from : Pair
+  pub to : Pair
+  pub from_is : slice_get pairs i ≡ Some from
+  pub to_is : slice_get pairs (slice_index ends i) ≡ Some to
+  pub named : ident_named from.0 ≡ ident
+  pub said : lookup (ident_eq ident) renaming ≡ Some (change_to ident (ident_named to.1))
+
+pub record Kept (pairs : List Pair) (count : ℕ) (renaming : Renaming) (ident : Ident) : Type 0 where
+  pub said : lookup (ident_eq ident) renaming ≡ None
+  pub none : (i : ℕ) (pair : Pair) → i < count → slice_get pairs i ≡ Some pair → ident_named pair.0 ≢ ident
+
+abbrev pub AreSteps : List Pair → List ℕ → ℕ → Renaming → Type 0
+AreSteps pairs ends count renaming = (ident : Ident) → Stepped pairs ends renaming ident ⊎ Kept pairs count renaming ident

@@ -1,0 +1,31 @@
+use Rattle.std.proofs.Common.{List, ap, subst, sym, ◌∙◌}
+use Rattle.std.proofs.lemmas.Result.{on_ok_weaker}
+use Rattle.bundle_merge_parts.specs.Groups.{Groups, IsTidy, owned}
+use Rattle.bundle_merge_parts.specs.Held.{groups_of}
+use Rattle.bundle_merge_parts.specs.Parts.{Held, Owned, put_last}
+use Rattle.bundle_merge_parts.proofs.EitherLemmas.{either}
+use Rattle.bundle_merge_parts.proofs.OwnedLemmas.{last-put}
+use Rattle.bundle_merge_parts.proofs.PutLemmas.{IsTidy-put}
+use Rattle.bundle_merge_parts.proofs.parts.Parts.prepend.Goals as goal
+
+pub invariant_of-self : goal.invariant_of-self
+invariant_of-self g c =
+    let before = groups_of c.self.inside.prepended in
+    let tidy = c.self.invariant in (
+      either c.push.result c.push.ensures.put c.push.ensures.refused
+          (λ e. subst (λ (h : Groups _). IsTidy h) (sym e) (IsTidy-put before c.args.id c.args.item tidy.0))
+          (λ e. subst (λ (h : Groups _). IsTidy h) (sym e) tidy.0),
+      tidy.1,
+      tidy.2,
+    )
+
+pub returns-clause-put : goal.returns-clause-put
+returns-clause-put g c =
+    on_ok_weaker c.push.result
+    (λ e.
+    ap (λ (h : Held _). record h { prepended = owned (groups_of c.push.new.self) }) c.self.view_is
+    ∙ ap (λ (l : List (Owned _)). record c.args.self.now { prepended = l })
+    (ap owned e
+    ∙ sym (last-put (groups_of c.self.inside.prepended) c.args.id c.args.item c.self.invariant.0)
+    ∙ ap (λ (h : Held _). put_last h.prepended (c.args.id, c.args.item)) c.self.view_is))
+    c.push.ensures.put

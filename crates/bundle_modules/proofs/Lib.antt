@@ -1,3 +1,0 @@
-mod PlacedLemmas
-mod SortLemmas
-mod TreeLemmas

@@ -1,8 +1,0 @@
--- The lists of the items at the places that were passed.
-use Rattle.std.proofs.Common.{◌≡◌, map, take}
-use Rattle.bundle_piece.specs.Item.{item_of}
-use Rattle.bundle_modules.specs.Placed.{tree_at, trees_lent}
-use Rattle.bundle_modules.proofs.sort.lists_at.Given as goal
-
-abbrev pub invariant-loop-place : goal.invariant-loop-place
-invariant-loop-place l = map (λ v. map item_of v.items) l.lists.items ≡ map (tree_at (trees_lent l.items)) (take l.place-index l.places)

@@ -1,2 +1,0 @@
-mod CalledLemmas
-mod AwaitsLemmas

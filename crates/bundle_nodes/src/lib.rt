@@ -1,2 +1,0 @@
-//! The list of a tree is nodes in nodes: the lemmas that crates above cite.
-#![tactic(auto)]

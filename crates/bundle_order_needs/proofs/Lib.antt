@@ -1,0 +1,17 @@
+pub mod EntryLemmas
+pub mod FrameLemmas
+pub mod LaterLemmas
+pub mod NumberLemmas
+pub mod ObjectLemmas
+pub mod OpenLemmas
+pub mod RangeLemmas
+pub mod SecondLemmas
+pub mod SeenLemmas
+pub mod ToldLemmas
+pub mod TopLemmas
+pub mod WalkLemmas
+pub mod DependLemmas
+pub mod EventLemmas
+pub mod ListLemmas
+pub mod ProvideLemmas
+pub mod RenumberLemmas

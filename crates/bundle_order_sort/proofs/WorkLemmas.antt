@@ -1,0 +1,137 @@
+-- How much work the sort still has: it falls with each step.
+use Rattle.std.proofs.Common.{◌≡◌, Bool, true, false, not, cond, ◌&&◌, ◌||◌, nat_lt, ℕ, ◌+◌, ◌-◌, ◌*◌, ◌<◌, ◌≤◌, ◌⊎◌, List, [], ◌∷◌, ◌++◌, length, get_or, set, sum, sum_by, refl, sym, ap, ◌∙◌, inl, inr, arith}
+use Rattle.std.proofs.lemmas.Bool.{cases_lt, cases_Bool, false≢true, ltb-true}
+use Rattle.std.proofs.lemmas.List.{length-append, length_push, get_or_push, get_or_past, get_or-append-add}
+use Rattle.std.proofs.lemmas.List.Sums.{sum_by-set, get_or-le-sum_by}
+use Rattle.std.proofs.Math.Nat.{mul-le-mul_left}
+use Rattle.bundle_order_sort.specs.declared.stack.Progress.{Progress}
+use Rattle.bundle_order_sort.specs.Numbers.{progress_of, unknown, IsOut, is_awaited}
+use Rattle.bundle_order_sort.proofs.SortLemmas.{field}
+
+-- what is still to be done once: to begin an item, to put it out, and to put an earlier one above it
+abbrev pub one_unless : Bool → ℕ
+one_unless b = cond b 0 1
+
+abbrev pub chances : ℕ → Progress → ℕ
+chances n p = one_unless p.out + one_unless p.begun + (n - p.next)
+
+is_awaited-parts : (out : Bool) (low : Bool) (begun : Bool) → (not out && (low || not begun)) ≡ true → begun ≡ true → (out ≡ false) × (low ≡ true)
+is_awaited-parts true low begun e b = absurd (false≢true e)
+is_awaited-parts false true begun e b = (refl, refl)
+is_awaited-parts false false true e b = absurd (false≢true e)
+is_awaited-parts false false false e b = absurd (false≢true b)
+
+module _ (needs : List (List ℕ)) (ranks : List ℕ) where
+  -- more than an item ranks
+  abbrev pub highest : ℕ
+  highest = sum ranks + 1
+
+  -- more than are put on the stack in one step
+  abbrev pub most : ℕ
+  most = sum_by length needs + 3
+
+  -- how high the top of the stack stands; highest, if it is out
+  abbrev pub height : List Progress → List ℕ → ℕ
+  height ps stack = cond (progress_of ps (get_or stack (length stack - 1) 0)).out highest (get_or ranks (get_or stack (length stack - 1) 0) 0)
+
+  abbrev pub work : List Progress → List ℕ → ℕ
+  work ps stack = (most * (highest + 1)) * sum_by (chances (length needs)) ps + (length stack + most * height ps stack)
+
+  rank-le : (x : ℕ) → get_or ranks x 0 < highest
+  rank-le x = elim (cases_lt x (length ranks)) [ inl l ↦ omega (arith, get_or-le-sum_by (λ y. y) ranks x 0 l) | inr g ↦ omega (arith, get_or_past ranks x 0 g) ]
+
+  pub needs-short : (s : ℕ) → length (get_or needs s []) + 2 ≤ most
+  needs-short s = elim (cases_lt s (length needs)) [ inl l ↦ omega (arith, get_or-le-sum_by length needs s [] l) | inr g ↦ omega (arith, ap length (get_or_past needs s [] g)) ]
+
+  height-by : (b : Bool) (x : ℕ) → cond b highest (get_or ranks x 0) ≤ highest
+  height-by true x = omega arith
+  height-by false x = omega (arith, rank-le x)
+
+  height-le : (ps : List Progress) (stack : List ℕ) → height ps stack ≤ highest
+  height-le ps stack = height-by (progress_of ps (get_or stack (length stack - 1) 0)).out (get_or stack (length stack - 1) 0)
+
+  top : (rest : List ℕ) (x : ℕ) → get_or (rest ++ x ∷ []) (length (rest ++ x ∷ []) - 1) 0 ≡ x
+  top rest x = get_or_push rest x 0 (length (rest ++ x ∷ []) - 1) (omega (arith, length_push rest x))
+
+  height-out : (ps : List Progress) (rest : List ℕ) (x : ℕ) → IsOut ps x → height ps (rest ++ x ∷ []) ≡ highest
+  height-out ps rest x o = ap (λ y. cond (progress_of ps y).out highest (get_or ranks y 0)) (top rest x) ∙ ap (λ b. cond b highest (get_or ranks x 0)) o
+
+  height-in : (ps : List Progress) (rest : List ℕ) (x : ℕ) → (progress_of ps x).out ≡ false → height ps (rest ++ x ∷ []) ≡ get_or ranks x 0
+  height-in ps rest x o = ap (λ y. cond (progress_of ps y).out highest (get_or ranks y 0)) (top rest x) ∙ ap (λ b. cond b highest (get_or ranks x 0)) o
+
+  -- an item that is out is dropped
+  pub work-drops : (ps : List Progress) (rest : List ℕ) (x : ℕ) → IsOut ps x → work ps rest < work ps (rest ++ x ∷ [])
+  work-drops ps rest x o = omega (arith, length_push rest x, mul-le-mul_left most (height-le ps rest), ap (λ h. most * h) (height-out ps rest x o))
+
+  -- a chance is used, and few are put on the stack
+  pub work-uses : (ps ps' : List Progress) (stack stack' : List ℕ) → sum_by (chances (length needs)) ps' < sum_by (chances (length needs)) ps → length stack' + 2 ≤ length stack + most → work ps' stack' < work ps stack
+  work-uses ps ps' stack stack' h l = omega (arith, l, fewer, mul-le-mul_left most (height-le ps' stack'), split)
+    where
+      fewer : (most * (highest + 1)) * (sum_by (chances (length needs)) ps' + 1) ≤ (most * (highest + 1)) * sum_by (chances (length needs)) ps
+      fewer = mul-le-mul_left (most * (highest + 1)) (omega (arith, h))
+
+      split : most * (highest + 1) ≡ most * highest + most
+      split = omega arith
+
+  -- the top stands lower than before, and few are put on the stack
+  pub work-sinks : (ps ps' : List Progress) (stack stack' : List ℕ) → sum_by (chances (length needs)) ps' ≡ sum_by (chances (length needs)) ps → height ps' stack' < height ps stack → length stack' + 2 ≤ length stack + most → work ps' stack' < work ps stack
+  work-sinks ps ps' stack stack' same h l = omega (arith, l, ap (λ a. (most * (highest + 1)) * a) same, lower, split)
+    where
+      lower : most * (height ps' stack' + 1) ≤ most * height ps stack
+      lower = mul-le-mul_left most (omega (arith, h))
+
+      split : most * (height ps' stack' + 1) ≡ most * height ps' stack' + most
+      split = omega arith
+
+  module _ (rest : List ℕ) (s : ℕ) (ps : List Progress) (known : s < length ps) (p : Progress) where
+    -- the chances of one item are fewer
+    chance : chances (length needs) p < chances (length needs) (progress_of ps s) → sum_by (chances (length needs)) (set ps s p) < sum_by (chances (length needs)) ps
+    chance h = omega (arith, h, sum_by-set (chances (length needs)) ps s p unknown known)
+
+    same_chance : chances (length needs) p ≡ chances (length needs) (progress_of ps s) → sum_by (chances (length needs)) (set ps s p) ≡ sum_by (chances (length needs)) ps
+    same_chance h = omega (arith, h, sum_by-set (chances (length needs)) ps s p unknown known)
+
+    module _ (left : (progress_of ps s).out ≡ false) where
+      -- the item is out
+      pub work-outs : p.out ≡ true → p.begun ≡ (progress_of ps s).begun → p.next ≡ (progress_of ps s).next → work (set ps s p) rest < work ps (rest ++ s ∷ [])
+      work-outs a b c = work-uses ps (set ps s p) (rest ++ s ∷ []) rest (chance (omega (arith, ap one_unless a, ap one_unless b, c, ap one_unless left))) (omega (arith, length_push rest s))
+
+      -- an earlier item is put above it
+      pub work-pulls : (e : ℕ) → (progress_of ps s).next ≤ e → e < length needs → p.out ≡ (progress_of ps s).out → p.begun ≡ (progress_of ps s).begun → p.next ≡ e + 1 → work (set ps s p) ((rest ++ s ∷ []) ++ e ∷ []) < work ps (rest ++ s ∷ [])
+      work-pulls e high within a b c = work-uses ps (set ps s p) (rest ++ s ∷ []) ((rest ++ s ∷ []) ++ e ∷ []) (chance (omega (arith, ap one_unless a, ap one_unless b, c, high, within))) (omega (arith, length_push (rest ++ s ∷ []) e))
+
+      -- what the item waits for is put above it
+      module _ (ys : List ℕ) (any : 0 < length ys) (short : length ys ≤ length (get_or needs s [])) (awaited : (k : ℕ) → k < length ys → is_awaited ranks ps s (get_or ys k 0) ≡ true) (same_out : p.out ≡ (progress_of ps s).out) (begun : p.begun ≡ true) (same_next : p.next ≡ (progress_of ps s).next) where
+        last : ℕ
+        last = get_or ys (length ys - 1) 0
+
+        last-is : last ≡ get_or ys (length ys - 1) 0
+        unfolding last
+        last-is = refl
+
+        top-last : get_or ((rest ++ s ∷ []) ++ ys) (length ((rest ++ s ∷ []) ++ ys) - 1) 0 ≡ last
+        top-last = ap (λ k. get_or ((rest ++ s ∷ []) ++ ys) k 0) place ∙ (get_or-append-add (rest ++ s ∷ []) ys (length ys - 1) 0 ∙ sym last-is)
+          where
+            place : length ((rest ++ s ∷ []) ++ ys) - 1 ≡ length (rest ++ s ∷ []) + (length ys - 1)
+            place = omega (arith, length-append (rest ++ s ∷ []) ys, any)
+
+        last-awaited : is_awaited ranks ps s last ≡ true
+        last-awaited = ap (λ x. is_awaited ranks ps s x) last-is ∙ awaited (length ys - 1) (omega (arith, any))
+
+        room : length ((rest ++ s ∷ []) ++ ys) + 2 ≤ length (rest ++ s ∷ []) + most
+        room = omega (arith, length-append (rest ++ s ∷ []) ys, short, needs-short s)
+
+        pub work-awaits : work (set ps s p) ((rest ++ s ∷ []) ++ ys) < work ps (rest ++ s ∷ [])
+        work-awaits = by (cases_Bool (progress_of ps s).begun)
+          where
+            sinks : (progress_of ps s).begun ≡ true → work (set ps s p) ((rest ++ s ∷ []) ++ ys) < work ps (rest ++ s ∷ [])
+            sinks e =
+                let yes = is_awaited-parts (progress_of ps last).out (nat_lt (get_or ranks last 0) (get_or ranks s 0)) (progress_of ps s).begun last-awaited e in
+                let low : get_or ranks last 0 < get_or ranks s 0 = ltb-true (get_or ranks last 0) (get_or ranks s 0) yes.1 in
+                let out : (progress_of (set ps s p) last).out ≡ false = field ps s p known (λ q. q.out) same_out last ∙ yes.0 in
+                let now : height (set ps s p) ((rest ++ s ∷ []) ++ ys) ≡ get_or ranks last 0 = ap (λ y. cond (progress_of (set ps s p) y).out highest (get_or ranks y 0)) top-last ∙ ap (λ b. cond b highest (get_or ranks last 0)) out in
+                work-sinks ps (set ps s p) (rest ++ s ∷ []) ((rest ++ s ∷ []) ++ ys) (same_chance (omega (arith, ap one_unless same_out, ap one_unless (begun ∙ sym e), same_next))) (omega (arith, now, height-in ps rest s left, low)) room
+
+            by : ((progress_of ps s).begun ≡ true) ⊎ ((progress_of ps s).begun ≡ false) → work (set ps s p) ((rest ++ s ∷ []) ++ ys) < work ps (rest ++ s ∷ [])
+            by (inl e) = sinks e
+            by (inr e) = work-uses ps (set ps s p) (rest ++ s ∷ []) ((rest ++ s ∷ []) ++ ys) (chance (omega (arith, ap one_unless same_out, ap one_unless begun, same_next, ap one_unless e))) room

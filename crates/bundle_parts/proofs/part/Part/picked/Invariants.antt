@@ -1,8 +1,0 @@
-use Rattle.std.proofs.Common.{[]}
-use Rattle.std.specs.Prelude.{map}
-use Rattle.bundle_parts.specs.Groups.{IsMapped, ItemsPicked}
-use Rattle.bundle_parts.specs.Held.{Picks, group, groups_of}
-use Rattle.bundle_parts.proofs.part.Part.picked.Given as goal
-
-abbrev pub invariant-loop-id : goal.invariant-loop-id
-invariant-loop-id g l = (to : _) → IsMapped (ItemsPicked (Picks (goal.F-post g l.f))) (groups_of l.mapped) (map group l.id-iterator) to → IsMapped (ItemsPicked (Picks (goal.F-post g l.f))) [] (groups_of l.self) to

@@ -1,2 +1,0 @@
-//! Places in a syntax tree, its scopes, and what its names denote: the definitions that contracts cite.
-#![tactic(auto)]

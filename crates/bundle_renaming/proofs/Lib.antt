@@ -1,5 +1,0 @@
-pub mod LawLemmas
-pub mod RenamingLemmas
-pub mod Shapes
-pub mod TreeParts
-pub mod Twice

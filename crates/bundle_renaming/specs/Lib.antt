@@ -1,3 +1,0 @@
-pub mod Composed
-pub mod Idents
-pub mod Renamings

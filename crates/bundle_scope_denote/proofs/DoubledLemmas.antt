@@ -1,0 +1,100 @@
+-- The first declaration that may not stand beside those before it is the one that the definition names.
+use Rattle.std.proofs.Common.{◌≡◌, ◌≤◌, ◌<◌, ◌+◌, ℕ, zero, suc, Bool, true, false, ◌||◌, List, [], ◌∷◌, Option, Some, None, option_map, take, length, refl, ap, ap₂, sym, ◌∙◌, subst, arith}
+use Rattle.std.specs.Prelude.{slice_get}
+use Rattle.std.specs.List.{list_any}
+use Rattle.std.proofs.lemmas.Option.{none-some, same_Some, slice_get_within}
+use Rattle.std.proofs.lemmas.List.{length-map}
+use Rattle.std.proofs.lemmas.Slice.Zip.{AllZip-long}
+use Rattle.bundle_tree_piece.specs.Item.{Item}
+use Rattle.bundle_rules.specs.Scopes as s
+use Rattle.bundle_rules.specs.Declarations as d
+use Rattle.bundle_rules.specs.Doubled as u
+use Rattle.bundle_scope_denote.specs.declared.table.Doubled.{Doubled}
+use Rattle.bundle_scope_denote.specs.declared.walk.Declaration.{Declaration}
+use Rattle.bundle_scope_denote.specs.declared.walk.Walk.{Walk}
+use Rattle.bundle_scope_denote.specs.declared.doubled.Met.{Met}
+use Rattle.bundle_scope_denote.specs.declared.doubled.Reach.{Reach}
+use Rattle.bundle_scope_denote.specs.Numbers.{name_as}
+use Rattle.bundle_scope_denote.specs.Bound.{Key, same_key, IsReadAs}
+use Rattle.bundle_scope_denote.specs.Walked.{IsDeclared}
+use Rattle.bundle_scope_denote.specs.Steps.{scopes_of, names_of, IsWhole}
+use Rattle.bundle_scope_denote.specs.Listed.{told_of, place_and_symbol}
+use Rattle.bundle_scope_denote.specs.Barred.{Reaches, has_any, is_key_in, HasMet, HasMetFirst, IsToldOf}
+use Rattle.bundle_scope_denote.proofs.ZipLemmas.{AllZip-at}
+use Rattle.bundle_scope_denote.proofs.ReadLemmas.{Each, declared-read}
+use Rattle.bundle_scope_denote.proofs.LoopLemmas.{take-next, take-whole, any-step}
+use Rattle.bundle_scope_denote.proofs.OrderLemmas.{doubled-before}
+use Rattle.bundle_scope_denote.proofs.MetLemmas.{excluded-met, met-more, met-none, find-first, find-none}
+
+each-at : {X : Type 0} (P : X → Type 0) (xs : List X) (i : ℕ) (x : X) → Each P xs → slice_get xs i ≡ Some x → P x
+each-at P [] i x each at = absurd (none-some x at)
+each-at P (y ∷ ys) zero x each at = subst P (same_Some y x at) each.0
+each-at P (y ∷ ys) (suc i) x each at = each-at P ys i x each.1 at
+
+take-zero : {X : Type 0} (xs : List X) → take 0 xs ≡ []
+take-zero [] = refl
+take-zero (x ∷ xs) = refl
+
+-- nothing was met
+pub meets-none : (walk : Walk) (all : List d.Declared) (met : Met) → met.taken.keys ≡ [] → met.barred.keys ≡ [] → HasMetFirst walk all 0 met
+meets-none walk all met none_taken none_barred = record {
+  before = subst (λ l. HasMet (scopes_of walk) (names_of walk) l met) (sym (take-zero all)) (met-none (scopes_of walk) (names_of walk) met none_taken none_barred);
+  undoubled = ap (list_any (u.is_doubled all)) (take-zero all);
+}
+
+-- whether what a declaration reaches is excluded by what was met
+abbrev pub is_excluded : Met → ℕ → Reach → Bool
+is_excluded met name reach = list_any (same_key (reach.taker, name)) met.barred.keys || has_any met.taken.keys name reach.barred.items
+
+-- the definition's declaration with this number, of which that is whether it is doubled
+pub record Found (walk : Walk) (kind : s.ModuleKind) (items : List Item) (met : Met) (number : ℕ) (declaration : Declaration) (reach : Reach) : Type 0 where
+  pub declared : d.Declared
+  pub at : slice_get (d.declared d.BySymbol kind items) number ≡ Some declared
+  pub known : IsDeclared (scopes_of walk) (names_of walk) declaration declared
+  pub plain : declared.name.ctxt ≡ None
+  pub same : is_excluded met declaration.name reach ≡ u.is_doubled (d.declared d.BySymbol kind items) declared
+
+found-at : (walk : Walk) (kind : s.ModuleKind) (items : List Item) (met : Met) (number : ℕ) (declaration : Declaration) (reach : Reach) → IsWhole walk d.BySymbol kind items → slice_get walk.declarations.items number ≡ Some declaration → Reaches walk declaration reach → HasMetFirst walk (d.declared d.BySymbol kind items) number met → Found walk kind items met number declaration reach
+found-at walk kind items met number declaration reach whole at reaches known =
+    let all : List d.Declared = d.declared d.BySymbol kind items in
+    let there = AllZip-at (IsDeclared (scopes_of walk) (names_of walk)) walk.declarations.items all number declaration whole.declared at in
+    let plain : there.0.name.ctxt ≡ None = each-at (IsReadAs d.BySymbol) all number there.0 (declared-read d.BySymbol kind items) there.1 in
+    record {
+      declared = there.0;
+      at = there.1;
+      known = there.2;
+      plain = plain;
+      same = excluded-met (scopes_of walk) (names_of walk) (take number all) met reach there.0 declaration.name known.before (reaches d.BySymbol kind items there.0 whole there.2) there.2.name plain ∙ sym (doubled-before d.BySymbol kind items number there.0 there.1);
+    }
+
+-- the first that is excluded is the first that is doubled
+pub tells-doubled : (walk : Walk) (kind : s.ModuleKind) (items : List Item) (met : Met) (number : ℕ) (declaration : Declaration) (reach : Reach) (doubled : Doubled) → IsWhole walk d.BySymbol kind items → slice_get walk.declarations.items number ≡ Some declaration → Reaches walk declaration reach → HasMetFirst walk (d.declared d.BySymbol kind items) number met → is_excluded met declaration.name reach ≡ true → IsToldOf walk declaration doubled → option_map told_of (Some doubled) ≡ option_map place_and_symbol (u.first_doubled kind items)
+tells-doubled walk kind items met number declaration reach doubled whole at reaches known is told =
+    let all : List d.Declared = d.declared d.BySymbol kind items in
+    let found = found-at walk kind items met number declaration reach whole at reaches known in
+    let symbol : found.declared.name.sym ≡ doubled.name.now = same_Some found.declared.name.sym doubled.name.now (sym (ap (option_map (λ (name : d.Name). name.sym)) found.known.name) ∙ told.symbol) in
+    ap₂ (λ (place : ℕ) (name : List ℕ). let both : Option (ℕ × List ℕ) = Some (place, name) in both) (told.place ∙ found.known.place) (sym symbol) ∙ ap (option_map place_and_symbol) (sym (find-first (u.is_doubled all) all number found.declared found.at known.undoubled (sym found.same ∙ is)))
+
+-- one more was met that is not excluded
+pub meets-next : (walk : Walk) (kind : s.ModuleKind) (items : List Item) (old new : Met) (number : ℕ) (declaration : Declaration) (reach : Reach) → IsWhole walk d.BySymbol kind items → slice_get walk.declarations.items number ≡ Some declaration → Reaches walk declaration reach → is_excluded old declaration.name reach ≡ false → ((key : Key) → list_any (same_key key) new.taken.keys ≡ (list_any (same_key key) old.taken.keys || same_key key (reach.taker, declaration.name))) → ((key : Key) → list_any (same_key key) new.barred.keys ≡ (list_any (same_key key) old.barred.keys || is_key_in key declaration.name reach.barred.items)) → HasMetFirst walk (d.declared d.BySymbol kind items) number old → HasMetFirst walk (d.declared d.BySymbol kind items) (number + 1) new
+meets-next walk kind items old new number declaration reach whole at reaches is takes bars known =
+    let all : List d.Declared = d.declared d.BySymbol kind items in
+    let found = found-at walk kind items old number declaration reach whole at reaches known in
+    record {
+      before = subst (λ l. HasMet (scopes_of walk) (names_of walk) l new) (sym (take-next all number found.declared found.at)) (met-more (scopes_of walk) (names_of walk) whole.order whole.once (take number all) old new reach found.declared declaration.name (reaches d.BySymbol kind items found.declared whole found.known) found.known.name found.plain takes bars known.before);
+      undoubled = any-step (u.is_doubled all) all number found.declared found.at ∙ ap₂ (λ (a : Bool) (b : Bool). a || b) known.undoubled (sym found.same ∙ is);
+    }
+
+-- where all were met, none is doubled
+pub tells-none : (walk : Walk) (kind : s.ModuleKind) (items : List Item) (met : Met) (number : ℕ) → IsWhole walk d.BySymbol kind items → length walk.declarations.items ≤ number → HasMetFirst walk (d.declared d.BySymbol kind items) number met → option_map told_of None ≡ option_map place_and_symbol (u.first_doubled kind items)
+tells-none walk kind items met number whole past known =
+    let all : List d.Declared = d.declared d.BySymbol kind items in
+    let long : length all ≡ length walk.declarations.items = AllZip-long (IsDeclared (scopes_of walk) (names_of walk)) walk.declarations.items all whole.declared in
+    let within : length all ≤ number = omega (arith, long) in
+    ap (option_map place_and_symbol) (sym (find-none (u.is_doubled all) all (sym (ap (list_any (u.is_doubled all)) (take-whole all number within)) ∙ known.undoubled)))
+
+-- a declaration that was met has a name
+pub name-within : (walk : Walk) (kind : s.ModuleKind) (items : List Item) (number : ℕ) (declaration : Declaration) → IsWhole walk d.BySymbol kind items → slice_get walk.declarations.items number ≡ Some declaration → declaration.name < length walk.names.keys
+name-within walk kind items number declaration whole at =
+    let there = AllZip-at (IsDeclared (scopes_of walk) (names_of walk)) walk.declarations.items (d.declared d.BySymbol kind items) number declaration whole.declared at in
+    subst (λ n. declaration.name < n) (length-map walk.names.keys name_as) (slice_get_within (names_of walk) declaration.name there.0.name there.2.name)

@@ -1,0 +1,126 @@
+-- A step of the walk over a list, by what it changes.
+use Rattle.std.specs.Prelude.{◌≡◌, ℕ, ◌+◌, Bool as Truth, cond, List, [], ◌∷◌, ◌++◌, Option, Some, None, map, length, reverse, option_map, slice_get}
+use Rattle.std.specs.List.{AllZip}
+use Rattle.std.specs.Option.{option_to_list}
+use Rattle.bundle_tree_piece.specs.declared.piece.Node.TheVariants as n
+use Rattle.bundle_tree_piece.specs.declared.piece.Role.{Role}
+use Rattle.bundle_tree_piece.specs.Item.{Item, Head, head_of}
+use Rattle.bundle_rules.specs.Places as p
+use Rattle.bundle_rules.specs.Places.{is_binding}
+use Rattle.bundle_rules.specs.Scopes as s
+use Rattle.bundle_rules.specs.Declarations as d
+use Rattle.bundle_scope_denote.specs.declared.walk.Declaration.{Declaration}
+use Rattle.bundle_scope_denote.specs.declared.walk.Open.{Open}
+use Rattle.bundle_scope_denote.specs.declared.walk.Walk.{Walk}
+use Rattle.bundle_scope_denote.specs.Kinds.{kind_as, reading_as, kind_named, kind_made, way_in, way_of_variable}
+use Rattle.bundle_scope_denote.specs.Numbers.{Numbered, AreAround, numbered, in_scope, name_as, Keeps}
+use Rattle.bundle_scope_denote.specs.Chains.{AreInOrder, IsOnce, top_number}
+use Rattle.bundle_scope_denote.specs.Walked.{IsAt, IsDeclared, IsSeen, IsDefault, scope_in, declared_as, IsTidy, StaysOnce}
+
+-- the scopes and the names of a walk
+abbrev pub scopes_of : Walk → List Numbered
+scopes_of walk = map numbered walk.scopes.items
+
+abbrev pub names_of : Walk → List d.Name
+names_of walk = map name_as walk.names.keys
+
+-- a walk has met what stands before a place
+abbrev pub IsWalkAt : Walk → List Item → ℕ → Type 0
+IsWalkAt walk items place = IsAt (reading_as walk.reading) (kind_as walk.kind) items place (scopes_of walk) (names_of walk) walk.declarations.items walk.occurrences.items (walk.inner ∷ reverse walk.outer.items) walk.top
+
+-- and its tables are tidy
+abbrev pub IsTidyAt : Walk → ℕ → Type 0
+IsTidyAt walk place = IsTidy (scopes_of walk) (names_of walk) place
+
+-- a walk that has met nothing, before its module begins
+pub record IsBlank (walk : Walk) : Type 0 where
+  pub scopes : walk.scopes.items ≡ []
+  pub names : walk.names.keys ≡ []
+  pub declarations : walk.declarations.items ≡ []
+  pub occurrences : walk.occurrences.items ≡ []
+  pub outer : walk.outer.items ≡ []
+  pub node : walk.inner.node ≡ n.Module
+  pub way : walk.inner.way ≡ None
+  pub variable : walk.inner.variable ≡ None
+  pub around : walk.inner.around ≡ top_number (kind_as walk.kind)
+  pub own : walk.inner.own ≡ None
+  pub top : walk.top ≡ top_number (kind_as walk.kind)
+
+-- what no step changes
+pub record Stays (old new : Walk) : Type 0 where
+  pub top : new.top ≡ old.top
+  pub reading : new.reading ≡ old.reading
+  pub kind : new.kind ≡ old.kind
+
+-- a walk goes on by what stands at a place
+pub record Goes (old new : Walk) (items : List Item) (place : ℕ) : Type 0 where
+  pub is_at : IsWalkAt new items (place + 1)
+  pub stays : Stays old new
+
+-- the module of a walk begins
+pub record Starts (old new : Walk) : Type 0 where
+  pub is_at : (items : List Item) → IsWalkAt new items 0
+  pub tidy : IsTidyAt new 0
+  pub stays : Stays old new
+
+-- the scope that a node makes
+abbrev pub scope_made : Open → (place field : ℕ) → Head → Option Numbered
+scope_made inner place field head = option_map (in_scope place (scope_in inner field)) (kind_made head (kind_named (s.block_in (head_of inner.node))) (s.exports_default (head_of inner.node)))
+
+-- a node begins at a place
+pub record Begins (old new : Walk) (place field : ℕ) (head : Head) (is_nameless : Truth) : Type 0 where
+  pub default : Option Declaration
+  pub is_default : IsDefault (names_of new) place old.top is_nameless default
+  pub declarations : new.declarations.items ≡ old.declarations.items ++ option_to_list default
+  pub occurrences : new.occurrences.items ≡ old.occurrences.items
+  pub keeps : Keeps (names_of old) (names_of new)
+  pub once : StaysOnce (names_of old) (names_of new)
+  pub scopes : scopes_of new ≡ scopes_of old ++ option_to_list (scope_made old.inner place field head)
+  pub node : head_of new.inner.node ≡ head
+  pub way : new.inner.way ≡ cond (d.is_pattern head) old.inner.way (way_in head old.inner.variable (s.exports_default (head_of old.inner.node)))
+  pub variable : new.inner.variable ≡ way_of_variable head (d.is_loop_head (head_of old.inner.node) field)
+  pub around : new.inner.around ≡ scope_in old.inner field
+  pub own : new.inner.own ≡ option_map (λ _. length (scopes_of old)) (scope_made old.inner place field head)
+  pub outer : new.outer.items ≡ old.outer.items ++ old.inner ∷ []
+  pub stays : Stays old new
+
+-- an identifier stands at a place that binds or refers
+pub record Occurs (old new : Walk) (place field : ℕ) (sym : List ℕ) (ctxt : ℕ) (role : Role) : Type 0 where
+  pub number : ℕ
+  pub named : slice_get (names_of new) number ≡ Some (d.name_of (reading_as old.reading) sym ctxt)
+  pub keeps : Keeps (names_of old) (names_of new)
+  pub once : StaysOnce (names_of old) (names_of new)
+  pub scopes : scopes_of new ≡ scopes_of old
+  pub declared : Option Declaration
+  pub is_declared : declared ≡ option_map (declared_as place number (scope_in old.inner field)) (cond (is_binding role) old.inner.way None)
+  pub declarations : new.declarations.items ≡ old.declarations.items ++ option_to_list declared
+  pub occurrences : new.occurrences.items ≡ old.occurrences.items ++ record { place = place; name = number; scope = scope_in old.inner field; declaration = option_map (λ _. length old.declarations.items) declared } ∷ []
+  pub inner : new.inner ≡ old.inner
+  pub outer : new.outer.items ≡ old.outer.items
+  pub stays : Stays old new
+
+-- the node that is innermost then, and at last what is known outside all nodes
+abbrev pub next_inner : Open → Option Open → Open
+next_inner inner None = inner
+next_inner inner (Some next) = next
+
+-- the innermost node ends
+pub record Ends (old new : Walk) : Type 0 where
+  pub popped : Option Open
+  pub outer : old.outer.items ≡ new.outer.items ++ option_to_list popped
+  pub inner : new.inner ≡ next_inner old.inner popped
+  pub at_last : popped ≡ None → new.outer.items ≡ []
+  pub names : names_of new ≡ names_of old
+  pub scopes : scopes_of new ≡ scopes_of old
+  pub declarations : new.declarations.items ≡ old.declarations.items
+  pub occurrences : new.occurrences.items ≡ old.occurrences.items
+  pub stays : Stays old new
+
+-- a whole list was gone over: its declarations and its occurrences were met, each with its name and the scopes around it
+pub record IsWhole (walk : Walk) (reading : d.Reading) (kind : s.ModuleKind) (items : List Item) : Type 0 where
+  pub declared : AllZip (IsDeclared (scopes_of walk) (names_of walk)) walk.declarations.items (d.declared reading kind items)
+  pub seen : AllZip (IsSeen (scopes_of walk) (names_of walk) reading kind (d.declared reading kind items)) walk.occurrences.items (p.occurrences items)
+  pub outermost : AreAround (scopes_of walk) (Some walk.top) (s.outermost kind)
+  pub top : walk.top ≡ top_number kind
+  pub order : AreInOrder (scopes_of walk)
+  pub once : IsOnce (names_of walk)

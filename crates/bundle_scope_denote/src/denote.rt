@@ -1,0 +1,463 @@
+//! What each occurrence of a list denotes.
+
+ghost use Rattle.std.specs.Prelude.{◌≡◌, ◌<◌, ◌||◌, ◌&&◌, IfOk, List, OnOk, Some, length, map, slice_get};
+ghost use Rattle.std.specs.List.{list_any};
+ghost use Rattle.bundle_tree_piece.specs.Item.{Item, item_of};
+ghost use Rattle.bundle_rules.specs.Scopes as Scopes;
+ghost use Rattle.bundle_rules.specs.Declarations.{ByContext, BySymbol};
+ghost use Rattle.bundle_rules.specs.Denotes as denotes;
+ghost use Rattle.bundle_rules.specs.Homes as Homes;
+ghost use Rattle.bundle_scope_denote.specs.Kinds.{kind_as, reading_as};
+ghost use Rattle.bundle_scope_denote.specs.Numbers.{name_as, numbered};
+ghost use Rattle.bundle_scope_denote.specs.Chains.{nearest_at, passes};
+ghost use Rattle.bundle_scope_denote.specs.Bound as bound;
+ghost use Rattle.bundle_scope_denote.specs.Bound.{Key, same_key};
+ghost use Rattle.bundle_scope_denote.specs.Ready.{AreNamed, AreSeenNamed, HasArguments, HoldsImplied, is_implied_key};
+ghost use Rattle.bundle_scope_denote.specs.Searched.{Denotes, DenotesSeen, MakesTable, Puts, Searches};
+ghost use Rattle.bundle_scope_denote.specs.Listed.{IsTable};
+ghost use Rattle.bundle_scope_denote.specs.Steps.{IsBlank, IsWhole, Stays};
+
+use crate::homes::{Bindings, alone_of, homes_of, outer_at, scope_at};
+use crate::kinds::is_function;
+use crate::table::{Binding, Denotations, Denoted, ModuleKind, Reading, Scope, Way};
+use crate::walk::{Name, Occurrence, Walk, number_of};
+use bundle_tree_piece::Piece;
+use indexmap::IndexSet;
+use std::alloc::{AllocError, Global};
+
+/// What each occurrence of a list denotes: the binding of the nearest scope around it that binds its name, or
+/// else a global. Refused only where memory runs out.
+pub fn denotations<'a>(
+    alloc: Global,
+    pieces: &[Piece<'a>],
+    kind: ModuleKind,
+    reading: Reading,
+) -> Result<Denotations<'a>, AllocError>
+    ensures { IfOk result (IsTable (reading_as reading) (kind_as kind) (map item_of pieces.now)) }
+{
+    let mut walk = Walk::new(alloc, pieces.len(), kind, reading);
+    let found = found_along(alloc, &mut walk, pieces)?;
+    Ok(table_of(walk, found))
+}
+
+// The bindings of a list, and what each of its occurrences denotes.
+#[derive(Drop)]
+struct Found<'a> {
+    bindings: Vec<Binding<'a>>,
+    occurrences: Vec<Denoted>,
+}
+
+// The table of a list, by what was met and what was found along it.
+fn table_of<'a>(walk: Walk<'a>, found: Found<'a>) -> Denotations<'a>
+    ensures scopes { result.scopes.items ≡ walk.entry.scopes.items }
+    ensures bindings { result.bindings.items ≡ found.entry.bindings.items }
+    ensures occurrences { result.occurrences.items ≡ found.entry.occurrences.items }
+{
+    Denotations {
+        scopes: walk.scopes,
+        bindings: found.bindings,
+        occurrences: found.occurrences,
+    }
+}
+
+// Goes over a list, and finds the bindings and what each occurrence denotes.
+fn found_along<'a>(
+    alloc: Global,
+    walk: &mut Walk<'a>,
+    pieces: &[Piece<'a>],
+) -> Result<Found<'a>, AllocError>
+    requires { IsBlank walk.old }
+    ensures { IfOk result
+        (MakesTable (reading_as walk.old.reading) (kind_as walk.old.kind) (map item_of pieces.now)
+        walk.new) }
+{
+    go_over_with_arguments(walk, pieces)?;
+    searched(alloc, walk)
+}
+
+// Goes over a list, where the name `arguments` without a context gets a number too.
+fn go_over_with_arguments<'a>(walk: &mut Walk<'a>, pieces: &[Piece<'a>]) -> Result<(), AllocError>
+    requires { IsBlank walk.old }
+    ensures whole { OnOk result
+        (IsWhole walk.new (reading_as walk.old.reading) (kind_as walk.old.kind)
+        (map item_of pieces.now)) }
+    ensures arguments { OnOk result (HasArguments walk.new) }
+    ensures stays { OnOk result (Stays walk.old walk.new) }
+{
+    walk.go_over(pieces)?;
+    let arguments = Name {
+        sym: "arguments",
+        ctxt: None,
+    };
+    number_of(&mut walk.names, arguments)?;
+    Ok(())
+}
+
+// The same by what was met in one pass over the list.
+fn searched<'a>(alloc: Global, walk: &Walk<'a>) -> Result<Found<'a>, AllocError>
+    requires named { AreNamed walk.now }
+    requires seen { AreSeenNamed walk.now }
+    ensures { IfOk result (λ found.
+        (kind : Scopes.ModuleKind) (items : List Item) →
+        IsWhole walk.now (reading_as walk.now.reading) kind items →
+        HasArguments walk.now →
+        MakesTable (reading_as walk.now.reading) kind items walk.now found) }
+{
+    let homes = homes_of(alloc, walk)?;
+    let implied = implied_in(alloc, &walk.names, &homes.bindings.keys, walk.reading)?;
+    let mut search = Search {
+        bindings: homes.bindings,
+        implied,
+    };
+    let occurrences = search.entries(alloc, walk, &homes.of, walk.reading)?;
+    Ok(Found {
+        bindings: search.bindings.items,
+        occurrences,
+    })
+}
+
+// The search for bindings along the occurrences: the bindings, to which the `arguments` of a function is added
+// where an occurrence denotes it, and the keys of those that are implied by symbol and context.
+#[derive(Drop)]
+struct Search<'a> {
+    bindings: Bindings<'a>,
+    implied: IndexSet<(usize, usize)>,
+}
+
+impl<'a> Search<'a> {
+    // The entry of each occurrence that was met; `of` has the bindings of the declarations.
+    fn entries(
+        &mut self,
+        alloc: Global,
+        walk: &Walk<'a>,
+        of: &[usize],
+        reading: Reading,
+    ) -> Result<Vec<Denoted>, AllocError>
+        requires { AreSeenNamed walk.now }
+        ensures { IfOk result (λ table.
+            Searches (reading_as reading) walk.now of.now self.old self.new table.items
+            walk.now.occurrences.items) }
+    {
+        let mut occurrences = Vec::new(alloc);
+        for occurrence in &walk.occurrences {
+            let binding = self.binding_of(walk, of, *occurrence, reading)?;
+            occurrences.push(Denoted {
+                place: occurrence.place,
+                scope: occurrence.scope,
+                binding,
+                declares: occurrence.declaration.is_some(),
+            })?;
+        }
+        Ok(occurrences)
+    }
+
+    // The binding that an occurrence denotes; `of` has those of the declarations.
+    fn binding_of(
+        &mut self,
+        walk: &Walk<'a>,
+        of: &[usize],
+        occurrence: Occurrence,
+        reading: Reading,
+    ) -> Result<Option<usize>, AllocError>
+        requires { occurrence.name < length walk.now.names.keys }
+        ensures { IfOk result
+            (DenotesSeen (reading_as reading) walk.now of.now self.old self.new occurrence) }
+    {
+        if let Some(declaration) = occurrence.declaration {
+            return Ok(number_at(of, declaration));
+        }
+        let name = walk.names[occurrence.name];
+        match reading {
+            Reading::BySymbol => {
+                let binding = self.by_symbol(walk, name, occurrence.name, occurrence.scope)?;
+                Ok(binding)
+            }
+            Reading::ByContext => {
+                let binding = self.by_context(walk, name, occurrence.name, occurrence.scope)?;
+                Ok(binding)
+            }
+        }
+    }
+
+    // What a name with a number denotes by its symbol.
+    fn by_symbol(
+        &mut self,
+        walk: &Walk<'a>,
+        name: Name<'a>,
+        number: usize,
+        from: usize,
+    ) -> Result<Option<usize>, AllocError>
+        requires { slice_get walk.now.names.keys number ≡ Some name }
+        ensures { IfOk result
+            (Denotes BySymbol walk.now self.old self.new (name_as name.entry) number from) }
+    {
+        let adds = is_arguments(name.sym);
+        let found = nearest(&walk.scopes, &self.bindings.keys, adds, number, from);
+        let binding = self.put(walk, found, name, number)?;
+        Ok(binding)
+    }
+
+    // What it denotes by symbol and context.
+    fn by_context(
+        &mut self,
+        walk: &Walk<'a>,
+        name: Name<'a>,
+        number: usize,
+        from: usize,
+    ) -> Result<Option<usize>, AllocError>
+        requires { slice_get walk.now.names.keys number ≡ Some name }
+        ensures { IfOk result
+            (Denotes ByContext walk.now self.old self.new (name_as name.entry) number from) }
+    {
+        let found = nearest(&walk.scopes, &self.bindings.keys, false, number, from);
+        if found.is_some() {
+            let binding = self.put(walk, found, name, number)?;
+            return Ok(binding);
+        }
+        if is_unresolved(name.ctxt) {
+            return Ok(None);
+        }
+        let Some(alone) = alone_of(&walk.names, name, number) else {
+            return Ok(None);
+        };
+        let adds = is_arguments(name.sym);
+        let implied = nearest(&walk.scopes, &self.implied, adds, alone, from);
+        let plain = Name {
+            sym: name.sym,
+            ctxt: None,
+        };
+        let binding = self.put(walk, implied, plain, alone)?;
+        Ok(binding)
+    }
+
+    // The number of the binding of a name in the scope that was found.
+    fn put(
+        &mut self,
+        walk: &Walk<'a>,
+        found: Option<usize>,
+        name: Name<'a>,
+        number: usize,
+    ) -> Result<Option<usize>, AllocError>
+        ensures { IfOk result (Puts self.old self.new found (name_as name.entry) number) }
+    {
+        let Some(scope) = found else {
+            return Ok(None);
+        };
+        let binding = Binding {
+            scope,
+            sym: name.sym,
+            ctxt: name.ctxt,
+            way: Way::Arguments,
+            first: begins_at(&walk.scopes, scope),
+        };
+        let number = self.bindings.number_of((scope, number), binding)?;
+        Ok(Some(number))
+    }
+}
+
+// The number at a place of a list of numbers.
+fn number_at(numbers: &[usize], place: usize) -> Option<usize>
+    ensures { result ≡ slice_get numbers.now place }
+{
+    numbers.get(place).copied()
+}
+
+// The number of the nearest scope, from one on outwards, that has the name with a number among these keys, or
+// is that of a function where `adds` says that functions bind the name.
+fn nearest(
+    scopes: &[Scope],
+    keys: &IndexSet<(usize, usize)>,
+    adds: bool,
+    name: usize,
+    from: usize,
+) -> Option<usize>
+    ensures { result
+        ≡ nearest_at (map numbered scopes.now)
+        (bound.binds_at (map numbered scopes.now) keys.now.keys adds name) from }
+{
+    let mut at = Some(from);
+    for _ in 0..scopes.len() {
+        let Some(number) = at else {
+            return None;
+        };
+        if binds_at(scopes, keys, adds, name, number) {
+            return Some(number);
+        }
+        at = outer_at(scopes, number);
+    }
+    None
+}
+
+// Whether a scope has the name with a number among these keys, or is that of a function which binds it.
+fn binds_at(
+    scopes: &[Scope],
+    keys: &IndexSet<(usize, usize)>,
+    adds: bool,
+    name: usize,
+    scope: usize,
+) -> bool
+    ensures { result ≡ bound.binds_at (map numbered scopes.now) keys.now.keys adds name scope }
+{
+    if keys.contains(&(scope, name)) {
+        return true;
+    }
+    if adds {
+        is_function_at(scopes, scope)
+    } else {
+        false
+    }
+}
+
+// Whether the scope with a number is that of a function that is no arrow.
+fn is_function_at(scopes: &[Scope], number: usize) -> bool
+    ensures { result ≡ passes Homes.is_function (map numbered scopes.now) number }
+{
+    match scope_at(scopes, number) {
+        None => false,
+        Some(scope) => is_function(scope.kind),
+    }
+}
+
+// Whether a symbol is `arguments`.
+fn is_arguments(sym: &str) -> bool
+    ensures { result ≡ Homes.is_arguments sym.now }
+{
+    sym == "arguments"
+}
+
+// Whether a context is that of the names that nothing binds.
+fn is_unresolved(ctxt: Option<u32>) -> bool
+    ensures { result ≡ denotes.is_unresolved ctxt }
+{
+    match ctxt {
+        None => false,
+        Some(ctxt) => ctxt == 1,
+    }
+}
+
+// Where the node of a scope begins.
+fn begins_at(scopes: &[Scope], number: usize) -> usize {
+    match scope_at(scopes, number) {
+        None => 0,
+        Some(scope) => scope.begins,
+    }
+}
+
+// The keys of the bindings that no identifier declares, by symbol and context: not those beside which an
+// identifier declares the symbol in the same scope.
+fn implied_in<'a>(
+    alloc: Global,
+    names: &IndexSet<Name<'a>>,
+    keys: &IndexSet<(usize, usize)>,
+    reading: Reading,
+) -> Result<IndexSet<(usize, usize)>, AllocError>
+    ensures { IfOk result (λ implied.
+        HoldsImplied (reading_as reading) (map name_as names.now.keys) keys.now.keys implied.keys) }
+{
+    match reading {
+        Reading::BySymbol => Ok(IndexSet::new(alloc)),
+        Reading::ByContext => implied_by_context(alloc, names, keys),
+    }
+}
+
+// The same by symbol and context.
+fn implied_by_context<'a>(
+    alloc: Global,
+    names: &IndexSet<Name<'a>>,
+    keys: &IndexSet<(usize, usize)>,
+) -> Result<IndexSet<(usize, usize)>, AllocError>
+    ensures { IfOk result (λ implied.
+        HoldsImplied ByContext (map name_as names.now.keys) keys.now.keys implied.keys) }
+{
+    let mut implied = IndexSet::new(alloc);
+    for key in keys.as_slice() {
+        put_implied(&mut implied, names, keys, *key)?;
+    }
+    Ok(implied)
+}
+
+// Adds a key, if it is that of a name that no identifier declares.
+fn put_implied<'a>(
+    implied: &mut IndexSet<(usize, usize)>,
+    names: &IndexSet<Name<'a>>,
+    keys: &IndexSet<(usize, usize)>,
+    key: (usize, usize),
+) -> Result<(), AllocError>
+    ensures { OnOk result
+        ((other : Key) →
+        list_any (same_key other) implied.new.keys
+        ≡ (list_any (same_key other) implied.old.keys
+        || (is_implied_key (map name_as names.now.keys) keys.now.keys key && same_key other key))) }
+{
+    if !is_implied(names, keys, key) {
+        return Ok(());
+    }
+    implied.insert_full(key)?;
+    Ok(())
+}
+
+// Whether a key has no context, and no identifier declares its symbol in the scope.
+fn is_implied<'a>(
+    names: &IndexSet<Name<'a>>,
+    keys: &IndexSet<(usize, usize)>,
+    key: (usize, usize),
+) -> bool
+    ensures { result ≡ is_implied_key (map name_as names.now.keys) keys.now.keys key }
+{
+    let Some(name) = names.get_index(key.1) else {
+        return false;
+    };
+    match name.ctxt {
+        None => !is_written(names, keys, key.0, name.sym),
+        Some(_) => false,
+    }
+}
+
+// Whether a key of the scope is of an identifier's name with this symbol.
+fn is_written<'a>(
+    names: &IndexSet<Name<'a>>,
+    keys: &IndexSet<(usize, usize)>,
+    scope: usize,
+    sym: &str,
+) -> bool
+    ensures { result
+        ≡ list_any (bound.is_written_key (map name_as names.now.keys) scope sym.now)
+        keys.now.keys }
+{
+    for key in keys.as_slice() {
+        if is_written_key(names, *key, scope, sym) {
+            return true;
+        }
+    }
+    false
+}
+
+// Whether a key is of the scope and of an identifier's name with this symbol.
+fn is_written_key<'a>(
+    names: &IndexSet<Name<'a>>,
+    key: (usize, usize),
+    scope: usize,
+    sym: &str,
+) -> bool
+    ensures { result ≡ bound.is_written_key (map name_as names.now.keys) scope sym.now key }
+{
+    if scope == key.0 {
+        is_written_name(names, key.1, sym)
+    } else {
+        false
+    }
+}
+
+// Whether the name with a number is that of an identifier with this symbol, whose context is read.
+fn is_written_name<'a>(names: &IndexSet<Name<'a>>, number: usize, sym: &str) -> bool
+    ensures { result
+        ≡ bound.is_written_name sym.now (slice_get (map name_as names.now.keys) number) }
+{
+    match names.get_index(number) {
+        None => false,
+        Some(name) => match name.ctxt {
+            None => false,
+            Some(_) => name.sym == sym,
+        },
+    }
+}

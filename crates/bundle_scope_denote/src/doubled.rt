@@ -1,0 +1,329 @@
+//! The first name that is declared where it may not be declared again.
+
+ghost use Rattle.std.specs.Prelude.{◌≡◌, ◌<◌, ◌||◌, [], IfOk, List, OnOk, Some, length, map, slice_get};
+ghost use Rattle.std.specs.List.{list_any};
+ghost use Rattle.std.specs.Option.{option_map};
+ghost use Rattle.bundle_tree_piece.specs.Item.{item_of};
+ghost use Rattle.bundle_rules.specs.Scopes as Scopes;
+ghost use Rattle.bundle_rules.specs.Scopes.{outermost};
+ghost use Rattle.bundle_rules.specs.Declarations as declarations;
+ghost use Rattle.bundle_rules.specs.Homes as homes;
+ghost use Rattle.bundle_rules.specs.Doubled as doubled;
+ghost use Rattle.bundle_scope_denote.specs.Kinds.{kind_as, way_named};
+ghost use Rattle.bundle_scope_denote.specs.Numbers.{AreAround, numbered};
+ghost use Rattle.bundle_scope_denote.specs.Chains as chains;
+ghost use Rattle.bundle_scope_denote.specs.Bound.{Key, same_key};
+ghost use Rattle.bundle_scope_denote.specs.Ready.{AreNamed};
+ghost use Rattle.bundle_scope_denote.specs.Steps.{IsBlank};
+ghost use Rattle.bundle_scope_denote.specs.Barred.{Holds, IsToldOf, Reaches, TellsFirst, begins_wrapped, has_any, is_key_in, passed_at};
+ghost use Rattle.bundle_scope_denote.specs.Listed.{place_and_symbol, told_of};
+
+use crate::homes::{outer_at, scope_at, taker_of, takes_at};
+use crate::kinds::{is_var, is_wrapper, joins_outer};
+use crate::table::{Doubled, ModuleKind, Reading, Scope, ScopeKind, Way};
+use crate::walk::{Declaration, Walk};
+use bundle_tree_piece::Piece;
+use indexmap::IndexSet;
+use std::alloc::{AllocError, Global};
+
+/// The first place at which a name is declared that may not be declared there again, by its symbol (ECMA-262,
+/// the early errors of 14.2.1, 14.7.4.1, 14.7.5.1, 14.12.1, 14.15.1, 15.2.1, 15.7.1 and 16.2.1.1).
+/// Refused only where memory runs out.
+pub fn first_doubled<'a>(
+    alloc: Global,
+    pieces: &[Piece<'a>],
+    kind: ModuleKind,
+) -> Result<Option<Doubled<'a>>, AllocError>
+    ensures { IfOk result (λ found.
+        option_map told_of found
+        ≡ option_map place_and_symbol
+        (doubled.first_doubled (kind_as kind) (map item_of pieces.now))) }
+{
+    let mut walk = Walk::new(alloc, pieces.len(), kind, Reading::BySymbol);
+    doubled_along(alloc, &mut walk, pieces)
+}
+
+// The same, by a walk that goes over the list.
+fn doubled_along<'a>(
+    alloc: Global,
+    walk: &mut Walk<'a>,
+    pieces: &[Piece<'a>],
+) -> Result<Option<Doubled<'a>>, AllocError>
+    requires blank { IsBlank walk.old }
+    requires reading { walk.old.reading ≡ Reading.BySymbol }
+    ensures { IfOk result (λ found.
+        option_map told_of found
+        ≡ option_map place_and_symbol
+        (doubled.first_doubled (kind_as walk.old.kind) (map item_of pieces.now))) }
+{
+    walk.go_over(pieces)?;
+    let mut met = Met::new(alloc);
+    met.first_excluded(alloc, walk)
+}
+
+// What is told of a declaration that is doubled.
+fn doubled_at<'a>(walk: &Walk<'a>, declaration: Declaration) -> Doubled<'a>
+    requires { declaration.name < length walk.now.names.keys }
+    ensures { IsToldOf walk.now declaration result }
+{
+    let name = walk.names[declaration.name];
+    Doubled {
+        place: declaration.place,
+        name: name.sym,
+    }
+}
+
+// The number of the scope that takes a declared name, and those of the scopes in which no other declaration may
+// have it.
+#[derive(Drop)]
+struct Reach {
+    taker: usize,
+    barred: Vec<usize>,
+}
+
+fn reach_of<'a>(
+    alloc: Global,
+    walk: &Walk<'a>,
+    declaration: Declaration,
+) -> Result<Reach, AllocError>
+    ensures { IfOk result (Reaches walk.now declaration) }
+{
+    let taker = taker_of(&walk.scopes, declaration.way, declaration.scope);
+    let barred = if is_var(declaration.way) {
+        passed_by(alloc, &walk.scopes, declaration.way, declaration.scope)?
+    } else {
+        held_by(alloc, &walk.scopes, walk.top, declaration.way, taker)?
+    };
+    Ok(Reach {
+        taker: taker.unwrap_or(walk.top),
+        barred,
+    })
+}
+
+// The scopes from one on outwards that a name declared in this way passes, up to the one that takes it.
+fn passed_by(
+    alloc: Global,
+    scopes: &[Scope],
+    way: Way,
+    from: usize,
+) -> Result<Vec<usize>, AllocError>
+    ensures { IfOk result (λ passed.
+        passed.items ≡ passed_at (map numbered scopes.now) way from) }
+{
+    let mut passed = Vec::new(alloc);
+    let mut at = Some(from);
+    for _ in 0..scopes.len() {
+        let Some(number) = at else {
+            return Ok(passed);
+        };
+        if takes_at(scopes, way, number) {
+            return Ok(passed);
+        }
+        passed.push(number)?;
+        at = outer_at(scopes, number);
+    }
+    Ok(passed)
+}
+
+// The scope of a name that stands there once, and the one beside it; none for a name that may stand twice.
+fn held_by(
+    alloc: Global,
+    scopes: &[Scope],
+    top: usize,
+    way: Way,
+    taker: Option<usize>,
+) -> Result<Vec<usize>, AllocError>
+    ensures { IfOk result (λ held. Holds (map numbered scopes.now) top way taker held.items) }
+{
+    let mut held = Vec::new(alloc);
+    if !stands_once(scopes, way, taker) {
+        return Ok(held);
+    }
+    held.push(taker.unwrap_or(top))?;
+    held.push(group_of(scopes, top, taker))?;
+    Ok(held)
+}
+
+// Whether a name that is declared in this way may stand only once in the scope that takes it.
+fn stands_once(scopes: &[Scope], way: Way, taker: Option<usize>) -> bool
+    ensures { (by : declarations.Way) (around : List Scopes.Scope) →
+        way ≡ way_named by →
+        AreAround (map numbered scopes.now) taker around →
+        result ≡ doubled.stands_once by around }
+{
+    match way {
+        Way::Import | Way::Let | Way::Const | Way::Class | Way::Default | Way::Loop => true,
+        Way::Function => !may_double_functions(scopes, taker),
+        _ => false,
+    }
+}
+
+// Whether functions may be doubled in a scope, as a `var` may: at the top of a body, and not in a block or at
+// the top of a module.
+fn may_double_functions(scopes: &[Scope], taker: Option<usize>) -> bool
+    ensures { (around : List Scopes.Scope) →
+        AreAround (map numbered scopes.now) taker around →
+        result ≡ doubled.may_double_functions around }
+{
+    let Some(number) = taker else {
+        return false;
+    };
+    let Some(scope) = scope_at(scopes, number) else {
+        return false;
+    };
+    match scope.kind {
+        ScopeKind::Top => is_wrapper_at(scopes, scope.outer),
+        ScopeKind::FunctionBody | ScopeKind::StaticBody => true,
+        _ => false,
+    }
+}
+
+// Whether a scope is that of the parameters of a CommonJS module.
+fn is_wrapper_at(scopes: &[Scope], number: Option<usize>) -> bool
+    ensures { (around : List Scopes.Scope) →
+        AreAround (map numbered scopes.now) number around → result ≡ begins_wrapped around }
+{
+    let Some(number) = number else {
+        return false;
+    };
+    match scope_at(scopes, number) {
+        None => false,
+        Some(scope) => is_wrapper(scope.kind),
+    }
+}
+
+// The number of the scope whose names keep apart from those of the taker.
+fn group_of(scopes: &[Scope], top: usize, taker: Option<usize>) -> usize
+    ensures { (around : List Scopes.Scope) (kind : Scopes.ModuleKind) →
+        AreAround (map numbered scopes.now) (Some top) (outermost kind) →
+        AreAround (map numbered scopes.now) taker around →
+        chains.scope_at (map numbered scopes.now) result ≡ Some (homes.group_of around) }
+{
+    match taker {
+        None => top,
+        Some(number) => group_at(scopes, number),
+    }
+}
+
+// The same of the scope with a number.
+fn group_at(scopes: &[Scope], number: usize) -> usize
+    ensures { (around : List Scopes.Scope) →
+        AreAround (map numbered scopes.now) (Some number) around →
+        chains.scope_at (map numbered scopes.now) result ≡ Some (homes.group_of around) }
+{
+    match scope_at(scopes, number) {
+        Some(scope) if joins_outer(scope.kind) => scope.outer.unwrap_or(number),
+        _ => number,
+    }
+}
+
+// The declarations that were met: the number of the scope that takes each and that of its name, and those of the
+// scopes in which no other declaration may have the name.
+#[derive(Drop)]
+struct Met {
+    taken: IndexSet<(usize, usize)>,
+    barred: IndexSet<(usize, usize)>,
+}
+
+impl Met {
+    fn new(alloc: Global) -> Met
+        ensures taken { result.taken.keys ≡ [] }
+        ensures barred { result.barred.keys ≡ [] }
+    {
+        Met {
+            taken: IndexSet::new(alloc),
+            barred: IndexSet::new(alloc),
+        }
+    }
+
+    // The first declaration of a walk that may not stand beside those before it, which are added.
+    fn first_excluded<'a>(
+        &mut self,
+        alloc: Global,
+        walk: &Walk<'a>,
+    ) -> Result<Option<Doubled<'a>>, AllocError>
+        requires named { AreNamed walk.now }
+        requires taken { self.old.taken.keys ≡ [] }
+        requires barred { self.old.barred.keys ≡ [] }
+        ensures { IfOk result (TellsFirst walk.now) }
+    {
+        for declaration in &walk.declarations {
+            let reach = reach_of(alloc, walk, *declaration)?;
+            if self.excludes(declaration.name, &reach) {
+                return Ok(Some(doubled_at(walk, *declaration)));
+            }
+            self.add(declaration.name, &reach)?;
+        }
+        Ok(None)
+    }
+
+    // Whether one that was met may not have a name beside a declaration that reaches so far.
+    fn excludes(&self, name: usize, reach: &Reach) -> bool
+        ensures { result
+            ≡ (list_any (same_key (reach.now.taker, name)) self.now.barred.keys
+            || has_any self.now.taken.keys name reach.now.barred.items) }
+    {
+        if self.barred.contains(&(reach.taker, name)) {
+            return true;
+        }
+        is_taken(&self.taken, name, &reach.barred)
+    }
+
+    // Adds a declaration.
+    fn add(&mut self, name: usize, reach: &Reach) -> Result<(), AllocError>
+        ensures taken { OnOk result
+            ((key : Key) →
+            list_any (same_key key) self.new.taken.keys
+            ≡ (list_any (same_key key) self.old.taken.keys
+            || same_key key (reach.now.taker, name))) }
+        ensures barred { OnOk result
+            ((key : Key) →
+            list_any (same_key key) self.new.barred.keys
+            ≡ (list_any (same_key key) self.old.barred.keys
+            || is_key_in key name reach.now.barred.items)) }
+    {
+        put_key(&mut self.taken, (reach.taker, name))?;
+        put_keys(&mut self.barred, name, &reach.barred)?;
+        Ok(())
+    }
+}
+
+// Whether one of these scopes takes a name that was met.
+fn is_taken(taken: &IndexSet<(usize, usize)>, name: usize, scopes: &[usize]) -> bool
+    ensures { result ≡ has_any taken.now.keys name scopes.now }
+{
+    for scope in scopes {
+        if taken.contains(&(*scope, name)) {
+            return true;
+        }
+    }
+    false
+}
+
+// Adds a key.
+fn put_key(keys: &mut IndexSet<(usize, usize)>, key: (usize, usize)) -> Result<(), AllocError>
+    ensures { OnOk result
+        ((other : Key) →
+        list_any (same_key other) keys.new.keys
+        ≡ (list_any (same_key other) keys.old.keys || same_key other key)) }
+{
+    keys.insert_full(key)?;
+    Ok(())
+}
+
+// Adds a name in each of these scopes.
+fn put_keys(
+    keys: &mut IndexSet<(usize, usize)>,
+    name: usize,
+    scopes: &[usize],
+) -> Result<(), AllocError>
+    ensures { OnOk result
+        ((other : Key) →
+        list_any (same_key other) keys.new.keys
+        ≡ (list_any (same_key other) keys.old.keys || is_key_in other name scopes.now)) }
+{
+    for scope in scopes {
+        put_key(keys, (*scope, name))?;
+    }
+    Ok(())
+}

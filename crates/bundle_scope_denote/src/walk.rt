@@ -1,0 +1,617 @@
+//! One pass over a list: the scopes, the declarations and the occurrences, with names as numbers.
+
+ghost use Rattle.std.specs.Prelude.{◌≡◌, ◌+◌, ◌<◌, ◌++◌, ◌∷◌, [], IfOk, OnOk, cond, drop, map, length, slice_get};
+ghost use Rattle.std.specs.Option.{option_map, option_to_list};
+ghost use Rattle.bundle_tree_piece.specs.Item.{head_of, item_of};
+ghost use Rattle.bundle_rules.specs.Places.{is_binding};
+ghost use Rattle.bundle_rules.specs.Scopes as Scopes;
+ghost use Rattle.bundle_rules.specs.Scopes.{exports_default};
+ghost use Rattle.bundle_rules.specs.Declarations as Declarations;
+ghost use Rattle.bundle_scope_denote.specs.Chains.{top_number};
+ghost use Rattle.bundle_scope_denote.specs.Kinds as kinds;
+ghost use Rattle.bundle_scope_denote.specs.Kinds.{kind_as, kind_made, kind_named, reading_as, scope_as};
+ghost use Rattle.bundle_scope_denote.specs.Steps.{Begins, Ends, Goes, IsBlank, IsTidyAt, IsWalkAt, IsWhole, Occurs, Starts, Stays};
+ghost use Rattle.bundle_scope_denote.specs.Numbers.{Keeps, name_as, numbered, in_scope};
+ghost use Rattle.bundle_scope_denote.specs.Walked as walked;
+ghost use Rattle.bundle_scope_denote.specs.Walked.{IsAlone, IsDefault, StaysOnce, begins_node_by, begins_nameless, declared_as, is_identifier_by, is_nameless_by};
+
+use crate::kinds::{
+    block_in, is_default, is_loop_head, is_pattern, joins_outer, kind_of_scope, leaves_first_out,
+    way_in, way_of_variable,
+};
+use crate::table::{ModuleKind, Reading, Scope, ScopeKind, Way};
+use bundle_tree_piece::{Node, Piece, Role};
+use indexmap::IndexSet;
+use std::alloc::{AllocError, Global};
+
+/// A name: its symbol, and its context where names are read by symbol and context.
+#[derive(Clone, Copy, PartialEq, Eq, Hash)]
+pub(crate) struct Name<'a> {
+    pub(crate) sym: &'a str,
+    pub(crate) ctxt: Option<u32>,
+}
+
+/// A name where it is declared: its number, and the innermost scope around the place.
+#[derive(Clone, Copy)]
+pub(crate) struct Declaration {
+    pub(crate) place: usize,
+    pub(crate) name: usize,
+    pub(crate) way: Way,
+    pub(crate) scope: usize,
+}
+
+/// An identifier that binds a name or refers to one: the number of the name, the innermost scope around it,
+/// and the number of its declaration where it is one.
+#[derive(Clone, Copy)]
+pub(crate) struct Occurrence {
+    pub(crate) place: usize,
+    pub(crate) name: usize,
+    pub(crate) scope: usize,
+    pub(crate) declaration: Option<usize>,
+}
+
+/// A node that is open: how it declares a name that stands in it, and the names of the declarators in it; the
+/// innermost scope around it, and the scope that it makes.
+#[derive(Clone, Copy)]
+pub(crate) struct Open<'a> {
+    pub(crate) node: Node<'a>,
+    pub(crate) way: Option<Way>,
+    pub(crate) variable: Option<Way>,
+    pub(crate) around: usize,
+    pub(crate) own: Option<usize>,
+}
+
+/// What was met so far. `length` is that of the list, and `top` the number of the scope of the module's top;
+/// `inner` is the innermost open node, and at last what is known outside all nodes.
+#[derive(Drop)]
+pub(crate) struct Walk<'a> {
+    pub(crate) scopes: Vec<Scope>,
+    pub(crate) names: IndexSet<Name<'a>>,
+    pub(crate) declarations: Vec<Declaration>,
+    pub(crate) occurrences: Vec<Occurrence>,
+    pub(crate) top: usize,
+    inner: Open<'a>,
+    outer: Vec<Open<'a>>,
+    pub(crate) kind: ModuleKind,
+    pub(crate) reading: Reading,
+    length: usize,
+}
+
+impl<'a> Walk<'a> {
+    /// Nothing was met yet, in a list of this length.
+    pub(crate) fn new(alloc: Global, length: usize, kind: ModuleKind, reading: Reading) -> Walk<'a>
+        ensures blank { IsBlank result }
+        ensures kind { result.kind ≡ kind }
+        ensures reading { result.reading ≡ reading }
+    {
+        let top = top_of(kind);
+        Walk {
+            scopes: Vec::new(alloc),
+            names: IndexSet::new(alloc),
+            declarations: Vec::new(alloc),
+            occurrences: Vec::new(alloc),
+            top,
+            inner: outermost(top),
+            outer: Vec::new(alloc),
+            kind,
+            reading,
+            length,
+        }
+    }
+
+    /// Goes over a list.
+    pub(crate) fn go_over(&mut self, pieces: &[Piece<'a>]) -> Result<(), AllocError>
+        requires { IsBlank self.old }
+        ensures whole { OnOk result
+            (IsWhole self.new (reading_as self.old.reading) (kind_as self.old.kind)
+            (map item_of pieces.now)) }
+        ensures stays { OnOk result (Stays self.old self.new) }
+    {
+        self.start()?;
+        for place in 0..pieces.len() {
+            self.step(pieces, place)?;
+        }
+        Ok(())
+    }
+
+    // The module begins.
+    fn start(&mut self) -> Result<(), AllocError>
+        requires { IsBlank self.old }
+        ensures { OnOk result (Starts self.old self.new) }
+    {
+        match self.kind {
+            ModuleKind::Es => self.start_top(),
+            ModuleKind::Cjs => self.start_wrapped(),
+        }
+    }
+
+    // An ECMAScript module begins.
+    fn start_top(&mut self) -> Result<(), AllocError>
+        requires blank { IsBlank self.old }
+        requires kind { self.old.kind ≡ ModuleKind.Es }
+        ensures { OnOk result (Starts self.old self.new) }
+    {
+        add_scope(&mut self.scopes, ScopeKind::Top, None, 0, 0, self.length)?;
+        Ok(())
+    }
+
+    // A CommonJS module begins, whose parameters are declared.
+    fn start_wrapped(&mut self) -> Result<(), AllocError>
+        requires blank { IsBlank self.old }
+        requires kind { self.old.kind ≡ ModuleKind.Cjs }
+        ensures { OnOk result (Starts self.old self.new) }
+    {
+        let wrapper = add_scope(
+            &mut self.scopes,
+            ScopeKind::Wrapper,
+            None,
+            0,
+            0,
+            self.length,
+        )?;
+        add_scope(
+            &mut self.scopes,
+            ScopeKind::Top,
+            Some(wrapper),
+            0,
+            0,
+            self.length,
+        )?;
+        let module = alone(&mut self.names, "module", Way::Wrapper, 0, wrapper)?;
+        self.declarations.push(module)?;
+        let exports = alone(&mut self.names, "exports", Way::Wrapper, 0, wrapper)?;
+        self.declarations.push(exports)?;
+        Ok(())
+    }
+
+    // Goes on by the piece at a place.
+    fn step(&mut self, pieces: &[Piece<'a>], place: usize) -> Result<(), AllocError>
+        requires within { place < length pieces.now }
+        requires before { IsWalkAt self.old (map item_of pieces.now) place }
+        requires tidy { IsTidyAt self.old place }
+        ensures goes { OnOk result (Goes self.old self.new (map item_of pieces.now) place) }
+        ensures tidy { OnOk result (IsTidyAt self.new (place + 1)) }
+    {
+        let piece = pieces[place];
+        match piece {
+            Piece::Open { field, node } => self.begin(pieces, place, field, node),
+            Piece::Ident {
+                field,
+                sym,
+                ctxt,
+                role,
+            } if is_occurrence(piece) => self.name(place, field, sym, ctxt, role),
+            Piece::Ident { .. } => Ok(()),
+            Piece::Hole { .. } => Ok(()),
+            Piece::Close => {
+                self.end(place);
+                Ok(())
+            }
+        }
+    }
+
+    // A node begins.
+    fn begin(
+        &mut self,
+        pieces: &[Piece<'a>],
+        place: usize,
+        field: u8,
+        node: Node<'a>,
+    ) -> Result<(), AllocError>
+        requires { place < length pieces.now }
+        ensures { OnOk result
+            (Begins self.old self.new place field (head_of node.entry)
+            (begins_nameless (map item_of (drop place pieces.now)))) }
+    {
+        let default = default_at(&mut self.names, &pieces[place..], place, self.top)?;
+        push_some(&mut self.declarations, default)?;
+        let around = scope_in(&self.inner, field);
+        cover(&mut self.scopes, around, place);
+        let made = made_by(&node, &self.inner, around, place, self.length);
+        let own = push_scope(&mut self.scopes, made)?;
+        self.outer.push(self.inner)?;
+        self.inner = opened(node, field, &self.inner, around, own);
+        Ok(())
+    }
+
+    // An identifier that binds or refers.
+    fn name(
+        &mut self,
+        place: usize,
+        field: u8,
+        sym: &'a str,
+        ctxt: u32,
+        role: Role,
+    ) -> Result<(), AllocError>
+        ensures { OnOk result (Occurs self.old self.new place field sym.now ctxt role) }
+    {
+        let scope = scope_in(&self.inner, field);
+        cover(&mut self.scopes, scope, place);
+        let name = number_of(&mut self.names, name_of(self.reading, sym, ctxt))?;
+        let way = way_for(&self.inner, role);
+        let declared = declared_by(way, place, name, scope);
+        let declaration = push_some(&mut self.declarations, declared)?;
+        self.occurrences.push(Occurrence {
+            place,
+            name,
+            scope,
+            declaration,
+        })?;
+        Ok(())
+    }
+
+    // The innermost node ends.
+    fn end(&mut self, place: usize)
+        ensures { Ends self.old self.new }
+    {
+        end_scope(&mut self.scopes, self.inner.own, place);
+        if let Some(outer) = self.outer.pop() {
+            self.inner = outer;
+        }
+    }
+}
+
+// The number of the scope of a module's top.
+fn top_of(kind: ModuleKind) -> usize
+    ensures { result ≡ top_number (kind_as kind) }
+{
+    match kind {
+        ModuleKind::Es => 0,
+        ModuleKind::Cjs => 1,
+    }
+}
+
+// What is known outside all nodes.
+fn outermost<'a>(top: usize) -> Open<'a>
+    ensures node { result.node ≡ Node.Module }
+    ensures way { result.way ≡ None }
+    ensures variable { result.variable ≡ None }
+    ensures around { result.around ≡ top }
+    ensures own { result.own ≡ None }
+{
+    Open {
+        node: Node::Module,
+        way: None,
+        variable: None,
+        around: top,
+        own: None,
+    }
+}
+
+// A node as it begins in a field of the innermost one.
+fn opened<'a>(
+    node: Node<'a>,
+    field: u8,
+    inner: &Open<'a>,
+    around: usize,
+    own: Option<usize>,
+) -> Open<'a>
+    ensures node { result.node ≡ node.entry }
+    ensures way { result.way
+        ≡ cond (Declarations.is_pattern (head_of node.entry)) inner.now.way
+        (kinds.way_in (head_of node.entry) inner.now.variable
+        (exports_default (head_of inner.now.node))) }
+    ensures variable { result.variable
+        ≡ kinds.way_of_variable (head_of node.entry)
+        (Declarations.is_loop_head (head_of inner.now.node) field) }
+    ensures around { result.around ≡ around }
+    ensures own { result.own ≡ own }
+{
+    let way = if is_pattern(&node) {
+        inner.way
+    } else {
+        way_in(&node, inner.variable, is_default(&inner.node))
+    };
+    Open {
+        node,
+        way,
+        variable: way_of_variable(&node, is_loop_head(&inner.node, field)),
+        around,
+        own,
+    }
+}
+
+// The number of the innermost scope around what stands in this field of an open node.
+fn scope_in<'a>(node: &Open<'a>, field: u8) -> usize
+    ensures { result ≡ walked.scope_in node.now field }
+{
+    match node.own {
+        None => node.around,
+        Some(own) => if leaves_first_out(&node.node) && field == 0 {
+            node.around
+        } else {
+            own
+        },
+    }
+}
+
+// The scope that a node makes, where it makes one.
+fn made_by<'a>(
+    node: &Node<'a>,
+    inner: &Open<'a>,
+    around: usize,
+    place: usize,
+    length: usize,
+) -> Option<Scope>
+    ensures { option_map numbered result
+        ≡ option_map (in_scope place around)
+        (kind_made (head_of node.now) (kind_named (Scopes.block_in (head_of inner.now.node)))
+        (exports_default (head_of inner.now.node))) }
+{
+    let kind = kind_of_scope(node, block_in(&inner.node), is_default(&inner.node))?;
+    let from = if leaves_first_out(node) {
+        length
+    } else {
+        place.saturating_add(1)
+    };
+    Some(Scope {
+        kind,
+        outer: Some(around),
+        begins: place,
+        from,
+        to: length,
+        group: 0,
+    })
+}
+
+// Whether an element is an identifier that binds or refers.
+fn is_occurrence<'a>(piece: Piece<'a>) -> bool
+    ensures { result ≡ walked.is_occurrence (item_of piece.entry) }
+{
+    match piece {
+        Piece::Ident { role, .. } => role != Role::Word,
+        _ => false,
+    }
+}
+
+// How an identifier declares its name, with this node around it.
+fn way_for<'a>(inner: &Open<'a>, role: Role) -> Option<Way>
+    ensures { result ≡ cond (is_binding role) inner.now.way None }
+{
+    if role == Role::Binding {
+        inner.way
+    } else {
+        None
+    }
+}
+
+// The declaration, where a way is known.
+fn declared_by(way: Option<Way>, place: usize, name: usize, scope: usize) -> Option<Declaration>
+    ensures { result ≡ option_map (declared_as place name scope) way }
+{
+    let way = way?;
+    Some(Declaration {
+        place,
+        name,
+        way,
+        scope,
+    })
+}
+
+// The name that an identifier has in a reading.
+fn name_of<'a>(reading: Reading, sym: &'a str, ctxt: u32) -> Name<'a>
+    ensures { name_as result ≡ Declarations.name_of (reading_as reading) sym.now ctxt }
+{
+    match reading {
+        Reading::BySymbol => Name { sym, ctxt: None },
+        Reading::ByContext => Name {
+            sym,
+            ctxt: Some(ctxt),
+        },
+    }
+}
+
+/// The number of a name, which it gets if it has none.
+pub(crate) fn number_of<'a>(
+    names: &mut IndexSet<Name<'a>>,
+    name: Name<'a>,
+) -> Result<usize, AllocError>
+    ensures keeps { OnOk result (Keeps (map name_as names.old.keys) (map name_as names.new.keys)) }
+    ensures once { OnOk result
+        (StaysOnce (map name_as names.old.keys) (map name_as names.new.keys)) }
+    ensures number { IfOk result (λ number.
+        slice_get (map name_as names.new.keys) number ≡ Some (name_as name.entry)) }
+{
+    let (number, _) = names.insert_full(name)?;
+    Ok(number)
+}
+
+// The declaration of a name for which no identifier stands.
+fn alone<'a>(
+    names: &mut IndexSet<Name<'a>>,
+    sym: &'a str,
+    way: Way,
+    place: usize,
+    scope: usize,
+) -> Result<Declaration, AllocError>
+    ensures keeps { OnOk result (Keeps (map name_as names.old.keys) (map name_as names.new.keys)) }
+    ensures once { OnOk result
+        (StaysOnce (map name_as names.old.keys) (map name_as names.new.keys)) }
+    ensures declaration { IfOk result
+        (IsAlone (map name_as names.new.keys) place scope way sym.now) }
+{
+    let name = number_of(names, Name { sym, ctxt: None })?;
+    Ok(Declaration {
+        place,
+        name,
+        way,
+        scope,
+    })
+}
+
+// The declaration of the default export without a name that begins with the first of these pieces, if one does.
+fn default_at<'a>(
+    names: &mut IndexSet<Name<'a>>,
+    rest: &[Piece<'a>],
+    place: usize,
+    top: usize,
+) -> Result<Option<Declaration>, AllocError>
+    ensures keeps { OnOk result (Keeps (map name_as names.old.keys) (map name_as names.new.keys)) }
+    ensures once { OnOk result
+        (StaysOnce (map name_as names.old.keys) (map name_as names.new.keys)) }
+    ensures declaration { IfOk result
+        (IsDefault (map name_as names.new.keys) place top
+        (begins_nameless (map item_of rest.now))) }
+{
+    if !is_nameless_default(rest) {
+        return Ok(None);
+    }
+    let declaration = alone(names, "default", Way::Default, place, top)?;
+    Ok(Some(declaration))
+}
+
+// Whether a default export without a name begins with the first of these pieces.
+fn is_nameless_default<'a>(rest: &[Piece<'a>]) -> bool
+    ensures { result ≡ begins_nameless (map item_of rest.now) }
+{
+    is_nameless(piece_at(rest, 0), piece_at(rest, 1), piece_at(rest, 2))
+}
+
+// The piece so many places on.
+fn piece_at<'a>(rest: &[Piece<'a>], number: usize) -> Option<Piece<'a>>
+    ensures { option_map item_of result ≡ slice_get (map item_of rest.now) number }
+{
+    rest.get(number).copied()
+}
+
+// The same by the first three of them.
+fn is_nameless<'a>(
+    first: Option<Piece<'a>>,
+    second: Option<Piece<'a>>,
+    third: Option<Piece<'a>>,
+) -> bool
+    ensures { result
+        ≡ is_nameless_by (option_map item_of first.entry) (option_map item_of second.entry)
+        (option_map item_of third.entry) }
+{
+    match first {
+        Some(Piece::Open { node, .. }) => match node {
+            Node::ExportDefaultExpr => true,
+            Node::ExportDefaultDecl => !(begins_node(second) && is_identifier(third)),
+            _ => false,
+        },
+        _ => false,
+    }
+}
+
+// Whether a node begins.
+fn begins_node<'a>(piece: Option<Piece<'a>>) -> bool
+    ensures { result ≡ begins_node_by (option_map item_of piece.entry) }
+{
+    match piece {
+        Some(Piece::Open { .. }) => true,
+        _ => false,
+    }
+}
+
+// Whether an identifier stands there.
+fn is_identifier<'a>(piece: Option<Piece<'a>>) -> bool
+    ensures { result ≡ is_identifier_by (option_map item_of piece.entry) }
+{
+    match piece {
+        Some(Piece::Ident { .. }) => true,
+        _ => false,
+    }
+}
+
+// Adds what is there, and answers its number.
+fn push_some(
+    declarations: &mut Vec<Declaration>,
+    declaration: Option<Declaration>,
+) -> Result<Option<usize>, AllocError>
+    ensures items { OnOk result
+        (declarations.new.items ≡ declarations.old.items ++ option_to_list declaration) }
+    ensures number { IfOk result (λ number.
+        number ≡ option_map (λ _. length declarations.old.items) declaration) }
+{
+    let Some(declaration) = declaration else {
+        return Ok(None);
+    };
+    let number = declarations.len();
+    declarations.push(declaration)?;
+    Ok(Some(number))
+}
+
+// Adds a scope where there is one, and answers its number.
+fn push_scope(scopes: &mut Vec<Scope>, made: Option<Scope>) -> Result<Option<usize>, AllocError>
+    ensures items { OnOk result
+        (map numbered scopes.new.items
+        ≡ map numbered scopes.old.items ++ option_to_list (option_map numbered made)) }
+    ensures number { IfOk result (λ number.
+        number
+        ≡ option_map (λ _. length (map numbered scopes.old.items)) (option_map numbered made)) }
+{
+    let Some(made) = made else {
+        return Ok(None);
+    };
+    let number = add_scope(
+        scopes,
+        made.kind,
+        made.outer,
+        made.begins,
+        made.from,
+        made.to,
+    )?;
+    Ok(Some(number))
+}
+
+// Adds a scope, and answers its number.
+fn add_scope(
+    scopes: &mut Vec<Scope>,
+    kind: ScopeKind,
+    outer: Option<usize>,
+    begins: usize,
+    from: usize,
+    to: usize,
+) -> Result<usize, AllocError>
+    ensures items { OnOk result
+        (map numbered scopes.new.items
+        ≡ map numbered scopes.old.items
+        ++ record { scope = scope_as kind begins; outer = outer } ∷ []) }
+    ensures number { IfOk result (λ number. number ≡ length (map numbered scopes.old.items)) }
+{
+    let number = scopes.len();
+    let group = match outer {
+        Some(outer) if joins_outer(kind) => outer,
+        _ => number,
+    };
+    scopes.push(Scope {
+        kind,
+        outer,
+        begins,
+        from,
+        to,
+        group,
+    })?;
+    Ok(number)
+}
+
+// The places of a scope begin here, if no place was in it so far.
+fn cover(scopes: &mut Vec<Scope>, number: usize, place: usize)
+    ensures { map numbered scopes.new.items ≡ map numbered scopes.old.items }
+{
+    if number < scopes.len() {
+        let scope = scopes[number];
+        scopes[number] = Scope {
+            from: scope.from.min(place),
+            ..scope
+        };
+    }
+}
+
+// The places of a scope end here.
+fn end_scope(scopes: &mut Vec<Scope>, own: Option<usize>, place: usize)
+    ensures { map numbered scopes.new.items ≡ map numbered scopes.old.items }
+{
+    let Some(number) = own else {
+        return;
+    };
+    if number < scopes.len() {
+        let scope = scopes[number];
+        scopes[number] = Scope {
+            from: scope.from.min(place),
+            to: place,
+            ..scope
+        };
+    }
+}

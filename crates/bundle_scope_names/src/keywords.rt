@@ -1,0 +1,250 @@
+//! Bindings that have a reserved word's symbol.
+
+ghost use Rattle.std.specs.Prelude.{◌≡◌, ◌==◌, ◌&&◌, ◌||◌, ℕ, None, IfOk, List, OnOk, bytes_eq, is_some, length, map, string_bytes};
+ghost use Rattle.std.specs.List.{list_any};
+ghost use Rattle.std.specs.Option.{option_map};
+ghost use Rattle.bundle_tree_piece.specs.Item.{Item, item_of};
+ghost use Rattle.bundle_rules.specs.Nodes.{Text};
+ghost use Rattle.bundle_scope_names.specs.Called.{at, keyword_text};
+ghost use Rattle.bundle_scope_names.specs.Marks.{has};
+ghost use Rattle.bundle_scope_names.specs.Fresh as fresh;
+ghost use Rattle.bundle_scope_names.specs.Fresh.{AddsNames, Answers as AnswersFor, AreContexts, KnowsNames, TakesNext, ctxt_of};
+
+use crate::names::Names;
+use crate::words::is_keyword;
+use bundle_scope_denote::{Binding, Denotations};
+use bundle_tree_piece::{Piece, Role};
+use std::alloc::{AllocError, Global};
+use std::collections::HashSet;
+
+// Which identifiers a list has, and their contexts; and the next context to try.
+#[derive(Drop)]
+struct Taken<'a> {
+    names: HashSet<(u32, &'a str)>,
+    contexts: HashSet<u32>,
+    next: u32,
+}
+
+/// What the bindings of a list, which is read by symbol and context, are called once none has a reserved
+/// word's symbol: such a symbol gets `__` before it. Such a binding keeps its context where that is free
+/// with the new symbol, else it takes the least from 2 on that no identifier has and that was not taken
+/// before. Refused only where memory runs out.
+pub fn keyword_names<'a>(
+    alloc: Global,
+    pieces: &[Piece<'a>],
+    denotations: &Denotations<'a>,
+) -> Result<Names, AllocError>
+    ensures texts { IfOk result (λ names.
+        map (option_map string_bytes) names.texts.items
+        ≡ map (λ binding. keyword_text binding.sym.now) denotations.now.bindings.items) }
+    ensures contexts { IfOk result (λ names.
+        length names.contexts.items ≡ length names.texts.items) }
+    ensures kept { IfOk result (λ names.
+        AreContexts (map item_of pieces.now) denotations.now.bindings.items
+        (map (option_map string_bytes) names.texts.items) names.contexts.items) }
+{
+    let texts = texts_of(alloc, &denotations.bindings)?;
+    let contexts = contexts_of(alloc, pieces, &denotations.bindings, &texts)?;
+    Ok(Names { texts, contexts })
+}
+
+// The new texts of bindings.
+fn texts_of<'a>(alloc: Global, bindings: &[Binding<'a>]) -> Result<Vec<Option<String>>, AllocError>
+    ensures { IfOk result (λ texts.
+        map (option_map string_bytes) texts.items
+        ≡ map (λ binding. keyword_text binding.sym.now) bindings.now) }
+{
+    let mut texts = Vec::new(alloc);
+    for binding in bindings {
+        texts.push(free_text(alloc, binding.sym)?)?;
+    }
+    Ok(texts)
+}
+
+// The new text of a binding with this symbol.
+fn free_text(alloc: Global, sym: &str) -> Result<Option<String>, AllocError>
+    ensures { IfOk result (λ text. option_map string_bytes text ≡ keyword_text sym.now) }
+{
+    if is_keyword(sym) {
+        let text = format!(in alloc; "__{sym}")?;
+        Ok(Some(text))
+    } else {
+        Ok(None)
+    }
+}
+
+// The new contexts of bindings with these new texts.
+fn contexts_of<'a>(
+    alloc: Global,
+    pieces: &[Piece<'a>],
+    bindings: &[Binding<'a>],
+    texts: &[Option<String>],
+) -> Result<Vec<Option<u32>>, AllocError>
+    ensures { IfOk result (λ contexts.
+        AreContexts (map item_of pieces.now) bindings.now (map (option_map string_bytes) texts.now)
+        contexts.items) }
+{
+    if !has_text(texts) {
+        return none_of(alloc, texts.len());
+    }
+    let mut taken = Taken::of(alloc, pieces)?;
+    let mut contexts = Vec::new(alloc);
+    for number in 0..texts.len() {
+        let context = taken.context_for(text_at(texts, number), ctxt_at(bindings, number))?;
+        contexts.push(context)?;
+    }
+    Ok(contexts)
+}
+
+// Whether there is a text.
+fn has_text(texts: &[Option<String>]) -> bool
+    ensures { result ≡ list_any (λ text. is_some text) texts.now }
+{
+    for text in texts {
+        if text.is_some() {
+            return true;
+        }
+    }
+    false
+}
+
+// So many times nothing.
+fn none_of(alloc: Global, count: usize) -> Result<Vec<Option<u32>>, AllocError>
+    ensures len { IfOk result (λ contexts. length contexts.items ≡ count) }
+    ensures none { IfOk result (λ contexts. (number : ℕ) → at contexts.items number ≡ None) }
+{
+    let mut contexts = Vec::new(alloc);
+    for _ in 0..count {
+        contexts.push(None)?;
+    }
+    Ok(contexts)
+}
+
+// The new text of a binding.
+fn text_at(texts: &[Option<String>], number: usize) -> Option<&str>
+    ensures { option_map (λ text. text.now) result
+        ≡ at (map (option_map string_bytes) texts.now) number }
+{
+    match texts.get(number) {
+        Some(Some(text)) => Some(text.as_str()),
+        _ => None,
+    }
+}
+
+// The context of a binding.
+fn ctxt_at<'a>(bindings: &[Binding<'a>], number: usize) -> Option<u32>
+    ensures { result ≡ ctxt_of bindings.now number }
+{
+    match bindings.get(number) {
+        Some(binding) => binding.ctxt,
+        None => None,
+    }
+}
+
+// Whether an identifier binds or refers.
+fn occurs(role: Role) -> bool
+    ensures { result ≡ fresh.occurs role }
+{
+    role != Role::Word
+}
+
+impl<'a> Taken<'a> {
+    // Those of a list.
+    fn of(alloc: Global, pieces: &[Piece<'a>]) -> Result<Taken<'a>, AllocError>
+        ensures knows { IfOk result (KnowsNames (map item_of pieces.now)) }
+        ensures next { IfOk result (λ taken. taken.next ≡ 2) }
+    {
+        let mut taken = Taken {
+            names: HashSet::new(alloc),
+            contexts: HashSet::new(alloc),
+            next: 2,
+        };
+        for piece in pieces {
+            taken.add(*piece)?;
+        }
+        Ok(taken)
+    }
+
+    // Adds what an element is, if it is an identifier.
+    fn add(&mut self, piece: Piece<'a>) -> Result<(), AllocError>
+        ensures { OnOk result (AddsNames (item_of piece.entry) self.old self.new) }
+    {
+        match piece {
+            Piece::Ident {
+                sym,
+                ctxt,
+                role,
+                ..
+            } => if occurs(role) {
+                self.add_name(sym, ctxt)
+            } else {
+                Ok(())
+            },
+            _ => Ok(()),
+        }
+    }
+
+    // Adds a symbol with a context.
+    fn add_name(&mut self, sym: &'a str, ctxt: u32) -> Result<(), AllocError>
+        ensures names { OnOk result
+            ((other : ℕ) (text : Text) →
+            has other text self.new.names.keys
+            ≡ (has other text self.old.names.keys || (other == ctxt && bytes_eq text sym.now))) }
+        ensures contexts { OnOk result
+            ((other : ℕ) →
+            list_any (λ its. other == its) self.new.contexts.keys
+            ≡ (list_any (λ its. other == its) self.old.contexts.keys || other == ctxt)) }
+        ensures next { self.new.next ≡ self.old.next }
+    {
+        self.names.insert((ctxt, sym))?;
+        self.contexts.insert(ctxt)?;
+        Ok(())
+    }
+
+    // The new context of a binding that gets this symbol and has this context, or `None` where it keeps it.
+    fn context_for(
+        &mut self,
+        text: Option<&str>,
+        ctxt: Option<u32>,
+    ) -> Result<Option<u32>, AllocError>
+        ensures { IfOk result (λ context.
+            (items : List Item) →
+            KnowsNames items self.old →
+            AnswersFor (fresh.collides items (option_map (λ text. text.now) text.entry) ctxt)
+            self.old self.new context) }
+    {
+        if !self.collides(text, ctxt) {
+            return Ok(None);
+        }
+        let context = self.take()?;
+        Ok(Some(context))
+    }
+
+    // Whether an identifier has a symbol with a context.
+    fn collides(&self, text: Option<&str>, ctxt: Option<u32>) -> bool
+        ensures { (items : List Item) →
+            KnowsNames items self.now →
+            result ≡ fresh.collides items (option_map (λ text. text.now) text.entry) ctxt }
+    {
+        let Some(text) = text else {
+            return false;
+        };
+        let Some(ctxt) = ctxt else {
+            return false;
+        };
+        self.names.contains(&(ctxt, text))
+    }
+
+    // The least context from the next one on that no identifier has.
+    fn take(&mut self) -> Result<u32, AllocError>
+        ensures { IfOk result (TakesNext self.old self.new) }
+    {
+        for ctxt in self.next..u32::MAX {
+            if !self.contexts.contains(&ctxt) {
+                self.next = ctxt + 1;
+                return Ok(ctxt);
+            }
+        }
+        Err(AllocError)
+    }
+}

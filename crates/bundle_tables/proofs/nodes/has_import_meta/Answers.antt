@@ -1,8 +1,0 @@
--- The list has such a node if some element begins one.
-use Rattle.std.proofs.Common.{◌∙◌}
-use Rattle.bundle_terms.specs.Entries.{is_import_meta}
-use Rattle.bundle_tables.proofs.HeadLemmas.{has_head_any}
-use Rattle.bundle_tables.proofs.nodes.has_import_meta.Goals as goal
-
-pub returns : goal.returns
-returns c = c.some_import_meta.ensures ∙ has_head_any is_import_meta c.args.pieces.now

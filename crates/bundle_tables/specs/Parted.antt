@@ -1,8 +1,0 @@
--- The items of a part of a list of pieces.
-use Rattle.std.specs.Prelude.{List, map}
-use Rattle.bundle_piece.specs.Item.{Item, item_of}
-use Rattle.bundle_tables.specs.declared.parts.Part.{Part}
-
--- the items of a part
-abbrev pub part_items : Part → List Item
-part_items part = map item_of part.pieces.now

@@ -1,9 +1,0 @@
--- No call before is of the entry.
-use Rattle.std.proofs.Common.{◌≡◌, Some}
-use Rattle.bundle_tables.specs.declared.table.RequireCall.{RequireCall}
-use Rattle.bundle_index.specs.Leads.{required_of}
-use Rattle.bundle_targets.proofs.FirstLemmas.{HoldsBelow}
-use Rattle.bundle_targets.proofs.faults.entry_fault.Given as goal
-
-abbrev pub invariant-loop-call : goal.invariant-loop-call
-invariant-loop-call l = HoldsBelow (λ (c : RequireCall). required_of l.kinds.modules.now l.module c.specifier.now ≡ Some l.kinds.entry → ⊥) l.call-items l.call-index

@@ -1,8 +1,0 @@
--- No source before is external.
-use Rattle.std.proofs.Common.{◌≡◌, false}
-use Rattle.bundle_tables.specs.declared.table.Source.{Source}
-use Rattle.bundle_targets.proofs.FirstLemmas.{HoldsBelow}
-use Rattle.bundle_targets.proofs.faults.external_fault.Given as goal
-
-abbrev pub invariant-loop-source : goal.invariant-loop-source
-invariant-loop-source l = HoldsBelow (λ (s : Source). s.is_external ≡ false) l.source-items l.source-index

@@ -1,6 +1,0 @@
-pub mod Linked
-pub mod Judged
-pub mod Stages
-pub mod Meant
-pub mod Names
-pub mod Found

@@ -1,0 +1,15 @@
+pub mod Copies
+pub mod EditExamples
+pub mod EditsLemmas
+pub mod ListLemmas
+pub mod MarksLemmas
+pub mod Progress
+pub mod ProgressLemmas
+pub mod RenameLemmas
+pub mod Spelled
+pub mod LengthLemmas
+pub mod PartLemmas
+pub mod HeadLemmas
+pub mod SecondLemmas
+pub mod PlaceLemmas
+pub mod AwaitsLemmas

@@ -1,0 +1,10 @@
+pub mod Changes
+pub mod Edits
+pub mod Marks
+pub mod Lengths
+pub mod Parted
+pub mod Heads
+pub mod Seconds
+pub mod Placed
+pub mod Nested
+pub mod Stated

@@ -1,0 +1,8 @@
+-- The item is made from the first change on.
+use Rattle.std.proofs.lemmas.Result.{IfOk-weaker}
+use Rattle.bundle_tree_places.proofs.EditsLemmas.{rebuilt_so}
+use Rattle.bundle_tree_rebuild.proofs.Plain.{plain_edited}
+use Rattle.bundle_tree_rewrite.proofs.rebuild_item.Goals as goal
+
+pub returns : goal.returns
+returns c = IfOk-weaker c.module_item.result _ _ (λ made one. rebuilt_so (plain_edited c.new-rebuild.ensures (one.in_field 0))) c.module_item.ensures

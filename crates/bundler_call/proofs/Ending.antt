@@ -1,0 +1,82 @@
+-- How a call ends.
+use Rattle.std.proofs.Common.{◌≡◌, ℕ, Bool, List, [], Result, map, sym, subst, ◌∙◌, inl, inr}
+use Rattle.std.specs.Prelude.{IfErr, IfSome}
+use Rattle.std.specs.Result.{IsErrAnd}
+use Rattle.std.specs.declared.alloc.Global.{Global}
+use Rattle.std.specs.declared.string.String.{String}
+use Rattle.bundle_tree_ast.specs.declared.expr.Expr.{Expr}
+use Rattle.bundle_tree_ast.specs.declared.prop.KeyValueProp.{KeyValueProp}
+use Rattle.bundler_entry.specs.Unlinked.{error_of}
+use Rattle.bundler_entry.specs.declared.unlinked.Unlinked.{Unlinked}
+use Rattle.bundle_tree_names.specs.FileName.{Name}
+use Rattle.bundle_tree_names.specs.declared.error.Error.{Error}
+use Rattle.bundle_tree_names.specs.declared.file_name.FileName.{FileName}
+use Rattle.bundle_tree.specs.declared.load.ModuleData.{ModuleData}
+use Rattle.bundle_rules.specs.Entries.{Settings}
+use Rattle.bundle_rules.specs.Kept.{Kept}
+use Rattle.bundle_rules.specs.Faults.{Fault, Parties, fault_of}
+use Rattle.bundle_rules.specs.Judging as j
+use Rattle.bundle_rules.specs.Judging.{Entry, Outcome, GoesOn, Refused, NumbersEach, LoadsAll, Refuses, Completes, IsDoubledEntry}
+use Rattle.bundler_call.specs.Bundler.{files_of}
+use Rattle.bundler_call.specs.Judged.{asked_by, AreApart, IsFaultOfList, IsRefusedBy}
+use Rattle.bundler_call.specs.Kept.{entry_of, parties_of}
+use Rattle.bundler_call.specs.Linking.{IsRefusalOfEntries}
+use Rattle.bundler_call.proofs.Counting.{same_files}
+use Rattle.bundler_call.proofs.Doubling.{apart_distinct}
+use Rattle.bundler_call.proofs.Finding.{handed_on}
+use Rattle.bundler_call.proofs.Judging.{as_before, loads_all_as, told_as}
+
+-- what is loaded without regard to a hook, by a loader and a resolver as they were
+module _ {L R : Type 0} (may_load : L → Name → ModuleData → Type 0) (may_fail_load : L → Name → Type 0) (may_resolve : R → Name → List ℕ → Name → Type 0) (may_fail_resolve : R → Name → List ℕ → Type 0) (may_give : Name → Bool → List (KeyValueProp Expr) → Type 0) (may_fail_hook : Name → Bool → Type 0) (settings : Settings) where
+  pub with_hook : (l l1 : L) (r r1 : R) (list : List Name) (i : ℕ) (old new : Kept) (o : Outcome) → l1 ≡ l → r1 ≡ r → LoadsAll (asked_by may_load may_fail_load may_resolve may_fail_resolve l1 r1) settings list i old o new
+      → LoadsAll (parties_of (may_load l) (may_fail_load l) (may_resolve r) (may_fail_resolve r) may_give may_fail_hook) settings list i old o new
+  with_hook l l1 r r1 list i old new o loader resolver loads =
+      loads_all_as (asked_by may_load may_fail_load may_resolve may_fail_resolve l r) (parties_of (may_load l) (may_fail_load l) (may_resolve r) (may_fail_resolve r) may_give may_fail_hook) settings (λ file answer may. may) (λ file may. may) (λ asked file may. may) (λ asked may. may) list i old new o
+      (as_before (λ x y. LoadsAll (asked_by may_load may_fail_load may_resolve may_fail_resolve x y) settings list i old o new) l l1 r r1 loader resolver loads)
+
+module _ (parties : Parties) (settings : Settings) where
+  -- no entry
+  pub completes_none : (kept : Kept) (entries : List (String Global × FileName)) → entries ≡ [] → Completes parties settings (map entry_of entries) kept kept
+  completes_none kept entries none =
+      let nothing : Completes parties settings [] kept kept = record { distinct = λ later doubled. never later doubled; next = kept; numbered = j.over; loaded = j.over } in
+      subst (λ (x : List (String Global × FileName)). Completes parties settings (map entry_of x) kept kept) (sym none) nothing
+    where
+      never : (later : Entry) → IsDoubledEntry [] later → ⊥
+      never later doubled = let at = doubled.first_there in cc
+
+  module _ (entries : List (String Global × FileName)) (apart : AreApart (map entry_of entries)) (old next new : Kept) where
+    -- all is loaded
+    pub completes : (list : List Name) → NumbersEach old (files_of entries) GoesOn next → list ≡ files_of entries → LoadsAll parties settings list 0 next GoesOn new → Completes parties settings (map entry_of entries) old new
+    completes list numbered is loads = record {
+      distinct = apart_distinct (map entry_of entries) apart;
+      next = next;
+      numbered = subst (λ files. NumbersEach old files GoesOn next) (sym (same_files entries)) numbered;
+      loaded = subst (λ files. LoadsAll parties settings files 0 next GoesOn new) (is ∙ sym (same_files entries)) loads;
+    }
+
+    module _ {T : Type 0} (result : Result T Error) (e : Error) (is : IsErrAnd result (λ x. x ≡ e)) where
+      -- a file gets no number
+      pub refused_number : IfSome (fault_of e) (λ f. NumbersEach old (files_of entries) (Refused f) new) → IfErr result (IsRefusedBy parties settings (map entry_of entries) old new)
+      refused_number told =
+          handed_on result e (IsRefusedBy parties settings (map entry_of entries) old new) is
+          (told_as (fault_of e) _ _ (λ f numbers. inl (j.by_number (apart_distinct (map entry_of entries) apart) (subst (λ files. NumbersEach old files (Refused f) new) (sym (same_files entries)) numbers))) told)
+
+      -- a file is not loaded, is at fault by itself, or one of its requests is refused
+      pub refused_loading : (P : Fault → Type 0) (list : List Name) → NumbersEach old (files_of entries) GoesOn next → list ≡ files_of entries → ((f : Fault) → P f → LoadsAll parties settings list 0 next (Refused f) new) → IfSome (fault_of e) P → IfErr result (IsRefusedBy parties settings (map entry_of entries) old new)
+      refused_loading P list numbered same loads told =
+          handed_on result e (IsRefusedBy parties settings (map entry_of entries) old new) is
+          (told_as (fault_of e) P _ (λ f its. inl (j.by_loading (apart_distinct (map entry_of entries) apart) (subst (λ files. NumbersEach old files GoesOn next) (sym (same_files entries)) numbered) (subst (λ files. LoadsAll parties settings files 0 next (Refused f) new) (same ∙ sym (same_files entries)) (loads f its)))) told)
+
+  -- an entry doubles another
+  pub refused_list : {T : Type 0} (result : Result T Error) (e : Error) (entries : List (String Global × FileName)) (old : Kept) → IsErrAnd result (λ x. x ≡ e) → IfSome (fault_of e) (IsFaultOfList (map entry_of entries)) → IfErr result (IsRefusedBy parties settings (map entry_of entries) old old)
+  refused_list result e entries old is told =
+      handed_on result e (IsRefusedBy parties settings (map entry_of entries) old old) is (told_as (fault_of e) (IsFaultOfList (map entry_of entries)) _ (λ f (later, doubled, same). inl (subst (λ x. Refuses parties settings (map entry_of entries) old x old) (sym same) (j.by_list later doubled))) told)
+
+  -- an entry is refused, or contexts are used up
+  linking : (entries : List Entry) (old new : Kept) → Completes parties settings entries old new → (unlinked : Unlinked) → IsRefusalOfEntries parties settings new entries unlinked → IsRefusedBy parties settings entries old new (error_of unlinked)
+  linking entries old new done unlinked told =
+      told_as (fault_of (error_of unlinked)) _ _ (λ fault why. elim why [ inl refuses ↦ inl (j.by_entry done.distinct done.numbered done.loaded refuses) | inr contexts ↦ inr (done, contexts) ]) told
+
+  pub refused_linking : {T : Type 0} (result : Result T Error) (entries : List Entry) (old new : Kept) (unlinked : Unlinked) → IsErrAnd result (λ x. x ≡ error_of unlinked) → Completes parties settings entries old new → IsRefusalOfEntries parties settings new entries unlinked → IfErr result (IsRefusedBy parties settings entries old new)
+  refused_linking result entries old new unlinked is done told =
+      handed_on result (error_of unlinked) (IsRefusedBy parties settings entries old new) is (linking entries old new done unlinked told)

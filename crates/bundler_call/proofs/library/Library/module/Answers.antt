@@ -1,0 +1,15 @@
+-- A look-up among trees is one among what they are kept as.
+use Rattle.std.proofs.Common.{◌∙◌, ap, sym, Bor}
+use Rattle.std.specs.Option.{option_map}
+use Rattle.bundle_tree_names.specs.FileName.{name_of, name_eq}
+use Rattle.bundle_tree.specs.declared.load.ModuleData.{ModuleData}
+use Rattle.bundler_kept.specs.Kept.{trees_in}
+use Rattle.bundler_kept.proofs.Keeping.{option_map-step}
+use Rattle.bundler_call.specs.Kept.{kept_as}
+use Rattle.bundler_call.proofs.Finding.{lookup-read}
+use Rattle.bundler_call.proofs.library.Library.module.Goals as goal
+
+pub returns : goal.returns
+returns g c =
+    option_map-step (λ (loaded : Bor ModuleData). loaded.now) kept_as c.tree.result ∙ ap (option_map kept_as) c.tree.ensures
+    ∙ sym (lookup-read kept_as (name_eq (name_of c.args.file.now)) (trees_in c.args.self.now.kept))

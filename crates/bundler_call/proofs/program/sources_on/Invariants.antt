@@ -1,0 +1,11 @@
+-- The files that are left are kept, and not at fault by themselves; the others are read.
+use Rattle.bundler_call.specs.Kept.{kept_of, settings_of}
+use Rattle.bundler_call.specs.Loading.{AreNumbered, AreSound}
+use Rattle.bundler_call.proofs.Loading.{names_of_entries}
+use Rattle.bundler_call.proofs.Sources.{AreReadSoFar}
+use Rattle.bundler_call.proofs.program.sources_on.Given as goal
+
+abbrev pub invariant-loop-file : goal.invariant-loop-file
+invariant-loop-file g l =
+    AreSound (kept_of l.library.kept) (names_of_entries l.file-iterator)
+    × (AreNumbered (kept_of l.library.kept) l.list → AreReadSoFar (kept_of l.library.kept) (settings_of l.config) l.list.files.entries l.file-iterator l.sources.items)

@@ -1,0 +1,241 @@
+//! The bundler.
+
+ghost use Rattle.std.specs.Prelude.{◌≡◌, ℕ, List, [], Some, IsOk, IfOk, IfErr, IfSome, OnOk, map, string_bytes};
+ghost use Rattle.std.specs.List.{AllZip};
+ghost use Rattle.bundle_tree_names.specs.FileName.{name_of};
+ghost use Rattle.bundle_rules.specs.Faults.{DoubledEntry, fault_of};
+ghost use Rattle.bundle_rules.specs.Entries.{Settings};
+ghost use Rattle.bundle_rules.specs.Judging.{Completes, Grows, NumbersEach};
+ghost use Rattle.bundle_rules.specs.Kept.{nothing_kept, Stays};
+ghost use Rattle.bundler_call.specs.Bundler.{config_of, files_of, hook_of, kept_by, loader_of, parties_held, resolver_of, settings_held, HasNumber};
+ghost use Rattle.bundler_call.specs.Judged.{Ends, AreApart, IsBundledFor, IsFaultOfList, IsRefusedBy};
+ghost use Rattle.bundler_call.specs.Kept.{entry_of, kept_of, settings_of};
+ghost use Rattle.bundler_call.specs.Library.{IsToldOf, MovesOn};
+ghost use Rattle.bundler_call.specs.Linking.{answered_by, IsLoaded, IsNumberedOn, IsReadOf, IsRefusalOfEntries};
+ghost use Rattle.bundler_call.specs.Loading.{files_on, AreMet, AreNumbered, AreSound};
+ghost use Rattle.bundler_call.specs.Refusal.{IsRefusedLoading};
+
+use crate::bundle::{Bundle, BundleKind};
+use crate::library::Library;
+use crate::linked::module_on;
+use crate::load::{LoadList, load_all};
+use crate::program::program_on;
+use bundle_tree::hook::Hook;
+use bundle_tree::load::Load;
+use bundle_tree::resolve::Resolve;
+use bundle_tree_names::ModuleId;
+use bundle_tree_names::config::Config;
+use bundle_tree_names::error::Error;
+use bundle_tree_names::file_name::FileName;
+use bundler_entry::{Call, Program, Unlinked};
+use indexmap::IndexSet;
+use std::alloc::{AllocError, Global};
+
+/// Makes bundles. It keeps the numbers of files, the modules that were loaded and the files that their
+/// specifiers lead to, so that no module is loaded twice.
+#[derive(Drop)]
+pub struct Bundler<L: Load, R: Resolve> {
+    library: Library<L, R>,
+    config: Config,
+    hook: Box<dyn Hook>,
+}
+
+impl<L: Load + Drop, R: Resolve + Drop> Bundler<L, R> {
+    /// A bundler that keeps nothing yet. It takes no memory.
+    pub fn new(alloc: Global, loader: L, resolver: R, config: Config, hook: Box<dyn Hook>) -> Self
+        ensures empty { kept_by result ≡ nothing_kept }
+        ensures loader { loader_of result ≡ loader }
+        ensures resolver { resolver_of result ≡ resolver }
+        ensures config { config_of result ≡ config }
+        ensures hook { hook_of result ≡ hook }
+    {
+        Bundler {
+            library: Library::new(alloc, loader, resolver),
+            config,
+            hook,
+        }
+    }
+
+    /// A bundle for each entry, a name and a file, in their order. Nobody is asked where there is no entry.
+    ///
+    /// What a bundle of an entry holds stands in `docs/DEFINITIONS.md`, and so does why there may be none, and
+    /// which refusal comes first.
+    ///
+    /// What was kept stays kept, after a refusal too, and what comes to it are answers of the loader and
+    /// the resolver to what the call has to ask. A module is asked for only where it is not kept.
+    pub fn bundle(
+        &mut self,
+        alloc: Global,
+        entries: Vec<(String, FileName)>,
+    ) -> Result<Vec<Bundle>, Error>
+        ensures grows { Grows
+            (parties_held L.Load R.Resolve ⟦<dyn Hook as Hook>⟧ self.old).answers
+            (settings_held self.old) (files_of entries.items)
+            (kept_by self.old) (kept_by self.new) }
+        ensures stays { Stays (kept_by self.old) (kept_by self.new) }
+        ensures loader { loader_of self.new ≡ loader_of self.old }
+        ensures resolver { resolver_of self.new ≡ resolver_of self.old }
+        ensures config { config_of self.new ≡ config_of self.old }
+        ensures hook { hook_of self.new ≡ hook_of self.old }
+        ensures bundles { IfOk result (λ bundles. AllZip (IsBundledFor
+            (parties_held L.Load R.Resolve ⟦<dyn Hook as Hook>⟧ self.old)
+            (settings_held self.old) (kept_by self.new)) entries.items bundles.items) }
+        ensures refused { IfErr result (IsRefusedLoading
+            (parties_held L.Load R.Resolve ⟦<dyn Hook as Hook>⟧ self.old)
+            (settings_held self.old) (kept_by self.new)) }
+        ensures completes { OnOk result (Completes
+            (parties_held L.Load R.Resolve ⟦<dyn Hook as Hook>⟧ self.old)
+            (settings_held self.old) (map entry_of entries.items)
+            (kept_by self.old) (kept_by self.new)) }
+        ensures judged { IfErr result (IsRefusedBy
+            (parties_held L.Load R.Resolve ⟦<dyn Hook as Hook>⟧ self.old)
+            (settings_held self.old) (map entry_of entries.items)
+            (kept_by self.old) (kept_by self.new)) }
+        ensures no_entry { entries.items ≡ [] → IsOk result × (self.new ≡ self.old) }
+    {
+        if entries.is_empty() {
+            return Ok(Vec::new(alloc));
+        }
+        refuse_doubled_entry(alloc, entries.as_slice())?;
+        let (list, ids) = numbered(&mut self.library, alloc, entries.as_slice())?;
+        let list = load_all(&mut self.library, alloc, list, &self.config)?;
+        let library = &self.library;
+        Ok(linked_bundles(
+            alloc,
+            library,
+            &list,
+            &self.config,
+            &*self.hook,
+            entries,
+            ids,
+        )?)
+    }
+}
+
+// Refuses two entries of one name or one file.
+fn refuse_doubled_entry(alloc: Global, entries: &[(String, FileName)]) -> Result<(), Error>
+    ensures apart { OnOk result (AreApart (map entry_of entries.now)) }
+    ensures doubled { IfErr result (λ refusal.
+        IfSome (fault_of refusal) (IsFaultOfList (map entry_of entries.now))) }
+{
+    let mut names = IndexSet::new(alloc);
+    let mut files = IndexSet::new(alloc);
+    for (name, file) in entries {
+        let is_new_name = names.insert(name.as_str())?;
+        let is_new_file = files.insert(file)?;
+        if !(is_new_name && is_new_file) {
+            return Err(doubled_entry(name, file)?);
+        }
+    }
+    Ok(())
+}
+
+// The refusal of an entry.
+fn doubled_entry(name: &String, file: &FileName) -> Result<Error, AllocError>
+    ensures { IfOk result (λ refusal.
+        fault_of refusal ≡ Some (DoubledEntry (name_of file.now) (string_bytes name.now))) }
+{
+    Ok(Error::DoubledEntry {
+        file: file.clone()?,
+        name: name.clone()?,
+    })
+}
+
+// The list of the entries' files, and their numbers in the order of the entries.
+fn numbered<L: Load + Drop, R: Resolve + Drop>(
+    library: &mut Library<L, R>,
+    alloc: Global,
+    entries: &[(String, FileName)],
+) -> Result<(LoadList, Vec<ModuleId>), Error>
+    ensures numbered { IfOk result (λ made.
+        AllZip (HasNumber (kept_of library.new.kept)) entries.now made.1.items) }
+    ensures listed { IfOk result (λ made. AreNumbered (kept_of library.new.kept) made.0) }
+    ensures unasked { IfOk result (λ made. made.0.deps.items ≡ []) }
+    ensures met { IfOk result (λ made. AreMet (kept_of library.new.kept) (files_on made.0)) }
+    ensures grows { (settings : Settings) →
+        MovesOn L.may_load R.may_resolve settings (files_of entries.now) library.old library.new }
+    ensures refused { (max_modules : ℕ) →
+        IfErr result (IsToldOf L.may_fail_load R.may_fail_resolve max_modules library.new) }
+    ensures judged { Ends result (λ outcome.
+        NumbersEach (kept_of library.old.kept) (files_of entries.now) outcome
+        (kept_of library.new.kept)) }
+    ensures all { IfOk result (λ made.
+        AreApart (map entry_of entries.now) → files_on made.0 ≡ files_of entries.now) }
+{
+    let mut list = LoadList::new(alloc);
+    let mut ids = Vec::new(alloc);
+    for (_, file) in entries {
+        let id = library.id(file)?;
+        list.place(file, id)?;
+        ids.push(id)?;
+    }
+    Ok((list, ids))
+}
+
+// A bundle for each entry, where these are the numbers of their files, and all that they need is on the list.
+fn linked_bundles<L: Load + Drop, R: Resolve + Drop>(
+    alloc: Global,
+    library: &Library<L, R>,
+    list: &LoadList,
+    config: &Config,
+    hook: &dyn Hook,
+    entries: Vec<(String, FileName)>,
+    ids: Vec<ModuleId>,
+) -> Result<Vec<Bundle>, Unlinked>
+    requires { AreSound (kept_of library.now.kept) (files_on list.now) }
+    ensures bundles { IfOk result (λ bundles.
+        IsLoaded (settings_of config.now) (kept_of library.now.kept) list.now →
+        AllZip (IsNumberedOn (kept_of library.now.kept) list.now) entries.items ids.items →
+        AllZip
+        (IsBundledFor (answered_by (may_give hook.now) (may_fail_hook hook.now))
+        (settings_of config.now) (kept_of library.now.kept))
+        entries.items bundles.items) }
+    ensures refused { IfErr result (λ unlinked.
+        IsLoaded (settings_of config.now) (kept_of library.now.kept) list.now →
+        AllZip (IsNumberedOn (kept_of library.now.kept) list.now) entries.items ids.items →
+        IsRefusalOfEntries (answered_by (may_give hook.now) (may_fail_hook hook.now))
+        (settings_of config.now) (kept_of library.now.kept) (map entry_of entries.items) unlinked) }
+{
+    let program = program_on(library, alloc, list, config)?;
+    bundles_of(alloc, library, list, &program, config, hook, entries, ids)
+}
+
+// The same, given what the files say.
+fn bundles_of<'x, L: Load + Drop, R: Resolve + Drop>(
+    alloc: Global,
+    library: &Library<L, R>,
+    list: &LoadList,
+    program: &Program<'x>,
+    config: &Config,
+    hook: &dyn Hook,
+    entries: Vec<(String, FileName)>,
+    ids: Vec<ModuleId>,
+) -> Result<Vec<Bundle>, Unlinked>
+    requires { AreSound (kept_of library.now.kept) (files_on list.now) }
+    ensures bundles { IfOk result (λ bundles.
+        IsReadOf (settings_of config.now) (kept_of library.now.kept) list.now program.now →
+        AllZip (IsNumberedOn (kept_of library.now.kept) list.now) entries.items ids.items →
+        AllZip
+        (IsBundledFor (answered_by (may_give hook.now) (may_fail_hook hook.now))
+        (settings_of config.now) (kept_of library.now.kept))
+        entries.items bundles.items) }
+    ensures refused { IfErr result (λ unlinked.
+        IsReadOf (settings_of config.now) (kept_of library.now.kept) list.now program.now →
+        AllZip (IsNumberedOn (kept_of library.now.kept) list.now) entries.items ids.items →
+        IsRefusalOfEntries (answered_by (may_give hook.now) (may_fail_hook hook.now))
+        (settings_of config.now) (kept_of library.now.kept) (map entry_of entries.items) unlinked) }
+{
+    let mut bundles = Vec::new(alloc);
+    for (entry, id) in entries.into_iter().zip(ids) {
+        let (name, file) = entry;
+        let call = Call {
+            program,
+            config,
+            entry: &file,
+        };
+        let module = module_on(alloc, library, list, &call, hook, id)?;
+        let kind = BundleKind::Named { name };
+        bundles.push(Bundle { kind, id, module })?;
+    }
+    Ok(bundles)
+}

@@ -1,0 +1,305 @@
+//! The load list: the files that an entry needs, in the order in which they are met.
+
+ghost use Rattle.std.specs.Prelude.{◌≡◌, ◌++◌, ◌∷◌, ℕ, suc, length, map, slice_get, string_bytes, [], List, Some, IsSome, IfOk, IfErr, IfSome, OnOk};
+ghost use Rattle.std.specs.Option.{option_map};
+ghost use Rattle.bundle_tree_names.specs.FileName.{Name, name_of};
+ghost use Rattle.bundle_tree_names.specs.ModuleIdGenerator.{IsDistinct};
+ghost use Rattle.bundle_rules.specs.Entries.{Settings};
+ghost use Rattle.bundle_rules.specs.Faults.{IsFaultless, IsFirstTreeFault, fault_of};
+ghost use Rattle.bundle_rules.specs.Judging.{Asks, LoadsAll, requests_in};
+ghost use Rattle.bundle_rules.specs.Kept.{Kept, kept_file, kept_module, number_in};
+ghost use Rattle.bundle_rules.specs.Program.{Loaded};
+ghost use Rattle.bundler_kept.specs.Kept.{asked_of};
+ghost use Rattle.bundler_call.specs.Judged.{Ends, LeadsOn, asked_by};
+ghost use Rattle.bundler_call.specs.Kept.{kept_of, settings_of, AreRequested, IsKept, IsMet, IsRequested};
+ghost use Rattle.bundler_call.specs.Library.{IsToldOf, Keeps, MovesOn};
+ghost use Rattle.bundler_call.specs.Loading.{files_on, ids_on, AllLead, AreAsked, AreMet, AreNumbered, AreSound, Begins, IsNoted, IsPlaced, IsSound, LeadsTo};
+
+use crate::library::Library;
+use bundle_link::tables::requests_of;
+use bundle_tree::load::Load;
+use bundle_tree::resolve::Resolve;
+use bundle_tree_names::ModuleId;
+use bundle_tree_names::config::Config;
+use bundle_tree_names::error::Error;
+use bundle_tree_names::file_name::FileName;
+use bundler_kept::Request;
+use indexmap::IndexMap;
+use std::alloc::{AllocError, Global};
+
+/// Files with their numbers, in the order in which they were met, and for each that was worked on its requests, in their
+/// order, each with the number of the file to which it leads.
+#[derive(Debug, Drop)]
+pub struct LoadList {
+    pub files: IndexMap<FileName, ModuleId>,
+    pub deps: Vec<Vec<(String, ModuleId)>>,
+}
+
+impl LoadList {
+    /// A list without files. It takes no memory.
+    pub(crate) fn new(alloc: Global) -> LoadList
+        ensures files { files_on result ≡ [] }
+        ensures deps { result.deps.items ≡ [] }
+    {
+        LoadList {
+            files: IndexMap::new(alloc),
+            deps: Vec::new(alloc),
+        }
+    }
+
+    /// Puts a file with its number on the list, where it goes last unless it is there.
+    pub(crate) fn place(&mut self, file: &FileName, id: ModuleId) -> Result<(), AllocError>
+        ensures placed { OnOk result
+            (IsPlaced (files_on self.old) (name_of file.now) (files_on self.new)) }
+        ensures numbered { (kept : Kept) →
+            number_in kept (name_of file.now) ≡ Some id →
+            AreNumbered kept self.old →
+            OnOk result (AreNumbered kept self.new) }
+        ensures deps { self.new.deps ≡ self.old.deps }
+    {
+        if let Some(_place) = self.files.get_index_of(file) {
+            return Ok(());
+        }
+        self.files.insert(file.clone()?, id)?;
+        Ok(())
+    }
+
+    // The file at a place. No file has two.
+    fn file_at(&self, place: usize) -> Result<Option<FileName>, AllocError>
+        ensures file { IfOk result (λ file.
+            option_map name_of file ≡ slice_get (files_on self.now) place) }
+        ensures once { IsDistinct (files_on self.now) }
+    {
+        // `len` says that no file stands twice.
+        let _count = self.files.len();
+        match self.files.get_index(place) {
+            Some((file, _)) => Ok(Some(file.clone()?)),
+            None => Ok(None),
+        }
+    }
+
+    // Notes the requests of the next file.
+    fn add_deps(&mut self, its: Vec<(String, ModuleId)>) -> Result<(), AllocError>
+        ensures files { self.new.files ≡ self.old.files }
+        ensures deps { OnOk result (self.new.deps.items ≡ self.old.deps.items ++ its ∷ []) }
+    {
+        self.deps.push(its)?;
+        Ok(())
+    }
+}
+
+/// Loads the files on a list and all files that they need, first in first out, and gives the list of all. Each file on it
+/// is kept, and none is at fault by itself; each has its number, and its requests are noted.
+pub(crate) fn load_all<L: Load + Drop, R: Resolve + Drop>(
+    library: &mut Library<L, R>,
+    alloc: Global,
+    list: LoadList,
+    config: &Config,
+) -> Result<LoadList, Error>
+    requires { AreMet (kept_of library.old.kept) (files_on list) }
+    ensures grows { (entries : List Name) →
+        MovesOn L.may_load R.may_resolve (settings_of config.now) entries library.old library.new }
+    ensures refused { IfErr result
+        (IsToldOf L.may_fail_load R.may_fail_resolve config.now.max_modules library.new) }
+    ensures loaded { IfOk result (λ list. AreSound (kept_of library.new.kept) (files_on list)) }
+    ensures begins { IfOk result (λ made. Begins (files_on list) (files_on made)) }
+    ensures once { IfOk result (λ made. IsDistinct (files_on made)) }
+    ensures numbered { IfOk result (λ made.
+        AreNumbered (kept_of library.old.kept) list →
+        AreNumbered (kept_of library.new.kept) made) }
+    ensures asked { IfOk result (λ made.
+        list.deps.items ≡ [] →
+        AreNumbered (kept_of library.old.kept) list →
+        AreAsked (settings_of config.now) (kept_of library.new.kept) made
+        × (length made.deps.items ≡ length (files_on made))) }
+    ensures judged { Ends result (λ outcome.
+        LoadsAll
+        (asked_by L.may_load L.may_fail_load R.may_resolve R.may_fail_resolve library.old.loader
+        library.old.resolver)
+        (settings_of config.now) (files_on list) 0 (kept_of library.old.kept) outcome
+        (kept_of library.new.kept)) }
+{
+    let mut list = list;
+    // A list of files is shorter than that.
+    for place in 0..usize::MAX {
+        let Some(file) = list.file_at(place)? else {
+            return Ok(list);
+        };
+        work_on(library, alloc, &mut list, &file, config)?;
+    }
+    let _count = list.files.len();
+    Ok(list)
+}
+
+// Loads a file, and puts those that it requests on the list. What is judged from the next place on is judged from its
+// place on.
+fn work_on<L: Load + Drop, R: Resolve + Drop>(
+    library: &mut Library<L, R>,
+    alloc: Global,
+    list: &mut LoadList,
+    file: &FileName,
+    config: &Config,
+) -> Result<(), Error>
+    requires met { AreMet (kept_of library.old.kept) (files_on list.old) }
+    requires listed { IsMet (kept_of library.old.kept) (name_of file.now) }
+    ensures grows { (entries : List Name) →
+        MovesOn L.may_load R.may_resolve (settings_of config.now) entries library.old library.new }
+    ensures refused { IfErr result
+        (IsToldOf L.may_fail_load R.may_fail_resolve config.now.max_modules library.new) }
+    ensures loaded { OnOk result (IsSound (kept_of library.new.kept) (name_of file.now)) }
+    ensures met { OnOk result (AreMet (kept_of library.new.kept) (files_on list.new)) }
+    ensures begins { OnOk result (Begins (files_on list.old) (files_on list.new)) }
+    ensures numbered { OnOk result
+        (AreNumbered (kept_of library.old.kept) list.old →
+        AreNumbered (kept_of library.new.kept) list.new) }
+    ensures asked { OnOk result
+        (AreNumbered (kept_of library.old.kept) list.old →
+        IsNoted (settings_of config.now) (kept_of library.new.kept) (name_of file.now) list.old
+        list.new) }
+    ensures judged { (place : ℕ) →
+        slice_get (files_on list.old) place ≡ Some (name_of file.now) →
+        let parties = asked_by L.may_load L.may_fail_load R.may_resolve R.may_fail_resolve library.old.loader library.old.resolver in
+        LeadsOn result
+        (LoadsAll parties (settings_of config.now) (files_on list.old) place
+        (kept_of library.old.kept))
+        (LoadsAll parties (settings_of config.now) (files_on list.new) (suc place)
+        (kept_of library.new.kept))
+        (kept_of library.new.kept) }
+{
+    library.load(alloc, file, config)?;
+    let specifiers = kept_requests(library, alloc, file, config)?;
+    let deps = ask_each(library, alloc, list, file, specifiers)?;
+    list.add_deps(deps)?;
+    Ok(())
+}
+
+// These specifiers of `file`, each with the number of the file that it means, which gets one and goes on the list where it
+// is new there.
+fn ask_each<L: Load + Drop, R: Resolve + Drop>(
+    library: &mut Library<L, R>,
+    alloc: Global,
+    list: &mut LoadList,
+    file: &FileName,
+    specifiers: Vec<String>,
+) -> Result<Vec<(String, ModuleId)>, Error>
+    requires met { AreMet (kept_of library.old.kept) (files_on list.old) }
+    requires loaded { IsKept (kept_of library.old.kept) (name_of file.now) }
+    ensures keeps { Keeps library.old library.new }
+    ensures grows { (settings : Settings) (entries : List Name) →
+        AreRequested settings (kept_of library.old.kept) (name_of file.now)
+        (map string_bytes specifiers.items) →
+        MovesOn L.may_load R.may_resolve settings entries library.old library.new }
+    ensures refused { (max_modules : ℕ) →
+        IfErr result (IsToldOf L.may_fail_load R.may_fail_resolve max_modules library.new) }
+    ensures met { OnOk result (AreMet (kept_of library.new.kept) (files_on list.new)) }
+    ensures begins { OnOk result (Begins (files_on list.old) (files_on list.new)) }
+    ensures numbered { OnOk result
+        (AreNumbered (kept_of library.old.kept) list.old →
+        AreNumbered (kept_of library.new.kept) list.new) }
+    ensures asked { IfOk result (λ deps.
+        map (λ dep. string_bytes dep.0) deps.items ≡ map string_bytes specifiers.items) }
+    ensures leads { IfOk result (λ deps. AreNumbered (kept_of library.old.kept) list.old →
+        AllLead (kept_of library.new.kept) (ids_on list.new) (name_of file.now) deps.items) }
+    ensures deps { list.new.deps ≡ list.old.deps }
+    ensures judged { Ends result (λ outcome.
+        Asks
+        (asked_by L.may_load L.may_fail_load R.may_resolve R.may_fail_resolve library.old.loader
+        library.old.resolver)
+        (name_of file.now) (map string_bytes specifiers.items) (kept_of library.old.kept)
+        (files_on list.old) outcome (kept_of library.new.kept) (files_on list.new)) }
+{
+    let mut deps = Vec::new(alloc);
+    for specifier in specifiers {
+        let id = id_of(library, alloc, list, file, &specifier)?;
+        deps.push((specifier, id))?;
+    }
+    Ok(deps)
+}
+
+// The number of the file that `file` means by a specifier, which gets one and goes on the list where it is new there.
+fn id_of<L: Load + Drop, R: Resolve + Drop>(
+    library: &mut Library<L, R>,
+    alloc: Global,
+    list: &mut LoadList,
+    file: &FileName,
+    specifier: &String,
+) -> Result<ModuleId, Error>
+    requires met { AreMet (kept_of library.old.kept) (files_on list.old) }
+    requires loaded { IsKept (kept_of library.old.kept) (name_of file.now) }
+    ensures keeps { Keeps library.old library.new }
+    ensures grows { (settings : Settings) (entries : List Name) →
+        IsRequested settings (kept_of library.old.kept)
+        (record { file = name_of file.now; specifier = string_bytes specifier.now }) →
+        MovesOn L.may_load R.may_resolve settings entries library.old library.new }
+    ensures refused { (max_modules : ℕ) →
+        IfErr result (IsToldOf L.may_fail_load R.may_fail_resolve max_modules library.new) }
+    ensures met { OnOk result (AreMet (kept_of library.new.kept) (files_on list.new)) }
+    ensures begins { OnOk result (Begins (files_on list.old) (files_on list.new)) }
+    ensures numbered { OnOk result
+        (AreNumbered (kept_of library.old.kept) list.old →
+        AreNumbered (kept_of library.new.kept) list.new) }
+    ensures leads { IfOk result (λ id.
+        AreNumbered (kept_of library.old.kept) list.old →
+        LeadsTo (kept_of library.new.kept) (ids_on list.new) (name_of file.now)
+        (specifier.now, id)) }
+    ensures deps { list.new.deps ≡ list.old.deps }
+    ensures judged { Ends result (λ outcome.
+        Asks
+        (asked_by L.may_load L.may_fail_load R.may_resolve R.may_fail_resolve library.old.loader
+        library.old.resolver)
+        (name_of file.now) (string_bytes specifier.now ∷ []) (kept_of library.old.kept)
+        (files_on list.old) outcome (kept_of library.new.kept) (files_on list.new)) }
+{
+    let request = request_of(file, specifier)?;
+    library.resolve(alloc, &request)?;
+    let target = target_of(library, &request)?;
+    let id = library.id(&target)?;
+    list.place(&target, id)?;
+    Ok(id)
+}
+
+fn request_of(file: &FileName, specifier: &String) -> Result<Request, AllocError>
+    ensures file { IfOk result (λ request. name_of request.file ≡ name_of file.now) }
+    ensures specifier { IfOk result (λ request.
+        string_bytes request.specifier ≡ string_bytes specifier.now) }
+{
+    Ok(Request {
+        file: file.clone()?,
+        specifier: specifier.clone()?,
+    })
+}
+
+// The file that a request leads to, which is kept.
+fn target_of<L: Load + Drop, R: Resolve + Drop>(
+    library: &Library<L, R>,
+    request: &Request,
+) -> Result<FileName, AllocError>
+    requires { IsSome (kept_file (kept_of library.now.kept) (asked_of request.now)) }
+    ensures { IfOk result (λ file.
+        kept_file (kept_of library.now.kept) (asked_of request.now) ≡ Some (name_of file)) }
+{
+    let target = library.target(request).unwrap();
+    Ok(target.clone()?)
+}
+
+// The texts of a kept module's requests, once it is seen to have no fault of its own.
+fn kept_requests<L: Load + Drop, R: Resolve + Drop>(
+    library: &Library<L, R>,
+    alloc: Global,
+    file: &FileName,
+    config: &Config,
+) -> Result<Vec<String>, Error>
+    requires { IsKept (kept_of library.now.kept) (name_of file.now) }
+    ensures faulty { IfErr result (λ refusal.
+        (loaded : Loaded) →
+        kept_module (kept_of library.now.kept) (name_of file.now) ≡ Some loaded →
+        IfSome (fault_of refusal) (IsFirstTreeFault (name_of file.now) loaded.items)) }
+    ensures faultless { IfOk result (λ texts.
+        (loaded : Loaded) →
+        kept_module (kept_of library.now.kept) (name_of file.now) ≡ Some loaded →
+        IsFaultless (name_of file.now) loaded.items
+        × (map string_bytes texts.items ≡ requests_in (settings_of config.now) loaded.items)) }
+{
+    let loaded = library.module(file).unwrap();
+    requests_of(alloc, file, &loaded.module, config)
+}

@@ -1,0 +1,254 @@
+-- What was read of the modules that an entry reaches is that of a program by places, which is alike.
+use Rattle.std.proofs.Common.{◌≡◌, ◌↔◌, ◌⊎◌, inl, inr, ℕ, zero, suc, ◌+◌, ◌-◌, ◌<◌, Bool, true, List, [], ◌∷◌, Option, Some, None, Contains, length, map, refl, sym, ap, ◌∙◌, subst, arith}
+use Rattle.std.specs.Prelude.{IfSome, option_map, slice_get, unwrap_or}
+use Rattle.std.specs.Borrow.{Bor}
+use Rattle.std.specs.Option.{option_and_then}
+use Rattle.std.proofs.lemmas.Bool.{cases_lt}
+use Rattle.std.proofs.lemmas.List.{length-map}
+use Rattle.std.proofs.lemmas.Option.{none-some, same_Some, slice_get-map, slice_get_within, slice_get_past}
+use Rattle.bundle_tree_piece.specs.Item.{Item, item_of}
+use Rattle.bundle_tree_piece.specs.declared.piece.Piece.{Piece}
+use Rattle.bundle_tree_names.specs.FileName.{Name, name_of}
+use Rattle.bundle_tree_names.specs.declared.file_name.FileName.{FileName}
+use Rattle.bundle_rules.specs.Doubled.{first_doubled}
+use Rattle.bundle_rules.specs.Nodes.{Text}
+use Rattle.bundle_rules.specs.Judging.{requests_in}
+use Rattle.bundle_rules.specs.Entries.{ExportEntry, exports_of, is_named}
+use Rattle.bundle_rules.specs.Program.{Loaded, Program, file_of, tree_of, IsReached}
+use Rattle.bundle_rules.specs.Faults.{IsFirstProgramFault, IsFaultlessProgram, fault_of}
+use Rattle.bundle_rules.proofs.DenotesLemmas.{first_doubled-cleared}
+use Rattle.bundle_link_index.specs.Leads.{leads_from as by_lead, required_of}
+use Rattle.bundle_order_graph.specs.Walks.{along, itself}
+use Rattle.bundle_order_graph.proofs.WalkLemmas.{Reaches-trans}
+use Rattle.bundle_link_index.specs.Programs as i
+use Rattle.bundle_link_index.specs.Said.{HasEachOnce}
+use Rattle.bundle_link_index.specs.declared.target.LinkModule.{LinkModule}
+use Rattle.bundle_link_index.specs.declared.target.Setting.{Setting}
+use Rattle.bundle_link_targets.specs.Meant.{IsModuleTree}
+use Rattle.bundle_link_reached.proofs.PlaceLemmas.{no-tree}
+use Rattle.bundle_link_reached.specs.Default.{DeclaresDefaultAlone}
+use Rattle.bundle_link_reached.specs.Alike.{IsAlike, IsAt}
+use Rattle.bundle_link_reached.specs.First.{IsFirstOf, HasNoFault}
+use Rattle.bundle_link_reached.specs.Leads.{place_in}
+use Rattle.bundle_link_reached.proofs.AlikeLemmas.{flip, reached_on}
+use Rattle.bundle_link_reached.proofs.FirstLemmas.{first_of_program, faultless_of_program}
+use Rattle.bundle_link_reached.proofs.NumberLemmas.{got, held}
+use Rattle.bundle_link_reached.proofs.PlacedLemmas.{IsPlaced, is_alike, placed, same_tree}
+use Rattle.bundle_link_reached.proofs.ProgramLemmas.{mapped, table_at}
+use Rattle.bundle_link_reached.proofs.RequestLemmas.{requests_to}
+use Rattle.bundle_link_reached.proofs.NumbersLemmas.{there_is}
+use Rattle.bundle_link_reached.proofs.ToldLemmas.{all_below, only_below}
+use Rattle.bundle_link_reached.specs.Files.{numbers_of}
+use Rattle.bundle_link_reached.specs.Judged.{AreListsOf, AreReadOf, IsReadable, numbers_below, module_of, says}
+use Rattle.bundle_link_reached.specs.declared.judging.Told.{Told}
+use Rattle.bundle_link_reached.specs.declared.reached.Reached.{Reached}
+use Rattle.bundler_entry.specs.Source.{IsSourceOf}
+use Rattle.bundler_entry.specs.Linked.{AreLists, AreParts, HasPlace, HasPlaces, IsCallOf, IsFileAt, IsReachedIn, TellsFileAt, ids_of}
+use Rattle.bundler_entry.specs.Unlinked.{error_of}
+use Rattle.bundler_entry.specs.declared.call.Call.{Call}
+use Rattle.bundler_entry.specs.declared.source.Source.{Source}
+use Rattle.bundler_entry.specs.declared.unlinked.Unlinked.{Unlinked}
+
+module _ (p : Program) (entry : ℕ) (call : Call) (w : IsCallOf p entry call) (reached : Reached) (r : IsReachedIn p call reached) where
+  abbrev ids : List ℕ
+  ids = ids_of call
+
+  abbrev list : List ℕ
+  list = reached.list.items
+
+  abbrev places : List ℕ
+  places = reached.places.items
+
+  abbrev sources : List Source
+  sources = call.program.now.sources.items
+
+  -- ---- places among the files
+  pub long_places : length places ≡ length list
+  long_places = sym (length-map places (slice_get ids)) ∙ ap length r.places ∙ length-map list (λ m. Some m)
+
+  same_place : (k : ℕ) → option_map (slice_get ids) (slice_get places k) ≡ option_map (λ m. Some m) (slice_get list k)
+  same_place k = sym (slice_get-map (slice_get ids) places k) ∙ ap (λ l. slice_get l k) r.places ∙ slice_get-map (λ m. Some m) list k
+
+  -- the place among the files of a module of the list
+  pub place_of : (k m : ℕ) → slice_get list k ≡ Some m → (place : ℕ) × (slice_get places k ≡ Some place) × (slice_get ids place ≡ Some m)
+  place_of k m at =
+      let it = there_is places k (let within = slice_get_within list k m at in omega (arith, within, long_places)) in
+      (it.0, it.1, same_Some (slice_get ids it.0) (Some m) (sym (ap (option_map (slice_get ids)) it.1) ∙ same_place k ∙ ap (option_map (λ n. Some n)) at))
+
+  -- what was read of it
+  pub source_of : (place m : ℕ) → slice_get ids place ≡ Some m → (source : Source) × (slice_get sources place ≡ Some source) × IsSourceOf p m source
+  source_of place m at =
+      let within = slice_get_within ids place m at in
+      let it = there_is sources place (omega (arith, within, w.program.sources.long)) in
+      (it.0, it.1, w.program.sources.each place m it.0 at it.1)
+
+  pub has_places : (n : ℕ) → n ≡ length places → HasPlaces sources reached n
+  has_places n is k within =
+      let m = there_is list k (omega (arith, within, is, long_places)) in
+      let place = place_of k m.0 m.1 in
+      let source = source_of place.0 m.0 place.2 in
+      record { place = place.0; source = source.0; its_place = place.1; its_source = source.1; within = omega (arith, within, is, long_places, r.long) }
+
+  -- the file of a module of the list
+  pub file_at : (k m : ℕ) → slice_get list k ≡ Some m → (file : FileName × ℕ) × IsFileAt call reached k file × (file_of p m ≡ Some (name_of file.0))
+  file_at k m at =
+      let place = place_of k m at in
+      let number : slice_get (numbers_of call.program.now.files.files.now) place.0 ≡ Some m = ap (λ (l : List ℕ). slice_get l place.0) (sym w.program.files.ids) ∙ place.2 in
+      let file = mapped (λ (e : FileName × ℕ). e.1) call.program.now.files.files.now.entries place.0 m number in
+      (file.0, (place.0, place.1, file.1), ap (file_of p) (sym file.2) ∙ w.program.files.files.named place.0 file.0 file.1)
+
+  -- ---- the program by places
+  module _ (n : ℕ) (is : n ≡ length places) (parts : List LinkModule) (are : AreParts sources reached n parts) where
+    abbrev end : ℕ
+    end = length parts - 1
+
+    abbrev pub by_place : Program
+    by_place = placed p list (required_of parts) end
+
+    abbrev q : Program
+    q = placed p list (required_of parts) end
+
+    long_parts : length parts ≡ length list
+    long_parts = are.long ∙ is ∙ long_places
+
+    part_of : (k m : ℕ) → slice_get list k ≡ Some m → (part : LinkModule) × (slice_get parts k ≡ Some part) × (slice_get reached.leads.items k ≡ Some part.leads.now)
+    part_of k m at =
+        let it = there_is parts k (let within = slice_get_within list k m at in omega (arith, within, long_parts)) in
+        (it.0, it.1, (are.each k it.0 it.1).leads)
+
+    leads_from : (k m : ℕ) (s : Text) → slice_get list k ≡ Some m → Contains (requests_in p.settings (tree_of p m)) s → required_of parts k s ≡ option_and_then (place_in list) (p.leads m s)
+    leads_from k m s at asked =
+        let part = part_of k m at in
+        ap (λ o. by_lead o s) part.1 ∙ r.leads k m part.0.leads.now s at part.2 asked
+
+    -- what a listed module requests is listed
+    asked_listed : (m d : ℕ) (s : Text) → Contains list m → Contains (requests_in p.settings (tree_of p m)) s → p.leads m s ≡ Some d → Contains list d
+    asked_listed m d s there asked leads = (r.reached d).1 (Reaches-trans ((r.reached m).0 there) (along (requests_to p m d s asked leads) itself))
+
+    at_end : slice_get list end ≡ Some p.entry
+    at_end =
+        let it = got list p.entry ((r.reached p.entry).1 itself) in
+        let last = r.last it.0 it.1 in
+        ap (slice_get list) (omega (arith, last, long_parts)) ∙ it.1
+
+    is_placed : IsPlaced p list (required_of parts) end
+    is_placed = record { once = r.once; begins = at_end; there = asked_listed; leads_on = leads_from }
+
+    pub alike : IsAlike p q (IsAt list)
+    alike = is_alike p list (required_of parts) end is_placed
+
+    -- a place of the list has the tree of its module, and no other place has one
+    tree_at : (k m : ℕ) → slice_get list k ≡ Some m → tree_of p m ≡ tree_of q k
+    tree_at k m at = same_tree p list (required_of parts) end is_placed m k at
+
+    no_tree_at : (k : ℕ) → slice_get list k ≡ None → tree_of q k ≡ []
+    no_tree_at k none = ap (λ o. unwrap_or (option_map (λ (loaded : Loaded). loaded.items) (option_and_then p.modules o)) []) none
+
+    -- what is so of the tree of each listed module, and of none, is so of each tree
+    of_each : (P : List Item → Type 0) → P [] → ((m place : ℕ) (source : Source) → slice_get ids place ≡ Some m → slice_get sources place ≡ Some source → IsSourceOf p m source → P (tree_of p m)) → (k : ℕ) → P (tree_of q k)
+    of_each P none each k = by (slice_get list k) refl
+      where
+        by : (o : Option ℕ) → slice_get list k ≡ o → P (tree_of q k)
+        by None at = subst P (sym (no_tree_at k at)) none
+        by (Some m) at =
+            let place = place_of k m at in
+            let source = source_of place.0 m place.2 in
+            subst P (tree_at k m at) (each m place.0 source.0 place.2 source.1 source.2)
+
+    part_table : (k : ℕ) (part : LinkModule) → slice_get parts k ≡ Some part → i.IsTableOf q k part.tables.now
+    part_table k part at =
+        let m = there_is list k (let within = slice_get_within parts k part at in omega (arith, within, long_parts)) in
+        let place = place_of k m.0 m.1 in
+        let source = source_of place.0 m.0 place.2 in
+        let its = are.each k part at in
+        let same_place_is : its.place ≡ place.0 = same_Some its.place place.0 (sym its.its_place ∙ place.1) in
+        let same_source : its.source ≡ source.0 = same_Some its.source source.0 (sym its.its_source ∙ ap (slice_get sources) same_place_is ∙ source.1) in
+        subst (i.IsTableOf q k) (ap (λ (s : Source). s.tables) (sym same_source) ∙ sym its.tables) (table_at p q m.0 k source.0.tables refl (tree_at k m.0 m.1) source.2.table)
+
+    within_list : (k d : ℕ) (s : Text) → required_of parts k s ≡ Some d → d < length parts
+    within_list k d s is = by (slice_get parts k) refl
+      where
+        by : (o : Option LinkModule) → slice_get parts k ≡ o → d < length parts
+        by None at = absurd (none-some d (sym (ap (λ o. by_lead o s) at) ∙ is))
+        by (Some part) at = let less = r.within k d part.leads.now s (are.each k part at).leads (sym (ap (λ o. by_lead o s) at) ∙ is) in omega (arith, less, long_parts)
+
+    below_reached : (k : ℕ) → Contains (numbers_below (length parts)) k ↔ IsReached q k
+    below_reached k = (forth, back)
+      where
+        forth : Contains (numbers_below (length parts)) k → IsReached q k
+        forth there =
+            let j = got (numbers_below (length parts)) k there in
+            let low = only_below (length parts) j.0 k j.1 in
+            let m = there_is list k (omega (arith, low.0, low.1, long_parts)) in
+            let l = reached_on p q (IsAt list) alike m.0 ((r.reached m.0).0 (held list m.0 k m.1)) in
+            subst (IsReached q) (r.once l.0 k m.0 l.1 m.1) l.2
+
+        back : IsReached q k → Contains (numbers_below (length parts)) k
+        back is =
+            let l = reached_on q p (λ a b. IsAt list b a) (flip alike) k is in
+            let within = slice_get_within list k l.0 l.1 in
+            held (numbers_below (length parts)) k k (all_below (length parts) k (omega (arith, within, long_parts)))
+
+    has_each_once : HasEachOnce q
+    has_each_once k = of_each
+        (λ tree. (x : Text) (a b : ExportEntry) → Contains (exports_of tree) a → Contains (exports_of tree) b → is_named x a ≡ true → is_named x b ≡ true → a ≡ b)
+        (λ x a b in_a in_b named_a named_b. absurd (omega (arith, in_a.1)))
+        (λ m place source at there its. its.once) k
+
+    readable : IsReadable q (length parts)
+    readable = record {
+      trees = of_each IsModuleTree no-tree (λ m place source at there its. its.tree);
+      default = of_each DeclaresDefaultAlone (λ none statement e own there. absurd (omega (arith, own.1))) (λ m place source at there its. its.default);
+      others = λ m past. no_tree_at m (past_list m (slice_get list m) refl past);
+    }
+      where
+        past_list : (m : ℕ) (o : Option ℕ) → slice_get list m ≡ o → (m < length parts → ⊥) → slice_get list m ≡ None
+        past_list m None at past = at
+        past_list m (Some x) at past = let within = slice_get_within list m x at in absurd (past (omega (arith, within, long_parts)))
+
+    -- what was read of the modules is that of the program by places
+    pub is_read : (setting : Setting) (lists : List (Bor (List Piece))) → AreLists sources reached n lists → setting.require ≡ p.settings.require → p.settings.iife ≡ setting.iife → AreReadOf q parts lists setting
+    is_read setting lists are_lists require iife = record {
+      program = record {
+        tables = part_table;
+        others = λ m none. no_tree_at m (past m none);
+        leads = λ m s. refl;
+        within = λ m d s is. within_list m d s is;
+        begins = refl;
+        requires = sym require;
+        reached = below_reached;
+        once = has_each_once;
+      };
+      iife = iife;
+      readable = readable;
+      long = are_lists.long ∙ sym are.long;
+      same = λ k l at kind.
+          let its = are_lists.each k l at in
+          let m = there_is list k (let within = slice_get_within lists k l at in omega (arith, within, are_lists.long, is, long_places)) in
+          let place = place_of k m.0 m.1 in
+          let source = source_of place.0 m.0 place.2 in
+          let same_place_is : its.place ≡ place.0 = same_Some its.place place.0 (sym its.its_place ∙ place.1) in
+          let same_source : its.source ≡ source.0 = same_Some its.source source.0 (sym its.its_source ∙ ap (slice_get sources) same_place_is ∙ source.1) in
+          ap (λ (l : List Piece). first_doubled kind (map item_of l)) (its.same ∙ ap (λ (s : Source). s.pieces.items) same_source)
+          ∙ sym (first_doubled-cleared kind (map item_of source.0.pieces.items))
+          ∙ ap (first_doubled kind) (sym source.2.list ∙ tree_at k m.0 m.1);
+    }
+      where
+        past : (m : ℕ) → slice_get parts m ≡ None → slice_get list m ≡ None
+        past m none = by (slice_get list m) refl
+          where
+            by : (o : Option ℕ) → slice_get list m ≡ o → slice_get list m ≡ None
+            by None at = at
+            by (Some x) at = let it = there_is parts m (let within = slice_get_within list m x at in omega (arith, within, long_parts)) in absurd (none-some it.0 (sym none ∙ it.1))
+
+    -- where none of the modules by places has a fault, the program has none
+    pub none_of_program : HasNoFault q (length parts) → IsFaultlessProgram p
+    none_of_program none = faultless_of_program p q list alike r.is_list r.reached (subst (HasNoFault q) long_parts none)
+
+    -- a refusal that tells of the first fault by places tells of the first of the program
+    pub first_told : (told : Told) (refusal : Unlinked) → IsFirstOf q (length parts) (module_of told) (says told) → TellsFileAt call reached told refusal → IfSome (fault_of (error_of refusal)) (IsFirstProgramFault p)
+    first_told told refusal first tells =
+        let m = there_is list (module_of told) (let within = first.within in omega (arith, within, long_parts)) in
+        let file = file_at (module_of told) m.0 m.1 in
+        subst (λ o. IfSome o (IsFirstProgramFault p)) (sym (tells file.0 file.1))
+        (first_of_program p q list alike r.is_list r.reached (module_of told) m.0 (name_of file.0.0) (says told) (subst (λ (k : ℕ). IsFirstOf q k (module_of told) (says told)) long_parts first) m.1 file.2)

@@ -1,0 +1,18 @@
+-- What is linked is the entry's, and a refusal is of its program.
+use Rattle.std.proofs.lemmas.Result.{err_from_is_err_and}
+use Rattle.bundler_entry.proofs.linked.linked_entry.Goals as goal
+
+pub returns-in_err-linking-clause-refused : goal.returns-in_err-linking-clause-refused
+returns-in_err-linking-clause-refused c =
+    let q = err_from_is_err_and c.from_residual-in_err-linking.result c.from_residual-in_err-linking.ensures.1 in
+    rw (q.1, q.2) (λ p w. c.in_err-linking.ensures.refused p c.args.entry w (c.in_ok-reached.ensures p w.program.files w.begins w.there))
+
+pub returns-in_err-blocks-clause-refused : goal.returns-in_err-blocks-clause-refused
+returns-in_err-blocks-clause-refused c =
+    let q = err_from_is_err_and c.from_residual-in_err-blocks.result c.from_residual-in_err-blocks.ensures.1 in
+    rw (q.1, q.2) (λ p w. tt)
+
+pub returns-clause-linked : goal.returns-clause-linked
+returns-clause-linked c = λ p w.
+    let reached = c.in_ok-reached.ensures p w.program.files w.begins w.there in
+    record { reached = reached; faultless = c.in_ok-linking.ensures.linked p c.args.entry w reached }

@@ -1,0 +1,51 @@
+-- What is told by places is told of the program.
+use Rattle.std.proofs.Common.{◌≡◌, ℕ, List, Result, length, refl, ap, sym, ◌∙◌, subst}
+use Rattle.std.specs.Borrow.{Bor}
+use Rattle.bundle_tree_piece.specs.declared.piece.Piece.{Piece}
+use Rattle.bundle_link_index.specs.declared.target.LinkModule.{LinkModule}
+use Rattle.bundle_link_targets.specs.declared.linking.Linking.{Linking}
+use Rattle.bundle_link_reached.specs.Judged.{AreReadOf, IsJudgedAs}
+use Rattle.bundle_link_reached.specs.declared.judging.Told.{Told}
+use Rattle.bundler_entry.specs.Linked.{AreLists, AreParts, HasPlaces}
+use Rattle.bundler_entry.specs.declared.source.Source.{Source}
+use Rattle.bundler_entry.proofs.LinkedLemmas.{first_told, has_places, is_read, none_of_program, by_place}
+use Rattle.bundler_entry.proofs.linked.linking_of.Goals as goal
+
+pub returns-in-Ok-clause-linked : goal.returns-in-Ok-clause-linked
+returns-in-Ok-clause-linked c = λ p entry w r.
+    let call = c.args.call.now in
+    let reached = c.args.reached.now in
+    let n = length reached.places.items in
+    let parts = c.in_ok-modules.modules.items in
+    let src = c.as_slice-sources.ensures.value in
+    let places = subst (λ (s : List Source). HasPlaces s reached n) (sym src) (has_places p entry call w reached r n refl) in
+    let are = subst (λ (s : List Source). AreParts s reached n parts) src (c.in_ok-modules.ensures places) in
+    let lists = c.in_ok-lists.lists.items in
+    let are_lists = subst (λ (s : List Source). AreLists s reached n lists) src (c.in_ok-lists.ensures places) in
+    let q = by_place p entry call w reached r n refl parts are in
+    let setting = c.setting_of.result in
+    let read = is_read p entry call w reached r n refl parts are setting lists are_lists (c.setting_of.ensures.require ∙ sym w.links.0) (w.iife ∙ sym c.setting_of.ensures.iife) in
+    let handed = subst (λ (ms : List LinkModule). AreReadOf q ms lists setting) (sym c.deref.ensures.value) read in
+    let found = c.in_ok-found.ensures q (subst (λ (ls : List (Bor (List Piece))). AreReadOf q c.deref.result.now ls setting) (sym c.deref-2.ensures.value) handed) in
+    let told = subst (λ (ms : List LinkModule). IsJudgedAs q (length ms) c.in_ok-found.found) c.deref.ensures.value found in
+    none_of_program p entry call w reached r n refl parts are (subst (λ (f : Result Linking Told). IsJudgedAs q (length parts) f) c.in-Ok.is told).0
+
+pub returns-clause-refused : goal.returns-clause-refused
+returns-clause-refused c = λ p entry w r.
+    let call = c.args.call.now in
+    let reached = c.args.reached.now in
+    let n = length reached.places.items in
+    let parts = c.in_ok-modules.modules.items in
+    let src = c.as_slice-sources.ensures.value in
+    let places = subst (λ (s : List Source). HasPlaces s reached n) (sym src) (has_places p entry call w reached r n refl) in
+    let are = subst (λ (s : List Source). AreParts s reached n parts) src (c.in_ok-modules.ensures places) in
+    let lists = c.in_ok-lists.lists.items in
+    let are_lists = subst (λ (s : List Source). AreLists s reached n lists) src (c.in_ok-lists.ensures places) in
+    let q = by_place p entry call w reached r n refl parts are in
+    let setting = c.setting_of.result in
+    let read = is_read p entry call w reached r n refl parts are setting lists are_lists (c.setting_of.ensures.require ∙ sym w.links.0) (w.iife ∙ sym c.setting_of.ensures.iife) in
+    let handed = subst (λ (ms : List LinkModule). AreReadOf q ms lists setting) (sym c.deref.ensures.value) read in
+    let found = c.in_ok-found.ensures q (subst (λ (ls : List (Bor (List Piece))). AreReadOf q c.deref.result.now ls setting) (sym c.deref-2.ensures.value) handed) in
+    let told = subst (λ (ms : List LinkModule). IsJudgedAs q (length ms) c.in_ok-found.found) c.deref.ensures.value found in
+    first_told p entry call w reached r n refl parts are c.in-Err.told c.in_ok-refusal_of-in-Err.field-0
+    (subst (λ (f : Result Linking Told). IsJudgedAs q (length parts) f) c.in-Err.is told) c.in_ok-refusal_of-in-Err.ensures

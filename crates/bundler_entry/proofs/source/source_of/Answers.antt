@@ -1,0 +1,24 @@
+-- The list is that of the module.
+use Rattle.std.proofs.Common.{ap, refl, sym, ◌∙◌, subst, map}
+use Rattle.bundle_scope_denote.specs.Listed.{IsTable}
+use Rattle.bundle_tree_piece.specs.Item.{item_of}
+use Rattle.bundle_rules.specs.Declarations.{BySymbol}
+use Rattle.bundle_rules.specs.Scopes.{Es}
+use Rattle.bundle_rules.specs.Entries.{has_import_meta}
+use Rattle.bundle_rules.specs.Faults.{IsFaultless}
+use Rattle.bundle_link.specs.Read.{AreTablesOf}
+use Rattle.bundler_entry.proofs.SourceLemmas.{read_as}
+use Rattle.bundler_entry.proofs.source.source_of.Goals as goal
+
+pub tables_in-requires : goal.tables_in-requires
+tables_in-requires c = record {
+  table = subst (λ xs. IsTable BySymbol Es (map item_of xs) c.in_ok-names.names) (c.as_slice.ensures.value ∙ sym c.as_slice-2.ensures.value) c.in_ok-names.ensures;
+  faultless = (c.requires.0, subst (IsFaultless c.requires.0) (sym (ap (map item_of) c.as_slice-2.ensures.value ∙ c.in_ok-pieces.ensures)) c.requires.1);
+}
+
+pub returns : goal.returns
+returns c = λ p m links there.
+    let list = ap (map item_of) c.as_slice-2.ensures.value ∙ c.in_ok-pieces.ensures in
+    read_as p m c.args.config.now c.requires.0 c.args.loaded.now _ links there refl c.in_ok-pieces.ensures
+    (subst (λ tree. AreTablesOf c.args.config.now c.requires.0 tree c.in_ok-tables.tables) list (c.in_ok-tables.ensures.given c.requires.0))
+    (c.in_ok-tables.ensures.meta ∙ ap has_import_meta list)

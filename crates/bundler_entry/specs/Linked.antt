@@ -1,0 +1,91 @@
+-- When the modules that an entry reaches are those of a program, and linked.
+use Rattle.std.specs.Prelude.{◌≡◌, ℕ, suc, ◌<◌, List, Some, Contains, IfSome, length, map, slice_get}
+use Rattle.std.specs.Borrow.{Bor}
+use Rattle.std.specs.declared.alloc.Global.{Global}
+use Rattle.std.specs.declared.string.String.{String}
+use Rattle.bundle_tree_names.specs.FileName.{Name, name_of}
+use Rattle.bundle_tree_names.specs.declared.file_name.FileName.{FileName}
+use Rattle.bundle_tree_piece.specs.declared.piece.Piece.{Piece}
+use Rattle.bundle_rules.specs.Program.{Program}
+use Rattle.bundle_rules.specs.Faults.{IsFaultlessProgram, fault_of}
+use Rattle.bundle_link_index.specs.declared.target.LinkModule.{LinkModule}
+use Rattle.bundle_link.specs.Programs.{is_call}
+use Rattle.bundle_link.specs.Refusals.{Links}
+use Rattle.bundle_link_reached.specs.Judged.{module_of, says}
+use Rattle.bundle_link_reached.specs.Reached.{IsReachedOf}
+use Rattle.bundle_link_reached.specs.declared.judging.Told.{Told}
+use Rattle.bundle_link_reached.specs.declared.reached.Reached.{Reached}
+use Rattle.bundler_entry.specs.Source.{IsProgramOf}
+use Rattle.bundler_entry.specs.Unlinked.{error_of}
+use Rattle.bundler_entry.specs.declared.call.Call.{Call}
+use Rattle.bundler_entry.specs.declared.linked.Linked.{Linked}
+use Rattle.bundler_entry.specs.declared.source.Source.{Source}
+use Rattle.bundler_entry.specs.declared.unlinked.Unlinked.{Unlinked}
+
+-- the numbers of the files of a call
+abbrev pub ids_of : Call → List ℕ
+ids_of call = call.program.now.files.ids.keys
+
+-- the files and the settings of a call are those of a program, whose entry is this
+pub record IsCallOf (p : Program) (entry : ℕ) (call : Call) : Type 0 where
+  pub program : IsProgramOf p call.program.now
+  pub links : Links call.config.now p.settings
+  pub iife : p.settings.iife ≡ is_call call.config.now.«module»
+  pub begins : p.entry ≡ entry
+  pub there : Contains (ids_of call) entry
+
+-- the modules are those that the entry reaches
+abbrev pub IsReachedIn : Program → Call → Reached → Type 0
+IsReachedIn p call reached = IsReachedOf p (ids_of call) reached
+
+-- they are, and have no fault
+pub record IsLinkedEntry (p : Program) (call : Call) (linked : Linked) : Type 0 where
+  pub reached : IsReachedIn p call linked.reached
+  pub faultless : IsFaultlessProgram p
+
+-- of module k there is what was read
+pub record HasPlace (sources : List Source) (reached : Reached) (k : ℕ) : Type 0 where
+  pub place : ℕ
+  pub source : Source
+  pub its_place : slice_get reached.places.items k ≡ Some place
+  pub its_source : slice_get sources place ≡ Some source
+  pub within : k < length reached.leads.items
+
+-- the same of the first n modules
+abbrev pub HasPlaces : List Source → Reached → ℕ → Type 0
+HasPlaces sources reached n = (k : ℕ) → k < n → HasPlace sources reached k
+
+-- it is module k as it is linked
+pub record IsPartAt (sources : List Source) (reached : Reached) (k : ℕ) (part : LinkModule) : Type 0 where
+  pub place : ℕ
+  pub source : Source
+  pub its_place : slice_get reached.places.items k ≡ Some place
+  pub its_source : slice_get sources place ≡ Some source
+  pub tables : part.tables.now ≡ source.tables
+  pub leads : slice_get reached.leads.items k ≡ Some part.leads.now
+
+-- these are the first n modules as they are linked
+pub record AreParts (sources : List Source) (reached : Reached) (n : ℕ) (parts : List LinkModule) : Type 0 where
+  pub long : length parts ≡ n
+  pub each : (k : ℕ) (part : LinkModule) → slice_get parts k ≡ Some part → IsPartAt sources reached k part
+
+-- it is the list of module k
+pub record IsListAt (sources : List Source) (reached : Reached) (k : ℕ) (list : Bor (List Piece)) : Type 0 where
+  pub place : ℕ
+  pub source : Source
+  pub its_place : slice_get reached.places.items k ≡ Some place
+  pub its_source : slice_get sources place ≡ Some source
+  pub same : list.now ≡ source.pieces.items
+
+-- these are the lists of the first n modules
+pub record AreLists (sources : List Source) (reached : Reached) (n : ℕ) (lists : List (Bor (List Piece))) : Type 0 where
+  pub long : length lists ≡ n
+  pub each : (k : ℕ) (list : Bor (List Piece)) → slice_get lists k ≡ Some list → IsListAt sources reached k list
+
+-- the file of a call at a place
+abbrev pub IsFileAt : Call → Reached → ℕ → FileName × ℕ → Type 0
+IsFileAt call reached k file = (place : ℕ) × (slice_get reached.places.items k ≡ Some place) × (slice_get call.program.now.files.files.now.entries place ≡ Some file)
+
+-- the refusal tells what is told of the file of its module
+abbrev pub TellsFileAt : Call → Reached → Told → Unlinked → Type 0
+TellsFileAt call reached told refusal = (file : FileName × ℕ) → IsFileAt call reached (module_of told) file → fault_of (error_of refusal) ≡ Some (says told (name_of file.0))

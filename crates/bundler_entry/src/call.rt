@@ -1,0 +1,57 @@
+//! What the bundle of an entry is made of.
+
+ghost use Rattle.std.specs.Prelude.{◌≡◌, option_copied, option_map, slice_get};
+ghost use Rattle.std.specs.Map.Iter.{deref_pair};
+ghost use Rattle.std.specs.Option.{option_and_then};
+
+use crate::source::{Program, Source};
+use bundle_link_reached::Reached;
+use bundle_tree_names::ModuleId;
+use bundle_tree_names::config::Config;
+use bundle_tree_names::file_name::FileName;
+
+/// What the bundle of an entry is made of: the files that were read, the settings, and the entry's file.
+#[derive(Clone, Copy)]
+pub struct Call<'p, 'x> {
+    pub program: &'p Program<'x>,
+    pub config: &'p Config,
+    pub entry: &'p FileName,
+}
+
+/// The source of a module, by its number.
+pub fn source_at<'t, 'p: 't, 'x>(
+    call: &Call<'p, 'x>,
+    reached: &Reached,
+    module: usize,
+) -> Option<&'t Source<'x>>
+    ensures { option_copied result
+        ≡ option_and_then (slice_get call.now.program.now.sources.items)
+        (slice_get reached.now.places.items «module») }
+{
+    call.program.sources.get(*reached.places.get(module)?)
+}
+
+/// The file of a module, by its number, and that file's number.
+pub fn file_at<'p, 'x>(
+    call: &Call<'p, 'x>,
+    reached: &Reached,
+    module: usize,
+) -> Option<(&'x FileName, &'x ModuleId)>
+    ensures { option_map deref_pair result
+        ≡ option_and_then (slice_get call.now.program.now.files.files.now.entries)
+        (slice_get reached.now.places.items «module») }
+{
+    let program = call.program;
+    let files = program.files.files;
+    files.get_index(*reached.places.get(module)?)
+}
+
+/// The file of a module, if there is one.
+pub fn file_of<'p, 'x>(
+    call: &Call<'p, 'x>,
+    reached: &Reached,
+    module: Option<usize>,
+) -> Option<&'x FileName> {
+    let (file, _) = file_at(call, reached, module?)?;
+    Some(file)
+}

@@ -1,0 +1,156 @@
+//! The module of an entry that has no fault, and what the hook answers for its modules.
+
+ghost use Rattle.std.specs.Prelude.{◌≡◌, ℕ, false, IfErr, IfNone, IfOk, IfSome, IsTrue, Some, length, slice_get};
+ghost use Rattle.bundle_tree_names.specs.FileName.{name_of};
+ghost use Rattle.bundle_rules.specs.Entries.{has_import_meta};
+ghost use Rattle.bundle_rules.specs.Faults.{fault_of};
+ghost use Rattle.bundle_rules.specs.Program as program;
+ghost use Rattle.bundle_rules.specs.Program.{tree_of};
+ghost use Rattle.bundler_entry.specs.Asked.{AreAnsweredBefore, IsAnsweredFor, IsAskedModule, IsRefusedAt, IsRefusedFor};
+ghost use Rattle.bundler_entry.specs.Linked.{IsCallOf, IsLinkedEntry, IsReachedIn};
+ghost use Rattle.bundler_entry.specs.Unlinked.{MayBeMerging, error_of};
+
+use crate::call::{Call, file_at, source_at};
+use crate::linked::Linked;
+use crate::made::made;
+use crate::meta::{ReadMeta, ask, read_meta};
+use crate::unlinked::Unlinked;
+use bundle_link::link::setting_of;
+use bundle_link_reached::Reached;
+use bundle_tree::hook::Hook;
+use bundle_tree_ast::{KeyValueProp, Module};
+use bundle_tree_names::file_name::FileName;
+use std::alloc::{AllocError, Global};
+
+/// What the hook answered for a module, by its number.
+#[derive(Drop)]
+pub struct Answer {
+    module: usize,
+    properties: Vec<KeyValueProp>,
+}
+
+/// The module of an entry that has no fault, of whose modules none asked the hook.
+pub fn module_of<'p, 'x>(
+    alloc: Global,
+    call: &Call<'p, 'x>,
+    linked: &Linked<'x>,
+) -> Result<Module, Unlinked>
+    ensures { IfErr result MayBeMerging }
+{
+    let none = Vec::new(alloc);
+    made(alloc, call, linked, none.as_slice())
+}
+
+/// The module of an entry that has no fault, with what the hook answered, which is lent as long as what was read.
+pub fn module_with_answers<'p, 'x>(
+    alloc: Global,
+    call: &Call<'p, 'x>,
+    linked: &Linked<'x>,
+    answers: &'x [Answer],
+) -> Result<Module, Unlinked>
+    ensures { IfErr result MayBeMerging }
+{
+    let metas = read_answers(alloc, linked.reached.places.len(), answers)?;
+    made(alloc, call, linked, metas.as_slice())
+}
+
+// The answers as they were read, by the numbers of their modules, of which there are so many.
+fn read_answers<'y>(
+    alloc: Global,
+    count: usize,
+    answers: &'y [Answer],
+) -> Result<Vec<Option<ReadMeta<'y>>>, AllocError> {
+    let mut metas = Vec::new(alloc);
+    for _ in 0..count {
+        metas.push(None)?;
+    }
+    for answer in answers {
+        let read = read_meta(alloc, answer.properties.as_slice())?;
+        if let Some(meta) = metas.get_mut(answer.module) {
+            *meta = Some(read);
+        }
+    }
+    Ok(metas)
+}
+
+/// What the hook answers for each module that has `import.meta`, in the order of the list. Refused
+/// where the hook fails or its answer has a fault, by the first of these, or where memory runs out.
+pub fn ask_all<'p, 'x>(
+    alloc: Global,
+    call: &Call<'p, 'x>,
+    hook: &dyn Hook,
+    linked: &Linked<'x>,
+) -> Result<Vec<Answer>, Unlinked>
+    ensures answered { IfOk result (λ answers. (p : program.Program) (entry : ℕ) →
+        IsCallOf p entry call.now → IsLinkedEntry p call.now linked.now →
+        AreAnsweredBefore (may_give hook.now) p linked.now.reached.list.items
+        (length linked.now.reached.list.items)) }
+    ensures refused { IfErr result (λ unlinked.
+        (p : program.Program) (entry : ℕ) →
+        IsCallOf p entry call.now →
+        IsLinkedEntry p call.now linked.now →
+        IfSome (fault_of (error_of unlinked))
+        (IsRefusedAt (may_give hook.now) (may_fail_hook hook.now) p
+        linked.now.reached.list.items)) }
+{
+    let reached = &linked.reached;
+    let mut answers = Vec::new(alloc);
+    for module in 0..reached.places.len() {
+        if let Some(properties) = ask_at(alloc, call, hook, reached, module)? {
+            answers.push(Answer { module, properties })?;
+        }
+    }
+    Ok(answers)
+}
+
+// What the hook answers for a module, if that has `import.meta`.
+fn ask_at<'p, 'x>(
+    alloc: Global,
+    call: &Call<'p, 'x>,
+    hook: &dyn Hook,
+    reached: &Reached,
+    module: usize,
+) -> Result<Option<Vec<KeyValueProp>>, Unlinked>
+    ensures answered { IfOk result (λ answer. (p : program.Program) (entry m : ℕ) →
+        IsCallOf p entry call.now → IsReachedIn p call.now reached.now →
+        slice_get reached.now.list.items «module» ≡ Some m →
+        IsTrue (has_import_meta (tree_of p m)) → IsAnsweredFor (may_give hook.now) p m) }
+    ensures refused { IfErr result (λ unlinked. (p : program.Program) (entry m : ℕ) →
+        IsCallOf p entry call.now → IsReachedIn p call.now reached.now →
+        slice_get reached.now.list.items «module» ≡ Some m →
+        IfSome (fault_of (error_of unlinked))
+        (IsRefusedFor (may_give hook.now) (may_fail_hook hook.now) p m)) }
+{
+    match asked_at(call, reached, module) {
+        Some((file, given)) => {
+            let is_entry = module == reached.places.len().saturating_sub(1);
+            let is_iife = setting_of(call.config).iife;
+            let properties = ask(alloc, hook, file, given, is_entry, is_iife)?;
+            Ok(Some(properties))
+        }
+        None => Ok(None),
+    }
+}
+
+// The file of a module that has `import.meta`, and the name that its loader gave it.
+fn asked_at<'p, 'x>(
+    call: &Call<'p, 'x>,
+    reached: &Reached,
+    module: usize,
+) -> Option<(&'x FileName, &'x FileName)>
+    ensures asked { IfSome result (λ names. (p : program.Program) (entry m : ℕ) →
+        IsCallOf p entry call.now → IsReachedIn p call.now reached.now →
+        slice_get reached.now.list.items «module» ≡ Some m →
+        IsAskedModule p m (name_of names.0.now) (name_of names.1.now)) }
+    ensures unasked { IfNone result ((p : program.Program) (entry m : ℕ) →
+        IsCallOf p entry call.now → IsReachedIn p call.now reached.now →
+        slice_get reached.now.list.items «module» ≡ Some m →
+        has_import_meta (tree_of p m) ≡ false) }
+{
+    let source = source_at(call, reached, module)?;
+    let (file, _) = file_at(call, reached, module)?;
+    match source.tables.has_import_meta {
+        true => Some((file, source.given)),
+        false => None,
+    }
+}

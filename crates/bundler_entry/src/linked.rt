@@ -1,0 +1,171 @@
+//! The modules that an entry reaches, and what their names are linked to, or the first fault of theirs.
+
+ghost use Rattle.std.specs.Prelude.{◌≡◌, ℕ, suc, Some, IfOk, IfErr, IfSome, IsSome, length};
+ghost use Rattle.bundle_tree_names.specs.FileName.{name_of};
+ghost use Rattle.bundle_rules.specs.Faults.{IsFirstProgramFault, IsFaultlessProgram, fault_of};
+ghost use Rattle.bundle_rules.specs.Program as program;
+ghost use Rattle.bundle_link_reached.specs.Judged.{says};
+ghost use Rattle.bundler_entry.specs.Linked.{AreLists, AreParts, HasPlaces, IsCallOf, IsLinkedEntry, IsPartAt, IsReachedIn, TellsFileAt, ids_of};
+ghost use Rattle.bundler_entry.specs.Unlinked.{error_of};
+
+use crate::blocks::blocks_of;
+use crate::call::{Call, file_at};
+use crate::fault::{doubled_refusal, link_refusal};
+use crate::source::Source;
+use crate::unlinked::Unlinked;
+use bundle_link::link::setting_of;
+use bundle_link_reached::{Reached, Told, judged, reached_from};
+use bundle_link_targets::{LinkModule, Linking};
+use bundle_merge_items::Block;
+use bundle_tree_names::ModuleId;
+use bundle_tree_names::file_name::FileName;
+use bundle_tree_piece::Piece;
+use std::alloc::{AllocError, Global};
+
+/// The modules that an entry reaches, what their names are linked to, and the blocks of those that reach each other.
+pub struct Linked<'x> {
+    pub(crate) reached: Reached,
+    pub(crate) linking: Linking<'x>,
+    pub(crate) blocks: Vec<Block>,
+}
+
+// By hand, so that who lets go of one only calls this.
+impl<'x> Drop for Linked<'x> {
+    fn drop(self) {
+        let Linked {
+            reached: _reached,
+            linking: _linking,
+            blocks: _blocks,
+        } = self;
+    }
+}
+
+/// Links the modules that an entry reaches. Refused by the first fault, or where memory runs out.
+pub fn linked_entry<'p, 'x>(
+    alloc: Global,
+    call: &Call<'p, 'x>,
+    entry: ModuleId,
+) -> Result<Linked<'x>, Unlinked>
+    ensures linked { IfOk result (λ linked. (p : program.Program) → IsCallOf p entry call.now →
+        IsLinkedEntry p call.now linked) }
+    ensures refused { IfErr result (λ unlinked.
+        (p : program.Program) →
+        IsCallOf p entry call.now →
+        IfSome (fault_of (error_of unlinked)) (IsFirstProgramFault p)) }
+{
+    let files = &call.program.files;
+    let reached = reached_from(alloc, files, entry)?;
+    let linking = linking_of(alloc, call, &reached)?;
+    let blocks = blocks_of(alloc, &files.graph, entry, &reached.list)?;
+    Ok(Linked {
+        reached,
+        linking,
+        blocks,
+    })
+}
+
+// What the names of the modules are linked to. Refused by the first fault.
+fn linking_of<'p, 'x>(
+    alloc: Global,
+    call: &Call<'p, 'x>,
+    reached: &Reached,
+) -> Result<Linking<'x>, Unlinked>
+    ensures linked { IfOk result (λ linking.
+        (p : program.Program) (entry : ℕ) →
+        IsCallOf p entry call.now → IsReachedIn p call.now reached.now → IsFaultlessProgram p) }
+    ensures refused { IfErr result (λ unlinked.
+        (p : program.Program) (entry : ℕ) →
+        IsCallOf p entry call.now →
+        IsReachedIn p call.now reached.now →
+        IfSome (fault_of (error_of unlinked)) (IsFirstProgramFault p)) }
+{
+    let sources = call.program.sources.as_slice();
+    let modules = modules_of(alloc, sources, reached)?;
+    let lists = lists_of(alloc, sources, reached)?;
+    let found = judged(alloc, &modules, &lists, setting_of(call.config))?;
+    match found {
+        Ok(linking) => Ok(linking),
+        Err(told) => Err(refusal_of(alloc, call, reached, told)?),
+    }
+}
+
+// The tables of the modules, and where their requests lead.
+fn modules_of<'t, 'x>(
+    alloc: Global,
+    sources: &'t [Source<'x>],
+    reached: &'t Reached,
+) -> Result<Vec<LinkModule<'t, 'x>>, AllocError>
+    ensures { IfOk result (λ modules.
+        HasPlaces sources.entry.now reached.entry.now (length reached.entry.now.places.items) →
+        AreParts sources.entry.now reached.entry.now (length reached.entry.now.places.items)
+        modules.items) }
+{
+    let mut modules = Vec::new(alloc);
+    for module in 0..reached.places.len() {
+        if let Some(part) = part_at(sources, reached, module) {
+            modules.push(part)?;
+        }
+    }
+    Ok(modules)
+}
+
+// The tables of a module, and where its requests lead.
+fn part_at<'t, 'x>(
+    sources: &'t [Source<'x>],
+    reached: &'t Reached,
+    module: usize,
+) -> Option<LinkModule<'t, 'x>>
+    ensures part { IfSome result (IsPartAt sources.entry.now reached.entry.now «module») }
+    ensures there { HasPlaces sources.entry.now reached.entry.now (suc «module») →
+        IsSome result }
+{
+    let source = sources.get(*reached.places.get(module)?)?;
+    let leads = reached.leads.get(module)?;
+    let tables = &source.tables;
+    Some(LinkModule { tables, leads })
+}
+
+// The lists of the modules.
+fn lists_of<'t, 'x>(
+    alloc: Global,
+    sources: &'t [Source<'x>],
+    reached: &Reached,
+) -> Result<Vec<&'t [Piece<'x>]>, AllocError>
+    ensures { IfOk result (λ lists.
+        HasPlaces sources.entry.now reached.now (length reached.now.places.items) →
+        AreLists sources.entry.now reached.now (length reached.now.places.items) lists.items) }
+{
+    let mut lists = Vec::new(alloc);
+    for place in &reached.places {
+        if let Some(source) = sources.get(*place) {
+            lists.push(source.pieces.as_slice())?;
+        }
+    }
+    Ok(lists)
+}
+
+// The refusal for a fault of modules.
+fn refusal_of<'p, 'x>(
+    alloc: Global,
+    call: &Call<'p, 'x>,
+    reached: &Reached,
+    told: Told<'x>,
+) -> Result<Unlinked, AllocError>
+    ensures { IfOk result (λ refusal. TellsFileAt call.now reached.now told.entry refusal) }
+{
+    match file_at(call, reached, told.module()) {
+        Some((file, _)) => told_refusal(alloc, file, told),
+        None => told_refusal(alloc, call.entry, told),
+    }
+}
+
+// The same, of this file.
+fn told_refusal<'x>(alloc: Global, file: &FileName, told: Told<'x>) -> Result<Unlinked, AllocError>
+    ensures { IfOk result (λ refusal.
+        fault_of (error_of refusal) ≡ Some (says told.entry (name_of file.now))) }
+{
+    match told {
+        Told::Link(fault) => link_refusal(alloc, file, fault),
+        Told::Doubled(_, doubled) => doubled_refusal(alloc, file, doubled),
+    }
+}

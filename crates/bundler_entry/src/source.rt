@@ -1,0 +1,128 @@
+//! What the modules of a call say: of each file its list, what its names denote, and its tables.
+
+ghost use Rattle.std.specs.Prelude.{◌≡◌, ℕ, Some, IfOk, map};
+ghost use Rattle.bundle_scope_denote.specs.Listed.{IsTable};
+ghost use Rattle.bundle_tree_names.specs.FileName.{Name};
+ghost use Rattle.bundle_tree_piece.specs.Item.{item_of};
+ghost use Rattle.bundle_tree_listed.specs.Tree.{module_items};
+ghost use Rattle.bundle_rules.specs.Declarations.{BySymbol};
+ghost use Rattle.bundle_rules.specs.Scopes.{Es};
+ghost use Rattle.bundle_rules.specs.Entries.{has_import_meta};
+ghost use Rattle.bundle_rules.specs.Faults.{IsFaultless};
+ghost use Rattle.bundle_rules.specs.Program as the_program;
+ghost use Rattle.bundle_rules.specs.Program.{module_of};
+ghost use Rattle.bundle_link.specs.Read.{AreTablesOf};
+ghost use Rattle.bundle_link.specs.Refusals.{Links};
+ghost use Rattle.bundle_link_reached.specs.Files.{AreFilesOf, numbers_of};
+ghost use Rattle.bundler_entry.specs.Source.{AreSourcesOf, IsProgramOf, IsSourceOf, kept_as};
+
+use bundle_link_reached::Files;
+use bundle_link_tables::{Tables, tables_of};
+use bundle_scope_denote::{Denotations, ModuleKind, Reading, denotations};
+use bundle_tree::load::ModuleData;
+use bundle_tree_ast::ModuleItem;
+use bundle_tree_list::pieces_of_module;
+use bundle_tree_names::ModuleId;
+use bundle_tree_names::config::Config;
+use bundle_tree_names::file_name::FileName;
+use bundle_tree_piece::Piece;
+use indexmap::IndexMap;
+use std::alloc::{AllocError, Global};
+
+/// A file as it was read: the name that its loader gave it, its items, its list, what its names denote in an ES module, and its
+/// tables.
+#[derive(Drop)]
+pub struct Source<'x> {
+    pub given: &'x FileName,
+    pub items: &'x [ModuleItem],
+    pub pieces: Vec<Piece<'x>>,
+    pub names: Denotations<'x>,
+    pub tables: Tables<'x>,
+}
+
+/// The files of a call with their numbers and where their requests lead, what was read of each, and how many numbers
+/// there are up to the last of theirs.
+#[derive(Drop)]
+pub struct Program<'x> {
+    pub files: Files<'x>,
+    pub sources: Vec<Source<'x>>,
+    pub count: usize,
+}
+
+/// Reads a module that has no fault of its own. Refused only where memory runs out.
+pub fn source_of<'x>(
+    alloc: Global,
+    loaded: &'x ModuleData,
+    config: &Config,
+) -> Result<Source<'x>, AllocError>
+    requires { (file : Name) × IsFaultless file (module_items 0 loaded.now.«module») }
+    ensures { IfOk result (λ source.
+        (p : the_program.Program) (m : ℕ) →
+        Links config.now p.settings →
+        module_of p m ≡ Some (kept_as loaded.now) →
+        IsSourceOf p m source) }
+{
+    let pieces = pieces_of_module(alloc, &loaded.module)?;
+    let names = denotations(alloc, pieces.as_slice(), ModuleKind::Es, Reading::BySymbol)?;
+    let tables = tables_in(alloc, pieces.as_slice(), &names, config)?;
+    Ok(Source {
+        given: &loaded.file_name,
+        items: loaded.module.body.as_slice(),
+        pieces,
+        names,
+        tables,
+    })
+}
+
+// The tables of a list that has no fault, where these are its names.
+fn tables_in<'x>(
+    alloc: Global,
+    pieces: &[Piece<'x>],
+    names: &Denotations<'x>,
+    config: &Config,
+) -> Result<Tables<'x>, AllocError>
+    requires table { IsTable BySymbol Es (map item_of pieces.now) names.now }
+    requires faultless { (file : Name) × IsFaultless file (map item_of pieces.now) }
+    ensures given { IfOk result (λ tables.
+        (file : Name) → AreTablesOf config.now file (map item_of pieces.now) tables) }
+    ensures meta { IfOk result (λ tables.
+        tables.has_import_meta ≡ has_import_meta (map item_of pieces.now)) }
+{
+    let external = config.external_modules.as_slice();
+    match tables_of(alloc, pieces, names, config.require, external)? {
+        Ok(tables) => Ok(tables),
+        Err(_) => unreachable!(),
+    }
+}
+
+/// The files of a call, with what was read of each.
+pub fn program_of<'x>(
+    alloc: Global,
+    files: &'x IndexMap<FileName, ModuleId>,
+    deps: &'x [Vec<(String, ModuleId)>],
+    sources: Vec<Source<'x>>,
+) -> Result<Program<'x>, AllocError>
+    ensures program { IfOk result (λ made.
+        (p : the_program.Program) →
+        AreFilesOf p files.entry.now deps.entry.now →
+        AreSourcesOf p (numbers_of files.entry.now) sources.entry.items →
+        IsProgramOf p made) }
+    ensures files { IfOk result (λ made. made.files.files ≡ files.entry) }
+{
+    let count = count_of_files(files);
+    let files = Files::new(alloc, files, deps)?;
+    Ok(Program {
+        files,
+        sources,
+        count,
+    })
+}
+
+// How many numbers there are up to the last one of a file.
+fn count_of_files(files: &IndexMap<FileName, ModuleId>) -> usize {
+    let mut count: usize = 0;
+    for (_, id) in files {
+        count = count.max((id.as_u32() as usize).saturating_add(1));
+    }
+    count
+}
