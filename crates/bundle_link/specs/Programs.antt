@@ -52,4 +52,6 @@ HasTables config its tables = AreTablesOf config (name_of its.file_name) (module
 pub record IsLinkerOf (p : Program) (linker : Linker) : Type 0 where
   pub linked : IsLinkedOf p linker.linked
   pub trees : (m : ℕ) → IsModuleTree (tree_of p m)
-  pub files : (place m : ℕ) → IsAt linker.linked.ids.keys m place → (its : TransformedModule) × (slice_get linker.modules.items place ≡ Some its) × (file_of p m ≡ Some (name_of its.file_name))
+  pub files : (place m : ℕ) →
+      IsAt linker.linked.ids.keys m place →
+      (its : TransformedModule) × (slice_get linker.modules.items place ≡ Some its) × (file_of p m ≡ Some (name_of its.file_name))

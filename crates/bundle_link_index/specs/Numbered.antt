@@ -86,8 +86,12 @@ all_starred lead m (its ∷ rest) = starred (lead m) its.tables.now.stars.items 
 
 -- own entries stand for these and no others, and the stars are these
 pub record Holds (noted : List Noted) (lists : List (List ℕ)) (names : List Text) (values : List Value) (g : Graph) : Type 0 where
-  pub own : (m n : ℕ) (own : Own) → own_of g (m, n) ≡ Some own → (entry : Noted) × Contains noted entry × (entry.module ≡ m) × (slice_get names n ≡ Some entry.name) × IsNumber names values entry.said own
-  pub all : (entry : Noted) → Contains noted entry → (n : ℕ) × (slice_get names n ≡ Some entry.name) × (own_of g (entry.module, n) ≢ None)
+  pub own : (m n : ℕ) (own : Own) →
+      own_of g (m, n) ≡ Some own →
+      (entry : Noted) × Contains noted entry × (entry.module ≡ m) × (slice_get names n ≡ Some entry.name) × IsNumber names values entry.said own
+  pub all : (entry : Noted) →
+      Contains noted entry →
+      (n : ℕ) × (slice_get names n ≡ Some entry.name) × (own_of g (entry.module, n) ≢ None)
   pub stars : g.lists ≡ lists
   pub default : slice_get names g.default ≡ Some default_name
   pub one_name : IsOnce names

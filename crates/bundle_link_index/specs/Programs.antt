@@ -52,12 +52,16 @@ pub record IsProgramOf (p : Program) (modules : List LinkModule) (list : List �
 
 -- modules with their tables, and what is known of their kinds, are those of the program
 pub record AreModulesOf (p : Program) (kinds : Kinds) : Type 0 where
-  pub tables : (m : ℕ) (its : LinkModule) → slice_get kinds.modules.now m ≡ Some its → IsTableOf p m its.tables.now
+  pub tables : (m : ℕ) (its : LinkModule) →
+      slice_get kinds.modules.now m ≡ Some its →
+      IsTableOf p m its.tables.now
   pub others : (m : ℕ) → slice_get kinds.modules.now m ≡ None → exports p m ≡ []
   pub trees : (m : ℕ) → slice_get kinds.modules.now m ≡ None → tree_of p m ≡ []
   pub begins : p.entry ≡ kinds.entry
   pub leads : (m : ℕ) (s : Text) → p.leads m s ≡ required_of kinds.modules.now m s
-  pub outside : (m : ℕ) (s : Text) → Asks p m s → contains_by (λ k. bytes_eq s k.now) kinds.externals ≡ is_external p s
+  pub outside : (m : ℕ) (s : Text) →
+      Asks p m s →
+      contains_by (λ k. bytes_eq s k.now) kinds.externals ≡ is_external p s
   pub common_js : (c : ℕ) → TellsCommonJs p c (flagged kinds.common_js.items c)
   pub reached : (n : ℕ) → Contains kinds.list.now n ↔ IsReached p n
   pub once : HasEachOnce p

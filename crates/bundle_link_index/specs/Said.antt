@@ -75,11 +75,18 @@ pub record EntryAt (p : Program) (lead : ℕ → Text → Lead) (names : List Te
 pub record AreNumbers (p : Program) (lead : ℕ → Text → Lead) (names : List Text) (values : List Value) (g : Graph) : Type 0 where
   pub entries : (m n : ℕ) (x : Text) → slice_get names n ≡ Some x
       → EntryAt p lead names values g m n x ⊎ ((own_of g (m, n) ≡ None) × ((entry : ExportEntry) → Contains (exports p m) entry → is_named x entry ≡ true → ⊥))
-  pub stars : (m d : ℕ) → Contains (stars_of g m) d ↔ ((s : Text) × Contains (exports p m) (Star s) × (lead m s ≡ ToModule d))
+  pub stars : (m d : ℕ) →
+      Contains (stars_of g m) d ↔ ((s : Text) × Contains (exports p m) (Star s) × (lead m s ≡ ToModule d))
   pub default : slice_get names g.default ≡ Some default_name
   pub one_name : (a b : ℕ) (x : Text) → slice_get names a ≡ Some x → slice_get names b ≡ Some x → a ≡ b
-  pub one_value : (a b : ℕ) (value : Value) → slice_get values a ≡ Some value → slice_get values b ≡ Some value → a ≡ b
-  pub all_names : (m : ℕ) (entry : ExportEntry) (x : Text) → Contains (exports p m) entry → is_named x entry ≡ true → (n : ℕ) × (slice_get names n ≡ Some x)
+  pub one_value : (a b : ℕ) (value : Value) →
+      slice_get values a ≡ Some value →
+      slice_get values b ≡ Some value →
+      a ≡ b
+  pub all_names : (m : ℕ) (entry : ExportEntry) (x : Text) →
+      Contains (exports p m) entry →
+      is_named x entry ≡ true →
+      (n : ℕ) × (slice_get names n ≡ Some x)
 
 -- its specifiers lead so
 abbrev pub AreLeads : Program → (ℕ → Text → Lead) → Type 0

@@ -13,8 +13,16 @@ pub record IsAlike (p q : Program) (R : ℕ → ℕ → Type 0) : Type 0 where
   pub iife : p.settings.iife ≡ q.settings.iife
   pub entry : R p.entry q.entry
   pub tree : (a b : ℕ) → R a b → tree_of p a ≡ tree_of q b
-  pub leads : (a b c : ℕ) (s : Text) → R a b → Contains (requests_in p.settings (tree_of p a)) s → p.leads a s ≡ Some c → (d : ℕ) × R c d × (q.leads b s ≡ Some d)
-  pub back : (a b d : ℕ) (s : Text) → R a b → Contains (requests_in p.settings (tree_of p a)) s → q.leads b s ≡ Some d → (c : ℕ) × R c d × (p.leads a s ≡ Some c)
+  pub leads : (a b c : ℕ) (s : Text) →
+      R a b →
+      Contains (requests_in p.settings (tree_of p a)) s →
+      p.leads a s ≡ Some c →
+      (d : ℕ) × R c d × (q.leads b s ≡ Some d)
+  pub back : (a b d : ℕ) (s : Text) →
+      R a b →
+      Contains (requests_in p.settings (tree_of p a)) s →
+      q.leads b s ≡ Some d →
+      (c : ℕ) × R c d × (p.leads a s ≡ Some c)
 
 -- the module with this number stands at this place
 abbrev pub IsAt : List ℕ → ℕ → ℕ → Type 0

@@ -25,14 +25,21 @@ numbers_of files = map number_of files.entries
 -- these are the requests of a module, in their order, and each leads where it leads in the program, to one of these modules
 pub record IsLed (p : Program) (numbers : List ℕ) (m : ℕ) (deps : Deps) : Type 0 where
   pub asked : map (λ dep. string_bytes dep.0) deps ≡ requests_in p.settings (tree_of p m)
-  pub leads : (dep : String Global × ℕ) → Contains deps dep → (p.leads m (string_bytes dep.0) ≡ Some dep.1) × Contains numbers dep.1
+  pub leads : (dep : String Global × ℕ) →
+      Contains deps dep →
+      (p.leads m (string_bytes dep.0) ≡ Some dep.1) × Contains numbers dep.1
 
 -- the files are those of the program under their numbers, which differ, and the requests of each lead where they lead in the program, to files that are there
 pub record AreFilesOf {S : Type 0} (p : Program) (files : IndexMap FileName ℕ S) (deps : List (Vec (String Global × ℕ) Global)) : Type 0 where
   pub once : IsOnce (numbers_of files)
-  pub named : (place : ℕ) (e : FileName × ℕ) → slice_get files.entries place ≡ Some e → file_of p e.1 ≡ Some (name_of e.0)
+  pub named : (place : ℕ) (e : FileName × ℕ) →
+      slice_get files.entries place ≡ Some e →
+      file_of p e.1 ≡ Some (name_of e.0)
   pub long : length deps ≡ length files.entries
-  pub led : (place m : ℕ) (its : Vec (String Global × ℕ) Global) → slice_get (numbers_of files) place ≡ Some m → slice_get deps place ≡ Some its → IsLed p (numbers_of files) m its.items
+  pub led : (place m : ℕ) (its : Vec (String Global × ℕ) Global) →
+      slice_get (numbers_of files) place ≡ Some m →
+      slice_get deps place ≡ Some its →
+      IsLed p (numbers_of files) m its.items
 
 -- the module to which a text leads
 abbrev pub led_to : String Global × ℕ → ℕ
@@ -40,7 +47,11 @@ led_to dep = dep.1
 
 -- of the first n modules just the requests are noted that lead from these numbers
 pub record IsGraphOf (ids : List ℕ) (deps : List (Vec (String Global × ℕ) Global)) (n : ℕ) (graph : Modules) : Type 0 where
-  pub own : (i m : ℕ) (its : Vec (String Global × ℕ) Global) → i < n → slice_get ids i ≡ Some m → slice_get deps i ≡ Some its → noted graph m ≡ numbers_once (map led_to its.items)
+  pub own : (i m : ℕ) (its : Vec (String Global × ℕ) Global) →
+      i < n →
+      slice_get ids i ≡ Some m →
+      slice_get deps i ≡ Some its →
+      noted graph m ≡ numbers_once (map led_to its.items)
   pub others : (m : ℕ) → ((i : ℕ) → i < n → slice_get ids i ≡ Some m → ⊥) → noted graph m ≡ []
 
 -- the files are those of the program, and their numbers and their requests are noted

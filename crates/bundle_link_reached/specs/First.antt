@@ -10,7 +10,10 @@ pub record IsFirstOf (q : Program) (n m : ℕ) (says : Name → Fault) : Type 0 
   pub stage : ℕ
   pub place : ℕ
   pub there : (file : Name) → ProgramFault q file m stage place (says file)
-  pub first : (j other its : ℕ) (file : Name) (f : Fault) → j < n → ProgramFault q file j other its f → JudgedNotAfter stage m place other j its
+  pub first : (j other its : ℕ) (file : Name) (f : Fault) →
+      j < n →
+      ProgramFault q file j other its f →
+      JudgedNotAfter stage m place other j its
 
 -- none of the first n modules has a fault
 abbrev pub HasNoFault : Program → ℕ → Type 0

@@ -18,5 +18,9 @@ asked ids leads texts = filter_map (λ text. asked_for ids leads text.now) texts
 
 -- of the first n modules just the requests are noted that lead to these numbers
 pub record IsGraphOf (ids : List ℕ) (modules : List LinkModule) (n : ℕ) (graph : Modules) : Type 0 where
-  pub own : (i m : ℕ) (its : LinkModule) → i < n → slice_get ids i ≡ Some m → slice_get modules i ≡ Some its → deps graph m ≡ numbers_once (asked ids its.leads.now its.tables.now.requests.items)
+  pub own : (i m : ℕ) (its : LinkModule) →
+      i < n →
+      slice_get ids i ≡ Some m →
+      slice_get modules i ≡ Some its →
+      deps graph m ≡ numbers_once (asked ids its.leads.now its.tables.now.requests.items)
   pub others : (m : ℕ) → ((i : ℕ) → i < n → slice_get ids i ≡ Some m → ⊥) → deps graph m ≡ []

@@ -47,6 +47,12 @@ HasParts _ inside = Unit {0}
 -- whole nodes, names and holes, one after another
 pub data AreNodes : List Item → Type 0 where
   nothing : AreNodes []
-  name : {field ctxt : ℕ} {sym : List ℕ} {role : Role} {rest : List Item} → AreNodes rest → AreNodes (h.Ident field sym ctxt role ∷ rest)
+  name : {field ctxt : ℕ} {sym : List ℕ} {role : Role} {rest : List Item} →
+      AreNodes rest →
+      AreNodes (h.Ident field sym ctxt role ∷ rest)
   hole : {field : ℕ} {rest : List Item} → AreNodes rest → AreNodes (h.Hole field ∷ rest)
-  node : {field : ℕ} {head : Head} {inside rest : List Item} → AreNodes inside → HasParts head inside → AreNodes rest → AreNodes (h.Open field head ∷ (inside ++ h.Close ∷ rest))
+  node : {field : ℕ} {head : Head} {inside rest : List Item} →
+      AreNodes inside →
+      HasParts head inside →
+      AreNodes rest →
+      AreNodes (h.Open field head ∷ (inside ++ h.Close ∷ rest))

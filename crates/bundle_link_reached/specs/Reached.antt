@@ -28,6 +28,13 @@ pub record IsReachedOf (p : Program) (numbers : List ℕ) (found : Reached) : Ty
   pub once : IsOnce found.list.items
   pub places : map (slice_get numbers) found.places.items ≡ map (λ m. Some m) found.list.items
   pub long : length found.leads.items ≡ length found.list.items
-  pub leads : (i m : ℕ) (its : IndexMap (String Global) ℕ _) (s : Text) → slice_get found.list.items i ≡ Some m → slice_get found.leads.items i ≡ Some its → Contains (requests_in p.settings (tree_of p m)) s → get_by_text its s ≡ option_and_then (place_in found.list.items) (p.leads m s)
-  pub within : (i d : ℕ) (its : IndexMap (String Global) ℕ _) (s : Text) → slice_get found.leads.items i ≡ Some its → get_by_text its s ≡ Some d → d < length found.list.items
+  pub leads : (i m : ℕ) (its : IndexMap (String Global) ℕ _) (s : Text) →
+      slice_get found.list.items i ≡ Some m →
+      slice_get found.leads.items i ≡ Some its →
+      Contains (requests_in p.settings (tree_of p m)) s →
+      get_by_text its s ≡ option_and_then (place_in found.list.items) (p.leads m s)
+  pub within : (i d : ℕ) (its : IndexMap (String Global) ℕ _) (s : Text) →
+      slice_get found.leads.items i ≡ Some its →
+      get_by_text its s ≡ Some d →
+      d < length found.list.items
   pub last : (i : ℕ) → slice_get found.list.items i ≡ Some p.entry → suc i ≡ length found.list.items

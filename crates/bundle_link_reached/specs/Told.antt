@@ -18,7 +18,11 @@ pub record IsFirstTold (p : Program) (ids list : List ℕ) (fault : Fault) : Typ
   pub checked : stage ≢ 2
   pub place : ℕ
   pub there : (file : Name) → ProgramFault p file m stage place (fault_says file fault)
-  pub first : (j n other its : ℕ) (file : Name) (f : g.Fault) → other ≢ 2 → slice_get list j ≡ Some n → ProgramFault p file n other its f → JudgedNotAfter stage i place other j its
+  pub first : (j n other its : ℕ) (file : Name) (f : g.Fault) →
+      other ≢ 2 →
+      slice_get list j ≡ Some n →
+      ProgramFault p file n other its f →
+      JudgedNotAfter stage i place other j its
 
 -- the fault that is told is the first, and none is told exactly where no listed module has one
 abbrev pub IsTold : Program → List ℕ → List ℕ → Option Fault → Type 0

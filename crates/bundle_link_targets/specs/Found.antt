@@ -36,7 +36,11 @@ IsNext p t x (Some u) = (d : ℕ) × (t ≡ Namespace d) × Linked p d x u
 
 -- what an import stands for: what a name of an ES module is linked to, or just what is taken
 pub data Imports (p : Program) (m : ℕ) (entry : ImportEntry) : l.Target → Type 0 where
-  by_name : {d : ℕ} {y : Text} {t : l.Target} → entry.taken ≡ Named y → IsModule p m entry.specifier d → Linked p d y t → Imports p m entry t
+  by_name : {d : ℕ} {y : Text} {t : l.Target} →
+      entry.taken ≡ Named y →
+      IsModule p m entry.specifier d →
+      Linked p d y t →
+      Imports p m entry t
   by_taking : {t : l.Target} → Takes p m entry.specifier entry.taken t → Imports p m entry t
 
 -- what is found of an import: the target for which it stands, or that it stands for none

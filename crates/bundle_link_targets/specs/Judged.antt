@@ -51,7 +51,12 @@ pub record IsFirst (p : Program) (list : List ℕ) (from below : ℕ) (fault : F
   pub ended : stage < below
   pub place : ℕ
   pub there : (file : Name) → ProgramFault p file fault.module stage place (fault_says file fault)
-  pub first : (j n other its : ℕ) (file : Name) (f : g.Fault) → from ≤ other → other < below → slice_get list j ≡ Some n → ProgramFault p file n other its f → JudgedNotAfter stage i place other j its
+  pub first : (j n other its : ℕ) (file : Name) (f : g.Fault) →
+      from ≤ other →
+      other < below →
+      slice_get list j ≡ Some n →
+      ProgramFault p file n other its f →
+      JudgedNotAfter stage i place other j its
 
 -- the first of these stages among listed modules, or none where no listed module has one
 abbrev pub IsJudged : Program → List ℕ → ℕ → ℕ → Option Fault → Type 0

@@ -21,7 +21,10 @@ IsRead p t words = (d : ℕ) (x : Text) (rest : List Text) (u : Target) → t �
 -- `ReadsOn p t words n u`: reads of these words from t on, as many as are linked names of a namespace in turn, mean u; they are n
 pub data ReadsOn (p : Program) : Target → List Text → ℕ → Target → Type 0 where
   done : {t : Target} {words : List Text} → IsRead p t words → ReadsOn p t words zero t
-  on : {d n : ℕ} {x : Text} {words : List Text} {t u : Target} → Linked p d x t → ReadsOn p t words n u → ReadsOn p (Namespace d) (x ∷ words) (suc n) u
+  on : {d n : ℕ} {x : Text} {words : List Text} {t u : Target} →
+      Linked p d x t →
+      ReadsOn p t words n u →
+      ReadsOn p (Namespace d) (x ∷ words) (suc n) u
 
 -- a name in m with reads of these words around it means the target, with so many of the reads
 pub record WordsMean (p : Program) (m : ℕ) (x : Text) (words : List Text) (n : ℕ) (t : Target) : Type 0 where
@@ -44,7 +47,11 @@ pub record LinksTo (p : Program) (m : ℕ) (t : Target) : Type 0 where
 
 -- the least set of targets that has what uses in reached modules mean, what the entry's names are linked to, and what the names of each namespace in it are linked to
 pub data IsTaken (p : Program) : Target → Type 0 where
-  by_use : {m n : ℕ} {its : UseEntry} {t : Target} → IsReached p m → Contains (uses_of (tree_of p m)) its → UseMeans p m its n t → IsTaken p t
+  by_use : {m n : ℕ} {its : UseEntry} {t : Target} →
+      IsReached p m →
+      Contains (uses_of (tree_of p m)) its →
+      UseMeans p m its n t →
+      IsTaken p t
   by_entry : {x : Text} {t : Target} → Linked p p.entry x t → IsTaken p t
   by_names : {d : ℕ} {x : Text} {t : Target} → IsTaken p (Namespace d) → Linked p d x t → IsTaken p t
 
@@ -71,21 +78,42 @@ pub record StandsAt (tree : List Item) (place : ℕ) : Type 0 where
   pub element : Item
   pub own : Contains (own_statements tree) statement
   pub stands : Contains statement (taken place element)
-  pub opens : (field : ℕ) (head : Head) → slice_get tree place ≡ Some (h.Open field head) → (f : ℕ) × (other : Head) × (element ≡ h.Open f other)
+  pub opens : (field : ℕ) (head : Head) →
+      slice_get tree place ≡ Some (h.Open field head) →
+      (f : ℕ) × (other : Head) × (element ≡ h.Open f other)
 
 -- names stand in a tree as in that of each module
 pub record IsModuleTree (tree : List Item) : Type 0 where
   -- in an own statement exactly where a top item around them states something
-  pub stated : (place begins : ℕ) (o : Occurrence) (statement : List Element) (e : Item) → occurrence_at tree place ≡ Some o → IsAtOrAround tree begins place → Contains (own_statements tree) statement → Contains statement (taken begins e) → is_in_statement (path_at tree place) ≡ true
-  pub stands : (place begins : ℕ) (o : Occurrence) → occurrence_at tree place ≡ Some o → is_in_statement (path_at tree place) ≡ true → (begins ≡ place) ⊎ (Encloses tree begins place × ((x : Text) × (read_word tree begins ≡ Some x))) → StandsAt tree begins
+  pub stated : (place begins : ℕ) (o : Occurrence) (statement : List Element) (e : Item) →
+      occurrence_at tree place ≡ Some o →
+      IsAtOrAround tree begins place →
+      Contains (own_statements tree) statement →
+      Contains statement (taken begins e) →
+      is_in_statement (path_at tree place) ≡ true
+  pub stands : (place begins : ℕ) (o : Occurrence) →
+      occurrence_at tree place ≡ Some o →
+      is_in_statement (path_at tree place) ≡ true →
+      (begins ≡ place) ⊎ (Encloses tree begins place × ((x : Text) × (read_word tree begins ≡ Some x))) →
+      StandsAt tree begins
   -- in no `import.meta`
-  pub meta : (place begins : ℕ) (o : Occurrence) → occurrence_at tree place ≡ Some o → Encloses tree begins place → is_meta_at (slice_get tree begins) ≡ false
+  pub meta : (place begins : ℕ) (o : Occurrence) →
+      occurrence_at tree place ≡ Some o →
+      Encloses tree begins place →
+      is_meta_at (slice_get tree begins) ≡ false
   -- of a read, only in what it reads of
-  pub read : (place begins : ℕ) (o : Occurrence) (x : Text) → occurrence_at tree place ≡ Some o → read_word tree begins ≡ Some x → Encloses tree begins place → IsAtOrAround tree (suc begins) place
+  pub read : (place begins : ℕ) (o : Occurrence) (x : Text) →
+      occurrence_at tree place ≡ Some o →
+      read_word tree begins ≡ Some x →
+      Encloses tree begins place →
+      IsAtOrAround tree (suc begins) place
 
 -- a module that declares `default` without a name binds it by no import too
 pub record DeclaresDefaultOnce (p : Program) : Type 0 where
-  pub unbound : (m : ℕ) (statement : List Element) (e : Item) → Contains (own_statements (tree_of p m)) statement → Contains statement (written e) → import_of (imports_of (tree_of p m)) default_name ≡ None
+  pub unbound : (m : ℕ) (statement : List Element) (e : Item) →
+      Contains (own_statements (tree_of p m)) statement →
+      Contains statement (written e) →
+      import_of (imports_of (tree_of p m)) default_name ≡ None
 
 -- the trees of a program are those of modules, none of which declares `default` twice
 pub record AreModules (p : Program) : Type 0 where

@@ -61,8 +61,12 @@ given_to giver other name = if giver_impl.ghosts.eq giver other then name ∷ []
 
 -- these are the names of a giver among targets, each once
 pub record HoldNames (giver : Giver) (targets : List l.Target) (names : List (Bor Text)) : Type 0 where
-  pub there : (x : Text) → Contains targets (taken_from giver (Named x)) → Contains (map (λ name. name.now) names) x
-  pub right : (x : Text) → Contains (map (λ name. name.now) names) x → Contains targets (taken_from giver (Named x))
+  pub there : (x : Text) →
+      Contains targets (taken_from giver (Named x)) →
+      Contains (map (λ name. name.now) names) x
+  pub right : (x : Text) →
+      Contains (map (λ name. name.now) names) x →
+      Contains targets (taken_from giver (Named x))
   pub once : IsDistinct (λ x y. bytes_eq x.now y.now) names
 
 -- a table has them of each giver

@@ -52,7 +52,9 @@ pub record IsOfIdent (specifier : ExportSpecifier) : Type 0 where
 -- no item, or one list of exports without `from`, of identifiers
 pub data Ends : List ModuleItem → Type 0 where
   nothing : Ends []
-  exports : (specifiers : Vec ExportSpecifier Global) (meta : ExportMetadata) → All IsOfIdent specifiers.items → Ends (item.ModuleDecl (NamedExport specifiers None meta) ∷ [])
+  exports : (specifiers : Vec ExportSpecifier Global) (meta : ExportMetadata) →
+      All IsOfIdent specifiers.items →
+      Ends (item.ModuleDecl (NamedExport specifiers None meta) ∷ [])
 
 -- statements, and behind them perhaps a list of exports of the module's own names
 pub record CanBeWrapped (items : List ModuleItem) : Type 0 where

@@ -44,8 +44,14 @@ Picks calls m item answer =
 -- `Picked May old new`: an item for which none is answered goes, and any other is replaced by its answer
 pub data Picked (May : ℕ → List Item → Option (List Item) → Type 0) : List Owned → List Owned → Type 0 where
   over : Picked May [] []
-  goes : {m : ℕ} {item : List Item} {old new : List Owned} → May m item None → Picked May old new → Picked May ((m, item) ∷ old) new
-  stays : {m : ℕ} {item answer : List Item} {old new : List Owned} → May m item (Some answer) → Picked May old new → Picked May ((m, item) ∷ old) ((m, answer) ∷ new)
+  goes : {m : ℕ} {item : List Item} {old new : List Owned} →
+      May m item None →
+      Picked May old new →
+      Picked May ((m, item) ∷ old) new
+  stays : {m : ℕ} {item answer : List Item} {old new : List Owned} →
+      May m item (Some answer) →
+      Picked May old new →
+      Picked May ((m, item) ∷ old) ((m, answer) ∷ new)
 
 -- each item is replaced by its answer, or goes
 abbrev pub MapsSome : (ℕ → List Item → Option (List Item) → Type 0) → Parts → Parts → Type 0

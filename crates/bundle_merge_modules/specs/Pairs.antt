@@ -26,8 +26,14 @@ LeadsToEnds Alias renaming = (ident : Ident) → (end : Ident) × ChainEnd Alias
 
 -- the number of a pair by what is an alias there, of the first so many pairs
 pub record AreNumbers (pairs : List Pair) (count : ℕ) (numbers : BTreeMap IdName ℕ) : Type 0 where
-  pub found : (name : IdName) (i : ℕ) → get name_cmp numbers name ≡ Some i → (pair : Pair) × (slice_get pairs i ≡ Some pair) × (pair.0 ≡ name)
-  pub none : (name : IdName) (i : ℕ) (pair : Pair) → get name_cmp numbers name ≡ None → i < count → slice_get pairs i ≡ Some pair → pair.0 ≢ name
+  pub found : (name : IdName) (i : ℕ) →
+      get name_cmp numbers name ≡ Some i →
+      (pair : Pair) × (slice_get pairs i ≡ Some pair) × (pair.0 ≡ name)
+  pub none : (name : IdName) (i : ℕ) (pair : Pair) →
+      get name_cmp numbers name ≡ None →
+      i < count →
+      slice_get pairs i ≡ Some pair →
+      pair.0 ≢ name
 
 -- which pair each leads to
 abbrev pub next_by : BTreeMap IdName ℕ → List Pair → List (Option ℕ)

@@ -37,7 +37,8 @@ pub record IsPut (trees : List (List Item)) (block : Block) (modules : List (Lis
   pub numbers : List ℕ
   pub whole : IsArrangement numbers (length block.places.items)
   pub picked : order ≡ map (λ n. slice_index block.places.items n) numbers
-  pub lone : block.is_cycle ≡ false → map (tree_at trees) order ≡ map (λ one. one.0) (numbered_items (map (tree_at trees) block.places.items ∷ []))
+  pub lone : block.is_cycle ≡ false →
+      map (tree_at trees) order ≡ map (λ one. one.0) (numbered_items (map (tree_at trees) block.places.items ∷ []))
   pub cycle : block.is_cycle ≡ true → IsSorted modules (map (tree_at trees) order)
 
 -- the same, whatever modules its items are of

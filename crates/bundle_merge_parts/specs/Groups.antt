@@ -89,8 +89,14 @@ ItemsAnswered answers m items answer = AllZip (answers m) items answer
 -- `Picked May items answers`: an item for which none is answered goes, and any other is replaced by its answer
 pub data Picked {A : Type 0} (May : A → Option A → Type 0) : List A → List A → Type 0 where
   over : Picked May [] []
-  goes : {item : A} {items answers : List A} → May item None → Picked May items answers → Picked May (item ∷ items) answers
-  stays : {item answer : A} {items answers : List A} → May item (Some answer) → Picked May items answers → Picked May (item ∷ items) (answer ∷ answers)
+  goes : {item : A} {items answers : List A} →
+      May item None →
+      Picked May items answers →
+      Picked May (item ∷ items) answers
+  stays : {item answer : A} {items answers : List A} →
+      May item (Some answer) →
+      Picked May items answers →
+      Picked May (item ∷ items) (answer ∷ answers)
 
 -- the same of the items of a module
 abbrev pub ItemsPicked : {A : Type 0} → (ℕ → A → Option A → Type 0) → ℕ → List A → List A → Type 0

@@ -89,7 +89,10 @@ pub record HoldsOfParts {A : Type 0} (Holds : List (Owned A) → List (Owned A) 
 -- `ListsAnswered May pairs modules new`: for each of these modules, its list of items is replaced by what may be answered to it
 pub data ListsAnswered {A : Type 0} (May : ℕ → List A → List A → Type 0) (pairs : List (Owned A)) : List ℕ → List (Owned A) → Type 0 where
   over : ListsAnswered May pairs [] []
-  next : {m : ℕ} {rest : List ℕ} {new : List (Owned A)} (answer : List A) → May m (items_in pairs m) answer → ListsAnswered May pairs rest new → ListsAnswered May pairs (m ∷ rest) (owned_by m answer ++ new)
+  next : {m : ℕ} {rest : List ℕ} {new : List (Owned A)} (answer : List A) →
+      May m (items_in pairs m) answer →
+      ListsAnswered May pairs rest new →
+      ListsAnswered May pairs (m ∷ rest) (owned_by m answer ++ new)
 
 -- each module's list of items in each part is replaced by an answer
 abbrev pub MapsLists : {A : Type 0} → (ℕ → List A → List A → Type 0) → Held A → Held A → Type 0
@@ -107,8 +110,14 @@ MapsItems May before after = HoldsOfParts (AllZip (ItemAnswered May)) before aft
 -- `Retained May old new`: an item for which true is answered stays, and one for which false is answered goes
 pub data Retained {A : Type 0} (May : ℕ → A → Bool → Type 0) : List (Owned A) → List (Owned A) → Type 0 where
   over : Retained May [] []
-  stays : {one : Owned A} {old new : List (Owned A)} → May one.0 one.1 true → Retained May old new → Retained May (one ∷ old) (one ∷ new)
-  goes : {one : Owned A} {old new : List (Owned A)} → May one.0 one.1 false → Retained May old new → Retained May (one ∷ old) new
+  stays : {one : Owned A} {old new : List (Owned A)} →
+      May one.0 one.1 true →
+      Retained May old new →
+      Retained May (one ∷ old) (one ∷ new)
+  goes : {one : Owned A} {old new : List (Owned A)} →
+      May one.0 one.1 false →
+      Retained May old new →
+      Retained May (one ∷ old) new
 
 -- the items stay for which true is answered
 abbrev pub Retains : {A : Type 0} → (ℕ → A → Bool → Type 0) → Held A → Held A → Type 0
@@ -117,8 +126,14 @@ Retains May before after = HoldsOfParts (Retained May) before after
 -- `Answered May old new`: an item for which none is answered goes, and any other is replaced by its answer
 pub data Answered {A : Type 0} (May : ℕ → A → Option A → Type 0) : List (Owned A) → List (Owned A) → Type 0 where
   over : Answered May [] []
-  goes : {m : ℕ} {item : A} {old new : List (Owned A)} → May m item None → Answered May old new → Answered May ((m, item) ∷ old) new
-  stays : {m : ℕ} {item answer : A} {old new : List (Owned A)} → May m item (Some answer) → Answered May old new → Answered May ((m, item) ∷ old) ((m, answer) ∷ new)
+  goes : {m : ℕ} {item : A} {old new : List (Owned A)} →
+      May m item None →
+      Answered May old new →
+      Answered May ((m, item) ∷ old) new
+  stays : {m : ℕ} {item answer : A} {old new : List (Owned A)} →
+      May m item (Some answer) →
+      Answered May old new →
+      Answered May ((m, item) ∷ old) ((m, answer) ∷ new)
 
 -- each item is replaced by its answer, or goes
 abbrev pub MapsSome : {A : Type 0} → (ℕ → A → Option A → Type 0) → Held A → Held A → Type 0

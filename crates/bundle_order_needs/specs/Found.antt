@@ -26,8 +26,10 @@ AddsEnds items number old new = (t : ℕ) → Contains new t ↔ (Contains old t
 
 -- these are the dependencies of item s, which refers to these bindings, and strongly to those
 pub record IsFound (providers : List (List ℕ)) (all strong : List ℕ) (s : ℕ) (found : List Dependency) : Type 0 where
-  pub strong_ones : (t : ℕ) → Contains found (record { item = t; is_weak = false }) ↔ (IsEnd providers all s t × IsEnd providers strong s t)
-  pub weak_ones : (t : ℕ) → Contains found (record { item = t; is_weak = true }) ↔ (IsEnd providers all s t × (IsEnd providers strong s t → ⊥))
+  pub strong_ones : (t : ℕ) →
+      Contains found (record { item = t; is_weak = false }) ↔ (IsEnd providers all s t × IsEnd providers strong s t)
+  pub weak_ones : (t : ℕ) →
+      Contains found (record { item = t; is_weak = true }) ↔ (IsEnd providers all s t × (IsEnd providers strong s t → ⊥))
   pub ascending : IsStrictlyIncreasing (map (λ one. one.item) found)
 
 -- the same in lists for all items

@@ -33,7 +33,9 @@ pub record IsStill (shuffle : Shuffle) (count : ℕ) : Type 0 where
 pub record IsShuffled {X : Type 0} (shuffle : Shuffle) (first values : List X) : Type 0 where
   pub len : length values ≡ length first
   pub inverse : IsInverse shuffle.numbers.items shuffle.places.items (length first)
-  pub each : (k : ℕ) (d : X) → k < length first → slice_index_or values k d ≡ slice_index_or first (slice_index shuffle.numbers.items k) d
+  pub each : (k : ℕ) (d : X) →
+      k < length first →
+      slice_index_or values k d ≡ slice_index_or first (slice_index shuffle.numbers.items k) d
 
 -- the numbers of two places changed places
 abbrev pub AreSwapped : List ℕ → List ℕ → ℕ → ℕ → Type 0

@@ -32,7 +32,12 @@ ReachesAll edges listed t k j = (m : ℕ) → k ≤ m → m ≤ j → Reaches (L
 -- where t is, to which an edge leads from what is listed at place k: listed before, or listed from there on, and then all up to it is reached from it
 pub data IsListed (edges : List (List ℕ)) (listed : List ℕ) (k t : ℕ) : Type 0 where
   earlier : (j : ℕ) → j < k → slice_index listed j ≡ t → IsListed edges listed k t
-  later : (j : ℕ) → k ≤ j → j < length listed → slice_index listed j ≡ t → ReachesAll edges listed t k j → IsListed edges listed k t
+  later : (j : ℕ) →
+      k ≤ j →
+      j < length listed →
+      slice_index listed j ≡ t →
+      ReachesAll edges listed t k j →
+      IsListed edges listed k t
 
 -- a post-order of all items: each once, and of an edge to an item that is listed later, that item reaches all that is listed up to it
 pub record IsPostOrder (edges : List (List ℕ)) (listed : List ℕ) : Type 0 where
@@ -55,22 +60,41 @@ IsBegun begun t = slice_index_or begun t false ≡ true
 -- where t is: listed, or still open, and then all that was listed from place k on is reached from it
 pub data IsMet (edges : List (List ℕ)) (visits : List Visit) (listed : List ℕ) (k t : ℕ) : Type 0 where
   is_listed : IsListed edges listed k t → IsMet edges visits listed k t
-  is_open : (i : ℕ) → i < length visits → (visit_at visits i).item ≡ t → ((m : ℕ) → k ≤ m → m < length listed → Reaches (Leads edges) t (slice_index listed m)) → IsMet edges visits listed k t
+  is_open : (i : ℕ) →
+      i < length visits →
+      (visit_at visits i).item ≡ t →
+      ((m : ℕ) → k ≤ m → m < length listed → Reaches (Leads edges) t (slice_index listed m)) →
+      IsMet edges visits listed k t
 
 -- the walk has come this far: what is begun is listed or open
 pub record Walking (edges : List (List ℕ)) (begun : List Bool) (visits : List Visit) (listed : List ℕ) : Type 0 where
   pub len : length begun ≡ length edges
-  pub found : (t : ℕ) → IsBegun begun t → Contains listed t ⊎ ((i : ℕ) × (i < length visits) × ((visit_at visits i).item ≡ t))
+  pub found : (t : ℕ) →
+      IsBegun begun t →
+      Contains listed t ⊎ ((i : ℕ) × (i < length visits) × ((visit_at visits i).item ≡ t))
   -- the open ones
   pub open_begun : (i : ℕ) → i < length visits → IsBegun begun (visit_at visits i).item
   pub open_once : (i j : ℕ) → i < j → j < length visits → (visit_at visits i).item ≢ (visit_at visits j).item
-  pub apart : (i k : ℕ) → i < length visits → k < length listed → (visit_at visits i).item ≢ slice_index listed k
-  pub chain : (i j : ℕ) → i ≤ j → j < length visits → Reaches (Leads edges) (visit_at visits i).item (visit_at visits j).item
-  pub looked : (i n : ℕ) → i < length visits → n < (visit_at visits i).next → n < length (slice_index_or edges (visit_at visits i).item []) → IsBegun begun (slice_index (slice_index_or edges (visit_at visits i).item []) n)
+  pub apart : (i k : ℕ) →
+      i < length visits →
+      k < length listed →
+      (visit_at visits i).item ≢ slice_index listed k
+  pub chain : (i j : ℕ) →
+      i ≤ j →
+      j < length visits →
+      Reaches (Leads edges) (visit_at visits i).item (visit_at visits j).item
+  pub looked : (i n : ℕ) →
+      i < length visits →
+      n < (visit_at visits i).next →
+      n < length (slice_index_or edges (visit_at visits i).item []) →
+      IsBegun begun (slice_index (slice_index_or edges (visit_at visits i).item []) n)
   -- the listed ones
   pub listed_begun : (k : ℕ) → k < length listed → IsBegun begun (slice_index listed k)
   pub once : (i j : ℕ) → i < j → j < length listed → slice_index listed i ≢ slice_index listed j
-  pub back : (k t : ℕ) → k < length listed → Leads edges (slice_index listed k) t → IsMet edges visits listed k t
+  pub back : (k t : ℕ) →
+      k < length listed →
+      Leads edges (slice_index listed k) t →
+      IsMet edges visits listed k t
 
 -- The ranks: the place of the last item of the class, for those that have one.
 
@@ -85,7 +109,10 @@ IsRanked ranks x = (q : ℕ) × (rank_of ranks x ≡ Some q)
 pub record IsMember (edges : List (List ℕ)) (listed : List ℕ) (x q : ℕ) : Type 0 where
   pub within : q < length listed
   pub to : Reaches (Leads edges) x (slice_index listed q)
-  pub from : (k : ℕ) → k < length listed → slice_index listed k ≡ x → (k ≤ q) × ReachesAll edges listed (slice_index listed q) k q
+  pub from : (k : ℕ) →
+      k < length listed →
+      slice_index listed k ≡ x →
+      (k ≤ q) × ReachesAll edges listed (slice_index listed q) k q
 
 -- the ranking has come this far: what is listed from place above on has a rank, and so has all from which an edge leads to a ranked item, unless that one waits
 pub record Ranking (edges : List (List ℕ)) (listed : List ℕ) (above : ℕ) (ranks : List (Option ℕ)) (waiting : List ℕ) : Type 0 where
@@ -93,7 +120,10 @@ pub record Ranking (edges : List (List ℕ)) (listed : List ℕ) (above : ℕ) (
   pub low : (x q : ℕ) → rank_of ranks x ≡ Some q → above ≤ q + 1
   pub member : (x q : ℕ) → rank_of ranks x ≡ Some q → IsMember edges listed x q
   pub after : (k : ℕ) → above ≤ k → k < length listed → IsRanked ranks (slice_index listed k)
-  pub closed : (s t q : ℕ) → Leads edges s t → rank_of ranks t ≡ Some q → Contains waiting t ⊎ ((p : ℕ) × (rank_of ranks s ≡ Some p) × (q ≤ p))
+  pub closed : (s t q : ℕ) →
+      Leads edges s t →
+      rank_of ranks t ≡ Some q →
+      Contains waiting t ⊎ ((p : ℕ) × (rank_of ranks s ≡ Some p) × (q ≤ p))
   pub waits : (x : ℕ) → Contains waiting x → (q : ℕ) × (rank_of ranks x ≡ Some q) × (q + 1 ≡ above)
 
 -- 1 for an item without a rank
@@ -110,7 +140,9 @@ pub record RanksUsers (users : List ℕ) (rank : ℕ) (old : List (Option ℕ)) 
   pub len : length new ≡ length old
   pub kept : (x q : ℕ) → rank_of old x ≡ Some q → rank_of new x ≡ Some q
   pub same : (x : ℕ) → Contains old_waiting x → Contains new_waiting x
-  pub news : (x q : ℕ) → rank_of new x ≡ Some q → (rank_of old x ≡ Some q) ⊎ ((q ≡ rank) × (rank_of old x ≡ None) × Contains users x × Contains new_waiting x)
+  pub news : (x q : ℕ) →
+      rank_of new x ≡ Some q →
+      (rank_of old x ≡ Some q) ⊎ ((q ≡ rank) × (rank_of old x ≡ None) × Contains users x × Contains new_waiting x)
   pub waits : (x : ℕ) → Contains new_waiting x → Contains old_waiting x ⊎ (rank_of new x ≡ Some rank)
   pub left : left_to_rank new new_waiting ≡ left_to_rank old old_waiting
 

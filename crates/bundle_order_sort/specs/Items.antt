@@ -54,7 +54,10 @@ pub record IsGoodOrder (items : List SortItem) (order : List ℕ) : Type 0 where
   pub all : (s : ℕ) → (s < length items) ↔ Contains order s
   pub once : IsDistinct nat_eq order
   pub own : (s t : ℕ) → IsEarlier items s t → StandsBefore order s t → Path (Step items) t s
-  pub needed : (s t : ℕ) → Needs items s t → StandsBefore order s t → Path (Depends items) t s × Path (Step items) s s
+  pub needed : (s t : ℕ) →
+      Needs items s t →
+      StandsBefore order s t →
+      Path (Depends items) t s × Path (Step items) s s
 
 -- the items of each module stand together
 abbrev pub AreGrouped : List SortItem → Type 0

@@ -30,7 +30,10 @@ pub record IsInOrder (needs : List (List ℕ)) (ranks firsts order : List ℕ) :
   pub all : (s : ℕ) → (s < length needs) ↔ Contains order s
   pub once : IsDistinct nat_eq order
   pub own : (s t : ℕ) → IsEarlier firsts s t → StandsBefore order s t → Path (Step needs firsts) t s
-  pub needed : (s t : ℕ) → Needs needs s t → StandsBefore order s t → (slice_index ranks s ≤ slice_index ranks t) × Path (Step needs firsts) s s
+  pub needed : (s t : ℕ) →
+      Needs needs s t →
+      StandsBefore order s t →
+      (slice_index ranks s ≤ slice_index ranks t) × Path (Step needs firsts) s s
 
 -- How far the sort has come.
 

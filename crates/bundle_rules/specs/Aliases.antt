@@ -48,8 +48,15 @@ IsInlined Alias before after = IsRenamedBy (ChainEnd Alias) before after
 -- `AreInlined Alias old new`: an item that makes an alias goes, and any other stays with its module, inlined
 pub data AreInlined (Alias : Ident → Ident → Type 0) : List Owned → List Owned → Type 0 where
   over : AreInlined Alias [] []
-  goes : {m : ℕ} {item : List Item} {a b : Ident} {old new : List Owned} → MakesAlias item a b → AreInlined Alias old new → AreInlined Alias ((m, item) ∷ old) new
-  stays : {m : ℕ} {before after : List Item} {old new : List Owned} → ((a b : Ident) → MakesAlias before a b → ⊥) → IsInlined Alias before after → AreInlined Alias old new → AreInlined Alias ((m, before) ∷ old) ((m, after) ∷ new)
+  goes : {m : ℕ} {item : List Item} {a b : Ident} {old new : List Owned} →
+      MakesAlias item a b →
+      AreInlined Alias old new →
+      AreInlined Alias ((m, item) ∷ old) new
+  stays : {m : ℕ} {before after : List Item} {old new : List Owned} →
+      ((a b : Ident) → MakesAlias before a b → ⊥) →
+      IsInlined Alias before after →
+      AreInlined Alias old new →
+      AreInlined Alias ((m, before) ∷ old) ((m, after) ∷ new)
 
 -- all aliases are inlined and taken out, in each part. The caller sees to it that no identifier is made an alias twice, and where aliases form a cycle there is no such answer
 abbrev pub Inlines : Parts → Parts → Type 0

@@ -73,10 +73,18 @@ MeansWhole p s = IsMeant p (Of (External s Whole))
 
 -- what is due in a bundle of this form, and nothing else is
 pub data IsDue (p : Program) (form : Form) : Cause → Type 0 where
-  own : {m k : ℕ} → IsReached p m → (IsCommonJs p m → ⊥) → k < length (own_statements (tree_of p m)) → IsDue p form (Own m k)
+  own : {m k : ℕ} →
+      IsReached p m →
+      (IsCommonJs p m → ⊥) →
+      k < length (own_statements (tree_of p m)) →
+      IsDue p form (Own m k)
   imports_names : {s x : Text} → IsUsed p s → MeansName p s x → IsDue p form (ImportsNames s)
   imports_whole : {s : Text} → IsUsed p s → MeansWhole p s → IsDue p form (ImportsWhole s)
-  imports_nothing : {s : Text} → IsUsed p s → ((x : Text) → MeansName p s x → ⊥) → (MeansWhole p s → ⊥) → IsDue p form (ImportsNothing s)
+  imports_nothing : {s : Text} →
+      IsUsed p s →
+      ((x : Text) → MeansName p s x → ⊥) →
+      (MeansWhole p s → ⊥) →
+      IsDue p form (ImportsNothing s)
   helps : {c : ℕ} → IsReached p c → IsCommonJs p c → IsDue p form Helps
   defines : {c : ℕ} → IsReached p c → IsCommonJs p c → IsDue p form (Defines c)
   loads : {m c : ℕ} → IsReached p m → (IsCommonJs p m → ⊥) → AsksCommonJs p m c → IsDue p form (Loads m c)
@@ -170,22 +178,55 @@ is_with _ = false
 pub record AreFaultless (p : Program) (properties : List Item) : Type 0 where
   pub undoubled : first_doubled Es (properties_tree properties) ≡ None
   pub no_with : has_head is_with properties ≡ false
-  pub no_arguments : p.settings.iife ≡ true → has_free (properties_tree properties) (codes "arguments") ≡ false
+  pub no_arguments : p.settings.iife ≡ true →
+      has_free (properties_tree properties) (codes "arguments") ≡ false
 
 -- an item stands for its cause, in a bundle of this form
 pub data Realises (p : Program) (hooks : Hooks) (form : Form) (b : Labelled) : TopItem → Cause → Type 0 where
-  own : {item : TopItem} {m k : ℕ} (statement : List Element) → slice_get (own_statements (tree_of p m)) k ≡ Some statement → SameMeaning p b m item statement → Realises p hooks form b item (Own m k)
-  imports_names : {item : TopItem} {s : Text} (names : List Text) → AreNames (MeansName p s) names → ItemMeans b item (import_names s names) → Realises p hooks form b item (ImportsNames s)
-  imports_whole : {item : TopItem} {s : Text} → ItemMeans b item (import_whole s) → Realises p hooks form b item (ImportsWhole s)
-  imports_nothing : {item : TopItem} {s : Text} → ItemMeans b item (import_bare s) → Realises p hooks form b item (ImportsNothing s)
+  own : {item : TopItem} {m k : ℕ} (statement : List Element) →
+      slice_get (own_statements (tree_of p m)) k ≡ Some statement →
+      SameMeaning p b m item statement →
+      Realises p hooks form b item (Own m k)
+  imports_names : {item : TopItem} {s : Text} (names : List Text) →
+      AreNames (MeansName p s) names →
+      ItemMeans b item (import_names s names) →
+      Realises p hooks form b item (ImportsNames s)
+  imports_whole : {item : TopItem} {s : Text} →
+      ItemMeans b item (import_whole s) →
+      Realises p hooks form b item (ImportsWhole s)
+  imports_nothing : {item : TopItem} {s : Text} →
+      ItemMeans b item (import_bare s) →
+      Realises p hooks form b item (ImportsNothing s)
   helps : {item : TopItem} → ItemMeans b item helper_function → Realises p hooks form b item Helps
   defines : {item : TopItem} {c : ℕ} → IsLoadFunction p b c item → Realises p hooks form b item (Defines c)
-  loads : {item : TopItem} {m c : ℕ} (whole : Bool) (names : List Text) → AreNames (λ x. IsMeant p (Of (CommonJs m c (Named x)))) names → (IsTrue whole ↔ IsMeant p (Of (CommonJs m c Whole))) → ItemMeans b item (load_statement m c whole names) → Realises p hooks form b item (Loads m c)
-  holds_meta : {item : TopItem} {m : ℕ} (properties : List Item) (marks : List Mark) → MayHold p hooks m properties → AreFaultless p properties → PropertiesMean properties marks → ItemMeans b item (meta_object m marks) → Realises p hooks form b item (HoldsMeta m)
-  holds_namespace : {item : TopItem} {d : ℕ} (pairs : List NamedTarget) → AreLinked p d pairs → ItemMeans b item (namespace_object d pairs) → Realises p hooks form b item (HoldsNamespace d)
-  stars : {item : TopItem} {s : Text} → ItemMeans b item (export_star s) → Realises p hooks form b item (Stars s)
-  exports : {item : TopItem} (pairs : List NamedTarget) → form ≡ AsModule → AreLinked p p.entry pairs → ItemMeans b item (export_list pairs) → Realises p hooks form b item Exports
-  returns : {item : TopItem} (pairs : List NamedTarget) → form ≡ AsCall → AreLinked p p.entry pairs → ItemMeans b item (return_object pairs) → Realises p hooks form b item Exports
+  loads : {item : TopItem} {m c : ℕ} (whole : Bool) (names : List Text) →
+      AreNames (λ x. IsMeant p (Of (CommonJs m c (Named x)))) names →
+      (IsTrue whole ↔ IsMeant p (Of (CommonJs m c Whole))) →
+      ItemMeans b item (load_statement m c whole names) →
+      Realises p hooks form b item (Loads m c)
+  holds_meta : {item : TopItem} {m : ℕ} (properties : List Item) (marks : List Mark) →
+      MayHold p hooks m properties →
+      AreFaultless p properties →
+      PropertiesMean properties marks →
+      ItemMeans b item (meta_object m marks) →
+      Realises p hooks form b item (HoldsMeta m)
+  holds_namespace : {item : TopItem} {d : ℕ} (pairs : List NamedTarget) →
+      AreLinked p d pairs →
+      ItemMeans b item (namespace_object d pairs) →
+      Realises p hooks form b item (HoldsNamespace d)
+  stars : {item : TopItem} {s : Text} →
+      ItemMeans b item (export_star s) →
+      Realises p hooks form b item (Stars s)
+  exports : {item : TopItem} (pairs : List NamedTarget) →
+      form ≡ AsModule →
+      AreLinked p p.entry pairs →
+      ItemMeans b item (export_list pairs) →
+      Realises p hooks form b item Exports
+  returns : {item : TopItem} (pairs : List NamedTarget) →
+      form ≡ AsCall →
+      AreLinked p p.entry pairs →
+      ItemMeans b item (return_object pairs) →
+      Realises p hooks form b item Exports
 
 -- The body of a bundle.
 
@@ -201,7 +242,9 @@ function_back = h.Close ∷ h.Close ∷ h.Close ∷ h.Close ∷ h.Close ∷ h.Cl
 pub data HasBody : Form → List Item → Scope → List TopItem → Type 0 where
   of_module : {tree : List Item} → HasBody AsModule tree Top (top_items tree)
   -- one function's call; its statements stand whole, so that none of them closes the function or stays open; it is async exactly where something in the body awaits outside functions
-  of_function : (inside : List Item) → StandsWhole inside → HasBody AsCall (function_front (awaits_outside inside) ++ (inside ++ function_back)) (InnerScope FunctionBody 6) (placed 7 (side_by_side zero inside))
+  of_function : (inside : List Item) →
+      StandsWhole inside →
+      HasBody AsCall (function_front (awaits_outside inside) ++ (inside ++ function_back)) (InnerScope FunctionBody 6) (placed 7 (side_by_side zero inside))
 
 -- The pairing.
 
@@ -222,7 +265,10 @@ pub record IsPaired (p : Program) (hooks : Hooks) (form : Form) (reading : Readi
   pub body : HasBody form tree pairing.top pairing.body
   pub realised : AllZip (Realises p hooks form (labelled tree reading pairing)) pairing.body pairing.plan
   pub due : (cause : Cause) → Contains pairing.plan cause ↔ IsDue p form cause
-  pub once : (i j : ℕ) (cause : Cause) → slice_get pairing.plan i ≡ Some cause → slice_get pairing.plan j ≡ Some cause → i ≡ j
+  pub once : (i j : ℕ) (cause : Cause) →
+      slice_get pairing.plan i ≡ Some cause →
+      slice_get pairing.plan j ≡ Some cause →
+      i ≡ j
 
 -- The layout.
 
@@ -266,14 +312,26 @@ pub record StandsFor (pairing : Pairing) (cause : Cause) (item : TopItem) : Type
 -- `IsBlockLaidOut p form tree reading pairing members plan`: the items of a block stand so
 pub data IsBlockLaidOut (p : Program) (form : Form) (tree : List Item) (reading : Reading) (pairing : Pairing) : List ℕ → List Cause → Type 0 where
   -- a module that shares its block with none and does not request itself: its items in their order, and then its free item
-  lone : {m : ℕ} {plan : List Cause} → (Requests p m m → ⊥) → Chosen (IsDue p form) (module_causes p m ++ HoldsNamespace m ∷ []) plan → IsBlockLaidOut p form tree reading pairing (m ∷ []) plan
+  lone : {m : ℕ} {plan : List Cause} →
+      (Requests p m m → ⊥) →
+      Chosen (IsDue p form) (module_causes p m ++ HoldsNamespace m ∷ []) plan →
+      IsBlockLaidOut p form tree reading pairing (m ∷ []) plan
   -- any other block: its items, numbered by modules and then the free ones, in an order that meets what is promised of one
-  cycle : {members : List ℕ} {plan : List Cause} (numbered : List Cause) (items : List TopItem) (order : List ℕ) → ((m : ℕ) → members ≡ m ∷ [] → Requests p m m) → Chosen (IsDue p form) (flat_map (module_causes p) members ++ map HoldsNamespace members) numbered → AllZip (StandsFor pairing) numbered items → IsGoodOrder (group_of reading pairing.top tree items (map owner_of numbered)) order → AllZip (λ n cause. slice_get numbered n ≡ Some cause) order plan → IsBlockLaidOut p form tree reading pairing members plan
+  cycle : {members : List ℕ} {plan : List Cause} (numbered : List Cause) (items : List TopItem) (order : List ℕ) →
+      ((m : ℕ) → members ≡ m ∷ [] → Requests p m m) →
+      Chosen (IsDue p form) (flat_map (module_causes p) members ++ map HoldsNamespace members) numbered →
+      AllZip (StandsFor pairing) numbered items →
+      IsGoodOrder (group_of reading pairing.top tree items (map owner_of numbered)) order →
+      AllZip (λ n cause. slice_get numbered n ≡ Some cause) order plan →
+      IsBlockLaidOut p form tree reading pairing members plan
 
 -- the blocks one after the other
 pub data AreBlocksLaidOut (p : Program) (form : Form) (tree : List Item) (reading : Reading) (pairing : Pairing) : List (List ℕ) → List Cause → Type 0 where
   over : AreBlocksLaidOut p form tree reading pairing [] []
-  next : {members : List ℕ} {blocks : List (List ℕ)} {rest : List Cause} (plan : List Cause) → IsBlockLaidOut p form tree reading pairing members plan → AreBlocksLaidOut p form tree reading pairing blocks rest → AreBlocksLaidOut p form tree reading pairing (members ∷ blocks) (plan ++ rest)
+  next : {members : List ℕ} {blocks : List (List ℕ)} {rest : List Cause} (plan : List Cause) →
+      IsBlockLaidOut p form tree reading pairing members plan →
+      AreBlocksLaidOut p form tree reading pairing blocks rest →
+      AreBlocksLaidOut p form tree reading pairing (members ∷ blocks) (plan ++ rest)
 
 -- a block stands after each other block that one of its modules requests
 abbrev pub FollowsRequests : Program → List (List ℕ) → Type 0

@@ -54,10 +54,20 @@ HasName _ rest = Unit {0}
 -- `AreStatements depth items`: whole nodes, of which `depth` are open at first, with no node of a module's
 pub data AreStatements : ℕ → List Item → Type 0 where
   over : AreStatements zero []
-  begun : {depth field : ℕ} {head : Head} {rest : List Item} → is_module_head head ≡ false → HasName head rest → AreStatements (suc depth) rest → AreStatements depth (h.Open field head ∷ rest)
-  ended : {depth : ℕ} {rest : List Item} → AreStatements depth rest → AreStatements (suc depth) (h.Close ∷ rest)
-  named : {depth field ctxt : ℕ} {sym : List ℕ} {role : Role} {rest : List Item} → AreStatements depth rest → AreStatements depth (h.Ident field sym ctxt role ∷ rest)
-  empty : {depth field : ℕ} {rest : List Item} → AreStatements depth rest → AreStatements depth (h.Hole field ∷ rest)
+  begun : {depth field : ℕ} {head : Head} {rest : List Item} →
+      is_module_head head ≡ false →
+      HasName head rest →
+      AreStatements (suc depth) rest →
+      AreStatements depth (h.Open field head ∷ rest)
+  ended : {depth : ℕ} {rest : List Item} →
+      AreStatements depth rest →
+      AreStatements (suc depth) (h.Close ∷ rest)
+  named : {depth field ctxt : ℕ} {sym : List ℕ} {role : Role} {rest : List Item} →
+      AreStatements depth rest →
+      AreStatements depth (h.Ident field sym ctxt role ∷ rest)
+  empty : {depth field : ℕ} {rest : List Item} →
+      AreStatements depth rest →
+      AreStatements depth (h.Hole field ∷ rest)
 
 -- a module of these statements, with what follows them and ends it
 abbrev pub module_with : List Item → List Item → List Item

@@ -88,8 +88,14 @@ SameIdent a b = (a.sym ≡ b.sym) × (a.ctxt ≡ b.ctxt)
 
 -- symbols and contexts tell the bindings of a tree apart: two occurrences have one symbol and context exactly if they denote one binding or one global, and no `arguments` in a function that is no arrow denotes a global
 pub record IsResolved (kind : ModuleKind) (items : List Item) : Type 0 where
-  pub same : (p q : ℕ) (a b : Occurrence) → occurrence_at items p ≡ Some a → occurrence_at items q ≡ Some b → SameIdent a b ↔ (denoted_at ByContext kind items p ≡ denoted_at ByContext kind items q)
-  pub own_arguments : (p : ℕ) (a : Occurrence) → occurrence_at items p ≡ Some a → denoted_at ByContext kind items p ≡ Some (Global (codes "arguments")) → find is_function (scopes_around kind a.path) ≡ None
+  pub same : (p q : ℕ) (a b : Occurrence) →
+      occurrence_at items p ≡ Some a →
+      occurrence_at items q ≡ Some b →
+      SameIdent a b ↔ (denoted_at ByContext kind items p ≡ denoted_at ByContext kind items q)
+  pub own_arguments : (p : ℕ) (a : Occurrence) →
+      occurrence_at items p ≡ Some a →
+      denoted_at ByContext kind items p ≡ Some (Global (codes "arguments")) →
+      find is_function (scopes_around kind a.path) ≡ None
 
 -- what is denoted, by its symbol alone
 abbrev pub by_symbol : Denoted → Denoted
@@ -104,10 +110,14 @@ denoted_as reading kind items i = slice_get (denotations reading kind items) i
 pub record IsResolutionOf (kind : ModuleKind) (before after : List Item) : Type 0 where
   pub resolved : IsResolved kind after
   pub same : map by_symbol (denotations ByContext kind after) ≡ denotations BySymbol kind before
-  pub one : (i j : ℕ) → denoted_as BySymbol kind before i ≡ denoted_as BySymbol kind before j → denoted_as ByContext kind after i ≡ denoted_as ByContext kind after j
+  pub one : (i j : ℕ) →
+      denoted_as BySymbol kind before i ≡ denoted_as BySymbol kind before j →
+      denoted_as ByContext kind after i ≡ denoted_as ByContext kind after j
 
 -- the occurrences of two modules denote alike, one by one: the same global, or bindings that correspond one to one
 pub record DenoteAlike (reading_before : Reading) (before : List Item) (reading_after : Reading) (after : List Item) : Type 0 where
   pub len : length (denotations reading_before Es before) ≡ length (denotations reading_after Es after)
-  pub same : (i j : ℕ) → (denoted_as reading_before Es before i ≡ denoted_as reading_before Es before j) ↔ (denoted_as reading_after Es after i ≡ denoted_as reading_after Es after j)
-  pub globals : (i : ℕ) (sym : List ℕ) → (denoted_as reading_before Es before i ≡ Some (Global sym)) ↔ (denoted_as reading_after Es after i ≡ Some (Global sym))
+  pub same : (i j : ℕ) →
+      (denoted_as reading_before Es before i ≡ denoted_as reading_before Es before j) ↔ (denoted_as reading_after Es after i ≡ denoted_as reading_after Es after j)
+  pub globals : (i : ℕ) (sym : List ℕ) →
+      (denoted_as reading_before Es before i ≡ Some (Global sym)) ↔ (denoted_as reading_after Es after i ≡ Some (Global sym))

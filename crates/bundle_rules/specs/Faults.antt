@@ -131,11 +131,22 @@ listed_names tree = flat_map (λ top. names_listed top.items) (top_items tree)
 -- `TreeFault file tree stage place fault`
 pub data TreeFault (file : Name) (tree : List Item) : ℕ → ℕ → Fault → Type 0 where
   -- two entries have one name; the later one is the place
-  doubled_export : {i j : ℕ} {x : Text} (first second : ExportEntry) → i < j → slice_get (exports_of tree) i ≡ Some first → slice_get (exports_of tree) j ≡ Some second → entry_name first ≡ Some x → entry_name second ≡ Some x → TreeFault file tree 0 j (DoubledExport file x)
+  doubled_export : {i j : ℕ} {x : Text} (first second : ExportEntry) →
+      i < j →
+      slice_get (exports_of tree) i ≡ Some first →
+      slice_get (exports_of tree) j ≡ Some second →
+      entry_name first ≡ Some x →
+      entry_name second ≡ Some x →
+      TreeFault file tree 0 j (DoubledExport file x)
   -- an export list without `from` has a string, or a name that the top does not bind
-  undeclared_export : {j : ℕ} (listed : ListedName) → slice_get (listed_names tree) j ≡ Some listed → IsTrue listed.is_string ⊎ (has_text listed.text (top_names tree) ≡ false) → TreeFault file tree 1 j (UndeclaredExport file listed.text)
+  undeclared_export : {j : ℕ} (listed : ListedName) →
+      slice_get (listed_names tree) j ≡ Some listed →
+      IsTrue listed.is_string ⊎ (has_text listed.text (top_names tree) ≡ false) →
+      TreeFault file tree 1 j (UndeclaredExport file listed.text)
   -- a `with` statement
-  with_statement : {place field : ℕ} → slice_get tree place ≡ Some (h.Open field h.WithStmt) → TreeFault file tree 2 place (WithStatement file)
+  with_statement : {place field : ℕ} →
+      slice_get tree place ≡ Some (h.Open field h.WithStmt) →
+      TreeFault file tree 2 place (WithStatement file)
 
 -- one place is before another or the same
 pub data NotAfter (stage place : ℕ) : ℕ → ℕ → Type 0 where
@@ -186,29 +197,63 @@ StarsExternal p d = (s : Text) × HasExternalStar p d s
 -- what is wrong with a name that is asked of an ES module d: two targets; none, where a star of an external may hold it; none else
 pub data NameFault (p : Program) (d : ℕ) (x : Text) (file : Name) : Fault → Type 0 where
   ambiguous : IsAmbiguous p d x → NameFault p d x file (AmbiguousExport file x)
-  external_only : IsMissing p d x → x ≢ default_name → StarsExternal p d → NameFault p d x file (ExternalStarOnly file x)
-  missing : IsMissing p d x → (x ≡ default_name) ⊎ (StarsExternal p d → ⊥) → NameFault p d x file (MissingExport file x)
+  external_only : IsMissing p d x →
+      x ≢ default_name →
+      StarsExternal p d →
+      NameFault p d x file (ExternalStarOnly file x)
+  missing : IsMissing p d x →
+      (x ≡ default_name) ⊎ (StarsExternal p d → ⊥) →
+      NameFault p d x file (MissingExport file x)
 
 -- `ProgramFault p file m stage place fault`: module m, which is this file, has the fault
 pub data ProgramFault (p : Program) (file : Name) (m : ℕ) : ℕ → ℕ → Fault → Type 0 where
   -- a literal call of `require` is one of the entry
-  required_entry : (call : RequireCall) → Contains (calls_of p m) call → resolves p m call.specifier ≡ Some p.entry → ProgramFault p file m 0 call.place (RequiredEntry file call.specifier)
+  required_entry : (call : RequireCall) →
+      Contains (calls_of p m) call →
+      resolves p m call.specifier ≡ Some p.entry →
+      ProgramFault p file m 0 call.place (RequiredEntry file call.specifier)
   -- one is of a module with a module declaration or `import.meta`
-  required_es_module : {c : ℕ} (call : RequireCall) → Contains (calls_of p m) call → resolves p m call.specifier ≡ Some c → is_script (tree_of p c) ≡ false → ProgramFault p file m 1 call.place (RequiredEsModule file call.specifier)
+  required_es_module : {c : ℕ} (call : RequireCall) →
+      Contains (calls_of p m) call →
+      resolves p m call.specifier ≡ Some c →
+      is_script (tree_of p c) ≡ false →
+      ProgramFault p file m 1 call.place (RequiredEsModule file call.specifier)
   -- a name is declared twice; the later declaration is the place
-  doubled_declaration : {kind : ModuleKind} (d : Declaration) → HasKind p m kind → first_doubled kind (tree_of p m) ≡ Some d → ProgramFault p file m 2 d.place (DoubledDeclaration file d.name.sym)
+  doubled_declaration : {kind : ModuleKind} (d : Declaration) →
+      HasKind p m kind →
+      first_doubled kind (tree_of p m) ≡ Some d →
+      ProgramFault p file m 2 d.place (DoubledDeclaration file d.name.sym)
   -- an `await` outside functions in a CommonJS module
-  await_in_common_js : IsCommonJs p m → IsTrue (awaits_outside (tree_of p m)) → ProgramFault p file m 3 0 (AwaitInCommonJs file)
+  await_in_common_js : IsCommonJs p m →
+      IsTrue (awaits_outside (tree_of p m)) →
+      ProgramFault p file m 3 0 (AwaitInCommonJs file)
   -- a star of a CommonJS module
-  star_of_common_js : {j c : ℕ} {s : Text} → slice_get (exports p m) j ≡ Some (Star s) → resolves p m s ≡ Some c → IsCommonJs p c → ProgramFault p file m 4 j (StarOfCommonJs file s)
+  star_of_common_js : {j c : ℕ} {s : Text} →
+      slice_get (exports p m) j ≡ Some (Star s) →
+      resolves p m s ≡ Some c →
+      IsCommonJs p c →
+      ProgramFault p file m 4 j (StarOfCommonJs file s)
   -- a name that an ES module does not give, or not once
-  name : {j d : ℕ} {f : Fault} (asked : AskedName) → slice_get (asked_names (tree_of p m)) j ≡ Some asked → IsModule p m asked.specifier d → NameFault p d asked.name file f → ProgramFault p file m 5 j f
+  name : {j d : ℕ} {f : Fault} (asked : AskedName) →
+      slice_get (asked_names (tree_of p m)) j ≡ Some asked →
+      IsModule p m asked.specifier d →
+      NameFault p d asked.name file f →
+      ProgramFault p file m 5 j f
   -- the object of its namespace is meant, and it stars an external
-  namespace_over_external_star : IsMeant p (Of (Namespace m)) → StarsExternal p m → ProgramFault p file m 6 0 (NamespaceOverExternalStar file)
+  namespace_over_external_star : IsMeant p (Of (Namespace m)) →
+      StarsExternal p m →
+      ProgramFault p file m 6 0 (NamespaceOverExternalStar file)
   -- an import or re-export of an external, where the bundle is one function's call
-  external_under_iife : {j : ℕ} {s : Text} → p.settings.iife ≡ true → slice_get (declared_requests (tree_of p m)) j ≡ Some s → IsTrue (is_external p s) → ProgramFault p file m 7 j (ExternalUnderIife file s)
+  external_under_iife : {j : ℕ} {s : Text} →
+      p.settings.iife ≡ true →
+      slice_get (declared_requests (tree_of p m)) j ≡ Some s →
+      IsTrue (is_external p s) →
+      ProgramFault p file m 7 j (ExternalUnderIife file s)
   -- an `arguments` that nothing binds in an ES module, where the bundle is one function's call
-  arguments_under_iife : p.settings.iife ≡ true → (IsCommonJs p m → ⊥) → IsTrue (has_free (tree_of p m) (codes "arguments")) → ProgramFault p file m 8 0 (ArgumentsUnderIife file)
+  arguments_under_iife : p.settings.iife ≡ true →
+      (IsCommonJs p m → ⊥) →
+      IsTrue (has_free (tree_of p m) (codes "arguments")) →
+      ProgramFault p file m 8 0 (ArgumentsUnderIife file)
 
 -- a reached module, at its place in the list, with its file
 pub record Stands (p : Program) (list : List ℕ) (i m : ℕ) (file : Name) : Type 0 where
@@ -232,7 +277,10 @@ pub record IsFirstProgramFault (p : Program) (fault : Fault) : Type 0 where
   pub stage : ℕ
   pub place : ℕ
   pub there : ProgramFault p file m stage place fault
-  pub first : (j n other its : ℕ) (at : Name) (f : Fault) → Stands p list j n at → ProgramFault p at n other its f → JudgedNotAfter stage i place other j its
+  pub first : (j n other its : ℕ) (at : Name) (f : Fault) →
+      Stands p list j n at →
+      ProgramFault p at n other its f →
+      JudgedNotAfter stage i place other j its
 
 -- the program has no fault, whatever its files are called
 abbrev pub IsFaultlessProgram : Program → Type 0
@@ -242,14 +290,28 @@ IsFaultlessProgram p = (m stage place : ℕ) (file : Name) (f : Fault) → IsRea
 
 -- what is wrong with properties that a hook answers
 pub data PropertiesFault (p : Program) (file : Name) (properties : List Item) : Fault → Type 0 where
-  doubled : (d : Declaration) → first_doubled Es (properties_tree properties) ≡ Some d → PropertiesFault p file properties (DoubledDeclaration file d.name.sym)
-  with_statement : first_doubled Es (properties_tree properties) ≡ None → IsTrue (has_head is_with properties) → PropertiesFault p file properties (WithStatement file)
-  arguments : first_doubled Es (properties_tree properties) ≡ None → has_head is_with properties ≡ false → p.settings.iife ≡ true → IsTrue (has_free (properties_tree properties) (codes "arguments")) → PropertiesFault p file properties (ArgumentsUnderIife file)
+  doubled : (d : Declaration) →
+      first_doubled Es (properties_tree properties) ≡ Some d →
+      PropertiesFault p file properties (DoubledDeclaration file d.name.sym)
+  with_statement : first_doubled Es (properties_tree properties) ≡ None →
+      IsTrue (has_head is_with properties) →
+      PropertiesFault p file properties (WithStatement file)
+  arguments : first_doubled Es (properties_tree properties) ≡ None →
+      has_head is_with properties ≡ false →
+      p.settings.iife ≡ true →
+      IsTrue (has_free (properties_tree properties) (codes "arguments")) →
+      PropertiesFault p file properties (ArgumentsUnderIife file)
 
 -- what may be wrong where the hook is asked for module m
 pub data HookFault (p : Program) (parties : Parties) (m : ℕ) (file : Name) : Fault → Type 0 where
-  fails : (loaded : Loaded) → module_of p m ≡ Some loaded → parties.may_fail_to_answer loaded.file_name (m == p.entry) → HookFault p parties m file (HookFails file)
-  answers : {f : Fault} (properties : List Item) → MayHold p parties.hooks m properties → PropertiesFault p file properties f → HookFault p parties m file f
+  fails : (loaded : Loaded) →
+      module_of p m ≡ Some loaded →
+      parties.may_fail_to_answer loaded.file_name (m == p.entry) →
+      HookFault p parties m file (HookFails file)
+  answers : {f : Fault} (properties : List Item) →
+      MayHold p parties.hooks m properties →
+      PropertiesFault p file properties f →
+      HookFault p parties m file f
 
 -- the hook may answer for module m without a fault
 pub record MayAnswer (p : Program) (parties : Parties) (m : ℕ) : Type 0 where
@@ -261,14 +323,22 @@ pub record MayAnswer (p : Program) (parties : Parties) (m : ℕ) : Type 0 where
 
 -- how many scopes and bindings an injected item may have; the statements of modules are counted with their trees
 pub data InjectedCount (p : Program) : Cause → ℕ → Type 0 where
-  names : {s : Text} (names : List Text) → AreNames (MeansName p s) names → InjectedCount p (ImportsNames s) (length names)
+  names : {s : Text} (names : List Text) →
+      AreNames (MeansName p s) names →
+      InjectedCount p (ImportsNames s) (length names)
   whole : {s : Text} → InjectedCount p (ImportsWhole s) 1
   -- the helper with its parameter, its variable and two `arguments`; two functions' parameters and bodies, and a block
   helper : InjectedCount p Helps 10
   -- the name of the function; its scopes and parameters are counted with the tree
   load_function : {c : ℕ} → InjectedCount p (Defines c) 1
-  loads : {m c : ℕ} (names : List Text) → AreNames (λ x. IsMeant p (Of (CommonJs m c (Named x)))) names → (IsMeant p (Of (CommonJs m c Whole)) → ⊥) → InjectedCount p (Loads m c) (length names)
-  loads_whole : {m c : ℕ} (names : List Text) → AreNames (λ x. IsMeant p (Of (CommonJs m c (Named x)))) names → IsMeant p (Of (CommonJs m c Whole)) → InjectedCount p (Loads m c) (length names + 1)
+  loads : {m c : ℕ} (names : List Text) →
+      AreNames (λ x. IsMeant p (Of (CommonJs m c (Named x)))) names →
+      (IsMeant p (Of (CommonJs m c Whole)) → ⊥) →
+      InjectedCount p (Loads m c) (length names)
+  loads_whole : {m c : ℕ} (names : List Text) →
+      AreNames (λ x. IsMeant p (Of (CommonJs m c (Named x)))) names →
+      IsMeant p (Of (CommonJs m c Whole)) →
+      InjectedCount p (Loads m c) (length names + 1)
   meta : {m : ℕ} → InjectedCount p (HoldsMeta m) 1
   -- the object's name, its function's scopes and `arguments`
   namespace : {d : ℕ} → InjectedCount p (HoldsNamespace d) 4
@@ -276,8 +346,14 @@ pub data InjectedCount (p : Program) : Cause → ℕ → Type 0 where
 -- the counts of causes, added
 pub data CountsTo (p : Program) : List Cause → ℕ → Type 0 where
   nothing : CountsTo p [] 0
-  counted : {cause : Cause} {rest : List Cause} {n more : ℕ} → InjectedCount p cause n → CountsTo p rest more → CountsTo p (cause ∷ rest) (n + more)
-  other : {cause : Cause} {rest : List Cause} {more : ℕ} → ((n : ℕ) → InjectedCount p cause n → ⊥) → CountsTo p rest more → CountsTo p (cause ∷ rest) more
+  counted : {cause : Cause} {rest : List Cause} {n more : ℕ} →
+      InjectedCount p cause n →
+      CountsTo p rest more →
+      CountsTo p (cause ∷ rest) (n + more)
+  other : {cause : Cause} {rest : List Cause} {more : ℕ} →
+      ((n : ℕ) → InjectedCount p cause n → ⊥) →
+      CountsTo p rest more →
+      CountsTo p (cause ∷ rest) more
 
 -- the scopes and bindings of a tree
 abbrev pub tree_count : ModuleKind → List Item → ℕ
@@ -290,9 +366,20 @@ properties_count properties = scope_count_from start (properties_tree properties
 -- the scopes and bindings of the modules of a list, and of answers of the hook for those with `import.meta`, added; where the hook was not asked the tree counts alone
 pub data TreesCountTo (p : Program) (hooks : Hooks) : List ℕ → ℕ → Type 0 where
   nothing : TreesCountTo p hooks [] 0
-  plain : {m more : ℕ} {rest : List ℕ} {kind : ModuleKind} → HasKind p m kind → has_import_meta (tree_of p m) ≡ false → TreesCountTo p hooks rest more → TreesCountTo p hooks (m ∷ rest) (tree_count kind (tree_of p m) + more)
-  with_meta : {m more : ℕ} {rest : List ℕ} (properties : List Item) → has_import_meta (tree_of p m) ≡ true → MayHold p hooks m properties → TreesCountTo p hooks rest more → TreesCountTo p hooks (m ∷ rest) (tree_count Es (tree_of p m) + (properties_count properties + more))
-  unanswered : {m more : ℕ} {rest : List ℕ} → has_import_meta (tree_of p m) ≡ true → TreesCountTo p hooks rest more → TreesCountTo p hooks (m ∷ rest) (tree_count Es (tree_of p m) + more)
+  plain : {m more : ℕ} {rest : List ℕ} {kind : ModuleKind} →
+      HasKind p m kind →
+      has_import_meta (tree_of p m) ≡ false →
+      TreesCountTo p hooks rest more →
+      TreesCountTo p hooks (m ∷ rest) (tree_count kind (tree_of p m) + more)
+  with_meta : {m more : ℕ} {rest : List ℕ} (properties : List Item) →
+      has_import_meta (tree_of p m) ≡ true →
+      MayHold p hooks m properties →
+      TreesCountTo p hooks rest more →
+      TreesCountTo p hooks (m ∷ rest) (tree_count Es (tree_of p m) + (properties_count properties + more))
+  unanswered : {m more : ℕ} {rest : List ℕ} →
+      has_import_meta (tree_of p m) ≡ true →
+      TreesCountTo p hooks rest more →
+      TreesCountTo p hooks (m ∷ rest) (tree_count Es (tree_of p m) + more)
 
 -- a bundle may need contexts above the last: from the next one on, one for each scope and binding
 pub record NeedsTooManyContexts (p : Program) (hooks : Hooks) (next : ℕ) : Type 0 where
@@ -300,7 +387,10 @@ pub record NeedsTooManyContexts (p : Program) (hooks : Hooks) (next : ℕ) : Typ
   pub is_list : IsList p list
   pub causes : List Cause
   pub due : (cause : Cause) → Contains causes cause → IsDue p (form_of p.settings) cause
-  pub once : (i j : ℕ) (cause : Cause) → slice_get causes i ≡ Some cause → slice_get causes j ≡ Some cause → i ≡ j
+  pub once : (i j : ℕ) (cause : Cause) →
+      slice_get causes i ≡ Some cause →
+      slice_get causes j ≡ Some cause →
+      i ≡ j
   pub of_trees : ℕ
   pub trees : TreesCountTo p hooks list of_trees
   pub of_causes : ℕ
@@ -311,7 +401,11 @@ pub record NeedsTooManyContexts (p : Program) (hooks : Hooks) (next : ℕ) : Typ
 pub data GetsContexts (p : Program) (hooks : Hooks) (m : ℕ) : Type 0 where
   by_tree : 0 < scope_count_from start (tree_of p m) → GetsContexts p hooks m
   by_function : IsCommonJs p m → GetsContexts p hooks m
-  by_answer : (properties : List Item) → IsTrue (has_import_meta (tree_of p m)) → MayHold p hooks m properties → 0 < scope_count_from start (properties_tree properties) → GetsContexts p hooks m
+  by_answer : (properties : List Item) →
+      IsTrue (has_import_meta (tree_of p m)) →
+      MayHold p hooks m properties →
+      0 < scope_count_from start (properties_tree properties) →
+      GetsContexts p hooks m
 
 -- the module whose file is named where contexts do not suffice: one that gets some, or else the entry, for the linker's own names
 pub data IsNamedForContexts (p : Program) (hooks : Hooks) : ℕ → Type 0 where

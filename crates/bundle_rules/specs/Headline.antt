@@ -64,7 +64,11 @@ pub record IsContextsFault (parties : Parties) (settings : Settings) (entries : 
   pub i : ℕ
   pub entry : Entry
   pub there : slice_get entries i ≡ Some entry
-  pub accepted_before : (j : ℕ) (other : Entry) (its : Program) → j < i → slice_get entries j ≡ Some other → IsProgramOf kept settings other its → AcceptsProgram its parties
+  pub accepted_before : (j : ℕ) (other : Entry) (its : Program) →
+      j < i →
+      slice_get entries j ≡ Some other →
+      IsProgramOf kept settings other its →
+      AcceptsProgram its parties
   pub p : Program
   pub its_program : IsProgramOf kept settings entry p
   pub accepted : AcceptsProgram p parties

@@ -48,7 +48,10 @@ pub data Takes (p : Program) (m : ℕ) : Text → Taken → Target → Type 0 wh
   -- of an external, any name or the whole
   of_external : {s : Text} {taken : Taken} → IsTrue (is_external p s) → Takes p m s taken (External s taken)
   -- of a CommonJS module, any property or the whole
-  of_common_js : {s : Text} {taken : Taken} {c : ℕ} → resolves p m s ≡ Some c → IsCommonJs p c → Takes p m s taken (CommonJs m c taken)
+  of_common_js : {s : Text} {taken : Taken} {c : ℕ} →
+      resolves p m s ≡ Some c →
+      IsCommonJs p c →
+      Takes p m s taken (CommonJs m c taken)
   -- of an ES module, its namespace
   of_module : {s : Text} {d : ℕ} → IsModule p m s d → Takes p m s Whole (Namespace d)
 
@@ -68,15 +71,35 @@ pub record Origin : Type 0 where
 -- `Gives p m x t origin`: by its exports m gives the target t for the name x. The least such relation: a cycle of entries gives nothing by itself
 pub data Gives (p : Program) : ℕ → Text → Target → Option Origin → Type 0 where
   -- an entry of a name that m declares gives that declaration
-  declaration : {m : ℕ} {x y : Text} → Contains (exports p m) (Local x y) → import_of (imports p m) y ≡ None → Gives p m x (Declared m y) None
+  declaration : {m : ℕ} {x y : Text} →
+      Contains (exports p m) (Local x y) →
+      import_of (imports p m) y ≡ None →
+      Gives p m x (Declared m y) None
   -- an entry of a name bound by `import * as` gives what that import takes, and goes with m and the name
-  namespace_import : {m : ℕ} {x y : Text} {t : Target} (entry : ImportEntry) → Contains (exports p m) (Local x y) → import_of (imports p m) y ≡ Some entry → Takes p m entry.specifier entry.taken t → Gives p m x t (Some (record { «module» = m; local = y }))
+  namespace_import : {m : ℕ} {x y : Text} {t : Target} (entry : ImportEntry) →
+      Contains (exports p m) (Local x y) →
+      import_of (imports p m) y ≡ Some entry →
+      Takes p m entry.specifier entry.taken t →
+      Gives p m x t (Some (record { «module» = m; local = y }))
   -- an indirect entry of an external, a CommonJS module or a whole namespace gives just that
-  taken : {m : ℕ} {x s : Text} {what : Taken} {t : Target} → Contains (exports p m) (Indirect x s what) → Takes p m s what t → Gives p m x t None
+  taken : {m : ℕ} {x s : Text} {what : Taken} {t : Target} →
+      Contains (exports p m) (Indirect x s what) →
+      Takes p m s what t →
+      Gives p m x t None
   -- an indirect entry of a name of an ES module gives what that module gives
-  given_on : {m d : ℕ} {x s y : Text} {t : Target} {origin : Option Origin} → Contains (exports p m) (Indirect x s (Named y)) → IsModule p m s d → Gives p d y t origin → Gives p m x t origin
+  given_on : {m d : ℕ} {x s y : Text} {t : Target} {origin : Option Origin} →
+      Contains (exports p m) (Indirect x s (Named y)) →
+      IsModule p m s d →
+      Gives p d y t origin →
+      Gives p m x t origin
   -- a star gives what the other module gives, but for `default` and for names of which m has an entry
-  starred : {m d : ℕ} {x s : Text} {t : Target} {origin : Option Origin} → has_own_entry (tree_of p m) x ≡ false → x ≢ default_name → Contains (exports p m) (Star s) → IsModule p m s d → Gives p d x t origin → Gives p m x t origin
+  starred : {m d : ℕ} {x s : Text} {t : Target} {origin : Option Origin} →
+      has_own_entry (tree_of p m) x ≡ false →
+      x ≢ default_name →
+      Contains (exports p m) (Star s) →
+      IsModule p m s d →
+      Gives p d x t origin →
+      Gives p m x t origin
 
 -- the name x of m is linked to t: one target with one origin is given, and it is t
 pub record Linked (p : Program) (m : ℕ) (x : Text) (t : Target) : Type 0 where
@@ -104,14 +127,32 @@ IsMissing p m x = (t : Target) (origin : Option Origin) → Gives p m x t origin
 
 -- `HasExternalStar p m s`: the external s is starred by m, or at the end of a finite chain of stars from m
 pub data HasExternalStar (p : Program) : ℕ → Text → Type 0 where
-  own : {m : ℕ} {s : Text} → Contains (exports p m) (Star s) → IsTrue (is_external p s) → HasExternalStar p m s
-  through : {m d : ℕ} {r s : Text} → Contains (exports p m) (Star r) → resolves p m r ≡ Some d → HasExternalStar p d s → HasExternalStar p m s
+  own : {m : ℕ} {s : Text} →
+      Contains (exports p m) (Star s) →
+      IsTrue (is_external p s) →
+      HasExternalStar p m s
+  through : {m d : ℕ} {r s : Text} →
+      Contains (exports p m) (Star r) →
+      resolves p m r ≡ Some d →
+      HasExternalStar p d s →
+      HasExternalStar p m s
 
 -- What a name at the top of a module stands for in the module.
 pub data StandsFor (p : Program) (m : ℕ) : Text → Target → Type 0 where
   -- a name that is declared there
-  declared : {x : Text} → Contains (top_names (tree_of p m)) x → import_of (imports p m) x ≡ None → StandsFor p m x (Declared m x)
+  declared : {x : Text} →
+      Contains (top_names (tree_of p m)) x →
+      import_of (imports p m) x ≡ None →
+      StandsFor p m x (Declared m x)
   -- an imported name of an ES module: what it is linked to there
-  imported : {x y : Text} {d : ℕ} {t : Target} (entry : ImportEntry) → import_of (imports p m) x ≡ Some entry → entry.taken ≡ Named y → IsModule p m entry.specifier d → Linked p d y t → StandsFor p m x t
+  imported : {x y : Text} {d : ℕ} {t : Target} (entry : ImportEntry) →
+      import_of (imports p m) x ≡ Some entry →
+      entry.taken ≡ Named y →
+      IsModule p m entry.specifier d →
+      Linked p d y t →
+      StandsFor p m x t
   -- any other imported name: just what the import takes
-  taken_whole : {x : Text} {t : Target} (entry : ImportEntry) → import_of (imports p m) x ≡ Some entry → Takes p m entry.specifier entry.taken t → StandsFor p m x t
+  taken_whole : {x : Text} {t : Target} (entry : ImportEntry) →
+      import_of (imports p m) x ≡ Some entry →
+      Takes p m entry.specifier entry.taken t →
+      StandsFor p m x t

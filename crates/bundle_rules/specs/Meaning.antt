@@ -103,27 +103,55 @@ past_end depth (e ∷ rest) = elim (item_of e) [
 
 -- `NameMeans sense inner d meant`: where these are the bindings inside, what denotes d means this
 pub data NameMeans (sense : Sense) (inner : List Denoted) : Denoted → Meant → Type 0 where
-  inside : {d : Denoted} {n : ℕ} → position (same_denoted d) inner ≡ Some n → NameMeans sense inner d (Inside n)
-  outside : {scope : Scope} {name : Known_as} {l : Label} → position (same_denoted (Bound scope name)) inner ≡ None → sense.Stands (Bound scope name) l → NameMeans sense inner (Bound scope name) (Known l)
+  inside : {d : Denoted} {n : ℕ} →
+      position (same_denoted d) inner ≡ Some n →
+      NameMeans sense inner d (Inside n)
+  outside : {scope : Scope} {name : Known_as} {l : Label} →
+      position (same_denoted (Bound scope name)) inner ≡ None →
+      sense.Stands (Bound scope name) l →
+      NameMeans sense inner (Bound scope name) (Known l)
   unbound : {x : Text} → NameMeans sense inner (Global x) (Unbound x)
 
 -- `Means sense inner elements marks`: the elements, one after the other, mean these marks
 pub data Means (sense : Sense) (inner : List Denoted) : List Element → List Mark → Type 0 where
   finished : Means sense inner [] []
   -- a node that is replaced; what stands in it is passed over, so that of two one in the other the outer one counts
-  replaced : {place field : ℕ} {head : Head} {rest : List Element} {marks : List Mark} (by : Replacement) → sense.replaced place by → Means sense inner (past_end zero rest) marks → Means sense inner (taken place (h.Open field head) ∷ rest) (replacement_marks field by ++ marks)
+  replaced : {place field : ℕ} {head : Head} {rest : List Element} {marks : List Mark} (by : Replacement) →
+      sense.replaced place by →
+      Means sense inner (past_end zero rest) marks →
+      Means sense inner (taken place (h.Open field head) ∷ rest) (replacement_marks field by ++ marks)
   -- any other node begins
-  begun : {place field : ℕ} {head : Head} {rest : List Element} {marks : List Mark} → ((by : Replacement) → sense.replaced place by → ⊥) → Means sense inner rest marks → Means sense inner (taken place (h.Open field head) ∷ rest) (begin_marks sense.view.tree place field (path_at sense.view.tree place) head ++ marks)
-  ended : {place : ℕ} {rest : List Element} {marks : List Mark} → Means sense inner rest marks → Means sense inner (taken place h.Close ∷ rest) (end_marks sense.view.tree (path_at sense.view.tree place) ++ marks)
-  empty : {place field : ℕ} {rest : List Element} {marks : List Mark} → Means sense inner rest marks → Means sense inner (taken place (h.Hole field) ∷ rest) (Empty field ∷ marks)
+  begun : {place field : ℕ} {head : Head} {rest : List Element} {marks : List Mark} →
+      ((by : Replacement) → sense.replaced place by → ⊥) →
+      Means sense inner rest marks →
+      Means sense inner (taken place (h.Open field head) ∷ rest) (begin_marks sense.view.tree place field (path_at sense.view.tree place) head ++ marks)
+  ended : {place : ℕ} {rest : List Element} {marks : List Mark} →
+      Means sense inner rest marks →
+      Means sense inner (taken place h.Close ∷ rest) (end_marks sense.view.tree (path_at sense.view.tree place) ++ marks)
+  empty : {place field : ℕ} {rest : List Element} {marks : List Mark} →
+      Means sense inner rest marks →
+      Means sense inner (taken place (h.Hole field) ∷ rest) (Empty field ∷ marks)
   -- a name means what it denotes
-  named : {place field ctxt : ℕ} {sym : Text} {role : Role} {rest : List Element} {marks : List Mark} (d : Denoted) (meant : Meant) → denoted sense.view (taken place (h.Ident field sym ctxt role)) ≡ Some d → NameMeans sense inner d meant → Means sense inner rest marks → Means sense inner (taken place (h.Ident field sym ctxt role) ∷ rest) (name_marks field (path_at sense.view.tree place) sym meant ++ marks)
+  named : {place field ctxt : ℕ} {sym : Text} {role : Role} {rest : List Element} {marks : List Mark} (d : Denoted) (meant : Meant) →
+      denoted sense.view (taken place (h.Ident field sym ctxt role)) ≡ Some d →
+      NameMeans sense inner d meant →
+      Means sense inner rest marks →
+      Means sense inner (taken place (h.Ident field sym ctxt role) ∷ rest) (name_marks field (path_at sense.view.tree place) sym meant ++ marks)
   -- a plain word stays
-  word : {place field ctxt : ℕ} {sym : Text} {rest : List Element} {marks : List Mark} → Means sense inner rest marks → Means sense inner (taken place (h.Ident field sym ctxt IsWord) ∷ rest) (Word field sym ∷ marks)
+  word : {place field ctxt : ℕ} {sym : Text} {rest : List Element} {marks : List Mark} →
+      Means sense inner rest marks →
+      Means sense inner (taken place (h.Ident field sym ctxt IsWord) ∷ rest) (Word field sym ∷ marks)
   -- what is written in addition
-  adds_begin : {field : ℕ} {head : Head} {rest : List Element} {marks : List Mark} → Means sense inner rest marks → Means sense inner (written (h.Open field head) ∷ rest) (Begins field (cleared_head head) ∷ marks)
-  adds_end : {rest : List Element} {marks : List Mark} → Means sense inner rest marks → Means sense inner (written h.Close ∷ rest) (Ends ∷ marks)
-  adds_name : {field ctxt : ℕ} {sym : Text} {role : Role} {rest : List Element} {marks : List Mark} (meant : Meant) → NameMeans sense inner (Bound Top (plain sym)) meant → Means sense inner rest marks → Means sense inner (written (h.Ident field sym ctxt role) ∷ rest) (Name field meant ∷ marks)
+  adds_begin : {field : ℕ} {head : Head} {rest : List Element} {marks : List Mark} →
+      Means sense inner rest marks →
+      Means sense inner (written (h.Open field head) ∷ rest) (Begins field (cleared_head head) ∷ marks)
+  adds_end : {rest : List Element} {marks : List Mark} →
+      Means sense inner rest marks →
+      Means sense inner (written h.Close ∷ rest) (Ends ∷ marks)
+  adds_name : {field ctxt : ℕ} {sym : Text} {role : Role} {rest : List Element} {marks : List Mark} (meant : Meant) →
+      NameMeans sense inner (Bound Top (plain sym)) meant →
+      Means sense inner rest marks →
+      Means sense inner (written (h.Ident field sym ctxt role) ∷ rest) (Name field meant ∷ marks)
 
 -- the meaning of a statement that begins at this place
 abbrev pub StatementMeans : Sense → ℕ → List Element → List Mark → Type 0
@@ -134,9 +162,16 @@ StatementMeans sense start statement marks = Means sense (inner_bindings sense.v
 -- `ReadsAs p m place t`: the expression at this place of m is an imported name or a static read, and means t
 pub data ReadsAs (p : Program) (m : ℕ) : ℕ → Target → Type 0 where
   -- a name at the top of the module means what it stands for
-  by_name : {place : ℕ} {x : Text} {t : Target} → denoted_at BySymbol Es (tree_of p m) place ≡ Some (Bound Top (plain x)) → StandsFor p m x t → ReadsAs p m place t
+  by_name : {place : ℕ} {x : Text} {t : Target} →
+      denoted_at BySymbol Es (tree_of p m) place ≡ Some (Bound Top (plain x)) →
+      StandsFor p m x t →
+      ReadsAs p m place t
   -- a read of a linked name of a namespace means what that name is linked to
-  by_read : {place d : ℕ} {x : Text} {t : Target} → read_word (tree_of p m) place ≡ Some x → ReadsAs p m (suc place) (Namespace d) → Linked p d x t → ReadsAs p m place t
+  by_read : {place d : ℕ} {x : Text} {t : Target} →
+      read_word (tree_of p m) place ≡ Some x →
+      ReadsAs p m (suc place) (Namespace d) →
+      Linked p d x t →
+      ReadsAs p m place t
 
 -- The own statements of a module.
 
@@ -147,9 +182,18 @@ is_meta_at _ = false
 
 -- what is replaced in a module: static reads, `import.meta`, and literal calls of `require`
 pub data Replaced (p : Program) (m : ℕ) : ℕ → Replacement → Type 0 where
-  static_read : {place : ℕ} {x : Text} {t : Target} → read_word (tree_of p m) place ≡ Some x → ReadsAs p m place t → Replaced p m place (ByName (Of t))
-  import_meta : {place : ℕ} → is_meta_at (slice_get (tree_of p m) place) ≡ true → Replaced p m place (ByName (Meta m))
-  require_call : {place c : ℕ} (call : RequireCall) → Contains (calls_of p m) call → call.place ≡ place → resolves p m call.specifier ≡ Some c → Replaced p m place (ByCall (Load c))
+  static_read : {place : ℕ} {x : Text} {t : Target} →
+      read_word (tree_of p m) place ≡ Some x →
+      ReadsAs p m place t →
+      Replaced p m place (ByName (Of t))
+  import_meta : {place : ℕ} →
+      is_meta_at (slice_get (tree_of p m) place) ≡ true →
+      Replaced p m place (ByName (Meta m))
+  require_call : {place c : ℕ} (call : RequireCall) →
+      Contains (calls_of p m) call →
+      call.place ≡ place →
+      resolves p m call.specifier ≡ Some c →
+      Replaced p m place (ByCall (Load c))
 
 -- what a binding at the top of a module stands for; a CommonJS module's `module`, `exports` and `arguments` are its function's
 pub data OwnName (p : Program) (m : ℕ) : Denoted → Label → Type 0 where
@@ -183,8 +227,14 @@ Labelling = List (Denoted × Label)
 
 -- no binding has two labels, and no label two bindings
 pub record IsOneToOne (labels : Labelling) : Type 0 where
-  pub one_label : (d : Denoted) (l other : Label) → Contains labels (d, l) → Contains labels (d, other) → l ≡ other
-  pub one_binding : (d other : Denoted) (l : Label) → Contains labels (d, l) → Contains labels (other, l) → d ≡ other
+  pub one_label : (d : Denoted) (l other : Label) →
+      Contains labels (d, l) →
+      Contains labels (d, other) →
+      l ≡ other
+  pub one_binding : (d other : Denoted) (l : Label) →
+      Contains labels (d, l) →
+      Contains labels (other, l) →
+      d ≡ other
 
 -- how a bundle gets its meaning: nothing is replaced, and its bindings stand for their labels
 abbrev pub bundle_sense : List Item → Reading → Labelling → Sense
@@ -208,11 +258,26 @@ label_of (ByCall l) = l
 
 -- `SaysAt p m e l`: at this element of a statement of m the label is meant, by a name that stands for it or by a node that is replaced by it
 pub data SaysAt (p : Program) (m : ℕ) : Element → Label → Type 0 where
-  says_name : {kind : ModuleKind} {e : Element} {d : Denoted} {l : Label} → HasKind p m kind → denoted (own_view p m kind) e ≡ Some d → OwnName p m d l → SaysAt p m e l
-  says_node : {place field : ℕ} {head : Head} {by : Replacement} → Replaced p m place by → SaysAt p m (taken place (h.Open field head)) (label_of by)
+  says_name : {kind : ModuleKind} {e : Element} {d : Denoted} {l : Label} →
+      HasKind p m kind →
+      denoted (own_view p m kind) e ≡ Some d →
+      OwnName p m d l →
+      SaysAt p m e l
+  says_node : {place field : ℕ} {head : Head} {by : Replacement} →
+      Replaced p m place by →
+      SaysAt p m (taken place (h.Open field head)) (label_of by)
 
 -- the least set of labels that a bundle needs: what own statements of reached modules mean, place by place, what the entry's exports are linked to, and what the names of a namespace are linked to that is itself meant
 pub data IsMeant (p : Program) : Label → Type 0 where
-  by_statement : {m : ℕ} {statement : List Element} {e : Element} {l : Label} → IsReached p m → Contains (own_statements (tree_of p m)) statement → Contains statement e → IsLeft p m e → SaysAt p m e l → IsMeant p l
+  by_statement : {m : ℕ} {statement : List Element} {e : Element} {l : Label} →
+      IsReached p m →
+      Contains (own_statements (tree_of p m)) statement →
+      Contains statement e →
+      IsLeft p m e →
+      SaysAt p m e l →
+      IsMeant p l
   by_export : {x : Text} {t : Target} → Linked p p.entry x t → IsMeant p (Of t)
-  by_namespace : {d : ℕ} {x : Text} {t : Target} → IsMeant p (Of (Namespace d)) → Linked p d x t → IsMeant p (Of t)
+  by_namespace : {d : ℕ} {x : Text} {t : Target} →
+      IsMeant p (Of (Namespace d)) →
+      Linked p d x t →
+      IsMeant p (Of t)

@@ -57,7 +57,10 @@ pub record IsMetaItem (p : Program) (hooks : Hooks) (m : ℕ) (item : List Item)
 -- `MetaItems p hooks m items`: that item, where the module has `import.meta`
 pub data MetaItems (p : Program) (hooks : Hooks) (m : ℕ) : List (List Item) → Type 0 where
   none : has_import_meta (tree_of p m) ≡ false → MetaItems p hooks m []
-  one : {item : List Item} → has_import_meta (tree_of p m) ≡ true → IsMetaItem p hooks m item → MetaItems p hooks m (item ∷ [])
+  one : {item : List Item} →
+      has_import_meta (tree_of p m) ≡ true →
+      IsMetaItem p hooks m item →
+      MetaItems p hooks m (item ∷ [])
 
 -- the prepared items of a module: its `import.meta`, and the items of its tree, resolved as what it is in the bundle; the two have no context in common but 1
 pub record AreItemsOf (p : Program) (hooks : Hooks) (local : ℕ) (m : ℕ) (items : List (List Item)) : Type 0 where
@@ -66,9 +69,16 @@ pub record AreItemsOf (p : Program) (hooks : Hooks) (local : ℕ) (m : ℕ) (ite
   pub tree : List Item
   pub next : ℕ
   pub later : ℕ
-  pub resolved : (kind : ModuleKind) → HasKind p m kind → IsResolvedFrom kind local next later (tree_of p m) tree
+  pub resolved : (kind : ModuleKind) →
+      HasKind p m kind →
+      IsResolvedFrom kind local next later (tree_of p m) tree
   pub is : items ≡ front ++ parts tree
-  pub apart : (item : List Item) (a b : Occurrence) → Contains front item → Contains (occurrences item) a → Contains (occurrences tree) b → a.ctxt ≡ b.ctxt → a.ctxt ≡ 1
+  pub apart : (item : List Item) (a b : Occurrence) →
+      Contains front item →
+      Contains (occurrences item) a →
+      Contains (occurrences tree) b →
+      a.ctxt ≡ b.ctxt →
+      a.ctxt ≡ 1
 
 -- an occurrence stands in the items of module m
 pub record StandsIn (prepared : Parts) (m : ℕ) (o : Occurrence) : Type 0 where
@@ -79,14 +89,31 @@ pub record StandsIn (prepared : Parts) (m : ℕ) (o : Occurrence) : Type 0 where
 -- what is merged: the items of each reached module of a program that has no fault of linking and in which no module declares a name twice, since a module that does is never resolved; contexts tell modules apart, and from `next` on they are free
 pub record IsPrepared (p : Program) (hooks : Hooks) (contexts : ℕ → Contexts) (next : ℕ) (prepared : Parts) : Type 0 where
   pub checked : IsChecked p None
-  pub undoubled : (m : ℕ) (kind : ModuleKind) → IsReached p m → HasKind p m kind → first_doubled kind (tree_of p m) ≡ None
-  pub items : (m : ℕ) → IsReached p m → AreItemsOf p hooks (contexts m).local m (items_in (in_order prepared) m)
+  pub undoubled : (m : ℕ) (kind : ModuleKind) →
+      IsReached p m →
+      HasKind p m kind →
+      first_doubled kind (tree_of p m) ≡ None
+  pub items : (m : ℕ) →
+      IsReached p m →
+      AreItemsOf p hooks (contexts m).local m (items_in (in_order prepared) m)
   pub reached : (m : ℕ) (item : List Item) → Contains (in_order prepared) (m, item) → IsReached p m
-  pub apart : (m n : ℕ) (a b : Occurrence) → m ≢ n → StandsIn prepared m a → StandsIn prepared n b → a.ctxt ≡ b.ctxt → a.ctxt ≡ 1
+  pub apart : (m n : ℕ) (a b : Occurrence) →
+      m ≢ n →
+      StandsIn prepared m a →
+      StandsIn prepared n b →
+      a.ctxt ≡ b.ctxt →
+      a.ctxt ≡ 1
   pub locals : (m n : ℕ) → IsReached p m → IsReached p n → (contexts m).local ≡ (contexts n).local → m ≡ n
-  pub exports : (m n : ℕ) → IsReached p m → IsReached p n → (contexts m).exported ≡ (contexts n).exported → m ≡ n
+  pub exports : (m n : ℕ) →
+      IsReached p m →
+      IsReached p n →
+      (contexts m).exported ≡ (contexts n).exported →
+      m ≡ n
   pub differ : (m n : ℕ) → IsReached p m → IsReached p n → (contexts m).local ≢ (contexts n).exported
-  pub unused : (m n : ℕ) (o : Occurrence) → StandsIn prepared m o → IsReached p n → o.ctxt ≢ (contexts n).exported
+  pub unused : (m n : ℕ) (o : Occurrence) →
+      StandsIn prepared m o →
+      IsReached p n →
+      o.ctxt ≢ (contexts n).exported
   pub above_one : (m : ℕ) → IsReached p m → (1 < (contexts m).local) × (1 < (contexts m).exported)
   pub below_next : (m : ℕ) → IsReached p m → ((contexts m).local < next) × ((contexts m).exported < next)
   pub free : (m : ℕ) (o : Occurrence) → StandsIn prepared m o → o.ctxt < next
@@ -95,8 +122,14 @@ pub record IsPrepared (p : Program) (hooks : Hooks) (contexts : ℕ → Contexts
 
 -- contexts of a bundle that is read by them: a name that a module declares has the module's local one, but for keywords, which may have lost it; a global has 1
 pub record HasContexts (local : ℕ → ℕ) (b : Labelled) : Type 0 where
-  pub declared : (scope : Scope) (name : Name) (m : ℕ) (x : Text) → Contains b.labels (Bound scope name, Of (Declared m x)) → is_keyword x ≡ false → name.ctxt ≡ Some (local m)
-  pub globals : (place : ℕ) (o : Occurrence) (x : Text) → occurrence_at b.tree place ≡ Some o → denoted_at ByContext Es b.tree place ≡ Some (Global x) → o.ctxt ≡ 1
+  pub declared : (scope : Scope) (name : Name) (m : ℕ) (x : Text) →
+      Contains b.labels (Bound scope name, Of (Declared m x)) →
+      is_keyword x ≡ false →
+      name.ctxt ≡ Some (local m)
+  pub globals : (place : ℕ) (o : Occurrence) (x : Text) →
+      occurrence_at b.tree place ≡ Some o →
+      denoted_at ByContext Es b.tree place ≡ Some (Global x) →
+      o.ctxt ≡ 1
 
 -- no binding has the context 1, which is that of globals
 abbrev pub BindsOwn : List Item → Type 0

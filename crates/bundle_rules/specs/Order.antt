@@ -230,9 +230,16 @@ pub data SetsUpBy (g : Group) (m d t b : ℕ) : Type 0 where
   -- at once, it assigns to a member of b, or to a member of such a member and so on
   by_member : (by : Mention) → Refers g t b by → by.later ≡ false → by.chain ≡ true → SetsUpBy g m d t b
   -- at once, it calls `Object.assign` with `b.prototype` in an argument
-  by_prototype : (by : Mention) → Refers g t b by → by.later ≡ false → by.prototype ≡ true → SetsUpBy g m d t b
+  by_prototype : (by : Mention) →
+      Refers g t b by →
+      by.later ≡ false →
+      by.prototype ≡ true →
+      SetsUpBy g m d t b
   -- b is declared without a value, and it is the first later item of the module that gives it one
-  by_value : IsWithoutValue g d b → Fills g t b → ((u : ℕ) → IsOf g u m → d < u → u < t → Fills g u b → ⊥) → SetsUpBy g m d t b
+  by_value : IsWithoutValue g d b →
+      Fills g t b →
+      ((u : ℕ) → IsOf g u m → d < u → u < t → Fills g u b → ⊥) →
+      SetsUpBy g m d t b
 
 -- item t sets up b: it is a later item of the module that declares b first, and does so in one of three ways
 pub record SetsUp (g : Group) (t : ℕ) (b : ℕ) : Type 0 where

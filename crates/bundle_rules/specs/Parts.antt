@@ -112,7 +112,10 @@ pub record HoldsOfParts (Holds : List Owned → List Owned → Type 0) (before a
 -- `ListsAnswered May pairs modules new`: for each of these modules, its list of items is replaced by what may be answered to it
 pub data ListsAnswered (May : ℕ → List (List Item) → List (List Item) → Type 0) (pairs : List Owned) : List ℕ → List Owned → Type 0 where
   over : ListsAnswered May pairs [] []
-  next : {m : ℕ} {rest : List ℕ} {new : List Owned} (answer : List (List Item)) → May m (items_in pairs m) answer → ListsAnswered May pairs rest new → ListsAnswered May pairs (m ∷ rest) (owned_by m answer ++ new)
+  next : {m : ℕ} {rest : List ℕ} {new : List Owned} (answer : List (List Item)) →
+      May m (items_in pairs m) answer →
+      ListsAnswered May pairs rest new →
+      ListsAnswered May pairs (m ∷ rest) (owned_by m answer ++ new)
 
 -- each module's list of items in each part is replaced by an answer
 abbrev pub MapsLists : (ℕ → List (List Item) → List (List Item) → Type 0) → Parts → Parts → Type 0
@@ -130,8 +133,14 @@ MapsItems May before after = HoldsOfParts (AllZip (ItemAnswered May)) before aft
 -- `Retained May old new`: an item for which true is answered stays, and one for which false is answered goes
 pub data Retained (May : ℕ → List Item → Bool → Type 0) : List Owned → List Owned → Type 0 where
   over : Retained May [] []
-  stays : {one : Owned} {old new : List Owned} → May one.0 one.1 true → Retained May old new → Retained May (one ∷ old) (one ∷ new)
-  goes : {one : Owned} {old new : List Owned} → May one.0 one.1 false → Retained May old new → Retained May (one ∷ old) new
+  stays : {one : Owned} {old new : List Owned} →
+      May one.0 one.1 true →
+      Retained May old new →
+      Retained May (one ∷ old) (one ∷ new)
+  goes : {one : Owned} {old new : List Owned} →
+      May one.0 one.1 false →
+      Retained May old new →
+      Retained May (one ∷ old) new
 
 -- the items stay for which true is answered
 abbrev pub Retains : (ℕ → List Item → Bool → Type 0) → Parts → Parts → Type 0

@@ -43,7 +43,8 @@ owners_by ranges i (item ∷ rest) = owner_in i 0 ranges ∷ owners_by ranges (i
 pub record AreDependencies (items : List (List Item)) (ranges : List (ℕ × ℕ)) (graph : Graph) : Type 0 where
   pub nodes : (n : ℕ) → Contains graph.nodes n ↔ (n < length items)
   pub once : (i j n : ℕ) → slice_get graph.nodes i ≡ Some n → slice_get graph.nodes j ≡ Some n → i ≡ j
-  pub weights : (s t : ℕ) → IsDependency (group_of_items (flat items) (owners_by ranges 0 items)) s t (weight graph s t)
+  pub weights : (s t : ℕ) →
+      IsDependency (group_of_items (flat items) (owners_by ranges 0 items)) s t (weight graph s t)
 
 -- an item that is to be sorted, and its module, if it is not free
 abbrev pub Numbered : Type 0
@@ -83,13 +84,21 @@ pub record IsSorted (modules : List (List (List Item))) (sorted : List (List Ite
 
 -- one block of a list of items by module: a lone module's items in their order and then its free ones, any other block sorted
 pub data SortsBlock (g : Modules) (of : ℕ → List (List Item)) : List ℕ → List (List Item) → Type 0 where
-  lone : {m : ℕ} → (Edges g m m → ⊥) → SortsBlock g of (m ∷ []) (map (λ one. one.0) (numbered_items (of m ∷ [])))
-  cycle : {members : List ℕ} {sorted : List (List Item)} → ((m : ℕ) → members ≡ m ∷ [] → Edges g m m) → IsSorted (map of members) sorted → SortsBlock g of members sorted
+  lone : {m : ℕ} →
+      (Edges g m m → ⊥) →
+      SortsBlock g of (m ∷ []) (map (λ one. one.0) (numbered_items (of m ∷ [])))
+  cycle : {members : List ℕ} {sorted : List (List Item)} →
+      ((m : ℕ) → members ≡ m ∷ [] → Edges g m m) →
+      IsSorted (map of members) sorted →
+      SortsBlock g of members sorted
 
 -- the blocks one after the other
 pub data SortsBlocks (g : Modules) (of : ℕ → List (List Item)) : List (List ℕ) → List (List Item) → Type 0 where
   over : SortsBlocks g of [] []
-  next : {members : List ℕ} {blocks : List (List ℕ)} {rest : List (List Item)} (sorted : List (List Item)) → SortsBlock g of members sorted → SortsBlocks g of blocks rest → SortsBlocks g of (members ∷ blocks) (sorted ++ rest)
+  next : {members : List ℕ} {blocks : List (List ℕ)} {rest : List (List Item)} (sorted : List (List Item)) →
+      SortsBlock g of members sorted →
+      SortsBlocks g of blocks rest →
+      SortsBlocks g of (members ∷ blocks) (sorted ++ rest)
 
 -- a list of items by module, sorted from an entry on: the blocks in the order of their last members
 pub record IsSortedFrom (g : Modules) (entry : ℕ) (pairs : List Owned) (sorted : List (List Item)) : Type 0 where

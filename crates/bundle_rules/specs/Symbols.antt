@@ -96,8 +96,19 @@ pub record CalledAsAnswered (spelled : Text → Text) (p : Program) (hooks : Hoo
 pub record AreCalled (spelled : Text → Text) (p : Program) (hooks : Hooks) (b : Labelled) (pairing : Pairing) : Type 0 where
   pub list : List ℕ
   pub is_list : IsList p list
-  pub outer : (scope : Scope) (name : Name) (l : Label) → Contains pairing.labels (Bound scope name, l) → name.sym ≡ spelled (symbol_of_label p list l)
-  pub own : (m k : ℕ) (item : TopItem) (statement : List Element) → StandsFor pairing (Own m k) item → slice_get (own_statements (tree_of p m)) k ≡ Some statement → CalledAlike spelled b (own_view p m Es) item statement
-  pub common_js : (c : ℕ) (item : TopItem) (f : IsLoadFunction p b c item) → StandsFor pairing (Defines c) item → AllZip (CalledAlike spelled b (own_view p c Cjs)) (placed (item.start + length f.front) (side_by_side zero f.inside)) (own_statements (tree_of p c))
-  pub helper : (item : TopItem) → StandsFor pairing Helps item → item_symbols b item ≡ codes "fn" ∷ codes "module" ∷ []
-  pub metas : (m : ℕ) (item : TopItem) → StandsFor pairing (HoldsMeta m) item → CalledAsAnswered spelled p hooks b m item
+  pub outer : (scope : Scope) (name : Name) (l : Label) →
+      Contains pairing.labels (Bound scope name, l) →
+      name.sym ≡ spelled (symbol_of_label p list l)
+  pub own : (m k : ℕ) (item : TopItem) (statement : List Element) →
+      StandsFor pairing (Own m k) item →
+      slice_get (own_statements (tree_of p m)) k ≡ Some statement →
+      CalledAlike spelled b (own_view p m Es) item statement
+  pub common_js : (c : ℕ) (item : TopItem) (f : IsLoadFunction p b c item) →
+      StandsFor pairing (Defines c) item →
+      AllZip (CalledAlike spelled b (own_view p c Cjs)) (placed (item.start + length f.front) (side_by_side zero f.inside)) (own_statements (tree_of p c))
+  pub helper : (item : TopItem) →
+      StandsFor pairing Helps item →
+      item_symbols b item ≡ codes "fn" ∷ codes "module" ∷ []
+  pub metas : (m : ℕ) (item : TopItem) →
+      StandsFor pairing (HoldsMeta m) item →
+      CalledAsAnswered spelled p hooks b m item

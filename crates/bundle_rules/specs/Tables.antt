@@ -98,7 +98,11 @@ pub record IsFirstLinkFault (p : Program) (fault : Fault) : Type 0 where
   pub checked : stage ≢ 2
   pub place : ℕ
   pub there : ProgramFault p file m stage place fault
-  pub first : (j n other its : ℕ) (at : FileName) (f : Fault) → other ≢ 2 → Stands p list j n at → ProgramFault p at n other its f → JudgedNotAfter stage i place other j its
+  pub first : (j n other its : ℕ) (at : FileName) (f : Fault) →
+      other ≢ 2 →
+      Stands p list j n at →
+      ProgramFault p at n other its f →
+      JudgedNotAfter stage i place other j its
 
 -- a check finds none exactly where none is there, and else the first
 abbrev pub IsChecked : Program → Option Fault → Type 0

@@ -36,5 +36,10 @@ pub record IsUsedUp (file : Name) (refusal : Error) : Type 0 where
 -- memory ran out; or the first name that is doubled is told; or none is, and the contexts, where they are fit, do not suffice
 pub data MayRefuse (kind : ModuleKind) (held : Held) (tree : List Item) (refusal : Error) : Type 0 where
   no_memory : refusal ≡ OutOfMemory → MayRefuse kind held tree refusal
-  doubled : (name : Text) → doubled_name kind tree ≡ Some name → IsDoubled held.file name refusal → MayRefuse kind held tree refusal
-  used_up : (AreFit held.local held.next → MayLackContexts kind tree held.next) → IsUsedUp held.file refusal → MayRefuse kind held tree refusal
+  doubled : (name : Text) →
+      doubled_name kind tree ≡ Some name →
+      IsDoubled held.file name refusal →
+      MayRefuse kind held tree refusal
+  used_up : (AreFit held.local held.next → MayLackContexts kind tree held.next) →
+      IsUsedUp held.file refusal →
+      MayRefuse kind held tree refusal

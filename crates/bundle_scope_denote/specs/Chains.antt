@@ -37,7 +37,11 @@ AreScopesAt scopes = AllZip (λ number scope. scope_at scopes number ≡ Some sc
 
 -- the scopes of a table stand in the order of their nodes, each behind the one around it
 pub record AreInOrder (scopes : List Numbered) : Type 0 where
-  pub rising : (i j : ℕ) (x y : Numbered) → i < j → slice_get scopes i ≡ Some x → slice_get scopes j ≡ Some y → s.scope_order x.scope < s.scope_order y.scope
+  pub rising : (i j : ℕ) (x y : Numbered) →
+      i < j →
+      slice_get scopes i ≡ Some x →
+      slice_get scopes j ≡ Some y →
+      s.scope_order x.scope < s.scope_order y.scope
   pub behind : (i o : ℕ) (x : Numbered) → slice_get scopes i ≡ Some x → x.outer ≡ Some o → o < i
 
 -- nothing stands twice in a list

@@ -48,8 +48,13 @@ IsOnlyTop table top = IsOnlyTopOf (map numbered table.scopes.items) top
 pub record IsTable (reading : Reading) (kind : ModuleKind) (items : List Item) (table : Denotations) : Type 0 where
   pub occurrences : AllZip (IsEntry (map numbered table.scopes.items) reading kind) table.occurrences.items (occurrences items)
   pub denotes : AllZip (Tells (map numbered table.scopes.items) table.bindings.items) table.occurrences.items (e.denotations reading kind items)
-  pub declared : (i : ℕ) (x : Declared) → slice_get (declared reading kind items) i ≡ Some x → (number : ℕ) × IsBinding (map numbered table.scopes.items) table.bindings.items number (home_of (declared reading kind items) x) x.name
-  pub one : (i j : ℕ) (scope : Scope) (name : Name) → IsBinding (map numbered table.scopes.items) table.bindings.items i scope name → IsBinding (map numbered table.scopes.items) table.bindings.items j scope name → i ≡ j
+  pub declared : (i : ℕ) (x : Declared) →
+      slice_get (declared reading kind items) i ≡ Some x →
+      (number : ℕ) × IsBinding (map numbered table.scopes.items) table.bindings.items number (home_of (declared reading kind items) x) x.name
+  pub one : (i j : ℕ) (scope : Scope) (name : Name) →
+      IsBinding (map numbered table.scopes.items) table.bindings.items i scope name →
+      IsBinding (map numbered table.scopes.items) table.bindings.items j scope name →
+      i ≡ j
   pub top : IsOnlyTop table (top_number kind)
   pub order : AreInOrder (map numbered table.scopes.items)
 

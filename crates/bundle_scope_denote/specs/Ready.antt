@@ -55,7 +55,9 @@ has_parameter keys name (Some alone) scope = list_any (same_key (scope, name)) k
 -- a key is that of the scope to which a declaration belongs, by these keys of parameters
 pub record IsHomeKey (scopes : List Numbered) (names : List d.Name) (top : ℕ) (parameters : List Key) (declaration : Declaration) (key : Key) : Type 0 where
   pub number : Option ℕ
-  pub finds : (name : d.Name) → slice_get names declaration.name ≡ Some name → FindsAlone names name.sym number
+  pub finds : (name : d.Name) →
+      slice_get names declaration.name ≡ Some name →
+      FindsAlone names name.sym number
   pub scope : key.0 ≡ home_from scopes top (joins_by declaration.way) (has_parameter parameters declaration.name number) (nearest_at scopes (passes (takes_by declaration.way) scopes) declaration.scope)
   pub name : key.1 ≡ declaration.name
 
@@ -71,7 +73,8 @@ pub record AddsHome (walk : Walk) (parameters : List Key) (declaration : Declara
   pub number : ℕ
   pub at : slice_get new.bindings.keys.keys number ≡ Some key
   pub numbers : new.of.items ≡ old.of.items ++ number ∷ []
-  pub matches : Matches (names_of walk) old.bindings.items.items old.bindings.keys.keys → Matches (names_of walk) new.bindings.items.items new.bindings.keys.keys
+  pub matches : Matches (names_of walk) old.bindings.items.items old.bindings.keys.keys →
+      Matches (names_of walk) new.bindings.items.items new.bindings.keys.keys
 
 -- the bindings are those of the first declarations of a walk
 pub record AreHomesOf (walk : Walk) (parameters : List Key) (declarations : List Declaration) (homes : Homes) : Type 0 where
@@ -85,7 +88,8 @@ pub record AreHomesOf (walk : Walk) (parameters : List Key) (declarations : List
 -- by the parameters among all declarations
 pub record AreHomes (walk : Walk) (declarations : List Declaration) (homes : Homes) : Type 0 where
   pub parameters : List Key
-  pub tells : (key : Key) → list_any (same_key key) parameters ≡ list_any (is_parameter_key (scopes_of walk) key) (map (taken_key (scopes_of walk) walk.top) walk.declarations.items)
+  pub tells : (key : Key) →
+      list_any (same_key key) parameters ≡ list_any (is_parameter_key (scopes_of walk) key) (map (taken_key (scopes_of walk) walk.top) walk.declarations.items)
   pub own : AreHomesOf walk parameters declarations homes
 
 -- whether a name has no context, and no identifier declares its symbol in the scope

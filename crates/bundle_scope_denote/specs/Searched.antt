@@ -34,7 +34,10 @@ put_found keys (Some scope) name = put_key keys (scope, name)
 pub record Puts (old new : Search) (found : Option ℕ) (name : d.Name) (number : ℕ) (result : Option ℕ) : Type 0 where
   pub keys : keys_of new ≡ put_found (keys_of old) found number
   pub result_number : NumberOf (keys_of new) number found result
-  pub matches : (names : List d.Name) → slice_get names number ≡ Some name → Matches names old.bindings.items.items (keys_of old) → Matches names new.bindings.items.items (keys_of new)
+  pub matches : (names : List d.Name) →
+      slice_get names number ≡ Some name →
+      Matches names old.bindings.items.items (keys_of old) →
+      Matches names new.bindings.items.items (keys_of new)
   pub implied : new.implied.keys ≡ old.implied.keys
 
 -- the tables tell what each scope binds; by symbol and context, also what is implied there
@@ -42,7 +45,11 @@ pub record IsReady (reading : d.Reading) (walk : Walk) (all : List d.Declared) (
   pub order : AreInOrder (scopes_of walk)
   pub tells : TellsBound reading (scopes_of walk) (names_of walk) all (keys_of search)
   pub implied : reading ≡ d.ByContext → TellsImplied (scopes_of walk) (names_of walk) all search.implied.keys
-  pub nowhere : reading ≡ d.ByContext → (name : d.Name) → FindsAlone (names_of walk) name.sym None → (scope : s.Scope) → e.is_implied_in all scope name ≡ false
+  pub nowhere : reading ≡ d.ByContext →
+      (name : d.Name) →
+      FindsAlone (names_of walk) name.sym None →
+      (scope : s.Scope) →
+      e.is_implied_in all scope name ≡ false
   pub once : IsOnce (keys_of search)
   pub matches : Matches (names_of walk) search.bindings.items.items (keys_of search)
 
@@ -50,7 +57,11 @@ pub record IsReady (reading : d.Reading) (walk : Walk) (all : List d.Declared) (
 pub record Denotes (reading : d.Reading) (walk : Walk) (old new : Search) (name : d.Name) (number from : ℕ) (result : Option ℕ) : Type 0 where
   pub ready : (all : List d.Declared) → IsReady reading walk all old → IsReady reading walk all new
   pub keeps : Keeps (keys_of old) (keys_of new)
-  pub says : (all : List d.Declared) (around : List s.Scope) → IsReady reading walk all old → AreAround (scopes_of walk) (Some from) around → reads reading name ≡ true → Says (scopes_of walk) (names_of walk) (keys_of new) result (e.denoted_in reading all around name)
+  pub says : (all : List d.Declared) (around : List s.Scope) →
+      IsReady reading walk all old →
+      AreAround (scopes_of walk) (Some from) around →
+      reads reading name ≡ true →
+      Says (scopes_of walk) (names_of walk) (keys_of new) result (e.denoted_in reading all around name)
 
 -- each declaration has the number of its binding
 abbrev pub AreOwn : Walk → List d.Declared → List ℕ → List Key → Type 0
@@ -60,12 +71,18 @@ AreOwn walk all of keys = (i : ℕ) (x : d.Declared) → slice_get all i ≡ Som
 pub record DenotesSeen (reading : d.Reading) (walk : Walk) (of : List ℕ) (old new : Search) (seen : Occurrence) (result : Option ℕ) : Type 0 where
   pub ready : (all : List d.Declared) → IsReady reading walk all old → IsReady reading walk all new
   pub keeps : Keeps (keys_of old) (keys_of new)
-  pub says : (kind : s.ModuleKind) (all : List d.Declared) (occurrence : p.Occurrence) → IsReady reading walk all old → AreOwn walk all of (keys_of old) → IsSeen (scopes_of walk) (names_of walk) reading kind all seen occurrence → Says (scopes_of walk) (names_of walk) (keys_of new) result (e.denoted_of reading kind all occurrence)
+  pub says : (kind : s.ModuleKind) (all : List d.Declared) (occurrence : p.Occurrence) →
+      IsReady reading walk all old →
+      AreOwn walk all of (keys_of old) →
+      IsSeen (scopes_of walk) (names_of walk) reading kind all seen occurrence →
+      Says (scopes_of walk) (names_of walk) (keys_of new) result (e.denoted_of reading kind all occurrence)
 
 -- an entry that was made of an occurrence that was met
 pub record IsMade (reading : d.Reading) (walk : Walk) (all : List d.Declared) (keys : List Key) (entry : Denoted) (seen : Occurrence) : Type 0 where
   pub copied : copy_of entry ≡ copied_from seen
-  pub says : (kind : s.ModuleKind) (occurrence : p.Occurrence) → IsSeen (scopes_of walk) (names_of walk) reading kind all seen occurrence → Says (scopes_of walk) (names_of walk) keys entry.binding (e.denoted_of reading kind all occurrence)
+  pub says : (kind : s.ModuleKind) (occurrence : p.Occurrence) →
+      IsSeen (scopes_of walk) (names_of walk) reading kind all seen occurrence →
+      Says (scopes_of walk) (names_of walk) keys entry.binding (e.denoted_of reading kind all occurrence)
 
 -- how far the occurrences were gone over
 pub record IsSearchedTo (reading : d.Reading) (walk : Walk) (of : List ℕ) (all : List d.Declared) (search : Search) (table : List Denoted) (seen : List Occurrence) : Type 0 where

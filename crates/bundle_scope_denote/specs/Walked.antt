@@ -28,11 +28,13 @@ scope_in inner field = scope_within inner.own inner.around (leaves_first_out (he
 -- what is known of the innermost node says what the path means for what stands in it
 pub record IsInnermost (scopes : List Numbered) (kind : s.ModuleKind) (inner : Open) (path : List p.Around) : Type 0 where
   pub way : (field : ℕ) → inner.way ≡ option_map way_named (d.way_of (p.in_field field path))
-  pub variable : (field : ℕ) → inner.variable ≡ option_map way_named (d.way_of_declarator (p.in_field field path))
+  pub variable : (field : ℕ) →
+      inner.variable ≡ option_map way_named (d.way_of_declarator (p.in_field field path))
   pub defaults : (field : ℕ) → s.exports_default (head_of inner.node) ≡ s.is_default (p.in_field field path)
   pub heads : (field : ℕ) → d.is_loop_head (head_of inner.node) field ≡ d.heads_loop (p.in_field field path)
   pub block : (field : ℕ) → s.block_in (head_of inner.node) ≡ s.block_kind (p.in_field field path)
-  pub scope : (field : ℕ) → AreAround scopes (Some (scope_in inner field)) (s.scopes_around kind (p.in_field field path))
+  pub scope : (field : ℕ) →
+      AreAround scopes (Some (scope_in inner field)) (s.scopes_around kind (p.in_field field path))
 
 -- the nodes that are inner, innermost first, and at last what is known outside all nodes
 abbrev pub AreOpen : List Numbered → s.ModuleKind → List Open → List p.Around → Type 0

@@ -47,18 +47,23 @@ ctxt_of bindings number = option_and_then (λ (binding : Binding). binding.ctxt)
 -- the new contexts of bindings with these new texts: no two new ones are the same
 pub record AreContexts (items : List Item) (bindings : List Binding) (texts : List (Option Text)) (contexts : List (Option ℕ)) : Type 0 where
   pub len : length contexts ≡ length texts
-  pub each : (number : ℕ) → number < length texts → IsContextFor items (at texts number) (ctxt_of bindings number) (at contexts number)
+  pub each : (number : ℕ) →
+      number < length texts →
+      IsContextFor items (at texts number) (ctxt_of bindings number) (at contexts number)
   pub apart : (i j ctxt : ℕ) → at contexts i ≡ Some ctxt → at contexts j ≡ Some ctxt → i ≡ j
 
 -- which names and which contexts a list has
 pub record KnowsNames (items : List Item) (taken : Taken) : Type 0 where
   pub names : (ctxt : ℕ) (text : Text) → has ctxt text taken.names.keys ≡ list_any (has_name text ctxt) items
-  pub contexts : (ctxt : ℕ) → list_any (λ other. ctxt == other) taken.contexts.keys ≡ list_any (has_context ctxt) items
+  pub contexts : (ctxt : ℕ) →
+      list_any (λ other. ctxt == other) taken.contexts.keys ≡ list_any (has_context ctxt) items
 
 -- those of an element are added
 pub record AddsNames (item : Item) (old new : Taken) : Type 0 where
-  pub names : (ctxt : ℕ) (text : Text) → has ctxt text new.names.keys ≡ (has ctxt text old.names.keys || has_name text ctxt item)
-  pub contexts : (ctxt : ℕ) → list_any (λ other. ctxt == other) new.contexts.keys ≡ (list_any (λ other. ctxt == other) old.contexts.keys || has_context ctxt item)
+  pub names : (ctxt : ℕ) (text : Text) →
+      has ctxt text new.names.keys ≡ (has ctxt text old.names.keys || has_name text ctxt item)
+  pub contexts : (ctxt : ℕ) →
+      list_any (λ other. ctxt == other) new.contexts.keys ≡ (list_any (λ other. ctxt == other) old.contexts.keys || has_context ctxt item)
   pub next : new.next ≡ old.next
 
 -- a context is taken, and later ones are higher

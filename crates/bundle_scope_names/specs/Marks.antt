@@ -27,7 +27,8 @@ IsClosed scopes marks = (scope around : ℕ) (text : Text) → has scope text ma
 -- the symbol was marked in these scopes and in those around them
 pub record Marks (scopes : List Numbered) (uses : List ℕ) (text : Text) (old new : List Mark) : Type 0 where
   pub closed : IsClosed scopes new
-  pub marks : (scope : ℕ) (other : Text) → has scope other new ≡ (has scope other old || (bytes_eq other text && list_any (λ from. is_around scopes from scope) uses))
+  pub marks : (scope : ℕ) (other : Text) →
+      has scope other new ≡ (has scope other old || (bytes_eq other text && list_any (λ from. is_around scopes from scope) uses))
 
 -- whether a text is a symbol, and whether it was given
 abbrev pub has_symbol : Hygiene → Text → Bool
@@ -50,7 +51,8 @@ may_keep_by hygiene home group text = not (is_arguments text) && not (has group 
 
 -- a binding keeps its symbol
 pub record Keeps (scopes : List Numbered) (group : ℕ) (text : Text) (uses : List ℕ) (old new : Hygiene) : Type 0 where
-  pub kept : (number : ℕ) (other : Text) → has number other new.kept.keys ≡ (has number other old.kept.keys || (number == group && bytes_eq other text))
+  pub kept : (number : ℕ) (other : Text) →
+      has number other new.kept.keys ≡ (has number other old.kept.keys || (number == group && bytes_eq other text))
   pub needed : IsClosed scopes old.needed.keys → Marks scopes uses text old.needed.keys new.needed.keys
   pub symbols : new.symbols.keys ≡ old.symbols.keys
   pub given : new.given.keys ≡ old.given.keys
@@ -66,13 +68,15 @@ pub record Gives (text : Text) (number : ℕ) (old new : Hygiene) : Type 0 where
   pub kept : new.kept.keys ≡ old.kept.keys
   pub needed : new.needed.keys ≡ old.needed.keys
   pub symbols : new.symbols.keys ≡ old.symbols.keys
-  pub given : (other : Text) → has_given new other ≡ (has_given old other || bytes_eq other (numbered text number))
+  pub given : (other : Text) →
+      has_given new other ≡ (has_given old other || bytes_eq other (numbered text number))
   pub last : (other : Text) → last_of new other ≡ cond (bytes_eq text other) number (last_of old other)
 
 -- what is known once these bindings had their turn
 pub record Knows (facts : Facts) (done : List Turn) (hygiene : Hygiene) : Type 0 where
   pub symbols : (text : Text) → has_symbol hygiene text ≡ is_before facts text
-  pub needed : (scope : ℕ) (text : Text) → has scope text hygiene.needed.keys ≡ is_needed facts done scope text
+  pub needed : (scope : ℕ) (text : Text) →
+      has scope text hygiene.needed.keys ≡ is_needed facts done scope text
   pub closed : IsClosed facts.scopes hygiene.needed.keys
   pub kept : (group : ℕ) (text : Text) → has group text hygiene.kept.keys ≡ is_kept facts done group text
   pub given : (text : Text) → has_given hygiene text ≡ list_any (gets facts text) done
@@ -90,16 +94,21 @@ pub record AddsSymbol (symbol : Option Text) (old new : Hygiene) : Type 0 where
 pub record AddsGlobal (scopes : List Numbered) (from : ℕ) (symbol : Option Text) (old new : Hygiene) : Type 0 where
   pub symbols : (text : Text) → has_symbol new text ≡ (has_symbol old text || is_symbol text symbol)
   pub closed : IsClosed scopes old.needed.keys → IsClosed scopes new.needed.keys
-  pub needed : IsClosed scopes old.needed.keys → (scope : ℕ) (text : Text) → has scope text new.needed.keys ≡ (has scope text old.needed.keys || (is_around scopes from scope && is_symbol text symbol))
+  pub needed : IsClosed scopes old.needed.keys →
+      (scope : ℕ) (text : Text) →
+      has scope text new.needed.keys ≡ (has scope text old.needed.keys || (is_around scopes from scope && is_symbol text symbol))
   pub kept : new.kept.keys ≡ old.kept.keys
   pub given : new.given.keys ≡ old.given.keys
   pub last : new.last.entries ≡ old.last.entries
 
 -- the symbol of an occurrence is added, if it is a global, which needs it, or declares a binding
 pub record Adds (scopes : List Numbered) (items : List Item) (texts : List Text) (occurrence : Denoted) (old new : Hygiene) : Type 0 where
-  pub symbols : (text : Text) → has_symbol new text ≡ (has_symbol old text || is_called_by texts text (symbol_by (slice_get items occurrence.place)) occurrence.declares occurrence.binding)
+  pub symbols : (text : Text) →
+      has_symbol new text ≡ (has_symbol old text || is_called_by texts text (symbol_by (slice_get items occurrence.place)) occurrence.declares occurrence.binding)
   pub closed : IsClosed scopes old.needed.keys → IsClosed scopes new.needed.keys
-  pub needed : IsClosed scopes old.needed.keys → (scope : ℕ) (text : Text) → has scope text new.needed.keys ≡ (has scope text old.needed.keys || (is_around scopes occurrence.scope scope && is_global_by text (symbol_by (slice_get items occurrence.place)) occurrence.binding))
+  pub needed : IsClosed scopes old.needed.keys →
+      (scope : ℕ) (text : Text) →
+      has scope text new.needed.keys ≡ (has scope text old.needed.keys || (is_around scopes occurrence.scope scope && is_global_by text (symbol_by (slice_get items occurrence.place)) occurrence.binding))
   pub kept : new.kept.keys ≡ old.kept.keys
   pub given : new.given.keys ≡ old.given.keys
   pub last : new.last.entries ≡ old.last.entries

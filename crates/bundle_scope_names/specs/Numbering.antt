@@ -23,7 +23,9 @@ number_in next (first ∷ rest) binding = cond (nat_eq first binding) (Some next
 pub record AreGiven (next : ℕ) (given : List ℕ) (numbers : Numbers) : Type 0 where
   pub once : IsOnce given
   pub next_is : numbers.next ≡ next + length given
-  pub each : (binding : ℕ) → binding < length numbers.of.items → get_or numbers.of.items binding None ≡ number_in next given binding
+  pub each : (binding : ℕ) →
+      binding < length numbers.of.items →
+      get_or numbers.of.items binding None ≡ number_in next given binding
 
 -- the context of what has this binding or none: 1 for a global, the local one at the top, and else its number
 abbrev pub HasContext : Denotations → (local next : ℕ) → List ℕ → Option ℕ → ℕ → Type 0
@@ -33,7 +35,9 @@ HasContext table local next given (Some binding) context = cond (is_of_top table
 -- each of these bindings stands once, is denoted by an occurrence, and is none of the top
 pub record AreDenoted (table : Denotations) (given : List ℕ) : Type 0 where
   pub once : IsOnce given
-  pub denoted : (k binding : ℕ) → slice_get given k ≡ Some binding → (i : ℕ) × (entry : Denoted) × (slice_get table.occurrences.items i ≡ Some entry) × (entry.binding ≡ Some binding)
+  pub denoted : (k binding : ℕ) →
+      slice_get given k ≡ Some binding →
+      (i : ℕ) × (entry : Denoted) × (slice_get table.occurrences.items i ≡ Some entry) × (entry.binding ≡ Some binding)
   pub inner : (k binding : ℕ) → slice_get given k ≡ Some binding → is_of_top table binding ≡ false
 
 -- the contexts of a list with this table

@@ -175,9 +175,20 @@ ComesBefore a b = (a.0 < b.0) ⊎ ((a.0 ≡ b.0) × (a.1 ≤ b.1))
 pub record AreInTurn (homes : List ℕ) (occurrences : List Denoted) (places : List Place) : Type 0 where
   pub home : (i : ℕ) (a : Place) → slice_get places i ≡ Some a → slice_get homes a.2 ≡ Some a.0
   pub first : (i : ℕ) (a : Place) → slice_get places i ≡ Some a → first_of occurrences a.2 ≡ Some a.1
-  pub all : (number first : ℕ) → number < length homes → first_of occurrences number ≡ Some first → (i : ℕ) × (a : Place) × (slice_get places i ≡ Some a) × (a.2 ≡ number)
-  pub once : (i j : ℕ) (a b : Place) → slice_get places i ≡ Some a → slice_get places j ≡ Some b → a.2 ≡ b.2 → i ≡ j
-  pub order : (i j : ℕ) (a b : Place) → i < j → slice_get places i ≡ Some a → slice_get places j ≡ Some b → ComesBefore a b
+  pub all : (number first : ℕ) →
+      number < length homes →
+      first_of occurrences number ≡ Some first →
+      (i : ℕ) × (a : Place) × (slice_get places i ≡ Some a) × (a.2 ≡ number)
+  pub once : (i j : ℕ) (a b : Place) →
+      slice_get places i ≡ Some a →
+      slice_get places j ≡ Some b →
+      a.2 ≡ b.2 →
+      i ≡ j
+  pub order : (i j : ℕ) (a b : Place) →
+      i < j →
+      slice_get places i ≡ Some a →
+      slice_get places j ≡ Some b →
+      ComesBefore a b
 
 -- the text that a binding gets at its turn, where it does not keep its symbol
 abbrev pub given_to : Facts → Turn → Option Text
@@ -190,9 +201,16 @@ text_by facts keywords turn = cond (keeps turn) (text_of keywords turn.binding) 
 -- these are what bindings are called that had their turn; all others are called as before
 pub record AreCalled (facts : Facts) (keywords : Names) (turns : List Turn) (names : Names) : Type 0 where
   pub right : AreRight facts turns
-  pub texts : (i : ℕ) (turn : Turn) → slice_get turns i ≡ Some turn → text_of names turn.binding ≡ text_by facts keywords turn
-  pub others : (number : ℕ) → number < length facts.homes → list_any (λ turn. turn.binding == number) turns ≡ false → text_of names number ≡ text_of keywords number
-  pub contexts : (number : ℕ) → number < length facts.homes → context_of names number ≡ context_of keywords number
+  pub texts : (i : ℕ) (turn : Turn) →
+      slice_get turns i ≡ Some turn →
+      text_of names turn.binding ≡ text_by facts keywords turn
+  pub others : (number : ℕ) →
+      number < length facts.homes →
+      list_any (λ turn. turn.binding == number) turns ≡ false →
+      text_of names number ≡ text_of keywords number
+  pub contexts : (number : ℕ) →
+      number < length facts.homes →
+      context_of names number ≡ context_of keywords number
 
 -- the names of a table's bindings, where keywords' names call them so before
 pub record AreNamed (table : Denotations) (items : List Item) (keywords names : Names) : Type 0 where

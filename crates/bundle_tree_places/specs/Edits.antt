@@ -94,17 +94,31 @@ pub data Edits : Around → List Change → List Item → List Item → List Cha
   -- where nothing stands
   Nothing : {around : Around} {changes : List Change} → Edits around changes [] [] changes
   -- one after the other
-  Joined : {around : Around} {changes between rest : List Change} {first made_first second made_second : List Item} → Edits around changes first made_first between → Edits around between second made_second rest → Edits around changes (first ++ second) (made_first ++ made_second) rest
+  Joined : {around : Around} {changes between rest : List Change} {first made_first second made_second : List Item} →
+      Edits around changes first made_first between →
+      Edits around between second made_second rest →
+      Edits around changes (first ++ second) (made_first ++ made_second) rest
   -- an empty place of a list stays
-  Hole : {around : Around} {changes : List Change} (field : ℕ) → Edits around changes (h.Hole field ∷ []) (h.Hole field ∷ []) changes
+  Hole : {around : Around} {changes : List Change} (field : ℕ) →
+      Edits around changes (h.Hole field ∷ []) (h.Hole field ∷ []) changes
   -- a plain word stays
-  Word : {around : Around} {changes : List Change} (field : ℕ) (x : Text) (ctxt : ℕ) (role : Role) → is_occurrence role ≡ false → Edits around changes (h.Ident field x ctxt role ∷ []) (h.Ident field x ctxt role ∷ []) changes
+  Word : {around : Around} {changes : List Change} (field : ℕ) (x : Text) (ctxt : ℕ) (role : Role) →
+      is_occurrence role ≡ false →
+      Edits around changes (h.Ident field x ctxt role ∷ []) (h.Ident field x ctxt role ∷ []) changes
   -- an occurrence takes the next change
-  Name : (around : Around) {changes : List Change} (field : ℕ) (x : Text) (ctxt : ℕ) (role : Role) → is_occurrence role ≡ true → Edits around changes (h.Ident field x ctxt role ∷ []) (in_its_place around (next changes) field x ctxt role) (drop 1 changes)
+  Name : (around : Around) {changes : List Change} (field : ℕ) (x : Text) (ctxt : ℕ) (role : Role) →
+      is_occurrence role ≡ true →
+      Edits around changes (h.Ident field x ctxt role ∷ []) (in_its_place around (next changes) field x ctxt role) (drop 1 changes)
   -- a node stays, and what is in it is edited
-  Inside : {around : Around} {changes rest : List Change} (field : ℕ) (head : Head) {inside made : List Item} → is_plain head inside ≡ true → Edits (around_in head inside) changes inside made rest → Edits around changes (node field head inside) (node field head made) rest
+  Inside : {around : Around} {changes rest : List Change} (field : ℕ) (head : Head) {inside made : List Item} →
+      is_plain head inside ≡ true →
+      Edits (around_in head inside) changes inside made rest →
+      Edits around changes (node field head inside) (node field head made) rest
   -- a shorthand property of a pattern takes the next change for its name
-  Shorthand : {around : Around} {changes rest : List Change} (field : ℕ) (x : Text) (ctxt : ℕ) (role : Role) {default made : List Item} → is_occurrence role ≡ true → Edits Anywhere (drop 1 changes) default made rest → Edits around changes (node field h.AssignPatProp (binding None 0 x ctxt role ++ default)) (shorthand_in_its_place (next changes) field x ctxt role made) rest
+  Shorthand : {around : Around} {changes rest : List Change} (field : ℕ) (x : Text) (ctxt : ℕ) (role : Role) {default made : List Item} →
+      is_occurrence role ≡ true →
+      Edits Anywhere (drop 1 changes) default made rest →
+      Edits around changes (node field h.AssignPatProp (binding None 0 x ctxt role ++ default)) (shorthand_in_its_place (next changes) field x ctxt role made) rest
 
 -- the items of a tree with these changes of its occurrences in turn; where no change is left, an occurrence stays
 pub record Edited (changes : List Change) (before after : List Item) : Type 0 where

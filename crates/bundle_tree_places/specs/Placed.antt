@@ -40,7 +40,9 @@ no_told = record { word = None; is_stated = false }
 -- what is told of a place: the word of the read that begins there, and whether what stands there lies in a top item that states something
 pub record IsTold (tree : List Item) (place : ℕ) (told : Told) : Type 0 where
   pub word : text_of told.word ≡ read_word tree place
-  pub stated : (field : ℕ) → option_and_then field_of (slice_get tree place) ≡ Some field → told.is_stated ≡ is_in_statement (path_at tree place)
+  pub stated : (field : ℕ) →
+      option_and_then field_of (slice_get tree place) ≡ Some field →
+      told.is_stated ≡ is_in_statement (path_at tree place)
 
 -- so it is of each place
 abbrev pub AreTold : List Item → List Told → Type 0

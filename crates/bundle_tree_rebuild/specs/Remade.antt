@@ -19,10 +19,17 @@ RemadePattern items work old new rest = (role : Role) → is_occurrence role ≡
 
 -- the same of what stands where a member expression stays one: that is a member expression, and what is in it is made anew, or something else
 pub data RemadeFirst {A : Type 0} (items : ℕ → A → List Item) (work : Work) (old new : A) (rest : Work) : Type 0 where
-  IsMember : (inside made : List Item) → ((field : ℕ) → items field old ≡ node field h.MemberExpr inside) → ((field : ℕ) → items field new ≡ node field h.MemberExpr made) → Becomes Anywhere work inside made rest → RemadeFirst items work old new rest
-  IsOther : ((field : ℕ) (more : List Item) → begins_with_member (items field old ++ more) ≡ false) → Remade Anywhere items work old new rest → RemadeFirst items work old new rest
+  IsMember : (inside made : List Item) →
+      ((field : ℕ) → items field old ≡ node field h.MemberExpr inside) →
+      ((field : ℕ) → items field new ≡ node field h.MemberExpr made) →
+      Becomes Anywhere work inside made rest →
+      RemadeFirst items work old new rest
+  IsOther : ((field : ℕ) (more : List Item) → begins_with_member (items field old ++ more) ≡ false) →
+      Remade Anywhere items work old new rest →
+      RemadeFirst items work old new rest
 
 -- an identifier that gets the next name
 pub record Takes (work : Work) (old new : v_ident.Ident) (rest : Work) : Type 0 where
-  pub renamed_is : (field : ℕ) (role : Role) → ident_items role field new ≡ renamed (next work (string_bytes old.sym)) field (string_bytes old.sym) old.ctxt role ∷ []
+  pub renamed_is : (field : ℕ) (role : Role) →
+      ident_items role field new ≡ renamed (next work (string_bytes old.sym)) field (string_bytes old.sym) old.ctxt role ∷ []
   pub rest_is : rest ≡ after work

@@ -56,7 +56,9 @@ AllLead kept numbers file deps = (dep : String Global × ℕ) → Contains deps 
 
 -- these are the requests of a kept file, in their order, and each leads to the number of the file that is kept for it, which is one of these
 pub record IsAsked (settings : Settings) (kept : Kept) (numbers : List ℕ) (file : Name) (deps : List (String Global × ℕ)) : Type 0 where
-  pub asked : (loaded : Loaded) × (kept_module kept file ≡ Some loaded) × (map (λ dep. string_bytes dep.0) deps ≡ requests_in settings loaded.items)
+  pub asked : (loaded : Loaded) ×
+      (kept_module kept file ≡ Some loaded) ×
+      (map (λ dep. string_bytes dep.0) deps ≡ requests_in settings loaded.items)
   pub leads : AllLead kept numbers file deps
 
 -- the requests of a file were noted last

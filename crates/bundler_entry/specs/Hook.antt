@@ -31,7 +31,10 @@ IsRightAnswer iife answer = (p : Program) → p.settings.iife ≡ iife → AreFa
 -- what may be wrong where the hook is asked for a file to which its loader gave this name: it may fail, or an answer that it may give has a fault
 pub data IsAskedFault (may_give : Name → Bool → List (KeyValueProp Expr) → Type 0) (may_fail : Name → Bool → Type 0) (given : Name) (is_entry iife : Bool) (file : Name) : Fault → Type 0 where
   fails : may_fail given is_entry → IsAskedFault may_give may_fail given is_entry iife file (HookFails file)
-  answers : {f : Fault} (answer : List Item) → Holds may_give given is_entry answer → IsFaultOfAnswer iife file answer f → IsAskedFault may_give may_fail given is_entry iife file f
+  answers : {f : Fault} (answer : List Item) →
+      Holds may_give given is_entry answer →
+      IsFaultOfAnswer iife file answer f →
+      IsAskedFault may_give may_fail given is_entry iife file f
 
 -- the hook may give these properties, which have no fault
 pub record IsAnswered (may_give : Name → Bool → List (KeyValueProp Expr) → Type 0) (given : Name) (is_entry iife : Bool) (answer : List Item) : Type 0 where

@@ -80,7 +80,9 @@ pub record IsListAt (sources : List Source) (reached : Reached) (k : ℕ) (list 
 -- these are the lists of the first n modules
 pub record AreLists (sources : List Source) (reached : Reached) (n : ℕ) (lists : List (Bor (List Piece))) : Type 0 where
   pub long : length lists ≡ n
-  pub each : (k : ℕ) (list : Bor (List Piece)) → slice_get lists k ≡ Some list → IsListAt sources reached k list
+  pub each : (k : ℕ) (list : Bor (List Piece)) →
+      slice_get lists k ≡ Some list →
+      IsListAt sources reached k list
 
 -- the file of a call at a place
 abbrev pub IsFileAt : Call → Reached → ℕ → FileName × ℕ → Type 0

@@ -30,12 +30,20 @@ pub record IsSourceOf (p : Program) (m : ℕ) (source : Source) : Type 0 where
   pub meta : source.tables.has_import_meta ≡ has_import_meta (tree_of p m)
   pub tree : IsModuleTree (tree_of p m)
   pub default : DeclaresDefaultAlone (tree_of p m)
-  pub once : (x : Text) (a b : ExportEntry) → Contains (exports p m) a → Contains (exports p m) b → is_named x a ≡ true → is_named x b ≡ true → a ≡ b
+  pub once : (x : Text) (a b : ExportEntry) →
+      Contains (exports p m) a →
+      Contains (exports p m) b →
+      is_named x a ≡ true →
+      is_named x b ≡ true →
+      a ≡ b
 
 -- the same of modules in turn
 pub record AreSourcesOf (p : Program) (numbers : List ℕ) (sources : List Source) : Type 0 where
   pub long : length sources ≡ length numbers
-  pub each : (place m : ℕ) (source : Source) → slice_get numbers place ≡ Some m → slice_get sources place ≡ Some source → IsSourceOf p m source
+  pub each : (place m : ℕ) (source : Source) →
+      slice_get numbers place ≡ Some m →
+      slice_get sources place ≡ Some source →
+      IsSourceOf p m source
 
 -- the files of a call and what was read of them are those of a program
 pub record IsProgramOf (p : Program) (read : Read) : Type 0 where
