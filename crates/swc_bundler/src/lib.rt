@@ -24,6 +24,11 @@ pub mod load {
     pub use bundle_tree_names::FileName;
 }
 
+/// Trees as JSON text: how one is read and how one is written.
+pub mod form {
+    pub use bundle_json_text::{FormError, module_from_text, module_text};
+}
+
 /// The last steps to a bundle: no keyword and no clash of names.
 pub mod finalize {
     pub use bundle_merge_forms::wrap_with_iife;

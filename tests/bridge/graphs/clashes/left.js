@@ -1,0 +1,2 @@
+const helper = () => 'left helper';
+export const value = 'left', label = helper();

@@ -1,0 +1,2 @@
+const helper = () => 'right helper';
+export const value = 'right', label = helper();

@@ -1,0 +1,1 @@
+exports.inside = (name) => `inside ${name} ${typeof require('../math').add}`;

@@ -1,0 +1,3 @@
+const { counter } = require('./math');
+counter.count += 10;
+module.exports = function whole(text) { return `whole ${text} ${arguments.length}`; };

@@ -1,0 +1,1 @@
+exports.own = ((require) => require('./nowhere'))((text) => `own ${text}`);

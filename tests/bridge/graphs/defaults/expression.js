@@ -1,0 +1,2 @@
+console.log('expression');
+export default 6 * 7;

@@ -1,0 +1,3 @@
+const list = [1, 2];
+export { list as default };
+export const size = list.push(3);

@@ -1,0 +1,2 @@
+export let called = 0;
+export default function named() { called++; return `named ${named.length}`; }

@@ -1,0 +1,2 @@
+export const here = 'b';
+export const up = 'up';

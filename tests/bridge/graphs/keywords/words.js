@@ -1,0 +1,3 @@
+export const abstract = 'abstract';
+const int = 'int', native = int + '!';
+export { native as int };

@@ -1,0 +1,3 @@
+export let count = 0;
+export function increase(by = 1) { count += by; }
+export default function () { count = 0; }

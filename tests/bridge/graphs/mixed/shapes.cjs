@@ -1,0 +1,3 @@
+console.log('shapes run');
+exports.area = (width, height) => width * height;
+exports.unit = 'cm';

@@ -1,0 +1,2 @@
+export let count = 1;
+export const increase = () => { count += 1; };

@@ -1,0 +1,3 @@
+import './base.js';
+globalThis.steps.push('a');
+console.log('a');

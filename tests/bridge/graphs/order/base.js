@@ -1,0 +1,2 @@
+globalThis.steps = [];
+console.log('base');

@@ -1,0 +1,3 @@
+const value = 'deep';
+export { value as 'a name', value as default };
+export const deep = 1;

@@ -1,0 +1,2 @@
+export * from './deep.js';
+export const far = 'far';

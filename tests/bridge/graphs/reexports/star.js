@@ -1,0 +1,3 @@
+export * from './deep.js';
+export * from './far.js';
+export const own = 'star';

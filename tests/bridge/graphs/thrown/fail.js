@@ -1,0 +1,2 @@
+export const fail = () => null;
+throw new RangeError('of the module');
