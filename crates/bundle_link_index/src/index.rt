@@ -17,7 +17,7 @@ ghost use Rattle.bundle_link_index.specs.Says.{Tells, answer_says, linked_of, ta
 use crate::kinds::Kinds;
 use crate::numbers::Numbers;
 use crate::own::{Asked, Given, locals_of, own_entry};
-use crate::stars::{Stars, outside_links, starred_modules};
+use crate::stars::{outside_links, starred_modules};
 use crate::target::Target;
 use bundle_link_search as places;
 use bundle_link_search::{Links, Search};
@@ -55,7 +55,6 @@ pub struct Index<'a> {
     search: Search,
     /// The search for the modules that star an external over a chain.
     outside: Search,
-    stars: Stars<'a>,
 }
 
 impl<'a> Index<'a> {
@@ -65,8 +64,8 @@ impl<'a> Index<'a> {
             (p : Program) → AreModulesOf p kinds.now → IsIndexOf p index) }
     {
         let named = Named::new(alloc, kinds)?;
-        let starred = Starred::new(alloc, kinds)?;
-        Ok(joined(named, starred))
+        let outside = outside_of(alloc, kinds)?;
+        Ok(joined(named, outside))
     }
 
     /// What is given for a name, which is noted.
@@ -105,11 +104,6 @@ impl<'a> Index<'a> {
     {
         let reach = self.search.reach(alloc, number)?;
         Ok(reach)
-    }
-
-    /// The externals that a module stars.
-    pub fn starred_externals(&self, number: usize) -> &[&'a str] {
-        self.stars.externals(number)
     }
 
     /// Whether a module stars an external, or a module that does so, over any chain. It is noted.
@@ -165,28 +159,6 @@ fn search_of<'a>(
     Search::new(alloc, links)
 }
 
-// The externals that modules star, with the search for the modules that star one over a chain.
-#[derive(Drop)]
-struct Starred<'a> {
-    stars: Stars<'a>,
-    outside: Search,
-}
-
-impl<'a> Starred<'a> {
-    // What modules star.
-    fn new(alloc: Global, kinds: &Kinds<'_, '_, 'a>) -> Result<Starred<'a>, AllocError>
-        ensures { IfOk result (λ starred.
-            (p : Program) →
-            AreModulesOf p kinds.now →
-            (m : ℕ) →
-            ((v : ℕ) × IsGiven starred.outside (m, 0) v) ↔ StarsExternal p m) }
-    {
-        let stars = Stars::new(alloc, kinds)?;
-        let outside = outside_of(alloc, kinds)?;
-        Ok(Starred { stars, outside })
-    }
-}
-
 // The search for the modules that star an external over a chain.
 fn outside_of<'a>(alloc: Global, kinds: &Kinds<'_, '_, 'a>) -> Result<Search, AllocError>
     ensures { IfOk result (λ outside. (p : Program) → AreModulesOf p kinds.now → (m : ℕ) →
@@ -197,16 +169,15 @@ fn outside_of<'a>(alloc: Global, kinds: &Kinds<'_, '_, 'a>) -> Result<Search, Al
 }
 
 // The index of both.
-fn joined<'a>(named: Named<'a>, starred: Starred<'a>) -> Index<'a>
+fn joined<'a>(named: Named<'a>, outside: Search) -> Index<'a>
     ensures numbers { result.numbers ≡ named.entry.numbers }
     ensures search { result.search ≡ named.entry.search }
-    ensures outside { result.outside ≡ starred.entry.outside }
+    ensures outside { result.outside ≡ outside }
 {
     Index {
         numbers: named.numbers,
         search: named.search,
-        outside: starred.outside,
-        stars: starred.stars,
+        outside,
     }
 }
 

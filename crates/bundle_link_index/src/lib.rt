@@ -4,7 +4,6 @@
 
 pub mod index;
 pub mod kinds;
-pub mod lists;
 mod numbers;
 pub mod own;
 mod stars;

@@ -9,7 +9,6 @@ ghost use Rattle.bundle_link_index.specs.Outside as outside;
 ghost use Rattle.bundle_link_index.specs.Outside.{IsOutside, IsOutsideOf};
 
 use crate::kinds::{Kinds, Lead};
-use crate::lists::list_at;
 use bundle_link_search::{Links, Own};
 use bundle_link_tables::Tables;
 use std::alloc::{AllocError, Global};
@@ -125,42 +124,4 @@ fn add_outside<'a>(
         return Ok(());
     }
     Ok(())
-}
-
-/// The externals that modules star.
-#[derive(Drop)]
-pub(crate) struct Stars<'a> {
-    externals: Vec<Vec<&'a str>>,
-}
-
-impl<'a> Stars<'a> {
-    /// What modules star.
-    pub fn new(alloc: Global, kinds: &Kinds<'_, '_, 'a>) -> Result<Stars<'a>, AllocError> {
-        let mut externals = Vec::new(alloc);
-        for (number, module) in kinds.modules.iter().enumerate() {
-            externals.push(starred_externals(alloc, kinds, number, module.tables)?)?;
-        }
-        Ok(Stars { externals })
-    }
-
-    /// The externals that a module stars.
-    pub fn externals(&self, module: usize) -> &[&'a str] {
-        list_at(&self.externals, module)
-    }
-}
-
-// The externals that a module stars.
-fn starred_externals<'a>(
-    alloc: Global,
-    kinds: &Kinds<'_, '_, 'a>,
-    number: usize,
-    tables: &Tables<'a>,
-) -> Result<Vec<&'a str>, AllocError> {
-    let mut externals = Vec::new(alloc);
-    for star in &tables.stars {
-        if is_outside(kinds.lead(number, *star)) {
-            externals.push(*star)?;
-        }
-    }
-    Ok(externals)
 }

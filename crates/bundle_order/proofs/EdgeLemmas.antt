@@ -10,7 +10,8 @@ use Rattle.bundle_order_sort.specs.declared.Dependency.{Dependency}
 use Rattle.bundle_order_sort.specs.declared.SortItem.{SortItem}
 use Rattle.bundle_order_sort.specs.Items.{Names, Depends}
 use Rattle.bundle_order_sort.proofs.ItemLemmas.{Depends-within}
-use Rattle.bundle_order.specs.Items.{AreNodes, AreBetween, IsAlways, how_required, IsGraphOf, AreApart, Lists, Gains, Grows}
+use Rattle.bundle_order.specs.Items.{AreNodes, AreOnce, AreBetween, IsAlways, how_required, IsGraphOf, AreApart, Lists, Gains, Grows}
+use Rattle.bundle_order.proofs.NodeLemmas.{edge_once}
 
 -- ---- one dependency
 -- the end of the one dependency that is listed
@@ -71,6 +72,7 @@ Grows-one old new s count d required adds is within other nodes =
     let as_told : AddsDependency old new s d.item (how_required d.is_weak) = subst (λ r. AddsDependency old new s d.item r) is adds in
     record {
       nodes = nodes;
+      once = edge_once old new s d.item required adds;
       edges = one_edge (λ o. IsSome o) (λ w. Unit {0}) some_law old new s count d as_told within other;
       always = one_edge (λ o. o ≡ Some Always) (λ w. w ≡ false) always_law old new s count d as_told within other;
     }
@@ -106,6 +108,7 @@ module _ (Leads : Statements → ℕ → ℕ → Type 0) (Counts : Bool → Type
 pub Grows-none : (g : Statements) (s count : ℕ) → AreNodes g count → Grows g g s count []
 Grows-none g s count nodes = record {
   nodes = nodes;
+  once = λ once. once;
   edges = gains_nothing IsDependency (λ w. Unit {0}) g s count [] (λ y h. omega (arith, h.listed.1));
   always = gains_nothing IsAlways (λ w. w ≡ false) g s count [] (λ y h. omega (arith, h.listed.1));
 }
@@ -114,6 +117,7 @@ Grows-none g s count nodes = record {
 pub Grows-passed : (g : Statements) (s count : ℕ) (d : Dependency) → AreNodes g count → ((d.item < count) → (d.item ≢ s) → ⊥) → Grows g g s count (d ∷ [])
 Grows-passed g s count d nodes out = record {
   nodes = nodes;
+  once = λ once. once;
   edges = gains_nothing IsDependency (λ w. Unit {0}) g s count (d ∷ []) (λ y h. none y h.is_weak h.listed h.within h.other);
   always = gains_nothing IsAlways (λ w. w ≡ false) g s count (d ∷ []) (λ y h. none y h.is_weak h.listed h.within h.other);
 }
@@ -126,6 +130,7 @@ Grows-passed g s count d nodes out = record {
 pub Grows-more : (a b c : Statements) (s count : ℕ) (xs ys : List Dependency) → Grows a b s count xs → Grows b c s count ys → Grows a c s count (xs ++ ys)
 Grows-more a b c s count xs ys first second = record {
   nodes = second.nodes;
+  once = λ once. second.once (first.once once);
   edges = gains_more IsDependency (λ w. Unit {0}) a b c s count xs ys first.edges second.edges;
   always = gains_more IsAlways (λ w. w ≡ false) a b c s count xs ys first.always second.always;
 }
@@ -134,12 +139,14 @@ Grows-more a b c s count xs ys first second = record {
 -- the graph has the edges of the first n of these items
 pub record IsGraphTo (graph : Statements) (items : List SortItem) (n : ℕ) : Type 0 where
   pub nodes : AreNodes graph (length items)
+  pub once : AreOnce graph.nodes
   pub edges : (a b : ℕ) → IsDependency graph a b ↔ ((a < n) × Depends items a b)
   pub always : (a b : ℕ) → IsAlways graph a b ↔ ((a < n) × Names items a b false)
 
 pub IsGraphTo-none : (graph : Statements) (items : List SortItem) → AreApart graph (length items) → IsGraphTo graph items 0
 IsGraphTo-none graph items apart = record {
   nodes = apart.nodes;
+  once = apart.once;
   edges = λ a b. (λ h. absurd (false≢true (sym (ap (λ (o : Option Required). is_some o) (apart.none a b)) ∙ h)), λ h. absurd (omega (arith, h.0)));
   always = λ a b. (λ h. cc (sym h ∙ apart.none a b), λ h. absurd (omega (arith, h.0)));
 }
@@ -164,6 +171,7 @@ module _ (old new : Statements) (items : List SortItem) (n : ℕ) (item : SortIt
   pub IsGraphTo-more : IsGraphTo old items n → IsGraphTo new items (n + 1)
   IsGraphTo-more graph = record {
     nodes = grows.nodes;
+    once = grows.once graph.once;
     edges = λ a b. (
       λ h. elim ((grows.edges a b).0 h) [
         | inl before ↦ let p = (graph.edges a b).0 before in (omega (arith, p.0), p.1)
@@ -189,6 +197,7 @@ module _ (old new : Statements) (items : List SortItem) (n : ℕ) (item : SortIt
 pub IsGraphOf-all : (graph : Statements) (items : List SortItem) (n : ℕ) → length items ≤ n → IsGraphTo graph items n → IsGraphOf graph items
 IsGraphOf-all graph items n all to = record {
   nodes = to.nodes;
+  once = to.once;
   edges = λ a b. (λ h. ((to.edges a b).0 h).1, λ d. (to.edges a b).1 (omega (arith, all, Depends-within items a b d), d));
   always = λ a b. (λ h. ((to.always a b).0 h).1, λ m. (to.always a b).1 (omega (arith, all, Depends-within items a b (false, m)), m));
 }

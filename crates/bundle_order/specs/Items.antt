@@ -1,5 +1,5 @@
 -- The graph of what items depend on.
-use Rattle.std.specs.Prelude.{◌≡◌, ◌≢◌, ℕ, ◌<◌, ◌↔◌, ◌⊎◌, Bool, true, false, List, length, Some, None, Contains}
+use Rattle.std.specs.Prelude.{◌≡◌, ◌≢◌, ℕ, ◌<◌, ◌↔◌, ◌⊎◌, Bool, true, false, List, length, Some, None, Contains, slice_get}
 use Rattle.bundle_order_graph.specs.Statements.{Statements, weight, IsDependency}
 use Rattle.bundle_order_graph.specs.declared.sort.Required.{Required}
 use Rattle.bundle_order_graph.specs.declared.sort.Required.TheVariants.{Always, Maybe}
@@ -10,6 +10,10 @@ use Rattle.bundle_order_sort.specs.Items.{Names, Depends}
 -- the nodes are the numbers of so many items
 abbrev pub AreNodes : Statements → ℕ → Type 0
 AreNodes graph count = (n : ℕ) → Contains graph.nodes n ↔ (n < count)
+
+-- no number stands twice among them
+abbrev pub AreOnce : List ℕ → Type 0
+AreOnce nodes = (i j n : ℕ) → slice_get nodes i ≡ Some n → slice_get nodes j ≡ Some n → i ≡ j
 
 -- each edge leads from one of so many items to another
 abbrev pub AreBetween : Statements → ℕ → Type 0
@@ -27,6 +31,7 @@ how_required false = Always
 -- the graph of these items: it has just their dependencies, and those always that are not weak
 pub record IsGraphOf (graph : Statements) (items : List SortItem) : Type 0 where
   pub nodes : AreNodes graph (length items)
+  pub once : AreOnce graph.nodes
   pub edges : (a b : ℕ) → IsDependency graph a b ↔ Depends items a b
   pub always : (a b : ℕ) → IsAlways graph a b ↔ Names items a b false
 
@@ -35,6 +40,7 @@ pub record IsGraphOf (graph : Statements) (items : List SortItem) : Type 0 where
 -- so many items that do not depend on each other
 pub record AreApart (graph : Statements) (count : ℕ) : Type 0 where
   pub nodes : AreNodes graph count
+  pub once : AreOnce graph.nodes
   pub none : (a b : ℕ) → weight graph a b ≡ None
 
 -- of these dependencies of item s, one of so many, one that counts is on item t
@@ -53,5 +59,6 @@ Gains Leads Counts old new s count dependencies =
 -- new is old with these dependencies of item s, one of so many
 pub record Grows (old new : Statements) (s count : ℕ) (dependencies : List Dependency) : Type 0 where
   pub nodes : AreNodes new count
+  pub once : AreOnce old.nodes → AreOnce new.nodes
   pub edges : Gains IsDependency (λ is_weak. Unit {0}) old new s count dependencies
   pub always : Gains IsAlways (λ is_weak. is_weak ≡ false) old new s count dependencies

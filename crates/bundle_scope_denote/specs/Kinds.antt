@@ -137,7 +137,6 @@ takes_by w.Loop scope = o.is_loop scope
 takes_by w.FunctionName scope = o.is_function_name scope
 takes_by w.ClassName scope = o.is_class_name scope
 takes_by w.Wrapper scope = o.is_wrapper scope
-takes_by w.Arguments scope = false
 
 -- whether a name is declared by `var`
 abbrev pub is_var_by : Way → Truth

@@ -19,7 +19,7 @@ ghost use Rattle.bundle_scope_denote.specs.Steps.{IsBlank, IsWhole, Stays};
 
 use crate::homes::{Bindings, alone_of, homes_of, outer_at, scope_at};
 use crate::kinds::is_function;
-use crate::table::{Binding, Denotations, Denoted, ModuleKind, Reading, Scope, Way};
+use crate::table::{Binding, Denotations, Denoted, ModuleKind, Reading, Scope};
 use crate::walk::{Name, Occurrence, Walk, number_of};
 use bundle_tree_piece::Piece;
 use indexmap::IndexSet;
@@ -35,7 +35,7 @@ pub fn denotations<'a>(
 ) -> Result<Denotations<'a>, AllocError>
     ensures { IfOk result (IsTable (reading_as reading) (kind_as kind) (map item_of pieces.now)) }
 {
-    let mut walk = Walk::new(alloc, pieces.len(), kind, reading);
+    let mut walk = Walk::new(alloc, kind, reading);
     let found = found_along(alloc, &mut walk, pieces)?;
     Ok(table_of(walk, found))
 }
@@ -193,7 +193,7 @@ impl<'a> Search<'a> {
     {
         let adds = is_arguments(name.sym);
         let found = nearest(&walk.scopes, &self.bindings.keys, adds, number, from);
-        let binding = self.put(walk, found, name, number)?;
+        let binding = self.put(found, name, number)?;
         Ok(binding)
     }
 
@@ -211,7 +211,7 @@ impl<'a> Search<'a> {
     {
         let found = nearest(&walk.scopes, &self.bindings.keys, false, number, from);
         if found.is_some() {
-            let binding = self.put(walk, found, name, number)?;
+            let binding = self.put(found, name, number)?;
             return Ok(binding);
         }
         if is_unresolved(name.ctxt) {
@@ -226,14 +226,13 @@ impl<'a> Search<'a> {
             sym: name.sym,
             ctxt: None,
         };
-        let binding = self.put(walk, implied, plain, alone)?;
+        let binding = self.put(implied, plain, alone)?;
         Ok(binding)
     }
 
     // The number of the binding of a name in the scope that was found.
     fn put(
         &mut self,
-        walk: &Walk<'a>,
         found: Option<usize>,
         name: Name<'a>,
         number: usize,
@@ -247,8 +246,6 @@ impl<'a> Search<'a> {
             scope,
             sym: name.sym,
             ctxt: name.ctxt,
-            way: Way::Arguments,
-            first: begins_at(&walk.scopes, scope),
         };
         let number = self.bindings.number_of((scope, number), binding)?;
         Ok(Some(number))
@@ -332,14 +329,6 @@ fn is_unresolved(ctxt: Option<u32>) -> bool
     match ctxt {
         None => false,
         Some(ctxt) => ctxt == 1,
-    }
-}
-
-// Where the node of a scope begins.
-fn begins_at(scopes: &[Scope], number: usize) -> usize {
-    match scope_at(scopes, number) {
-        None => 0,
-        Some(scope) => scope.begins,
     }
 }
 

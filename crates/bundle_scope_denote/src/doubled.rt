@@ -39,7 +39,7 @@ pub fn first_doubled<'a>(
         ≡ option_map place_and_symbol
         (doubled.first_doubled (kind_as kind) (map item_of pieces.now))) }
 {
-    let mut walk = Walk::new(alloc, pieces.len(), kind, Reading::BySymbol);
+    let mut walk = Walk::new(alloc, kind, Reading::BySymbol);
     doubled_along(alloc, &mut walk, pieces)
 }
 

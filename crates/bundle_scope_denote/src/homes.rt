@@ -108,8 +108,6 @@ impl<'a> Homes<'a> {
             scope,
             sym: name.sym,
             ctxt: name.ctxt,
-            way: declaration.way,
-            first: declaration.place,
         };
         let number = self.bindings.number_of((scope, declaration.name), binding)?;
         self.of.push(number)?;

@@ -158,7 +158,6 @@ pub(crate) fn takes(way: Way, kind: ScopeKind) -> bool
         Way::FunctionName => is_function_name(kind),
         Way::ClassName => is_class_name(kind),
         Way::Wrapper => is_wrapper(kind),
-        Way::Arguments => false,
     }
 }
 

@@ -10,6 +10,4 @@ mod walk;
 
 pub use denote::denotations;
 pub use doubled::first_doubled;
-pub use table::{
-    Binding, Denotations, Denoted, Doubled, ModuleKind, Reading, Scope, ScopeKind, Way,
-};
+pub use table::{Binding, Denotations, Denoted, Doubled, ModuleKind, Reading, Scope, ScopeKind};

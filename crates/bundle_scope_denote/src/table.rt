@@ -53,18 +53,11 @@ pub struct Scope {
     pub outer: Option<usize>,
     /// The place where its node begins; 0 for those outside all nodes.
     pub begins: usize,
-    /// It covers the places from this one on,
-    pub from: usize,
-    /// and before this one.
-    pub to: usize,
-    /// The number of the scope whose names keep apart with its own: the parameters for a body, the wrapper for
-    /// the top of a CommonJS module, the catch for its block, and else itself.
-    pub group: usize,
 }
 
 /// How a name is declared.
 #[derive(Clone, Copy, PartialEq, Eq)]
-pub enum Way {
+pub(crate) enum Way {
     Import,
     Var,
     Let,
@@ -84,8 +77,6 @@ pub enum Way {
     ClassName,
     /// As a parameter of a CommonJS module.
     Wrapper,
-    /// As the implicit `arguments` of a function that is no arrow.
-    Arguments,
 }
 
 /// A binding: one for each scope and name, where by context the name is symbol and context.
@@ -97,10 +88,6 @@ pub struct Binding<'a> {
     /// None by symbol, and where no identifier declares it: for a parameter of a CommonJS module, for the
     /// `default` of a nameless export, and for the implicit `arguments`.
     pub ctxt: Option<u32>,
-    /// The way of its first declaration.
-    pub way: Way,
-    /// The place of its first declaration; where it has none, the scope's `begins`.
-    pub first: usize,
 }
 
 /// An identifier that binds a name or refers to one.

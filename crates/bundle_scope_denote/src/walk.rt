@@ -16,8 +16,8 @@ ghost use Rattle.bundle_scope_denote.specs.Walked as walked;
 ghost use Rattle.bundle_scope_denote.specs.Walked.{IsAlone, IsDefault, StaysOnce, begins_node_by, begins_nameless, declared_as, is_identifier_by, is_nameless_by};
 
 use crate::kinds::{
-    block_in, is_default, is_loop_head, is_pattern, joins_outer, kind_of_scope, leaves_first_out,
-    way_in, way_of_variable,
+    block_in, is_default, is_loop_head, is_pattern, kind_of_scope, leaves_first_out, way_in,
+    way_of_variable,
 };
 use crate::table::{ModuleKind, Reading, Scope, ScopeKind, Way};
 use bundle_tree_piece::{Node, Piece, Role};
@@ -61,8 +61,8 @@ pub(crate) struct Open<'a> {
     pub(crate) own: Option<usize>,
 }
 
-/// What was met so far. `length` is that of the list, and `top` the number of the scope of the module's top;
-/// `inner` is the innermost open node, and at last what is known outside all nodes.
+/// What was met so far. `top` is the number of the scope of the module's top; `inner` is the innermost open node,
+/// and at last what is known outside all nodes.
 #[derive(Drop)]
 pub(crate) struct Walk<'a> {
     pub(crate) scopes: Vec<Scope>,
@@ -74,12 +74,11 @@ pub(crate) struct Walk<'a> {
     outer: Vec<Open<'a>>,
     pub(crate) kind: ModuleKind,
     pub(crate) reading: Reading,
-    length: usize,
 }
 
 impl<'a> Walk<'a> {
-    /// Nothing was met yet, in a list of this length.
-    pub(crate) fn new(alloc: Global, length: usize, kind: ModuleKind, reading: Reading) -> Walk<'a>
+    /// Nothing was met yet.
+    pub(crate) fn new(alloc: Global, kind: ModuleKind, reading: Reading) -> Walk<'a>
         ensures blank { IsBlank result }
         ensures kind { result.kind ≡ kind }
         ensures reading { result.reading ≡ reading }
@@ -95,7 +94,6 @@ impl<'a> Walk<'a> {
             outer: Vec::new(alloc),
             kind,
             reading,
-            length,
         }
     }
 
@@ -131,7 +129,7 @@ impl<'a> Walk<'a> {
         requires kind { self.old.kind ≡ ModuleKind.Es }
         ensures { OnOk result (Starts self.old self.new) }
     {
-        add_scope(&mut self.scopes, ScopeKind::Top, None, 0, 0, self.length)?;
+        add_scope(&mut self.scopes, ScopeKind::Top, None, 0)?;
         Ok(())
     }
 
@@ -141,22 +139,8 @@ impl<'a> Walk<'a> {
         requires kind { self.old.kind ≡ ModuleKind.Cjs }
         ensures { OnOk result (Starts self.old self.new) }
     {
-        let wrapper = add_scope(
-            &mut self.scopes,
-            ScopeKind::Wrapper,
-            None,
-            0,
-            0,
-            self.length,
-        )?;
-        add_scope(
-            &mut self.scopes,
-            ScopeKind::Top,
-            Some(wrapper),
-            0,
-            0,
-            self.length,
-        )?;
+        let wrapper = add_scope(&mut self.scopes, ScopeKind::Wrapper, None, 0)?;
+        add_scope(&mut self.scopes, ScopeKind::Top, Some(wrapper), 0)?;
         let module = alone(&mut self.names, "module", Way::Wrapper, 0, wrapper)?;
         self.declarations.push(module)?;
         let exports = alone(&mut self.names, "exports", Way::Wrapper, 0, wrapper)?;
@@ -184,7 +168,7 @@ impl<'a> Walk<'a> {
             Piece::Ident { .. } => Ok(()),
             Piece::Hole { .. } => Ok(()),
             Piece::Close => {
-                self.end(place);
+                self.end();
                 Ok(())
             }
         }
@@ -206,8 +190,7 @@ impl<'a> Walk<'a> {
         let default = default_at(&mut self.names, &pieces[place..], place, self.top)?;
         push_some(&mut self.declarations, default)?;
         let around = scope_in(&self.inner, field);
-        cover(&mut self.scopes, around, place);
-        let made = made_by(&node, &self.inner, around, place, self.length);
+        let made = made_by(&node, &self.inner, around, place);
         let own = push_scope(&mut self.scopes, made)?;
         self.outer.push(self.inner)?;
         self.inner = opened(node, field, &self.inner, around, own);
@@ -226,7 +209,6 @@ impl<'a> Walk<'a> {
         ensures { OnOk result (Occurs self.old self.new place field sym.now ctxt role) }
     {
         let scope = scope_in(&self.inner, field);
-        cover(&mut self.scopes, scope, place);
         let name = number_of(&mut self.names, name_of(self.reading, sym, ctxt))?;
         let way = way_for(&self.inner, role);
         let declared = declared_by(way, place, name, scope);
@@ -241,10 +223,9 @@ impl<'a> Walk<'a> {
     }
 
     // The innermost node ends.
-    fn end(&mut self, place: usize)
+    fn end(&mut self)
         ensures { Ends self.old self.new }
     {
-        end_scope(&mut self.scopes, self.inner.own, place);
         if let Some(outer) = self.outer.pop() {
             self.inner = outer;
         }
@@ -326,31 +307,17 @@ fn scope_in<'a>(node: &Open<'a>, field: u8) -> usize
 }
 
 // The scope that a node makes, where it makes one.
-fn made_by<'a>(
-    node: &Node<'a>,
-    inner: &Open<'a>,
-    around: usize,
-    place: usize,
-    length: usize,
-) -> Option<Scope>
+fn made_by<'a>(node: &Node<'a>, inner: &Open<'a>, around: usize, place: usize) -> Option<Scope>
     ensures { option_map numbered result
         ≡ option_map (in_scope place around)
         (kind_made (head_of node.now) (kind_named (Scopes.block_in (head_of inner.now.node)))
         (exports_default (head_of inner.now.node))) }
 {
     let kind = kind_of_scope(node, block_in(&inner.node), is_default(&inner.node))?;
-    let from = if leaves_first_out(node) {
-        length
-    } else {
-        place.saturating_add(1)
-    };
     Some(Scope {
         kind,
         outer: Some(around),
         begins: place,
-        from,
-        to: length,
-        group: 0,
     })
 }
 
@@ -544,14 +511,7 @@ fn push_scope(scopes: &mut Vec<Scope>, made: Option<Scope>) -> Result<Option<usi
     let Some(made) = made else {
         return Ok(None);
     };
-    let number = add_scope(
-        scopes,
-        made.kind,
-        made.outer,
-        made.begins,
-        made.from,
-        made.to,
-    )?;
+    let number = add_scope(scopes, made.kind, made.outer, made.begins)?;
     Ok(Some(number))
 }
 
@@ -561,8 +521,6 @@ fn add_scope(
     kind: ScopeKind,
     outer: Option<usize>,
     begins: usize,
-    from: usize,
-    to: usize,
 ) -> Result<usize, AllocError>
     ensures items { OnOk result
         (map numbered scopes.new.items
@@ -571,47 +529,10 @@ fn add_scope(
     ensures number { IfOk result (λ number. number ≡ length (map numbered scopes.old.items)) }
 {
     let number = scopes.len();
-    let group = match outer {
-        Some(outer) if joins_outer(kind) => outer,
-        _ => number,
-    };
     scopes.push(Scope {
         kind,
         outer,
         begins,
-        from,
-        to,
-        group,
     })?;
     Ok(number)
-}
-
-// The places of a scope begin here, if no place was in it so far.
-fn cover(scopes: &mut Vec<Scope>, number: usize, place: usize)
-    ensures { map numbered scopes.new.items ≡ map numbered scopes.old.items }
-{
-    if number < scopes.len() {
-        let scope = scopes[number];
-        scopes[number] = Scope {
-            from: scope.from.min(place),
-            ..scope
-        };
-    }
-}
-
-// The places of a scope end here.
-fn end_scope(scopes: &mut Vec<Scope>, own: Option<usize>, place: usize)
-    ensures { map numbered scopes.new.items ≡ map numbered scopes.old.items }
-{
-    let Some(number) = own else {
-        return;
-    };
-    if number < scopes.len() {
-        let scope = scopes[number];
-        scopes[number] = Scope {
-            from: scope.from.min(place),
-            to: place,
-            ..scope
-        };
-    }
 }

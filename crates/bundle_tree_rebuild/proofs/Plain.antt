@@ -51,10 +51,10 @@ plain_stays work (h.OptChainExpr optional) inside is = refl
 plain_stays work _ inside is = is
 
 -- a node whose first part is kept, as a plain node
-kept : {around : Around} {changes rest : List Change} (field : ℕ) (head : Head) {inside made : List Item} → keeps_first head ≡ true → Edits Anywhere changes inside made rest → Edits around changes (node field head inside) (node field head made) rest
-kept field (h.AssignExpr op) keeps one = e.Inside field (h.AssignExpr op) refl one
-kept field (h.OptChainExpr optional) keeps one = e.Inside field (h.OptChainExpr optional) refl one
-kept field _ keeps one = cc
+kept : {around : Around} {changes rest : List Change} (field : ℕ) (head : Head) (first : ℕ) {inside made : List Item} → keeps_first head first ≡ true → Edits Anywhere changes inside made rest → Edits around changes (node field head inside) (node field head made) rest
+kept field (h.AssignExpr op) first keeps one = e.Inside field (h.AssignExpr op) refl one
+kept field (h.OptChainExpr optional) first keeps one = e.Inside field (h.OptChainExpr optional) refl one
+kept field _ first keeps one = cc
 
 -- the edit by its changes, with the changes that are left
 pub record Left (around : Around) (changes : List Change) (before after : List Item) (rest : Work) : Type 0 where
@@ -88,7 +88,7 @@ plain_edits {around = around} (b.Declaration field kind notes {inside = inside} 
 plain_edits (b.Kept field head first keeps one two) changes is =
     let front = plain_edits one changes is in
     let back = plain_edits two front.changes_left front.rest_is in
-    record { changes_left = back.changes_left; edits = kept field head keeps (e.Joined (e.Inside first h.MemberExpr refl front.edits) back.edits); rest_is = back.rest_is }
+    record { changes_left = back.changes_left; edits = kept field head first keeps (e.Joined (e.Inside first h.MemberExpr refl front.edits) back.edits); rest_is = back.rest_is }
 plain_edits {around = around} (b.Shorthand field x ctxt role {default = default} {made = made} occurs one) changes is =
     let within = plain_edits one (drop 1 changes) (ap after is ∙ after_plain changes) in
     record {

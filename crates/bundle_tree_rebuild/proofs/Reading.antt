@@ -14,6 +14,7 @@ use Rattle.bundle_tree_ast.specs.declared.expr.ExprOrSpread as v_expr_or_spread
 use Rattle.bundle_tree_ast.specs.declared.expr.MemberExpr as v_member_expr
 use Rattle.bundle_tree_ast.specs.declared.prop.ComputedPropName as v_computed
 use Rattle.bundle_tree_ast.specs.declared.prop.MemberProp.TheVariants as v_member_prop
+use Rattle.bundle_tree_piece.specs.declared.piece.Role.TheVariants as r
 use Rattle.bundle_tree_piece.specs.Item as h
 use Rattle.bundle_tree_piece.specs.Item.{Item, Head}
 use Rattle.bundle_tree_listed.proofs.Rows as row
@@ -157,8 +158,10 @@ computed_found it rest = refl
 pub named_call : (found : Bool) (list rest : List Item) → Finds found 0 list rest → is_literal_call list ≡ (found && is_one_string rest)
 named_call true [] rest is = cc
 named_call false [] rest is = refl
-named_call true (h.Ident field x ctxt role ∷ more) rest is = ap (λ found. is_one_string (unwrap_or found [])) is
-named_call false (h.Ident field x ctxt role ∷ more) rest is = cc
+named_call true (h.Ident field x ctxt r.Reference ∷ more) rest is = ap (λ found. is_one_string (unwrap_or found [])) is
+named_call false (h.Ident field x ctxt r.Reference ∷ more) rest is = cc
+named_call true (h.Ident field x ctxt _ ∷ more) rest is = cc
+named_call false (h.Ident field x ctxt _ ∷ more) rest is = refl
 named_call true (h.Open field head ∷ more) rest is = cc
 named_call false (h.Open field head ∷ more) rest is = refl
 named_call true (h.Hole field ∷ more) rest is = cc

@@ -80,14 +80,14 @@ pub data Keeper : Head → Type 0 where
   assigns : (op : AssignOp) → Keeper (h.AssignExpr op)
   chains : (optional : Bool) → Keeper (h.OptChainExpr optional)
 
-keeper_keeps : {head : Head} → Keeper head → keeps_first head ≡ true
+keeper_keeps : {head : Head} → Keeper head → keeps_first head 1 ≡ true
 keeper_keeps (assigns op) = refl
 keeper_keeps (chains optional) = refl
 
-pub first_made : {A : Type 0} {items : ℕ → A → List Item} {a b d : Work} {old new : A} {more made_more : List Item} (field n : ℕ) {head : Head} → Keeper head → RemadeFirst items a old new b → Becomes Anywhere b more made_more d → Becomes Anywhere a (node field head (items n old ++ more)) (node field head (items n new ++ made_more)) d
-first_made {more = more} field n (assigns op) (IsOther no_member one) two = Inside field (h.AssignExpr op) (ap not (no_member n more)) (Joined (one.in_field n) two)
-first_made {more = more} field n (chains optional) (IsOther no_member one) two = Inside field (h.OptChainExpr optional) (ap not (no_member n more)) (Joined (one.in_field n) two)
-first_made {items = items} {a = a} {d = d} {old = old} {new = new} {more = more} {made_more = made_more} field n {head = head} keeper (IsMember inside made old_is new_is one) two =
-    subst (λ list. Becomes Anywhere a (node field head (list ++ more)) (node field head (items n new ++ made_more)) d) (sym (old_is n))
-    (subst (λ list. Becomes Anywhere a (node field head (node n h.MemberExpr inside ++ more)) (node field head (list ++ made_more)) d) (sym (new_is n))
-    (Kept field head n (keeper_keeps keeper) one two))
+pub first_made : {A : Type 0} {items : ℕ → A → List Item} {a b d : Work} {old new : A} {more made_more : List Item} (field : ℕ) {head : Head} → Keeper head → RemadeFirst items a old new b → Becomes Anywhere b more made_more d → Becomes Anywhere a (node field head (items 1 old ++ more)) (node field head (items 1 new ++ made_more)) d
+first_made {more = more} field (assigns op) (IsOther no_member one) two = Inside field (h.AssignExpr op) (ap not (no_member 1 more)) (Joined (one.in_field 1) two)
+first_made {more = more} field (chains optional) (IsOther no_member one) two = Inside field (h.OptChainExpr optional) (ap not (no_member 1 more)) (Joined (one.in_field 1) two)
+first_made {items = items} {a = a} {d = d} {old = old} {new = new} {more = more} {made_more = made_more} field {head = head} keeper (IsMember inside made old_is new_is one) two =
+    subst (λ list. Becomes Anywhere a (node field head (list ++ more)) (node field head (items 1 new ++ made_more)) d) (sym (old_is 1))
+    (subst (λ list. Becomes Anywhere a (node field head (node 1 h.MemberExpr inside ++ more)) (node field head (list ++ made_more)) d) (sym (new_is 1))
+    (Kept field head 1 (keeper_keeps keeper) one two))

@@ -87,7 +87,7 @@ expr-BinExpr one two = record { in_field = λ field. Inside field _ refl (Joined
 
 pub expr-AssignExpr : {a b d : Work} {op left left' right right' : _} → RemadeFirst k.assign_target_items a left left' b → Remade Anywhere p.boxed_expr_items b right right' d → Remade Anywhere k.expr_items a (v_expr.AssignExpr op left right) (v_expr.AssignExpr op left' right') d
 unfolding stmt_items
-expr-AssignExpr {op = op} one two = record { in_field = λ field. first_made field 1 (assigns op) one (two.in_field 2) }
+expr-AssignExpr {op = op} one two = record { in_field = λ field. first_made field (assigns op) one (two.in_field 2) }
 
 pub expr-MemberExpr : {a b : Work} {it it' : v_member_expr.MemberExpr v_expr.Expr} → None ≡ name_for_member (upcoming a) (p.member_parts 0 it) → Remade Anywhere p.member_parts a it it' b → Remade Anywhere k.expr_items a (v_expr.MemberExpr it) (v_expr.MemberExpr it') b
 unfolding stmt_items
@@ -210,7 +210,7 @@ expr-OptChainExpr {a = a} {b = b} {optional = optional} {base = base} {base' = b
       let made : List Item = k.opt_chain_base_items 1 base' in
       subst (λ list. Becomes Anywhere a (k.node field (h.OptChainExpr optional) list) (k.node field (h.OptChainExpr optional) made) b) (append-nil before)
       (subst (λ list. Becomes Anywhere a (k.node field (h.OptChainExpr optional) (before ++ [])) (k.node field (h.OptChainExpr optional) list) b) (append-nil made)
-      (first_made field 1 (chains optional) one Nothing));
+      (first_made field (chains optional) one Nothing));
 }
 
 pub option_expr-None : {a : Work} → Remade Anywhere k.option_expr_items a None None a

@@ -1,7 +1,7 @@
 -- What becomes of a part of a tree, by its list, as a relation over its nodes: the way in which a walk over the tree
 -- makes it anew. With plain changes it is what `Edits` says. What stands around a name and what stands in its place
 -- is taken from there.
-use Rattle.std.specs.Prelude.{◌≡◌, ℕ, zero, suc, Bool, true, false, not, is_none, List, [], ◌∷◌, ◌++◌, Option, Some, None, if◌then◌else◌}
+use Rattle.std.specs.Prelude.{◌≡◌, ℕ, zero, suc, ◌==◌, Bool, true, false, not, is_none, List, [], ◌∷◌, ◌++◌, Option, Some, None, if◌then◌else◌}
 use Rattle.bundle_tree_leaf.specs.declared.kind.ExportMetadata.{ExportMetadata}
 use Rattle.bundle_tree_leaf.specs.declared.kind.MetaPropKind.{MetaPropKind}
 use Rattle.bundle_tree_leaf.specs.declared.kind.MetaPropKind.TheVariants as p
@@ -24,9 +24,9 @@ abbrev pub behind_word : Option (List Item) → Option (List Item)
 behind_word (Some (h.Open field (h.IdentName word) ∷ h.Close ∷ h.Close ∷ rest)) = Some rest
 behind_word _ = None
 
--- what stands behind an identifier with so many static reads around it, as `a.b.c` with 2, if these elements begin with one
+-- what stands behind an identifier that refers with so many static reads around it, as `a.b.c` with 2, if these elements begin with one
 abbrev pub behind_reads : ℕ → List Item → Option (List Item)
-behind_reads zero (h.Ident field x ctxt role ∷ rest) = Some rest
+behind_reads zero (h.Ident field x ctxt r.Reference ∷ rest) = Some rest
 behind_reads (suc count) (h.Open field h.MemberExpr ∷ rest) = behind_word (behind_reads count rest)
 behind_reads _ _ = None
 
@@ -44,9 +44,9 @@ abbrev pub is_one_string : List Item → Bool
 is_one_string (h.Open field (h.ExprOrSpread false) ∷ h.Open inner (h.Str value raw) ∷ h.Close ∷ h.Close ∷ []) = true
 is_one_string _ = false
 
--- whether what is in a call is an identifier that is called, and one string
+-- whether what is in a call is an identifier that refers and is called, and one string
 abbrev pub is_literal_call : (inside : List Item) → Bool
-is_literal_call (h.Ident field x ctxt role ∷ arguments) = is_one_string arguments
+is_literal_call (h.Ident field x ctxt r.Reference ∷ arguments) = is_one_string arguments
 is_literal_call _ = false
 
 -- the name that stands for a member expression, if one does: it is as many static reads around the next occurrence as that asks for
@@ -92,11 +92,11 @@ abbrev pub kept_notes : (clears_notes : Bool) → ExportMetadata → ExportMetad
 kept_notes true notes = no_notes
 kept_notes false notes = notes
 
--- whether no name may stand for what is first in a node: what is assigned to, and what begins an optional chain
-abbrev pub keeps_first : Head → Bool
-keeps_first (h.AssignExpr op) = true
-keeps_first (h.OptChainExpr optional) = true
-keeps_first head = false
+-- whether no name may stand for what is first in a node, in this field: what is assigned to, and what begins an optional chain
+abbrev pub keeps_first : Head → ℕ → Bool
+keeps_first (h.AssignExpr op) field = field == 1
+keeps_first (h.OptChainExpr optional) field = field == 1
+keeps_first head field = false
 
 -- whether a member expression stands first
 abbrev pub begins_with_member : List Item → Bool
@@ -144,7 +144,7 @@ pub data Becomes : Around → Work → List Item → List Item → Work → Type
       Becomes around work (node field (h.VarDecl kind notes) inside) (node field (h.VarDecl kind (kept_notes work.clears_notes notes)) made) rest
   -- the same where the first of what is in a node is a member expression for which no name may stand
   Kept : {around : Around} {work between rest : Work} (field : ℕ) (head : Head) (first : ℕ) {inside made more made_more : List Item} →
-      keeps_first head ≡ true →
+      keeps_first head first ≡ true →
       Becomes Anywhere work inside made between →
       Becomes Anywhere between more made_more rest →
       Becomes around work (node field head (node first h.MemberExpr inside ++ more)) (node field head (node first h.MemberExpr made ++ made_more)) rest
@@ -153,18 +153,18 @@ pub data Becomes : Around → Work → List Item → List Item → Work → Type
       is_occurrence role ≡ true →
       Becomes Anywhere (after work) default made rest →
       Becomes around work (node field h.AssignPatProp (binding None 0 x ctxt role ++ default)) (shorthand_in_its_place (next work x) field x ctxt role made) rest
-  -- a name stands for static reads
-  OfReads : {around : Around} {work : Work} (field : ℕ) (name : Ident) (inside : List Item) →
+  -- a name stands for static reads; in an object literal it would be a shorthand, but no read stands there without a key
+  OfReads : {work : Work} (field : ℕ) (name : Ident) (inside : List Item) →
       name_for_member (upcoming work) inside ≡ Some name →
-      Becomes around work (node field h.MemberExpr inside) (reference field name) (after work)
+      Becomes Anywhere work (node field h.MemberExpr inside) (reference field name) (after work)
   -- a call of a name stands for a literal call
   OfCall : {around : Around} {work : Work} (field : ℕ) (name : Ident) (inside : List Item) →
       name_for_call (upcoming work) inside ≡ Some name →
       Becomes around work (node field h.CallExpr inside) (node field h.CallExpr (reference 0 name)) (after work)
-  -- a name stands for `import.meta`
-  OfMeta : {around : Around} {work : Work} (field : ℕ) (kind : MetaPropKind) (name : Ident) →
+  -- a name stands for `import.meta`, which has a key in an object literal too
+  OfMeta : {work : Work} (field : ℕ) (kind : MetaPropKind) (name : Ident) →
       name_for_meta work.meta kind ≡ Some name →
-      Becomes around work (node field (h.MetaPropExpr kind) []) (reference field name) work
+      Becomes Anywhere work (node field (h.MetaPropExpr kind) []) (reference field name) work
 
 -- the items of a part with this work, from its first occurrence on
 pub record Reworked (work : Work) (before after : List Item) : Type 0 where

@@ -28,9 +28,9 @@ use Rattle.bundle_tree_listed.specs.Tree.{node, stmt_items}
 use Rattle.bundle_tree_listed.proofs.Rows as row
 use Rattle.bundle_rules.specs.Idents.{Ident}
 use Rattle.bundle_tree_places.specs.Edits.{Anywhere, InObject}
-use Rattle.bundle_tree_rebuild.specs.Becomes.{Becomes, Reworked, Nothing, Joined, Inside, named, no_notes}
+use Rattle.bundle_tree_rebuild.specs.Becomes.{Becomes, Nothing, Joined, named, no_notes}
 use Rattle.bundle_tree_rebuild.specs.Remade.{Remade, Takes}
-use Rattle.bundle_tree_rewrite.specs.Stated.{States, DeclaresName, Own, OfDefault, ValueStates, DeclarationStates, FunctionStates, ClassStates, StatementStates, constant}
+use Rattle.bundle_tree_rewrite.specs.Stated.{ReworkedObject, States, DeclaresName, Own, OfDefault, ValueStates, DeclarationStates, FunctionStates, ClassStates, StatementStates, constant}
 use Rattle.bundle_tree_rebuild.specs.Work.{Work}
 use Rattle.bundle_tree_rebuild.proofs.Remaking as remaking
 
@@ -105,13 +105,13 @@ one_property {work = work} {rest = rest} all i {made = made} {after = after} {ol
 }
 
 -- the object literal of all of them
-pub object_made : {work rest : Work} (all : List (v_key_value_prop.KeyValueProp v_expr.Expr)) {i : ℕ} (props : Vec v_prop_or_spread.PropOrSpread Global) → length all ≤ i → Properties work (take i all) props.items rest → Reworked work (node 0 h.ObjectLit (flat_map (k.key_value_prop_items 0) all)) (k.expr_items 0 (v_expr.ObjectLit props))
+pub object_made : {work rest : Work} (all : List (v_key_value_prop.KeyValueProp v_expr.Expr)) {i : ℕ} (props : Vec v_prop_or_spread.PropOrSpread Global) → length all ≤ i → Properties work (take i all) props.items rest → ReworkedObject work (flat_map (k.key_value_prop_items 0) all) (k.expr_items 0 (v_expr.ObjectLit props))
 unfolding stmt_items
 object_made {work = work} {rest = rest} all {i = i} props over made = record {
   rest = rest;
-  by = Inside 0 h.ObjectLit refl
-      (subst (λ list. Becomes InObject work (flat_map (k.key_value_prop_items 0) all) list rest) (sym (row.all_prop_or_spread 0 props))
-      (subst (λ list. Becomes InObject work (flat_map (k.key_value_prop_items 0) list) (flat_map (k.prop_or_spread_items 0) props.items) rest) (take_all i all over) (made.in_field 0)));
+  inside = flat_map (k.prop_or_spread_items 0) props.items;
+  is = ap (λ list. node 0 h.ObjectLit list) (row.all_prop_or_spread 0 props);
+  by = subst (λ list. Becomes InObject work (flat_map (k.key_value_prop_items 0) list) (flat_map (k.prop_or_spread_items 0) props.items) rest) (take_all i all over) (made.in_field 0);
 }
 
 -- the only element of a list

@@ -1,5 +1,5 @@
 -- What an item of a module states in a bundle (ECMA-262, 16.2.3.7), by its list.
-use Rattle.std.specs.Prelude.{◌≢◌, List, [], ◌∷◌, ◌++◌, Option, Some, None}
+use Rattle.std.specs.Prelude.{◌≡◌, ◌≢◌, List, [], ◌∷◌, ◌++◌, Option, Some, None}
 use Rattle.bundle_tree_leaf.specs.declared.ident.Ident as v_ident
 use Rattle.bundle_tree_leaf.specs.declared.kind.VarDeclKind.TheVariants as k
 use Rattle.bundle_tree_ast.specs.declared.module.ModuleItem.{ModuleItem}
@@ -16,7 +16,7 @@ use Rattle.bundle_tree_piece.specs.Item as h
 use Rattle.bundle_tree_piece.specs.Item.{Item}
 use Rattle.bundle_tree_listed.specs.Tree.{node, ident_items, expr_items, stmt_items, decl_items, class_items, function_items}
 use Rattle.bundle_rules.specs.Idents.{Ident}
-use Rattle.bundle_tree_places.specs.Edits.{Anywhere}
+use Rattle.bundle_tree_places.specs.Edits.{Anywhere, InObject}
 use Rattle.bundle_tree_rebuild.specs.Becomes.{Becomes, Reworked, named, no_notes}
 use Rattle.bundle_tree_rebuild.specs.Work.{Work}
 
@@ -30,6 +30,13 @@ pub data DeclaresName (work : Work) (default : Ident) : Option v_ident.Ident →
       Becomes Anywhere work (ident_items r.Binding 0 ident) made rest →
       DeclaresName work default (Some ident) made rest
   OfDefault : DeclaresName work default None (named 0 default r.Binding) work
+
+-- properties become those that stand in this object literal, where with this work a name would be a shorthand
+pub record ReworkedObject (work : Work) (properties made : List Item) : Type 0 where
+  pub rest : Work
+  pub inside : List Item
+  pub is : made ≡ node 0 h.ObjectLit inside
+  pub by : Becomes InObject work properties inside rest
 
 -- What an item states with this work of its occurrences, where `default` is the name of a default export that has none of its own.
 pub data States (work : Work) (default : Ident) : ModuleItem → List Item → Type 0 where

@@ -5,13 +5,11 @@ ghost use Rattle.std.specs.List.{flat_map};
 ghost use Rattle.bundle_tree_ast.specs.declared.module.ModuleDecl.TheVariants.{ExportDefaultDecl};
 ghost use Rattle.bundle_tree_ast.specs.declared.module.ModuleItem.TheVariants.{ModuleDecl as DeclItem, Stmt as StmtItem};
 ghost use Rattle.bundle_tree_piece.specs.declared.piece.Role.TheVariants.{Binding};
-ghost use Rattle.bundle_tree_piece.specs.Item.{ObjectLit};
-ghost use Rattle.bundle_tree_listed.specs.Tree.{decl_items, expr_items, ident_items, key_value_prop_items, node, option_items, stmt_items};
+ghost use Rattle.bundle_tree_listed.specs.Tree.{decl_items, expr_items, ident_items, key_value_prop_items, option_items, stmt_items};
 ghost use Rattle.bundle_rules.specs.Idents as idents;
 ghost use Rattle.bundle_tree_places.specs.Marks as marks;
-ghost use Rattle.bundle_tree_rebuild.specs.Becomes.{Reworked};
 ghost use Rattle.bundle_tree_rewrite.specs.Stated as stated;
-ghost use Rattle.bundle_tree_rewrite.specs.Stated.{DeclaresName, States};
+ghost use Rattle.bundle_tree_rewrite.specs.Stated.{DeclaresName, ReworkedObject, States};
 ghost use Rattle.bundle_tree_rebuild.specs.Work.{work_of};
 
 use bundle_tree_ast::{
@@ -53,8 +51,8 @@ pub fn rewritten_object(
     rewriting: Rewriting,
 ) -> Result<Expr, AllocError>
     ensures { IfOk result (λ made.
-        Reworked (work_of rewriting.entry)
-        (node 0 ObjectLit (flat_map (key_value_prop_items 0) properties.now)) (expr_items 0 made)) }
+        ReworkedObject (work_of rewriting.entry) (flat_map (key_value_prop_items 0) properties.now)
+        (expr_items 0 made)) }
 {
     let mut rebuild = Rebuild::rewriting(alloc, rewriting);
     let mut props = Vec::new(alloc);

@@ -13,7 +13,7 @@ use Rattle.bundle_rules.specs.Kept.{Kept, program_of}
 use Rattle.bundler_entry.specs.Unlinked.{error_of}
 use Rattle.bundler_entry.specs.declared.unlinked.Unlinked.{Unlinked}
 use Rattle.bundler_call.specs.Bundler.{files_of, HasNumber}
-use Rattle.bundler_call.specs.Judged.{IsBundledFor}
+use Rattle.bundler_call.specs.Judged.{IsBundledFor, LacksContexts}
 use Rattle.bundler_call.specs.Kept.{entry_of}
 use Rattle.bundler_call.specs.Linking.{IsNumberedOn, IsRefusalOfEntries, IsRefusalOfProgram}
 use Rattle.bundler_call.specs.Loading.{files_on, AreNumbered, Begins}
@@ -22,7 +22,7 @@ use Rattle.bundler_call.specs.declared.bundle.BundleKind.TheVariants.{Named}
 use Rattle.bundler_call.specs.declared.load.LoadList.{LoadList}
 use Rattle.bundler_call.proofs.Judging.{told_as}
 use Rattle.bundler_call.proofs.Leading.{number_listed}
-use Rattle.bundler_call.proofs.Linking.{accepts_as, refuses_first, refuses_later, AsMuch}
+use Rattle.bundler_call.proofs.Linking.{accepts_as, refuses_first, refuses_later, lacks_first, lacks_later, AsMuch}
 
 module _ (parties : Parties) (settings : Settings) (kept : Kept) (list : LoadList) where
   -- the program of an entry whose file has this number
@@ -34,16 +34,17 @@ module _ (parties : Parties) (settings : Settings) (kept : Kept) (list : LoadLis
   no_entry [] all = refl
   no_entry (entry ∷ rest) all = absurd all
 
-  -- these are the bundles so far of entries of which these are left, with these numbers; what refuses one of those refuses all
+  -- these are the bundles so far of entries of which these are left, with these numbers; what refuses one of those refuses all, and contexts that one of them lacks are lacked by all
   abbrev pub AreMadeSoFar : (entries rest : List (String Global × FileName)) → List ℕ → List Bundle → Type 0
   AreMadeSoFar entries rest ids bundles =
       AllZip (IsNumberedOn kept list) rest ids
       × ((more : List Bundle) → AllZip (IsBundledFor parties settings kept) rest more → AllZip (IsBundledFor parties settings kept) entries (bundles ++ more))
       × ((fault : Fault) → RefusesEntries kept settings parties (map entry_of rest) fault → RefusesEntries kept settings parties (map entry_of entries) fault)
+      × ((fault : Fault) → LacksContexts kept settings parties (map entry_of rest) fault → LacksContexts kept settings parties (map entry_of entries) fault)
 
   pub made_none : (entries rest : List (String Global × FileName)) (ids numbers : List ℕ) (bundles : List Bundle) → rest ≡ entries → numbers ≡ ids → bundles ≡ [] → AllZip (IsNumberedOn kept list) entries ids → AreMadeSoFar entries rest numbers bundles
   made_none entries rest ids numbers bundles same alike none all =
-      subst (λ x. AreMadeSoFar entries x numbers bundles) (sym same) (subst (λ y. AreMadeSoFar entries entries y bundles) (sym alike) (subst (AreMadeSoFar entries entries ids) (sym none) (all, λ more are. are, λ fault refuses. refuses)))
+      subst (λ x. AreMadeSoFar entries x numbers bundles) (sym same) (subst (λ y. AreMadeSoFar entries entries y bundles) (sym alike) (subst (AreMadeSoFar entries entries ids) (sym none) (all, λ more are. are, λ fault refuses. refuses, λ fault lacks. lacks)))
 
   -- where nothing is left, they are all
   pub made_all : (entries rest : List (String Global × FileName)) (ids : List ℕ) (bundles : List Bundle) → (rest ≡ []) ⊎ (ids ≡ []) → AreMadeSoFar entries rest ids bundles → AllZip (IsBundledFor parties settings kept) entries bundles
@@ -63,6 +64,10 @@ module _ (parties : Parties) (settings : Settings) (kept : Kept) (list : LoadLis
     refuses_on : (fault : Fault) → RefusesEntries kept settings parties (entry_of entry ∷ map entry_of left) fault → RefusesEntries kept settings parties (map entry_of entries) fault
     refuses_on fault refuses = so_far.2 fault (subst (λ xs. RefusesEntries kept settings parties (map entry_of xs) fault) (sym is_rest) refuses)
 
+    -- contexts that one of them lacks are lacked by all
+    lacks_on : (fault : Fault) → LacksContexts kept settings parties (entry_of entry ∷ map entry_of left) fault → LacksContexts kept settings parties (map entry_of entries) fault
+    lacks_on fault lacks = so_far.3 fault (subst (λ xs. LacksContexts kept settings parties (map entry_of xs) fault) (sym is_rest) lacks)
+
     -- one more
     pub made_more : (made : List Bundle) (bundle : Bundle) → made ≡ bundles ++ bundle ∷ [] → bundle.kind ≡ Named entry.0 → bundle.id ≡ id → AcceptsProgram (program_of kept settings id) parties → AreMadeSoFar entries left numbers made
     made_more made bundle is_made named numbered accepted =
@@ -71,6 +76,7 @@ module _ (parties : Parties) (settings : Settings) (kept : Kept) (list : LoadLis
           all_left.1,
           λ more are. subst (λ xs. AllZip (IsBundledFor parties settings kept) entries (xs ++ more)) (sym is_made) (subst (λ xs. AllZip (IsBundledFor parties settings kept) entries xs) (sym (append_assoc bundles (bundle ∷ []) more)) (so_far.1 (bundle ∷ more) (subst (λ xs. AllZip (IsBundledFor parties settings kept) xs (bundle ∷ more)) (sym is_rest) (its, are)))),
           λ fault refuses. refuses_on fault (refuses_later kept settings parties (entry_of entry) (map entry_of left) (program_of kept settings id) fault program accepted refuses),
+          λ fault lacks. lacks_on fault (lacks_later kept settings parties (entry_of entry) (map entry_of left) (program_of kept settings id) fault program accepted lacks),
         )
 
     -- this one is refused
@@ -78,7 +84,7 @@ module _ (parties : Parties) (settings : Settings) (kept : Kept) (list : LoadLis
     refused_here unlinked told =
         told_as (fault_of (error_of unlinked)) _ _ (λ fault why. elim why [
           | inl refuses ↦ inl (refuses_on fault (refuses_first kept settings parties (entry_of entry) (map entry_of left) (program_of kept settings id) fault (program_here entry id number_here.0) refuses))
-          | inr (accepted, contexts) ↦ inr contexts
+          | inr (accepted, contexts) ↦ inr (lacks_on fault (lacks_first kept settings parties (entry_of entry) (map entry_of left) (program_of kept settings id) fault (program_here entry id number_here.0) accepted contexts))
         ]) told
 
 -- The files of the entries stand on the list.

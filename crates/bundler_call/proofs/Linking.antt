@@ -1,6 +1,6 @@
 -- What linking and the hook tell of the program of an entry, and what that says of all entries.
 use Rattle.std.proofs.Common.{◌≡◌, ◌==◌, ℕ, suc, zero, ◌<◌, Bool, List, [], ◌∷◌, Some, Contains, length, slice_get, refl, sym, ap, subst, ◌∙◌, inl, inr, arith}
-use Rattle.std.specs.Prelude.{IfSome}
+use Rattle.std.specs.Prelude.{IfSome, IsTrue}
 use Rattle.std.proofs.lemmas.Option.{same_Some, get_or_from_slice_get, slice_get_within}
 use Rattle.std.proofs.lemmas.List.Elements.{Contains-get_or, Contains-push_cases}
 use Rattle.bundle_tree_ast.specs.declared.expr.Expr.{Expr}
@@ -23,6 +23,7 @@ use Rattle.bundler_entry.specs.Hook as h
 use Rattle.bundler_entry.specs.Unlinked.{MayBeMerging, error_of}
 use Rattle.bundler_entry.specs.declared.unlinked.Unlinked.{Unlinked}
 use Rattle.bundler_entry.specs.declared.unlinked.Unlinked.TheVariants as u
+use Rattle.bundler_call.specs.Judged.{may_be_contexts, LacksContexts}
 use Rattle.bundler_call.specs.Kept.{parties_of}
 use Rattle.bundler_call.specs.Linking.{answered_by, IsRefusalOfEntries, IsRefusalOfProgram}
 use Rattle.bundler_call.proofs.Judging.{told_as}
@@ -130,6 +131,37 @@ module _ (kept : Kept) (settings : Settings) (parties : Parties) where
           subst (λ x. AcceptsProgram x parties) (one_program entry p q its (subst (λ e. IsProgramOf kept settings e q) (sym (same_Some entry other at)) is)) accepted
       before (suc k) other q less at is = let fewer : k < later.i = omega (arith, less) in later.accepted_before k other q fewer at is
 
+  -- contexts are used up for the first entry
+  pub lacks_first : (entry : Entry) (rest : List Entry) (p : Program) (fault : Fault) → IsProgramOf kept settings entry p → AcceptsProgram p parties → IsTrue (may_be_contexts fault) → LacksContexts kept settings parties (entry ∷ rest) fault
+  lacks_first entry rest p fault its accepted contexts = record {
+    contexts = contexts;
+    i = 0;
+    entry = entry;
+    p = p;
+    there = refl;
+    its_program = its;
+    accepted = accepted;
+    accepted_before = λ k other q less at is. (let no : ⊥ = omega (arith, less) in absurd no);
+  }
+
+  -- the first is accepted, and contexts are used up for one of the others
+  pub lacks_later : (entry : Entry) (rest : List Entry) (p : Program) (fault : Fault) → IsProgramOf kept settings entry p → AcceptsProgram p parties → LacksContexts kept settings parties rest fault → LacksContexts kept settings parties (entry ∷ rest) fault
+  lacks_later entry rest p fault its accepted later = record {
+    contexts = later.contexts;
+    i = suc later.i;
+    entry = later.entry;
+    p = later.p;
+    there = later.there;
+    its_program = later.its_program;
+    accepted = later.accepted;
+    accepted_before = before;
+  }
+    where
+      before : (k : ℕ) (other : Entry) (q : Program) → k < suc later.i → slice_get (entry ∷ rest) k ≡ Some other → IsProgramOf kept settings other q → AcceptsProgram q parties
+      before zero other q less at is =
+          subst (λ x. AcceptsProgram x parties) (one_program entry p q its (subst (λ e. IsProgramOf kept settings e q) (sym (same_Some entry other at)) is)) accepted
+      before (suc k) other q less at is = let fewer : k < later.i = omega (arith, less) in later.accepted_before k other q fewer at is
+
 -- The same by parties with this hook, whatever loader and resolver may do.
 
 module _ (a b : Parties) where
@@ -156,9 +188,21 @@ module _ (a b : Parties) where
       accepted_before = λ k other q less at is. accepts_as q (its.accepted_before k other q less at is);
     }
 
+    pub lacks_as : (kept : Kept) (settings : Settings) (entries : List Entry) (fault : Fault) → LacksContexts kept settings a entries fault → LacksContexts kept settings b entries fault
+    lacks_as kept settings entries fault its = record {
+      contexts = its.contexts;
+      i = its.i;
+      entry = its.entry;
+      p = its.p;
+      there = its.there;
+      its_program = its.its_program;
+      accepted = accepts_as its.p its.accepted;
+      accepted_before = λ k other q less at is. accepts_as q (its.accepted_before k other q less at is);
+    }
+
     pub refusal_as : (kept : Kept) (settings : Settings) (entries : List Entry) (unlinked : Unlinked) → IsRefusalOfEntries a settings kept entries unlinked → IsRefusalOfEntries b settings kept entries unlinked
     refusal_as kept settings entries unlinked told =
-        told_as (fault_of (error_of unlinked)) _ _ (λ fault why. elim why [ inl refuses ↦ inl (entries_as kept settings entries fault refuses) | inr contexts ↦ inr contexts ]) told
+        told_as (fault_of (error_of unlinked)) _ _ (λ fault why. elim why [ inl refuses ↦ inl (entries_as kept settings entries fault refuses) | inr lacks ↦ inr (lacks_as kept settings entries fault lacks) ]) told
 
 module _ (may_load : Name → ModuleData → Type 0) (may_fail_load : Name → Type 0) (may_resolve : Name → List ℕ → Name → Type 0) (may_fail_resolve : Name → List ℕ → Type 0) (may_give : Name → Bool → List (KeyValueProp Expr) → Type 0) (may_fail_hook : Name → Bool → Type 0) where
   -- the same hook

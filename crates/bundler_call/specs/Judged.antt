@@ -38,15 +38,30 @@ AreApart entries = (i j : ℕ) (a b : Entry) → i < j → slice_get entries i �
 abbrev pub IsFaultOfList : List Entry → Fault → Type 0
 IsFaultOfList entries fault = (later : Entry) × IsDoubledEntry entries later × (fault ≡ DoubledEntry later.file later.name)
 
--- whether the fault is that contexts are used up: they may be while modules are merged; whether they are is not said yet
+-- whether the fault is that contexts are used up
 abbrev pub may_be_contexts : Fault → Bool
 may_be_contexts (ContextsUsedUp file) = true
 may_be_contexts _ = false
 
+-- contexts are used up while the modules of an entry are merged: the programs of the entries before it are accepted, and so is its own. Whether so many are needed is not said yet, nor of which file that is told
+pub record LacksContexts (kept : Kept) (settings : Settings) (parties : Parties) (entries : List Entry) (fault : Fault) : Type 0 where
+  pub contexts : IsTrue (may_be_contexts fault)
+  pub i : ℕ
+  pub entry : Entry
+  pub p : Program
+  pub there : slice_get entries i ≡ Some entry
+  pub its_program : IsProgramOf kept settings entry p
+  pub accepted : AcceptsProgram p parties
+  pub accepted_before : (j : ℕ) (other : Entry) (its : Program) →
+      j < i →
+      slice_get entries j ≡ Some other →
+      IsProgramOf kept settings other its →
+      AcceptsProgram its parties
+
 -- why there is no bundle: the first fault in the order of judging, or want of memory; or contexts are used up, where all that the entries reach is kept
 abbrev pub IsRefusedBy : Parties → Settings → List Entry → (old new : Kept) → Error → Type 0
 IsRefusedBy parties settings entries old new refusal =
-    IfSome (fault_of refusal) (λ fault. Refuses parties settings entries old fault new ⊎ (Completes parties settings entries old new × IsTrue (may_be_contexts fault)))
+    IfSome (fault_of refusal) (λ fault. Refuses parties settings entries old fault new ⊎ (Completes parties settings entries old new × LacksContexts new settings parties entries fault))
 
 -- a bundle of an entry over what is kept: it is named as the entry, has the number of its file, and the program of the entry is accepted
 pub record IsBundledFor (parties : Parties) (settings : Settings) (kept : Kept) (entry : String Global × FileName) (bundle : Bundle) : Type 0 where

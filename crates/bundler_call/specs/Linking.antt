@@ -17,7 +17,7 @@ use Rattle.bundler_entry.specs.Unlinked.{error_of}
 use Rattle.bundler_entry.specs.declared.source.Program.{Program as Read}
 use Rattle.bundler_entry.specs.declared.unlinked.Unlinked.{Unlinked}
 use Rattle.bundler_call.specs.Bundler.{HasNumber}
-use Rattle.bundler_call.specs.Judged.{may_be_contexts}
+use Rattle.bundler_call.specs.Judged.{may_be_contexts, LacksContexts}
 use Rattle.bundler_call.specs.Kept.{parties_of}
 use Rattle.bundler_call.specs.Loading.{files_on, ids_on, AreAsked, AreNumbered}
 use Rattle.bundler_call.specs.declared.load.LoadList.{LoadList}
@@ -51,4 +51,4 @@ IsRefusalOfProgram parties p unlinked =
 -- why the entries make no bundles: the fault of the first that is refused, or want of memory; or contexts are used up
 abbrev pub IsRefusalOfEntries : Parties → Settings → Kept → List Entry → Unlinked → Type 0
 IsRefusalOfEntries parties settings kept entries unlinked =
-    IfSome (fault_of (error_of unlinked)) (λ fault. RefusesEntries kept settings parties entries fault ⊎ IsTrue (may_be_contexts fault))
+    IfSome (fault_of (error_of unlinked)) (λ fault. RefusesEntries kept settings parties entries fault ⊎ LacksContexts kept settings parties entries fault)

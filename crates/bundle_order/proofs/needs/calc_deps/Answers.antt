@@ -43,5 +43,6 @@ returns-clause-dependencies c = λ up.
     let same : group_placed lists owners ≡ group_of_items (flat lists) owners = ap (λ (l : List (List Item)). group_of ByContext Top (tree_of_items (flat lists)) (placed 1 l) owners) (sym (whole c.args.items.now)) in
     record {
       nodes = subst (λ count. AreNodes graph count) (sym (length-map c.args.items.now (module_item_items 0))) (returns-clause-nodes c);
+      once = c.in_ok-graph_of.ensures.once;
       weights = λ s t. subst (λ (g : Group). IsDependency g s t (weight graph s t)) same (weights (group_placed lists owners) graph items c.in_ok-graph_of.ensures found s t);
     }

@@ -13,5 +13,5 @@ returns c = λ p w.
     record {
       names = subst (λ (numbers : Numbers). IsGraphOf p (names_of numbers) (values_of numbers) c.joined.result.search) (sym c.joined.ensures.numbers)
           (subst (λ (search : Graph). IsGraphOf p (names_of named.numbers) (values_of named.numbers) search) (sym c.joined.ensures.search) (c.in_ok-named.ensures p w));
-      outside = λ m. subst (λ (outside : Graph). ((v : ℕ) × Given outside (m, 0) v) ↔ StarsExternal p m) (sym c.joined.ensures.outside) (c.in_ok-starred.ensures p w m);
+      outside = λ m. subst (λ (outside : Graph). ((v : ℕ) × Given outside (m, 0) v) ↔ StarsExternal p m) (sym c.joined.ensures.outside) (c.in_ok-outside.ensures p w m);
     }
