@@ -1,11 +1,14 @@
+pub mod ChainLemmas
 pub mod EndLemmas
 pub mod Examples
 pub mod ItemLemmas
 pub mod RankingLemmas
 pub mod RowLemmas
+pub mod SiftLemmas
 pub mod SortLemmas
 pub mod StackLemmas
 pub mod StepLemmas
+pub mod TopmostLemmas
 pub mod WalkingLemmas
 pub mod WorkLemmas
 pub mod BlockLemmas

@@ -6,10 +6,12 @@ use Rattle.std.proofs.lemmas.Cmp.{nat_eq_equiv}
 use Rattle.std.proofs.lemmas.List.{length-append, length_push, get_or_append_left, get_or_push, get_or_default, get_or-append-add, get_or-set_same, get_or-set_other, length-set}
 use Rattle.std.proofs.lemmas.List.Elements.{Contains-append_left, Contains-append_right, Contains-push, Contains-push_cases}
 use Rattle.std.proofs.lemmas.Map.Keys.{IsDistinct-push}
-use Rattle.bundle_order_sort.specs.declared.stack.Progress.{Progress}
 use Rattle.bundle_order_graph.specs.Walks.{Path}
+use Rattle.bundle_order_sort.specs.Topmost.{IsTopmost}
+use Rattle.bundle_order_sort.proofs.TopmostLemmas.{Under-topmost, Hangs-topmost}
+use Rattle.bundle_order_sort.specs.declared.stack.Progress.{Progress}
 use Rattle.bundle_order_sort.specs.Numbers.{Needs, IsEarlier, Step, by_need, by_own_order, unknown, progress_of, IsOut, is_awaited}
-use Rattle.bundle_order_sort.proofs.StackLemmas.{before_or_at, Under, Hangs, Under-pop, Hangs-pop, Under-top, Hangs-top, Under-push, Hangs-push, Hangs-begun, Under-new}
+use Rattle.bundle_order_sort.proofs.StackLemmas.{Path-one, before_or_at, Under, Hangs, Under-pop, Hangs-pop, Under-top, Hangs-top, Under-push, Hangs-push, Hangs-begun, Under-new}
 
 abbrev pub IsBegun : List Progress → ℕ → Type 0
 IsBegun ps t = (progress_of ps t).begun ≡ true
@@ -67,6 +69,10 @@ module _ (needs : List (List ℕ)) (ranks firsts : List ℕ) where
     pub own : IsEarlier firsts s t → Path Along t s
     pub needed : Needs needs s t → (get_or ranks s 0 ≤ get_or ranks t 0) × Path Along s s
 
+  or_itself : {A B C : Type 0} → (A → B) → A ⊎ C → B ⊎ C
+  or_itself f (inl a) = inl (f a)
+  or_itself f (inr c) = inr c
+
   -- the sort has come this far
   pub record Sorting (stack : List ℕ) (ps : List Progress) (order : List ℕ) : Type 0 where
     pub len : length ps ≡ length needs
@@ -77,8 +83,8 @@ module _ (needs : List (List ℕ)) (ranks firsts : List ℕ) where
     -- the others are on the stack
     pub left : (t : ℕ) → t < length needs → (IsOut ps t → ⊥) → Contains stack t
     pub from : (s : ℕ) → s < length needs → get_or firsts s 0 ≤ (progress_of ps s).next
-    -- what a begun item needs is out, or above a copy of it from which a path of steps leads to all that is above it
-    pub hangs : (s t : ℕ) → IsBegun ps s → Needs needs s t → (IsOut ps t → ⊥) → Hangs Along stack s t
+    -- what a begun item needs is out, or above a copy of it from which a path of steps leads to all that is above it; or a path leads from it to itself
+    pub hangs : (s t : ℕ) → IsBegun ps s → Needs needs s t → (IsOut ps t → ⊥) → Hangs Along stack s t ⊎ Path Along s s
     -- an earlier item that was put above an item once is out, or a path of steps leads from it to all above it
     pub under : (s t : ℕ) → get_or firsts s 0 ≤ t → t < (progress_of ps s).next → (IsOut ps t → ⊥) → Under Along stack t
     pub good : (i : ℕ) → i < length order → (t : ℕ) → ((k : ℕ) → k ≤ i → get_or order k 0 ≢ t) → Promise (get_or order i 0) t
@@ -105,7 +111,7 @@ module _ (needs : List (List ℕ)) (ranks firsts : List ℕ) where
       once = w.once;
       left = λ t h void. below t (other t void) (w.left t h void);
       from = w.from;
-      hangs = λ u t b n void. Hangs-pop Along rest s u t (w.hangs u t b n void) (other t void);
+      hangs = λ u t b n void. or_itself (λ h. Hangs-pop Along rest s u t h (other t void)) (w.hangs u t b n void);
       under = λ u t f h void. Under-pop Along rest s t (w.under u t f h void) (other t void);
       good = w.good;
     }
@@ -113,7 +119,7 @@ module _ (needs : List (List ℕ)) (ranks firsts : List ℕ) where
         other : (t : ℕ) → (IsOut ps t → ⊥) → t ≢ s
         other t void e = void (subst (λ x. IsOut ps x) (sym e) out)
 
-    module _ (ys : List ℕ) (sound : (k : ℕ) → k < length ys → Along s (get_or ys k 0)) (into : (k : ℕ) → k < length ys → get_or ys k 0 < length needs) where
+    module _ (ys : List ℕ) (sound : (k : ℕ) → k < length ys → Path Along s (get_or ys k 0)) (into : (k : ℕ) → k < length ys → get_or ys k 0 < length needs) where
       pushed_within : (k : ℕ) → k < length ((rest ++ s ∷ []) ++ ys) → get_or ((rest ++ s ∷ []) ++ ys) k 0 < length needs
       pushed_within k h = by (cases_lt k (length (rest ++ s ∷ [])))
         where
@@ -126,8 +132,8 @@ module _ (needs : List (List ℕ)) (ranks firsts : List ℕ) where
 
     -- what the item waits for is put above it
     module _ (ys : List ℕ) (sound : (k : ℕ) → k < length ys → Needs needs s (get_or ys k 0)) (complete : (t : ℕ) → Needs needs s t → is_awaited ranks ps s t ≡ true → Contains ys t) (p : Progress) (same_out : p.out ≡ (progress_of ps s).out) (begun : p.begun ≡ true) (same_next : p.next ≡ (progress_of ps s).next) where
-      steps : (k : ℕ) → k < length ys → Along s (get_or ys k 0)
-      steps k h = by_need (sound k h)
+      steps : (k : ℕ) → k < length ys → Path Along s (get_or ys k 0)
+      steps k h = Path-one Along s (get_or ys k 0) (by_need (sound k h))
 
       was_out : (t : ℕ) → IsOut (set ps s p) t → IsOut ps t
       was_out t e = sym (field ps s p top_known (λ q. q.out) same_out t) ∙ e
@@ -151,13 +157,27 @@ module _ (needs : List (List ℕ)) (ranks firsts : List ℕ) where
         good = w.good;
       }
         where
-          hang : (u t : ℕ) → IsBegun (set ps s p) u → Needs needs u t → (IsOut ps t → ⊥) → (u ≡ s) ⊎ (u ≡ s → ⊥) → (IsBegun ps u) ⊎ ((progress_of ps u).begun ≡ false) → Hangs Along ((rest ++ s ∷ []) ++ ys) u t
-          hang u t b n void _ (inl was) = Hangs-push Along rest s ys steps u t (w.hangs u t was n void)
+          hang : (u t : ℕ) → IsBegun (set ps s p) u → Needs needs u t → (IsOut ps t → ⊥) → (u ≡ s) ⊎ (u ≡ s → ⊥) → (IsBegun ps u) ⊎ ((progress_of ps u).begun ≡ false) → Hangs Along ((rest ++ s ∷ []) ++ ys) u t ⊎ Path Along u u
+          hang u t b n void _ (inl was) = or_itself (Hangs-push Along rest s ys steps u t) (w.hangs u t was n void)
           hang u t b n void (inl e) (inr new) =
               let n' : Needs needs s t = subst (λ x. Needs needs x t) e n in
               let new' : (progress_of ps s).begun ≡ false = subst (λ x. (progress_of ps x).begun ≡ false) e new in
-              subst (λ x. Hangs Along ((rest ++ s ∷ []) ++ ys) x t) (sym e) (Hangs-begun Along rest s ys steps t (complete t n' (is_awaited-yes (progress_of ps t).out (nat_lt (get_or ranks t 0) (get_or ranks s 0)) (progress_of ps s).begun void new')))
+              inl (subst (λ x. Hangs Along ((rest ++ s ∷ []) ++ ys) x t) (sym e) (Hangs-begun Along rest s ys steps t (complete t n' (is_awaited-yes (progress_of ps t).out (nat_lt (get_or ranks t 0) (get_or ranks s 0)) (progress_of ps s).begun void new'))))
           hang u t b n void (inr ne) (inr new) = absurd (false≢true (sym new ∙ (sym (ap (λ q. q.begun) (kept ps s p top_known u ne)) ∙ b)))
+
+    -- a chain of what the item waits for is put above it: no item's progress changes
+    pub Sorting-chains : (ys : List ℕ) (steps : (k : ℕ) → k < length ys → Path Along s (get_or ys k 0)) → ((k : ℕ) → k < length ys → get_or ys k 0 < length needs) → Sorting ((rest ++ s ∷ []) ++ ys) ps order
+    Sorting-chains ys steps into = record {
+      len = w.len;
+      within = pushed_within ys steps into;
+      done = w.done;
+      once = w.once;
+      left = λ t h void. Contains-append_left (rest ++ s ∷ []) ys t (w.left t h void);
+      from = w.from;
+      hangs = λ u t b n void. or_itself (Hangs-push Along rest s ys steps u t) (w.hangs u t b n void);
+      under = λ u t f h void. Under-push Along rest s ys steps t (w.under u t f h void);
+      good = w.good;
+    }
 
     -- an earlier item of its module is put above it
     module _ (e : ℕ) (high : (progress_of ps s).next ≤ e) (low : e < s) (skipped : (u : ℕ) → (progress_of ps s).next ≤ u → u < e → IsOut ps u) (p : Progress) (same_out : p.out ≡ (progress_of ps s).out) (same_begun : p.begun ≡ (progress_of ps s).begun) (next : p.next ≡ e + 1) where
@@ -171,8 +191,8 @@ module _ (needs : List (List ℕ)) (ranks firsts : List ℕ) where
       only zero h = refl
       only (suc k) h = absurd (omega (arith, h))
 
-      own_steps : (k : ℕ) → k < length (e ∷ []) → Along s (get_or (e ∷ []) k 0)
-      own_steps k h = subst (λ x. Along s x) (sym (only k h)) (by_own_order earlier)
+      own_steps : (k : ℕ) → k < length (e ∷ []) → Path Along s (get_or (e ∷ []) k 0)
+      own_steps k h = subst (λ x. Path Along s x) (sym (only k h)) (Path-one Along s e (by_own_order earlier))
 
       was_out' : (t : ℕ) → IsOut (set ps s p) t → IsOut ps t
       was_out' t o = sym (field ps s p top_known (λ q. q.out) same_out t) ∙ o
@@ -191,7 +211,7 @@ module _ (needs : List (List ℕ)) (ranks firsts : List ℕ) where
         once = w.once;
         left = λ t h void. Contains-append_left (rest ++ s ∷ []) (e ∷ []) t (w.left t h (λ o. void (is_out' t o)));
         from = λ u h. starts u h (cases_eq u s);
-        hangs = λ u t b n void. Hangs-push Along rest s (e ∷ []) own_steps u t (w.hangs u t (sym (begins u) ∙ b) n (λ o. void (is_out' t o)));
+        hangs = λ u t b n void. or_itself (Hangs-push Along rest s (e ∷ []) own_steps u t) (w.hangs u t (sym (begins u) ∙ b) n (λ o. void (is_out' t o)));
         under = λ u t f h void. lies u t f h (λ o. void (is_out' t o)) (cases_eq u s);
         good = w.good;
       }
@@ -245,7 +265,7 @@ module _ (needs : List (List ℕ)) (ranks firsts : List ℕ) where
         own = λ e. Under-top Along rest s t (w.under s t e.0 (lower e.1 (cases_lt t (progress_of ps s).next)) n) ne;
         needed = λ d.
             let no = is_awaited-no (progress_of ps t).out (nat_lt (get_or ranks t 0) (get_or ranks s 0)) (progress_of ps s).begun (none t d) n in
-            (le-nat_lt (get_or ranks t 0) (get_or ranks s 0) no.0, Hangs-top Along rest s s t (w.hangs s t no.1 d n));
+            (le-nat_lt (get_or ranks t 0) (get_or ranks s 0) no.0, elim (w.hangs s t no.1 d n) [ inl h ↦ Hangs-top Along rest s s t h | inr p ↦ p ]);
       }
         where
           lower : t < s → (t < (progress_of ps s).next) ⊎ ((progress_of ps s).next ≤ t) → t < (progress_of ps s).next
@@ -263,7 +283,7 @@ module _ (needs : List (List ℕ)) (ranks firsts : List ℕ) where
         once = IsDistinct-push nat_eq_equiv order s w.once (absent order s (λ c. void ((w.done s).1 c)));
         left = λ t h n. below t (others t n) (w.left t h (λ o. n (stays_out t o)));
         from = λ u h. subst (λ x. get_or firsts u 0 ≤ x) (sym (nexts' u)) (w.from u h);
-        hangs = λ u t b d n. Hangs-pop Along rest s u t (w.hangs u t (sym (begins' u) ∙ b) d (λ o. n (stays_out t o))) (others t n);
+        hangs = λ u t b d n. or_itself (λ h. Hangs-pop Along rest s u t h (others t n)) (w.hangs u t (sym (begins' u) ∙ b) d (λ o. n (stays_out t o)));
         under = λ u t f h n. Under-pop Along rest s t (w.under u t f (subst (λ x. t < x) (nexts' u) h) (λ o. n (stays_out t o))) (others t n);
         good = λ i h t n. keeps i h t n (before_or_at i (length order) (omega (arith, h, length_push order s)));
       }
@@ -276,3 +296,36 @@ module _ (needs : List (List ℕ)) (ranks firsts : List ℕ) where
             where
               missing : Contains order t → ⊥
               missing c = n c.0 (omega (arith, c.1, e)) (get_or_append_left order (s ∷ []) 0 c.0 c.1 ∙ (get_or_default order c.0 0 t c.1 ∙ c.2))
+
+  -- of each item that is not out only the topmost entry is kept
+  module _ (stack kept : List ℕ) (ps : List Progress) (order : List ℕ) (w : Sorting stack ps order) (top : IsTopmost (λ t. IsOut ps t → ⊥) stack kept) where
+    pub Sorting-topmost : Sorting kept ps order
+    Sorting-topmost = record {
+      len = w.len;
+      within = λ k h. subst (λ x. x < length needs) (sym (top.same k h)) (w.within (top.place k) (top.within k h));
+      done = w.done;
+      once = w.once;
+      left = λ t h void. still t void (w.left t h void);
+      from = w.from;
+      hangs = λ s t b n void. hang s t b n void (cases_Bool (progress_of ps s).out);
+      under = λ s t f h void. Under-topmost Along (λ x. IsOut ps x → ⊥) stack kept top t void (w.under s t f h void);
+      good = w.good;
+    }
+      where
+        still : (t : ℕ) → (IsOut ps t → ⊥) → Contains stack t → Contains kept t
+        still t void c =
+            let is : get_or stack c.0 0 ≡ t = get_or_default stack c.0 0 t c.1 ∙ c.2 in
+            let at = top.all c.0 c.1 (λ o. void (subst (λ x. IsOut ps x) is o)) in
+            (at.0, at.1, get_or_default kept at.0 t 0 at.1 ∙ (at.3 ∙ is))
+
+        -- an item that is out stands in the order, and has its promise
+        hang : (s t : ℕ) → IsBegun ps s → Needs needs s t → (IsOut ps t → ⊥) → ((progress_of ps s).out ≡ true) ⊎ ((progress_of ps s).out ≡ false) → Hangs Along kept s t ⊎ Path Along s s
+        hang s t b n void (inr not_yet) = elim (w.hangs s t b n void) [
+          | inl h ↦ Hangs-topmost Along (λ x. IsOut ps x → ⊥) stack kept top s t (λ o. false≢true (sym not_yet ∙ o)) void h
+          | inr p ↦ inr p
+        ]
+        hang s t b n void (inl out) =
+            let c = (w.done s).0 out in
+            let is : get_or order c.0 0 ≡ s = get_or_default order c.0 0 s c.1 ∙ c.2 in
+            let promise : Promise s t = subst (λ x. Promise x t) is (w.good c.0 c.1 t (λ k h e. void ((w.done t).1 (k, omega (arith, h, c.1), get_or_default order k t 0 (omega (arith, h, c.1)) ∙ e)))) in
+            inr (promise.needed n).1

@@ -3,6 +3,7 @@ use Rattle.std.proofs.Common.{◌≡◌, ◌≢◌, ℕ, ◌+◌, ◌-◌, ◌<�
 use Rattle.std.proofs.lemmas.Bool.{cases_lt}
 use Rattle.std.proofs.lemmas.List.{length-append, length_push, get_or_append_left, get_or-append-add, get_or_push, get_or_default}
 use Rattle.bundle_order_graph.specs.Walks.{Reaches, itself, along, Path}
+use Rattle.bundle_order_graph.proofs.WalkLemmas.{Path-trans}
 
 -- ---- paths
 pub Reaches-more : {E : ℕ → ℕ → Type 0} {a b c : ℕ} → Reaches E a b → E b c → Reaches E a c
@@ -11,9 +12,6 @@ Reaches-more (along d p) e = along d (Reaches-more p e)
 
 pub Path-one : (E : ℕ → ℕ → Type 0) (a b : ℕ) → E a b → Path E a b
 Path-one E a b e = (b, e, itself)
-
-pub Path-more : (E : ℕ → ℕ → Type 0) (a b c : ℕ) → Path E a b → E b c → Path E a c
-Path-more E a b c p e = (p.0, p.1, Reaches-more p.2 e)
 
 -- ---- lists
 pub before_or_at : (a b : ℕ) → a < b + 1 → (a < b) ⊎ (a ≡ b)
@@ -90,7 +88,7 @@ module _ (E : ℕ → ℕ → Type 0) where
     Hangs-top s t u = subst (λ y. Path E s y) top-is (u.above (length rest) (omega (arith, u.before, u.within, length-top)) (omega (arith, length-top)))
 
     -- what the top leads to is put above it
-    module _ (ys : List ℕ) (steps : (k : ℕ) → k < length ys → E x (get_or ys k 0)) where
+    module _ (ys : List ℕ) (steps : (k : ℕ) → k < length ys → Path E x (get_or ys k 0)) where
       more : List ℕ
       more = (rest ++ x ∷ []) ++ ys
 
@@ -113,8 +111,8 @@ module _ (E : ℕ → ℕ → Type 0) where
           at : (n : ℕ) → k ≡ length rest + 1 + n → (n : ℕ) × (n < length ys) × (get_or more k 0 ≡ get_or ys n 0)
           at n e = (n, omega (arith, e, l, length-more), ap (λ m. get_or more m 0) e ∙ new-is n)
 
-      stepped : (k : ℕ) → length rest + 1 ≤ k → k < length more → E x (get_or more k 0)
-      stepped k h l = let n = new-at k h l in subst (λ y. E x y) (sym n.2) (steps n.0 n.1)
+      stepped : (k : ℕ) → length rest + 1 ≤ k → k < length more → Path E x (get_or more k 0)
+      stepped k h l = let n = new-at k h l in subst (λ y. Path E x y) (sym n.2) (steps n.0 n.1)
 
       Under-more : (t : ℕ) → Under (rest ++ x ∷ []) t → Under more t
       Under-more t u = record {
@@ -124,9 +122,9 @@ module _ (E : ℕ → ℕ → Type 0) where
         above = λ k h l. above k h l (before_or_past k (length rest + 1));
       }
         where
-          from : (y : ℕ) → E x y → (u.i < length rest) ⊎ (u.i ≡ length rest) → Path E t y
-          from y e (inl h) = Path-more E t x y (subst (λ z. Path E t z) top-is (u.above (length rest) h (omega (arith, length-top)))) e
-          from y e (inr h) = Path-one E t y (subst (λ z. E z y) (sym top-is ∙ (ap (λ m. get_or (rest ++ x ∷ []) m 0) (sym h) ∙ u.is)) e)
+          from : (y : ℕ) → Path E x y → (u.i < length rest) ⊎ (u.i ≡ length rest) → Path E t y
+          from y e (inl h) = Path-trans (subst (λ z. Path E t z) top-is (u.above (length rest) h (omega (arith, length-top)))) e
+          from y e (inr h) = subst (λ z. Path E z y) (sym top-is ∙ (ap (λ m. get_or (rest ++ x ∷ []) m 0) (sym h) ∙ u.is)) e
 
           above : (k : ℕ) → u.i < k → k < length more → (k < length rest + 1) ⊎ (length rest + 1 ≤ k) → Path E t (get_or more k 0)
           above k h l (inl o) = subst (λ y. Path E t y) (sym (old-is k o)) (u.above k h (omega (arith, o, length-top)))
@@ -145,7 +143,7 @@ module _ (E : ℕ → ℕ → Type 0) where
         where
           above : (k : ℕ) → u.i < k → k < length more → (k < length rest + 1) ⊎ (length rest + 1 ≤ k) → Path E s (get_or more k 0)
           above k h l (inl o) = subst (λ y. Path E s y) (sym (old-is k o)) (u.above k h (omega (arith, o, length-top)))
-          above k h l (inr n) = Path-more E s x (get_or more k 0) (Hangs-top s t u) (stepped k n l)
+          above k h l (inr n) = Path-trans (Hangs-top s t u) (stepped k n l)
 
       Hangs-new : (t : ℕ) → Contains ys t → Hangs more x t
       Hangs-new t c = record {
@@ -155,7 +153,7 @@ module _ (E : ℕ → ℕ → Type 0) where
         within = omega (arith, c.1, length-more);
         is = old-is (length rest) (omega arith) ∙ top-is;
         other = new-is c.0 ∙ (get_or_default ys c.0 0 t c.1 ∙ c.2);
-        above = λ k h l. Path-one E x (get_or more k 0) (stepped k (omega (arith, h)) l);
+        above = λ k h l. stepped k (omega (arith, h)) l;
       }
 
       pub Under-push : (t : ℕ) → Under (rest ++ x ∷ []) t → Under ((rest ++ x ∷ []) ++ ys) t

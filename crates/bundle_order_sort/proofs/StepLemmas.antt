@@ -1,18 +1,19 @@
 -- The steps of the sort, as its code takes them.
-use Rattle.std.proofs.Common.{◌≡◌, ◌≢◌, Bool, true, false, not, cond, ◌&&◌, ◌||◌, nat_lt, IsTrue, ℕ, zero, suc, ◌+◌, ◌-◌, ◌<◌, ◌≤◌, ◌⊎◌, ◌↔◌, List, [], ◌∷◌, ◌++◌, length, get_or, set, take, reverse, Contains, refl, sym, ap, ◌∙◌, subst, inl, inr, arith}
+use Rattle.std.proofs.Common.{◌≡◌, Bool, true, false, cond, IsTrue, ℕ, zero, suc, ◌+◌, ◌-◌, ◌<◌, ◌≤◌, ◌⊎◌, ◌↔◌, List, [], ◌∷◌, ◌++◌, length, get_or, set, take, reverse, Contains, refl, sym, ap, ◌∙◌, subst, inl, inr, arith}
 use Rattle.std.specs.List.{filter, All}
 use Rattle.std.proofs.lemmas.Bool.{cases_eq, cases_lt, cases_Bool, false≢true}
-use Rattle.std.proofs.lemmas.List.{append-nil, length-append, length-reverse, get_or-reverse, get_or_default, get_or_read, take_more, take_all, nil_from_length}
-use Rattle.std.proofs.lemmas.List.Elements.{Contains-append_right, Contains-get_or, All-filter, filter_passes}
+use Rattle.std.proofs.lemmas.List.{append-nil, length-append, length-reverse, length-set, get_or-reverse, get_or_default, get_or_read, take_more, take_all, nil_from_length}
+use Rattle.std.proofs.lemmas.List.Elements.{Contains-append_right, Contains-get_or, All-filter}
 use Rattle.std.proofs.lemmas.List.Sums.{length-filter, count_by-le-length}
+use Rattle.bundle_order_graph.specs.Walks.{Path}
+use Rattle.bundle_order_graph.proofs.WalkLemmas.{Path-mono}
 use Rattle.bundle_order_sort.specs.declared.stack.Progress.{Progress}
-use Rattle.bundle_order_sort.specs.Numbers.{Needs, unknown, progress_of, IsOut, is_awaited, is_settled, HasNone, AreSkips}
-use Rattle.bundle_order_sort.proofs.SortLemmas.{Sorting, Sorting-drops, Sorting-awaits, Sorting-pulls, Sorting-outs, written, kept}
-use Rattle.bundle_order_sort.proofs.WorkLemmas.{work, work-drops, work-awaits, work-pulls, work-outs}
-
--- a settled item waits for none of those that it needs
-abbrev pub AreSettled : List (List ℕ) → List ℕ → List Progress → List Bool → Type 0
-AreSettled needs ranks ps settled = (s : ℕ) → HasNone ranks ps settled s (get_or needs s [])
+use Rattle.bundle_order_sort.specs.Numbers.{Needs, Step, by_need, unknown, progress_of, IsOut, is_awaited, AreSkips}
+use Rattle.bundle_order_sort.specs.Chains.{WaitsForNone, AddsChain, AreChains}
+use Rattle.bundle_order_sort.specs.Topmost.{IsTopmost}
+use Rattle.bundle_order_sort.proofs.SortLemmas.{Sorting, Sorting-drops, Sorting-awaits, Sorting-chains, Sorting-pulls, Sorting-outs, Sorting-topmost, written, kept}
+use Rattle.bundle_order_sort.proofs.ChainLemmas.{Falls-within, AreChains-progress}
+use Rattle.bundle_order_sort.proofs.WorkLemmas.{work, rank-le, work-drops, work-begins, work-chains, work-pulls, work-outs, work-topmost}
 
 -- ---- what is left of a list
 Contains-reverse : (xs : List ℕ) (t : ℕ) → Contains xs t → Contains (reverse xs) t
@@ -39,22 +40,6 @@ Contains-filter p (z ∷ zs) t c e = by (λ d. Contains-filter p zs t d e) (p z)
     by rest true is (inr c) = subst (λ b. Contains (cond b (z ∷ filter p zs) (filter p zs)) t) (sym is) (Contains-append_right (z ∷ []) (filter p zs) t (rest c))
     by rest false is (inl same) = absurd (false≢true (sym is ∙ (ap p same ∙ e)))
     by rest false is (inr c) = subst (λ b. Contains (cond b (z ∷ filter p zs) (filter p zs)) t) (sym is) (rest c)
-
-filter-none : (p : ℕ → Bool) (zs : List ℕ) → ((t : ℕ) → Contains zs t → p t ≡ false) → filter p zs ≡ []
-filter-none p [] h = refl
-filter-none p (z ∷ zs) h = subst (λ b. cond b (z ∷ filter p zs) (filter p zs) ≡ []) (sym (h z (0, omega arith, refl))) (filter-none p zs (λ t c. h t (Contains-append_right (z ∷ []) zs t c)))
-
-Contains-unreverse : (xs : List ℕ) (t : ℕ) → Contains (reverse xs) t → Contains xs t
-Contains-unreverse xs t c =
-    let l : c.0 < length xs = omega (arith, c.1, length-reverse xs) in
-    (length xs - 1 - c.0, omega (arith, l), sym (get_or-reverse xs c.0 t l) ∙ c.2)
-
--- what waits for nothing has nothing put above it, and the other way round
-pub nothing_awaited : (p : ℕ → Bool) (xs : List ℕ) → ((t : ℕ) → Contains xs t → p t ≡ false) → filter p (reverse xs) ≡ []
-nothing_awaited p xs h = filter-none p (reverse xs) (λ t c. h t (Contains-unreverse xs t c))
-
-pub awaits_nothing : (p : ℕ → Bool) (xs : List ℕ) → length (filter p (reverse xs)) ≡ 0 → (t : ℕ) → Contains xs t → p t ≡ false
-awaits_nothing p xs e t c = elim (cases_Bool (p t)) [ inl y ↦ absurd (let d = Contains-filter p (reverse xs) t (Contains-reverse xs t c) y in omega (arith, d.1, e)) | inr n ↦ n ]
 
 -- ---- the top of a stack
 pub without_top : List ℕ → List ℕ
@@ -97,29 +82,15 @@ module _ (needs : List (List ℕ)) (ranks firsts : List ℕ) (inside : (s t : �
     pub keeps_skips : (p : Progress) → (known.out ≡ true → p.out ≡ true) → (skips : List ℕ) → AreSkips ps skips → AreSkips (set ps s p) skips
     keeps_skips p f skips h t u l m = stays p f u (h t u l m)
 
-    -- what waits for nothing goes on waiting for nothing
-    pub keeps_settled : (p : Progress) → (known.out ≡ true → p.out ≡ true) → (known.begun ≡ true → p.begun ≡ true) → (settled settled' : List Bool) → ((t : ℕ) → t ≢ s → is_settled settled' t ≡ is_settled settled t) → AreSettled needs ranks ps settled → HasNone ranks ps settled' s (get_or needs s []) → AreSettled needs ranks (set ps s p) settled'
-    keeps_settled p f g settled settled' others h own u e t n = still u t (elim (cases_eq u s) [
-      | inl same ↦ subst (λ x. is_awaited ranks ps x t ≡ false) (sym same) (own (subst (λ x. is_settled settled' x ≡ true) same e) t (subst (λ x. Needs needs x t) same n))
-      | inr ne ↦ h u (sym (others u ne) ∙ e) t n
-    ])
+    -- what is noted of the chains stays true
+    pub keeps_chains : (p : Progress) → (known.out ≡ true → p.out ≡ true) → (known.begun ≡ true → p.begun ≡ true) → (ends cursors : List ℕ) → AreChains needs ranks ps ends cursors → AreChains needs ranks (set ps s p) ends cursors
+    keeps_chains p f g ends cursors h = AreChains-progress needs ranks ps ends cursors h (set ps s p) (length-set ps s p) (stays p f) begins
       where
         begins : (t : ℕ) → (progress_of ps t).begun ≡ true → (progress_of (set ps s p) t).begun ≡ true
         begins t o = elim (cases_eq t s) [
           | inl e ↦ subst (λ x. (progress_of (set ps s p) x).begun ≡ true) (sym e) (ap (λ q. q.begun) (written ps s p stack-known) ∙ g (sym (ap (λ q. q.begun) is) ∙ subst (λ x. (progress_of ps x).begun ≡ true) e o))
           | inr ne ↦ ap (λ q. q.begun) (kept ps s p stack-known t ne) ∙ o
         ]
-
-        weaker : (out out' low begun begun' : Bool) → (out ≡ true → out' ≡ true) → (begun ≡ true → begun' ≡ true) → (not out && (low || not begun)) ≡ false → (not out' && (low || not begun')) ≡ false
-        weaker out true low begun begun' f g e = refl
-        weaker true false low begun begun' f g e = absurd (false≢true (f refl))
-        weaker false false true begun begun' f g e = absurd (false≢true (sym e))
-        weaker false false false false begun' f g e = absurd (false≢true (sym e))
-        weaker false false false true true f g e = refl
-        weaker false false false true false f g e = absurd (false≢true (g refl))
-
-        still : (u t : ℕ) → is_awaited ranks ps u t ≡ false → is_awaited ranks (set ps s p) u t ≡ false
-        still u t = weaker (progress_of ps t).out (progress_of (set ps s p) t).out (nat_lt (get_or ranks t 0) (get_or ranks u 0)) (progress_of ps u).begun (progress_of (set ps s p) u).begun (stays p f t) (begins u)
 
     -- an item that is out is dropped
     pub drops : known.out ≡ true → Sorting needs ranks firsts (without_top stack) ps order
@@ -144,10 +115,6 @@ module _ (needs : List (List ℕ)) (ranks firsts : List ℕ) (inside : (s t : �
       unfolding awaited
       sound k h = All-filter (is_awaited ranks ps s) (Contains (get_or needs s [])) (reverse (get_or needs s [])) (All-reverse (get_or needs s [])) k 0 h
 
-      passes : (k : ℕ) → k < length awaited → is_awaited ranks ps s (get_or awaited k 0) ≡ true
-      unfolding awaited
-      passes k h = filter_passes (is_awaited ranks ps s) (reverse (get_or needs s [])) k 0 h
-
       complete : (t : ℕ) → Needs needs s t → is_awaited ranks ps s t ≡ true → Contains awaited t
       unfolding awaited
       complete t n e = Contains-filter (is_awaited ranks ps s) (reverse (get_or needs s [])) t (Contains-reverse (get_or needs s []) t n) e
@@ -156,56 +123,83 @@ module _ (needs : List (List ℕ)) (ranks firsts : List ℕ) (inside : (s t : �
       unfolding awaited
       short = omega (arith, length-filter (is_awaited ranks ps s) (reverse (get_or needs s [])), count_by-le-length (is_awaited ranks ps s) (reverse (get_or needs s [])), length-reverse (get_or needs s []))
 
-      module _ (xs : List ℕ) (its : xs ≡ get_or needs s []) (stack' : List ℕ) (pushed : stack' ≡ stack ++ filter (is_awaited ranks ps s) (reverse xs)) (b : Bool) (any : IsTrue b ↔ (length stack < length stack')) where
-        pushed-is : stack' ≡ stack ++ awaited
-        pushed-is = pushed ∙ (ap (λ (l : List ℕ). stack ++ filter (is_awaited ranks ps s) (reverse l)) its ∙ ap (λ (l : List ℕ). stack ++ l) (sym awaited-is))
-
+      -- the item is begun, and what it needs is put above it
+      module _ (new : known.begun ≡ false) (xs : List ℕ) (its : xs ≡ get_or needs s []) (stack' : List ℕ) (pushed : stack' ≡ stack ++ filter (is_awaited ranks ps s) (reverse xs)) (p : Progress) (e : p ≡ record { out = known.out; begun = true; next = known.next }) where
         pushed-split : stack' ≡ (without_top stack ++ s ∷ []) ++ awaited
-        pushed-split = pushed-is ∙ ap (λ (l : List ℕ). l ++ awaited) split
+        pushed-split = pushed ∙ (ap (λ (l : List ℕ). stack ++ filter (is_awaited ranks ps s) (reverse l)) its ∙ (ap (λ (l : List ℕ). stack ++ l) (sym awaited-is) ∙ ap (λ (l : List ℕ). l ++ awaited) split))
 
-        pub awaits : (p : Progress) → p ≡ record { out = known.out; begun = true; next = known.next } → Sorting needs ranks firsts stack' (set ps s p) order
-        awaits p e = subst (λ (l : List ℕ). Sorting needs ranks firsts l (set ps s p) order) (sym pushed-split) (Sorting-awaits needs ranks firsts inside (without_top stack) s ps order sorting awaited sound complete p (ap (λ q. q.out) e ∙ sym (ap (λ q. q.out) is)) (ap (λ q. q.begun) e) (ap (λ q. q.next) e ∙ sym (ap (λ q. q.next) is)))
+        pub begins : Sorting needs ranks firsts stack' (set ps s p) order
+        begins = subst (λ (l : List ℕ). Sorting needs ranks firsts l (set ps s p) order) (sym pushed-split) (Sorting-awaits needs ranks firsts inside (without_top stack) s ps order sorting awaited sound complete p (ap (λ q. q.out) e ∙ sym (ap (λ q. q.out) is)) (ap (λ q. q.begun) e) (ap (λ q. q.next) e ∙ sym (ap (λ q. q.next) is)))
 
-        pub awaits-work : b ≡ true → (p : Progress) → p ≡ record { out = known.out; begun = true; next = known.next } → work needs ranks (set ps s p) stack' < work needs ranks ps stack
-        awaits-work t p e =
+        pub begins-work : work needs ranks (set ps s p) stack' < work needs ranks ps stack
+        begins-work =
             subst (λ (l : List ℕ). work needs ranks (set ps s p) l < work needs ranks ps stack) (sym pushed-split)
             (subst (λ (l : List ℕ). work needs ranks (set ps s p) ((without_top stack ++ s ∷ []) ++ awaited) < work needs ranks ps l) (sym split)
-            (work-awaits needs ranks (without_top stack) s ps stack-known p was_left awaited (omega (arith, any.0 t, ap length pushed-is, length-append stack awaited)) short passes (ap (λ q. q.out) e ∙ sym (ap (λ q. q.out) is)) (ap (λ q. q.begun) e) (ap (λ q. q.next) e ∙ sym (ap (λ q. q.next) is))))
+            (work-begins needs ranks (without_top stack) s ps stack-known p was_left awaited short (ap (λ q. q.begun) is ∙ new) (ap (λ q. q.out) e ∙ sym (ap (λ q. q.out) is)) (ap (λ q. q.begun) e) (ap (λ q. q.next) e ∙ sym (ap (λ q. q.next) is))))
 
-        module _ (nothing : b ≡ false) where
-          empty : length awaited ≡ 0
-          empty = elim (cases_lt 0 (length awaited)) [ inl h ↦ absurd (false≢true (sym nothing ∙ any.1 (omega (arith, h, ap length pushed-is, length-append stack awaited)))) | inr h ↦ omega (arith, h) ]
+      -- a chain of the item is put above it
+      module _ (stack' : List ℕ) (adds : AddsChain needs ranks ps s stack stack') where
+        steps : (k : ℕ) → k < length adds.chain → Path (Step needs firsts) s (get_or adds.chain k 0)
+        steps k h = Path-mono (λ x y n. by_need n) (adds.falls k h).path
 
-          pub same_stack : stack' ≡ stack
-          same_stack = pushed-is ∙ (ap (λ (l : List ℕ). stack ++ l) (nil_from_length awaited empty) ∙ append-nil stack)
+        grown-split : stack' ≡ (without_top stack ++ s ∷ []) ++ adds.chain
+        grown-split = adds.grown ∙ ap (λ (l : List ℕ). l ++ adds.chain) split
 
-          none : (t : ℕ) → Needs needs s t → is_awaited ranks ps s t ≡ false
-          none t n = elim (cases_Bool (is_awaited ranks ps s t)) [ inl e ↦ absurd (let c = complete t n e in omega (arith, c.1, empty)) | inr e ↦ e ]
+        pub chains : Sorting needs ranks firsts stack' ps order
+        chains = subst (λ (l : List ℕ). Sorting needs ranks firsts l ps order) (sym grown-split) (Sorting-chains needs ranks firsts inside (without_top stack) s ps order sorting adds.chain steps (λ k h. Falls-within needs ranks inside s (get_or adds.chain k 0) (adds.falls k h)))
 
-          module _ (e : ℕ) (skipped : (t : ℕ) → known.next ≤ t → t < e → IsOut ps t) (high : known.next ≤ e) where
-            skipped' : (t : ℕ) → (progress_of ps s).next ≤ t → t < e → IsOut ps t
-            skipped' t h l = skipped t (subst (λ q. q.next ≤ t) is h) l
+        pub chains-work : length stack < length stack' → work needs ranks ps stack' < work needs ranks ps stack
+        chains-work h =
+            let any : 0 < length adds.chain = omega (arith, h, ap length adds.grown, length-append stack adds.chain) in
+            let last : length adds.chain - 1 < length adds.chain = omega (arith, any) in
+            subst (λ (l : List ℕ). work needs ranks ps l < work needs ranks ps stack) (sym grown-split)
+            (subst (λ (l : List ℕ). work needs ranks ps ((without_top stack ++ s ∷ []) ++ adds.chain) < work needs ranks ps l) (sym split)
+            (work-chains needs ranks ps (without_top stack) s adds.chain was_left any (omega (arith, adds.short, rank-le needs ranks s)) (is_left (length adds.chain - 1) last) (adds.falls (length adds.chain - 1) last).lower))
+          where
+            is_left : (k : ℕ) → k < length adds.chain → (progress_of ps (get_or adds.chain k 0)).out ≡ false
+            is_left k l = elim (cases_Bool (progress_of ps (get_or adds.chain k 0)).out) [ inl o ↦ absurd (adds.left k l o) | inr e ↦ e ]
 
-            high' : (progress_of ps s).next ≤ e
-            high' = subst (λ q. q.next ≤ e) (sym is) high
+        -- there is none
+        pub same_stack : (b : Bool) → (IsTrue b ↔ (length stack < length stack')) → b ≡ false → stack' ≡ stack
+        same_stack b any nothing = adds.grown ∙ (ap (λ (l : List ℕ). stack ++ l) (nil_from_length adds.chain empty) ∙ append-nil stack)
+          where
+            empty : length adds.chain ≡ 0
+            empty = elim (cases_lt (length stack) (length stack')) [ inl h ↦ absurd (false≢true (sym nothing ∙ any.1 h)) | inr h ↦ omega (arith, h, ap length adds.grown, length-append stack adds.chain) ]
 
-            pub pulls : e < s → (p : Progress) → p ≡ record { out = known.out; begun = known.begun; next = e + 1 } → (now : List ℕ) → now ≡ stack' ++ e ∷ [] → Sorting needs ranks firsts now (set ps s p) order
-            pulls low p f now g =
-                subst (λ (l : List ℕ). Sorting needs ranks firsts l (set ps s p) order) (sym (g ∙ ap (λ (l : List ℕ). l ++ e ∷ []) (same_stack ∙ split)))
-                (Sorting-pulls needs ranks firsts inside (without_top stack) s ps order sorting e high' low skipped' p (ap (λ q. q.out) f ∙ sym (ap (λ q. q.out) is)) (ap (λ q. q.begun) f ∙ sym (ap (λ q. q.begun) is)) (ap (λ q. q.next) f))
+      -- of each item that is not out the topmost entry is kept
+      module _ (kept' : List ℕ) (topmost : IsTopmost (λ t. IsOut ps t → ⊥) stack kept') where
+        pub shortens : Sorting needs ranks firsts kept' ps order
+        shortens = Sorting-topmost needs ranks firsts stack kept' ps order w topmost
 
-            pub pulls-work : e < s → (p : Progress) → p ≡ record { out = known.out; begun = known.begun; next = e + 1 } → (now : List ℕ) → now ≡ stack' ++ e ∷ [] → work needs ranks (set ps s p) now < work needs ranks ps stack
-            pulls-work low p f now g =
-                subst (λ (l : List ℕ). work needs ranks (set ps s p) l < work needs ranks ps stack) (sym (g ∙ ap (λ (l : List ℕ). l ++ e ∷ []) (same_stack ∙ split)))
-                (subst (λ (l : List ℕ). work needs ranks (set ps s p) ((without_top stack ++ s ∷ []) ++ e ∷ []) < work needs ranks ps l) (sym split)
-                (work-pulls needs ranks (without_top stack) s ps stack-known p was_left e high' (omega (arith, low, stack-in)) (ap (λ q. q.out) f ∙ sym (ap (λ q. q.out) is)) (ap (λ q. q.begun) f ∙ sym (ap (λ q. q.begun) is)) (ap (λ q. q.next) f)))
+        pub shortens-work : length kept' < length stack → work needs ranks ps kept' < work needs ranks ps stack
+        shortens-work h = work-topmost needs ranks ps stack kept' topmost some (λ o. false≢true (sym was_left ∙ subst (λ x. IsOut ps x) (sym (top ∙ get_or_default stack (length stack - 1) s 0 (omega (arith, some)))) o)) h
 
-            pub outs : s ≤ e → (p : Progress) → p ≡ record { out = true; begun = known.begun; next = known.next } → (now : List ℕ) → now ≡ order ++ s ∷ [] → Sorting needs ranks firsts (without_top stack) (set ps s p) now
-            outs past p f now g =
-                subst (λ (l : List ℕ). Sorting needs ranks firsts (without_top stack) (set ps s p) l) (sym g)
-                (Sorting-outs needs ranks firsts inside (without_top stack) s ps order sorting none (λ t h l. skipped' t h (omega (arith, l, past))) (λ o. false≢true (sym was_left ∙ o)) p (ap (λ q. q.out) f) (ap (λ q. q.begun) f ∙ sym (ap (λ q. q.begun) is)) (ap (λ q. q.next) f ∙ sym (ap (λ q. q.next) is)))
+      -- it waits for nothing
+      module _ (stack' : List ℕ) (same : stack' ≡ stack) (none : WaitsForNone needs ranks ps s) where
+        module _ (e : ℕ) (skipped : (t : ℕ) → known.next ≤ t → t < e → IsOut ps t) (high : known.next ≤ e) where
+          skipped' : (t : ℕ) → (progress_of ps s).next ≤ t → t < e → IsOut ps t
+          skipped' t h l = skipped t (subst (λ q. q.next ≤ t) is h) l
 
-            pub outs-work : (p : Progress) → p ≡ record { out = true; begun = known.begun; next = known.next } → work needs ranks (set ps s p) (without_top stack) < work needs ranks ps stack
-            outs-work p f =
-                subst (λ (l : List ℕ). work needs ranks (set ps s p) (without_top stack) < work needs ranks ps l) (sym split)
-                (work-outs needs ranks (without_top stack) s ps stack-known p was_left (ap (λ q. q.out) f) (ap (λ q. q.begun) f ∙ sym (ap (λ q. q.begun) is)) (ap (λ q. q.next) f ∙ sym (ap (λ q. q.next) is)))
+          high' : (progress_of ps s).next ≤ e
+          high' = subst (λ q. q.next ≤ e) (sym is) high
+
+          pub pulls : e < s → (p : Progress) → p ≡ record { out = known.out; begun = known.begun; next = e + 1 } → (now : List ℕ) → now ≡ stack' ++ e ∷ [] → Sorting needs ranks firsts now (set ps s p) order
+          pulls low p f now g =
+              subst (λ (l : List ℕ). Sorting needs ranks firsts l (set ps s p) order) (sym (g ∙ ap (λ (l : List ℕ). l ++ e ∷ []) (same ∙ split)))
+              (Sorting-pulls needs ranks firsts inside (without_top stack) s ps order sorting e high' low skipped' p (ap (λ q. q.out) f ∙ sym (ap (λ q. q.out) is)) (ap (λ q. q.begun) f ∙ sym (ap (λ q. q.begun) is)) (ap (λ q. q.next) f))
+
+          pub pulls-work : e < s → (p : Progress) → p ≡ record { out = known.out; begun = known.begun; next = e + 1 } → (now : List ℕ) → now ≡ stack' ++ e ∷ [] → work needs ranks (set ps s p) now < work needs ranks ps stack
+          pulls-work low p f now g =
+              subst (λ (l : List ℕ). work needs ranks (set ps s p) l < work needs ranks ps stack) (sym (g ∙ ap (λ (l : List ℕ). l ++ e ∷ []) (same ∙ split)))
+              (subst (λ (l : List ℕ). work needs ranks (set ps s p) ((without_top stack ++ s ∷ []) ++ e ∷ []) < work needs ranks ps l) (sym split)
+              (work-pulls needs ranks (without_top stack) s ps stack-known p was_left e high' (omega (arith, low, stack-in)) (ap (λ q. q.out) f ∙ sym (ap (λ q. q.out) is)) (ap (λ q. q.begun) f ∙ sym (ap (λ q. q.begun) is)) (ap (λ q. q.next) f)))
+
+          pub outs : s ≤ e → (p : Progress) → p ≡ record { out = true; begun = known.begun; next = known.next } → (now : List ℕ) → now ≡ order ++ s ∷ [] → Sorting needs ranks firsts (without_top stack) (set ps s p) now
+          outs past p f now g =
+              subst (λ (l : List ℕ). Sorting needs ranks firsts (without_top stack) (set ps s p) l) (sym g)
+              (Sorting-outs needs ranks firsts inside (without_top stack) s ps order sorting none (λ t h l. skipped' t h (omega (arith, l, past))) (λ o. false≢true (sym was_left ∙ o)) p (ap (λ q. q.out) f) (ap (λ q. q.begun) f ∙ sym (ap (λ q. q.begun) is)) (ap (λ q. q.next) f ∙ sym (ap (λ q. q.next) is)))
+
+          pub outs-work : (p : Progress) → p ≡ record { out = true; begun = known.begun; next = known.next } → work needs ranks (set ps s p) (without_top stack) < work needs ranks ps stack
+          outs-work p f =
+              subst (λ (l : List ℕ). work needs ranks (set ps s p) (without_top stack) < work needs ranks ps l) (sym split)
+              (work-outs needs ranks (without_top stack) s ps stack-known p was_left (ap (λ q. q.out) f) (ap (λ q. q.begun) f ∙ sym (ap (λ q. q.begun) is)) (ap (λ q. q.next) f ∙ sym (ap (λ q. q.next) is)))

@@ -1,12 +1,12 @@
 -- How much work the sort still has: it falls with each step.
-use Rattle.std.proofs.Common.{◌≡◌, Bool, true, false, not, cond, ◌&&◌, ◌||◌, nat_lt, ℕ, ◌+◌, ◌-◌, ◌*◌, ◌<◌, ◌≤◌, ◌⊎◌, List, [], ◌∷◌, ◌++◌, length, get_or, set, sum, sum_by, refl, sym, ap, ◌∙◌, inl, inr, arith}
-use Rattle.std.proofs.lemmas.Bool.{cases_lt, cases_Bool, false≢true, ltb-true}
+use Rattle.std.proofs.Common.{◌≡◌, Bool, true, false, cond, ℕ, ◌+◌, ◌-◌, ◌*◌, ◌<◌, ◌≤◌, ◌⊎◌, List, [], ◌∷◌, ◌++◌, length, get_or, set, sum, sum_by, refl, ap, ◌∙◌, inl, inr, arith}
+use Rattle.std.proofs.lemmas.Bool.{cases_lt}
 use Rattle.std.proofs.lemmas.List.{length-append, length_push, get_or_push, get_or_past, get_or-append-add}
 use Rattle.std.proofs.lemmas.List.Sums.{sum_by-set, get_or-le-sum_by}
 use Rattle.std.proofs.Math.Nat.{mul-le-mul_left}
 use Rattle.bundle_order_sort.specs.declared.stack.Progress.{Progress}
-use Rattle.bundle_order_sort.specs.Numbers.{progress_of, unknown, IsOut, is_awaited}
-use Rattle.bundle_order_sort.proofs.SortLemmas.{field}
+use Rattle.bundle_order_sort.specs.Numbers.{progress_of, unknown, IsOut}
+use Rattle.bundle_order_sort.specs.Topmost.{IsTopmost}
 
 -- what is still to be done once: to begin an item, to put it out, and to put an earlier one above it
 abbrev pub one_unless : Bool → ℕ
@@ -15,12 +15,6 @@ one_unless b = cond b 0 1
 abbrev pub chances : ℕ → Progress → ℕ
 chances n p = one_unless p.out + one_unless p.begun + (n - p.next)
 
-is_awaited-parts : (out : Bool) (low : Bool) (begun : Bool) → (not out && (low || not begun)) ≡ true → begun ≡ true → (out ≡ false) × (low ≡ true)
-is_awaited-parts true low begun e b = absurd (false≢true e)
-is_awaited-parts false true begun e b = (refl, refl)
-is_awaited-parts false false true e b = absurd (false≢true e)
-is_awaited-parts false false false e b = absurd (false≢true b)
-
 module _ (needs : List (List ℕ)) (ranks : List ℕ) where
   -- more than an item ranks
   abbrev pub highest : ℕ
@@ -28,7 +22,7 @@ module _ (needs : List (List ℕ)) (ranks : List ℕ) where
 
   -- more than are put on the stack in one step
   abbrev pub most : ℕ
-  most = sum_by length needs + 3
+  most = sum_by length needs + highest + 3
 
   -- how high the top of the stack stands; highest, if it is out
   abbrev pub height : List Progress → List ℕ → ℕ
@@ -37,10 +31,10 @@ module _ (needs : List (List ℕ)) (ranks : List ℕ) where
   abbrev pub work : List Progress → List ℕ → ℕ
   work ps stack = (most * (highest + 1)) * sum_by (chances (length needs)) ps + (length stack + most * height ps stack)
 
-  rank-le : (x : ℕ) → get_or ranks x 0 < highest
+  pub rank-le : (x : ℕ) → get_or ranks x 0 < highest
   rank-le x = elim (cases_lt x (length ranks)) [ inl l ↦ omega (arith, get_or-le-sum_by (λ y. y) ranks x 0 l) | inr g ↦ omega (arith, get_or_past ranks x 0 g) ]
 
-  pub needs-short : (s : ℕ) → length (get_or needs s []) + 2 ≤ most
+  needs-short : (s : ℕ) → length (get_or needs s []) + 2 ≤ most
   needs-short s = elim (cases_lt s (length needs)) [ inl l ↦ omega (arith, get_or-le-sum_by length needs s [] l) | inr g ↦ omega (arith, ap length (get_or_past needs s [] g)) ]
 
   height-by : (b : Bool) (x : ℕ) → cond b highest (get_or ranks x 0) ≤ highest
@@ -88,9 +82,6 @@ module _ (needs : List (List ℕ)) (ranks : List ℕ) where
     chance : chances (length needs) p < chances (length needs) (progress_of ps s) → sum_by (chances (length needs)) (set ps s p) < sum_by (chances (length needs)) ps
     chance h = omega (arith, h, sum_by-set (chances (length needs)) ps s p unknown known)
 
-    same_chance : chances (length needs) p ≡ chances (length needs) (progress_of ps s) → sum_by (chances (length needs)) (set ps s p) ≡ sum_by (chances (length needs)) ps
-    same_chance h = omega (arith, h, sum_by-set (chances (length needs)) ps s p unknown known)
-
     module _ (left : (progress_of ps s).out ≡ false) where
       -- the item is out
       pub work-outs : p.out ≡ true → p.begun ≡ (progress_of ps s).begun → p.next ≡ (progress_of ps s).next → work (set ps s p) rest < work ps (rest ++ s ∷ [])
@@ -100,38 +91,37 @@ module _ (needs : List (List ℕ)) (ranks : List ℕ) where
       pub work-pulls : (e : ℕ) → (progress_of ps s).next ≤ e → e < length needs → p.out ≡ (progress_of ps s).out → p.begun ≡ (progress_of ps s).begun → p.next ≡ e + 1 → work (set ps s p) ((rest ++ s ∷ []) ++ e ∷ []) < work ps (rest ++ s ∷ [])
       work-pulls e high within a b c = work-uses ps (set ps s p) (rest ++ s ∷ []) ((rest ++ s ∷ []) ++ e ∷ []) (chance (omega (arith, ap one_unless a, ap one_unless b, c, high, within))) (omega (arith, length_push (rest ++ s ∷ []) e))
 
-      -- what the item waits for is put above it
-      module _ (ys : List ℕ) (any : 0 < length ys) (short : length ys ≤ length (get_or needs s [])) (awaited : (k : ℕ) → k < length ys → is_awaited ranks ps s (get_or ys k 0) ≡ true) (same_out : p.out ≡ (progress_of ps s).out) (begun : p.begun ≡ true) (same_next : p.next ≡ (progress_of ps s).next) where
-        last : ℕ
-        last = get_or ys (length ys - 1) 0
+      -- the item is begun, and what it needs is put above it
+      pub work-begins : (ys : List ℕ) → length ys ≤ length (get_or needs s []) → (progress_of ps s).begun ≡ false → p.out ≡ (progress_of ps s).out → p.begun ≡ true → p.next ≡ (progress_of ps s).next → work (set ps s p) ((rest ++ s ∷ []) ++ ys) < work ps (rest ++ s ∷ [])
+      work-begins ys short new a b c = work-uses ps (set ps s p) (rest ++ s ∷ []) ((rest ++ s ∷ []) ++ ys) (chance (omega (arith, ap one_unless a, ap one_unless b, c, ap one_unless new))) (omega (arith, length-append (rest ++ s ∷ []) ys, short, needs-short s))
 
-        last-is : last ≡ get_or ys (length ys - 1) 0
-        unfolding last
-        last-is = refl
+  -- a chain is put above the top: it falls in rank
+  pub work-chains : (ps : List Progress) (rest : List ℕ) (s : ℕ) (ys : List ℕ) → (progress_of ps s).out ≡ false → 0 < length ys → length ys ≤ highest → (progress_of ps (get_or ys (length ys - 1) 0)).out ≡ false → get_or ranks (get_or ys (length ys - 1) 0) 0 < get_or ranks s 0 → work ps ((rest ++ s ∷ []) ++ ys) < work ps (rest ++ s ∷ [])
+  work-chains ps rest s ys left any short last_left low = work-sinks ps ps (rest ++ s ∷ []) ((rest ++ s ∷ []) ++ ys) refl (omega (arith, now, height-in ps rest s left, low)) room
+    where
+      room : length ((rest ++ s ∷ []) ++ ys) + 2 ≤ length (rest ++ s ∷ []) + most
+      room = omega (arith, length-append (rest ++ s ∷ []) ys, short)
 
-        top-last : get_or ((rest ++ s ∷ []) ++ ys) (length ((rest ++ s ∷ []) ++ ys) - 1) 0 ≡ last
-        top-last = ap (λ k. get_or ((rest ++ s ∷ []) ++ ys) k 0) place ∙ (get_or-append-add (rest ++ s ∷ []) ys (length ys - 1) 0 ∙ sym last-is)
-          where
-            place : length ((rest ++ s ∷ []) ++ ys) - 1 ≡ length (rest ++ s ∷ []) + (length ys - 1)
-            place = omega (arith, length-append (rest ++ s ∷ []) ys, any)
+      place : length ((rest ++ s ∷ []) ++ ys) - 1 ≡ length (rest ++ s ∷ []) + (length ys - 1)
+      place = omega (arith, length-append (rest ++ s ∷ []) ys, any)
 
-        last-awaited : is_awaited ranks ps s last ≡ true
-        last-awaited = ap (λ x. is_awaited ranks ps s x) last-is ∙ awaited (length ys - 1) (omega (arith, any))
+      top-last : get_or ((rest ++ s ∷ []) ++ ys) (length ((rest ++ s ∷ []) ++ ys) - 1) 0 ≡ get_or ys (length ys - 1) 0
+      top-last = ap (λ k. get_or ((rest ++ s ∷ []) ++ ys) k 0) place ∙ get_or-append-add (rest ++ s ∷ []) ys (length ys - 1) 0
 
-        room : length ((rest ++ s ∷ []) ++ ys) + 2 ≤ length (rest ++ s ∷ []) + most
-        room = omega (arith, length-append (rest ++ s ∷ []) ys, short, needs-short s)
+      now : height ps ((rest ++ s ∷ []) ++ ys) ≡ get_or ranks (get_or ys (length ys - 1) 0) 0
+      now = ap (λ y. cond (progress_of ps y).out highest (get_or ranks y 0)) top-last ∙ ap (λ b. cond b highest (get_or ranks (get_or ys (length ys - 1) 0) 0)) last_left
 
-        pub work-awaits : work (set ps s p) ((rest ++ s ∷ []) ++ ys) < work ps (rest ++ s ∷ [])
-        work-awaits = by (cases_Bool (progress_of ps s).begun)
-          where
-            sinks : (progress_of ps s).begun ≡ true → work (set ps s p) ((rest ++ s ∷ []) ++ ys) < work ps (rest ++ s ∷ [])
-            sinks e =
-                let yes = is_awaited-parts (progress_of ps last).out (nat_lt (get_or ranks last 0) (get_or ranks s 0)) (progress_of ps s).begun last-awaited e in
-                let low : get_or ranks last 0 < get_or ranks s 0 = ltb-true (get_or ranks last 0) (get_or ranks s 0) yes.1 in
-                let out : (progress_of (set ps s p) last).out ≡ false = field ps s p known (λ q. q.out) same_out last ∙ yes.0 in
-                let now : height (set ps s p) ((rest ++ s ∷ []) ++ ys) ≡ get_or ranks last 0 = ap (λ y. cond (progress_of (set ps s p) y).out highest (get_or ranks y 0)) top-last ∙ ap (λ b. cond b highest (get_or ranks last 0)) out in
-                work-sinks ps (set ps s p) (rest ++ s ∷ []) ((rest ++ s ∷ []) ++ ys) (same_chance (omega (arith, ap one_unless same_out, ap one_unless (begun ∙ sym e), same_next))) (omega (arith, now, height-in ps rest s left, low)) room
+  -- entries are taken out below a top that is not out
+  module _ (ps : List Progress) (stack kept : List ℕ) (top : IsTopmost (λ t. IsOut ps t → ⊥) stack kept) (some : 0 < length stack) (left : IsOut ps (get_or stack (length stack - 1) 0) → ⊥) where
+    kept-top : get_or kept (length kept - 1) 0 ≡ get_or stack (length stack - 1) 0
+    kept-top = let at = top.all (length stack - 1) (omega (arith, some)) left in by at (cases_lt at.0 (length kept - 1))
+      where
+        by : (at : (k : ℕ) × (k < length kept) × (length stack - 1 ≤ top.place k) × (get_or kept k 0 ≡ get_or stack (length stack - 1) 0)) → (at.0 < length kept - 1) ⊎ (length kept - 1 ≤ at.0) → get_or kept (length kept - 1) 0 ≡ get_or stack (length stack - 1) 0
+        by at (inl l) = absurd (omega (arith, at.2, at.1, l, top.rises at.0 (length kept - 1) l (omega (arith, at.1)), top.within (length kept - 1) (omega (arith, at.1))))
+        by at (inr g) = let e : length kept - 1 ≡ at.0 = omega (arith, g, at.1) in ap (λ k. get_or kept k 0) e ∙ at.3
 
-            by : ((progress_of ps s).begun ≡ true) ⊎ ((progress_of ps s).begun ≡ false) → work (set ps s p) ((rest ++ s ∷ []) ++ ys) < work ps (rest ++ s ∷ [])
-            by (inl e) = sinks e
-            by (inr e) = work-uses ps (set ps s p) (rest ++ s ∷ []) ((rest ++ s ∷ []) ++ ys) (chance (omega (arith, ap one_unless same_out, ap one_unless begun, same_next, ap one_unless e))) room
+    pub work-topmost : length kept < length stack → work ps kept < work ps stack
+    work-topmost h = omega (arith, h, ap (λ x. most * x) same)
+      where
+        same : height ps kept ≡ height ps stack
+        same = ap (λ y. cond (progress_of ps y).out highest (get_or ranks y 0)) kept-top

@@ -59,11 +59,3 @@ is_awaited ranks progress s t = not (progress_of progress t).out && (nat_lt (sli
 -- what is skipped is out
 abbrev pub AreSkips : List Progress → List ℕ → Type 0
 AreSkips progress skips = (t u : ℕ) → t ≤ u → u < slice_index skips t → IsOut progress u
-
--- whether item t is settled
-abbrev pub is_settled : List Bool → ℕ → Bool
-is_settled settled t = slice_index_or settled t false
-
--- if item s is settled, it waits for none of those that it needs
-abbrev pub HasNone : List ℕ → List Progress → List Bool → ℕ → List ℕ → Type 0
-HasNone ranks progress settled s needs = is_settled settled s ≡ true → (t : ℕ) → Contains needs t → is_awaited ranks progress s t ≡ false

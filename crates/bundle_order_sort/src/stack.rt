@@ -4,10 +4,21 @@
 //! come before it goes above it. So all above it is there on its account, and two notes on the item
 //! stand for the pairs that were used: that its needs were put above it once, and up to which item
 //! of its module the earlier ones were.
+//!
+//! Looked at again, an item that still waits for needs of its puts the first of them above it. That
+//! one is on the stack already, so it does no more than the same, and so on down a chain of needs
+//! that rank lower and lower, to an item that is not begun or waits for none. Only that end of the
+//! chain acts, and no other of the chain goes out before it does. So the end is noted for all of
+//! them, and is put on top at once until it is out.
+//!
+//! Nothing below an entry is looked at before its item is out. So only the topmost entry of an item
+//! counts, and where the stack grows long the others are taken away.
 
-ghost use Rattle.std.specs.Prelude.{◌≡◌, ◌≢◌, ℕ, ◌+◌, ◌-◌, ◌<◌, ◌≤◌, ◌++◌, ◌↔◌, nat_eq, IsTrue, false, IfOk, OnOk, Contains, map, length, reverse, slice_index};
+ghost use Rattle.std.specs.Prelude.{◌≡◌, ℕ, ◌+◌, ◌-◌, ◌<◌, ◌≤◌, ◌++◌, ◌↔◌, ◌⊎◌, nat_eq, IsTrue, true, false, IfOk, OnOk, IfSome, IfNone, Contains, map, length, reverse, slice_index, slice_index_or};
 ghost use Rattle.std.specs.List.{filter};
-ghost use Rattle.bundle_order_sort.specs.Numbers.{fresh, Needs, IsInOrder, IsOut, is_awaited, is_settled, HasNone, AreSkips};
+ghost use Rattle.bundle_order_sort.specs.Numbers.{fresh, progress_of, Needs, IsInOrder, IsOut, is_awaited, AreSkips};
+ghost use Rattle.bundle_order_sort.specs.Chains.{Falls, WaitsForNone, AddsChain, AreChains};
+ghost use Rattle.bundle_order_sort.specs.Topmost.{IsTopmost};
 
 use std::alloc::{AllocError, Global};
 
@@ -27,8 +38,8 @@ struct Progress {
 /// `firsts` has the first item of each item's module, and for a free item that item itself.
 ///
 /// The top of the stack is dropped if it is out. What it waits for of its needs goes above it, the
-/// lowest on top; else the first earlier item of its module that is not out, if that one was not
-/// above it before; else it is out next.
+/// lowest on top, or the chain that this comes to; else the first earlier item of its module that
+/// is not out, if that one was not above it before; else it is out next.
 pub(crate) fn sort_numbers(
     alloc: Global,
     needs: &[Vec<usize>],
@@ -42,45 +53,45 @@ pub(crate) fn sort_numbers(
     ensures { IfOk result (λ order.
         IsInOrder (map (λ v. v.items) needs.now) ranks.now firsts.now order.items) }
 {
-    let mut stack = all_items(alloc, needs.len())?;
     let mut skips = vec![in alloc; 0; needs.len()]?;
-    let mut settled = vec![in alloc; false; needs.len()]?;
+    let mut cursors = vec![in alloc; 0; needs.len()]?;
+    let mut ends = numbers_below(alloc, needs.len())?;
     put_out(
         alloc,
         needs,
         ranks,
         firsts,
-        &mut stack,
         &mut skips,
-        &mut settled,
+        &mut cursors,
+        &mut ends,
     )
 }
 
-/// The items in the order in which they are put out, from a stack of them all. No item is to be passed over
-/// yet (`skips`), and none is known to wait for nothing (`settled`).
+/// The items in the order in which they are put out. No item is to be passed over yet (`skips`), no
+/// need is known to be awaited no more (`cursors`), and each chain ends where it begins (`ends`).
 fn put_out(
     alloc: Global,
     needs: &[Vec<usize>],
     ranks: &[usize],
     firsts: &[usize],
-    stack: &mut Vec<usize>,
     skips: &mut [usize],
-    settled: &mut [bool],
+    cursors: &mut [usize],
+    ends: &mut [usize],
 ) -> Result<Vec<usize>, AllocError>
     requires ranks_len { length ranks.now ≡ length needs.now }
     requires firsts_len { length firsts.now ≡ length needs.now }
     requires within { (s t : ℕ) →
         Needs (map (λ v. v.items) needs.now) s t → t < length needs.now }
-    requires stack_len { length stack.old.items ≡ length needs.now }
-    requires stack_each { (k : ℕ) →
-        k < length needs.now → slice_index stack.old.items k ≡ length needs.now - 1 - k }
     requires skips_len { length skips.old ≡ length needs.now }
     requires skips { (t : ℕ) → slice_index skips.old t ≡ 0 }
-    requires settled_len { length settled.old ≡ length needs.now }
-    requires settled { (t : ℕ) → is_settled settled.old t ≡ false }
+    requires cursors_len { length cursors.old ≡ length needs.now }
+    requires cursors { (t : ℕ) → slice_index cursors.old t ≡ 0 }
+    requires ends_len { length ends.old ≡ length needs.now }
+    requires ends { (t : ℕ) → t < length needs.now → slice_index ends.old t ≡ t }
     ensures { IfOk result (λ order.
         IsInOrder (map (λ v. v.items) needs.now) ranks.now firsts.now order.items) }
 {
+    let mut stack = all_items(alloc, needs.len())?;
     let mut progress = begin(alloc, firsts)?;
     let mut order = Vec::new(alloc);
     while let Some(top) = stack.last() {
@@ -90,12 +101,20 @@ fn put_out(
             stack.pop();
             continue;
         }
-        let awaited = push_awaited(stack, settled, &needs[item], ranks, &progress, item)?;
-        if awaited {
+        let shorter = shorten(alloc, &mut stack, &progress)?;
+        if shorter {
+            continue;
+        }
+        if !known.begun {
+            push_needs(&mut stack, &needs[item], ranks, &progress, item)?;
             progress[item] = Progress {
                 begun: true,
                 ..known
             };
+            continue;
+        }
+        let awaited = push_chain(&mut stack, ends, cursors, needs, ranks, &progress, item)?;
+        if awaited {
             continue;
         }
         let left = first_left(&progress, skips, known.next, item);
@@ -127,6 +146,19 @@ fn all_items(alloc: Global, count: usize) -> Result<Vec<usize>, AllocError>
     Ok(items)
 }
 
+/// The numbers below `count`, ascending.
+fn numbers_below(alloc: Global, count: usize) -> Result<Vec<usize>, AllocError>
+    ensures len { IfOk result (λ numbers. length numbers.items ≡ count) }
+    ensures each { IfOk result (λ numbers.
+        (k : ℕ) → k < count → slice_index numbers.items k ≡ k) }
+{
+    let mut numbers = Vec::new(alloc);
+    for number in 0..count {
+        numbers.push(number)?;
+    }
+    Ok(numbers)
+}
+
 /// What is known of the items at first.
 fn begin(alloc: Global, firsts: &[usize]) -> Result<Vec<Progress>, AllocError>
     ensures { IfOk result (λ progress. progress.items ≡ map fresh firsts.now) }
@@ -141,36 +173,66 @@ fn begin(alloc: Global, firsts: &[usize]) -> Result<Vec<Progress>, AllocError>
         .collect(alloc)
 }
 
-/// Puts on the stack what an item waits for of all that it needs, the first on top, and tells
-/// whether there is any. Where there is none the item is settled, and need not be looked at again.
-fn push_awaited(
+/// Where the stack has grown to more than four times the number of items, keeps only the topmost
+/// entry of each item that is not out, and tells whether that made it shorter.
+fn shorten(alloc: Global, stack: &mut Vec<usize>, progress: &[Progress]) -> Result<bool, AllocError>
+    requires { (k : ℕ) →
+        k < length stack.old.items → slice_index stack.old.items k < length progress.now }
+    ensures same { IfOk result (λ shorter.
+        shorter ≡ false → stack.new.items ≡ stack.old.items) }
+    ensures less { IfOk result (λ shorter.
+        shorter ≡ true → length stack.new.items < length stack.old.items) }
+    ensures topmost { IfOk result (λ shorter.
+        shorter ≡ true →
+        IsTopmost (λ t. IsOut progress.now t → ⊥) stack.old.items stack.new.items) }
+{
+    if stack.len() / 4 <= progress.len() {
+        return Ok(false);
+    }
+    let kept = topmost(alloc, stack, progress)?;
+    if kept.len() >= stack.len() {
+        return Ok(false);
+    }
+    *stack = kept;
+    Ok(true)
+}
+
+/// The topmost entry of each item that is not out, in the order of the stack.
+fn topmost(alloc: Global, stack: &[usize], progress: &[Progress]) -> Result<Vec<usize>, AllocError>
+    requires { (k : ℕ) →
+        k < length stack.now → slice_index stack.now k < length progress.now }
+    ensures { IfOk result (λ kept.
+        IsTopmost (λ t. IsOut progress.now t → ⊥) stack.now kept.items) }
+{
+    let mut met = vec![in alloc; false; progress.len()]?;
+    let mut kept = Vec::new(alloc);
+    for done in 0..stack.len() {
+        let item = stack[stack.len() - 1 - done];
+        if !met[item] && !progress[item].out {
+            met[item] = true;
+            kept.push(item)?;
+        }
+    }
+    kept.reverse();
+    Ok(kept)
+}
+
+/// Puts on the stack what an item waits for of all that it needs, the first on top.
+fn push_needs(
     stack: &mut Vec<usize>,
-    settled: &mut [bool],
     needs: &[usize],
     ranks: &[usize],
     progress: &[Progress],
     item: usize,
-) -> Result<bool, AllocError>
+) -> Result<(), AllocError>
     requires item_in { item < length ranks.now }
     requires len { length progress.now ≡ length ranks.now }
-    requires settled_len { length settled.old ≡ length ranks.now }
     requires within { (t : ℕ) → Contains needs.now t → t < length ranks.now }
-    requires known { HasNone ranks.now progress.now settled.old item needs.now }
-    ensures pushed { OnOk result
+    ensures { OnOk result
         (stack.new.items
         ≡ stack.old.items
         ++ filter (is_awaited ranks.now progress.now item) (reverse needs.now)) }
-    ensures any { IfOk result (λ any.
-        IsTrue any ↔ (length stack.old.items < length stack.new.items)) }
-    ensures settles { OnOk result (HasNone ranks.now progress.now settled.new item needs.now) }
-    ensures others { OnOk result
-        ((t : ℕ) → t ≢ item → is_settled settled.new t ≡ is_settled settled.old t) }
-    ensures len { OnOk result (length settled.new ≡ length settled.old) }
 {
-    if settled[item] {
-        return Ok(false);
-    }
-    let before = stack.len();
     for done in 0..needs.len() {
         let need = needs[needs.len() - 1 - done];
         let awaited = awaits(ranks, progress, item, need);
@@ -178,9 +240,115 @@ fn push_awaited(
             stack.push(need)?;
         }
     }
-    let any = stack.len() > before;
-    settled[item] = !any;
-    Ok(any)
+    Ok(())
+}
+
+/// Puts on the stack the chain of a begun item: the first need that it waits for, the first that
+/// this one waits for, and so on, down to an item that is not begun or waits for none. Tells
+/// whether there is any. The end is noted for all of the chain.
+fn push_chain(
+    stack: &mut Vec<usize>,
+    ends: &mut [usize],
+    cursors: &mut [usize],
+    needs: &[Vec<usize>],
+    ranks: &[usize],
+    progress: &[Progress],
+    item: usize,
+) -> Result<bool, AllocError>
+    requires item_in { item < length needs.now }
+    requires begun { (progress_of progress.now item).begun ≡ true }
+    requires chains { AreChains (map (λ v. v.items) needs.now) ranks.now progress.now ends.old
+        cursors.old }
+    ensures added { OnOk result
+        (AddsChain (map (λ v. v.items) needs.now) ranks.now progress.now item stack.old.items
+        stack.new.items) }
+    ensures any { IfOk result (λ any.
+        IsTrue any ↔ (length stack.old.items < length stack.new.items)) }
+    ensures none { IfOk result (λ any.
+        any ≡ false →
+        WaitsForNone (map (λ v. v.items) needs.now) ranks.now progress.now item) }
+    ensures chains { OnOk result
+        (AreChains (map (λ v. v.items) needs.now) ranks.now progress.now ends.new cursors.new) }
+{
+    let before = stack.len();
+    let mut at = item;
+    while let Some(next) = next_in_chain(ends, cursors, needs, ranks, progress, at) {
+        stack.push(next)?;
+        at = next;
+    }
+    ends[item] = at;
+    note_end(ends, &stack[before..], at);
+    Ok(stack.len() > before)
+}
+
+/// The next item of a chain: the end that was noted for this item, if that one is not out, else the
+/// first need that this item waits for, if it is begun.
+fn next_in_chain(
+    ends: &[usize],
+    cursors: &mut [usize],
+    needs: &[Vec<usize>],
+    ranks: &[usize],
+    progress: &[Progress],
+    item: usize,
+) -> Option<usize>
+    requires item_in { item < length needs.now }
+    requires chains { AreChains (map (λ v. v.items) needs.now) ranks.now progress.now ends.now
+        cursors.old }
+    ensures falls { IfSome result (Falls (map (λ v. v.items) needs.now) ranks.now item) }
+    ensures left { IfSome result (λ next. IsOut progress.now next → ⊥) }
+    ensures none { (progress_of progress.now item).begun ≡ true →
+        IfNone result (WaitsForNone (map (λ v. v.items) needs.now) ranks.now progress.now item) }
+    ensures chains { AreChains (map (λ v. v.items) needs.now) ranks.now progress.now ends.now
+        cursors.new }
+{
+    if !progress[item].begun {
+        return None;
+    }
+    let end = ends[item];
+    if end != item && !progress[end].out {
+        return Some(end);
+    }
+    let needed = needs[item].as_slice();
+    let place = first_awaited(needed, ranks, progress, item, cursors[item]);
+    cursors[item] = place;
+    needed.get(place).copied()
+}
+
+/// The place of the first need from `from` on that an item waits for, or one past the last.
+fn first_awaited(
+    needs: &[usize],
+    ranks: &[usize],
+    progress: &[Progress],
+    item: usize,
+    from: usize,
+) -> usize
+    requires item_in { item < length ranks.now }
+    requires len { length progress.now ≡ length ranks.now }
+    requires within { (t : ℕ) → Contains needs.now t → t < length ranks.now }
+    ensures passed { (k : ℕ) →
+        from ≤ k →
+        k < result →
+        k < length needs.now →
+        is_awaited ranks.now progress.now item (slice_index needs.now k) ≡ false }
+    ensures found { result < length needs.now →
+        is_awaited ranks.now progress.now item (slice_index needs.now result) ≡ true }
+{
+    let mut at = from;
+    while at < needs.len() && !awaits(ranks, progress, item, needs[at]) {
+        at += 1;
+    }
+    at
+}
+
+/// Notes the end of a chain for all of the chain.
+fn note_end(ends: &mut [usize], chain: &[usize], end: usize)
+    requires { (t : ℕ) → Contains chain.now t → t < length ends.old }
+    ensures { (s : ℕ) → (slice_index ends.new s ≡ slice_index ends.old s)
+        ⊎ (Contains chain.now s × (slice_index ends.new s ≡ end)) }
+{
+    for item in chain {
+        ends[*item] = end;
+    }
 }
 
 /// Whether an item waits for one that it needs: that one is not out, and it ranks below the item,
