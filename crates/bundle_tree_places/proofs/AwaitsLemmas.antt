@@ -10,8 +10,8 @@ use Rattle.bundle_rules.specs.Deferred.{is_in_function}
 use Rattle.bundle_rules.proofs.PlacesLemmas.{spot_before-next}
 use Rattle.bundle_rules.specs.Awaits.{awaits, awaits_here, awaits_from, awaits_outside}
 use Rattle.bundle_tree_places.proofs.ListLemmas.{drop_at, slice_get-drop}
-use Rattle.bundle_scope_names.specs.declared.awaits.Standing.{Standing}
-use Rattle.bundle_scope_names.specs.declared.awaits.Standing.TheVariants.{Outside}
+use Rattle.bundle_tree_places.specs.declared.awaits.Standing.{Standing}
+use Rattle.bundle_tree_places.specs.declared.awaits.Standing.TheVariants.{Outside}
 use Rattle.bundle_tree_places.specs.Nested.{is_inside, standing_in, standing_of, is_first_inside, without_first, nested_past, awaits_at, awaits_in}
 
 -- how what is in each of these nodes stands, and at last what is in none

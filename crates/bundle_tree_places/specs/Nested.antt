@@ -3,8 +3,8 @@ use Rattle.std.specs.Prelude.{ℕ, ◌==◌, ◌&&◌, ◌||◌, Bool, true, fal
 use Rattle.bundle_tree_piece.specs.Item as h
 use Rattle.bundle_tree_piece.specs.Item.{Item, Head}
 use Rattle.bundle_rules.specs.Awaits.{awaits}
-use Rattle.bundle_scope_names.specs.declared.awaits.Standing.{Standing}
-use Rattle.bundle_scope_names.specs.declared.awaits.Standing.TheVariants.{Outside, Inside, KeyOutside}
+use Rattle.bundle_tree_places.specs.declared.awaits.Standing.{Standing}
+use Rattle.bundle_tree_places.specs.declared.awaits.Standing.TheVariants.{Outside, Inside, KeyOutside}
 
 -- whether what stands in this field of a node stands in a function
 abbrev pub is_inside : Standing → ℕ → Bool
