@@ -30,7 +30,7 @@ export function check(name, body) {
 export const { deepEqual, equal, match, ok } = assert;
 
 /** Writes the last line and gives the status. */
-export function ended() {
+export function counted() {
   console.log(`bridge: ${counts.passed} passed, ${counts.failed} failed`);
   return counts.failed === 0 && counts.passed > 0 ? 0 : 1;
 }
@@ -47,17 +47,16 @@ export function run(command, words, how = {}) {
 /** Runs the bridge. */
 export const bundled = (words, how) => run(bridge, words, how);
 
-/** What Node does with a file: what it writes, its status, and the kind of the error that ends it. */
-export function played(file, how) {
-  const { status, stdout, stderr } = run('node', ['--no-warnings', file], how);
-  return { status, stdout, error: /^(\w*Error)\b/m.exec(stderr)?.[1] };
-}
+/**
+ * What Node does with a file: what it writes, its status, and the kind of the error that ends it; and of a module that is
+ * imported behind that the names of its exports, with what can be shown of their values.
+ */
+export const played = (file) => ended(['--no-warnings', file]);
+export const imported = (file) => ended(['--no-warnings', path.join(here, 'exports.mjs'), file]);
 
-/** What Node sees of a module's exports: their names, and what can be shown of their values. */
-export function exported(file) {
-  const { status, stdout, stderr } = run('node', [path.join(here, 'exports.mjs'), file]);
-  equal(status, 0, stderr);
-  return stdout.slice(stdout.lastIndexOf('exports: '));
+function ended(words) {
+  const { status, stdout, stderr } = run('node', words);
+  return { status, stdout, error: /^(\w*Error)\b/m.exec(stderr)?.[1] };
 }
 
 /** A file in a folder of its own, with this text. */

@@ -2,7 +2,7 @@
 // A file `options` has words for the bridge.
 import fs from 'node:fs';
 import path from 'node:path';
-import { bundled, check, deepEqual, equal, exported, here, inFolder, match, played, scratch } from './check.mjs';
+import { bundled, check, deepEqual, equal, here, imported, inFolder, match, played, scratch } from './check.mjs';
 
 const words = (folder) => {
   const file = path.join(folder, 'options');
@@ -17,11 +17,9 @@ for (const name of inFolder('graphs').filter((it) => !it.includes('.'))) {
   const bundle = path.join(scratch, `${name}.${isScript ? 'cjs' : 'mjs'}`);
   const made = bundled([main, ...options, '-o', bundle]);
   check(`${name} is bundled`, () => equal(made.status, 0, made.stderr));
-  const original = played(main);
-  check(`${name}: the bundle does what the modules do`, () => deepEqual(played(bundle), original));
-  if (original.status === 0 && !isScript && !options.includes('--require')) {
-    check(`${name}: the bundle exports what the modules do`, () => equal(exported(bundle), exported(main)));
-  }
+  // A script has no exports, and Node makes some for a CommonJS module of its own.
+  const shown = isScript || options.includes('--require') ? played : imported;
+  check(`${name}: the bundle does and exports what the modules do`, () => deepEqual(shown(bundle), shown(main)));
 }
 
 check('several entries are bundled to files of a folder', () => {
@@ -31,8 +29,7 @@ check('several entries are bundled to files of a folder', () => {
   equal(status, 0, stderr);
   for (const entry of entries) {
     const bundle = path.join(folder, path.relative(path.join(here, 'graphs'), entry).replace(/\.js$/, '.mjs'));
-    deepEqual(played(bundle), played(entry));
-    equal(exported(bundle), exported(entry));
+    deepEqual(imported(bundle), imported(entry));
   }
 });
 

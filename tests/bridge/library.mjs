@@ -15,7 +15,7 @@ const blockAfter = (heading, language) => {
 function writeCaller(folder) {
   fs.mkdirSync(path.join(folder, 'src'), { recursive: true });
   fs.writeFileSync(path.join(folder, 'src', 'main.rt.txt'), blockAfter('One caller, whole', 'rust'));
-  fs.writeFileSync(path.join(folder, 'crates.txt'), blockAfter('One caller, whole', 'text'));
+  fs.writeFileSync(path.join(folder, 'crates'), blockAfter('One caller, whole', 'text'));
 }
 
 /** Looks at what the page's program writes: its bundle as JavaScript is what the page says, and so is its refusal. */

@@ -149,8 +149,8 @@ fn all_items(alloc: Global, count: usize) -> Result<Vec<usize>, AllocError>
 /// The numbers below `count`, ascending.
 fn numbers_below(alloc: Global, count: usize) -> Result<Vec<usize>, AllocError>
     ensures len { IfOk result (λ numbers. length numbers.items ≡ count) }
-    ensures each { IfOk result (λ numbers.
-        (k : ℕ) → k < count → slice_index numbers.items k ≡ k) }
+    ensures each { IfOk result
+        (λ numbers. (k : ℕ) → k < count → slice_index numbers.items k ≡ k) }
 {
     let mut numbers = Vec::new(alloc);
     for number in 0..count {
@@ -176,15 +176,15 @@ fn begin(alloc: Global, firsts: &[usize]) -> Result<Vec<Progress>, AllocError>
 /// Where the stack has grown to more than four times the number of items, keeps only the topmost
 /// entry of each item that is not out, and tells whether that made it shorter.
 fn shorten(alloc: Global, stack: &mut Vec<usize>, progress: &[Progress]) -> Result<bool, AllocError>
-    requires { (k : ℕ) →
-        k < length stack.old.items → slice_index stack.old.items k < length progress.now }
+    requires { (k : ℕ) → k < length stack.old.items
+        → slice_index stack.old.items k < length progress.now }
     ensures same { IfOk result (λ shorter.
         shorter ≡ false → stack.new.items ≡ stack.old.items) }
-    ensures less { IfOk result (λ shorter.
-        shorter ≡ true → length stack.new.items < length stack.old.items) }
-    ensures topmost { IfOk result (λ shorter.
-        shorter ≡ true →
-        IsTopmost (λ t. IsOut progress.now t → ⊥) stack.old.items stack.new.items) }
+    ensures less { IfOk result
+        (λ shorter. shorter ≡ true → length stack.new.items < length stack.old.items) }
+    ensures topmost { IfOk result
+        (λ shorter. shorter ≡ true
+        → IsTopmost (λ t. IsOut progress.now t → ⊥) stack.old.items stack.new.items) }
 {
     if stack.len() / 4 <= progress.len() {
         return Ok(false);
@@ -257,18 +257,16 @@ fn push_chain(
 ) -> Result<bool, AllocError>
     requires item_in { item < length needs.now }
     requires begun { (progress_of progress.now item).begun ≡ true }
-    requires chains { AreChains (map (λ v. v.items) needs.now) ranks.now progress.now ends.old
-        cursors.old }
-    ensures added { OnOk result
-        (AddsChain (map (λ v. v.items) needs.now) ranks.now progress.now item stack.old.items
-        stack.new.items) }
-    ensures any { IfOk result (λ any.
-        IsTrue any ↔ (length stack.old.items < length stack.new.items)) }
-    ensures none { IfOk result (λ any.
-        any ≡ false →
-        WaitsForNone (map (λ v. v.items) needs.now) ranks.now progress.now item) }
-    ensures chains { OnOk result
-        (AreChains (map (λ v. v.items) needs.now) ranks.now progress.now ends.new cursors.new) }
+    requires chains { let rows = map (λ v. v.items) needs.now in
+        AreChains rows ranks.now progress.now ends.old cursors.old }
+    ensures added { let rows = map (λ v. v.items) needs.now in OnOk result
+        (AddsChain rows ranks.now progress.now item stack.old.items stack.new.items) }
+    ensures any { IfOk result
+        (λ any. IsTrue any ↔ (length stack.old.items < length stack.new.items)) }
+    ensures none { let rows = map (λ v. v.items) needs.now in IfOk result
+        (λ any. any ≡ false → WaitsForNone rows ranks.now progress.now item) }
+    ensures chains { let rows = map (λ v. v.items) needs.now in OnOk result
+        (AreChains rows ranks.now progress.now ends.new cursors.new) }
 {
     let before = stack.len();
     let mut at = item;
@@ -292,14 +290,15 @@ fn next_in_chain(
     item: usize,
 ) -> Option<usize>
     requires item_in { item < length needs.now }
-    requires chains { AreChains (map (λ v. v.items) needs.now) ranks.now progress.now ends.now
-        cursors.old }
+    requires chains { let rows = map (λ v. v.items) needs.now in
+        AreChains rows ranks.now progress.now ends.now cursors.old }
     ensures falls { IfSome result (Falls (map (λ v. v.items) needs.now) ranks.now item) }
     ensures left { IfSome result (λ next. IsOut progress.now next → ⊥) }
-    ensures none { (progress_of progress.now item).begun ≡ true →
-        IfNone result (WaitsForNone (map (λ v. v.items) needs.now) ranks.now progress.now item) }
-    ensures chains { AreChains (map (λ v. v.items) needs.now) ranks.now progress.now ends.now
-        cursors.new }
+    ensures none { let rows = map (λ v. v.items) needs.now in
+        (progress_of progress.now item).begun ≡ true
+        → IfNone result (WaitsForNone rows ranks.now progress.now item) }
+    ensures chains { let rows = map (λ v. v.items) needs.now in
+        AreChains rows ranks.now progress.now ends.now cursors.new }
 {
     if !progress[item].begun {
         return None;
@@ -325,13 +324,10 @@ fn first_awaited(
     requires item_in { item < length ranks.now }
     requires len { length progress.now ≡ length ranks.now }
     requires within { (t : ℕ) → Contains needs.now t → t < length ranks.now }
-    ensures passed { (k : ℕ) →
-        from ≤ k →
-        k < result →
-        k < length needs.now →
-        is_awaited ranks.now progress.now item (slice_index needs.now k) ≡ false }
-    ensures found { result < length needs.now →
-        is_awaited ranks.now progress.now item (slice_index needs.now result) ≡ true }
+    ensures passed { (k : ℕ) → from ≤ k → k < result → k < length needs.now
+        → is_awaited ranks.now progress.now item (slice_index needs.now k) ≡ false }
+    ensures found { result < length needs.now
+        → is_awaited ranks.now progress.now item (slice_index needs.now result) ≡ true }
 {
     let mut at = from;
     while at < needs.len() && !awaits(ranks, progress, item, needs[at]) {
