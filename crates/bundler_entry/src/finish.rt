@@ -1,8 +1,8 @@
 //! The module of what was merged: no binding has a keyword's name, no two names clash, and it is one function's call
 //! where the settings say so.
 
-ghost use Rattle.std.specs.Prelude.{◌≡◌, IfErr};
-ghost use Rattle.bundler_entry.specs.declared.unlinked.Unlinked.TheVariants.{OutOfMemory};
+ghost use Rattle.std.specs.Prelude.{IfErr};
+ghost use Rattle.bundler_entry.specs.Unlinked.{MayBeMerging};
 
 use crate::unlinked::Unlinked;
 use bundle_merge_forms::wrap_with_iife;
@@ -17,7 +17,7 @@ use std::alloc::{AllocError, Global};
 
 /// The module of what was merged. Refused only where memory runs out.
 pub fn finished(alloc: Global, merged: &Module, config: &Config) -> Result<Module, Unlinked>
-    ensures { IfErr result (λ unlinked. unlinked ≡ OutOfMemory) }
+    ensures { IfErr result MayBeMerging }
 {
     let named = named(alloc, merged, config)?;
     match config.module {
@@ -28,7 +28,7 @@ pub fn finished(alloc: Global, merged: &Module, config: &Config) -> Result<Modul
 
 // A module as the call of one function.
 fn called(alloc: Global, module: &Module) -> Result<Module, Unlinked>
-    ensures { IfErr result (λ unlinked. unlinked ≡ OutOfMemory) }
+    ensures { IfErr result MayBeMerging }
 {
     match wrap_with_iife(alloc, module) {
         Ok(call) => Ok(call),
