@@ -35,13 +35,10 @@ export function counted() {
   return counts.failed === 0 && counts.passed > 0 ? 0 : 1;
 }
 
-/** Runs a command to its end: its output, its errors and its status. */
+/** Runs a command to its end: its output, its errors and its status; none where it cannot be run, or does not end. */
 export function run(command, words, how = {}) {
-  const { error, status, stdout, stderr } = spawnSync(command, words, {
-    encoding: 'utf8', timeout: 60000, ...how,
-  });
-  if (error) throw error;
-  return { status, stdout, stderr };
+  const { error, status, stdout, stderr } = spawnSync(command, words, { encoding: 'utf8', timeout: 240000, ...how });
+  return { status, stdout: stdout ?? '', stderr: `${stderr ?? ''}${error?.message ?? ''}` };
 }
 
 /** Runs the bridge. */

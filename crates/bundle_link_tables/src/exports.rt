@@ -6,7 +6,6 @@ ghost use Rattle.bundle_tree_piece.specs.Item.{head_of, item_of};
 ghost use Rattle.bundle_rules.specs.Nodes as nodes;
 ghost use Rattle.bundle_rules.specs.Nodes.{begins_with, Text};
 ghost use Rattle.bundle_rules.specs.Entries as e;
-ghost use Rattle.bundle_rules.specs.Entries as entries;
 ghost use Rattle.bundle_rules.specs.Entries.{given_on, names_bound};
 ghost use Rattle.bundle_link_tables.specs.Exported as exported;
 ghost use Rattle.bundle_link_tables.specs.Exported.{depth_in, export_by, import_by, locals_named, named_by, named_by_head, named_declared, named_here, named_in_list, text_list};
@@ -106,7 +105,7 @@ fn add_local<'a>(
 
 // The name that a default declaration declares.
 fn default_declared<'a>(declaration: &[Piece<'a>]) -> &'a str
-    ensures { result.now ≡ entries.default_declared (map item_of declaration.now) }
+    ensures { result.now ≡ e.default_declared (map item_of declaration.now) }
 {
     match name_of(child(declaration, 0)) {
         Some(name) => name,
@@ -245,7 +244,7 @@ fn add_from<'a>(
     ensures { OnOk result
         (map export_entry_of exports.new.items
         ≡ map export_entry_of exports.old.items
-        ++ map (entries.entry_from source.now) (map part_items specifiers.now)) }
+        ++ map (e.entry_from source.now) (map part_items specifiers.now)) }
 {
     for specifier in specifiers {
         exports.push(export_from(*specifier, source))?;
@@ -256,8 +255,7 @@ fn add_from<'a>(
 // The export of a specifier of an export list with `from`.
 #[tactic(auto, using(std::proofs::lemmas::Grind::common_steps, crate::proofs::ExportLemmas::from_specifier))]
 fn export_from<'a>(specifier: Part<'_, 'a>, source: &'a str) -> Export<'a>
-    ensures { export_entry_of result
-        ≡ entries.entry_from source.now (part_items specifier.entry) }
+    ensures { export_entry_of result ≡ e.entry_from source.now (part_items specifier.entry) }
 {
     let first = text_in(specifier.pieces, 0);
     let (name, taken) = if begins_namespace(specifier.pieces) {

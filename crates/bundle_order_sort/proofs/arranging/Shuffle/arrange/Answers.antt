@@ -2,7 +2,7 @@
 use Rattle.std.proofs.Common.{◌≡◌, length, get_or, refl, subst, arith, rules}
 use Rattle.std.proofs.lemmas.List.Sorted.{IsPermutation-trans}
 use Rattle.bundle_order_sort.proofs.ArrangeLemmas.{IsArrangedTo, IsArrangedTo-more, IsArrangedTo-none, AreArranged-all}
-use Rattle.bundle_order_sort.proofs.Shuffle.arrange.Goals as goal
+use Rattle.bundle_order_sort.proofs.arranging.Shuffle.arrange.Goals as goal
 
 pub loop-place-init : goal.loop-place-init
 loop-place-init g c = record {

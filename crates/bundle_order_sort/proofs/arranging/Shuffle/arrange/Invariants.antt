@@ -3,7 +3,7 @@ use Rattle.std.proofs.Common.{length}
 use Rattle.std.specs.List.Sorted.{IsPermutation}
 use Rattle.bundle_order_sort.specs.Arranged.{IsArrangement, IsStill}
 use Rattle.bundle_order_sort.proofs.ArrangeLemmas.{IsArrangedTo}
-use Rattle.bundle_order_sort.proofs.Shuffle.arrange.Given as goal
+use Rattle.bundle_order_sort.proofs.arranging.Shuffle.arrange.Given as goal
 
 abbrev pub invariant-loop-place : goal.invariant-loop-place
 invariant-loop-place g l = record {

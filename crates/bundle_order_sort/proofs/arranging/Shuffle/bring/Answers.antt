@@ -2,7 +2,7 @@
 use Rattle.std.proofs.Common.{arith}
 use Rattle.std.proofs.lemmas.List.{get_or_read}
 use Rattle.bundle_order_sort.proofs.ArrangeLemmas.{IsShuffled-brought, AreSwapped-brought}
-use Rattle.bundle_order_sort.proofs.Shuffle.bring.Goals as goal
+use Rattle.bundle_order_sort.proofs.arranging.Shuffle.bring.Goals as goal
 
 pub returns-then-wanted-len-clause-shuffled : goal.returns-then-wanted-len-clause-shuffled
 returns-then-wanted-len-clause-shuffled g c = λ first was place_in wanted_in.

@@ -1,6 +1,6 @@
 -- Each number stands at its own place.
 use Rattle.std.proofs.Common.{◌≡◌, ℕ, ◌<◌, length, get_or}
-use Rattle.bundle_order_sort.proofs.Shuffle.new.Given as goal
+use Rattle.bundle_order_sort.proofs.arranging.Shuffle.new.Given as goal
 
 abbrev pub invariant-loop-number : goal.invariant-loop-number
 invariant-loop-number l = record {
