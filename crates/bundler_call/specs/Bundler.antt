@@ -37,17 +37,17 @@ hook_of bundler = bundler.hook
 
 -- its settings, in the words of the definitions
 abbrev pub settings_held : {L R H : Type 0} {Is : H → Type 0} → Bundler L R H Is → Settings
-settings_held bundler = settings_of bundler.config
+settings_held bundler = settings_of (config_of bundler)
 
 -- what its loader, its resolver and its hook may answer, and where they may fail
 abbrev pub parties_held : {L R H : Type 0} {Is : H → Type 0} → LoadGhosts L → ResolveGhosts R → ((vtable : H) → HookGhosts (Is vtable)) → Bundler L R H Is → Parties
 parties_held loads resolves hooks bundler = parties_of
-    (loads.may_load bundler.library.loader)
-    (loads.may_fail_load bundler.library.loader)
-    (resolves.may_resolve bundler.library.resolver)
-    (resolves.may_fail_resolve bundler.library.resolver)
-    ((hooks bundler.hook.vtable).may_give bundler.hook.value)
-    ((hooks bundler.hook.vtable).may_fail_hook bundler.hook.value)
+    (loads.may_load (loader_of bundler))
+    (loads.may_fail_load (loader_of bundler))
+    (resolves.may_resolve (resolver_of bundler))
+    (resolves.may_fail_resolve (resolver_of bundler))
+    ((hooks (hook_of bundler).vtable).may_give (hook_of bundler).value)
+    ((hooks (hook_of bundler).vtable).may_fail_hook (hook_of bundler).value)
 
 -- the files of entries
 abbrev pub files_of : List (String Global × FileName) → List Name
