@@ -1,6 +1,10 @@
 //! The module of what was merged: no binding has a keyword's name, no two names clash, and it is one function's call
 //! where the settings say so.
 
+ghost use Rattle.std.specs.Prelude.{map};
+ghost use Rattle.bundle_scope_denote.specs.Chains.{AreInOrder};
+ghost use Rattle.bundle_scope_denote.specs.Numbers.{numbered};
+
 use bundle_merge_items::{Merged, order_items};
 use bundle_scope_denote::{Denotations, ModuleKind, Reading, denotations};
 use bundle_scope_names::{Contexts, Names, changes_of, hygienic_names, keyword_names};
@@ -37,7 +41,9 @@ fn names_of<'c>(
     list: &[Piece<'c>],
     denoted: &Denotations<'c>,
     config: &Config,
-) -> Result<Names, AllocError> {
+) -> Result<Names, AllocError>
+    requires { AreInOrder (map numbered denoted.now.scopes.items) }
+{
     let keywords = keyword_names(alloc, list, denoted)?;
     if config.disable_hygiene {
         return Ok(keywords);
