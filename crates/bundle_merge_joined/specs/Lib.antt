@@ -1,0 +1,3 @@
+pub mod joined
+pub mod grouped
+pub mod loaded

@@ -1,0 +1,2 @@
+pub mod noted
+pub mod walked

@@ -1,0 +1,114 @@
+-- A tree with other identifiers that tell its bindings apart as before (as keywords are renamed) denotes by symbol and
+-- context what corresponds.
+use Rattle.std.proofs.Common.{◌≡◌, ℕ, suc, true, List, [], ◌∷◌, Option, Some, None, map, refl, ap, sym, ◌∙◌, subst}
+use Rattle.std.specs.Prelude.{Contains, is_some}
+use Rattle.std.proofs.lemmas.Bool.{false≢true}
+use Rattle.std.specs.List.{AllZip}
+use Rattle.bundle_tree_piece.specs.Item.{Item}
+use Rattle.bundle_rules.specs.Places.{start, Occurrence, occurrences}
+use Rattle.bundle_rules.specs.Scopes.{Es, Scope, scope_order, scopes_around}
+use Rattle.bundle_rules.specs.Declarations.{ByContext, Name, Declared, declared}
+use Rattle.bundle_rules.specs.Denotes.{Denoted, Bound, Global, denoted_of, denotations}
+use Rattle.bundle_rules.specs.Idents.{idents}
+use Rattle.bundle_rules.specs.Rebuilds.{changes_to}
+use Rattle.bundle_rules.specs.Renamed.{HasNamesOnly, IsRebuilt}
+use Rattle.bundle_rules.specs.Mentions.{same_denoted}
+use Rattle.bundle_scope_renamed.proofs.kept.Lists.{IsIn, map-in, map-twice, same_bool}
+use Rattle.bundle_scope_renamed.proofs.kept.Tables.{Table}
+use Rattle.bundle_scope_renamed.proofs.kept.Known.{table_in}
+use Rattle.bundle_scope_renamed.proofs.kept.Tree.{declarations, declared-named, all-are}
+use Rattle.bundle_scope_renamed.proofs.kept.Moved.{moved, IsInjective}
+use Rattle.bundle_scope_renamed.proofs.kept.Rebuilt.{place_in, place-injective}
+use Rattle.bundle_scope_renamed.proofs.kept.Named.{ArePlain}
+use Rattle.bundle_scope_renamed.proofs.kept.Recalled.{Calling, recalled, recalled_as, recalled_denoted, Recalls, IsFaithful, IsRecalled, IsKnown, known, denoted-recalled, recalled-one, declarations-recalled}
+use Rattle.bundle_scope_renamed.proofs.kept.Faithful.{named_after, zip}
+use Rattle.bundle_merge_whole.specs.composed.Becoming.{StandsIn, Becoming}
+use Rattle.bundle_merge_whole.proofs.composed.Contexts.{contains-in}
+use Rattle.bundle_merge_whole.proofs.composed.Among.{OfScope}
+use Rattle.bundle_merge_whole.proofs.composed.Told.{InTable, same-scopes, in-table, same-bound, same-self, same-is}
+use Rattle.bundle_merge_whole.proofs.composed.Becomings.{placed-same, all-placed, orders-one}
+
+stands-recalled : (call : Calling) (move : ℕ → ℕ) (os ps : List Occurrence) → AllZip (Recalls call move) os ps → AllZip (StandsIn move) os ps
+stands-recalled call move [] [] all = tt
+stands-recalled call move [] (p ∷ ps) all = absurd all
+stands-recalled call move (o ∷ os) [] all = absurd all
+stands-recalled call move (o ∷ os) (p ∷ ps) all =
+    let one : Recalls call move o p = all.0 in
+    (one.scopes ∙ sym (all-placed move (scopes_around Es o.path)), stands-recalled call move os ps all.1)
+
+module _ (call : Calling) (before after : List Item) (names : HasNamesOnly before) (plain : ArePlain before) (faithful : IsFaithful call (occurrences before) (declared ByContext Es before)) (same : IsRebuilt before after) (calls : idents after ≡ map (λ (o : Occurrence). call o.sym o.ctxt) (occurrences before)) where
+  abbrev os : List Occurrence
+  os = occurrences before
+
+  abbrev all : List Declared
+  all = declared ByContext Es before
+
+  abbrev every : List Declared
+  every = declared ByContext Es after
+
+  abbrev move : ℕ → ℕ
+  move = place_in before (changes_to (idents before) (idents after))
+
+  injective : IsInjective move
+  injective = place-injective before (changes_to (idents before) (idents after))
+
+  zipped : AllZip (Recalls call move) os (occurrences after)
+  zipped = zip call before after names plain faithful same calls
+
+  -- (The next two are local in the probe `capture`.)
+  zip_declared : AllZip (IsRecalled call move os) all every
+  zip_declared = subst (λ l. AllZip (IsRecalled call move os) l every) (sym (all-are before names)) (subst (AllZip (IsRecalled call move os) (declarations ByContext os)) (sym (declared-named ByContext after (named_after call before after names plain faithful same calls))) (declarations-recalled call move os os (occurrences after) (λ o at. at) zipped))
+
+  map-zip_in : (l ps : List Occurrence) → ((o : Occurrence) → IsIn l o → IsIn os o) → AllZip (Recalls call move) l ps → map (denoted_of ByContext Es every) ps ≡ map (λ o. recalled_denoted call move (denoted_of ByContext Es all o)) l
+  map-zip_in [] [] among all_zip = refl
+  map-zip_in [] (p ∷ ps) among all_zip = absurd all_zip
+  map-zip_in (o ∷ l) [] among all_zip = absurd all_zip
+  map-zip_in (o ∷ l) (p ∷ ps) among all_zip =
+      ap (λ d. d ∷ map (denoted_of ByContext Es every) ps) (denoted-recalled call move injective os all every zip_declared faithful o p (among o (0, refl)) all_zip.0)
+      ∙ ap (λ ds. recalled_denoted call move (denoted_of ByContext Es all o) ∷ ds) (map-zip_in l ps (λ q at. among q (suc at.0, at.1)) all_zip.1)
+
+  known_one : (d : Denoted) → Contains (denotations ByContext Es before) d → IsKnown os d
+  known_one d c = let from = map-in (denoted_of ByContext Es all) os d (contains-in (denotations ByContext Es before) d c) in subst (IsKnown os) (sym from.2) (known call move injective os all every zip_declared faithful from.0 from.1)
+
+  abbrev named_denoted : Denoted → Denoted
+  named_denoted d = recalled_denoted call move d
+
+  abbrev K : Table
+  K = table_in start before
+
+  one : (d e : Denoted) → Contains (denotations ByContext Es before) d → Contains (denotations ByContext Es before) e → named_denoted d ≡ named_denoted e → d ≡ e
+  one d e at there is = recalled-one call move injective os all every zip_declared faithful d e (known_one d at) (known_one e there) is
+
+  same-after : (d e : Denoted) → OfScope (InTable K) ([], refl) d → OfScope (InTable K) ([], refl) e → same_denoted (named_denoted d) (named_denoted e) ≡ true → named_denoted d ≡ named_denoted e
+  same-after (Bound s m) (Bound t n) at there is =
+      let parts = same-bound (moved move s) (moved move t) (recalled call m) (recalled call n) is in
+      let orders = orders-one move injective s t (ap scope_order (placed-same move s) ∙ parts.order ∙ sym (ap scope_order (placed-same move t))) in
+      let scopes = same-scopes K s t at there orders in
+      λ i. Bound (moved move (scopes i)) (parts.names i)
+  same-after (Bound s m) (Global y) at there is = absurd cc
+  same-after (Global x) (Bound t n) at there is = absurd cc
+  same-after (Global x) (Global y) at there is = same-is K (Global x) (Global y) tt tt is
+
+  -- KEYWORDS: what is denoted becomes what corresponds
+  pub becoming_recalled : Becoming ByContext before ByContext after
+  becoming_recalled = record {
+    becomes = named_denoted;
+    move = move;
+    stands = stands-recalled call move os (occurrences after) zipped;
+    are = map-zip_in os (occurrences after) (λ o at. at) zipped ∙ sym (map-twice named_denoted (denoted_of ByContext Es all) os);
+    bindings = λ scope name. (recalled call name, ap (λ s. Bound s (recalled call name)) (sym (placed-same move scope)));
+    globals = λ x. refl;
+    one = one;
+    same = λ d e at there. same_bool (same_denoted d e) (same_denoted (named_denoted d) (named_denoted e))
+        (λ is. ap (λ x. same_denoted (named_denoted d) (named_denoted x)) (sym (same-is K d e (in-table ByContext before d at) (in-table ByContext before e there) is)) ∙ same-self (named_denoted d))
+        (λ is. ap (same_denoted d) (sym (one d e at there (same-after d e (in-table ByContext before d at) (in-table ByContext before e there) is))) ∙ same-self d);
+  }
+
+  -- what an identifier declares is so still
+  pub recalled-written : (scope : Scope) (name : Name) → is_some name.ctxt ≡ true → is_some (becoming_recalled.bindings scope name).0.ctxt ≡ true
+  unfolding becoming_recalled
+  recalled-written scope name written = by_context name.ctxt written
+    where
+      by_context : (c : Option ℕ) → is_some c ≡ true → is_some (recalled_as call name c).ctxt ≡ true
+      by_context None e = absurd (false≢true e)
+      by_context (Some c) e = refl

@@ -1,0 +1,121 @@
+-- Renaming of keywords keeps the merged bundle: its contexts, and what its bindings are called.
+use Rattle.std.proofs.Common.{◌≡◌, ℕ, zero, suc, List, [], ◌∷◌, Some, map, slice_get, refl, ap, sym, ◌∙◌, subst}
+use Rattle.std.specs.Prelude.{Contains}
+use Rattle.std.specs.List.{AllZip}
+use Rattle.std.proofs.lemmas.Option.{none-some, same_Some}
+use Rattle.bundle_tree_piece.specs.Item.{Item}
+use Rattle.bundle_rules.specs.Places.{Occurrence, occurrences}
+use Rattle.bundle_rules.specs.Scopes.{Es}
+use Rattle.bundle_rules.specs.Declarations.{ByContext, declared}
+use Rattle.bundle_rules.specs.Denotes.{Bound, IsResolved}
+use Rattle.bundle_rules.specs.Keywords.{keyword_free}
+use Rattle.bundle_rules.specs.Idents.{idents}
+use Rattle.bundle_rules.specs.Renamed.{HasNamesOnly, IsRidOfKeywords}
+use Rattle.bundle_rules.specs.Statements.{TopItem, top_items, placed}
+use Rattle.bundle_rules.specs.Program.{Program}
+use Rattle.bundle_rules.specs.Linking.{Declared as IsDeclared}
+use Rattle.bundle_rules.specs.Meaning.{Of, Labelling, IsOneToOne, own_view}
+use Rattle.bundle_rules.specs.Bundle.{Cause, Hooks, AsModule, labelled, Pairing, IsLaidOut}
+use Rattle.bundle_rules.specs.Symbols.{item_symbols, inner_symbols, AreCalled}
+use Rattle.bundle_rules.specs.Merged.{HasContexts, BindsOwn, IsMerged}
+use Rattle.bundle_merge_meaning.specs.noted.Agrees.{IsListing}
+use Rattle.bundle_merge_joined.specs.joined.Joined.{joined, AllOf}
+use Rattle.bundle_merge_joined.specs.joined.Picked.{IsSingle}
+use Rattle.bundle_merge_joined.proofs.joined.TopItems.{top_items-joined}
+use Rattle.bundle_scope_renamed.proofs.kept.Lists.{map-twice}
+use Rattle.bundle_scope_renamed.proofs.kept.Named.{ArePlain}
+use Rattle.bundle_scope_renamed.proofs.kept.Recalled.{Calling, IsFaithful}
+use Rattle.bundle_scope_renamed.proofs.kept.Faithful.{faithful-names}
+use Rattle.bundle_merge_whole.specs.composed.Noted.{Noted, BundleAgrees, IsNotedBundle, pairing_of}
+use Rattle.bundle_merge_whole.specs.composed.Becoming.{Becoming, AllOccur, labels_of}
+use Rattle.bundle_merge_whole.proofs.composed.Remade.{AllOfForm, AllRemade}
+use Rattle.bundle_merge_whole.proofs.finished.Recalled.{becoming_recalled, written}
+use Rattle.bundle_merge_whole.proofs.composed.Naming.{OneNode, IsStillNoted}
+use Rattle.bundle_merge_whole.proofs.finished.Naming.{still-noted, still-labels, still-items, all-turned}
+use Rattle.bundle_merge_whole.proofs.composed.Called.{symbol-becomes, outer-becomes, contexts-become, globals-become}
+use Rattle.bundle_merge_whole.specs.finished.Kept.{CommonJsCalled}
+use Rattle.bundle_merge_whole.proofs.finished.Items.{BothCalled, all-called}
+
+-- zipped lists at one place
+zip-at : {A B : Type 0} (R : A → B → Type 0) (xs : List A) (ys : List B) → AllZip R xs ys → (i : ℕ) (y : B) → slice_get ys i ≡ Some y → (x : A) × (slice_get xs i ≡ Some x) × R x y
+zip-at R xs [] all i y at = absurd (none-some y at)
+zip-at R [] (b ∷ ys) all i y at = absurd all
+zip-at R (a ∷ xs) (b ∷ ys) all zero y at = (a, refl, subst (R a) (same_Some b y at) all.0)
+zip-at R (a ∷ xs) (b ∷ ys) all (suc i) y at = zip-at R xs ys all.1 i y at
+
+module _ (p : Program) (hooks : Hooks) (plan : List Cause) (items : List (List Item)) (noted : List Noted) (labels : Labelling) (made : List (List Item)) (others : List Noted) (call : Calling) (local : ℕ → ℕ)
+    (bundle : IsNotedBundle p hooks items noted plan) (forms : AllOfForm items noted) (count : AllZip OneNode items noted) (one : IsOneToOne labels) (occur : AllOccur ByContext (joined items) labels) (agrees : BundleAgrees ByContext labels items noted)
+    (remade : AllRemade noted made others) (listing : IsListing (joined made))
+    (resolved : IsResolved Es (joined items)) (names : HasNamesOnly (joined items)) (plain : ArePlain (joined items)) (rid : IsRidOfKeywords (joined items) (joined made)) (calls : idents (joined made) ≡ map (λ (o : Occurrence). call o.sym o.ctxt) (occurrences (joined items))) (faithful : IsFaithful call (occurrences (joined items)) (declared ByContext Es (joined items))) where
+  abbrev b : Becoming ByContext (joined items) ByContext (joined made)
+  b = becoming_recalled call (joined items) (joined made) names plain faithful rid.same calls
+
+  abbrev pub its_still : IsStillNoted p hooks plan ByContext (joined made)
+  its_still = still-noted p hooks plan ByContext ByContext items noted labels (joined made) bundle forms count one occur agrees b (record { items = made; others = others; is = refl; remade = remade }) listing
+
+  labels-are : its_still.labels ≡ labels_of b.becomes labels
+  labels-are = still-labels p hooks plan ByContext ByContext items noted labels made others bundle forms count one occur agrees b remade listing
+
+  pub items-are : its_still.items ≡ made
+  items-are = still-items p hooks plan ByContext ByContext items noted labels made others bundle forms count one occur agrees b remade listing
+
+  abbrev first : Pairing
+  first = pairing_of labels items plan
+
+  abbrev second : Pairing
+  second = pairing_of its_still.labels its_still.items plan
+
+  its-single : AllOf IsSingle made
+  its-single = subst (AllOf IsSingle) items-are its_still.bundle.single
+
+  both : AllZip (BothCalled ByContext ByContext items made b labels keyword_free (symbol-becomes (joined items) (joined made) resolved names rid b)) (placed 1 items) (placed 1 made)
+  both = all-called ByContext ByContext items made b labels keyword_free (symbol-becomes (joined items) (joined made) resolved names rid b) noted others (all-turned items noted made others forms remade)
+
+  -- what an item was, and what it is called
+  record Was (n : ℕ) (item : TopItem) : Type 0 where
+    top : TopItem
+    there : slice_get (top_items (joined items)) n ≡ Some top
+    called : item_symbols (labelled (joined made) ByContext second) item ≡ map keyword_free (item_symbols (labelled (joined items) ByContext first) top)
+
+  was : (n : ℕ) (item : TopItem) → slice_get (top_items (joined its_still.items)) n ≡ Some item → Was n item
+  was n item at =
+      let here = ap (λ l. slice_get l n) (sym (top_items-joined made its-single)) ∙ ap (λ l. slice_get (top_items (joined l)) n) (sym items-are) ∙ at in
+      let found = zip-at (BothCalled ByContext ByContext items made b labels keyword_free (symbol-becomes (joined items) (joined made) resolved names rid b)) (placed 1 items) (placed 1 made) both n item here in
+      record { top = found.0; there = ap (λ l. slice_get l n) (top_items-joined items bundle.single) ∙ found.1; called = found.2 }
+
+  -- CONTEXTS
+  pub contexts-again : AreCalled (λ x. x) p hooks (labelled (joined items) ByContext first) first → HasContexts local (labelled (joined items) ByContext first) → HasContexts local (labelled (joined made) ByContext second)
+  contexts-again called contexts = record {
+    declared = λ scope name m x c kept. contexts-become (joined items) (joined made) resolved names rid b (written call (joined items) (joined made) names plain faithful rid.same calls) labels occur local (λ s n k y c. called.outer s n (Of (IsDeclared k y)) c) contexts.declared scope name m x (subst (λ l. Contains l (Bound scope name, Of (IsDeclared m x))) labels-are c) kept;
+    globals = globals-become (joined items) (joined made) resolved names rid b contexts.globals;
+  }
+
+  -- CALLED
+  pub called-again : AreCalled (λ x. x) p hooks (labelled (joined items) ByContext first) first → CommonJsCalled p (joined made) second → AreCalled keyword_free p hooks (labelled (joined made) ByContext second) second
+  called-again called common = record {
+    list = called.list;
+    is_list = called.is_list;
+    outer = λ scope name l c. outer-becomes (joined items) (joined made) resolved names rid b labels occur p called.list called.outer scope name l (subst (λ ls. Contains ls (Bound scope name, l)) labels-are c);
+    own = λ m k item statement stands at.
+        let it = was stands.at item stands.item_there in
+        it.called ∙ ap (map keyword_free) (called.own m k it.top statement (record { at = stands.at; cause_there = stands.cause_there; item_there = it.there }) at) ∙ map-twice keyword_free (λ x. x) (inner_symbols (own_view p m Es) 0 statement);
+    common_js = common;
+    helper = λ item stands.
+        let it = was stands.at item stands.item_there in
+        it.called ∙ ap (map keyword_free) (called.helper it.top (record { at = stands.at; cause_there = stands.cause_there; item_there = it.there }));
+    metas = λ m item stands.
+        let it = was stands.at item stands.item_there in
+        let meta = called.metas m it.top (record { at = stands.at; cause_there = stands.cause_there; item_there = it.there }) in
+        record { properties = meta.properties; held = meta.held; alike = it.called ∙ ap (map keyword_free) meta.alike ∙ map-twice keyword_free (λ x. x) _ };
+  }
+
+  -- THE MERGED BUNDLE without keywords
+  pub merged-again : AreCalled (λ x. x) p hooks (labelled (joined items) ByContext first) first → HasContexts local (labelled (joined items) ByContext first) → IsLaidOut p AsModule ByContext (joined made) second → CommonJsCalled p (joined made) second → BindsOwn (joined made) → IsMerged keyword_free local p hooks (joined made)
+  merged-again called contexts laid common own = record {
+    is_bundle = record { pairing = second; paired = its_still.paired; laid_out = laid };
+    resolved = rid.free.resolved;
+    named = faithful-names call (joined items) (joined made) names plain faithful rid.same calls;
+    contexts = contexts-again called contexts;
+    binds = own;
+    called = called-again called common;
+  }

@@ -1,0 +1,40 @@
+-- The end of a bundle in the form of a module: what is owed of it, and what has to be known of the merged tree.
+use Rattle.std.specs.Prelude.{◌≡◌, true, None, List, map}
+use Rattle.bundle_tree_piece.specs.Item.{Item}
+use Rattle.bundle_rules.specs.Places.{Occurrence, occurrences}
+use Rattle.bundle_rules.specs.Scopes.{Es}
+use Rattle.bundle_rules.specs.Declarations.{BySymbol, ByContext, Declared, declared}
+use Rattle.bundle_rules.specs.Doubled.{first_doubled}
+use Rattle.bundle_rules.specs.Renaming.{Numbering}
+use Rattle.bundle_rules.specs.Cleared.{cleared}
+use Rattle.bundle_rules.specs.Idents.{Ident}
+use Rattle.bundle_rules.specs.Rebuilds.{with_idents}
+use Rattle.bundle_rules.specs.Renamed.{IsRidOfKeywords, IsNamed}
+use Rattle.bundle_rules.specs.Program.{Program}
+use Rattle.bundle_rules.specs.Bundle.{Cause, Hooks, AsModule, IsBundle}
+use Rattle.bundle_scope_renamed.proofs.kept.Lists.{IsIn}
+use Rattle.bundle_scope_renamed.proofs.kept.Recalled.{Calling}
+use Rattle.bundle_scope_renamed.proofs.kept.Transfer.{named_right_by}
+use Rattle.bundle_merge_whole.proofs.composed.Chain.{IsWholeBundle}
+use Rattle.bundle_merge_whole.specs.finished.Numbers.{named_symbol}
+
+-- the identifiers of the named tree, by the numbers of the merged one
+abbrev pub named_idents : Calling → List Item → Numbering → List Ident
+named_idents call tree numbers = map (λ (o : Occurrence). (named_symbol call tree numbers o, 0)) (occurrences tree)
+
+-- the named tree, made in one go
+abbrev pub named_at_once : Calling → List Item → Numbering → List Item
+named_at_once call tree numbers = cleared (with_idents tree (named_idents call tree numbers))
+
+-- the numbers are right by the symbols that bindings have without keywords
+abbrev pub AreRightNumbers : Calling → List Item → Numbering → Type 0
+AreRightNumbers call tree numbers = (d : Declared) → IsIn (declared ByContext Es tree) d → named_right_by numbers call (declared ByContext Es tree) (occurrences tree) d ≡ true
+
+-- a merged bundle, without keywords, and named
+pub record IsFinished (p : Program) (hooks : Hooks) (plan : List Cause) (merged free named : List Item) : Type 0 where
+  pub rid : IsRidOfKeywords merged free
+  pub whole : IsWholeBundle p hooks plan free
+  pub names : IsNamed free named
+  pub clean : named ≡ cleared named
+  pub is_bundle : IsBundle p hooks AsModule BySymbol named
+  pub undoubled : first_doubled Es named ≡ None

@@ -1,0 +1,2 @@
+pub mod kept
+pub mod numbered
