@@ -23,10 +23,12 @@ use Rattle.bundle_tree_places.specs.Edits as edits
 use Rattle.bundle_merge_meaning.specs.noted.Nested as nested
 use Rattle.bundle_merge_meaning.specs.noted.Nested.{HasParts}
 use Rattle.bundle_merge_meaning.specs.noted.Agrees.{IsClear, IsReplacedAround, StandsAlone, StandsForReads, StandsForCall}
-use Rattle.bundle_merge_meaning.proofs.noted.ListFacts.{none-there, first-there, later-there, get-drop, get-front, get-behind, split}
-use Rattle.bundle_merge_meaning.proofs.noted.Shapes.{IsReads, base, read, nodes_in_reads, IsLiteralCall, literal_call, literal_call_nodes, same_nodes, tail_same}
-use Rattle.bundle_merge_meaning.proofs.noted.NodePaths.{fold-place, NameAt, here, past_name, past_hole, within, behind, name-within, IsName, name-at, Holds, Opened, around-name}
-use Rattle.bundle_merge_meaning.proofs.noted.StaticReads.{plain_nodes}
+use Rattle.bundle_merge_meaning.proofs.noted.ListFacts.{none-there, first-there, later-there, get-front, get-behind, split}
+use Rattle.bundle_merge_meaning.proofs.noted.Shapes.{IsReads, base, read, nodes_in_reads, IsLiteralCall, literal_call_nodes, same_nodes, tail_same}
+use Rattle.bundle_merge_meaning.proofs.noted.Spots.{fold-place}
+use Rattle.bundle_merge_meaning.proofs.noted.NodePaths.{NameAt, here, past_name, past_hole, within, behind, name-within, IsName, name-at, Holds, Opened, around-name}
+use Rattle.bundle_tree_places.proofs.ListLemmas.{slice_get-drop}
+use Rattle.bundle_merge_meaning.proofs.noted.StaticReads.{plain_nodes, get-drop}
 use Rattle.bundle_merge_meaning.proofs.noted.Replaces.{chain_of, read_node, required_there, linked_there, meta_head}
 
 -- ---- nodes one in the other begin one behind the other
@@ -149,7 +151,7 @@ module _ (pr : Program) (m : ℕ) (nodes : nested.AreNodes (tree_of pr m)) where
     opens its = get-at node.begins ∙ ap (λ l. slice_get l 0) its.at
       where
         get-at : (b : ℕ) → slice_get (tree_of pr m) b ≡ slice_get (drop b (tree_of pr m)) 0
-        get-at b = let e : b ≡ b + 0 = omega arith in ap (slice_get (tree_of pr m)) e ∙ get-drop (tree_of pr m) b 0
+        get-at b = get-drop (tree_of pr m) b
 
     by_static : (t : Target) (x : Text) → read_word (tree_of pr m) node.begins ≡ Some x → ReadsAs pr m node.begins t → (its : Holds (tree_of pr m) place (path_at (tree_of pr m) place) node) → Replaces place node.begins (ByName (Of t))
     by_static t x word reads its =
@@ -230,8 +232,7 @@ module _ (pr : Program) (m : ℕ) (nodes : nested.AreNodes (tree_of pr m)) where
   pub call_head : {begins l : ℕ} → Replaced pr m begins (ByCall (Load l)) → (f : ℕ) × (slice_get (tree_of pr m) begins ≡ Some (h.Open f h.CallExpr))
   call_head {begins = begins} (require_call call listed same_place resolved) =
       let found = required_there (drop begins (tree_of pr m)) call.specifier (ap (λ n. required_at (drop n (tree_of pr m))) (sym same_place) ∙ linked_there pr.settings (is_free (tree_of pr m)) (tree_of pr m) call listed) in
-      let e : begins ≡ begins + 0 = omega arith in
-      (found.field, ap (slice_get (tree_of pr m)) e ∙ get-drop (tree_of pr m) begins 0 ∙ ap (λ l. slice_get l 0) found.is)
+      (found.field, get-drop (tree_of pr m) begins ∙ ap (λ l. slice_get l 0) found.is)
 
   -- ---- notes
   split_path : (path : List Around) (node : Around) → Contains path node → (inner : List Around) × (outer : List Around) × (path ≡ inner ++ node ∷ outer)
@@ -316,7 +317,7 @@ module _ (pr : Program) (m : ℕ) (nodes : nested.AreNodes (tree_of pr m)) where
           let far = called in
           let member = member_before reads rest (node.begins - other.begins) (omega (arith, less, e, far)) in
           let call = call_head is in
-          differ member.0 call.0 (sym member.1 ∙ ap (λ l. slice_get l (node.begins - other.begins)) (sym at) ∙ sym (get-drop (tree_of pr m) other.begins (node.begins - other.begins)) ∙ ap (slice_get (tree_of pr m)) between ∙ call.1)
+          differ member.0 call.0 (sym member.1 ∙ ap (λ l. slice_get l (node.begins - other.begins)) (sym at) ∙ slice_get-drop other.begins (tree_of pr m) (node.begins - other.begins) ∙ ap (slice_get (tree_of pr m)) between ∙ call.1)
       not_further other less (by_call_of e) = let far = called in omega (arith, e, far, less)
 
       none : (other : Around) → Contains (path_at (tree_of pr m) o.place) other → other.begins < node.begins → (by : Replacement) → Replaced pr m other.begins by → ⊥

@@ -3,7 +3,7 @@ use Rattle.std.proofs.Common.{◌≡◌, ℕ, suc, ◌+◌, false, cond, List, [
 use Rattle.std.specs.Prelude.{filter_map, slice_get, option_and_then}
 use Rattle.std.specs.List.{cons_option}
 use Rattle.bundle_tree_piece.specs.Item as h
-use Rattle.bundle_tree_piece.specs.Item.{Item, Head}
+use Rattle.bundle_tree_piece.specs.Item.{Item}
 use Rattle.bundle_rules.specs.Places.{Spot, Occurrence, past, occurrence_of, occurrence_at, occurrences_from}
 use Rattle.bundle_rules.specs.Declarations.{declared}
 use Rattle.bundle_rules.specs.Denotes.{Denoted, Bound, denoted_of, denoted_at}
@@ -20,8 +20,8 @@ use Rattle.bundle_merge_meaning.proofs.noted.Spots.{spot-in, at-past, at-get, at
 use Rattle.bundle_merge_meaning.proofs.noted.Names.{at_in_node, occurrences_node}
 use Rattle.bundle_merge_meaning.proofs.noted.Statements.{last_off, itself_stated, one_statement}
 
-pub at-occurrence : {tree : List Item} {s : Spot} (x : Item) (rest : List Item) → IsAt tree s (x ∷ rest) → occurrence_at tree s.place ≡ occurrence_of s x
-at-occurrence {tree = tree} {s = s} x rest at =
+pub occurrence_there : {tree : List Item} {s : Spot} {x : Item} {rest : List Item} → IsAt tree s (x ∷ rest) → occurrence_at tree s.place ≡ occurrence_of s x
+occurrence_there {tree = tree} {s = s} {x = x} at =
     ap (λ t. option_and_then (occurrence_of t) (slice_get tree s.place)) (at-spot at)
     ∙ ap (option_and_then (occurrence_of s)) (at-get at s.place 0 (omega arith))
 
@@ -38,7 +38,7 @@ denoted_elements view s [] tail at = refl
 denoted_elements view s (x ∷ items) tail at =
     let next : suc s.place ≡ s.place + 1 = omega arith in
     ap₂ cons_option
-    (ap (option_map (denotes view)) (at-occurrence x (items ++ tail) at))
+    (ap (option_map (denotes view)) (occurrence_there at))
     (ap (λ p. filter_map (denoted view) (taken_from p items)) next ∙ denoted_elements view (past s x) items tail (at-past x (items ++ tail) at))
     ∙ sym (map-cons (denotes view) (occurrence_of s x) (occurrences_from (past s x) items))
 

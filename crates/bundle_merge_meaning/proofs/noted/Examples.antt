@@ -2,8 +2,7 @@
 use Rattle.std.proofs.Common.{◌≡◌, ℕ, zero, suc, Bool, true, false, List, [], ◌∷◌, ◌++◌, Some, None, refl, sym, ap, ◌∙◌, subst, arith, lit<, true≢false}
 use Rattle.std.specs.Prelude.{codes, Contains, slice_get}
 use Rattle.std.proofs.lemmas.Option.{none-some, same_Some}
-use Rattle.bundle_tree_leaf.specs.declared.operator.AssignOp.TheVariants.{Assign}
-use Rattle.bundle_tree_piece.specs.declared.piece.Role.TheVariants.{Binding, Reference, Word}
+use Rattle.bundle_tree_piece.specs.declared.piece.Role.TheVariants.{Binding, Reference}
 use Rattle.bundle_tree_piece.specs.Item as h
 use Rattle.bundle_tree_piece.specs.Item.{Item}
 use Rattle.bundle_rules.specs.Places.{Occurrence, path_at, occurrences_from, spot_before}
@@ -18,12 +17,12 @@ use Rattle.bundle_rules.specs.Meaning.{Replacement, Of, Known, Unbound, plain as
 use Rattle.bundle_rules.specs.Entries.{is_import_meta}
 use Rattle.bundle_tree_leaf.specs.declared.kind.MetaPropKind.TheVariants.{ImportMeta}
 use Rattle.bundle_rules.specs.Reads.{read_word}
-use Rattle.bundle_rules.proofs.Trees.{module_of, imports_all, calls, uses, member, node}
+use Rattle.bundle_rules.proofs.Trees.{imports_all, calls, uses, member, node}
 use Rattle.bundle_rules.proofs.LinkingExamples.{x, plain, es_plain, x_is_linked}
 use Rattle.bundle_merge_meaning.specs.noted.Nested as nested
 use Rattle.bundle_tree_places.specs.Edits.{Anywhere}
 use Rattle.bundle_merge_meaning.specs.noted.Listed as listed
-use Rattle.bundle_merge_meaning.specs.noted.Marked.{Note, Alone, Reads, are_reads, Joined, Name, Inside, OfReads}
+use Rattle.bundle_merge_meaning.specs.noted.Marked.{Note, Alone, Reads, Joined, Name, Inside, OfReads}
 use Rattle.bundle_merge_meaning.specs.noted.Agrees.{IsListing, Agrees, AgreeInTurn, ReplacesNotable}
 use Rattle.bundle_merge_meaning.specs.noted.Stated.{MarkedStated, Itself}
 use Rattle.bundle_merge_meaning.specs.noted.Uses.{done, on, WordsMean}

@@ -4,7 +4,7 @@ use Rattle.std.specs.Prelude.{Contains, fold, slice_get}
 use Rattle.std.specs.List.{cons_option}
 use Rattle.std.proofs.lemmas.Option.{none-some, same_Some}
 use Rattle.bundle_tree_piece.specs.Item as h
-use Rattle.bundle_tree_piece.specs.Item.{Item, Head}
+use Rattle.bundle_tree_piece.specs.Item.{Item}
 use Rattle.bundle_rules.specs.Places.{Spot, Occurrence, past, start, path_at, occurrence_of, occurrence_at, occurrences_from, occurrences}
 use Rattle.bundle_rules.specs.Denotes.{Denoted}
 use Rattle.bundle_rules.specs.Program.{Program, tree_of}
@@ -15,7 +15,7 @@ use Rattle.bundle_merge_meaning.specs.noted.Marked.{Note}
 use Rattle.bundle_merge_meaning.specs.noted.Agrees.{IsAt, Agrees, AgreeInTurn, StandsForCall}
 use Rattle.bundle_merge_meaning.proofs.noted.Spots.{at-past}
 use Rattle.bundle_merge_meaning.proofs.noted.Names.{occurrences_append}
-use Rattle.bundle_merge_meaning.proofs.noted.Denoted.{at-occurrence}
+use Rattle.bundle_merge_meaning.proofs.noted.Denoted.{occurrence_there}
 use Rattle.bundle_merge_meaning.proofs.noted.ListFacts.{first-there}
 use Rattle.bundle_merge_meaning.proofs.noted.Agreements.{IsThere, call_head, agrees_call}
 use Rattle.bundle_merge_meaning.proofs.noted.UsesAgree.{path_next}
@@ -37,7 +37,7 @@ in_turn sense inner (o ∷ os) (note ∷ notes) each = (first (each 0 o refl), i
 -- an occurrence of a part stands in the tree
 pub occurrence_in : {tree : List Item} (items tail : List Item) (s : Spot) → IsAt tree s (items ++ tail) → (i : ℕ) (o : Occurrence) → slice_get (occurrences_from s items) i ≡ Some o → (place : ℕ) × (occurrence_at tree place ≡ Some o)
 occurrence_in [] tail s at i o e = absurd (none-some o e)
-occurrence_in {tree = tree} (x ∷ items) tail s at i o e = by (occurrence_of s x) (at-occurrence x (items ++ tail) at) i e (occurrence_in items tail (past s x) (at-past x (items ++ tail) at))
+occurrence_in {tree = tree} (x ∷ items) tail s at i o e = by (occurrence_of s x) (occurrence_there at) i e (occurrence_in items tail (past s x) (at-past x (items ++ tail) at))
   where
     by : (one : Option Occurrence) → occurrence_at tree s.place ≡ one → (i : ℕ) → slice_get (cons_option one (occurrences_from (past s x) items)) i ≡ Some o → ((i : ℕ) (p : Occurrence) → slice_get (occurrences_from (past s x) items) i ≡ Some p → (place : ℕ) × (occurrence_at tree place ≡ Some p)) → (place : ℕ) × (occurrence_at tree place ≡ Some o)
     by None is i e more = more i o e

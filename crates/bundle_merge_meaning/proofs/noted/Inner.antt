@@ -150,12 +150,12 @@ each-once : (P : Denoted → Type 0) (ds : List Denoted) → Each P ds → Each 
 each-once P [] each = tt
 each-once P (d ∷ ds) each = (each.0, each-filter P (λ other. not (same_denoted d other)) (each_denoted_once ds) (each-once P ds each.1))
 
--- a binding outside a statement has no number in it
-pub outside-position : (view : View) (start : ℕ) (statement : List Element) (d : Denoted) → is_inside start d ≡ false → position (same_denoted d) (inner_bindings view start statement) ≡ None
-outside-position view start statement d out =
-    position-none (same_denoted d) (inner_bindings view start statement)
-    (each-once (λ e. same_denoted d e ≡ false) (filter (is_inside start) (filter_map (denoted view) statement))
-    (each-map (λ e. is_inside start e ≡ true) (λ e. same_denoted d e ≡ false) (filter (is_inside start) (filter_map (denoted view) statement)) differs (each-passes (is_inside start) (filter_map (denoted view) statement))))
+-- what is outside has no number among what is inside
+pub position-outside : (start : ℕ) (d : Denoted) (ds : List Denoted) → is_inside start d ≡ false → position (same_denoted d) (each_denoted_once (filter (is_inside start) ds)) ≡ None
+position-outside start d ds out =
+    position-none (same_denoted d) (each_denoted_once (filter (is_inside start) ds))
+    (each-once (λ e. same_denoted d e ≡ false) (filter (is_inside start) ds)
+    (each-map (λ e. is_inside start e ≡ true) (λ e. same_denoted d e ≡ false) (filter (is_inside start) ds) differs (each-passes (is_inside start) ds)))
   where
     differs : (e : Denoted) → is_inside start e ≡ true → same_denoted d e ≡ false
     differs e is = by (same_denoted d e) refl
@@ -163,6 +163,10 @@ outside-position view start statement d out =
         by : (b : Bool) → same_denoted d e ≡ b → same_denoted d e ≡ false
         by false same = same
         by true same = absurd (true≢false (sym (inside_same start d e (to_same d e same) is) ∙ out))
+
+-- so a binding outside a statement has none in it
+pub outside-position : (view : View) (start : ℕ) (statement : List Element) (d : Denoted) → is_inside start d ≡ false → position (same_denoted d) (inner_bindings view start statement) ≡ None
+outside-position view start statement d out = position-outside start d (filter_map (denoted view) statement) out
 
 -- ---- what is inside has a number
 any-filter : (d e : Denoted) (ds : List Denoted) → list_any (same_denoted d) ds ≡ true → same_denoted e d ≡ false → list_any (same_denoted d) (filter (λ other. not (same_denoted e other)) ds) ≡ true

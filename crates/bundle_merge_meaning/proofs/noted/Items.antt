@@ -4,7 +4,7 @@ use Rattle.std.specs.Prelude.{Contains}
 use Rattle.std.proofs.lemmas.Bool.{false≢true}
 use Rattle.std.proofs.lemmas.Option.{none-some}
 use Rattle.bundle_tree_piece.specs.Item as h
-use Rattle.bundle_tree_piece.specs.Item.{Item, Head}
+use Rattle.bundle_tree_piece.specs.Item.{Item}
 use Rattle.bundle_rules.specs.Places.{Around, Occurrence, start, in_field as field_in, spot_before, occurrences_from}
 use Rattle.bundle_rules.specs.Scopes.{ModuleKind, Top}
 use Rattle.bundle_rules.specs.Denotes.{Denoted, Bound}
@@ -33,7 +33,7 @@ not_in_short tree [] field short = tt
 not_in_short tree (node ∷ outer) field short = λ is. absurd (false≢true (sym short ∙ is))
 
 -- where none around it is an object literal or a shorthand property, nor replaced
-stands_there : (sense : Sense) {path : List Around} {item : TopItem} (its : StandsThere sense.view.tree path item) → is_object_around path ≡ false → is_in_short path ≡ false → IsClear sense.replaced path → Stands sense Anywhere its.s
+pub stands_there : (sense : Sense) {path : List Around} {item : TopItem} (its : StandsThere sense.view.tree path item) → is_object_around path ≡ false → is_in_short path ≡ false → IsClear sense.replaced path → Stands sense Anywhere its.s
 stands_there sense {path = path} its object short clear = record {
   object = ap is_object_around its.path_is ∙ object-field its.field path ∙ object;
   default = subst (HasDefault sense.view.tree) (sym its.path_is) (not_in_short sense.view.tree path its.field short);
@@ -42,19 +42,19 @@ stands_there sense {path = path} its object short clear = record {
 
 -- ---- where nothing is replaced
 module _ (sense : Sense) (inner : List Denoted) (nothing : (place : ℕ) (by : Replacement) → sense.replaced place by → ⊥) where
-  all_clear : (path : List Around) → IsClear sense.replaced path
+  pub all_clear : (path : List Around) → IsClear sense.replaced path
   all_clear [] = tt
   all_clear (node ∷ outer) = (nothing node.begins, all_clear outer)
 
   agrees_alone : (o : Occurrence) (note : Note) → MeansAlone sense inner o note → Agrees sense inner o note.meant note.whole
   agrees_alone o note its = subst (λ whole. Agrees sense inner o note.meant whole) (sym its.alone) (record { d = its.d; denotes = its.denotes; means = its.means; clear = all_clear o.path })
 
-  all_agree : (os : List Occurrence) (notes : List Note) → EachMeans sense inner os notes → AgreeInTurn sense inner os notes
+  pub all_agree : (os : List Occurrence) (notes : List Note) → EachMeans sense inner os notes → AgreeInTurn sense inner os notes
   all_agree [] notes each = tt
   all_agree (o ∷ os) [] each = each
   all_agree (o ∷ os) (note ∷ notes) each = (agrees_alone o note each.0, all_agree os notes each.1)
 
-  none_notable : (meta : Option Meant) → meta ≡ None → ReplacesNotable sense meta
+  pub none_notable : (meta : Option Meant) → meta ≡ None → ReplacesNotable sense meta
   none_notable meta none = record {
     nodes = λ place field head by there clear is. absurd (nothing place by is);
     metas = λ place field meant there is. absurd (none-some meant (sym none ∙ is));

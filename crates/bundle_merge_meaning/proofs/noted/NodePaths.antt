@@ -5,12 +5,11 @@ use Rattle.std.proofs.lemmas.Option.{none-some}
 use Rattle.bundle_tree_piece.specs.declared.piece.Role.{Role}
 use Rattle.bundle_tree_piece.specs.Item as h
 use Rattle.bundle_tree_piece.specs.Item.{Item, Head}
-use Rattle.bundle_rules.specs.Places.{Around, Spot, in_field, outer_path, past, path_to_option}
+use Rattle.bundle_rules.specs.Places.{Around, Spot, in_field, past, path_to_option}
 use Rattle.bundle_merge_meaning.specs.noted.Nested.{AreNodes, nothing, name, hole, node, HasParts}
+use Rattle.bundle_merge_meaning.proofs.noted.Spots.{around, spot-in, spot-behind, path-behind, place-behind}
+use Rattle.bundle_merge_meaning.proofs.noted.StaticReads.{plain_nodes}
 use Rattle.bundle_merge_meaning.proofs.noted.ListFacts.{none-there, first-there, later-there, there-cases, drop-next, drop-past, get-front, get-behind, split}
-
-abbrev pub around : Head → ℕ → ℕ → Around
-around head begins field = record { head = head; begins = begins; field = field }
 
 -- what the item so many places behind a spot sees
 abbrev pub seen : Spot → List Item → ℕ → List Around
@@ -25,50 +24,6 @@ pub seen-behind : (s : Spot) (xs ys : List Item) (j k : ℕ) → j ≡ length xs
 seen-behind s [] ys j k e = let n : j ≡ k = omega arith in ap (seen s ys) n
 seen-behind s (x ∷ xs) ys zero k e = absurd (omega arith)
 seen-behind s (x ∷ xs) ys (suc j) k e = seen-behind (past s x) xs ys j k (omega arith)
-
--- ---- behind whole nodes the path is as before them, but for a field
-pub fold-append : (s : Spot) (xs ys : List Item) → fold past s (xs ++ ys) ≡ fold past (fold past s xs) ys
-fold-append s [] ys = refl
-fold-append s (x ∷ xs) ys = fold-append (past s x) xs ys
-
-pub fold-place : (s : Spot) (xs : List Item) → (fold past s xs).place ≡ s.place + length xs
-fold-place s [] = omega arith
-fold-place s (x ∷ xs) = let rest = fold-place (past s x) xs in omega (arith, rest)
-
-same-field : (path : List Around) → (f : ℕ) × (path ≡ in_field f path)
-same-field [] = (0, refl)
-same-field (top ∷ outer) = (top.field, refl)
-
-pub field-twice : (f g : ℕ) (path : List Around) → in_field f (in_field g path) ≡ in_field f path
-field-twice f g [] = refl
-field-twice f g (top ∷ outer) = refl
-
--- the spot in a node that begins, and the one behind it
-abbrev pub spot-in : Spot → ℕ → Head → Spot
-spot-in s field head = past s (h.Open field head)
-
-abbrev pub spot-behind : Spot → ℕ → Head → List Item → Spot
-spot-behind s field head inside = past (fold past (spot-in s field head) inside) h.Close
-
-pub fold-path : {xs : List Item} → AreNodes xs → (s : Spot) → (f : ℕ) × ((fold past s xs).path ≡ in_field f s.path)
-fold-path nothing s = same-field s.path
-fold-path (name {field = f} {ctxt = c} {sym = y} {role = r} are) s = fold-path are (past s (h.Ident f y c r))
-fold-path (hole {field = f} are) s = fold-path are (past s (h.Hole f))
-fold-path (node {field = f} {head = hd} {inside = ins} {rest = rest} in_it parts are) s =
-    let inner = fold-path in_it (spot-in s f hd) in
-    let more = fold-path are (spot-behind s f hd ins) in (
-      more.0,
-      ap (λ (t : Spot). t.path) (fold-append (spot-in s f hd) ins (h.Close ∷ rest))
-          ∙ more.1
-          ∙ ap (λ (l : List Around). in_field more.0 (outer_path l)) inner.1
-          ∙ field-twice more.0 f s.path,
-    )
-
-pub path-behind : {inside : List Item} → AreNodes inside → (s : Spot) (field : ℕ) (head : Head) → (spot-behind s field head inside).path ≡ in_field field s.path
-path-behind are s field head = ap outer_path (fold-path are (spot-in s field head)).1
-
-pub place-behind : (inside : List Item) (s : Spot) (field : ℕ) (head : Head) → (spot-behind s field head inside).place ≡ s.place + length inside + 2
-place-behind inside s field head = let n = fold-place (spot-in s field head) inside in omega (arith, n)
 
 -- ---- where names stand in whole nodes
 pub data NameAt : List Item → ℕ → Type 0 where
@@ -214,7 +169,7 @@ module _ (tree : List Item) where
       ]
       by (inr (l, holds)) = opened-as s.path s.path s.place (s.place + 1) (s.place + suc k) (s.place + 1 + k) (seen t (ins ++ h.Close ∷ rest) k) (seen t ins k) n (λ was. was) (omega arith) (omega arith) front (inr (l, holds))
   around-name (behind {field = f} {head = hd} {inside = ins} {rest = rest} {j = j} {k = k} are ej at) s ys e n c =
-      opened-as s.path t.path s.place t.place (s.place + suc j) (t.place + k) (seen s (h.Open f hd ∷ (ins ++ h.Close ∷ rest)) (suc j)) (seen t rest k) n (λ was. was-in_field f s.path n (subst (λ l. Was l n) (path-behind are s f hd) was)) (omega (arith, place)) (omega (arith, place, ej)) back (around-name at t ys (behind-node s f hd ins (rest ++ ys) whole) n (subst (λ l. Contains l n) back c))
+      opened-as s.path t.path s.place t.place (s.place + suc j) (t.place + k) (seen s (h.Open f hd ∷ (ins ++ h.Close ∷ rest)) (suc j)) (seen t rest k) n (λ was. was-in_field f s.path n (subst (λ l. Was l n) (path-behind (plain_nodes are) s f hd) was)) (omega (arith, place)) (omega (arith, place, ej)) back (around-name at t ys (behind-node s f hd ins (rest ++ ys) whole) n (subst (λ l. Contains l n) back c))
     where
       t : Spot
       t = spot-behind s f hd ins

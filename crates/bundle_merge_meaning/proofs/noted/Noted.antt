@@ -9,7 +9,6 @@ use Rattle.bundle_rules.specs.Places.{Around, Spot, Occurrence, in_field, occurr
 use Rattle.bundle_rules.specs.Denotes.{Denoted}
 use Rattle.bundle_rules.specs.Meaning.{Sense, Replacement, ByName, ByCall, Label, Meant}
 use Rattle.bundle_tree_places.specs.Edits as edits
-use Rattle.bundle_tree_places.specs.Edits.{is_occurrence}
 use Rattle.bundle_merge_meaning.specs.noted.Nodes as n
 use Rattle.bundle_merge_meaning.specs.noted.Nodes.{AreNodes}
 use Rattle.bundle_merge_meaning.specs.noted.Marked.{Whole, Alone, Reads, Call, Note, upcoming, are_reads, is_literal_call, meant_by_reads, meant_for_member, meant_by_call, meant_for_call, stays, keeps_first}

@@ -1,5 +1,5 @@
 -- What is replaced in a module is what notes can tell of: static reads around a name, literal calls, `import.meta`.
-use Rattle.std.proofs.Common.{◌≡◌, inl, inr, ℕ, zero, suc, ◌+◌, ◌==◌, Bool, true, false, cond, not, ◌||◌, ◌&&◌, List, [], ◌∷◌, ◌++◌, append_assoc, append-nil, filter, take, drop, Option, Some, None, refl, sym, ap, ◌∙◌, subst, arith}
+use Rattle.std.proofs.Common.{◌≡◌, inl, inr, ℕ, zero, suc, ◌+◌, Bool, true, false, cond, not, ◌||◌, ◌&&◌, List, [], ◌∷◌, ◌++◌, append_assoc, append-nil, filter, take, drop, Option, Some, None, refl, sym, ap, ◌∙◌, subst, arith}
 use Rattle.std.specs.Prelude.{if◌then◌else◌, Contains, slice_get, option_map, option_and_then}
 use Rattle.std.proofs.lemmas.Bool.{false≢true, true≢false, or_right}
 use Rattle.std.proofs.lemmas.Option.{none-some, same_Some}
@@ -26,21 +26,16 @@ use Rattle.bundle_tree_places.proofs.ListLemmas.{drop_at}
 use Rattle.bundle_merge_meaning.specs.noted.Nodes as n
 use Rattle.bundle_merge_meaning.specs.noted.Nodes.{AreNodes}
 use Rattle.bundle_merge_meaning.specs.noted.Nested as nested
-use Rattle.bundle_merge_meaning.specs.noted.Nested.{HasParts, AreTwo}
+use Rattle.bundle_merge_meaning.specs.noted.Nested.{HasParts}
 use Rattle.bundle_merge_meaning.specs.noted.Marked.{behind_word, behind_reads, is_end, are_reads, keeps_first}
 use Rattle.bundle_merge_meaning.specs.noted.Agrees.{IsAt, IsListing, IsNotable, by_reads, by_call, by_meta, IsNotedNode, ReplacesNotable}
 use Rattle.bundle_merge_meaning.proofs.noted.Shapes.{IsReads, base, read, join, one_node, reads_nodes, in_other_field, IsLiteralCall, literal_call_of, call_is_literal}
+use Rattle.bundle_merge_meaning.proofs.noted.ListFacts.{drop-next}
 use Rattle.bundle_merge_meaning.proofs.noted.Names.{role_in_node, role_in_call}
 use Rattle.bundle_merge_meaning.proofs.noted.Tops.{beside_node}
 use Rattle.bundle_merge_meaning.proofs.noted.StaticReads.{NodeThere, node_there, beside_one, IsMemberOf, IsReadThere, read_there, get-drop}
 
 -- ---- reads by their elements
-drop-next : {A : Type 0} (xs : List A) (b : ℕ) (x : A) (rest : List A) → drop b xs ≡ x ∷ rest → drop (suc b) xs ≡ rest
-drop-next [] zero x rest e = cc
-drop-next [] (suc b) x rest e = cc
-drop-next (y ∷ xs) zero x rest e = cc
-drop-next (y ∷ xs) (suc b) x rest e = drop-next xs b x rest e
-
 reads_back : {count : ℕ} {xs : List Item} → IsReads count r.Reference xs → (rest : List Item) → behind_reads count (xs ++ rest) ≡ Some rest
 reads_back base rest = refl
 reads_back (read {count = count} {object = object} second word it) rest =

@@ -13,7 +13,6 @@ use Rattle.bundle_rules.specs.Nodes.{Text}
 use Rattle.bundle_rules.specs.Statements.{Element, taken_from}
 use Rattle.bundle_rules.specs.Meaning.{Meant, Mark, past_end}
 use Rattle.bundle_tree_places.specs.Edits as edits
-use Rattle.bundle_tree_places.specs.Edits.{is_occurrence}
 use Rattle.bundle_merge_meaning.specs.noted.Nodes as n
 use Rattle.bundle_merge_meaning.specs.noted.Nodes.{AreNodes}
 use Rattle.bundle_merge_meaning.specs.noted.Marked.{Note, behind_word, behind_reads, is_end, are_reads, is_one_string, is_literal_call, Marked, Nothing, Joined, Hole, Word, Name, Inside, Kept, Shorthand, OfReads, OfCall, OfMeta}

@@ -1,5 +1,5 @@
 -- Spots of a tree, and what stands there.
-use Rattle.std.proofs.Common.{◌≡◌, ℕ, zero, suc, ◌+◌, List, [], ◌∷◌, ◌++◌, append_assoc, length, take, drop, refl, sym, ap, ◌∙◌, subst, arith}
+use Rattle.std.proofs.Common.{◌≡◌, ℕ, ◌+◌, List, [], ◌∷◌, ◌++◌, append_assoc, length, take, drop, refl, sym, ap, ◌∙◌, subst, arith}
 use Rattle.std.specs.Prelude.{fold, slice_get}
 use Rattle.std.proofs.Math.Seq.{take-append_seam, drop-append_seam}
 use Rattle.bundle_tree_piece.specs.Item as h
@@ -7,11 +7,12 @@ use Rattle.bundle_tree_piece.specs.Item.{Item, Head}
 use Rattle.bundle_rules.specs.Places.{Around, Spot, in_field, outer_path, past, start, spot_before, path_to_option, path_at}
 use Rattle.bundle_merge_meaning.specs.noted.Nodes.{AreNodes, nothing, name, hole, node}
 use Rattle.bundle_merge_meaning.specs.noted.Agrees.{IsAt}
+use Rattle.bundle_merge_meaning.proofs.noted.ListFacts.{get-behind}
 
 abbrev pub around : Head → ℕ → ℕ → Around
 around head begins field = record { head = head; begins = begins; field = field }
 
--- ---- behind whole nodes the path is as before them, but for a field (as in bundle_nodes, NodePaths)
+-- ---- behind whole nodes the path is as before them, but for a field
 pub fold-append : (s : Spot) (xs ys : List Item) → fold past s (xs ++ ys) ≡ fold past (fold past s xs) ys
 fold-append s [] ys = refl
 fold-append s (x ∷ xs) ys = fold-append (past s x) xs ys
@@ -20,7 +21,7 @@ pub fold-place : (s : Spot) (xs : List Item) → (fold past s xs).place ≡ s.pl
 fold-place s [] = omega arith
 fold-place s (x ∷ xs) = let rest = fold-place (past s x) xs in omega (arith, rest)
 
-same-field : (path : List Around) → (f : ℕ) × (path ≡ in_field f path)
+pub same-field : (path : List Around) → (f : ℕ) × (path ≡ in_field f path)
 same-field [] = (0, refl)
 same-field (top ∷ outer) = (top.field, refl)
 
@@ -56,11 +57,6 @@ pub place-behind : (inside : List Item) (s : Spot) (field : ℕ) (head : Head) �
 place-behind inside s field head = let n = fold-place (spot-in s field head) inside in omega (arith, n)
 
 -- ---- what stands at a spot
-pub get-behind : {A : Type 0} (xs ys : List A) (j k : ℕ) → j ≡ length xs + k → slice_get (xs ++ ys) j ≡ slice_get ys k
-get-behind [] ys j k e = let n : j ≡ k = omega arith in ap (slice_get ys) n
-get-behind (x ∷ xs) ys zero k e = absurd (omega arith)
-get-behind (x ∷ xs) ys (suc j) k e = get-behind xs ys j k (omega arith)
-
 pub at-first : (tree : List Item) → IsAt tree start tree
 at-first tree = record { front = []; tree_is = refl; spot_is = refl }
 

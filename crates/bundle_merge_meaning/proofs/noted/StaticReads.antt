@@ -14,6 +14,7 @@ use Rattle.bundle_merge_meaning.specs.noted.Nodes as n
 use Rattle.bundle_merge_meaning.specs.noted.Nodes.{AreNodes}
 use Rattle.bundle_merge_meaning.specs.noted.Nested as nested
 use Rattle.bundle_merge_meaning.specs.noted.Nested.{HasParts, AreTwo}
+use Rattle.bundle_merge_meaning.proofs.noted.ListFacts.{get-front, get-behind, split}
 use Rattle.bundle_merge_meaning.proofs.noted.Tops.{beside_node}
 
 -- ---- nodes
@@ -31,25 +32,10 @@ pub record NodeThere (xs : List Item) (place field : ℕ) (head : Head) : Type 0
   pub nodes : nested.AreNodes inside
   pub parts : HasParts head inside
 
-get-front : {A : Type 0} (xs ys : List A) (k : ℕ) → k < length xs → slice_get (xs ++ ys) k ≡ slice_get xs k
-get-front [] ys k l = absurd (omega arith)
-get-front (x ∷ xs) ys zero l = refl
-get-front (x ∷ xs) ys (suc k) l = get-front xs ys k (omega arith)
-
-get-behind : {A : Type 0} (xs ys : List A) (j k : ℕ) → j ≡ length xs + k → slice_get (xs ++ ys) j ≡ slice_get ys k
-get-behind [] ys j k e = let n : j ≡ k = omega arith in ap (slice_get ys) n
-get-behind (x ∷ xs) ys zero k e = absurd (omega arith)
-get-behind (x ∷ xs) ys (suc j) k e = get-behind xs ys j k (omega arith)
-
 drop-behind : {A : Type 0} (xs ys : List A) (j k : ℕ) → j ≡ length xs + k → drop j (xs ++ ys) ≡ drop k ys
 drop-behind [] ys j k e = let n : j ≡ k = omega arith in ap (λ m. drop m ys) n
 drop-behind (x ∷ xs) ys zero k e = absurd (omega arith)
 drop-behind (x ∷ xs) ys (suc j) k e = drop-behind xs ys j k (omega arith)
-
-split : {A : Type 0} (ins : List A) (k : ℕ) → (k < length ins) ⊎ ((j : ℕ) × (k ≡ length ins + j))
-split [] k = inr (k, omega arith)
-split (x ∷ ins) zero = inl (omega arith)
-split (x ∷ ins) (suc k) = elim (split ins k) [ inl l ↦ inl (omega (arith, l)) | inr more ↦ inr (more.0, omega (arith, more.1)) ]
 
 no_name : (field f ctxt : ℕ) (x : Text) (role : Role) (head : Head) → Some (h.Ident field x ctxt role) ≡ Some (h.Open f head) → ⊥
 no_name field f ctxt x role head e = cc

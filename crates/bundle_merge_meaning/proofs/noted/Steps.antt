@@ -17,7 +17,7 @@ use Rattle.bundle_rules.specs.Marks.{begin_marks, end_marks, name_marks}
 use Rattle.bundle_rules.specs.Statements.{Element, taken, taken_from}
 use Rattle.bundle_rules.specs.Meaning.{Sense, Meant, Mark, Replacement, replacement_marks, NameMeans, Means, replaced, begun, ended, empty, named, word}
 use Rattle.bundle_tree_places.specs.Edits as edits
-use Rattle.bundle_tree_places.specs.Edits.{is_occurrence, around_in}
+use Rattle.bundle_tree_places.specs.Edits.{is_occurrence}
 use Rattle.bundle_merge_meaning.specs.noted.Nodes.{AreNodes}
 use Rattle.bundle_merge_meaning.specs.noted.Marked.{node_marks, marks_there}
 use Rattle.bundle_merge_meaning.specs.noted.Agrees.{IsAt, IsClear}

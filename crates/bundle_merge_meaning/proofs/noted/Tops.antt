@@ -1,5 +1,5 @@
 -- Where the nodes of a list stand that lie side by side.
-use Rattle.std.proofs.Common.{◌≡◌, ◌⊎◌, inl, inr, ℕ, zero, suc, ◌+◌, List, [], ◌∷◌, ◌++◌, append_assoc, length, refl, sym, ap, ◌∙◌, subst, arith}
+use Rattle.std.proofs.Common.{◌≡◌, inl, inr, ℕ, zero, suc, ◌+◌, List, [], ◌∷◌, ◌++◌, append_assoc, length, refl, sym, ap, ◌∙◌, subst, arith}
 use Rattle.std.specs.Prelude.{Contains, fold}
 use Rattle.bundle_tree_piece.specs.Item as h
 use Rattle.bundle_tree_piece.specs.Item.{Item, Head}
@@ -10,11 +10,12 @@ use Rattle.bundle_tree_places.specs.Edits as edits
 use Rattle.bundle_merge_meaning.specs.noted.Nodes as n
 use Rattle.bundle_merge_meaning.specs.noted.Nodes.{AreNodes}
 use Rattle.bundle_merge_meaning.specs.noted.Agrees.{IsAt}
-use Rattle.bundle_merge_meaning.proofs.noted.Spots.{around, fold-place, fold-path, field-twice, at-first, at-past, at-behind, at-as}
+use Rattle.bundle_merge_meaning.proofs.noted.Spots.{around, same-field, fold-place, fold-path, field-twice, at-first, at-past, at-behind, at-as}
+use Rattle.bundle_merge_meaning.proofs.noted.ListFacts.{there-cases}
 use Rattle.bundle_merge_meaning.proofs.noted.Shapes.{one_node}
 use Rattle.bundle_merge_meaning.proofs.noted.Names.{node_ahead}
 
--- ---- one after the other (as in bundle_nodes, ListNodes)
+-- ---- one after the other
 -- these elements in front of the first of the lists
 abbrev put_all : List Item → List (List Item) → List (List Item)
 put_all [] nodes = nodes
@@ -72,14 +73,6 @@ pub record StandsThere (tree : List Item) (path : List Around) (item : TopItem) 
   pub path_is : s.path ≡ in_field field path
   pub nodes : AreNodes item.items
 
-there-cases : {A : Type 0} (y : A) (xs : List A) (x : A) → Contains (y ∷ xs) x → (y ≡ x) ⊎ Contains xs x
-there-cases y xs x (zero, l, e) = inl e
-there-cases y xs x (suc i, l, e) = inr (i, omega arith, e)
-
-same_path : (path : List Around) → (f : ℕ) × (path ≡ in_field f path)
-same_path [] = (0, refl)
-same_path (top ∷ outer) = (top.field, refl)
-
 pub there : {tree xs : List Item} {more : List (List Item)} → AreParts xs more → (s : Spot) (behind : List Item) → IsAt tree s (xs ++ behind) → (item : TopItem) → Contains (placed s.place more) item → StandsThere tree s.path item
 there none s behind at item (k, l, e) = absurd (omega arith)
 there {tree = tree} (one {part = part} {rest = rest} {more = more} nodes others) s behind at item c = elim (there-cases (record { start = s.place; items = part }) (placed (s.place + length part) more) item c) [
@@ -93,7 +86,7 @@ there {tree = tree} (one {part = part} {rest = rest} {more = more} nodes others)
     at_part = at-as refl (append_assoc part rest behind) at
 
     same : (f : ℕ) × (s.path ≡ in_field f s.path)
-    same = same_path s.path
+    same = same-field s.path
 
     path : (f : ℕ) × ((fold past s part).path ≡ in_field f s.path)
     path = fold-path nodes s

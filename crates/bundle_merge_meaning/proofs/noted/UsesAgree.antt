@@ -4,7 +4,7 @@ use Rattle.std.specs.Prelude.{if◌then◌else◌, Contains, take, slice_get, op
 use Rattle.std.proofs.lemmas.Bool.{eqb-true, eq-eqb}
 use Rattle.std.proofs.lemmas.Option.{none-some, same_Some}
 use Rattle.std.proofs.lemmas.List.{length-take-le, take-append-drop}
-use Rattle.bundle_tree_places.proofs.ListLemmas.{drop_at}
+use Rattle.bundle_tree_places.proofs.ListLemmas.{drop_at, slice_get-drop}
 use Rattle.bundle_tree_piece.specs.declared.piece.Role.{Role}
 use Rattle.bundle_tree_piece.specs.Item as h
 use Rattle.bundle_tree_piece.specs.Item.{Item, Head}
@@ -20,11 +20,11 @@ use Rattle.bundle_rules.specs.Meaning.{Replacement, ByName, ByCall, Of, Load, Me
 use Rattle.bundle_merge_meaning.specs.noted.Nested as nested
 use Rattle.bundle_merge_meaning.specs.noted.Agrees.{IsAt, StandsAlone, StandsForReads}
 use Rattle.bundle_merge_meaning.specs.noted.Uses.{words_around, ReadsOn, done, on, WordsMean}
-use Rattle.bundle_merge_meaning.proofs.noted.ListFacts.{first-there, later-there, get-drop}
+use Rattle.bundle_merge_meaning.proofs.noted.ListFacts.{first-there, later-there}
 use Rattle.bundle_merge_meaning.proofs.noted.Spots.{around, fold-place, at-past, at-path}
 use Rattle.bundle_merge_meaning.proofs.noted.Shapes.{IsReads}
 use Rattle.bundle_merge_meaning.proofs.noted.NodePaths.{IsName}
-use Rattle.bundle_merge_meaning.proofs.noted.StaticReads.{read_there}
+use Rattle.bundle_merge_meaning.proofs.noted.StaticReads.{read_there, get-drop}
 use Rattle.bundle_merge_meaning.proofs.noted.Replaces.{word_property}
 use Rattle.bundle_merge_meaning.proofs.noted.Agreements.{name_is, member_before, Replaces, by_reads_of, by_call_of, IsThere, agrees_alone, agrees_reads}
 
@@ -221,8 +221,7 @@ module _ (pr : Program) (m : ℕ) where
     no_read_here : (o : Occurrence) → IsThere pr m nodes o → (x : Text) → read_word (tree_of pr m) o.place ≡ Some x → ⊥
     no_read_here o there x word =
         let its = read_there nodes o.place x (word_property (tree_of pr m) o.place word).1 in
-        let e : o.place ≡ o.place + 0 = omega arith in
-        no_open its.field h.MemberExpr (subst IsName (ap (slice_get (tree_of pr m)) e ∙ get-drop (tree_of pr m) o.place 0 ∙ ap (λ l. slice_get l 0) its.there) (name_is there.at))
+        no_open its.field h.MemberExpr (subst IsName (get-drop (tree_of pr m) o.place ∙ ap (λ l. slice_get l 0) its.there) (name_is there.at))
       where
         no_open : (f : ℕ) (head : Head) → IsName (Some (h.Open f head)) → ⊥
         no_open f head is = let e = is.4 in cc
@@ -240,7 +239,7 @@ module _ (pr : Program) (m : ℕ) where
     members_of : (begins more : ℕ) (role : Role) (xs rest : List Item) → IsReads more role xs → drop begins (tree_of pr m) ≡ xs ++ rest → AreMembers begins more
     members_of begins more role xs rest reads at j l =
         let its = member_before reads rest j l in
-        (its.0, get-drop (tree_of pr m) begins j ∙ ap (λ l. slice_get l j) at ∙ its.1)
+        (its.0, sym (slice_get-drop begins (tree_of pr m) j) ∙ ap (λ l. slice_get l j) at ∙ its.1)
 
     -- what is found of a use: no more reads around it are replaced
     pub no_further : (o : Occurrence) → IsThere pr m nodes o → (x : Text) → denoted_at BySymbol Es (tree_of pr m) o.place ≡ Some (Bound Top (plain x)) → {n : ℕ} {t : Target} → WordsMean pr m x (words_at (tree_of pr m) o.place) n t → (begins more : ℕ) (u : Target) (role : Role) (xs rest : List Item) → IsReads more role xs → drop begins (tree_of pr m) ≡ xs ++ rest → begins + more ≡ o.place → Replaced pr m begins (ByName (Of u)) → more ≤ n

@@ -3,6 +3,7 @@ use Rattle.std.proofs.Common.{◌≡◌, ◌≢◌, true, false, List, [], ◌�
 use Rattle.std.specs.Prelude.{bytes_eq, codes}
 use Rattle.std.specs.List.{AllZip, All}
 use Rattle.std.proofs.lemmas.List.Elements.{All-head, All-tail}
+use Rattle.std.proofs.lemmas.Bool.{not-false}
 use Rattle.std.proofs.lemmas.Slice.Eq.{bytes_eq-Decides}
 use Rattle.bundle_tree_piece.specs.declared.piece.Role.TheVariants as r
 use Rattle.bundle_tree_piece.specs.Item as h
@@ -13,14 +14,13 @@ use Rattle.bundle_rules.specs.Meaning.{Meant}
 use Rattle.bundle_rules.specs.Rebuilds.{with_idents}
 use Rattle.bundle_tree_places.specs.Edits.{Anywhere, InObject, node, in_its_place}
 use Rattle.bundle_merge_meaning.specs.walked.Work.{Step, Work, BySymbol, is_spelled_out_by}
-use Rattle.bundle_merge_meaning.specs.noted.Marked.{Note, Alone, Reads, Marked, marks_there}
+use Rattle.bundle_merge_meaning.specs.noted.Marked.{Alone, Reads, Marked, marks_there}
 use Rattle.bundle_merge_meaning.specs.noted.Marked as d
 use Rattle.bundle_merge_meaning.specs.walked.Becomes.{Becomes, reference}
 use Rattle.bundle_merge_meaning.specs.walked.Becomes as b
 use Rattle.bundle_merge_meaning.specs.walked.Keeps.{Same}
 use Rattle.bundle_merge_meaning.proofs.walked.Whole.{becomes_same}
 use Rattle.bundle_merge_meaning.specs.walked.Rewrites.{KeepsSymbol}
-use Rattle.bundle_merge_meaning.proofs.walked.Naming.{not_false}
 
 -- Where OfReads stands in an object literal: `ns.a` there becomes the name y, which is then the shorthand `{ y }`.
 
@@ -57,7 +57,7 @@ abbrev pub SpellsBySymbol : Step → Type 0
 SpellsBySymbol step = step.spelling ≡ BySymbol
 
 one_by_symbol : (step : Step) (ident : Ident) → SpellsBySymbol step → KeepsSymbol step ident
-one_by_symbol step ident is spelled = (bytes_eq-Decides step.ident.0 ident.0).0 (not_false (bytes_eq step.ident.0 ident.0) (ap (λ spelling. is_spelled_out_by spelling step.ident.0 ident.0) (sym is) ∙ spelled))
+one_by_symbol step ident is spelled = (bytes_eq-Decides step.ident.0 ident.0).0 (not-false (bytes_eq step.ident.0 ident.0) (ap (λ spelling. is_spelled_out_by spelling step.ident.0 ident.0) (sym is) ∙ spelled))
 
 pub by_symbol : (steps : List Step) (names : List Ident) → All SpellsBySymbol steps → length steps ≡ length names → AllZip KeepsSymbol steps names
 by_symbol [] [] all same = tt

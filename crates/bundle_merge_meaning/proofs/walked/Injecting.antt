@@ -8,7 +8,7 @@ use Rattle.bundle_tree_leaf.specs.declared.operator.UnaryOp.TheVariants.{Bang}
 use Rattle.bundle_tree_piece.specs.declared.piece.Role.{Role}
 use Rattle.bundle_tree_piece.specs.declared.piece.Role.TheVariants as r
 use Rattle.bundle_tree_piece.specs.Item as h
-use Rattle.bundle_tree_piece.specs.Item.{Item, Head}
+use Rattle.bundle_tree_piece.specs.Item.{Item}
 use Rattle.bundle_rules.specs.Nodes.{Text}
 use Rattle.bundle_rules.specs.Idents.{Ident}
 use Rattle.bundle_rules.specs.Entries.{Named, Whole}
@@ -21,7 +21,7 @@ use Rattle.bundle_rules.specs.Forms.{returned_key, returned_property, returned_o
 use Rattle.bundle_rules.specs.Injected as f
 use Rattle.bundle_rules.specs.Injected.{is_ascii_identifier}
 use Rattle.bundle_tree_places.specs.Edits.{Around, Anywhere, InObject, node, is_occurrence}
-use Rattle.bundle_merge_meaning.specs.noted.Marked.{Note, Marked, node_marks}
+use Rattle.bundle_merge_meaning.specs.noted.Marked.{Note, Marked}
 use Rattle.bundle_merge_meaning.specs.noted.Marked as d
 use Rattle.bundle_merge_meaning.specs.walked.Keeps.{alone}
 use Rattle.bundle_merge_meaning.specs.walked.Renaming.{IsMarked}

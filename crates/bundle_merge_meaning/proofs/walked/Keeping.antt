@@ -12,7 +12,6 @@ use Rattle.bundle_tree_piece.specs.Item as h
 use Rattle.bundle_tree_piece.specs.Item.{Item, Head}
 use Rattle.bundle_rules.specs.Nodes.{Text}
 use Rattle.bundle_rules.specs.Idents.{Ident}
-use Rattle.bundle_rules.specs.Marks.{MarkOf}
 use Rattle.bundle_rules.specs.Marks as m
 use Rattle.bundle_rules.specs.Meaning.{Meant, Mark}
 use Rattle.bundle_rules.specs.Rebuilds.{Change, spells_out, plain_key, key_in_object}
@@ -25,7 +24,7 @@ use Rattle.bundle_merge_meaning.specs.walked.Rewrites.{Rewrites, TakesStep, is_i
 use Rattle.bundle_merge_meaning.specs.walked.Rewrites as e
 use Rattle.bundle_merge_meaning.specs.walked.Keeps.{SameWhole, AgreeOnMeta, Agree, Entry, ByStep, ByMeta, ident_in, meant_in, steps_in, notes_in, AreOfMeta, alone, Keeps}
 use Rattle.bundle_merge_meaning.specs.walked.Names.{names_of}
-use Rattle.bundle_merge_meaning.proofs.walked.NameLemmas.{names_of-append, node_names}
+use Rattle.bundle_merge_meaning.proofs.walked.NameLemmas.{word_names, name_names, names_of-append, node_names}
 
 -- The next step and the next note.
 
@@ -121,16 +120,6 @@ unchanged {meta = meta} {notes = notes} before made marks agree source result no
   same_meta = refl;
 }
 
-no_word : (field : ℕ) (x : Text) (ctxt : ℕ) (role : Role) → is_occurrence role ≡ false → names_of (h.Ident field x ctxt role ∷ []) ≡ []
-no_word field x ctxt r.Word plain = refl
-no_word field x ctxt r.Binding plain = cc
-no_word field x ctxt r.Reference plain = cc
-
-one_name : (field : ℕ) (x : Text) (ctxt : ℕ) (role : Role) → is_occurrence role ≡ true → names_of (h.Ident field x ctxt role ∷ []) ≡ (x, ctxt) ∷ []
-one_name field x ctxt r.Word occurs = cc
-one_name field x ctxt r.Binding occurs = refl
-one_name field x ctxt r.Reference occurs = refl
-
 -- What takes the next step.
 
 one_step : {around : Around} {work : Work} {meta : Option Meant} {notes : List Note} (before made : List Item) (marks : List Mark) (step : Step) → (first : First work.steps notes step) → Marked meta around (first.note ∷ first.behind) before marks first.behind → ((more : List Meant) → Marked None around (alone (first.note.meant ∷ more)) made marks (alone more)) → names_of made ≡ step.ident ∷ [] → Keeps around work meta notes before made (after work)
@@ -183,13 +172,13 @@ object_names true field x ident role occurs =
     node_names field h.KeyValueProp (key_in_object x ++ h.Ident 1 ident.0 ident.1 role ∷ [])
     ∙ (names_of-append (key_in_object x) (h.Ident 1 ident.0 ident.1 role ∷ [])
     ∙ ((λ i. key_names x (bytes_eq x (codes "__proto__")) i ++ names_of (h.Ident 1 ident.0 ident.1 role ∷ []))
-    ∙ one_name 1 ident.0 ident.1 role occurs))
-object_names false field x ident role occurs = one_name field ident.0 ident.1 role occurs
+    ∙ name_names 1 ident.0 ident.1 role [] occurs))
+object_names false field x ident role occurs = name_names field ident.0 ident.1 role [] occurs
 
-pub name_names : (around : Around) (field : ℕ) (x : Text) (ctxt : ℕ) (role : Role) (change : Change) → is_occurrence role ≡ true → is_in_no_specifier around ≡ true → names_of (in_its_place around (Some change) field x ctxt role) ≡ change.ident ∷ []
-name_names Anywhere field x ctxt role change occurs free = one_name field change.ident.0 change.ident.1 role occurs
-name_names InObject field x ctxt role change occurs free = object_names change.is_spelled_out field x change.ident role occurs
-name_names InSpecifier field x ctxt role change occurs free = cc
+pub name_made_names : (around : Around) (field : ℕ) (x : Text) (ctxt : ℕ) (role : Role) (change : Change) → is_occurrence role ≡ true → is_in_no_specifier around ≡ true → names_of (in_its_place around (Some change) field x ctxt role) ≡ change.ident ∷ []
+name_made_names Anywhere field x ctxt role change occurs free = name_names field change.ident.0 change.ident.1 role [] occurs
+name_made_names InObject field x ctxt role change occurs free = object_names change.is_spelled_out field x change.ident role occurs
+name_made_names InSpecifier field x ctxt role change occurs free = cc
 
 named : {around : Around} {work : Work} {meta : Option Meant} {notes : List Note} (field : ℕ) (x : Text) (ctxt : ℕ) (role : Role) (step : Step) → is_occurrence role ≡ true → is_in_no_specifier around ≡ true → TakesStep work x step → Agree work.steps notes → Keeps around work meta notes (h.Ident field x ctxt role ∷ []) (in_its_place around (Some (change_at x step)) field x ctxt role) (after work)
 named {around = around} {work = work} {notes = notes} field x ctxt role step occurs free takes agree =
@@ -197,7 +186,7 @@ named {around = around} {work = work} {notes = notes} field x ctxt role step occ
     one_step _ _ (marks_there around field x first.note.meant) step first
     (d.Name around field x ctxt role occurs)
     (λ more. name_made around field x ctxt role (change_at x step) _ (alone more) occurs free takes.symbol)
-    (name_names around field x ctxt role (change_at x step) occurs free)
+    (name_made_names around field x ctxt role (change_at x step) occurs free)
 
 -- A node that stays.
 
@@ -519,7 +508,7 @@ keeps (e.Joined one two) meta notes agree on_meta =
     let front = keeps one meta notes agree on_meta in
     joined front (keeps two meta front.left front.agree (subst (λ it. AgreeOnMeta it meta) (sym front.same_meta) on_meta))
 keeps (e.Hole field) meta notes agree on_meta = unchanged _ _ (m.Empty field ∷ []) agree (λ means its. d.Hole field) (λ means its. d.Hole field) refl
-keeps (e.Word field x ctxt role plain) meta notes agree on_meta = unchanged _ _ (m.Word field x ∷ []) agree (λ means its. d.Word field x ctxt role plain) (λ means its. d.Word field x ctxt role plain) (no_word field x ctxt role plain)
+keeps (e.Word field x ctxt role plain) meta notes agree on_meta = unchanged _ _ (m.Word field x ∷ []) agree (λ means its. d.Word field x ctxt role plain) (λ means its. d.Word field x ctxt role plain) (word_names field x ctxt role plain)
 keeps (e.Name around field x ctxt role step occurs free takes) meta notes agree on_meta = named field x ctxt role step occurs free takes agree
 keeps (e.Inside {work = work} field head {inside = inside} {made = made} it_stays one) meta notes agree on_meta = stayed field head (still_stays work meta notes agree on_meta head inside it_stays) (none_stays work head inside made it_stays) (keeps one meta notes agree on_meta)
 keeps (e.Declaration {work = work} field kind its one) meta notes agree on_meta = declared field kind its (kept_notes work.clears_notes its) (keeps one meta notes agree on_meta)

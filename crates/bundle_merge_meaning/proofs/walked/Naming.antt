@@ -1,7 +1,8 @@
 -- A module whose names change has the same marks, item by item: with other identifiers, and cleared.
-use Rattle.std.proofs.Common.{◌≡◌, Bool, true, false, not, List, [], ◌∷◌, map, length, refl, ap, sym, ◌∙◌, subst, arith}
+use Rattle.std.proofs.Common.{◌≡◌, List, [], ◌∷◌, map, length, refl, ap, sym, ◌∙◌, subst, arith}
 use Rattle.std.specs.Prelude.{bytes_eq}
 use Rattle.std.specs.List.{AllZip, All}
+use Rattle.std.proofs.lemmas.Bool.{not-false}
 use Rattle.std.proofs.lemmas.Slice.Eq.{bytes_eq-Decides}
 use Rattle.bundle_tree_piece.specs.Item.{Item}
 use Rattle.bundle_rules.specs.Scopes.{Es}
@@ -18,12 +19,8 @@ use Rattle.bundle_merge_meaning.proofs.walked.Clearing.{items-cleared, module-cl
 use Rattle.bundle_merge_meaning.proofs.walked.Noting.{ModuleOf, module_of}
 use Rattle.bundle_rules.specs.Places.{Occurrence, occurrences}
 
-pub not_false : (b : Bool) → not b ≡ false → b ≡ true
-not_false true is = refl
-not_false false is = cc
-
 keeps_text : (old new : Ident) → KeepsText (change_to old new) old
-keeps_text old new is = sym ((bytes_eq-Decides old.0 new.0).0 (not_false (bytes_eq old.0 new.0) is))
+keeps_text old new is = sym ((bytes_eq-Decides old.0 new.0).0 (not-false (bytes_eq old.0 new.0) is))
 
 changes_cover : (olds news : List Ident) → length news ≡ length olds → AllZip KeepsText (changes_to olds news) olds
 changes_cover [] [] same = tt

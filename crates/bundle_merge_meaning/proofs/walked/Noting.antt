@@ -10,7 +10,7 @@ use Rattle.bundle_rules.specs.Marks as m
 use Rattle.bundle_rules.specs.Meaning.{Meant, Mark}
 use Rattle.bundle_rules.specs.Cleared.{cleared_head, cleared, without_note, without_notes}
 use Rattle.bundle_tree_places.specs.Edits.{Around, node, around_in, binding}
-use Rattle.bundle_merge_meaning.specs.noted.Marked.{Note, Marked, keeps_first, stays, marks_there, node_marks, shorthand_marks}
+use Rattle.bundle_merge_meaning.specs.noted.Marked.{Note, Marked, keeps_first, stays, node_marks, shorthand_marks}
 use Rattle.bundle_merge_meaning.specs.noted.Marked as d
 use Rattle.bundle_merge_meaning.specs.walked.Renaming.{AreAlone, Told, IsMarked, module_of_items}
 use Rattle.bundle_merge_meaning.proofs.walked.Keeping.{alike, alike_inside}

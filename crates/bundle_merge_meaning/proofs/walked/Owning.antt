@@ -3,6 +3,7 @@ use Rattle.std.proofs.Common.{◌≡◌, ℕ, Bool, true, false, not, ◌&&◌, 
 use Rattle.std.specs.Prelude.{bytes_eq, codes, if◌then◌else◌, ⊤}
 use Rattle.std.specs.List.{list_all}
 use Rattle.std.proofs.lemmas.List.Folds.{list_all-append}
+use Rattle.std.proofs.lemmas.Bool.{and_parts, not-true}
 use Rattle.bundle_tree_piece.specs.declared.piece.Role.{Role}
 use Rattle.bundle_tree_piece.specs.Item as h
 use Rattle.bundle_tree_piece.specs.Item.{Item, Head}
@@ -87,20 +88,12 @@ abbrev NoneOpen : List Bool → Type 0
 NoneOpen [] = ⊤
 NoneOpen (spec ∷ open_nodes) = (spec ≡ false) × NoneOpen open_nodes
 
-not_true : (b : Bool) → not b ≡ true → b ≡ false
-not_true true is = cc
-not_true false is = refl
-
-and_both : (x y : Bool) → (x && y) ≡ true → (x ≡ true) × (y ≡ true)
-and_both true y is = (refl, is)
-and_both false y is = cc
-
 own_ends : (open_nodes : List Bool) (is_name : Bool) (items : List Item) → NoneOpen open_nodes → AreOwn items → ends_no_specifier open_nodes is_name items ≡ true
 own_ends open_nodes is_name [] none own = refl
 own_ends open_nodes is_name (h.Open field head ∷ rest) none own =
-    let parts = and_both (not (is_specifier head)) (list_all is_own_item rest) own in
-    own_ends (is_specifier head ∷ open_nodes) false rest (not_true (is_specifier head) parts.0, none) parts.1
-own_ends open_nodes is_name (h.Ident field x ctxt role ∷ rest) none own = own_ends open_nodes (is_occurrence role) rest none (and_both (is_occurrence role) (list_all is_own_item rest) own).1
+    let parts = and_parts (not (is_specifier head)) (list_all is_own_item rest) own in
+    own_ends (is_specifier head ∷ open_nodes) false rest (not-true (is_specifier head) parts.0, none) parts.1
+own_ends open_nodes is_name (h.Ident field x ctxt role ∷ rest) none own = own_ends open_nodes (is_occurrence role) rest none (and_parts (is_occurrence role) (list_all is_own_item rest) own).1
 own_ends open_nodes is_name (h.Hole field ∷ rest) none own = own_ends open_nodes false rest none own
 own_ends [] is_name (h.Close ∷ rest) none own = own_ends [] false rest none own
 own_ends (spec ∷ open_nodes) is_name (h.Close ∷ rest) none own = ap (λ b. not (b && is_name) && ends_no_specifier open_nodes false rest) none.0 ∙ own_ends open_nodes false rest none.1 own

@@ -3,8 +3,8 @@ use Rattle.std.proofs.Common.{◌≡◌, ℕ, Bool, true, false, not, is_none, �
 use Rattle.std.specs.List.{AllZip, All}
 use Rattle.std.specs.Prelude.{flat_map}
 use Rattle.std.proofs.lemmas.List.Elements.{All-head, All-tail}
+use Rattle.std.proofs.lemmas.Bool.{and_parts, not-true}
 use Rattle.bundle_tree_piece.specs.declared.piece.Role.{Role}
-use Rattle.bundle_tree_piece.specs.declared.piece.Role.TheVariants as r
 use Rattle.bundle_tree_piece.specs.Item as h
 use Rattle.bundle_tree_piece.specs.Item.{Item, Head}
 use Rattle.bundle_rules.specs.Nodes.{Text}
@@ -21,8 +21,8 @@ use Rattle.bundle_merge_meaning.specs.walked.Names.{names_of}
 use Rattle.bundle_merge_meaning.specs.walked.Keeps.{alone}
 use Rattle.bundle_merge_meaning.specs.walked.Rewrites.{is_in_no_specifier}
 use Rattle.bundle_merge_meaning.specs.walked.Renaming.{AreAlone, KeepsText, ends_no_specifier, last_is_name, ident_of_change, Renamed, Told, IsMarked, HasNoLoneName, module_of_items, RenamedItems}
-use Rattle.bundle_merge_meaning.proofs.walked.NameLemmas.{names_of-append, node_names}
-use Rattle.bundle_merge_meaning.proofs.walked.Keeping.{Both, empty, filled, both_joined, either_filled, place_filled, alike, alike_inside, name_made, name_names as name_names_made, short_made, spelled_names, same_default}
+use Rattle.bundle_merge_meaning.proofs.walked.NameLemmas.{names_of-append, node_names, word_names, name_names, short_names, kept_names}
+use Rattle.bundle_merge_meaning.proofs.walked.Keeping.{Both, empty, filled, both_joined, either_filled, place_filled, alike, alike_inside, name_made, name_made_names, short_made, spelled_names, same_default}
 
 -- names that stand for themselves alone leave such names
 pub alone_left : {meta : Option Meant} {around : Around} {notes rest : List Note} {items : List Item} {marks : List Mark} → Marked meta around notes items marks rest → AreAlone notes → AreAlone rest
@@ -69,10 +69,6 @@ last-append is_name (h.Ident field x ctxt role ∷ xs) ys = last-append (is_occu
 last-append is_name (h.Hole field ∷ xs) ys = last-append false xs ys
 last-append is_name (h.Close ∷ xs) ys = last-append false xs ys
 
-and_both : (x y : Bool) → (x && y) ≡ true → (x ≡ true) × (y ≡ true)
-and_both true y is = (refl, is)
-and_both false y is = cc
-
 -- behind a node no occurrence stands
 last_of_node : (inside : List Item) → last_is_name false (inside ++ h.Close ∷ []) ≡ false
 last_of_node inside = last-append false inside (h.Close ∷ [])
@@ -80,7 +76,7 @@ last_of_node inside = last-append false inside (h.Close ∷ [])
 -- a node is passed where what is in it is
 node_passed : (field : ℕ) (head : Head) (inside : List Item) (open_nodes : List Bool) (is_name : Bool) (post : List Item) → (ends_no_specifier (is_specifier head ∷ open_nodes) false (inside ++ h.Close ∷ post) ≡ true → ends_no_specifier (is_specifier head ∷ open_nodes) (last_is_name false inside) (h.Close ∷ post) ≡ true) → ends_no_specifier open_nodes is_name (node field head inside ++ post) ≡ true → (not (is_specifier head && last_is_name false inside) ≡ true) × (ends_no_specifier open_nodes false post ≡ true)
 node_passed field head inside open_nodes is_name post within ends =
-    and_both (not (is_specifier head && last_is_name false inside)) (ends_no_specifier open_nodes false post)
+    and_parts (not (is_specifier head && last_is_name false inside)) (ends_no_specifier open_nodes false post)
     (within (subst (λ items. ends_no_specifier (is_specifier head ∷ open_nodes) false items ≡ true) (append_assoc inside (h.Close ∷ []) post) ends))
 
 -- behind the first node of another
@@ -148,18 +144,9 @@ plain_inside next h.ImportNamedSpecifier inside it_stays ends = plain_second ins
 plain_inside next h.ExportNamedSpecifier inside it_stays ends = plain_second inside ends
 plain_inside next _ inside it_stays ends = refl
 
-word_names : (field : ℕ) (x : Text) (ctxt : ℕ) (role : Role) → is_occurrence role ≡ false → names_of (h.Ident field x ctxt role ∷ []) ≡ []
-word_names field x ctxt r.Word plain = refl
-word_names field x ctxt r.Binding plain = cc
-word_names field x ctxt r.Reference plain = cc
-
-not_true : (b : Bool) → not b ≡ true → b ≡ false
-not_true true is = cc
-not_true false is = refl
-
 lone_names : (x : Item) → not (last_is_name false (x ∷ [])) ≡ true → names_of (x ∷ []) ≡ []
 lone_names (h.Open field head) ends = refl
-lone_names (h.Ident field x ctxt role) ends = word_names field x ctxt role (not_true (is_occurrence role) ends)
+lone_names (h.Ident field x ctxt role) ends = word_names field x ctxt role (not-true (is_occurrence role) ends)
 lone_names (h.Hole field) ends = refl
 lone_names h.Close ends = refl
 
@@ -220,17 +207,6 @@ by_changes {around = around} {notes = notes} {rest = rest} {before = before} {ma
 unchanged : {around : Around} {notes : List Note} {before : List Item} {marks : List Mark} (its left : List Change) (names : List Ident) → names ≡ [] → AllZip KeepsText its names → Edits around left before before left → Marked None around notes before marks notes → names_of before ≡ [] → Renamed around notes notes before marks (its ++ left) left
 unchanged {before = before} its left names none cover edits marked no_names = by_changes (ap (λ list. list ++ left) (sym (no_changes its names none cover))) (record { after = before; edits = edits; marked = marked; names = ap (λ list. list ++ map ident_of_change left) (sym no_names) })
 
-name_names : (field : ℕ) (x : Text) (ctxt : ℕ) (role : Role) (more : List Item) → is_occurrence role ≡ true → names_of (h.Ident field x ctxt role ∷ more) ≡ (x, ctxt) ∷ names_of more
-name_names field x ctxt r.Word more occurs = cc
-name_names field x ctxt r.Binding more occurs = refl
-name_names field x ctxt r.Reference more occurs = refl
-
-short_names : (field : ℕ) (x : Text) (ctxt : ℕ) (role : Role) (default : List Item) → is_occurrence role ≡ true → names_of (node field h.AssignPatProp (binding None 0 x ctxt role ++ default)) ≡ (x, ctxt) ∷ names_of default
-short_names field x ctxt role default occurs = node_names field h.AssignPatProp (binding None 0 x ctxt role ++ default) ∙ name_names 0 x ctxt role (h.Close ∷ default) occurs
-
-kept_names : (field : ℕ) (head : Head) (first : ℕ) (inside more : List Item) → names_of (node field head (node first h.MemberExpr inside ++ more)) ≡ names_of inside ++ names_of more
-kept_names field head first inside more = node_names field head (node first h.MemberExpr inside ++ more) ∙ (names_of-append (node first h.MemberExpr inside) more ∙ ap (λ list. list ++ names_of more) (node_names first h.MemberExpr inside))
-
 -- a name that is there stands in no specifier
 is_free : (around : Around) (ident : Ident) (names others : List Ident) → names ≡ ident ∷ others → (is_in_no_specifier around ≡ false → names ≡ []) → is_in_no_specifier around ≡ true
 is_free Anywhere ident names others is free = refl
@@ -257,7 +233,7 @@ renamed_name {around = around} {note = note} {rest = rest} field x ctxt role its
       after = in_its_place around (Some first.change) field x ctxt role;
       edits = c.Name around field x ctxt role occurs;
       marked = name_made around field x ctxt role first.change note rest occurs free first.symbol;
-      names = ap (λ list. list ++ map ident_of_change left) (sym (name_names_made around field x ctxt role first.change occurs free));
+      names = ap (λ list. list ++ map ident_of_change left) (sym (name_made_names around field x ctxt role first.change occurs free));
     })
 
 -- what stands in a node

@@ -6,7 +6,7 @@ use Rattle.bundle_rules.specs.Places.{Around, spot_before, occurrences_from}
 use Rattle.bundle_rules.specs.Denotes.{Denoted, Bound}
 use Rattle.bundle_rules.specs.Statements.{TopItem, taken_from}
 use Rattle.bundle_rules.specs.Mentions.{same_denoted, each_denoted_once}
-use Rattle.bundle_rules.specs.Meaning.{Label, Meant, Mark, Inside, Known, Unbound, Sense, NameMeans, is_inside, denoted, inner_bindings}
+use Rattle.bundle_rules.specs.Meaning.{Meant, Mark, Known, Unbound, NameMeans, is_inside, denoted, inner_bindings}
 use Rattle.bundle_rules.specs.Meaning as n
 use Rattle.bundle_rules.specs.Bundle.{Labelled, sense_of, elements_of, ItemMeans}
 use Rattle.bundle_tree_places.specs.Edits.{Anywhere}

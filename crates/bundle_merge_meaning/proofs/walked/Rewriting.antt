@@ -1,8 +1,9 @@
 -- With steps that fit, what a walk makes is what `Rewrites` says.
-use Rattle.std.proofs.Common.{◌≡◌, ℕ, zero, suc, Bool, true, false, not, ◌&&◌, List, [], ◌∷◌, ◌++◌, Option, Some, None, drop, refl, ap, sym, ◌∙◌, subst, append_assoc}
+use Rattle.std.proofs.Common.{◌≡◌, ℕ, zero, suc, true, false, not, List, [], ◌∷◌, ◌++◌, Option, Some, None, drop, refl, ap, sym, ◌∙◌, subst, append_assoc}
 use Rattle.std.specs.Prelude.{slice_get, option_map}
 use Rattle.std.specs.List.{AllZip, list_all}
 use Rattle.std.proofs.lemmas.List.Folds.{list_all-append}
+use Rattle.std.proofs.lemmas.Bool.{and_parts}
 use Rattle.bundle_tree_piece.specs.declared.piece.Role.{Role}
 use Rattle.bundle_tree_piece.specs.declared.piece.Role.TheVariants as r
 use Rattle.bundle_tree_piece.specs.Item as h
@@ -13,26 +14,22 @@ use Rattle.bundle_rules.specs.Shape.{is_specifier}
 use Rattle.bundle_tree_places.specs.Edits.{Around, Anywhere, node, is_occurrence, around_in, in_its_place, binding, shorthand_in_its_place}
 use Rattle.bundle_merge_meaning.specs.walked.Work.{Step, Work, upcoming, after, next, change_at}
 use Rattle.bundle_merge_meaning.specs.noted.Marked.{are_reads, is_literal_call, is_one_string, behind_word, behind_reads, is_end}
-use Rattle.bundle_merge_meaning.specs.walked.Becomes.{Becomes, stays, name_for_member, name_for_call, name_for_meta, reference}
+use Rattle.bundle_merge_meaning.specs.walked.Becomes.{Becomes}
 use Rattle.bundle_merge_meaning.specs.walked.Becomes as b
 use Rattle.bundle_merge_meaning.specs.walked.Names.{names_of}
 use Rattle.bundle_merge_meaning.specs.walked.Rewrites.{Rewrites, TakesStep, is_in_no_specifier, is_own_item, AreOwn, KeepsSymbol, Cover}
 use Rattle.bundle_merge_meaning.specs.walked.Rewrites as e
-use Rattle.bundle_merge_meaning.proofs.walked.NameLemmas.{names_of-append, node_names}
+use Rattle.bundle_merge_meaning.proofs.walked.NameLemmas.{names_of-append, node_names, word_names, name_names, short_names, kept_names}
 use Rattle.bundle_merge_meaning.proofs.walked.Keeping.{reads_found, call_found}
 
 -- Own elements.
 
-and_both : (x y : Bool) → (x && y) ≡ true → (x ≡ true) × (y ≡ true)
-and_both true y is = (refl, is)
-and_both false y is = cc
-
 pub own_parts : (first second : List Item) → AreOwn (first ++ second) → AreOwn first × AreOwn second
-own_parts first second own = and_both (list_all is_own_item first) (list_all is_own_item second) (sym (list_all-append is_own_item first second) ∙ own)
+own_parts first second own = and_parts (list_all is_own_item first) (list_all is_own_item second) (sym (list_all-append is_own_item first second) ∙ own)
 
 pub own_inside : (field : ℕ) (head : Head) (inside : List Item) → AreOwn (node field head inside) → (not (is_specifier head) ≡ true) × AreOwn inside
 own_inside field head inside own =
-    let both = and_both (not (is_specifier head)) (list_all is_own_item (inside ++ h.Close ∷ [])) own in
+    let both = and_parts (not (is_specifier head)) (list_all is_own_item (inside ++ h.Close ∷ [])) own in
     (both.0, (own_parts inside (h.Close ∷ []) both.1).0)
 
 -- what is in a node that is no specifier
@@ -95,22 +92,6 @@ next_is : (work : Work) (x : Text) (step : Step) → upcoming work ≡ Some step
 next_is work x step is = ap (λ found. option_map (change_at x) found) is
 
 -- Names.
-
-word_names : (field : ℕ) (x : Text) (ctxt : ℕ) (role : Role) → is_occurrence role ≡ false → names_of (h.Ident field x ctxt role ∷ []) ≡ []
-word_names field x ctxt r.Word plain = refl
-word_names field x ctxt r.Binding plain = cc
-word_names field x ctxt r.Reference plain = cc
-
-name_names : (field : ℕ) (x : Text) (ctxt : ℕ) (role : Role) (more : List Item) → is_occurrence role ≡ true → names_of (h.Ident field x ctxt role ∷ more) ≡ (x, ctxt) ∷ names_of more
-name_names field x ctxt r.Word more occurs = cc
-name_names field x ctxt r.Binding more occurs = refl
-name_names field x ctxt r.Reference more occurs = refl
-
-short_names : (field : ℕ) (x : Text) (ctxt : ℕ) (role : Role) (default : List Item) → is_occurrence role ≡ true → names_of (node field h.AssignPatProp (binding None 0 x ctxt role ++ default)) ≡ (x, ctxt) ∷ names_of default
-short_names field x ctxt role default occurs = node_names field h.AssignPatProp (binding None 0 x ctxt role ++ default) ∙ name_names 0 x ctxt role (h.Close ∷ default) occurs
-
-kept_names : (field : ℕ) (head : Head) (first : ℕ) (inside more : List Item) → names_of (node field head (node first h.MemberExpr inside ++ more)) ≡ names_of inside ++ names_of more
-kept_names field head first inside more = node_names field head (node first h.MemberExpr inside ++ more) ∙ (names_of-append (node first h.MemberExpr inside) more ∙ ap (λ list. list ++ names_of more) (node_names first h.MemberExpr inside))
 
 -- the one name of static reads
 record OneName (items rest : List Item) : Type 0 where

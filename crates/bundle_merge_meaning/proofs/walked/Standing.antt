@@ -33,7 +33,7 @@ use Rattle.bundle_merge_meaning.specs.walked.Stated.{StatesList, SameStated}
 use Rattle.bundle_merge_meaning.proofs.walked.Stating.{states_same}
 use Rattle.bundle_merge_meaning.proofs.walked.Denoting.{denoted_here, occurrence_there, occurrence_place, outside_position}
 use Rattle.bundle_merge_meaning.proofs.walked.Together.{statement_stands}
-use Rattle.bundle_merge_meaning.proofs.walked.Source.{source_inside}
+use Rattle.bundle_merge_meaning.proofs.noted.Denoted.{stated_denotes}
 
 -- What names of the module denote.
 
@@ -103,7 +103,7 @@ own_statement_stands p m kind has_kind meta default listing replaces top outer h
     let ds : List Denoted = map (denoted_here view) (occurrences_from here.s top.items) in
     let spot : spot_before (tree_of p m) top.start ≡ here.s = ap (spot_before (tree_of p m)) (sym here.place) ∙ at-spot here.at in
     let stated_here : stated here.s.place top.items ≡ statement ∷ [] = ap (λ place. stated place top.items) here.place ∙ is in
-    let inner_is : inner_bindings view 0 statement ≡ each_denoted_once (filter (is_inside 0) ds) = ap each_denoted_once (source_inside view here.s same.source here.tail here.at statement stated_here) in
+    let inner_is : inner_bindings view 0 statement ≡ each_denoted_once (filter (is_inside 0) ds) = ap each_denoted_once (stated_denotes same.source view 0 here.s here.tail here.at statement stated_here) in
     let own : OwnMeaning p m statement same.marks =
     own_meaning p m kind has_kind meta default listing replaces top outer here object short clear notes [] same.marks same.source statement is
     (subst (λ s. AgreeInTurn sense (inner_bindings view 0 statement) (occurrences_from s top.items) notes) (sym spot) agree) default_means in

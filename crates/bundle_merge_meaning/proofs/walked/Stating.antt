@@ -1,27 +1,26 @@
 -- What an item states has the same marks in the module and in the bundle.
-use Rattle.std.proofs.Common.{◌≡◌, ℕ, suc, true, ◌&&◌, List, [], ◌∷◌, ◌++◌, Option, None, map, refl, ap, sym, ◌∙◌, subst, inl, inr}
+use Rattle.std.proofs.Common.{◌≡◌, ℕ, true, ◌&&◌, List, [], ◌∷◌, ◌++◌, Option, None, map, refl, ap, sym, ◌∙◌, subst, inl, inr}
 use Rattle.std.specs.List.{AllZip, list_all}
 use Rattle.bundle_tree_leaf.specs.declared.kind.VarDeclKind.TheVariants.{Const}
-use Rattle.bundle_tree_piece.specs.declared.piece.Role.{Role}
 use Rattle.bundle_tree_piece.specs.declared.piece.Role.TheVariants as r
 use Rattle.bundle_tree_piece.specs.Item as h
 use Rattle.bundle_tree_piece.specs.Item.{Item, Head}
-use Rattle.bundle_rules.specs.Nodes.{Text, inside, without_last}
+use Rattle.bundle_rules.specs.Nodes.{inside}
 use Rattle.bundle_rules.specs.Idents.{Ident}
 use Rattle.bundle_rules.specs.Marks as m
 use Rattle.bundle_rules.specs.Meaning.{Meant, Mark}
-use Rattle.bundle_rules.specs.Statements.{taken, taken_from, moved_to, declaration_head, default_constant, default_binding, default_declaration, no_notes, stated}
+use Rattle.bundle_rules.specs.Statements.{moved_to, declaration_head, no_notes}
 use Rattle.bundle_tree_places.specs.Edits.{Anywhere, node, around_in}
 use Rattle.bundle_merge_meaning.specs.walked.Work.{Step, Work}
 use Rattle.bundle_merge_meaning.specs.walked.Becomes.{named}
-use Rattle.bundle_merge_meaning.specs.noted.Marked.{Note, Marked, node_marks, pattern_marks}
+use Rattle.bundle_merge_meaning.specs.noted.Marked.{Note, Marked, node_marks}
 use Rattle.bundle_merge_meaning.specs.noted.Marked as d
 use Rattle.bundle_merge_meaning.specs.walked.Names.{names_of}
 use Rattle.bundle_merge_meaning.specs.walked.Rewrites.{AreOwn, Cover, KeepsSymbol, is_own_item}
 use Rattle.bundle_merge_meaning.specs.walked.Keeps.{Agree, AgreeOnMeta, meant_in, alone_note, alone, Same}
-use Rattle.bundle_merge_meaning.specs.noted.Stated.{states_itself, is_default_head, MarkedStated, constant_marks}
+use Rattle.bundle_merge_meaning.specs.noted.Stated.{is_default_head, MarkedStated, constant_marks}
 use Rattle.bundle_merge_meaning.specs.noted.Stated as g
-use Rattle.bundle_merge_meaning.specs.walked.Stated.{constant, StatesList, SameStated}
+use Rattle.bundle_merge_meaning.specs.walked.Stated.{StatesList, SameStated}
 use Rattle.bundle_merge_meaning.specs.walked.Stated as s
 use Rattle.bundle_merge_meaning.proofs.walked.NameLemmas.{node_names}
 use Rattle.bundle_merge_meaning.proofs.walked.Keeping.{binding_marked}
@@ -120,32 +119,3 @@ states_same {work = work} {name = name} (s.DefaultStates field inner first_field
       notes_are = same.notes_are;
       of_meta = same.of_meta;
     }
-
--- What an item states, as the module has it.
-
-without_end : (xs : List Item) (x : Item) → without_last (xs ++ x ∷ []) ≡ xs
-without_end [] x = refl
-without_end (y ∷ []) x = refl
-without_end (y ∷ z ∷ xs) x = ap (λ more. y ∷ more) (without_end (z ∷ xs) x)
-
-pub statement_states : (start field : ℕ) (head : Head) (part : List Item) → states_itself head ≡ true → stated start (node field head part) ≡ taken_from start (node field head part) ∷ []
-statement_states start field (h.ImportDecl meta) part is = cc
-statement_states start field (h.NamedExport meta) part is = cc
-statement_states start field (h.ExportAll meta) part is = cc
-statement_states start field h.EmptyStmt part is = cc
-statement_states start field h.ExportDecl part is = cc
-statement_states start field h.ExportDefaultExpr part is = cc
-statement_states start field h.ExportDefaultDecl part is = cc
-statement_states start field _ part is = refl
-
-pub declaration_states : (start field : ℕ) (part : List Item) → stated start (node field h.ExportDecl part) ≡ taken_from (suc start) part ∷ []
-declaration_states start field part = ap (λ items. taken_from (suc start) items ∷ []) (without_end part h.Close)
-
-pub value_states : (start field : ℕ) (part : List Item) → stated start (node field h.ExportDefaultExpr part) ≡ default_constant (suc start) part ∷ []
-value_states start field part = ap (λ items. default_constant (suc start) items ∷ []) (without_end part h.Close)
-
-pub own_states : (start field inner name_field : ℕ) (x : Text) (ctxt : ℕ) (role : Role) (head : Head) (body : List Item) → stated start (node field h.ExportDefaultDecl (node inner head (h.Ident name_field x ctxt role ∷ body))) ≡ (taken (suc start) (h.Open 0 (declaration_head head)) ∷ taken_from (suc (suc start)) (h.Ident name_field x ctxt role ∷ (body ++ h.Close ∷ []))) ∷ []
-own_states start field inner name_field x ctxt role head body = ap (λ items. default_declaration (suc start) items ∷ []) (without_end (node inner head (h.Ident name_field x ctxt role ∷ body)) h.Close)
-
-pub default_states : (start field inner first_field : ℕ) (head first : Head) (more : List Item) → stated start (node field h.ExportDefaultDecl (node inner head (h.Open first_field first ∷ more))) ≡ (taken (suc start) (h.Open 0 (declaration_head head)) ∷ default_binding ∷ taken_from (suc (suc start)) (h.Open first_field first ∷ (more ++ h.Close ∷ []))) ∷ []
-default_states start field inner first_field head first more = ap (λ items. default_declaration (suc start) items ∷ []) (without_end (node inner head (h.Open first_field first ∷ more)) h.Close)

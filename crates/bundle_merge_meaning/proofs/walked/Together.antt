@@ -10,7 +10,7 @@ use Rattle.bundle_rules.specs.Statements.{Element, TopItem, taken_from}
 use Rattle.bundle_rules.specs.Program.{Program}
 use Rattle.bundle_rules.specs.Idents.{Ident}
 use Rattle.bundle_rules.specs.Mentions.{same_denoted, each_denoted_once}
-use Rattle.bundle_rules.specs.Meaning.{Meant, Inside, Known, Unbound, Mark, Labelling, Sense, NameMeans, is_inside, denoted, inner_bindings, bundle_sense, OwnMeaning}
+use Rattle.bundle_rules.specs.Meaning.{Meant, Inside, Known, Unbound, Labelling, Sense, NameMeans, is_inside, denoted, inner_bindings, bundle_sense, OwnMeaning}
 use Rattle.bundle_rules.specs.Meaning as n
 use Rattle.bundle_rules.specs.Bundle.{Labelled, sense_of, elements_of, SameMeaning}
 use Rattle.bundle_merge_meaning.specs.noted.Marked.{Note}
