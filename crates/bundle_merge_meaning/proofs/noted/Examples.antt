@@ -2,7 +2,8 @@
 use Rattle.std.proofs.Common.{◌≡◌, ℕ, zero, suc, Bool, true, false, List, [], ◌∷◌, ◌++◌, Some, None, refl, sym, ap, ◌∙◌, subst, arith, lit<, true≢false}
 use Rattle.std.specs.Prelude.{codes, Contains, slice_get}
 use Rattle.std.proofs.lemmas.Option.{none-some, same_Some}
-use Rattle.bundle_tree_piece.specs.declared.piece.Role.TheVariants.{Binding, Reference}
+use Rattle.bundle_tree_leaf.specs.declared.operator.AssignOp.TheVariants.{Assign}
+use Rattle.bundle_tree_piece.specs.declared.piece.Role.TheVariants.{Binding, Reference, Word}
 use Rattle.bundle_tree_piece.specs.Item as h
 use Rattle.bundle_tree_piece.specs.Item.{Item}
 use Rattle.bundle_rules.specs.Places.{Occurrence, path_at, occurrences_from, spot_before}
@@ -17,12 +18,12 @@ use Rattle.bundle_rules.specs.Meaning.{Replacement, Of, Known, Unbound, plain as
 use Rattle.bundle_rules.specs.Entries.{is_import_meta}
 use Rattle.bundle_tree_leaf.specs.declared.kind.MetaPropKind.TheVariants.{ImportMeta}
 use Rattle.bundle_rules.specs.Reads.{read_word}
-use Rattle.bundle_rules.proofs.Trees.{imports_all, calls, uses, member, node}
+use Rattle.bundle_rules.proofs.Trees.{module_of, imports_all, calls, uses, member, node}
 use Rattle.bundle_rules.proofs.LinkingExamples.{x, plain, es_plain, x_is_linked}
 use Rattle.bundle_merge_meaning.specs.noted.Nested as nested
 use Rattle.bundle_tree_places.specs.Edits.{Anywhere}
 use Rattle.bundle_merge_meaning.specs.noted.Listed as listed
-use Rattle.bundle_merge_meaning.specs.noted.Marked.{Note, Alone, Reads, Joined, Name, Inside, OfReads}
+use Rattle.bundle_merge_meaning.specs.noted.Marked.{Note, Alone, Reads, are_reads, Joined, Name, Inside, OfReads}
 use Rattle.bundle_merge_meaning.specs.noted.Agrees.{IsListing, Agrees, AgreeInTurn, ReplacesNotable}
 use Rattle.bundle_merge_meaning.specs.noted.Stated.{MarkedStated, Itself}
 use Rattle.bundle_merge_meaning.specs.noted.Uses.{done, on, WordsMean}
@@ -51,9 +52,6 @@ p = plain main
 -- its nodes
 abbrev read : List Item
 read = member 1 (uses 0 ns) x
-
-abbrev in_argument : List Item
-in_argument = read
 
 abbrev in_call : List Item
 in_call = uses 0 used ++ node 1 (h.ExprOrSpread false) read
@@ -190,3 +188,11 @@ module _ (one_stands : (y : Text) (t u : Target) → StandsFor p 0 y t → Stand
       (k.Begins 0 h.ExprStmt ∷ k.Begins 0 h.CallExpr ∷ k.Name 0 (Unbound used) ∷ k.Begins 1 (h.ExprOrSpread false) ∷ k.Name 1 (Known (Of (Declared 1 x))) ∷ k.Ends ∷ k.Ends ∷ k.Ends ∷ [])
   use_means = top_means p 0 Es (is_es (es_plain main 0)) None (Unbound []) listing replaces 0 main [] (plain_nodes main_nodes) refl
       (record { start = 8; items = statement }) (1, lit< tt, refl) notes [] _ statement_marked (taken_from 8 statement) refl agreed (λ e. absurd (true≢false (sym e)))
+
+-- `ns.x = 1` writes, and reads nothing
+written : read_word (module_of (node 0 h.ExprStmt (node 0 (h.AssignExpr Assign) (member 1 (uses 0 ns) x ++ node 2 (h.Number (codes "1")) [])))) 3 ≡ None
+written = refl
+
+-- a plain word with a read around it is no static read
+word_read : are_reads 1 (h.Ident 0 ns 0 Word ∷ node 1 (h.IdentName x) []) ≡ false
+word_read = refl

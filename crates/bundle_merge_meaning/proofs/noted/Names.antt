@@ -41,9 +41,6 @@ occurrences_node s field head inside = occurrences_append (past s (h.Open field 
 pub node_ahead : (field : ℕ) (head : Head) (inside more : List Item) → edits.node field head inside ++ more ≡ h.Open field head ∷ (inside ++ h.Close ∷ more)
 node_ahead field head inside more = ap (λ l. h.Open field head ∷ l) (append_assoc inside (h.Close ∷ []) more)
 
-pub fold_node : (s : Spot) (field : ℕ) (head : Head) (inside : List Item) → fold past s (edits.node field head inside) ≡ spot-behind s field head inside
-fold_node s field head inside = fold-append (spot-in s field head) inside (h.Close ∷ [])
-
 pub at_in_node : {tree : List Item} {s : Spot} (field : ℕ) (head : Head) (inside more : List Item) → IsAt tree s (edits.node field head inside ++ more) → IsAt tree (spot-in s field head) (inside ++ h.Close ∷ more)
 at_in_node field head inside more at = at-past (h.Open field head) (inside ++ h.Close ∷ more) (at-as refl (node_ahead field head inside more) at)
 

@@ -25,10 +25,6 @@ pub clear-field : (replaced : Table) (field : ℕ) (path : List Around) → IsCl
 clear-field replaced field [] clear = clear
 clear-field replaced field (top ∷ outer) clear = clear
 
-pub field-clear : (replaced : Table) (field : ℕ) (path : List Around) → IsClear replaced (in_field field path) → IsClear replaced path
-field-clear replaced field [] clear = clear
-field-clear replaced field (top ∷ outer) clear = clear
-
 pub clear-there : (replaced : Table) (inner : List Around) (node : Around) (outer : List Around) → IsClear replaced (inner ++ node ∷ outer) → ((x : Replacement) → replaced node.begins x → ⊥)
 clear-there replaced [] node outer clear = clear.0
 clear-there replaced (x ∷ inner) node outer clear = clear-there replaced inner node outer clear.1
@@ -48,10 +44,6 @@ outermost replaced (x ∷ inner) [] node its outer more e clear also_clear is al
 outermost replaced (x ∷ inner) (y ∷ other) node its outer more e clear also_clear is also =
     let tail : inner ++ node ∷ outer ≡ other ++ its ∷ more = cc in
     outermost replaced inner other node its outer more tail clear also_clear is also
-
-pub none-of : {A : Type 0} (o : Option A) → ((x : A) → o ≡ Some x → ⊥) → o ≡ None
-none-of None never = refl
-none-of (Some x) never = absurd (never x refl)
 
 -- ---- a name with a node around it that is replaced, and none around that: what is noted of the name
 module _ (sense : Sense) (inner : List Denoted) (s : Spot) (field : ℕ) (head : Head) (xs : List Item) (count : ℕ) (its : HasName s xs count (spot-in s field head).path) (clear : IsClear sense.replaced s.path) (by : Replacement) (is : sense.replaced s.place by) where
@@ -84,9 +76,6 @@ module _ (sense : Sense) (inner : List Denoted) (s : Spot) (field : ℕ) (head :
   as_call meant call = (call.label, replaced_here call.begins (ByCall call.label) call.replaced)
 
 -- ---- what the next note says of a node
-abbrev is_said_by_reads : Meant → Whole → List Item → Bool
-is_said_by_reads meant whole inside = is_none (meant_by_reads meant whole inside)
-
 said_reads : (meant : Meant) (n : ℕ) (inside : List Item) → are_reads n inside ≡ true → is_none (meant_by_reads meant (Reads n) inside) ≡ true → ⊥
 said_reads meant n inside are none = false≢true (ap (λ b. is_none (if b then Some meant else None)) (sym are) ∙ none)
 

@@ -107,7 +107,7 @@ closable-field (suc n) f (node ∷ outer) its = its
 front_closable : (s : Spot) (load helper m e : Ident) → Closable 7 (fold past s (load_front_items load helper m e)).path
 front_closable s load helper m e = (refl, (refl, (refl, (refl, (refl, (refl, (refl, tt)))))))
 
--- THE LOAD FUNCTION: with right names in its front, and where its statements mean the own statements of the module, it stands for that
+-- a load function with right names in its front, whose statements mean the own statements of a module, stands for that
 pub load_function_stands : (p : Program) (b : Labelled) (c : ℕ) (item : TopItem) (load helper m e : Ident) (stmts : List Item) → item.items ≡ l.load_function load helper m e stmts → AreNodes stmts → IsListing b.tree → (path : List Around) (its : StandsThere b.tree path item) → is_object_around path ≡ false → is_in_short path ≡ false → EachMeans (sense_of b) [] (occurrences_from its.s (load_front_items load helper m e)) (alone (Known (Load c) ∷ Known Helper ∷ Known (Parameter c (codes "module")) ∷ Known (Parameter c (codes "exports")) ∷ [])) → AllZip (SameMeaning p b c) (placed (item.start + length (taken_from item.start (load_front_items load helper m e))) (side_by_side zero stmts)) (own_statements (tree_of p c)) → IsLoadFunction p b c item
 load_function_stands p b c item load helper m e stmts is nodes listing path its object short names statements =
     let sense : Sense = sense_of b in

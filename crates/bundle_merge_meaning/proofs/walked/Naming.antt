@@ -47,13 +47,13 @@ named_items items tolds news marked lone same =
     let all = renamed_items items tolds (changes_to olds news) marked lone (subst (λ list. AllZip KeepsText (changes_to olds news) list) (idents-names (module_of_items items)) (changes_cover olds news same)) in
     record { items = all.after; same = all.same; marked = all.marked; names = idents-names (module_of_items all.after) ∙ (all.names ∙ changes_names olds news same) }
 
--- THE NAMES: naming keeps the marks of each item
 lengths_agree : {A B : Type 0} (f other : Occurrence → A) (g : Occurrence → B) (xs ys : List Occurrence) → length (map f xs) ≡ length (map other ys) → length (map g xs) ≡ length (map g ys)
 lengths_agree f other g [] [] same = refl
 lengths_agree f other g [] (y ∷ ys) same = absurd (omega arith)
 lengths_agree f other g (x ∷ xs) [] same = absurd (omega arith)
 lengths_agree f other g (x ∷ xs) (y ∷ ys) same = let rest = lengths_agree f other g xs ys (omega arith) in omega (arith, rest)
 
+-- naming keeps the marks of each item
 pub named_module : (items : List (List Item)) (tolds : List Told) (named : List Item) → AllZip IsMarked items tolds → All HasNoLoneName items → KeepsNames (module_of_items items) named → ModuleOf named tolds
 named_module items tolds named marked lone keeps =
     let merged : List Item = module_of_items items in

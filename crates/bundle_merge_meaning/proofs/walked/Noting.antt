@@ -186,7 +186,7 @@ default_so field x meant [] (y ∷ default) marks same = cc
 default_so field x meant (y ∷ its) [] marks same = cc
 default_so field x meant (y ∷ its) (z ∷ default) marks same = refl
 
--- THE RESULT: where names stand for themselves alone, a part has the marks that it has without notes
+-- where names stand for themselves alone, a part has the marks that it has without notes
 pub noted : {around : Around} {notes rest : List Note} {items : List Item} {marks : List Mark} → Marked None around notes items marks rest → AreAlone notes → (xs : List Item) → without_notes xs ≡ items → Marked None around notes xs marks rest
 noted d.Nothing are_alone xs same = listed_so (nothing_of xs same) d.Nothing
 noted (d.Joined {first = first} {second = second} one two) are_alone xs same =

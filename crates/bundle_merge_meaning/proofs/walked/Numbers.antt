@@ -52,7 +52,7 @@ each_weaker weaker [] (y ∷ ys) all = absurd all
 each_weaker weaker (x ∷ xs) [] all = absurd all
 each_weaker weaker (x ∷ xs) (y ∷ ys) all = (weaker x y all.0, each_weaker weaker xs ys all.1)
 
--- THE NUMBERS: what becomes each other has one number
+-- what becomes each other has one number
 pub numbers_agree : (R : Denoted → Denoted → Type 0) → IsOneToOne R → (xs ys : List Denoted) → AllZip R xs ys → (a b : Denoted) → R a b → position (same_denoted a) (each_denoted_once xs) ≡ position (same_denoted b) (each_denoted_once ys)
 numbers_agree R one xs ys all a b its = position_agrees (same_denoted a) (same_denoted b) (each_denoted_once xs) (each_denoted_once ys) (each_weaker (λ x y there. one a x b y its there) (each_denoted_once xs) (each_denoted_once ys) (both_once R one xs ys all))
 

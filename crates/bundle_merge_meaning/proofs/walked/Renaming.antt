@@ -306,7 +306,7 @@ renamed_short {around = around} {note = note} {notes = notes} {rest = rest} {def
 
 -- Main
 
--- THE RESULT: with other identifiers a part keeps its marks, by the same notes
+-- with other identifiers a part keeps its marks, by the same notes
 pub renamed_marks : {around : Around} {notes rest : List Note} {before : List Item} {marks : List Mark} → Marked None around notes before marks rest → AreAlone notes → (its left : List Change) → AllZip KeepsText its (names_of before) → (open_nodes : List Bool) (is_name : Bool) (post : List Item) → ends_no_specifier open_nodes is_name (before ++ post) ≡ true → (is_in_no_specifier around ≡ false → names_of before ≡ []) → Renamed around notes rest before marks (its ++ left) left
 renamed_marks d.Nothing alone its left cover open_nodes is_name post ends free = unchanged its left [] refl cover c.Nothing d.Nothing refl
 renamed_marks (d.Joined {first = first} {second = second} one two) alone its left cover open_nodes is_name post ends free =

@@ -68,7 +68,7 @@ marked_means b item path its listing object short notes marks marked mean =
     item_means b listing item path its object short notes [] marks marked
     (subst (λ s. EachMeans (sense_of b) inner_is (occurrences_from s item.items) notes) (sym (ap (spot_before b.tree) (sym its.place) ∙ at-spot its.at)) each)
 
--- THE ITEM: in a bundle whose names denote alike the item with other names means by the same notes
+-- in a bundle whose names denote alike the item with other names means by the same notes
 pub names_mean_there : (b other : Labelled) (item renewed : TopItem) {path outer : List Around} (here : StandsThere b.tree path item) (there : StandsThere other.tree outer renewed) (Becomes : Denoted → Denoted → Type 0) → IsOneToOne Becomes → KeepsLabels b.labels other.labels Becomes → AllZip (Renews Becomes item.start renewed.start) (map (denoted_here (sense_of b).view) (occurrences_from here.s item.items)) (map (denoted_here (sense_of other).view) (occurrences_from there.s renewed.items)) → (notes : List Note) → NamesMean b item here notes → NamesMean other renewed there notes
 names_mean_there b other item renewed here there Becomes one keeps beside notes mean =
     let ds : List Denoted = map (denoted_here (sense_of b).view) (occurrences_from here.s item.items) in

@@ -95,7 +95,7 @@ both_denote R labels inner there (ByStep step note ∷ entries) (d ∷ ds) (e �
 both_denote R labels inner there (ByMeta ident meant ∷ entries) ds [] source made = absurd made
 both_denote R labels inner there (ByMeta ident meant ∷ entries) ds (e ∷ es) source made = (made.0, both_denote R labels inner there entries ds es source made.1)
 
--- THE OWN STATEMENT: with right notes of its occurrences, and where each name that is made denotes what its note says, what a walk makes of it means in the bundle what it means in the module
+-- with right notes of its occurrences, and where each name that is made denotes what its note says, what a walk makes of it means in the bundle what it means in the module
 pub own_statement_stands : (p : Program) (m : ℕ) (kind : ModuleKind) → HasKind p m kind → (meta : Option Meant) (default : Meant) → IsListing (tree_of p m) → ReplacesNotable (own_sense p m kind) meta → (top : TopItem) (outer : List Around) (here : StandsThere (tree_of p m) outer top) → is_object_around outer ≡ false → is_in_short outer ≡ false → IsClear (Replaced p m) outer → (statement : List Element) → stated top.start top.items ≡ statement ∷ [] → {work : Work} {name : Ident} (notes : List Note) → AgreeInTurn (own_sense p m kind) (inner_bindings (own_view p m kind) 0 statement) (occurrences_from here.s top.items) notes → (declares_default top.items ≡ true → NameMeans (own_sense p m kind) (inner_bindings (own_view p m kind) 0 statement) (Bound Top (plain default_name)) default) → AreReplacedOutside (map (denoted_here (own_view p m kind)) (occurrences_from here.s top.items)) notes → (b : Labelled) (item : TopItem) (same : SameStated work meta notes name default top.items item.items) → IsListing b.tree → (path : List Around) (there : StandsThere b.tree path item) → is_object_around path ≡ false → is_in_short path ≡ false → (R : Denoted → Denoted → Type 0) → IsOneToOne R → (front_es es : List Denoted) → map (denoted_here (sense_of b).view) (occurrences_from there.s item.items) ≡ front_es ++ es → AllZip (IsOutside b.labels item.start) (map (λ pair. pair.1) same.front) front_es → AllMade R b.labels item.start same.entries (map (denoted_here (own_view p m kind)) (occurrences_from here.s top.items)) es → SameMeaning p b m item statement
 own_statement_stands p m kind has_kind meta default listing replaces top outer here object short clear statement is notes agree default_means out b item same b_listing path there b_object b_short R one front_es es denotes front_out made =
     let view = own_view p m kind in
@@ -127,7 +127,7 @@ front_made labels there D name default item front is out = elim is [
   | inr one ↦ subst (λ (list : List (Ident × Meant)). AllZip (IsOutside labels there) (map (λ pair. pair.1) list) (map D (map (λ pair. pair.0) list))) (sym one.0) (out one.1, tt)
 ]
 
--- THE WALK: what a walk states of a top item, with right steps and notes, means in the bundle what the own statement means in its module; an identifier of the item denotes this in the bundle
+-- what a walk states of a top item, with right steps and notes, means in the bundle what the own statement means in its module; an identifier of the item denotes this in the bundle
 pub walk_stands : (p : Program) (m : ℕ) (kind : ModuleKind) → HasKind p m kind → (meta : Option Meant) (default : Meant) → IsListing (tree_of p m) → ReplacesNotable (own_sense p m kind) meta → (top : TopItem) (outer : List Around) (here : StandsThere (tree_of p m) outer top) → is_object_around outer ≡ false → is_in_short outer ≡ false → IsClear (Replaced p m) outer → (statement : List Element) → stated top.start top.items ≡ statement ∷ [] → (work : Work) (name : Ident) (notes : List Note) → AgreeInTurn (own_sense p m kind) (inner_bindings (own_view p m kind) 0 statement) (occurrences_from here.s top.items) notes → (declares_default top.items ≡ true → NameMeans (own_sense p m kind) (inner_bindings (own_view p m kind) 0 statement) (Bound Top (plain default_name)) default) → AreReplacedOutside (map (denoted_here (own_view p m kind)) (occurrences_from here.s top.items)) notes → (b : Labelled) (item : TopItem) → StatesList work name top.items item.items → AreOwn top.items → Cover work.steps top.items → Agree work.steps notes → AgreeOnMeta work.meta meta → IsListing b.tree → (path : List Around) (there : StandsThere b.tree path item) → is_object_around path ≡ false → is_in_short path ≡ false → (R : Denoted → Denoted → Type 0) → IsOneToOne R → (D : Ident → Denoted) → map (denoted_here (sense_of b).view) (occurrences_from there.s item.items) ≡ map D (names_of item.items) → StepsMade R b.labels item.start D work.steps notes (map (denoted_here (own_view p m kind)) (occurrences_from here.s top.items)) → ((ident : Ident) (meant : Meant) → work.meta ≡ Some ident → meta ≡ Some meant → IsOutside b.labels item.start meant (D ident)) → (declares_default top.items ≡ true → IsOutside b.labels item.start default (D name)) → SameMeaning p b m item statement
 walk_stands p m kind has_kind meta default listing replaces top outer here object short clear statement is work name notes agree default_means out b item states own cover steps_agree on_meta b_listing path there b_object b_short R one D denotes made of_meta of_default =
     let ds : List Denoted = map (denoted_here (own_view p m kind)) (occurrences_from here.s top.items) in

@@ -95,7 +95,7 @@ front_filtered labels there (meant ∷ front) (e ∷ front_es) es out =
     ap (λ b. cond b (e ∷ filter (is_inside there) (front_es ++ es)) (filter (is_inside there) (front_es ++ es))) (not_inside labels there meant e out.0)
     ∙ front_filtered labels there front front_es es out.1
 
--- THE NAMES: with what is told of each, the names of an item mean what is noted of them
+-- with what is told of each, the names of an item mean what is noted of them
 pub names_mean : (tree : List Item) (reading : Reading) (labels : Labelling) (R : Denoted → Denoted → Type 0) → IsOneToOne R → (here there : ℕ) (front : List Meant) (entries : List Entry) (ds front_es es : List Denoted) → AllZip (IsOutside labels there) front front_es → AllDenote R labels (each_denoted_once (filter (is_inside here) ds)) here there entries ds es → AllZip (MeansNote (bundle_sense tree reading labels) (each_denoted_once (filter (is_inside there) (front_es ++ es)))) (front_es ++ es) (alone (front ++ map meant_in entries))
 names_mean tree reading labels R one here there front entries ds front_es es out all =
     let inner : List Denoted = each_denoted_once (filter (is_inside here) ds) in
@@ -105,7 +105,7 @@ names_mean tree reading labels R one here there front entries ds front_es es out
     ∙ ap (λ list. position (same_denoted e) (each_denoted_once list)) (sym (front_filtered labels there front front_es es out)) in
     front_means tree reading labels there (front_es ++ es) front front_es es (map meant_in entries) out (entries_mean tree reading labels there (front_es ++ es) R inner here entries ds es same all)
 
--- THE STATEMENT: what a walk makes of an own statement means in the bundle what the statement means in its module
+-- what a walk makes of an own statement means in the bundle what the statement means in its module
 pub statement_stands : (p : Program) (b : Labelled) (m : ℕ) (item : TopItem) (statement : List Element) {work : Work} {meta : Option Meant} {notes : List Note} {name : Ident} {default : Meant} {source : List Item} → (same : SameStated work meta notes name default source item.items) → OwnMeaning p m statement same.marks → IsListing b.tree → (path : List Around) (its : StandsThere b.tree path item) → is_object_around path ≡ false → is_in_short path ≡ false → (R : Denoted → Denoted → Type 0) → IsOneToOne R → (ds front_es es : List Denoted) → map (denoted_here (sense_of b).view) (occurrences_from its.s item.items) ≡ front_es ++ es → AllZip (IsOutside b.labels item.start) (map (λ pair. pair.1) same.front) front_es → AllDenote R b.labels (each_denoted_once (filter (is_inside 0) ds)) 0 item.start same.entries ds es → SameMeaning p b m item statement
 statement_stands p b m item statement {work = work} {meta = meta} {notes = notes} {name = name} {default = default} same own listing path its object short R one ds front_es es denotes out all =
     let sense : Sense = sense_of b in

@@ -20,7 +20,7 @@ none_left steps [] agree over = refl
 none_left [] (note ∷ notes) agree over = absurd agree
 none_left (step ∷ steps) (note ∷ notes) agree over = cc
 
--- THE RESULT: what a walk makes of a part has the marks that the part has
+-- what a walk makes of a part has the marks that the part has
 pub becomes_same : {around : Around} {work rest : Work} {before made : List Item} → Becomes around work before made rest → is_in_no_specifier around ≡ true → AreOwn before → Cover work.steps before → (meta : Option Meant) (notes : List Note) → Agree work.steps notes → AgreeOnMeta work.meta meta → Same around work meta notes before made
 becomes_same {around = around} {work = work} {rest = rest} {before = before} {made = made} one free own cover meta notes agree on_meta =
     let its = fits one free own work.steps [] (sym (append-nil work.steps)) cover in

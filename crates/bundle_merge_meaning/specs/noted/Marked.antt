@@ -1,5 +1,5 @@
 -- Which marks a part of a tree has, where a note tells of each occurrence what it means and how much of what is around
--- it stands for that: a relation over the nodes of its list. Each clause is one of `Becomes` (bundle_rebuild).
+-- it stands for that: a relation over the nodes of its list. Each clause is one of `Becomes` (bundle_tree_rebuild).
 use Rattle.std.specs.Prelude.{◌≡◌, ℕ, zero, suc, ◌==◌, Bool, true, false, is_none, List, [], ◌∷◌, ◌++◌, Option, Some, None, slice_get, if◌then◌else◌}
 use Rattle.bundle_tree_leaf.specs.declared.kind.MetaPropKind.{MetaPropKind}
 use Rattle.bundle_tree_leaf.specs.declared.kind.MetaPropKind.TheVariants as p

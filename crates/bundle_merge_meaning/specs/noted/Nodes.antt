@@ -1,4 +1,5 @@
--- Lists that are whole nodes, names and holes, one after another (as `AreNodes` of bundle_nodes, without what it says of their parts).
+-- Lists that are whole nodes, names and holes, one after another, whatever stands in the nodes (bundle_link_reached's
+-- `AreNodes` says of that too).
 use Rattle.std.specs.Prelude.{ℕ, List, [], ◌∷◌, ◌++◌}
 use Rattle.bundle_tree_piece.specs.declared.piece.Role.{Role}
 use Rattle.bundle_tree_piece.specs.Item as h

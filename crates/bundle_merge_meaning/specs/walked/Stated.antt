@@ -1,4 +1,4 @@
--- What an item of a module states in a bundle, by its list (the list form of `States` of bundle_rewrite), and that
+-- What an item of a module states in a bundle, by its list (the list form of `States` of bundle_tree_rewrite), and that
 -- it has the same marks.
 use Rattle.std.specs.Prelude.{◌≡◌, ◌⊎◌, ℕ, true, List, [], ◌∷◌, ◌++◌, Option, None, map}
 use Rattle.bundle_tree_leaf.specs.declared.kind.VarDeclKind.TheVariants.{Const}
