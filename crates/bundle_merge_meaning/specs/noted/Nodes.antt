@@ -7,6 +7,8 @@ use Rattle.bundle_tree_piece.specs.Item.{Item, Head}
 
 pub data AreNodes : List Item → Type 0 where
   nothing : AreNodes []
-  name : {field ctxt : ℕ} {sym : List ℕ} {role : Role} {rest : List Item} → AreNodes rest → AreNodes (h.Ident field sym ctxt role ∷ rest)
+  name : {field ctxt : ℕ} {sym : List ℕ} {role : Role} {rest : List Item} → AreNodes rest →
+      AreNodes (h.Ident field sym ctxt role ∷ rest)
   hole : {field : ℕ} {rest : List Item} → AreNodes rest → AreNodes (h.Hole field ∷ rest)
-  node : {field : ℕ} {head : Head} {inside rest : List Item} → AreNodes inside → AreNodes rest → AreNodes (h.Open field head ∷ (inside ++ h.Close ∷ rest))
+  node : {field : ℕ} {head : Head} {inside rest : List Item} → AreNodes inside → AreNodes rest →
+      AreNodes (h.Open field head ∷ (inside ++ h.Close ∷ rest))
