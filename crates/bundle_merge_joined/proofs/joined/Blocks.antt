@@ -11,7 +11,7 @@ use Rattle.bundle_tree_piece.specs.declared.piece.Role.TheVariants as r
 use Rattle.bundle_tree_piece.specs.Item as h
 use Rattle.bundle_tree_piece.specs.Item.{Item, Head}
 use Rattle.bundle_rules.specs.Places.{Around, Spot, spot_before, Occurrence, occurrence_of, occurrence_at, occurrences, is_binding}
-use Rattle.bundle_rules.specs.Scopes.{Es, Scope, Wrapper, Top, Inner, scope_order, scopes_around}
+use Rattle.bundle_rules.specs.Scopes.{Es, Scope, Wrapper, Top, Inner, scopes_around}
 use Rattle.bundle_rules.specs.Declarations.{Way, ByContext, Name, name_of, declared_by, way_of}
 use Rattle.bundle_rules.specs.Homes.{is_top, is_function}
 use Rattle.bundle_rules.specs.Denotes.{Denoted, Bound, Global, without_context, is_written_in, own_or_found, denoted_by_context, denoted_at}
@@ -24,7 +24,9 @@ use Rattle.bundle_rules.specs.Mentions.{same_denoted}
 use Rattle.bundle_rules.specs.Order.{Mention, Group, is_text, is_in_assign_of, is_prototype_read, is_global_named, is_of_nothing, is_object_at, denoted_in, is_of_scope, mentioned, mention_of, group_of, mention_at, Declares, IsGoodOrder}
 use Rattle.bundle_rules.specs.Parts.{tree_of_items}
 use Rattle.bundle_scope_names.proofs.Lists.{list_any-found, list_any-here}
-use Rattle.bundle_merge_joined.specs.joined.Joined.{joined, AllOf, IsWhole, moved_scope, moved_occurrence, moved_denoted, offset, own_declared, is_top_name, is_written, denoted_in_whole}
+use Rattle.bundle_order_needs.proofs.ListLemmas.{Contains-cons}
+use Rattle.bundle_order_needs.proofs.TopLemmas.{is_top-of, same-top, same-refl, Contains-filter, once-from, once-keeps, position-none, position-there, position-one}
+use Rattle.bundle_merge_joined.specs.joined.Joined.{joined, AllOf, IsWhole, moved_occurrence, moved_denoted, offset, own_declared, is_top_name, is_written, denoted_in_whole}
 use Rattle.bundle_merge_joined.specs.joined.Notes.{its_name, own_denoted, IsListedIn}
 use Rattle.bundle_merge_joined.specs.joined.Groups.{TopsAlike, same_top, loose, MentionsAlike, GroupsAlike}
 use Rattle.bundle_merge_joined.specs.joined.Picked.{IsPlaced, BindsOwn, ArePicked}
@@ -33,7 +35,6 @@ use Rattle.bundle_merge_joined.proofs.joined.Items.{all-at}
 use Rattle.bundle_merge_joined.proofs.joined.Notes.{Viewed, written, implicit, unbound, viewed, own-top}
 use Rattle.bundle_merge_joined.proofs.joined.Joining.{occurrence-placed, denoted-joined}
 use Rattle.bundle_merge_joined.proofs.joined.Groups.{good-order}
-use Rattle.bundle_merge_joined.proofs.joined.Tops.{is_top-of, same-top, same-refl, Contains-filter, Contains-cons, once-from, once-keeps, position-none, position-there, position-one}
 use Rattle.bundle_merge_joined.proofs.joined.Lists.{get-map, map-get}
 
 -- An identifier of an item, and of the item as a module.
@@ -282,22 +283,9 @@ mention-there tree tops owners s i top o at there =
 number-is : (tree : List Item) (tops : List TopItem) (top : TopItem) (o : Occurrence) (d : Denoted) → denoted_in ByContext tree top o ≡ Some d → (mention_of ByContext tree (mentioned ByContext Top tree tops) top o).top ≡ position (same_denoted d) (mentioned ByContext Top tree tops)
 number-is tree tops top o d e = ap (option_and_then (λ d. position (same_denoted d) (mentioned ByContext Top tree tops))) e
 
-abbrev order_of : Denoted → ℕ
-order_of (Bound scope name) = scope_order scope
-order_of (Global x) = 0
-
 abbrev name_in : Denoted → Name
 name_in (Bound scope name) = name
 name_in (Global x) = record { sym = x; ctxt = None }
-
--- scopes that are the top after moving
-moved-top : (k : ℕ) (scope : Scope) (name its : Name) → Bound (moved_scope k scope) name ≡ Bound Top its → (scope ≡ Top) × (name ≡ its)
-moved-top k Wrapper name its e = absurd (wrapper e)
-  where
-    wrapper : Bound Wrapper name ≡ Bound Top its → ⊥
-    wrapper e = let orders : 0 ≡ 1 = ap order_of e in omega (arith, orders)
-moved-top k Top name its e = (refl, ap (λ d. name_in d) e)
-moved-top k (Inner kind begins) name its e = let orders = ap order_of e in absurd (omega (arith, orders))
 
 -- what denotes a binding of the top of a whole has its name, and its item declares it or it is told apart by the whole alone
 top-told_by : (item : List Item) (o : Occurrence) (name : Name) (t : Bool) (k : ℕ) {d : Denoted} → Viewed item o d → denoted_in_whole t k (its_name o) d ≡ Bound Top name → (its_name o ≡ name) × (((is_written d ≡ false) × (t ≡ true)) ⊎ (is_written_in (own_declared item) Top name ≡ true))

@@ -50,13 +50,13 @@ found-in : (k : ℕ) (items : List (List Item)) (i : ℕ) (a : Occurrence) → s
 found-in k [] i a e = absurd (none-some a e)
 found-in k (item ∷ more) i a e = by_side (get-append (map (moved_occurrence k) (occurrences (tree_of_items item))) (each_moved moved_occurrence (λ i. occurrences (tree_of_items i)) (k + length item) more) i a e) (λ j f. found-in (k + length item) more j a f)
   where
-    by_side : ((j : ℕ) × (slice_get (map (moved_occurrence k) (occurrences (tree_of_items item))) j ≡ Some a)) ⊎ ((j : ℕ) × (slice_get (each_moved moved_occurrence (λ i. occurrences (tree_of_items i)) (k + length item) more) j ≡ Some a))
+    by_side : (slice_get (map (moved_occurrence k) (occurrences (tree_of_items item))) i ≡ Some a) ⊎ ((j : ℕ) × (slice_get (each_moved moved_occurrence (λ i. occurrences (tree_of_items i)) (k + length item) more) j ≡ Some a))
         → ((j : ℕ) → slice_get (each_moved moved_occurrence (λ i. occurrences (tree_of_items i)) (k + length item) more) j ≡ Some a → (m : ℕ) × (one : List Item) × (slice_get more m ≡ Some one) × (j : ℕ) × (o : Occurrence) × (slice_get (occurrences (tree_of_items one)) j ≡ Some o) × (a ≡ moved_occurrence (k + length item + offset more m) o))
         → (m : ℕ) × (one : List Item) × (slice_get (item ∷ more) m ≡ Some one) × (j : ℕ) × (o : Occurrence) × (slice_get (occurrences (tree_of_items one)) j ≡ Some o) × (a ≡ moved_occurrence (k + offset (item ∷ more) m) o)
     by_side (inl here) ih =
-        let found = get-map (moved_occurrence k) (occurrences (tree_of_items item)) here.0 a here.1 in
+        let found = get-map (moved_occurrence k) (occurrences (tree_of_items item)) i a here in
         let n : k ≡ k + 0 = omega arith in
-        (0, item, refl, here.0, found.0, found.1, found.2 ∙ ap (λ n. moved_occurrence n found.0) n)
+        (0, item, refl, i, found.0, found.1, found.2 ∙ ap (λ n. moved_occurrence n found.0) n)
     by_side (inr later) ih =
         let found = ih later.0 later.1 in
         let both = length-append item (flat (take found.0 more)) in

@@ -67,14 +67,10 @@ pub get-right : {A : Type 0} (xs ys : List A) (i : ℕ) (x : A) → slice_get ys
 get-right [] ys i x e = (i, e)
 get-right (y ∷ xs) ys i x e = let rest = get-right xs ys i x e in (suc rest.0, rest.1)
 
-pub get-append : {A : Type 0} (xs ys : List A) (i : ℕ) (x : A) → slice_get (xs ++ ys) i ≡ Some x → ((j : ℕ) × (slice_get xs j ≡ Some x)) ⊎ ((j : ℕ) × (slice_get ys j ≡ Some x))
+pub get-append : {A : Type 0} (xs ys : List A) (i : ℕ) (x : A) → slice_get (xs ++ ys) i ≡ Some x → (slice_get xs i ≡ Some x) ⊎ ((j : ℕ) × (slice_get ys j ≡ Some x))
 get-append [] ys i x e = inr (i, e)
-get-append (y ∷ xs) ys zero x e = inl (0, e)
-get-append {A = A} (y ∷ xs) ys (suc i) x e = by_side (get-append xs ys i x e)
-  where
-    by_side : ((j : ℕ) × (slice_get xs j ≡ Some x)) ⊎ ((j : ℕ) × (slice_get ys j ≡ Some x)) → ((j : ℕ) × (slice_get (y ∷ xs) j ≡ Some x)) ⊎ ((j : ℕ) × (slice_get ys j ≡ Some x))
-    by_side (inl here) = inl (suc here.0, here.1)
-    by_side (inr there) = inr there
+get-append (y ∷ xs) ys zero x e = inl e
+get-append (y ∷ xs) ys (suc i) x e = get-append xs ys i x e
 
 pub get-behind : {A : Type 0} (xs ys : List A) (p : ℕ) → slice_get (xs ++ ys) (length xs + p) ≡ slice_get ys p
 get-behind [] ys p = let n : 0 + p ≡ p = omega arith in ap (slice_get ys) n

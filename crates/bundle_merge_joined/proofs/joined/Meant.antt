@@ -13,6 +13,7 @@ use Rattle.bundle_rules.specs.Meaning.{View, denoted, is_inside, inner_bindings,
 use Rattle.bundle_rules.specs.Mentions.{same_context}
 use Rattle.bundle_rules.specs.Parts.{tree_of_items}
 use Rattle.bundle_rules.specs.Statements.{taken_from}
+use Rattle.bundle_order_needs.proofs.TopLemmas.{Contains-filter, once-from, position-none}
 use Rattle.bundle_merge_joined.specs.joined.Joined.{joined, AllOf, IsWhole, moved, moved_denoted, offset, is_top_name, is_written, denoted_in_whole}
 use Rattle.bundle_merge_joined.specs.joined.Notes.{its_name, own_denoted, is_inner, IsListedIn}
 use Rattle.bundle_merge_joined.proofs.joined.Paths.{moved-from}
@@ -22,7 +23,6 @@ use Rattle.bundle_merge_joined.proofs.joined.Items.{all-at}
 use Rattle.bundle_merge_joined.proofs.joined.Joining.{denoted-joined}
 use Rattle.bundle_merge_joined.proofs.joined.Notes.{Viewed, written, implicit, unbound as not_bound, viewed, inner-told}
 use Rattle.bundle_merge_joined.proofs.joined.Source.{its-view, denoted-in_module}
-use Rattle.bundle_merge_joined.proofs.joined.Tops.{Contains-filter, once-from, position-none}
 
 -- an item by itself, and the whole, as they are read
 abbrev pub view_of : List Item → View

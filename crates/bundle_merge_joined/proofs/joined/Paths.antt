@@ -10,6 +10,8 @@ use Rattle.bundle_rules.specs.Parts.{tree_of_items}
 use Rattle.bundle_rules.specs.Sorting.{flat}
 use Rattle.bundle_merge_joined.specs.joined.Joined.{joined, open_behind, AllOf, IsWhole, moved, moved_path, moved_occurrence, each_moved}
 use Rattle.bundle_merge_joined.proofs.joined.Lists.{get-behind}
+pub use Rattle.bundle_merge_meaning.proofs.noted.Spots.{fold-append, fold-place}
+pub use Rattle.bundle_merge_meaning.proofs.noted.Names.{occurrences_append as occurrences-append}
 
 -- behind the beginning of a module
 abbrev pub inside : Spot
@@ -86,22 +88,6 @@ moved-occurrences k (x ∷ xs) a b m =
     ap (λ o. cons_option o (occurrences_from (past b x) xs)) (moved-occurrence k a b m x)
     ∙ ap (cons_option (option_map (moved_occurrence k) (occurrence_of a x))) (moved-occurrences k xs (past a x) (past b x) (moved-past k a b m x))
     ∙ cons_option-map (moved_occurrence k) (occurrence_of a x) (occurrences_from (past a x) xs)
-
-cons_option-append : {A : Type 0} (first : Option A) (xs ys : List A) → cons_option first (xs ++ ys) ≡ cons_option first xs ++ ys
-cons_option-append None xs ys = refl
-cons_option-append (Some x) xs ys = refl
-
-pub occurrences-append : (s : Spot) (xs ys : List Item) → occurrences_from s (xs ++ ys) ≡ occurrences_from s xs ++ occurrences_from (fold past s xs) ys
-occurrences-append s [] ys = refl
-occurrences-append s (x ∷ xs) ys = ap (cons_option (occurrence_of s x)) (occurrences-append (past s x) xs ys) ∙ cons_option-append (occurrence_of s x) (occurrences_from (past s x) xs) (occurrences_from (fold past (past s x) xs) ys)
-
-pub fold-append : (s : Spot) (xs ys : List Item) → fold past s (xs ++ ys) ≡ fold past (fold past s xs) ys
-fold-append s [] ys = refl
-fold-append s (x ∷ xs) ys = fold-append (past s x) xs ys
-
-pub fold-place : (s : Spot) (xs : List Item) → (fold past s xs).place ≡ s.place + length xs
-fold-place s [] = omega arith
-fold-place s (x ∷ xs) = let rest = fold-place (past s x) xs in omega (arith, rest)
 
 -- the module's node lies below so many others
 abbrev pub IsBelow : ℕ → List Around → Type 0
