@@ -1,21 +1,17 @@
 -- Groups that are alike have the same dependencies, needs, steps and good orders.
-use Rattle.std.proofs.Common.{◌≡◌, ◌↔◌, ◌<◌, ℕ, zero, suc, Option, Some, None, List, [], ◌∷◌, slice_get, Contains, refl, sym, ap, ◌∙◌, subst, inl, inr}
+use Rattle.std.proofs.Common.{◌≡◌, ◌↔◌, ◌<◌, ℕ, Option, Some, None, List, [], ◌∷◌, slice_get, Contains, refl, sym, ap, ◌∙◌, subst, inl, inr}
 use Rattle.std.specs.List.{AllZip}
 use Rattle.std.specs.Option.{option_and_then}
 use Rattle.std.proofs.lemmas.Option.{none-some, same_Some}
 use Rattle.std.proofs.lemmas.List.Elements.{length_all_zip}
 use Rattle.bundle_order_graph.proofs.WalkLemmas.{Path-mono}
 use Rattle.bundle_rules.specs.Order.{Mention, Group, IsOf, IsFree, mention_at, Refers, DeclaresAt, Declares, DeclaresFirst, IsWithoutValue, Fills, SetsUpBy, by_member, by_prototype, by_value, SetsUp, Provides, Depends, DependsAtOnce, IsStrong, IsWeak, Needs, Step, by_need, by_own_order, IsGoodOrder}
-use Rattle.bundle_merge_joined.specs.grouped.Alike.{IsSameButTop, DenoteOne, Share, OwnersAlike, GroupsAlike}
+use Rattle.bundle_order_needs.specs.Renumbered.{IsSameButTop}
+use Rattle.bundle_order_needs.proofs.RenumberLemmas.{zip-at}
+use Rattle.bundle_merge_joined.specs.grouped.Alike.{DenoteOne, Share, OwnersAlike, GroupsAlike}
 
--- ---- the element at the same place of the other list
+-- ---- two lists in turn, the other way round
 module _ {X Y : Type 0} (R : X → Y → Type 0) where
-  pub zip-at : (xs : List X) (ys : List Y) (k : ℕ) (x : X) → AllZip R xs ys → slice_get xs k ≡ Some x → (y : Y) × (slice_get ys k ≡ Some y) × R x y
-  zip-at [] ys k x z e = absurd (none-some x e)
-  zip-at (u ∷ xs) [] k x z e = absurd z
-  zip-at (u ∷ xs) (v ∷ ys) zero x z e = (v, refl, subst (λ (w : X). R w v) (same_Some u x e) z.0)
-  zip-at (u ∷ xs) (v ∷ ys) (suc k) x z e = zip-at xs ys k x z.1 e
-
   pub zip-flip : (xs : List X) (ys : List Y) (S : Y → X → Type 0) → ((x : X) (y : Y) → R x y → S y x) → AllZip R xs ys → AllZip S ys xs
   zip-flip [] [] S turns z = tt
   zip-flip [] (v ∷ ys) S turns z = absurd z

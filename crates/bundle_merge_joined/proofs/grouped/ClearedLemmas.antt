@@ -22,9 +22,10 @@ use Rattle.bundle_rules.proofs.PathLemmas.{cleared_path, cleared_occurrence, occ
 use Rattle.bundle_rules.proofs.NodeLemmas.{child-cleared, in_field-cleared, begins_with-cleared, parts-cleared}
 use Rattle.bundle_rules.proofs.ReadLemmas.{node_at-cleared}
 use Rattle.bundle_rules.proofs.DenotesLemmas.{scopes_around-cleared, denoted_at-cleared}
+use Rattle.bundle_order_needs.proofs.RenumberLemmas.{zip-at}
 use Rattle.bundle_merge_joined.specs.grouped.Standing.{SameFlags, object_in, ItemsAlike, Stands, Correspond}
 use Rattle.bundle_merge_joined.specs.grouped.Renaming.{AtOne}
-use Rattle.bundle_merge_joined.proofs.grouped.AlikeLemmas.{zip-at, owners-refl}
+use Rattle.bundle_merge_joined.proofs.grouped.AlikeLemmas.{owners-refl}
 use Rattle.bundle_merge_joined.proofs.grouped.GroupLemmas.{good_order-corresponds}
 
 -- ---- nodes

@@ -17,10 +17,11 @@ use Rattle.bundle_rules.specs.Sorting.{group_of_items}
 use Rattle.bundle_tree_places.specs.Edits.{Anywhere, Edits, Inside, node}
 use Rattle.bundle_tree_places.proofs.EditsLemmas.{rebuilt_so}
 use Rattle.bundle_rules.proofs.DenotesLemmas.{denotations-cleared}
+use Rattle.bundle_order_needs.proofs.RenumberLemmas.{zip-at}
 use Rattle.bundle_merge_joined.specs.grouped.Alike.{OwnersAlike}
 use Rattle.bundle_merge_joined.specs.grouped.Renaming.{HasWays, HasObjects, AtOne}
 use Rattle.bundle_merge_joined.specs.grouped.Contexts.{BindsOwn, IsTold, StandsInBoth}
-use Rattle.bundle_merge_joined.proofs.grouped.AlikeLemmas.{zip-at, owners-refl}
+use Rattle.bundle_merge_joined.proofs.grouped.AlikeLemmas.{owners-refl}
 use Rattle.bundle_merge_joined.proofs.grouped.WholeLemmas.{Whole}
 use Rattle.bundle_merge_joined.proofs.grouped.PairLemmas.{Pair, module-paired}
 use Rattle.bundle_merge_joined.proofs.grouped.RenamedLemmas.{renamed-good_order}

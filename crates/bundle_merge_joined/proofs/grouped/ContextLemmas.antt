@@ -9,15 +9,17 @@ use Rattle.std.proofs.lemmas.Slice.Eq.{bytes_eq-Decides}
 use Rattle.bundle_tree_piece.specs.Item as h
 use Rattle.bundle_tree_piece.specs.Item.{Item, Head}
 use Rattle.bundle_rules.specs.Places.{Around, Spot, past, start, Occurrence, occurrence_of, occurrences_from, occurrences, is_binding}
-use Rattle.bundle_rules.specs.Scopes.{Es, Scope, ScopeKind, Top, Inner, scope_order, same_scope, scope_at, scopes_around, kind_of_scope}
+use Rattle.bundle_rules.specs.Scopes.{Es, Scope, ScopeKind, Top, Inner, same_scope, scope_at, scopes_around, kind_of_scope}
 use Rattle.bundle_rules.specs.Declarations.{Way, way_of, Reading, ByContext, Name, name_of, names_agree, contexts_agree, Declared, is_nameless_default, declared_by, declaration_of, nameless_default, declared_at, declared_from, declared}
 use Rattle.bundle_rules.specs.Homes.{home_of, is_declared_in}
 use Rattle.bundle_rules.specs.Denotes.{Denoted, Bound, Global, SameIdent, denoted_of, denoted_in, written_or_implied, implied, is_implied_in, is_written_in, has_identifier, bound_in, without_context, own_or_found, is_unresolved}
 use Rattle.bundle_rules.specs.Order.{is_global_named, is_of_nothing}
+use Rattle.bundle_rules.specs.Symbols.{denoted_symbol}
+use Rattle.bundle_order_needs.proofs.TopLemmas.{is_top-of}
 use Rattle.bundle_merge_joined.specs.grouped.Renaming.{HasWays}
 use Rattle.bundle_merge_joined.specs.grouped.Contexts.{IsTopBinding, TopsApart, BindsOwn}
 use Rattle.bundle_merge_joined.proofs.grouped.FormLemmas.{home-top}
-use Rattle.bundle_merge_joined.proofs.grouped.RenamedLemmas.{scope-top}
+use Rattle.bundle_merge_joined.proofs.joined.Bindings.{scope_in, context_in}
 
 -- ---- declarations are identifiers that bind
 -- what an identifier declares in this way
@@ -123,15 +125,6 @@ found-declared reading f nameless (x ∷ items) spot e = by (is_nameless_default
 agrees : (a b : Name) → names_agree a b ≡ true → (a.sym ≡ b.sym) × (contexts_agree a.ctxt b.ctxt ≡ true)
 agrees a b t = let p = and_parts (bytes_eq a.sym b.sym) (contexts_agree a.ctxt b.ctxt) t in ((bytes_eq-Decides a.sym b.sym).0 p.0, p.1)
 
--- the parts of the name of what is denoted
-abbrev symbol_in : Denoted → List ℕ
-symbol_in (Bound scope name) = name.sym
-symbol_in (Global x) = x
-
-abbrev context_in : Denoted → Option ℕ
-context_in (Bound scope name) = name.ctxt
-context_in (Global x) = None
-
 module _ (tree : List Item) where
   abbrev all : List Declared
   all = declared ByContext Es tree
@@ -173,7 +166,7 @@ module _ (tree : List Item) where
 
   -- ---- what is declared at the top
   home-is : (p : Occurrence) (top : IsTopBinding p) → home_of all (declares_so ByContext p top.way) ≡ Top
-  home-is p top = scope-top (home_of all (declares_so ByContext p top.way)) (eqb-true (scope_order (home_of all (declares_so ByContext p top.way))) 1 (home-top all (declares_so ByContext p top.way) p.path refl ∙ top.top))
+  home-is p top = ap scope_in (is_top-of (Bound (home_of all (declares_so ByContext p top.way)) (name_of ByContext p.sym p.ctxt)) (home-top all (declares_so ByContext p top.way) p.path refl ∙ top.top)).1
 
   pub top-denotes : (p : Occurrence) → IsTopBinding p → denoted_of ByContext Es all p ≡ Bound Top (name_of ByContext p.sym p.ctxt)
   top-denotes p top =
@@ -229,7 +222,7 @@ module _ (tree : List Item) where
         by false refers = refers-top m o p there top same refers ∙ (ap (Bound Top) (name-same o p same) ∙ sym (top-denotes p top))
 
     ident-of : (o p : Occurrence) (scope : Scope) → ◌≡◌ {A = Denoted} (Bound scope (name_of ByContext o.sym o.ctxt)) (Bound Top (name_of ByContext p.sym p.ctxt)) → SameIdent o p
-    ident-of o p scope e = (ap symbol_in e, same_Some o.ctxt p.ctxt (ap context_in e))
+    ident-of o p scope e = (ap denoted_symbol e, same_Some o.ctxt p.ctxt (ap context_in e))
 
     implied-not : (o p : Occurrence) (scopes : List Scope) → implied all scopes (name_of ByContext o.sym o.ctxt) ≡ Bound Top (name_of ByContext p.sym p.ctxt) → ⊥
     implied-not o p scopes e = by (is_unresolved (Some o.ctxt)) (find (λ scope. is_implied_in all scope (name_of ByContext o.sym o.ctxt)) scopes) e

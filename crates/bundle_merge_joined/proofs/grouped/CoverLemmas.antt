@@ -1,5 +1,5 @@
 -- The identifiers of a module are those of its items; so a block's items alone are told apart where the whole bundle's are.
-use Rattle.std.proofs.Common.{◌≡◌, ◌⊎◌, ◌<◌, ℕ, zero, suc, ◌+◌, List, [], ◌∷◌, ◌++◌, Option, Some, length, drop, take, slice_get, refl, sym, ap, ◌∙◌, subst, append_assoc, append-nil, inl, inr, arith}
+use Rattle.std.proofs.Common.{◌≡◌, ◌<◌, ℕ, zero, suc, ◌+◌, List, [], ◌∷◌, ◌++◌, Option, Some, length, drop, take, slice_get, refl, sym, ap, ◌∙◌, subst, append_assoc, append-nil, inl, inr, arith}
 use Rattle.std.specs.Prelude.{fold}
 use Rattle.std.specs.List.{AllZip}
 use Rattle.std.proofs.lemmas.Option.{none-some, same_Some, slice_get_within}
@@ -13,21 +13,24 @@ use Rattle.bundle_rules.specs.Declarations.{ByContext, Way, way_of, declared}
 use Rattle.bundle_rules.specs.Denotes.{denoted_of, denoted_at, IsResolved}
 use Rattle.std.specs.Option.{option_map}
 use Rattle.bundle_rules.specs.Homes.{from_taker}
-use Rattle.bundle_rules.specs.Nodes.{side_by_side}
+use Rattle.bundle_rules.specs.Nodes.{side_by_side, flat}
 use Rattle.bundle_rules.specs.Statements.{TopItem, placed, top_items}
 use Rattle.bundle_rules.specs.Order.{is_of_scope}
 use Rattle.bundle_tree_places.specs.Edits.{node}
+use Rattle.bundle_order_needs.proofs.RenumberLemmas.{zip-at}
+use Rattle.bundle_merge_meaning.proofs.noted.ListFacts.{drop-past}
 use Rattle.bundle_merge_joined.specs.grouped.Forms.{Under, below, is_top_first}
 use Rattle.bundle_merge_joined.specs.grouped.Placed.{IsDirect}
 use Rattle.bundle_merge_joined.specs.grouped.Renaming.{HasWays}
 use Rattle.bundle_merge_joined.specs.grouped.Contexts.{IsTopBinding, BindsOwn, IsTold, StandsInBoth}
-use Rattle.bundle_merge_joined.proofs.grouped.AlikeLemmas.{zip-at}
-use Rattle.bundle_merge_joined.proofs.grouped.WholeLemmas.{Whole, nothing, hole, name, inner, joined, beside, beside-node, parts-node, drop-past, occurrences-append}
+use Rattle.bundle_merge_joined.proofs.grouped.WholeLemmas.{Whole, nothing, hole, name, inner, joined, beside, beside-node, parts-node}
 use Rattle.bundle_merge_joined.proofs.grouped.FormLemmas.{form-under, way-alike, top_first-alike, binding-top}
 use Rattle.bundle_merge_joined.proofs.grouped.PlacedLemmas.{roles-count}
 use Rattle.bundle_merge_joined.proofs.grouped.NumberLemmas.{Found, found-behind, Listed, listed-in, count_before}
-use Rattle.bundle_merge_joined.proofs.grouped.PairLemmas.{flat, flat-sides, UnderAt, under-past, take-past}
+use Rattle.bundle_merge_joined.proofs.grouped.PairLemmas.{flat-sides, UnderAt, under-past, take-past}
 use Rattle.bundle_merge_joined.proofs.grouped.ContextLemmas.{top-denotes}
+use Rattle.bundle_merge_joined.proofs.joined.Lists.{get-append}
+use Rattle.bundle_merge_joined.proofs.joined.Paths.{occurrences-append}
 
 -- ---- nodes
 data EachWhole : List (List Item) → Type 0 where
@@ -47,12 +50,11 @@ sides-whole (joined {xs = xs} {ys = ys} one two) = subst EachWhole (sym (beside 
 
 -- ---- each item stands directly in the module
 directs : (tree : List Item) {xs : List (List Item)} → EachWhole xs → (n : ℕ) (pb : List Item) → drop n tree ≡ flat xs ++ pb → UnderAt tree n → (k : ℕ) (item : TopItem) → slice_get (placed n xs) k ≡ Some item → IsDirect tree item
-unfolding flat
 directs tree none n pb here under k item e = absurd (none-some item e)
 directs tree (more {one = one} {ones = ones} whole each) n pb here under zero item e = subst (λ (z : TopItem). IsDirect tree z) (same_Some _ item e) (record { rest = flat ones ++ pb; is = here ∙ append_assoc one (flat ones) pb; under = under })
 directs tree (more {one = one} {ones = ones} whole each) n pb here under (suc k) item e =
     let here_one : drop n tree ≡ one ++ (flat ones ++ pb) = here ∙ append_assoc one (flat ones) pb in
-    directs tree each (n + length one) pb (drop-past n tree one (flat ones ++ pb) here_one) (under-past tree n one (flat ones ++ pb) whole here_one under) k item e
+    directs tree each (n + length one) pb (drop-past tree n one (flat ones ++ pb) here_one) (under-past tree n one (flat ones ++ pb) whole here_one under) k item e
 
 inside-is : {inside : List Item} → Whole inside → inside ++ h.Close ∷ [] ≡ flat (side_by_side zero inside) ++ h.Close ∷ []
 inside-is whole = ap (λ (l : List Item). l ++ h.Close ∷ []) (sym (flat-sides whole))
@@ -74,11 +76,6 @@ pub record InItem (items : List TopItem) (q : Occurrence) : Type 0 where
   pub role : q.role ≡ name.role
   pub path : Under name.path q.path
 
-get-either : {X : Type 0} (xs ys : List X) (j : ℕ) (x : X) → slice_get (xs ++ ys) j ≡ Some x → (slice_get xs j ≡ Some x) ⊎ ((i : ℕ) × (slice_get ys i ≡ Some x))
-get-either [] ys j x e = inr (j, e)
-get-either (y ∷ xs) ys zero x e = inl e
-get-either (y ∷ xs) ys (suc j) x e = get-either xs ys j x e
-
 get-some : {X : Type 0} (xs : List X) (j : ℕ) → j < length xs → (x : X) × (slice_get xs j ≡ Some x)
 get-some [] j l = absurd (omega (arith, l))
 get-some (x ∷ xs) zero l = (x, refl)
@@ -95,13 +92,12 @@ later-item : {items : List TopItem} (first : TopItem) {q : Occurrence} → InIte
 later-item first it = record { at = suc it.at; item = it.item; its = it.its; number = it.number; name = it.name; there = it.there; sym = it.sym; ctxt = it.ctxt; role = it.role; path = it.path }
 
 covers : (tree : List Item) {xs : List (List Item)} → EachWhole xs → (n : ℕ) (pb : List Item) → drop n tree ≡ flat xs ++ pb → UnderAt tree n → (j : ℕ) (q : Occurrence) → slice_get (occurrences_from (fold past start (take n tree)) (flat xs)) j ≡ Some q → InItem (placed n xs) q
-unfolding flat
 covers tree none n pb here under j q e = absurd (none-some q e)
 covers tree (more {one = one} {ones = ones} whole each) n pb here under j q e =
     let here_one : drop n tree ≡ one ++ (flat ones ++ pb) = here ∙ append_assoc one (flat ones) pb in
     let s : Spot = fold past start (take n tree) in
     let behind : fold past start (take (n + length one) tree) ≡ fold past s one = ap (fold past start) (take-past n tree one (flat ones ++ pb) here_one) ∙ fold-append past start (take n tree) one in
-    elim (get-either (occurrences_from s one) (occurrences_from (fold past s one) (flat ones)) j q (sym (ap (λ l. slice_get l j) (occurrences-append s one (flat ones))) ∙ e)) [
+    elim (get-append (occurrences_from s one) (occurrences_from (fold past s one) (flat ones)) j q (sym (ap (λ l. slice_get l j) (occurrences-append s one (flat ones))) ∙ e)) [
       | inl first ↦
         let found = back-found one s j q (λ m. under m) first in
         let is : found.2.name ≡ q = same_Some found.2.name q (sym found.2.there ∙ first) in
@@ -118,7 +114,7 @@ covers tree (more {one = one} {ones = ones} whole each) n pb here under j q e =
           path = subst (λ (o : Occurrence). Under found.0.path o.path) is found.2.path;
         }
       | inr later ↦ later-item (record { start = n; items = one })
-        (covers tree each (n + length one) pb (drop-past n tree one (flat ones ++ pb) here_one) (under-past tree n one (flat ones ++ pb) whole here_one under) later.0 q (ap (λ (t : Spot). slice_get (occurrences_from t (flat ones)) later.0) behind ∙ later.1))
+        (covers tree each (n + length one) pb (drop-past tree n one (flat ones ++ pb) here_one) (under-past tree n one (flat ones ++ pb) whole here_one under) later.0 q (ap (λ (t : Spot). slice_get (occurrences_from t (flat ones)) later.0) behind ∙ later.1))
     ]
 
 -- the identifiers of a module stand in its items

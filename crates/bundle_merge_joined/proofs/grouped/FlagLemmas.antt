@@ -1,6 +1,7 @@
 -- What order asks of an identifier by the nodes around it is the same where these are alike.
-use Rattle.std.proofs.Common.{◌≡◌, ℕ, ◌+◌, ◌&&◌, ◌||◌, ◌==◌, Bool, true, false, not, cond, List, [], ◌∷◌, ◌++◌, Option, Some, None, codes, refl, sym, ap, ◌∙◌}
+use Rattle.std.proofs.Common.{◌≡◌, ℕ, ◌+◌, ◌&&◌, ◌||◌, ◌==◌, Bool, true, false, not, cond, List, [], ◌∷◌, Option, Some, None, codes, refl, sym, ap, ◌∙◌}
 use Rattle.std.specs.List.{list_any}
+use Rattle.std.proofs.lemmas.Bool.{and_right}
 use Rattle.bundle_tree_piece.specs.Item as h
 use Rattle.bundle_tree_piece.specs.Item.{Item, Head}
 use Rattle.bundle_rules.specs.Places.{Around, Occurrence, is_binding}
@@ -13,15 +14,12 @@ use Rattle.bundle_rules.specs.Reads.{property_of}
 use Rattle.bundle_rules.specs.Order.{passes_assignments, assigns, is_assigned, is_chain_step, is_parenthesis, ends_chain, roots_chain, is_text, is_prototype_read, is_in_assign_of, is_any_call, is_in_argument, is_declarator, is_nothing, has_no_value}
 use Rattle.bundle_merge_joined.specs.grouped.Standing.{SameFlags}
 use Rattle.bundle_merge_joined.specs.grouped.Paths.{node_in, PathAlike, outside, same, pair, key, defaulted, NameAlike}
+use Rattle.bundle_merge_joined.proofs.joined.Lists.{any-append}
 
 -- a test that is the same in both, or of which nothing is asked
 and-agree : (c x y : Bool) → (c ≡ true → x ≡ y) → (c && x) ≡ (c && y)
 and-agree true x y e = e refl
 and-agree false x y e = refl
-
-and-false : (c : Bool) → (c && false) ≡ false
-and-false true = refl
-and-false false = refl
 
 -- ---- what runs later
 block_in-parameters : (head : Head) (b : ℕ) → is_parameters (Inner (block_in head) b) ≡ false
@@ -54,14 +52,6 @@ makes-parameters h.SwitchStmt b a field p q = either-parameters (field == 0) Blo
 makes-parameters h.FnExpr b a field p q = either-parameters (is_default p) FunctionName b refl ∙ sym (either-parameters (is_default q) FunctionName a refl)
 makes-parameters h.ClassExpr b a field p q = either-parameters (is_default p) ClassName b refl ∙ sym (either-parameters (is_default q) ClassName a refl)
 makes-parameters _ b a field p q = refl
-
-any-append : {X : Type 0} (f : X → Bool) (xs ys : List X) → list_any f (xs ++ ys) ≡ (list_any f xs || list_any f ys)
-any-append f [] ys = refl
-any-append f (x ∷ xs) ys = by (f x) (any-append f xs ys)
-  where
-    by : (c : Bool) → list_any f (xs ++ ys) ≡ (list_any f xs || list_any f ys) → (c || list_any f (xs ++ ys)) ≡ ((c || list_any f xs) || list_any f ys)
-    by true e = refl
-    by false e = e
 
 module _ (before after : List Item) (test_before test_after : ℕ → Bool) where
   abbrev Alike : List Around → List Around → Type 0
@@ -145,7 +135,7 @@ module _ (before after : List Item) (test_before test_after : ℕ → Bool) wher
 
   -- no word, no read
   no_read : (f : Bool) (t : Option Text) → t ≡ None → (f && is_text (codes "prototype") t) ≡ false
-  no_read f t e = ap (λ x. f && is_text (codes "prototype") x) e ∙ and-false f
+  no_read f t e = ap (λ x. f && is_text (codes "prototype") x) e ∙ and_right f false refl
 
   pub prototype_read-alike : {p q : List Around} → Alike p q → is_prototype_read before p ≡ is_prototype_read after q
   prototype_read-alike outside = refl

@@ -10,7 +10,8 @@ use Rattle.bundle_rules.specs.Declarations.{Reading}
 use Rattle.bundle_rules.specs.Denotes.{Denoted}
 use Rattle.bundle_rules.specs.Statements.{TopItem}
 use Rattle.bundle_rules.specs.Order.{Mention, IsGoodOrder, group_of, mentioned, mention_of, mention_at}
-use Rattle.bundle_merge_joined.specs.grouped.Alike.{IsSameButTop, DenoteOne, OwnersAlike, GroupsAlike}
+use Rattle.bundle_order_needs.specs.Renumbered.{IsSameButTop}
+use Rattle.bundle_merge_joined.specs.grouped.Alike.{DenoteOne, OwnersAlike, GroupsAlike}
 use Rattle.bundle_merge_joined.specs.grouped.Standing.{SameFlags, object_in, ItemsAlike, Stands, Correspond}
 use Rattle.bundle_merge_joined.proofs.grouped.AlikeLemmas.{IsGoodOrder-alike}
 use Rattle.bundle_merge_joined.proofs.grouped.TopLemmas.{denote_one-to, denote_one-from}

@@ -20,11 +20,12 @@ use Rattle.bundle_rules.specs.Renamed.{IsRidOfKeywords}
 use Rattle.bundle_rules.specs.Order.{IsGoodOrder, group_of}
 use Rattle.bundle_tree_places.specs.Edits.{Anywhere, Edits, Inside, node}
 use Rattle.bundle_tree_places.proofs.EditsLemmas.{rebuilt_so}
+use Rattle.bundle_order_needs.proofs.RenumberLemmas.{zip-at}
 use Rattle.bundle_merge_joined.specs.grouped.Alike.{OwnersAlike}
 use Rattle.bundle_merge_joined.specs.grouped.Contexts.{BindsOwn}
 use Rattle.bundle_merge_joined.specs.grouped.Paths.{NameAlike}
 use Rattle.bundle_merge_joined.specs.grouped.Renaming.{HasWays, HasObjects, AtOne}
-use Rattle.bundle_merge_joined.proofs.grouped.AlikeLemmas.{zip-at, zip-flip}
+use Rattle.bundle_merge_joined.proofs.grouped.AlikeLemmas.{zip-flip}
 use Rattle.bundle_merge_joined.proofs.grouped.FormLemmas.{form-path, way-alike}
 use Rattle.bundle_merge_joined.proofs.grouped.PlacedLemmas.{names-edited}
 use Rattle.bundle_merge_joined.proofs.grouped.NumberLemmas.{as-listed}

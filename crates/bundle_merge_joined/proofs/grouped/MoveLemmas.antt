@@ -15,46 +15,37 @@ use Rattle.bundle_rules.specs.Denotes.{Denoted}
 use Rattle.bundle_rules.specs.Statements.{TopItem}
 use Rattle.bundle_rules.specs.Mentions.{same_denoted}
 use Rattle.bundle_rules.specs.Order.{IsGoodOrder, group_of, denoted_in, is_of_scope, is_global_named, is_of_nothing, is_object_at}
+use Rattle.bundle_order_needs.proofs.RenumberLemmas.{zip-at, AreBoth, zip-back}
 use Rattle.bundle_merge_joined.specs.grouped.Alike.{OwnersAlike}
 use Rattle.bundle_merge_joined.specs.grouped.Standing.{ItemsAlike, Stands, Correspond, IsMoved, MovesTops}
 use Rattle.bundle_merge_joined.specs.grouped.Placed.{IsPlaced, ObjectsAlike}
-use Rattle.bundle_merge_joined.proofs.grouped.AlikeLemmas.{zip-at}
 use Rattle.bundle_merge_joined.proofs.grouped.PlacedLemmas.{moved-alike}
 use Rattle.bundle_merge_joined.proofs.grouped.GroupLemmas.{good_order-corresponds}
+use Rattle.bundle_merge_joined.proofs.joined.Lists.{get-left}
 
--- ---- owners
--- both are free, or of modules that stand for each other
-abbrev pub OwnerAs : (ℕ → ℕ → Type 0) → Option ℕ → Option ℕ → Type 0
-OwnerAs R None None = Unit {0}
-OwnerAs R None (Some b) = ⊥
-OwnerAs R (Some a) None = ⊥
-OwnerAs R (Some a) (Some b) = R a b
-
+-- ---- owners: both are free, or of modules that stand for each other
 module _ (R : ℕ → ℕ → Type 0) (to : (a b c : ℕ) → R a b → R a c → b ≡ c) (from : (a b c : ℕ) → R b a → R c a → b ≡ c) where
-  owner-at : (one two : List (Option ℕ)) → AllZip (OwnerAs R) one two → (s : ℕ) (o : Option ℕ) → slice_get one s ≡ Some o → (p : Option ℕ) × (slice_get two s ≡ Some p) × OwnerAs R o p
-  owner-at one two zip s o e = zip-at (OwnerAs R) one two s o zip e
+  owner-at : (one two : List (Option ℕ)) → AllZip (AreBoth R) one two → (s : ℕ) (o : Option ℕ) → slice_get one s ≡ Some o → (p : Option ℕ) × (slice_get two s ≡ Some p) × AreBoth R o p
+  owner-at one two zip s o e = zip-at (AreBoth R) one two s o zip e
 
-  owner-back : (one two : List (Option ℕ)) → AllZip (OwnerAs R) one two → (s : ℕ) (p : Option ℕ) → slice_get two s ≡ Some p → (o : Option ℕ) × (slice_get one s ≡ Some o) × OwnerAs R o p
-  owner-back one [] zip s p e = absurd (none-some p e)
-  owner-back [] (y ∷ two) zip s p e = absurd zip
-  owner-back (x ∷ one) (y ∷ two) zip zero p e = (x, refl, subst (λ (z : Option ℕ). OwnerAs R x z) (same_Some y p e) zip.0)
-  owner-back (x ∷ one) (y ∷ two) zip (suc s) p e = owner-back one two zip.1 s p e
+  owner-back : (one two : List (Option ℕ)) → AllZip (AreBoth R) one two → (s : ℕ) (p : Option ℕ) → slice_get two s ≡ Some p → (o : Option ℕ) × (slice_get one s ≡ Some o) × AreBoth R o p
+  owner-back one two zip s p e = zip-back (AreBoth R) one two s p zip e
 
-  free-as : (o p : Option ℕ) → OwnerAs R o p → (o ≡ None) ↔ (p ≡ None)
+  free-as : (o p : Option ℕ) → AreBoth R o p → (o ≡ None) ↔ (p ≡ None)
   free-as None None r = ((λ e. refl), (λ e. refl))
   free-as None (Some b) r = absurd r
   free-as (Some a) None r = absurd r
   free-as (Some a) (Some b) r = ((λ e. absurd (none-some a (sym e))), (λ e. absurd (none-some b (sym e))))
 
-  module-to : (p : Option ℕ) (m : ℕ) → OwnerAs R (Some m) p → (n : ℕ) × (p ≡ Some n) × R m n
+  module-to : (p : Option ℕ) (m : ℕ) → AreBoth R (Some m) p → (n : ℕ) × (p ≡ Some n) × R m n
   module-to None m r = absurd r
   module-to (Some n) m r = (n, refl, r)
 
-  module-back : (o : Option ℕ) (n : ℕ) → OwnerAs R o (Some n) → (m : ℕ) × (o ≡ Some m) × R m n
+  module-back : (o : Option ℕ) (n : ℕ) → AreBoth R o (Some n) → (m : ℕ) × (o ≡ Some m) × R m n
   module-back None n r = absurd r
   module-back (Some m) n r = (m, refl, r)
 
-  pub owners-alike : (one two : List (Option ℕ)) → AllZip (OwnerAs R) one two → OwnersAlike one two
+  pub owners-alike : (one two : List (Option ℕ)) → AllZip (AreBoth R) one two → OwnersAlike one two
   owners-alike one two zip = record {
     free = λ s. (
       λ e. let p = owner-at one two zip s None e in p.1 ∙ ap (λ (o : Option ℕ). Some o) ((free-as None p.0 p.2).0 refl),
@@ -77,11 +68,6 @@ module _ (R : ℕ → ℕ → Type 0) (to : (a b c : ℕ) → R a b → R a c �
   }
 
 -- ---- the context of an identifier of an item
-get-left : {X : Type 0} (xs ys : List X) (i : ℕ) (x : X) → slice_get xs i ≡ Some x → slice_get (xs ++ ys) i ≡ Some x
-get-left [] ys i x e = absurd (none-some x e)
-get-left (y ∷ xs) ys zero x e = e
-get-left (y ∷ xs) ys (suc i) x e = get-left xs ys i x e
-
 occurs-elsewhere : (s t : Spot) (x : Item) (o : Occurrence) → occurrence_of s x ≡ Some o → (p : Occurrence) × (occurrence_of t x ≡ Some p) × (p.ctxt ≡ o.ctxt)
 occurs-elsewhere s t (h.Open field head) o e = absurd (none-some o e)
 occurs-elsewhere s t (h.Ident field x ctxt r.Word) o e = absurd (none-some o e)

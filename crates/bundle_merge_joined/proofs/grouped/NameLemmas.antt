@@ -15,9 +15,12 @@ use Rattle.bundle_rules.specs.Reads.{property_of}
 use Rattle.bundle_rules.specs.Order.{is_declarator, is_nothing, is_text}
 use Rattle.bundle_rules.specs.Rebuilds.{Change, spells_out, plain_key, key_in_object}
 use Rattle.bundle_tree_places.specs.Edits.{Around as Surrounding, Anywhere, InObject, InSpecifier, Edits, Nothing, Joined, Hole, Word, Name, Inside, Shorthand, node, is_occurrence, next, renamed, around_in, in_its_place, binding, pattern_in_its_place}
+use Rattle.bundle_merge_meaning.proofs.noted.ListFacts.{drop-past}
+use Rattle.bundle_merge_meaning.proofs.noted.Spots.{field-twice}
 use Rattle.bundle_merge_joined.specs.grouped.Paths.{node_in, calls_assign, OfNames, NodeAlike, PathAlike, same, pair, key, defaulted, NameAlike}
-use Rattle.bundle_merge_joined.proofs.grouped.WholeLemmas.{node_at-is, drop-next, drop-past, in_field-twice, keeps, place-after, occurrences-append}
+use Rattle.bundle_merge_joined.proofs.grouped.WholeLemmas.{node_at-is, drop-next, keeps}
 use Rattle.bundle_merge_joined.proofs.grouped.EditLemmas.{whole-before, whole-after, word-alike, empty-alike, Here, callee, no-word, Begin, begin, so, zip-append}
+use Rattle.bundle_merge_joined.proofs.joined.Paths.{occurrences-append, fold-place}
 
 zip-behind : {X Y : Type 0} (R S : X → Y → Type 0) (xs xs' : List X) (ys ys' : List Y) → AllZip S xs ys → AllZip R (xs ++ xs') (ys ++ ys') → AllZip R xs' ys'
 zip-behind R S [] xs' [] ys' one two = two
@@ -71,8 +74,8 @@ module _ (before after : List Item) (test_before test_after : ℕ → Bool) (of_
   -- behind elements with their identifiers
   at-behind : (sb sa : Spot) (xb xa rb ra : List Item) → Names sb sa xb xa → At sb sa (xb ++ rb) (xa ++ ra) → At (fold past sb xb) (fold past sa xa) rb ra
   at-behind sb sa xb xa rb ra names at = record {
-    here = ap (λ k. drop k before) (place-after sb xb) ∙ drop-past sb.place before xb rb at.here;
-    its = ap (λ k. drop k after) (place-after sa xa) ∙ drop-past sa.place after xa ra at.its;
+    here = ap (λ k. drop k before) (fold-place sb xb) ∙ drop-past before sb.place xb rb at.here;
+    its = ap (λ k. drop k after) (fold-place sa xa) ∙ drop-past after sa.place xa ra at.its;
     tests = zip-behind TestsAlike (NameAlike before after test_before test_after) (occurrences_from sb xb) (occurrences_from (fold past sb xb) rb) (occurrences_from sa xa) (occurrences_from (fold past sa xa) ra) names
     (subst (λ l. AllZip TestsAlike l (occurrences_from sa xa ++ occurrences_from (fold past sa xa) ra)) (occurrences-append sb xb rb)
     (subst (λ l. AllZip TestsAlike (occurrences_from sb (xb ++ rb)) l) (occurrences-append sa xa ra) at.tests));
@@ -168,7 +171,7 @@ module _ (before after : List Item) (test_before test_after : ℕ → Bool) (of_
   name-in-object : (b : Bool) (sb sa : Spot) (change : Option Change) (field : ℕ) (x : Text) (ctxt : ℕ) (role : Role) → is_occurrence role ≡ true → InLiteral sb.path → Paths sb sa → Names sb sa (h.Ident field x ctxt role ∷ []) (if b then node field h.KeyValueProp (key_in_object x ++ renamed change 1 x ctxt role ∷ []) else renamed change field x ctxt role ∷ [])
   name-in-object false sb sa change field x ctxt role occurs fits paths = one-name sb sa change field x ctxt role occurs paths
   name-in-object true sb sa change field x ctxt role occurs fits paths =
-      let is : in_field field sb.path ≡ node_in h.ObjectLit fits.begins field ∷ fits.outer = sym (in_field-twice field 0 sb.path) ∙ ap (in_field field) fits.is in
+      let is : in_field field sb.path ≡ node_in h.ObjectLit fits.begins field ∷ fits.outer = sym (field-twice field 0 sb.path) ∙ ap (in_field field) fits.is in
       name-paired sb sa _ change field x x ctxt role occurs
       (subst (λ (p : List Around). Path p (node_in h.KeyValueProp sa.place 1 ∷ in_field field sa.path)) (sym is)
       (pair fits.begins sa.place field fits.no_word (subst (λ (p : List Around). Path p (in_field field sa.path)) is (paths field))))

@@ -17,16 +17,8 @@ use Rattle.bundle_rules.specs.Statements.{TopItem}
 use Rattle.bundle_rules.specs.Order.{denoted_in, is_object_at, is_global_named, is_of_nothing}
 use Rattle.bundle_merge_joined.specs.grouped.Placed.{IsDirect}
 use Rattle.bundle_merge_joined.specs.grouped.Forms.{Under, out, below, deeper}
-use Rattle.bundle_merge_joined.proofs.grouped.WholeLemmas.{place-after, occurrences-append}
-
-get-left : {X : Type 0} (xs ys : List X) (i : ℕ) (x : X) → slice_get xs i ≡ Some x → slice_get (xs ++ ys) i ≡ Some x
-get-left [] ys i x e = absurd (none-some x e)
-get-left (y ∷ xs) ys zero x e = e
-get-left (y ∷ xs) ys (suc i) x e = get-left xs ys i x e
-
-get-right : {X : Type 0} (xs ys : List X) (i : ℕ) → slice_get (xs ++ ys) (length xs + i) ≡ slice_get ys i
-get-right [] ys i = ap (slice_get ys) (let same : 0 + i ≡ i = omega arith in same)
-get-right (x ∷ xs) ys i = ap (slice_get (x ∷ (xs ++ ys))) (let same : suc (length xs) + i ≡ suc (length xs + i) = omega arith in same) ∙ get-right xs ys i
+use Rattle.bundle_merge_joined.proofs.joined.Lists.{get-left, get-behind}
+use Rattle.bundle_merge_joined.proofs.joined.Paths.{outer-in_field, fold-place, occurrences-append}
 
 length-before : {X : Type 0} (n : ℕ) (w : List X) (x : X) (rest : List X) → drop n w ≡ x ∷ rest → length (take n w) ≡ n
 length-before zero w x rest e = refl
@@ -47,12 +39,8 @@ under-outer out = out
 under-outer (below b field) = out
 under-outer (deeper head b a field under) = under
 
-outer-field : (m : ℕ) (p : List Around) → outer_path (in_field m p) ≡ outer_path p
-outer-field m [] = refl
-outer-field m (node ∷ outer) = refl
-
 unders-outer : (t s : Spot) → Unders t s → (m : ℕ) → Under (in_field m (outer_path t.path)) (in_field m (outer_path s.path))
-unders-outer t s paths m = under-field m (subst (λ (p : List Around). Under p (outer_path s.path)) (outer-field 0 t.path) (subst (λ (q : List Around). Under (outer_path (in_field 0 t.path)) q) (outer-field 0 s.path) (under-outer (paths 0))))
+unders-outer t s paths m = under-field m (subst (λ (p : List Around). Under p (outer_path s.path)) (outer-in_field 0 t.path) (subst (λ (q : List Around). Under (outer_path (in_field 0 t.path)) q) (outer-in_field 0 s.path) (under-outer (paths 0))))
 
 -- what is found behind the one spot is found behind the other, a number of places further on
 pub record Found (base : ℕ) (s : Spot) (xs : List Item) (i : ℕ) (o : Occurrence) : Type 0 where
@@ -115,7 +103,7 @@ listed-in tree item direct i o e =
     let s : Spot = fold past start (take item.start tree) in
     let first = filled item.items i o e in
     let len : length (take item.start tree) ≡ item.start = length-before item.start tree first.0 (first.1 ++ direct.rest) (direct.is ∙ ap (λ (l : List Item). l ++ direct.rest) first.2) in
-    let place : s.place ≡ item.start = place-after start (take item.start tree) ∙ (ap (λ n. 0 + n) len ∙ (let same : 0 + item.start ≡ item.start = omega arith in same)) in
+    let place : s.place ≡ item.start = fold-place start (take item.start tree) ∙ (ap (λ n. 0 + n) len ∙ (let same : 0 + item.start ≡ item.start = omega arith in same)) in
     let f : Found item.start s item.items i o = found-behind item.start item.items start s i o (place ∙ (let same : item.start ≡ item.start + 0 = omega arith in same)) (λ m. direct.under m) e in
     let whole : occurrences tree ≡ occurrences_from start (take item.start tree) ++ (occurrences_from s item.items ++ occurrences_from (fold past s item.items) direct.rest) =
     ap (λ (l : List Item). occurrences l) (sym (take-append-drop item.start tree))
@@ -123,7 +111,7 @@ listed-in tree item direct i o e =
     ∙ ap (λ l. occurrences_from start (take item.start tree) ++ l) (ap (occurrences_from s) direct.is ∙ occurrences-append s item.items direct.rest)) in
     let there : slice_get (occurrences tree) (count_before tree item.start + i) ≡ Some f.name =
     ap (λ l. slice_get l (count_before tree item.start + i)) whole
-    ∙ (get-right (occurrences_from start (take item.start tree)) (occurrences_from s item.items ++ occurrences_from (fold past s item.items) direct.rest) i
+    ∙ (get-behind (occurrences_from start (take item.start tree)) (occurrences_from s item.items ++ occurrences_from (fold past s item.items) direct.rest) i
     ∙ get-left (occurrences_from s item.items) (occurrences_from (fold past s item.items) direct.rest) i f.name f.there) in
     record {
       name = f.name;

@@ -1,27 +1,29 @@
 -- The items of a module of which identifiers change, each beside what it becomes.
 use Rattle.std.proofs.Common.{◌≡◌, ℕ, zero, ◌+◌, Bool, true, false, List, [], ◌∷◌, ◌++◌, Option, Some, None, length, drop, take, refl, sym, ap, ◌∙◌, subst, append_assoc, append-nil}
-use Rattle.std.specs.Prelude.{fold, flat_map, if◌then◌else◌}
+use Rattle.std.specs.Prelude.{fold, if◌then◌else◌}
 use Rattle.std.specs.List.{AllZip}
 use Rattle.std.proofs.lemmas.Option.{same_Some}
-use Rattle.std.proofs.lemmas.List.{length-append}
+use Rattle.std.proofs.lemmas.List.{length-append, take_at}
 use Rattle.std.proofs.lemmas.List.Sums.{fold-append}
 use Rattle.std.proofs.Math.Seq.{take-add}
 use Rattle.bundle_tree_piece.specs.declared.piece.Role.{Role}
 use Rattle.bundle_tree_piece.specs.Item as h
 use Rattle.bundle_tree_piece.specs.Item.{Item, Head}
 use Rattle.bundle_rules.specs.Places.{Around, Spot, past, start, in_field, occurrences_from}
-use Rattle.bundle_rules.specs.Nodes.{Text, side_by_side}
+use Rattle.bundle_rules.specs.Nodes.{Text, side_by_side, flat}
 use Rattle.bundle_rules.specs.Statements.{TopItem, placed, top_items}
 use Rattle.bundle_rules.specs.Rebuilds.{Change, spells_out, plain_key}
 use Rattle.bundle_tree_places.specs.Edits.{Around as Surrounding, Anywhere, InObject, InSpecifier, Edits, Edited, Nothing, Joined, Hole, Word, Name, Inside, Shorthand, node, next, renamed, binding, pattern_in_its_place}
+use Rattle.bundle_order_needs.proofs.RenumberLemmas.{zip-at}
+use Rattle.bundle_merge_meaning.proofs.noted.ListFacts.{drop-past}
 use Rattle.bundle_merge_joined.specs.grouped.Forms.{Under, below}
 use Rattle.bundle_merge_joined.specs.grouped.Placed.{IsDirect}
 use Rattle.bundle_merge_joined.specs.grouped.Renaming.{AtOne}
-use Rattle.bundle_merge_joined.proofs.grouped.AlikeLemmas.{zip-at}
-use Rattle.bundle_merge_joined.proofs.grouped.WholeLemmas.{Whole, nothing, hole, name, inner, joined, beside, beside-node, parts-node, drop-past, keeps, occurrences-append}
+use Rattle.bundle_merge_joined.proofs.grouped.WholeLemmas.{Whole, nothing, hole, name, inner, joined, beside, beside-node, parts-node, keeps}
 use Rattle.bundle_merge_joined.proofs.grouped.EditLemmas.{whole-before, whole-after, whole-binding, whole-pattern, IsAnywhere, so}
 use Rattle.bundle_merge_joined.proofs.grouped.PlacedLemmas.{roles, roles-count, roles-edited}
 use Rattle.bundle_merge_joined.proofs.grouped.NumberLemmas.{count_before}
+use Rattle.bundle_merge_joined.proofs.joined.Paths.{flat-append, occurrences-append}
 
 -- ---- node by node
 pub data EditsEach : List Change → List (List Item) → List (List Item) → List Change → Type 0 where
@@ -59,16 +61,7 @@ each-split (Shorthand {changes = changes} field x ctxt role {default = d} {made 
     each-one (Shorthand field x ctxt role occurs one) (beside-node field h.AssignPatProp (joined (whole-binding None 0 x ctxt role) (whole-before one)) []) (side-short (spells_out (next changes)) (next changes) field x ctxt role made (whole-after one))
 
 -- ---- the nodes of a list give the list
-unfoldable pub flat : List (List Item) → List Item
-flat lists = flat_map (λ (l : List Item). l) lists
-
-flat-append : (xs ys : List (List Item)) → flat (xs ++ ys) ≡ flat xs ++ flat ys
-unfolding flat
-flat-append [] ys = refl
-flat-append (x ∷ xs) ys = ap (λ (l : List Item). x ++ l) (flat-append xs ys) ∙ sym (append_assoc x (flat xs) (flat ys))
-
 pub flat-sides : {xs : List Item} → Whole xs → flat (side_by_side zero xs) ≡ xs
-unfolding flat
 flat-sides nothing = refl
 flat-sides (hole field) = refl
 flat-sides (name field x ctxt role) = refl
@@ -76,12 +69,8 @@ flat-sides (inner field head {inside = inside} whole) = ap flat (beside-node fie
 flat-sides (joined {xs = xs} {ys = ys} one two) = ap flat (beside one ys) ∙ (flat-append (side_by_side zero xs) (side_by_side zero ys) ∙ (ap (λ (l : List Item). l ++ flat (side_by_side zero ys)) (flat-sides one) ∙ ap (λ (l : List Item). xs ++ l) (flat-sides two)))
 
 -- ---- the items and their places
-take-front : (xs rest : List Item) → take (length xs) (xs ++ rest) ≡ xs
-take-front [] rest = refl
-take-front (x ∷ xs) rest = ap (λ (l : List Item). x ∷ l) (take-front xs rest)
-
 pub take-past : (n : ℕ) (w xs rest : List Item) → drop n w ≡ xs ++ rest → take (n + length xs) w ≡ take n w ++ xs
-take-past n w xs rest e = take-add n (length xs) w ∙ ap (λ (l : List Item). take n w ++ l) (ap (take (length xs)) e ∙ take-front xs rest)
+take-past n w xs rest e = take-add n (length xs) w ∙ ap (λ (l : List Item). take n w ++ l) (ap (take (length xs)) e ∙ take_at xs rest (length xs) refl)
 
 -- directly in the module
 abbrev pub UnderAt : List Item → ℕ → Type 0
@@ -107,13 +96,12 @@ pub record Pair (tree its_tree : List Item) (item its : TopItem) : Type 0 where
   pub counted : count_before tree item.start ≡ count_before its_tree its.start
 
 pub paired : (tree its_tree : List Item) {changes rest : List Change} {xs ys : List (List Item)} → EditsEach changes xs ys rest → (n m : ℕ) (pb pa : List Item) → drop n tree ≡ flat xs ++ pb → drop m its_tree ≡ flat ys ++ pa → UnderAt tree n → UnderAt its_tree m → count_before tree n ≡ count_before its_tree m → AllZip (Pair tree its_tree) (placed n xs) (placed m ys)
-unfolding flat
 paired tree its_tree none n m pb pa here its under its_under counted = tt
 paired tree its_tree (more {changes = changes} {between = between} {one = one} {two = two} {ones = ones} {twos = twos} edits each) n m pb pa here its under its_under counted =
     let here_one : drop n tree ≡ one ++ (flat ones ++ pb) = here ∙ append_assoc one (flat ones) pb in
     let its_two : drop m its_tree ≡ two ++ (flat twos ++ pa) = its ∙ append_assoc two (flat twos) pa in
     (record { changes = changes; edited = record { rest = between; by = edits }; direct = record { rest = flat ones ++ pb; is = here_one; under = under }; its_direct = record { rest = flat twos ++ pa; is = its_two; under = its_under }; counted = counted },
-    paired tree its_tree each (n + length one) (m + length two) pb pa (drop-past n tree one (flat ones ++ pb) here_one) (drop-past m its_tree two (flat twos ++ pa) its_two)
+    paired tree its_tree each (n + length one) (m + length two) pb pa (drop-past tree n one (flat ones ++ pb) here_one) (drop-past its_tree m two (flat twos ++ pa) its_two)
     (under-past tree n one (flat ones ++ pb) (whole-before edits) here_one under) (under-past its_tree m two (flat twos ++ pa) (whole-after edits) its_two its_under)
     (count-past tree n one (flat ones ++ pb) here_one ∙ (ap (λ k. k + length (roles one)) counted ∙ (ap (λ l. count_before its_tree m + length l) (roles-edited edits) ∙ sym (count-past its_tree m two (flat twos ++ pa) its_two)))))
 

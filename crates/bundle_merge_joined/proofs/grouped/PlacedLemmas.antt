@@ -21,6 +21,8 @@ use Rattle.bundle_rules.specs.Order.{is_text, is_in_assign_of, is_prototype_read
 use Rattle.bundle_rules.specs.Rebuilds.{Change, spells_out, plain_key, key_in_object}
 use Rattle.bundle_tree_places.specs.Edits.{Around as Surrounding, Anywhere, InObject, InSpecifier, Edits, Edited, Nothing, Joined, Hole, Word, Name, Inside, Shorthand, node, next, renamed, in_its_place, binding, pattern_in_its_place}
 use Rattle.bundle_tree_places.proofs.ListLemmas.{slice_get-drop}
+use Rattle.bundle_scope_names.proofs.Told.{zip-from}
+use Rattle.bundle_scope_denote.proofs.ChainLemmas.{AllZip-weaker}
 use Rattle.bundle_merge_joined.specs.grouped.Paths.{is_named, OfNames, NameAlike, outside}
 use Rattle.bundle_merge_joined.specs.grouped.Standing.{SameFlags, object_in, ItemsAlike}
 use Rattle.bundle_merge_joined.specs.grouped.Placed.{IsPlaced, ObjectsAlike}
@@ -227,13 +229,6 @@ roles-edited (Name around {changes = changes} field x ctxt role occurs) = roles-
 roles-edited (Inside field head {inside = inside} {made = made} plain one) = roles-node field head inside ∙ (roles-edited one ∙ sym (roles-node field head made))
 roles-edited (Shorthand {changes = changes} field x ctxt role {default = d} {made = made} occurs one) = roles-short (spells_out (next changes)) (next changes) field x ctxt role d made (roles-edited one)
 
--- what holds at each number holds throughout
-zip-from : {X Y : Type 0} (R : X → Y → Type 0) (xs : List X) (ys : List Y) → length xs ≡ length ys → ((i : ℕ) (x : X) (y : Y) → slice_get xs i ≡ Some x → slice_get ys i ≡ Some y → R x y) → AllZip R xs ys
-zip-from R [] [] len each = tt
-zip-from R [] (y ∷ ys) len each = absurd (omega (arith, len))
-zip-from R (x ∷ xs) [] len each = absurd (omega (arith, len))
-zip-from R (x ∷ xs) (y ∷ ys) len each = (each 0 x y refl refl, zip-from R xs ys (omega (arith, len)) (λ i u v e f. each (suc i) u v e f))
-
 -- the identifiers of an edited list correspond
 pub names-edited : {changes rest : List Change} {before after : List Item} (test_before test_after : ℕ → Bool) → OfNames before test_before → OfNames after test_after → Edits Anywhere changes before after rest → ((i : ℕ) (o p : Occurrence) → slice_get (occurrences before) i ≡ Some o → slice_get (occurrences after) i ≡ Some p → test_before o.place ≡ test_after p.place) → AllZip (NameAlike before after test_before test_after) (occurrences before) (occurrences after)
 names-edited {before = before} {after = after} test_before test_after of_before of_after edits tests =
@@ -247,14 +242,8 @@ names-edited {before = before} {after = after} test_before test_after of_before 
     })
     (λ m. outside)
 
-zip-gives : {X Y : Type 0} (R S : X → Y → Type 0) → ((x : X) (y : Y) → R x y → S x y) → (xs : List X) (ys : List Y) → AllZip R xs ys → AllZip S xs ys
-zip-gives R S gives [] [] zip = tt
-zip-gives R S gives [] (y ∷ ys) zip = absurd zip
-zip-gives R S gives (x ∷ xs) [] zip = absurd zip
-zip-gives R S gives (x ∷ xs) (y ∷ ys) zip = (gives x y zip.0, zip-gives R S gives xs ys zip.1)
-
 -- an item of which identifiers change, wherever the two stand
 pub edited-alike : (reading : Reading) (tree : List Item) (its_reading : Reading) (its_tree : List Item) (item its : TopItem) {changes : List Change} → Edited changes item.items its.items → IsPlaced tree item → IsPlaced its_tree its → ObjectsAlike reading tree its_reading its_tree item its → ItemsAlike reading tree its_reading its_tree item its
 edited-alike reading tree its_reading its_tree item its edited placed its_placed objects =
-    zip-gives (NameAlike item.items its.items (object_in reading tree item) (object_in its_reading its_tree its)) (SameFlags item.items its.items (object_in reading tree item) (object_in its_reading its_tree its)) (flags-alike item.items its.items (object_in reading tree item) (object_in its_reading its_tree its)) (occurrences item.items) (occurrences its.items)
+    AllZip-weaker (NameAlike item.items its.items (object_in reading tree item) (object_in its_reading its_tree its)) (SameFlags item.items its.items (object_in reading tree item) (object_in its_reading its_tree its)) (flags-alike item.items its.items (object_in reading tree item) (object_in its_reading its_tree its)) (occurrences item.items) (occurrences its.items)
     (names-edited (object_in reading tree item) (object_in its_reading its_tree its) (of_names reading tree item placed) (of_names its_reading its_tree its its_placed) edited.by objects)

@@ -1,29 +1,30 @@
 -- Items of a module of which identifiers change correspond, where names go on to denote what they did.
-use Rattle.std.proofs.Common.{◌≡◌, ◌↔◌, ℕ, ◌+◌, ◌&&◌, Bool, true, false, List, [], ◌∷◌, Option, Some, None, codes, slice_get, refl, sym, ap, ◌∙◌, subst, arith}
+use Rattle.std.proofs.Common.{◌≡◌, ◌↔◌, ℕ, ◌+◌, ◌&&◌, Bool, true, false, List, [], ◌∷◌, Option, Some, codes, slice_get, refl, sym, ap, ◌∙◌, subst}
 use Rattle.std.specs.List.{AllZip}
-use Rattle.std.specs.Str.{bytes_eq}
-use Rattle.std.proofs.lemmas.Bool.{false≢true, eqb-true, and_parts, and_from}
+use Rattle.std.proofs.lemmas.Bool.{false≢true, and_parts, and_from}
 use Rattle.std.proofs.lemmas.Option.{same_Some}
 use Rattle.std.proofs.lemmas.Slice.Eq.{bytes_eq-Decides}
 use Rattle.bundle_tree_piece.specs.Item as h
 use Rattle.bundle_tree_piece.specs.Item.{Item}
 use Rattle.bundle_rules.specs.Places.{Occurrence, occurrences, is_binding}
-use Rattle.bundle_rules.specs.Scopes.{Es, Scope, Wrapper, Top, Inner, scope_order, same_scope}
-use Rattle.bundle_rules.specs.Declarations.{Reading, Name, declared}
+use Rattle.bundle_rules.specs.Scopes.{Es, Top}
+use Rattle.bundle_rules.specs.Declarations.{Reading, declared}
 use Rattle.bundle_rules.specs.Denotes.{Denoted, Bound, Global, denoted_of, denoted_as, DenoteAlike}
 use Rattle.bundle_rules.specs.Statements.{TopItem}
-use Rattle.bundle_rules.specs.Mentions.{same_context, same_denoted}
+use Rattle.bundle_rules.specs.Mentions.{same_denoted}
 use Rattle.bundle_rules.specs.Order.{IsGoodOrder, group_of, is_global_named, is_of_nothing, is_of_scope}
 use Rattle.bundle_rules.specs.Rebuilds.{Change}
 use Rattle.bundle_tree_places.specs.Edits.{Anywhere, Edits, Inside, node}
+use Rattle.bundle_order_needs.proofs.RenumberLemmas.{zip-at}
+use Rattle.bundle_scope_names.proofs.TestLemmas.{iff}
+use Rattle.bundle_order_needs.proofs.TopLemmas.{is_top-of, same-top}
 use Rattle.bundle_merge_joined.specs.grouped.Alike.{OwnersAlike}
 use Rattle.bundle_merge_joined.specs.grouped.Paths.{NameAlike}
 use Rattle.bundle_merge_joined.specs.grouped.Forms.{FormAlike}
 use Rattle.bundle_merge_joined.specs.grouped.Standing.{ItemsAlike, Correspond}
 use Rattle.bundle_merge_joined.specs.grouped.Placed.{ObjectsAlike}
 use Rattle.bundle_merge_joined.specs.grouped.Renaming.{HasWays, HasObjects, TopsKept, AtOne}
-use Rattle.bundle_merge_joined.proofs.grouped.AlikeLemmas.{zip-at}
-use Rattle.bundle_merge_joined.proofs.grouped.TopLemmas.{same-refl}
+use Rattle.bundle_merge_joined.proofs.grouped.TopLemmas.{same-refl, same-sym}
 use Rattle.bundle_merge_joined.proofs.grouped.FormLemmas.{form-path, way-alike, top_first-alike, binding-top}
 use Rattle.bundle_merge_joined.proofs.grouped.PlacedLemmas.{names-edited, edited-alike}
 use Rattle.bundle_merge_joined.proofs.grouped.NumberLemmas.{count_before, Listed, listed-in, denotes-listed, object-listed, as-listed}
@@ -31,29 +32,8 @@ use Rattle.bundle_merge_joined.proofs.grouped.PairLemmas.{Pair, module-paired, c
 use Rattle.bundle_merge_joined.proofs.grouped.GroupLemmas.{good_order-corresponds}
 
 -- ---- one binding of the top
-pub scope-top : (scope : Scope) → scope_order scope ≡ 1 → scope ≡ Top
-scope-top Wrapper e = absurd (omega (arith, e))
-scope-top Top e = refl
-scope-top (Inner kind begins) e = absurd (omega (arith, e))
-
-context-is : (a b : Option ℕ) → same_context a b ≡ true → a ≡ b
-context-is None None e = refl
-context-is None (Some b) e = absurd (false≢true e)
-context-is (Some a) None e = absurd (false≢true e)
-context-is (Some a) (Some b) e = ap (λ k. Some k) (eqb-true a b e)
-
-name-is : (a b : Name) → a.sym ≡ b.sym → a.ctxt ≡ b.ctxt → a ≡ b
-name-is a b e f = ap (λ (s : List ℕ). let n : Name = record { sym = s; ctxt = a.ctxt } in n) e ∙ ap (λ (c : Option ℕ). let n : Name = record { sym = b.sym; ctxt = c } in n) f
-
 pub one-top : (d e : Denoted) → is_of_scope Top d ≡ true → same_denoted d e ≡ true → d ≡ e
-one-top (Bound scope name) (Bound other its) top t =
-    let p = and_parts (same_scope scope other && bytes_eq name.sym its.sym) (same_context name.ctxt its.ctxt) t in
-    let q = and_parts (same_scope scope other) (bytes_eq name.sym its.sym) p.0 in
-    let first : scope ≡ Top = scope-top scope (eqb-true (scope_order scope) 1 top) in
-    let second : other ≡ Top = scope-top other (sym (eqb-true (scope_order scope) (scope_order other) q.0) ∙ eqb-true (scope_order scope) 1 top) in
-    ap (λ s. Bound s name) (first ∙ sym second) ∙ ap (λ n. Bound other n) (name-is name its ((bytes_eq-Decides name.sym its.sym).0 q.1) (context-is name.ctxt its.ctxt p.1))
-one-top (Bound scope name) (Global y) top t = absurd (false≢true t)
-one-top (Global x) e top t = absurd (false≢true top)
+one-top d e top t = let it = is_top-of d top in it.1 ∙ sym (same-top it.0 e (ap (same_denoted e) (sym it.1) ∙ same-sym d e t))
 
 -- ---- the global `Object`
 global-is : (d : Denoted) → is_global_named (codes "Object") (Some d) ≡ true → d ≡ Global (codes "Object")
@@ -62,11 +42,6 @@ global-is (Global y) e = ap (λ (s : List ℕ). Global s) (sym ((bytes_eq-Decide
 
 global-from : (d : Denoted) → d ≡ Global (codes "Object") → is_global_named (codes "Object") (Some d) ≡ true
 global-from d e = ap (λ (x : Denoted). is_global_named (codes "Object") (Some x)) e ∙ (bytes_eq-Decides (codes "Object") (codes "Object")).1 refl
-
-both-true : (a b : Bool) → (a ≡ true → b ≡ true) → (b ≡ true → a ≡ true) → a ≡ b
-both-true true b to from = sym (to refl)
-both-true false true to from = from refl
-both-true false false to from = refl
 
 -- ---- what is declared at the top
 pub tops-edited : (reading its_reading : Reading) (tree its_tree : List Item) {changes rest : List Change} → Edits Anywhere changes tree its_tree rest → HasWays tree → TopsKept reading tree its_reading its_tree
@@ -105,7 +80,7 @@ module _ (reading its_reading : Reading) (tree its_tree : List Item) (denote : D
           let its_is : d' ≡ Global (codes "Object") = global-is d' (and_parts (is_global_named (codes "Object") (Some d')) (is_of_nothing its_reading (Some there.name)) t).0 in
           let is : d ≡ Global (codes "Object") = same_Some d (Global (codes "Object")) (sym as_d ∙ (denote.globals n (codes "Object")).1 (as_d' ∙ ap (λ (x : Denoted). Some x) its_is)) in
           and_from (is_global_named (codes "Object") (Some d)) (is_of_nothing reading (Some here.name)) (global-from d is) (objects.unbound n here.name here.there is) in
-      object-listed reading tree item i o here ∙ (both-true _ _ to from ∙ sym (object-listed its_reading its_tree its i p there))
+      object-listed reading tree item i o here ∙ (iff _ _ to from ∙ sym (object-listed its_reading its_tree its i p there))
 
   items-alike : (items its : List TopItem) → AllZip (Pair tree its_tree) items its → AllZip (ItemsAlike reading tree its_reading its_tree) items its
   items-alike [] [] zip = tt

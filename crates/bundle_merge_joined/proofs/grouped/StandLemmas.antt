@@ -12,12 +12,12 @@ use Rattle.bundle_rules.specs.Homes.{from_taker}
 use Rattle.bundle_rules.specs.Statements.{TopItem}
 use Rattle.bundle_rules.specs.Mentions.{same_denoted}
 use Rattle.bundle_rules.specs.Order.{IsGoodOrder, group_of, is_of_scope}
+use Rattle.bundle_order_needs.proofs.RenumberLemmas.{zip-at}
 use Rattle.bundle_merge_joined.specs.grouped.Alike.{OwnersAlike}
 use Rattle.bundle_merge_joined.specs.grouped.Forms.{is_top_first}
 use Rattle.bundle_merge_joined.specs.grouped.Standing.{ItemsAlike, DenoteTop, Correspond}
 use Rattle.bundle_merge_joined.specs.grouped.Placed.{IsPlaced, ObjectsAlike}
 use Rattle.bundle_merge_joined.specs.grouped.Contexts.{IsTopBinding, IsTold, StandsInBoth}
-use Rattle.bundle_merge_joined.proofs.grouped.AlikeLemmas.{zip-at}
 use Rattle.bundle_merge_joined.proofs.grouped.TopLemmas.{same-refl}
 use Rattle.bundle_merge_joined.proofs.grouped.FormLemmas.{form-under, way-alike, top_first-alike, binding-top}
 use Rattle.bundle_merge_joined.proofs.grouped.PlacedLemmas.{moved-alike}
@@ -56,7 +56,6 @@ module _ (tree its_tree : List Item) (told : IsTold tree) (its_told : IsTold its
   items-stand [] (y ∷ its) zip = absurd zip
   items-stand (x ∷ items) [] zip = absurd zip
   items-stand (x ∷ items) (y ∷ its) zip = (item-stands x y zip.0, items-stand items its zip.1)
-
 
   denote-moves : (x y x' y' : TopItem) (i j : ℕ) (o p o' p' : Occurrence) → StandsInBoth tree its_tree x x' → StandsInBoth tree its_tree y y' → slice_get (occurrences x.items) i ≡ Some o → slice_get (occurrences y.items) j ≡ Some p → slice_get (occurrences x'.items) i ≡ Some o' → slice_get (occurrences y'.items) j ≡ Some p' → is_binding p.role ≡ true → DenoteTop ByContext Top tree x o y p → DenoteTop ByContext Top its_tree x' o' y' p'
   denote-moves x y x' y' i j o p o' p' one two at_o at_p at_o' at_p' binds both =

@@ -23,9 +23,10 @@ use Rattle.bundle_rules.specs.Order.{IsGoodOrder, group_of, is_nothing, is_objec
 use Rattle.bundle_rules.proofs.HeadLemmas.{of_head}
 use Rattle.bundle_rules.proofs.PathLemmas.{cleared_path, cleared_spot, past-cleared}
 use Rattle.bundle_rules.proofs.DenotesLemmas.{is_default-cleared, scopes_around-cleared}
+use Rattle.bundle_order_needs.proofs.RenumberLemmas.{zip-at}
 use Rattle.bundle_merge_joined.specs.grouped.Standing.{SameFlags, object_in, ItemsAlike, Stands, Correspond}
 use Rattle.bundle_merge_joined.specs.grouped.Renaming.{AtOne}
-use Rattle.bundle_merge_joined.proofs.grouped.AlikeLemmas.{zip-at, owners-refl}
+use Rattle.bundle_merge_joined.proofs.grouped.AlikeLemmas.{owners-refl}
 use Rattle.bundle_merge_joined.proofs.grouped.ClearedLemmas.{property_at, nothing_at, flags-noted, zip-same}
 use Rattle.bundle_merge_joined.proofs.grouped.GroupLemmas.{good_order-corresponds}
 

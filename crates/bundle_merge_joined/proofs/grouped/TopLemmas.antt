@@ -26,7 +26,7 @@ same_context-is None (Some b) e = absurd (false≢true e)
 same_context-is (Some a) None e = absurd (false≢true e)
 same_context-is (Some a) (Some b) e = ap (λ k. Some k) (eqb-true a b e)
 
-same_context-refl : (a : Option ℕ) → same_context a a ≡ true
+pub same_context-refl : (a : Option ℕ) → same_context a a ≡ true
 same_context-refl None = refl
 same_context-refl (Some a) = eq-eqb a a refl
 

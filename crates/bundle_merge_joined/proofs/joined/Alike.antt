@@ -1,6 +1,6 @@
 -- What names denote depends on names, ways and scopes alone, and on scopes only up to where they begin.
 use Rattle.std.proofs.Common.{◌≡◌, ℕ, ◌+◌, Bool, true, false, cond, not, ◌&&◌, ◌||◌, List, [], ◌∷◌, Option, Some, None, is_some, unwrap_or, codes, find, refl, ap, sym, ◌∙◌, subst, arith}
-use Rattle.std.specs.List.{list_any, cons_option}
+use Rattle.std.specs.List.{list_any, cons_option, AllZip}
 use Rattle.bundle_tree_piece.specs.Item.{Item}
 use Rattle.bundle_rules.specs.Places.{Occurrence, occurrences, is_binding}
 use Rattle.bundle_rules.specs.Scopes.{ModuleKind, Es, Scope, ScopeKind, Top, Inner, FunctionBody, same_scope, scopes_around}
@@ -10,7 +10,7 @@ use Rattle.bundle_rules.specs.Denotes.{Global, without_context, bound_in, is_unr
 use Rattle.bundle_rules.specs.Parts.{tree_of_items}
 use Rattle.bundle_merge_joined.specs.joined.Joined.{relocated, own_declared}
 use Rattle.bundle_merge_joined.specs.joined.Notes.{own_denoted, is_inner_name}
-use Rattle.bundle_merge_joined.specs.joined.Alike.{Zipped, IsOneToOne, ScopesAlike, tops, wrappers, inners, BothAlike, DeclaredAlike, DenotedAlike, bindings, globals, StandsAlike, SeenAlike, Follows, done, kept, changed, added, dropped}
+use Rattle.bundle_merge_joined.specs.joined.Alike.{IsOneToOne, ScopesAlike, tops, wrappers, inners, BothAlike, DeclaredAlike, DenotedAlike, bindings, globals, StandsAlike, SeenAlike, Follows, done, kept, changed, added, dropped}
 use Rattle.bundle_merge_joined.proofs.joined.Ranges.{both-alike}
 use Rattle.bundle_merge_joined.proofs.joined.Declarations.{IsNamed, declared-item, declared_by_names}
 use Rattle.bundle_merge_joined.proofs.joined.Relocating.{is_parameters-relocated, is_wrapper-relocated, is_top-relocated, is_function-relocated, takes-relocated}
@@ -44,23 +44,23 @@ module _ (R : ℕ → ℕ → Type 0) (one : IsOneToOne R) where
       by_test false = y
 
   -- takers
-  from_taker-alike : (way : Way) (ss ts : List Scope) → Zipped (ScopesAlike R) ss ts → Zipped (ScopesAlike R) (from_taker way ss) (from_taker way ts)
+  from_taker-alike : (way : Way) (ss ts : List Scope) → AllZip (ScopesAlike R) ss ts → AllZip (ScopesAlike R) (from_taker way ss) (from_taker way ts)
   from_taker-alike way [] [] z = tt
   from_taker-alike way [] (t ∷ ts) z = absurd z
   from_taker-alike way (s ∷ ss) [] z = absurd z
-  from_taker-alike way (s ∷ ss) (t ∷ ts) z = subst (λ b. Zipped (ScopesAlike R) (cond (takes way s) (s ∷ ss) (from_taker way ss)) (cond b (t ∷ ts) (from_taker way ts))) (sym (test-alike (takes way) (λ f s. takes-relocated f way s) z.0)) (by_test (takes way s) (from_taker-alike way ss ts z.1))
+  from_taker-alike way (s ∷ ss) (t ∷ ts) z = subst (λ b. AllZip (ScopesAlike R) (cond (takes way s) (s ∷ ss) (from_taker way ss)) (cond b (t ∷ ts) (from_taker way ts))) (sym (test-alike (takes way) (λ f s. takes-relocated f way s) z.0)) (by_test (takes way s) (from_taker-alike way ss ts z.1))
     where
-      by_test : (b : Bool) → Zipped (ScopesAlike R) (from_taker way ss) (from_taker way ts) → Zipped (ScopesAlike R) (cond b (s ∷ ss) (from_taker way ss)) (cond b (t ∷ ts) (from_taker way ts))
+      by_test : (b : Bool) → AllZip (ScopesAlike R) (from_taker way ss) (from_taker way ts) → AllZip (ScopesAlike R) (cond b (s ∷ ss) (from_taker way ss)) (cond b (t ∷ ts) (from_taker way ts))
       by_test true ih = z
       by_test false ih = ih
 
-  nearest-alike : (ss ts : List Scope) → Zipped (ScopesAlike R) ss ts → BothAlike R (nearest ss) (nearest ts)
+  nearest-alike : (ss ts : List Scope) → AllZip (ScopesAlike R) ss ts → BothAlike R (nearest ss) (nearest ts)
   nearest-alike [] [] z = tt
   nearest-alike [] (t ∷ ts) z = absurd z
   nearest-alike (s ∷ ss) [] z = absurd z
   nearest-alike (s ∷ ss) (t ∷ ts) z = z.0
 
-  parameters-alike : (ss ts : List Scope) → Zipped (ScopesAlike R) ss ts → BothAlike R (parameters_of ss) (parameters_of ts)
+  parameters-alike : (ss ts : List Scope) → AllZip (ScopesAlike R) ss ts → BothAlike R (parameters_of ss) (parameters_of ts)
   parameters-alike [] [] z = tt
   parameters-alike [] (t ∷ ts) z = absurd z
   parameters-alike (s ∷ ss) [] z = absurd z
@@ -81,14 +81,14 @@ module _ (R : ℕ → ℕ → Type 0) (one : IsOneToOne R) where
   or_top-alike (Some s) None x = absurd x
   or_top-alike (Some s) (Some t) x = x
 
-  takers-alike : (d e : Declared) → DeclaredAlike R d e → Zipped (ScopesAlike R) (from_taker d.by d.scopes) (from_taker e.by e.scopes)
-  takers-alike d e a = subst (λ way. Zipped (ScopesAlike R) (from_taker d.by d.scopes) (from_taker way e.scopes)) (sym a.by) (from_taker-alike d.by d.scopes e.scopes a.scopes)
+  takers-alike : (d e : Declared) → DeclaredAlike R d e → AllZip (ScopesAlike R) (from_taker d.by d.scopes) (from_taker e.by e.scopes)
+  takers-alike d e a = subst (λ way. AllZip (ScopesAlike R) (from_taker d.by d.scopes) (from_taker way e.scopes)) (sym a.by) (from_taker-alike d.by d.scopes e.scopes a.scopes)
 
   taker-alike : (d e : Declared) → DeclaredAlike R d e → ScopesAlike R (taker d) (taker e)
   taker-alike d e a = or_top-alike (nearest (from_taker d.by d.scopes)) (nearest (from_taker e.by e.scopes)) (nearest-alike (from_taker d.by d.scopes) (from_taker e.by e.scopes) (takers-alike d e a))
 
   -- tests over declarations
-  any-zipped : (p q : Declared → Bool) → ((d e : Declared) → DeclaredAlike R d e → q e ≡ p d) → (ds es : List Declared) → Zipped (DeclaredAlike R) ds es → list_any q es ≡ list_any p ds
+  any-zipped : (p q : Declared → Bool) → ((d e : Declared) → DeclaredAlike R d e → q e ≡ p d) → (ds es : List Declared) → AllZip (DeclaredAlike R) ds es → list_any q es ≡ list_any p ds
   any-zipped p q same [] [] z = refl
   any-zipped p q same [] (e ∷ es) z = absurd z
   any-zipped p q same (d ∷ ds) [] z = absurd z
@@ -99,7 +99,7 @@ module _ (R : ℕ → ℕ → Type 0) (one : IsOneToOne R) where
       let taken = taker-alike d e a in
       λ i. (test-alike is_parameters is_parameters-relocated taken i || test-alike is_wrapper is_wrapper-relocated taken i) && same-alike taken x i && names_agree (a.name i) name
 
-  module _ (ds es : List Declared) (z : Zipped (DeclaredAlike R) ds es) where
+  module _ (ds es : List Declared) (z : AllZip (DeclaredAlike R) ds es) where
     beside-alike : (d e : Declared) → DeclaredAlike R d e → (s t : Option Scope) → BothAlike R s t → ScopesAlike R (home_beside ds d s) (home_beside es e t)
     beside-alike d e a None None x = taker-alike d e a
     beside-alike d e a None (Some t) x = absurd x
@@ -135,7 +135,7 @@ module _ (R : ℕ → ℕ → Type 0) (one : IsOneToOne R) where
     pub inner_name-alike : (name : Name) → is_inner_name es name ≡ is_inner_name ds name
     inner_name-alike name = any-zipped (λ d. not (is_top (home_of ds d)) && names_agree d.name name) (λ e. not (is_top (home_of es e)) && names_agree e.name name) (λ d e a. λ i. not (test-alike is_top is_top-relocated (home-alike d e a) i) && names_agree (a.name i) name) ds es z
 
-    found-alike : (p q : Scope → Bool) → ((s t : Scope) → ScopesAlike R s t → q t ≡ p s) → (ss ts : List Scope) → Zipped (ScopesAlike R) ss ts → BothAlike R (find p ss) (find q ts)
+    found-alike : (p q : Scope → Bool) → ((s t : Scope) → ScopesAlike R s t → q t ≡ p s) → (ss ts : List Scope) → AllZip (ScopesAlike R) ss ts → BothAlike R (find p ss) (find q ts)
     found-alike p q same [] [] x = tt
     found-alike p q same [] (t ∷ ts) x = absurd x
     found-alike p q same (s ∷ ss) [] x = absurd x
@@ -152,10 +152,10 @@ module _ (R : ℕ → ℕ → Type 0) (one : IsOneToOne R) where
     bound-alike name (Some s) (Some t) x = bindings x
 
     -- NAMES denote alike
-    pub by_symbol-alike : (ss ts : List Scope) → Zipped (ScopesAlike R) ss ts → (name : Name) → DenotedAlike R (denoted_by_symbol ds ss name) (denoted_by_symbol es ts name)
+    pub by_symbol-alike : (ss ts : List Scope) → AllZip (ScopesAlike R) ss ts → (name : Name) → DenotedAlike R (denoted_by_symbol ds ss name) (denoted_by_symbol es ts name)
     by_symbol-alike ss ts x name = bound-alike name (find (λ s. binds ds s name) ss) (find (λ t. binds es t name) ts) (found-alike (λ s. binds ds s name) (λ t. binds es t name) (λ s t y. binds-alike y name) ss ts x)
 
-    pub by_context-alike : (ss ts : List Scope) → Zipped (ScopesAlike R) ss ts → (name : Name) → DenotedAlike R (denoted_by_context ds ss name) (denoted_by_context es ts name)
+    pub by_context-alike : (ss ts : List Scope) → AllZip (ScopesAlike R) ss ts → (name : Name) → DenotedAlike R (denoted_by_context ds ss name) (denoted_by_context es ts name)
     by_context-alike ss ts x name = by_found (find (λ s. is_written_in ds s name) ss) (find (λ t. is_written_in es t name) ts) (found-alike (λ s. is_written_in ds s name) (λ t. is_written_in es t name) (λ s t y. written-alike y name) ss ts x)
       where
         by_context : (b : Bool) → DenotedAlike R (cond b (Global name.sym) (bound_in (without_context name) (find (λ s. is_implied_in ds s name) ss))) (cond b (Global name.sym) (bound_in (without_context name) (find (λ t. is_implied_in es t name) ts)))
@@ -168,7 +168,7 @@ module _ (R : ℕ → ℕ → Type 0) (one : IsOneToOne R) where
         by_found (Some s) None y = absurd y
         by_found (Some s) (Some t) y = bindings y
 
-    pub in-alike : (reading : Reading) (ss ts : List Scope) → Zipped (ScopesAlike R) ss ts → (name : Name) → DenotedAlike R (denoted_in reading ds ss name) (denoted_in reading es ts name)
+    pub in-alike : (reading : Reading) (ss ts : List Scope) → AllZip (ScopesAlike R) ss ts → (name : Name) → DenotedAlike R (denoted_in reading ds ss name) (denoted_in reading es ts name)
     in-alike BySymbol ss ts x name = by_symbol-alike ss ts x name
     in-alike ByContext ss ts x name = by_context-alike ss ts x name
 
@@ -195,26 +195,26 @@ no-declaration : (u : Occurrence) → is_binding u.role ≡ false → declaratio
 no-declaration u e = ap (λ b. cond b (declared_by u.place (name_of ByContext u.sym u.ctxt) (scopes_around Es u.path) (way_of u.path)) None) e
 
 module _ (R : ℕ → ℕ → Type 0) where
-  pub follows-declared : {os us : List Occurrence} → Follows R Es os us → Zipped (DeclaredAlike R) (declared_by_names os) (declared_by_names us)
+  pub follows-declared : {os us : List Occurrence} → Follows R Es os us → AllZip (DeclaredAlike R) (declared_by_names os) (declared_by_names us)
   follows-declared done = tt
   follows-declared (changed {o = o} {u = u} {os = os} {us = us} stands refers rest) =
-      subst (λ d. Zipped (DeclaredAlike R) (cons_option d (declared_by_names os)) (declared_by_names (u ∷ us))) (sym (no-declaration o refers))
-      (subst (λ d. Zipped (DeclaredAlike R) (declared_by_names os) (cons_option d (declared_by_names us))) (sym (no-declaration u (ap is_binding stands.role ∙ refers))) (follows-declared rest))
-  follows-declared (added {u = u} {os = os} {us = us} refers rest) = subst (λ d. Zipped (DeclaredAlike R) (declared_by_names os) (cons_option d (declared_by_names us))) (sym (no-declaration u refers)) (follows-declared rest)
-  follows-declared (dropped {o = o} {os = os} {us = us} refers rest) = subst (λ d. Zipped (DeclaredAlike R) (cons_option d (declared_by_names os)) (declared_by_names us)) (sym (no-declaration o refers)) (follows-declared rest)
+      subst (λ d. AllZip (DeclaredAlike R) (cons_option d (declared_by_names os)) (declared_by_names (u ∷ us))) (sym (no-declaration o refers))
+      (subst (λ d. AllZip (DeclaredAlike R) (declared_by_names os) (cons_option d (declared_by_names us))) (sym (no-declaration u (ap is_binding stands.role ∙ refers))) (follows-declared rest))
+  follows-declared (added {u = u} {os = os} {us = us} refers rest) = subst (λ d. AllZip (DeclaredAlike R) (declared_by_names os) (cons_option d (declared_by_names us))) (sym (no-declaration u refers)) (follows-declared rest)
+  follows-declared (dropped {o = o} {os = os} {us = us} refers rest) = subst (λ d. AllZip (DeclaredAlike R) (cons_option d (declared_by_names os)) (declared_by_names us)) (sym (no-declaration o refers)) (follows-declared rest)
   follows-declared (kept {o = o} {u = u} {os = os} {us = us} seen rest) =
-      subst (λ d. Zipped (DeclaredAlike R) (declared_by_names (o ∷ os)) (cons_option d (declared_by_names us))) (λ i. cond (is_binding (sym seen.stands.role i)) (declared_by u.place (name_of ByContext (sym seen.symbol i) (sym seen.ctxt i)) (scopes_around Es u.path) (sym seen.stands.way i)) None)
+      subst (λ d. AllZip (DeclaredAlike R) (declared_by_names (o ∷ os)) (cons_option d (declared_by_names us))) (λ i. cond (is_binding (sym seen.stands.role i)) (declared_by u.place (name_of ByContext (sym seen.symbol i) (sym seen.ctxt i)) (scopes_around Es u.path) (sym seen.stands.way i)) None)
       (by_role (is_binding o.role) (way_of o.path) (follows-declared rest))
     where
-      by_role : (b : Bool) (way : Option Way) → Zipped (DeclaredAlike R) (declared_by_names os) (declared_by_names us) → Zipped (DeclaredAlike R) (cons_option (cond b (declared_by o.place (name_of ByContext o.sym o.ctxt) (scopes_around Es o.path) way) None) (declared_by_names os)) (cons_option (cond b (declared_by u.place (name_of ByContext o.sym o.ctxt) (scopes_around Es u.path) way) None) (declared_by_names us))
+      by_role : (b : Bool) (way : Option Way) → AllZip (DeclaredAlike R) (declared_by_names os) (declared_by_names us) → AllZip (DeclaredAlike R) (cons_option (cond b (declared_by o.place (name_of ByContext o.sym o.ctxt) (scopes_around Es o.path) way) None) (declared_by_names os)) (cons_option (cond b (declared_by u.place (name_of ByContext o.sym o.ctxt) (scopes_around Es u.path) way) None) (declared_by_names us))
       by_role false way ih = ih
       by_role true None ih = ih
       by_role true (Some way) ih = (record { name = refl; by = refl; scopes = seen.stands.scopes }, ih)
 
 -- REWRITTEN: in an item that was rewritten, names that are kept denote alike, by itself; and it has the same inner names and the same names of the top.
 module _ (R : ℕ → ℕ → Type 0) (one : IsOneToOne R) (before after : List Item) (named : IsNamed before) (after_named : IsNamed after) (follows : Follows R Es (occurrences (tree_of_items before)) (occurrences (tree_of_items after))) where
-  declared-follow : Zipped (DeclaredAlike R) (own_declared before) (own_declared after)
-  declared-follow = subst (λ ds. Zipped (DeclaredAlike R) ds (own_declared after)) (sym (declared-item before named)) (subst (Zipped (DeclaredAlike R) (declared_by_names (occurrences (tree_of_items before)))) (sym (declared-item after after_named)) (follows-declared R follows))
+  declared-follow : AllZip (DeclaredAlike R) (own_declared before) (own_declared after)
+  declared-follow = subst (λ ds. AllZip (DeclaredAlike R) ds (own_declared after)) (sym (declared-item before named)) (subst (AllZip (DeclaredAlike R) (declared_by_names (occurrences (tree_of_items before)))) (sym (declared-item after after_named)) (follows-declared R follows))
 
   pub kept-denotes : (o u : Occurrence) → SeenAlike R Es o u → DenotedAlike R (own_denoted before o) (own_denoted after u)
   kept-denotes o u seen = denoted-alike R one (own_declared before) (own_declared after) declared-follow ByContext Es o u seen

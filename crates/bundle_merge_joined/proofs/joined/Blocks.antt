@@ -1,16 +1,17 @@
 -- The items of a block, in it alone and in the whole bundle: the groups are alike, so the same orders are good for both.
 use Rattle.std.proofs.Common.{◌≡◌, ◌<◌, ◌⊎◌, inl, inr, ℕ, zero, suc, ◌+◌, ◌==◌, Bool, true, false, cond, ◌&&◌, ◌||◌, List, [], ◌∷◌, ◌++◌, Option, Some, None, option_map, option_and_then, filter, filter_map, map, slice_get, length, codes, bytes_eq, refl, ap, sym, ◌∙◌, subst, arith, eqb-true, ne_eqb, Contains}
 use Rattle.std.specs.Prelude.{flat_map, position, if◌then◌else◌}
-use Rattle.std.specs.List.{list_any, cons_option}
-use Rattle.std.proofs.lemmas.Bool.{false≢true, or_right}
+use Rattle.std.specs.List.{cons_option}
+use Rattle.std.proofs.lemmas.Bool.{false≢true}
 use Rattle.std.proofs.lemmas.List.Elements.{Contains-append_left, Contains-append_right}
 use Rattle.std.proofs.lemmas.Option.{none-some, same_Some, slice_get_within}
 use Rattle.std.proofs.lemmas.Slice.Eq.{bytes_eq-Decides}
+use Rattle.std.proofs.lemmas.List.{length-map}
 use Rattle.bundle_tree_piece.specs.declared.piece.Role.TheVariants as r
 use Rattle.bundle_tree_piece.specs.Item as h
 use Rattle.bundle_tree_piece.specs.Item.{Item, Head}
 use Rattle.bundle_rules.specs.Places.{Around, Spot, spot_before, Occurrence, occurrence_of, occurrence_at, occurrences, is_binding}
-use Rattle.bundle_rules.specs.Scopes.{Es, Scope, Wrapper, Top, Inner, scope_order, scopes_around}
+use Rattle.bundle_rules.specs.Scopes.{Es, Scope, Wrapper, Top, Inner, scopes_around}
 use Rattle.bundle_rules.specs.Declarations.{Way, ByContext, Name, name_of, declared_by, way_of}
 use Rattle.bundle_rules.specs.Homes.{is_top, is_function}
 use Rattle.bundle_rules.specs.Denotes.{Denoted, Bound, Global, without_context, is_written_in, own_or_found, denoted_by_context, denoted_at}
@@ -22,7 +23,10 @@ use Rattle.bundle_rules.specs.Reads.{is_member, property_of}
 use Rattle.bundle_rules.specs.Mentions.{same_denoted}
 use Rattle.bundle_rules.specs.Order.{Mention, Group, is_text, is_in_assign_of, is_prototype_read, is_global_named, is_of_nothing, is_object_at, denoted_in, is_of_scope, mentioned, mention_of, group_of, mention_at, Declares, IsGoodOrder}
 use Rattle.bundle_rules.specs.Parts.{tree_of_items}
-use Rattle.bundle_merge_joined.specs.joined.Joined.{joined, AllOf, IsWhole, moved_scope, moved_occurrence, moved_denoted, offset, own_declared, is_top_name, is_written, denoted_in_whole}
+use Rattle.bundle_scope_names.proofs.Lists.{list_any-found, list_any-here}
+use Rattle.bundle_order_needs.proofs.ListLemmas.{Contains-cons}
+use Rattle.bundle_order_needs.proofs.TopLemmas.{is_top-of, same-top, same-refl, Contains-filter, once-from, once-keeps, position-none, position-there, position-one}
+use Rattle.bundle_merge_joined.specs.joined.Joined.{joined, AllOf, IsWhole, moved_occurrence, moved_denoted, offset, own_declared, is_top_name, is_written, denoted_in_whole}
 use Rattle.bundle_merge_joined.specs.joined.Notes.{its_name, own_denoted, IsListedIn}
 use Rattle.bundle_merge_joined.specs.joined.Groups.{TopsAlike, same_top, loose, MentionsAlike, GroupsAlike}
 use Rattle.bundle_merge_joined.specs.joined.Picked.{IsPlaced, BindsOwn, ArePicked}
@@ -31,7 +35,7 @@ use Rattle.bundle_merge_joined.proofs.joined.Items.{all-at}
 use Rattle.bundle_merge_joined.proofs.joined.Notes.{Viewed, written, implicit, unbound, viewed, own-top}
 use Rattle.bundle_merge_joined.proofs.joined.Joining.{occurrence-placed, denoted-joined}
 use Rattle.bundle_merge_joined.proofs.joined.Groups.{good-order}
-use Rattle.bundle_merge_joined.proofs.joined.Tops.{is_top-of, same-top, same-refl, Contains-filter, Contains-cons, once-from, once-keeps, position-none, position-there, position-one}
+use Rattle.bundle_merge_joined.proofs.joined.Lists.{get-map, map-get}
 
 -- An identifier of an item, and of the item as a module.
 
@@ -246,34 +250,6 @@ object-same items others m n item named object p = by_occurrence (occurrence_at 
     by_occurrence None e = refl
     by_occurrence (Some u) e = by_context u (occurrence_at-listed (tree_of_items item) p u e) (u.ctxt == 1) refl
 
--- Tests over lists, by an element.
-any-here : {A : Type 0} (p : A → Bool) (xs : List A) (i : ℕ) (x : A) → slice_get xs i ≡ Some x → p x ≡ true → list_any p xs ≡ true
-any-here p [] i x at passes = absurd (none-some x at)
-any-here p (y ∷ xs) zero x at passes = ap (λ b. b || list_any p xs) (ap p (same_Some y x at) ∙ passes)
-any-here p (y ∷ xs) (suc i) x at passes = or_right (p y) (list_any p xs) (any-here p xs i x at passes)
-
-any-found : {A : Type 0} (p : A → Bool) (xs : List A) → list_any p xs ≡ true → (i : ℕ) × (x : A) × (slice_get xs i ≡ Some x) × (p x ≡ true)
-any-found p [] e = absurd (false≢true e)
-any-found {A = A} p (x ∷ xs) e = by_first (p x) refl e (any-found p xs)
-  where
-    by_first : (b : Bool) → p x ≡ b → (b || list_any p xs) ≡ true → (list_any p xs ≡ true → (i : ℕ) × (y : A) × (slice_get xs i ≡ Some y) × (p y ≡ true)) → (i : ℕ) × (y : A) × (slice_get (x ∷ xs) i ≡ Some y) × (p y ≡ true)
-    by_first true is any ih = (0, x, refl, is)
-    by_first false is any ih = let it = ih any in (suc it.0, it.1, it.2, it.3)
-
-get-map : {A B : Type 0} (f : A → B) (xs : List A) (i : ℕ) (y : B) → slice_get (map f xs) i ≡ Some y → (x : A) × (slice_get xs i ≡ Some x) × (y ≡ f x)
-get-map f [] i y e = absurd (none-some y e)
-get-map f (x ∷ xs) zero y e = (x, refl, sym (same_Some (f x) y e))
-get-map f (x ∷ xs) (suc i) y e = get-map f xs i y e
-
-map-get : {A B : Type 0} (f : A → B) (xs : List A) (i : ℕ) (x : A) → slice_get xs i ≡ Some x → slice_get (map f xs) i ≡ Some (f x)
-map-get f [] i x e = absurd (none-some x e)
-map-get f (y ∷ xs) zero x e = ap (λ z. Some (f z)) (same_Some y x e)
-map-get f (y ∷ xs) (suc i) x e = map-get f xs i x e
-
-mapped : {A B : Type 0} (f : A → B) (xs : List A) → length (map f xs) ≡ length xs
-mapped f [] = refl
-mapped f (x ∷ xs) = let rest = mapped f xs in omega (arith, rest)
-
 -- the top item beside one, which has the same elements
 beside : (tops its : List TopItem) → map (λ (top : TopItem). top.items) tops ≡ map (λ (top : TopItem). top.items) its → (s : ℕ) (top : TopItem) → slice_get tops s ≡ Some top → (n : ℕ) × (slice_get its s ≡ Some (record { start = n; items = top.items }))
 beside tops its same s top at =
@@ -307,22 +283,9 @@ mention-there tree tops owners s i top o at there =
 number-is : (tree : List Item) (tops : List TopItem) (top : TopItem) (o : Occurrence) (d : Denoted) → denoted_in ByContext tree top o ≡ Some d → (mention_of ByContext tree (mentioned ByContext Top tree tops) top o).top ≡ position (same_denoted d) (mentioned ByContext Top tree tops)
 number-is tree tops top o d e = ap (option_and_then (λ d. position (same_denoted d) (mentioned ByContext Top tree tops))) e
 
-abbrev order_of : Denoted → ℕ
-order_of (Bound scope name) = scope_order scope
-order_of (Global x) = 0
-
 abbrev name_in : Denoted → Name
 name_in (Bound scope name) = name
 name_in (Global x) = record { sym = x; ctxt = None }
-
--- scopes that are the top after moving
-moved-top : (k : ℕ) (scope : Scope) (name its : Name) → Bound (moved_scope k scope) name ≡ Bound Top its → (scope ≡ Top) × (name ≡ its)
-moved-top k Wrapper name its e = absurd (wrapper e)
-  where
-    wrapper : Bound Wrapper name ≡ Bound Top its → ⊥
-    wrapper e = let orders : 0 ≡ 1 = ap order_of e in omega (arith, orders)
-moved-top k Top name its e = (refl, ap (λ d. name_in d) e)
-moved-top k (Inner kind begins) name its e = let orders = ap order_of e in absurd (omega (arith, orders))
 
 -- what denotes a binding of the top of a whole has its name, and its item declares it or it is told apart by the whole alone
 top-told_by : (item : List Item) (o : Occurrence) (name : Name) (t : Bool) (k : ℕ) {d : Denoted} → Viewed item o d → denoted_in_whole t k (its_name o) d ≡ Bound Top name → (its_name o ≡ name) × (((is_written d ≡ false) × (t ≡ true)) ⊎ (is_written_in (own_declared item) Top name ≡ true))
@@ -357,11 +320,11 @@ module _ (items others : List (List Item)) (whole : AllOf IsWhole items) (named 
   -- what the top of the first whole declares, that of the second does
   more : (name : Name) → is_top_name items name ≡ true → is_top_name others name ≡ true
   more name e =
-      let found = any-found (λ item. is_written_in (own_declared item) Top name) items e in
+      let found = list_any-found (λ item. is_written_in (own_declared item) Top name) items e in
       let top = picked.all found.0 found.1 found.2 in
       let other = beside tops its picked.same top.0 top.1 top.2 in
       let placed = all-at (IsPlaced others) its top.0 (twin other.0 top.1) picked.its_placed other.1 in
-      any-here (λ item. is_written_in (own_declared item) Top name) others placed.m top.1.items placed.there (ap (λ item. is_written_in (own_declared item) Top name) top.3 ∙ found.3)
+      list_any-here (λ item. is_written_in (own_declared item) Top name) others placed.m top.1.items placed.there (ap (λ item. is_written_in (own_declared item) Top name) top.3 ∙ found.3)
 
   -- an identifier that binds, with the number of a binding of the second top
   module _ (t j : ℕ) (top : TopItem) (o : Occurrence) (at : slice_get its t ≡ Some top) (there : slice_get (occurrences top.items) j ≡ Some o) (binds : is_binding o.role ≡ true) where
@@ -456,7 +419,7 @@ module _ (items others : List (List Item)) (whole : AllOf IsWhole items) (named 
   pub groups-alike : GroupsAlike Corresponds first_group second_group
   groups-alike = record {
     owners = refl;
-    size = mapped (λ item. map (mention_of ByContext (joined items) ms item) (occurrences item.items)) tops ∙ sym (mapped (λ (top : TopItem). top.items) tops) ∙ ap length picked.same ∙ mapped (λ (top : TopItem). top.items) its ∙ sym (mapped (λ item. map (mention_of ByContext (joined others) ns item) (occurrences item.items)) its);
+    size = length-map tops (λ item. map (mention_of ByContext (joined items) ms item) (occurrences item.items)) ∙ sym (length-map tops (λ (top : TopItem). top.items)) ∙ ap length picked.same ∙ length-map its (λ (top : TopItem). top.items) ∙ sym (length-map its (λ item. map (mention_of ByContext (joined others) ns item) (occurrences item.items)));
     there = λ s i x e.
         let it = mention-found (joined items) tops owners s i x e in
         let other = beside tops its picked.same s it.top it.at in

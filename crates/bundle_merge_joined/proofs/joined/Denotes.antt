@@ -1,6 +1,7 @@
 -- What names denote in the whole, by what they denote in their item by itself.
 use Rattle.std.proofs.Common.{◌≡◌, ℕ, ◌+◌, Bool, true, false, cond, not, ◌&&◌, ◌||◌, List, [], ◌∷◌, ◌++◌, Option, Some, None, option_map, find, map, length, refl, ap, sym, sym as back, ◌∙◌, subst, arith, append_assoc}
 use Rattle.std.specs.List.{list_any, cons_option}
+use Rattle.std.proofs.lemmas.List.{length-append}
 use Rattle.bundle_tree_piece.specs.Item.{Item}
 use Rattle.bundle_rules.specs.Places.{Around, Occurrence, occurrences, is_binding}
 use Rattle.bundle_rules.specs.Scopes.{Es, Scope, ScopeKind, Wrapper, Top, Inner, kind_of_scope, scope_at, scopes_around}
@@ -11,7 +12,7 @@ use Rattle.bundle_rules.specs.Parts.{tree_of_items}
 use Rattle.bundle_rules.specs.Sorting.{flat}
 use Rattle.bundle_merge_joined.specs.joined.Joined.{AllOf, IsWhole, moved, moved_scope, moved_occurrence, moved_declared, moved_denoted, each_moved, own_declared, is_top_name, is_written, denoted_in_whole}
 use Rattle.bundle_merge_joined.proofs.joined.Lists.{all-back, any-append, any-same, find-map, each-append}
-use Rattle.bundle_merge_joined.proofs.joined.Paths.{flat-append, length-both}
+use Rattle.bundle_merge_joined.proofs.joined.Paths.{flat-append}
 use Rattle.bundle_merge_joined.proofs.joined.Declarations.{IsNamed, named-flat, declared-item, declared-joined, scopes_around-moved, declaration-moved, declared_by_names}
 use Rattle.bundle_merge_joined.proofs.joined.Ranges.{IsIn, IsDeclaredIn, IsOccurrenceIn, declared-in, each-in}
 use Rattle.bundle_merge_joined.proofs.joined.Relocating.{is_function-relocated}
@@ -126,7 +127,7 @@ tops items before (item ∷ more) e whole name =
     first = subst (λ its. list_any (λ d. has_identifier d && is_declared_in (own_declared (flat its)) Top name d) (map (moved_declared (length (flat before))) (own_declared item)) ≡ is_written_in (own_declared item) Top name) e (top-joined before more item (subst (AllOf IsWhole) (sym e) whole) name)
 
     further_more : length (flat before) + length item ≡ length (flat (before ++ item ∷ []))
-    further_more = let one = ap length (flat-append before (item ∷ [])) in let both = length-both (flat before) (item ++ []) in let own = length-both item [] in omega (arith, one, both, own)
+    further_more = let one = ap length (flat-append before (item ∷ [])) in let both = length-append (flat before) (item ++ []) in let own = length-append item [] in omega (arith, one, both, own)
 
 -- an identifier declares a name at the top of the whole exactly if one does so at the top of an item
 pub top-written : (items : List (List Item)) → AllOf IsWhole items → (name : Name) → is_written_in (own_declared (flat items)) Top name ≡ is_top_name items name

@@ -3,11 +3,8 @@ use Rattle.std.proofs.Common.{◌≡◌, ◌<◌, ◌⊎◌, inl, inr, ℕ, true
 use Rattle.std.proofs.lemmas.Option.{same_Some}
 use Rattle.bundle_order_graph.specs.Walks.{Reaches, itself, along, Path}
 use Rattle.bundle_rules.specs.Order.{Mention, Group, IsOf, IsFree, mention_at, Refers, DeclaresAt, Declares, DeclaresFirst, IsWithoutValue, Fills, SetsUpBy, by_member, by_prototype, by_value, SetsUp, Provides, Depends, DependsAtOnce, IsStrong, IsWeak, Needs, Step, by_need, by_own_order, IsGoodOrder}
+use Rattle.bundle_order_needs.proofs.RenumberLemmas.{Flipped}
 use Rattle.bundle_merge_joined.specs.joined.Groups.{IsLoose, TopsAlike, same_top, loose, MentionsAlike, GroupsAlike}
-
--- the other way round
-abbrev pub Flipped : (ℕ → ℕ → Type 0) → ℕ → ℕ → Type 0
-Flipped R c b = R b c
 
 tops-flipped : (R : ℕ → ℕ → Type 0) (g other : Group) {x y : Option ℕ} → TopsAlike R g other x y → TopsAlike (Flipped R) other g y x
 tops-flipped R g other (same_top r) = same_top r

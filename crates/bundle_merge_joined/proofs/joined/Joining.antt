@@ -5,6 +5,7 @@ use Rattle.std.specs.List.{cons_option}
 use Rattle.std.proofs.lemmas.Bool.{false≢true}
 use Rattle.std.proofs.lemmas.List.Elements.{Contains-append_right}
 use Rattle.std.proofs.lemmas.Option.{none-some, same_Some, slice_get-get_or}
+use Rattle.std.proofs.lemmas.List.{length-append, map-append}
 use Rattle.bundle_tree_piece.specs.declared.piece.Role.{Role}
 use Rattle.bundle_tree_piece.specs.Item as h
 use Rattle.bundle_tree_piece.specs.Item.{Item, Head}
@@ -20,7 +21,7 @@ use Rattle.bundle_rules.specs.Renamed.{HasNamesOnly}
 use Rattle.bundle_merge_joined.specs.joined.Joined.{joined, offset, open_behind, AllOf, IsWhole, moved_occurrence, each_moved, own_declared, is_top_name, denoted_in_whole, denoted_in_turn}
 use Rattle.bundle_merge_joined.specs.joined.Notes.{its_name, own_denoted, IsListedIn, IsResolvedInside}
 use Rattle.bundle_merge_joined.proofs.joined.Lists.{all-front}
-use Rattle.bundle_merge_joined.proofs.joined.Paths.{flat-append, length-both, open-append, occurrences-joined, occurrence_at-joined}
+use Rattle.bundle_merge_joined.proofs.joined.Paths.{flat-append, open-append, occurrences-joined, occurrence_at-joined}
 use Rattle.bundle_merge_joined.proofs.joined.Declarations.{AreNamed, IsNamed, named-flat}
 use Rattle.bundle_merge_joined.proofs.joined.Ranges.{IsOccurrenceIn, item-in}
 use Rattle.bundle_merge_joined.proofs.joined.Denotes.{HasIdentifier, identified, denotes-joined}
@@ -114,10 +115,6 @@ map-twice : {A B D : Type 0} (P : A → Type 0) (f : A → B) (g : B → D) (q :
 map-twice P f g q same [] all = refl
 map-twice P f g q same (x ∷ xs) all = ap (λ y. y ∷ map g (map f xs)) (same x all.0) ∙ ap (λ rest. q x ∷ rest) (map-twice P f g q same xs all.1)
 
-map-append : {A B : Type 0} (f : A → B) (xs ys : List A) → map f (xs ++ ys) ≡ map f xs ++ map f ys
-map-append f [] ys = refl
-map-append f (x ∷ xs) ys = ap (λ rest. f x ∷ rest) (map-append f xs ys)
-
 in-turn : (items before after : List (List Item)) → before ++ after ≡ items → AllOf IsWhole items → AllOf IsNamed items → map (denoted_of ByContext Es (own_declared (flat items))) (each_moved moved_occurrence (λ item. occurrences (tree_of_items item)) (length (flat before)) after) ≡ denoted_in_turn items (length (flat before)) after
 in-turn items before [] e whole named = refl
 in-turn items before (item ∷ more) e whole named =
@@ -133,7 +130,7 @@ in-turn items before (item ∷ more) e whole named =
         (occurrences (tree_of_items item)) (item-in item)
 
     further : length (flat (before ++ item ∷ [])) ≡ length (flat before) + length item
-    further = let one = ap length (flat-append before (item ∷ [])) in let both = length-both (flat before) (item ++ []) in let own = length-both item [] in omega (arith, one, both, own)
+    further = let one = ap length (flat-append before (item ∷ [])) in let both = length-append (flat before) (item ++ []) in let own = length-append item [] in omega (arith, one, both, own)
 
     rest : map (denoted_of ByContext Es (own_declared (flat items))) (each_moved moved_occurrence (λ i. occurrences (tree_of_items i)) (length (flat (before ++ item ∷ []))) more) ≡ denoted_in_turn items (length (flat (before ++ item ∷ []))) more → map (denoted_of ByContext Es (own_declared (flat items))) (each_moved moved_occurrence (λ i. occurrences (tree_of_items i)) (length (flat before) + length item) more) ≡ denoted_in_turn items (length (flat before) + length item) more
     rest ih = subst (λ k. map (denoted_of ByContext Es (own_declared (flat items))) (each_moved moved_occurrence (λ i. occurrences (tree_of_items i)) k more) ≡ denoted_in_turn items k more) further ih

@@ -2,6 +2,7 @@
 use Rattle.std.proofs.Common.{◌≡◌, ◌≤◌, ◌<◌, ℕ, suc, ◌+◌, ◌&&◌, Bool, true, false, cond, not, nat_lt, le-leb, List, [], ◌∷◌, ◌++◌, Option, Some, None, option_map, filter, filter_map, map, slice_get, length, bytes_eq, codes, refl, ap, sym, ◌∙◌, subst, arith, append_assoc, Contains, ne_eqb}
 use Rattle.std.specs.List.{position, position_or_len, prefix_len, cons_option}
 use Rattle.std.proofs.lemmas.Bool.{false≢true}
+use Rattle.std.proofs.lemmas.List.{length-append}
 use Rattle.bundle_tree_piece.specs.Item.{Item}
 use Rattle.bundle_rules.specs.Places.{Occurrence, occurrence_at}
 use Rattle.bundle_rules.specs.Scopes.{Es, Wrapper, Top, Inner}
@@ -12,16 +13,16 @@ use Rattle.bundle_rules.specs.Meaning.{View, denoted, is_inside, inner_bindings,
 use Rattle.bundle_rules.specs.Mentions.{same_context}
 use Rattle.bundle_rules.specs.Parts.{tree_of_items}
 use Rattle.bundle_rules.specs.Statements.{taken_from}
+use Rattle.bundle_order_needs.proofs.TopLemmas.{Contains-filter, once-from, position-none}
 use Rattle.bundle_merge_joined.specs.joined.Joined.{joined, AllOf, IsWhole, moved, moved_denoted, offset, is_top_name, is_written, denoted_in_whole}
 use Rattle.bundle_merge_joined.specs.joined.Notes.{its_name, own_denoted, is_inner, IsListedIn}
-use Rattle.bundle_merge_joined.proofs.joined.Paths.{moved-from, length-both}
+use Rattle.bundle_merge_joined.proofs.joined.Paths.{moved-from}
 use Rattle.bundle_merge_joined.proofs.joined.Declarations.{IsNamed}
 use Rattle.bundle_merge_joined.proofs.joined.Ranges.{same-moved}
 use Rattle.bundle_merge_joined.proofs.joined.Items.{all-at}
 use Rattle.bundle_merge_joined.proofs.joined.Joining.{denoted-joined}
 use Rattle.bundle_merge_joined.proofs.joined.Notes.{Viewed, written, implicit, unbound as not_bound, viewed, inner-told}
 use Rattle.bundle_merge_joined.proofs.joined.Source.{its-view, denoted-in_module}
-use Rattle.bundle_merge_joined.proofs.joined.Tops.{Contains-filter, once-from, position-none}
 
 -- an item by itself, and the whole, as they are read
 abbrev pub view_of : List Item → View
@@ -114,10 +115,10 @@ module _ (from : ℕ) (items : List (List Item)) (m : ℕ) (item : List Item) (l
       ∙ ap (λ n. map (moved_denoted k) (filter (is_inside 1) (cons_option (option_map (own_denoted item) (occurrence_at (tree_of_items item) (suc (length before)))) (filter_map (denoted (view_of item)) (taken_from n after))))) next
     where
       both : length (before ++ x ∷ []) ≡ length before + 1
-      both = let all = length-both before (x ∷ []) in omega (arith, all)
+      both = let all = length-append before (x ∷ []) in omega (arith, all)
 
       within : length before < length item
-      within = let all = length-both before (x ∷ after) in let same = ap length e in omega (arith, all, same)
+      within = let all = length-append before (x ∷ after) in let same = ap length e in omega (arith, all, same)
 
       places : (k : ℕ) → suc (suc (k + length before)) ≡ suc (k + length (before ++ x ∷ []))
       places k = let more = both in omega (arith, more)

@@ -9,6 +9,9 @@ use Rattle.bundle_rules.specs.Places.{Around, Spot, Occurrence, in_field, outer_
 use Rattle.bundle_rules.specs.Parts.{tree_of_items}
 use Rattle.bundle_rules.specs.Sorting.{flat}
 use Rattle.bundle_merge_joined.specs.joined.Joined.{joined, open_behind, AllOf, IsWhole, moved, moved_path, moved_occurrence, each_moved}
+use Rattle.bundle_merge_joined.proofs.joined.Lists.{get-behind}
+pub use Rattle.bundle_merge_meaning.proofs.noted.Spots.{fold-append, fold-place}
+pub use Rattle.bundle_merge_meaning.proofs.noted.Names.{occurrences_append as occurrences-append}
 
 -- behind the beginning of a module
 abbrev pub inside : Spot
@@ -32,7 +35,7 @@ pub record AreMoved (k : ℕ) (a b : Spot) : Type 0 where
   pub path : (field : ℕ) → in_field field b.path ≡ moved_path k (in_field field a.path)
   pub deep : IsDeep a.path → b.path ≡ moved_path k a.path
 
-outer-in_field : (field : ℕ) (path : List Around) → outer_path (in_field field path) ≡ outer_path path
+pub outer-in_field : (field : ℕ) (path : List Around) → outer_path (in_field field path) ≡ outer_path path
 outer-in_field field [] = refl
 outer-in_field field (node ∷ outer) = refl
 
@@ -85,26 +88,6 @@ moved-occurrences k (x ∷ xs) a b m =
     ap (λ o. cons_option o (occurrences_from (past b x) xs)) (moved-occurrence k a b m x)
     ∙ ap (cons_option (option_map (moved_occurrence k) (occurrence_of a x))) (moved-occurrences k xs (past a x) (past b x) (moved-past k a b m x))
     ∙ cons_option-map (moved_occurrence k) (occurrence_of a x) (occurrences_from (past a x) xs)
-
-cons_option-append : {A : Type 0} (first : Option A) (xs ys : List A) → cons_option first (xs ++ ys) ≡ cons_option first xs ++ ys
-cons_option-append None xs ys = refl
-cons_option-append (Some x) xs ys = refl
-
-pub occurrences-append : (s : Spot) (xs ys : List Item) → occurrences_from s (xs ++ ys) ≡ occurrences_from s xs ++ occurrences_from (fold past s xs) ys
-occurrences-append s [] ys = refl
-occurrences-append s (x ∷ xs) ys = ap (cons_option (occurrence_of s x)) (occurrences-append (past s x) xs ys) ∙ cons_option-append (occurrence_of s x) (occurrences_from (past s x) xs) (occurrences_from (fold past (past s x) xs) ys)
-
-pub fold-append : (s : Spot) (xs ys : List Item) → fold past s (xs ++ ys) ≡ fold past (fold past s xs) ys
-fold-append s [] ys = refl
-fold-append s (x ∷ xs) ys = fold-append (past s x) xs ys
-
-pub fold-place : (s : Spot) (xs : List Item) → (fold past s xs).place ≡ s.place + length xs
-fold-place s [] = omega arith
-fold-place s (x ∷ xs) = let rest = fold-place (past s x) xs in omega (arith, rest)
-
-pub length-both : (xs ys : List Item) → length (xs ++ ys) ≡ length xs + length ys
-length-both [] ys = omega arith
-length-both (x ∷ xs) ys = let rest = length-both xs ys in omega (arith, rest)
 
 -- the module's node lies below so many others
 abbrev pub IsBelow : ℕ → List Around → Type 0
@@ -207,10 +190,6 @@ occurrence-behind k (x ∷ xs) ys zs a b m (suc p) lt = occurrence-behind k xs y
 take-behind : (xs ys : List Item) (p : ℕ) (s : Spot) → fold past s (take (length xs + p) (xs ++ ys)) ≡ fold past (fold past s xs) (take p ys)
 take-behind [] ys p s = let n : 0 + p ≡ p = omega arith in ap (λ n. fold past s (take n ys)) n
 take-behind (x ∷ xs) ys p s = let n : length (x ∷ xs) + p ≡ suc (length xs + p) = omega arith in ap (λ n. fold past s (take n (x ∷ (xs ++ ys)))) n ∙ take-behind xs ys p (past s x)
-
-get-behind : (xs ys : List Item) (p : ℕ) → slice_get (xs ++ ys) (length xs + p) ≡ slice_get ys p
-get-behind [] ys p = let n : 0 + p ≡ p = omega arith in ap (slice_get ys) n
-get-behind (x ∷ xs) ys p = let n : length (x ∷ xs) + p ≡ suc (length xs + p) = omega arith in ap (slice_get (x ∷ (xs ++ ys))) n ∙ get-behind xs ys p
 
 -- the items before one of them, and what stands behind
 pub flat-append : (before more : List (List Item)) → flat (before ++ more) ≡ flat before ++ flat more

@@ -2,6 +2,7 @@
 use Rattle.std.proofs.Common.{◌≡◌, ◌≢◌, ◌≤◌, ◌<◌, ◌⊎◌, inl, inr, ℕ, zero, suc, ◌+◌, ◌==◌, Bool, true, false, cond, List, [], ◌∷◌, ◌++◌, Option, Some, None, option_and_then, map, length, refl, ap, sym, ◌∙◌, subst, arith, ne_eqb, eqb-true, eq-eqb}
 use Rattle.std.specs.List.{cons_option}
 use Rattle.std.proofs.lemmas.Bool.{false_from_ne_true, false≢true}
+use Rattle.std.proofs.lemmas.List.{length-append}
 use Rattle.bundle_tree_piece.specs.declared.piece.Role.TheVariants as r
 use Rattle.bundle_tree_piece.specs.Item as h
 use Rattle.bundle_tree_piece.specs.Item.{Item, Head}
@@ -13,7 +14,7 @@ use Rattle.bundle_rules.specs.Parts.{tree_of_items}
 use Rattle.bundle_rules.specs.Sorting.{flat}
 use Rattle.bundle_merge_joined.specs.joined.Joined.{AllOf, moved, moved_scope, moved_declared, each_moved, own_declared}
 use Rattle.bundle_merge_joined.proofs.joined.Lists.{all-append, all-more, all-map}
-use Rattle.bundle_merge_joined.proofs.joined.Paths.{inside, moved-from, item-occurrences, length-both}
+use Rattle.bundle_merge_joined.proofs.joined.Paths.{inside, moved-from, item-occurrences}
 
 -- the scope is the top, or one of a node that begins in this range
 abbrev pub IsIn : ℕ → ℕ → Scope → Type 0
@@ -139,7 +140,7 @@ declared-in_moved k high d all = all-map (IsIn 1 high) (IsIn (1 + k) (high + k))
 pub each-in : (k high : ℕ) (items : List (List Item)) → 1 + k + length (flat items) ≤ high → AllOf (IsDeclaredIn (1 + k) high) (each_moved moved_declared own_declared k items)
 each-in k high [] le = tt
 each-in k high (item ∷ more) le =
-    let both = length-both item (flat more) in
+    let both = length-append item (flat more) in
     let first : 1 + length item + k ≤ high = omega (arith, le, both) in
     let later : 1 + (k + length item) + length (flat more) ≤ high = omega (arith, le, both) in
     all-append (IsDeclaredIn (1 + k) high) (map (moved_declared k) (own_declared item)) (each_moved moved_declared own_declared (k + length item) more)

@@ -4,11 +4,12 @@ use Rattle.std.proofs.lemmas.Bool.{false≢true, cases_lt}
 use Rattle.std.proofs.lemmas.Option.{same_Some}
 use Rattle.bundle_tree_piece.specs.Item.{Item}
 use Rattle.bundle_rules.specs.Places.{Occurrence, occurrence_at}
-use Rattle.bundle_rules.specs.Scopes.{Es, Scope, ScopeKind, Wrapper, Top, Inner, scopes_around}
+use Rattle.bundle_rules.specs.Scopes.{Es, ScopeKind, Wrapper, Top, Inner, scopes_around}
 use Rattle.bundle_rules.specs.Declarations.{ByContext, Name, name_of}
 use Rattle.bundle_rules.specs.Homes.{is_function}
 use Rattle.bundle_rules.specs.Denotes.{Denoted, Bound, Global, denoted_of, denoted_at, SameIdent, IsResolved}
 use Rattle.bundle_rules.specs.Sorting.{flat}
+use Rattle.bundle_rules.specs.Symbols.{denoted_symbol}
 use Rattle.bundle_merge_joined.specs.joined.Joined.{joined, offset, AllOf, IsWhole, moved, moved_scope, moved_occurrence, moved_denoted, own_declared, is_top_name, is_written}
 use Rattle.bundle_merge_joined.specs.joined.Notes.{its_name, own_denoted, is_inner, is_inner_name, IsNoted, inner, top_name, free, noted_denoted, IsListedIn, AreApart}
 use Rattle.bundle_merge_joined.proofs.joined.Lists.{find-map}
@@ -18,6 +19,7 @@ use Rattle.bundle_merge_joined.proofs.joined.Ranges.{moved-same}
 use Rattle.bundle_merge_joined.proofs.joined.Relocating.{is_function-relocated}
 use Rattle.bundle_merge_joined.proofs.joined.Items.{all-at, offset-later, IsOfItem, occurrence-of-item}
 use Rattle.bundle_merge_joined.proofs.joined.Notes.{Viewed, written, implicit, unbound, viewed, inner-declared, free-own, own-top, note-told}
+use Rattle.bundle_merge_joined.proofs.joined.Bindings.{bound-global}
 
 -- an inner binding that is denoted, with its place
 pub record InnerOf (item : List Item) (o : Occurrence) (d : Denoted) : Type 0 where
@@ -66,11 +68,7 @@ position_of (Bound Top name) = 0
 position_of (Bound Wrapper name) = 0
 position_of (Global x) = 0
 
--- the symbol and the context of what is denoted
-abbrev sym_of : Denoted → List ℕ
-sym_of (Bound scope name) = name.sym
-sym_of (Global x) = x
-
+-- the context of what is denoted, as an identifier has it
 abbrev context_of : Denoted → ℕ
 context_of (Bound scope name) = unwrap_or name.ctxt 0
 context_of (Global x) = 1
@@ -79,10 +77,6 @@ context_of (Global x) = 1
 pub far : (k l one two x y : ℕ) → 1 ≤ x → x < 1 + one → 1 ≤ y → y < 1 + two → (k + one ≤ l) ⊎ (l + two ≤ k) → x + k ≡ y + l → ⊥
 far k l one two x y a b c d (inl le) e = omega (arith, a, b, c, d, le, e)
 far k l one two x y a b c d (inr le) e = omega (arith, a, b, c, d, le, e)
-
--- a binding is no global
-bound-global : (scope : Scope) (name : Name) (x : List ℕ) → Bound scope name ≡ Global x → ⊥
-bound-global scope name x e = cc
 
 -- names of one identifier
 same-name : (a b : Occurrence) → SameIdent a b → its_name a ≡ its_name b
@@ -98,10 +92,10 @@ module _ (items : List (List Item)) where
     of_none : o.ctxt ≡ 1 → is_top_name items (its_name o) ≡ false → Outer item o (Global o.sym)
 
   pub outer-alike : (item other : List Item) (a b : Occurrence) {d e : Denoted} → Outer item a d → Outer other b e → SameIdent a b ↔ (d ≡ e)
-  outer-alike item other a b (of_top is) (of_top its) = (λ same. ap (Bound Top) (same-name a b same), λ same. (ap sym_of same, ap context_of same))
+  outer-alike item other a b (of_top is) (of_top its) = (λ same. ap (Bound Top) (same-name a b same), λ same. (ap denoted_symbol same, ap context_of same))
   outer-alike item other a b (of_top is) (of_none one none) = (λ same. absurd (false≢true (sym none ∙ ap (is_top_name items) (sym (same-name a b same)) ∙ is)), λ same. absurd cc)
   outer-alike item other a b (of_none one none) (of_top is) = (λ same. absurd (false≢true (sym none ∙ ap (is_top_name items) (same-name a b same) ∙ is)), λ same. absurd cc)
-  outer-alike item other a b (of_none one none) (of_none its nothing) = (λ same. ap Global same.0, λ same. (ap sym_of same, one ∙ sym its))
+  outer-alike item other a b (of_none one none) (of_none its nothing) = (λ same. ap Global same.0, λ same. (ap denoted_symbol same, one ∙ sym its))
 
   module _ (whole : AllOf IsWhole items) (named : AllOf IsNamed items) (distinct : AreApart items) where
     -- what an occurrence denotes in the whole: an inner binding of its item, moved, or none
@@ -208,7 +202,7 @@ module _ (items : List (List Item)) where
     -- a global of the whole is one of its item, and no item declares it
     global-own : (m : ℕ) (item : List Item) (o : Occurrence) {d : Denoted} → slice_get items m ≡ Some item → IsListedIn item o → Told m item o d → (x : List ℕ) → d ≡ Global x → (own_denoted item o ≡ Global x) × (is_top_name items (its_name o) ≡ false)
     global-own m item o at listed (is_inner_of is unless) x e = absurd (false≢true (ap is_inner (sym e) ∙ inner-moved (offset items m) (own_denoted item o) is))
-    global-own m item o at listed (is_outer not_inner (of_top top)) x e = absurd (bound-global Top (its_name o) x e)
+    global-own m item o at listed (is_outer not_inner (of_top top)) x e = absurd (bound-global e)
     global-own m item o at listed (is_outer not_inner (of_none one none)) x e = (free-own item o (viewed item (all-at IsNamed items m item named at) o listed) one not_inner (own-top items m item (its_name o) at none) ∙ e, none)
 
     arguments-own : (p : ℕ) (a : Occurrence) → occurrence_at (joined items) p ≡ Some a → denoted_at ByContext Es (joined items) p ≡ Some (Global (codes "arguments")) → IsOfItem items a → find is_function (scopes_around Es a.path) ≡ None

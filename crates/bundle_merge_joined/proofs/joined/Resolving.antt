@@ -1,11 +1,9 @@
 -- Once a tree's contexts are set, the bindings inside a statement are numbered by symbol and context as they were by symbol before.
-use Rattle.std.proofs.Common.{◌≡◌, ℕ, zero, suc, ◌+◌, ◌&&◌, Bool, true, false, List, [], ◌∷◌, Option, Some, None, option_map, option_and_then, take, fold, filter, filter_map, map, slice_get, length, bytes_eq, refl, ap, sym, ◌∙◌, subst, arith, eqb-true, eq-eqb}
-use Rattle.std.specs.List.{position, cons_option}
+use Rattle.std.proofs.Common.{◌≡◌, ℕ, zero, suc, ◌+◌, ◌&&◌, true, List, [], ◌∷◌, Option, Some, None, option_map, option_and_then, take, fold, filter, filter_map, map, slice_get, length, bytes_eq, refl, ap, sym, ◌∙◌, subst, arith, eqb-true}
+use Rattle.std.specs.List.{position, cons_option, AllZip}
 use Rattle.std.proofs.lemmas.Bool.{false≢true, and_parts, and_from}
-use Rattle.std.proofs.lemmas.Option.{none-some, same_Some, slice_get-map}
+use Rattle.std.proofs.lemmas.Option.{none-some, same_Some}
 use Rattle.std.proofs.lemmas.Slice.Eq.{bytes_eq-Decides}
-use Rattle.bundle_tree_piece.specs.declared.piece.Role.TheVariants as r
-use Rattle.bundle_tree_piece.specs.Item as h
 use Rattle.bundle_tree_piece.specs.Item.{Item}
 use Rattle.bundle_rules.specs.Places.{Spot, past, start, Occurrence, occurrence_of, occurrence_at, occurrences}
 use Rattle.bundle_rules.specs.Scopes.{ModuleKind, Inner, scope_order, same_scope}
@@ -18,48 +16,22 @@ use Rattle.bundle_rules.specs.Statements.{taken_from}
 use Rattle.bundle_scope_names.proofs.FoundLemmas.{plain}
 use Rattle.bundle_scope_names.proofs.KindsLemmas.{Table, DenotesOf, denoted-known, same-of, kind_in, occurrences-known}
 use Rattle.bundle_scope_names.proofs.Separation.{IsFor, denoted-for}
-use Rattle.bundle_merge_joined.specs.joined.Alike.{Zipped}
+use Rattle.bundle_merge_meaning.proofs.walked.Denoting.{occurrence_place}
+use Rattle.bundle_scope_names.proofs.TestLemmas.{iff}
 use Rattle.bundle_merge_joined.proofs.joined.Numbers.{filter-zipped, once-zipped, position-zipped}
+use Rattle.bundle_merge_joined.proofs.joined.Lists.{get-map, map-get}
+use Rattle.bundle_merge_joined.proofs.grouped.TopLemmas.{same-refl}
 
 -- the place of an occurrence
-occurrence_of-place : (s : Spot) (item : Item) (o : Occurrence) → occurrence_of s item ≡ Some o → o.place ≡ s.place
-occurrence_of-place s (h.Open field head) o e = absurd (none-some o e)
-occurrence_of-place s (h.Ident field symbol ctxt r.Binding) o e = sym (ap (λ (x : Occurrence). x.place) (same_Some _ o e))
-occurrence_of-place s (h.Ident field symbol ctxt r.Reference) o e = sym (ap (λ (x : Occurrence). x.place) (same_Some _ o e))
-occurrence_of-place s (h.Ident field symbol ctxt r.Word) o e = absurd (none-some o e)
-occurrence_of-place s (h.Hole field) o e = absurd (none-some o e)
-occurrence_of-place s h.Close o e = absurd (none-some o e)
-
 behind-place : (s : Spot) (items : List Item) (p : ℕ) (o : Occurrence) → option_and_then (occurrence_of (fold past s (take p items))) (slice_get items p) ≡ Some o → o.place ≡ s.place + p
 behind-place s [] p o e = absurd (none-some o e)
-behind-place s (x ∷ items) zero o e = let at = occurrence_of-place s x o e in omega (arith, at)
+behind-place s (x ∷ items) zero o e = let at = occurrence_place s x o e in omega (arith, at)
 behind-place s (x ∷ items) (suc p) o e = let at = behind-place (past s x) items p o e in omega (arith, at)
 
 its-place : (items : List Item) (p : ℕ) (o : Occurrence) → occurrence_at items p ≡ Some o → o.place ≡ p
 its-place items p o e = let at = behind-place start items p o e in omega (arith, at)
 
-get-map : {A B : Type 0} (f : A → B) (xs : List A) (i : ℕ) (y : B) → slice_get (map f xs) i ≡ Some y → (x : A) × (slice_get xs i ≡ Some x) × (y ≡ f x)
-get-map f [] i y e = absurd (none-some y e)
-get-map f (x ∷ xs) zero y e = (x, refl, sym (same_Some (f x) y e))
-get-map f (x ∷ xs) (suc i) y e = get-map f xs i y e
-
-map-get : {A B : Type 0} (f : A → B) (xs : List A) (i : ℕ) (x : A) → slice_get xs i ≡ Some x → slice_get (map f xs) i ≡ Some (f x)
-map-get f xs i x e = slice_get-map f xs i ∙ ap (option_map f) e
-
-both-ways : (a b : Bool) → (a ≡ true → b ≡ true) → (b ≡ true → a ≡ true) → a ≡ b
-both-ways true b there back = sym (there refl)
-both-ways false true there back = back refl
-both-ways false false there back = refl
-
 -- tests for the same
-same_context-itself : (c : Option ℕ) → same_context c c ≡ true
-same_context-itself None = refl
-same_context-itself (Some c) = eq-eqb c c refl
-
-same-itself : (d : Denoted) → same_denoted d d ≡ true
-same-itself (Bound scope name) = and_from (same_scope scope scope && bytes_eq name.sym name.sym) (same_context name.ctxt name.ctxt) (and_from (same_scope scope scope) (bytes_eq name.sym name.sym) (eq-eqb (scope_order scope) (scope_order scope) refl) ((bytes_eq-Decides name.sym name.sym).1 refl)) (same_context-itself name.ctxt)
-same-itself (Global x) = (bytes_eq-Decides x x).1 refl
-
 same-by_symbol : (d e : Denoted) → same_denoted d e ≡ true → same_denoted (by_symbol d) (by_symbol e) ≡ true
 same-by_symbol (Bound scope name) (Bound other its) e = and_from (same_scope scope other && bytes_eq name.sym its.sym) true (and_parts (same_scope scope other && bytes_eq name.sym its.sym) (same_context name.ctxt its.ctxt) e).0 refl
 same-by_symbol (Bound scope name) (Global x) e = e
@@ -100,7 +72,7 @@ module _ (kind : ModuleKind) (before after : List Item) (resolution : IsResoluti
       (it.0.sym, subst (DenotesOf (kind_in start before)) (sym it.2) (denoted-known (kind_in start before) kind (declared BySymbol kind before) it.0 (occurrences-known before i it.0 it.1)), subst (IsFor it.0.sym) (sym it.2) (denoted-for kind (declared BySymbol kind before) it.0))
 
   agree : (d s e t : Denoted) → Beside d s → Beside e t → same_denoted s t ≡ same_denoted d e
-  agree d s e t x y = both-ways (same_denoted s t) (same_denoted d e) forward backward
+  agree d s e t x y = iff (same_denoted s t) (same_denoted d e) forward backward
     where
       forward : same_denoted s t ≡ true → same_denoted d e ≡ true
       forward same =
@@ -108,7 +80,7 @@ module _ (kind : ModuleKind) (before after : List Item) (resolution : IsResoluti
           let two = known-by_symbol y.i t y.there in
           let equal : s ≡ t = same-known (kind_in start before) one.0 two.0 s t one.1 two.1 one.2 two.2 same in
           let alike : d ≡ e = same_Some d e (sym x.here ∙ resolution.one x.i y.i (x.there ∙ ap Some equal ∙ sym y.there) ∙ y.here) in
-          ap (same_denoted d) (sym alike) ∙ same-itself d
+          ap (same_denoted d) (sym alike) ∙ same-refl d
 
       backward : same_denoted d e ≡ true → same_denoted s t ≡ true
       backward same = (λ i. same_denoted (its-symbol d s x i) (its-symbol e t y i)) ∙ same-by_symbol d e same
@@ -147,15 +119,15 @@ module _ (kind : ModuleKind) (before after : List Item) (resolution : IsResoluti
   abbrev pub first_view : View
   first_view = record { tree = before; kind = kind; reading = BySymbol }
 
-  told-zipped : (n : ℕ) (xs ys : List Item) → length xs ≡ length ys → Zipped Beside (filter_map (denoted resolved_view) (taken_from n xs)) (filter_map (denoted first_view) (taken_from n ys))
+  told-zipped : (n : ℕ) (xs ys : List Item) → length xs ≡ length ys → AllZip Beside (filter_map (denoted resolved_view) (taken_from n xs)) (filter_map (denoted first_view) (taken_from n ys))
   told-zipped n [] [] e = tt
   told-zipped n [] (y ∷ ys) e = absurd (omega (arith, e))
   told-zipped n (x ∷ xs) [] e = absurd (omega (arith, e))
   told-zipped n (x ∷ xs) (y ∷ ys) e = by_place (at-place n) (told-zipped (suc n) xs ys (omega (arith, e)))
     where
-      by_place : AtPlace n → Zipped Beside (filter_map (denoted resolved_view) (taken_from (suc n) xs)) (filter_map (denoted first_view) (taken_from (suc n) ys)) → Zipped Beside (cons_option (denoted_at ByContext kind after n) (filter_map (denoted resolved_view) (taken_from (suc n) xs))) (cons_option (denoted_at BySymbol kind before n) (filter_map (denoted first_view) (taken_from (suc n) ys)))
-      by_place (neither one two) ih = subst (λ o. Zipped Beside (cons_option o (filter_map (denoted resolved_view) (taken_from (suc n) xs))) (cons_option (denoted_at BySymbol kind before n) (filter_map (denoted first_view) (taken_from (suc n) ys)))) (sym one) (subst (λ o. Zipped Beside (filter_map (denoted resolved_view) (taken_from (suc n) xs)) (cons_option o (filter_map (denoted first_view) (taken_from (suc n) ys)))) (sym two) ih)
-      by_place (both d s one two x) ih = subst (λ o. Zipped Beside (cons_option o (filter_map (denoted resolved_view) (taken_from (suc n) xs))) (cons_option (denoted_at BySymbol kind before n) (filter_map (denoted first_view) (taken_from (suc n) ys)))) (sym one) (subst (λ o. Zipped Beside (d ∷ filter_map (denoted resolved_view) (taken_from (suc n) xs)) (cons_option o (filter_map (denoted first_view) (taken_from (suc n) ys)))) (sym two) (x, ih))
+      by_place : AtPlace n → AllZip Beside (filter_map (denoted resolved_view) (taken_from (suc n) xs)) (filter_map (denoted first_view) (taken_from (suc n) ys)) → AllZip Beside (cons_option (denoted_at ByContext kind after n) (filter_map (denoted resolved_view) (taken_from (suc n) xs))) (cons_option (denoted_at BySymbol kind before n) (filter_map (denoted first_view) (taken_from (suc n) ys)))
+      by_place (neither one two) ih = subst (λ o. AllZip Beside (cons_option o (filter_map (denoted resolved_view) (taken_from (suc n) xs))) (cons_option (denoted_at BySymbol kind before n) (filter_map (denoted first_view) (taken_from (suc n) ys)))) (sym one) (subst (λ o. AllZip Beside (filter_map (denoted resolved_view) (taken_from (suc n) xs)) (cons_option o (filter_map (denoted first_view) (taken_from (suc n) ys)))) (sym two) ih)
+      by_place (both d s one two x) ih = subst (λ o. AllZip Beside (cons_option o (filter_map (denoted resolved_view) (taken_from (suc n) xs))) (cons_option (denoted_at BySymbol kind before n) (filter_map (denoted first_view) (taken_from (suc n) ys)))) (sym one) (subst (λ o. AllZip Beside (d ∷ filter_map (denoted resolved_view) (taken_from (suc n) xs)) (cons_option o (filter_map (denoted first_view) (taken_from (suc n) ys)))) (sym two) (x, ih))
 
   -- NUMBERS: the numbers of the bindings inside are the same
   pub resolved-number : (from n : ℕ) (xs ys : List Item) → length xs ≡ length ys → (d s : Denoted) → Beside d s → position (same_denoted s) (inner_bindings first_view from (taken_from n ys)) ≡ position (same_denoted d) (inner_bindings resolved_view from (taken_from n xs))

@@ -1,6 +1,7 @@
 -- The top items of a whole are its items, where each is one node; and what follows of good orders.
 use Rattle.std.proofs.Common.{◌≡◌, ℕ, zero, suc, ◌+◌, List, [], ◌∷◌, ◌++◌, Option, Some, map, slice_get, take, length, codes, refl, ap, sym, ◌∙◌, subst, arith, append_assoc}
 use Rattle.std.proofs.lemmas.Option.{none-some, same_Some}
+use Rattle.std.proofs.lemmas.List.{length-append, take_at}
 use Rattle.bundle_tree_piece.specs.declared.piece.Role.{Role}
 use Rattle.bundle_tree_piece.specs.Item as h
 use Rattle.bundle_tree_piece.specs.Item.{Item, Head}
@@ -12,10 +13,11 @@ use Rattle.bundle_rules.specs.Sorting.{flat, group_of_items}
 use Rattle.bundle_rules.specs.Statements.{TopItem, placed, top_items}
 use Rattle.bundle_merge_joined.specs.joined.Joined.{joined, open_behind, AllOf, IsWhole, is_top_name}
 use Rattle.bundle_merge_joined.specs.joined.Picked.{IsPlaced, BindsOwn, IsSingle}
-use Rattle.bundle_merge_joined.proofs.joined.Paths.{flat-append, length-both}
+use Rattle.bundle_merge_joined.proofs.joined.Paths.{flat-append}
 use Rattle.bundle_merge_joined.proofs.joined.Declarations.{IsNamed}
 use Rattle.bundle_merge_joined.proofs.joined.Items.{all-at}
 use Rattle.bundle_merge_joined.proofs.joined.Blocks.{order-joined}
+use Rattle.bundle_merge_joined.proofs.joined.Lists.{get-first}
 
 -- One node.
 pub single-name : (field : ℕ) (symbol : List ℕ) (ctxt : ℕ) (role : Role) → IsSingle (h.Ident field symbol ctxt role ∷ [])
@@ -55,28 +57,19 @@ parts-joined (item ∷ more) single = ap (side_by_side zero) (append_assoc item 
 pub top_items-joined : (items : List (List Item)) → AllOf IsSingle items → top_items (joined items) ≡ placed 1 items
 top_items-joined items single = ap (placed 1) (parts-joined items single)
 
--- the items at their places
-get-behind : (before after : List (List Item)) (item : List Item) → slice_get (before ++ item ∷ after) (length before) ≡ Some item
-get-behind [] after item = refl
-get-behind (x ∷ before) after item = get-behind before after item
-
-take-behind : (before after : List (List Item)) → take (length before) (before ++ after) ≡ before
-take-behind [] after = refl
-take-behind (x ∷ before) after = ap (λ rest. x ∷ rest) (take-behind before after)
-
 placed-behind : (items before after : List (List Item)) → before ++ after ≡ items → AllOf (IsPlaced items) (placed (suc (length (flat before))) after)
 placed-behind items before [] e = tt
 placed-behind items before (item ∷ more) e = (
   record {
     m = length before;
-    there = ap (λ its. slice_get its (length before)) (sym e) ∙ get-behind before more item;
-    start = ap (λ list. suc (length (flat list))) (sym (take-behind before (item ∷ more)) ∙ ap (take (length before)) e);
+    there = ap (λ its. slice_get its (length before)) (sym e) ∙ get-first before more item;
+    start = ap (λ list. suc (length (flat list))) (sym (take_at before (item ∷ more) (length before) refl) ∙ ap (take (length before)) e);
   },
   subst (λ n. AllOf (IsPlaced items) (placed n more)) further (placed-behind items (before ++ item ∷ []) more (append_assoc before (item ∷ []) more ∙ e)),
 )
   where
     further : suc (length (flat (before ++ item ∷ []))) ≡ suc (length (flat before)) + length item
-    further = let one = ap length (flat-append before (item ∷ [])) in let both = length-both (flat before) (item ++ []) in let own = length-both item [] in omega (arith, one, both, own)
+    further = let one = ap length (flat-append before (item ∷ [])) in let both = length-append (flat before) (item ++ []) in let own = length-append item [] in omega (arith, one, both, own)
 
 pub placed-joined : (items : List (List Item)) → AllOf (IsPlaced items) (placed 1 items)
 placed-joined items = placed-behind items [] items refl

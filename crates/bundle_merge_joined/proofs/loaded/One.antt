@@ -1,5 +1,5 @@
 -- What is one binding in the module is one in the item, and the other way round.
-use Rattle.std.proofs.Common.{◌≡◌, ℕ, ◌==◌, Bool, true, false, cond, ◌&&◌, List, Option, Some, None, bytes_eq, refl, ap, sym, ◌∙◌, eq-eqb}
+use Rattle.std.proofs.Common.{◌≡◌, ℕ, ◌==◌, Bool, true, false, cond, ◌&&◌, List, Option, Some, None, bytes_eq, refl, ap, sym, ◌∙◌}
 use Rattle.std.specs.List.{list_any}
 use Rattle.bundle_rules.specs.Scopes.{Scope, scope_order, same_scope}
 use Rattle.bundle_rules.specs.Declarations.{names_agree, Declared}
@@ -12,10 +12,7 @@ use Rattle.bundle_scope_names.proofs.FoundLemmas.{plain}
 use Rattle.bundle_merge_joined.specs.loaded.Framed.{IsFrame}
 use Rattle.bundle_merge_joined.specs.loaded.Kept.{DenotedBeside, globals, bindings}
 use Rattle.bundle_merge_joined.proofs.loaded.Beside.{same-beside}
-
-same_context-same : (c : Option ℕ) → same_context c c ≡ true
-same_context-same None = refl
-same_context-same (Some n) = eq-eqb n n refl
+use Rattle.bundle_merge_joined.proofs.grouped.TopLemmas.{same_context-refl}
 
 module _ (R : ℕ → ℕ → Type 0) (frame : IsFrame R) (g : Numbering) (ds : List Declared) where
   abbrev its_context : Scope → List ℕ → Option ℕ
@@ -41,5 +38,5 @@ module _ (R : ℕ → ℕ → Type 0) (frame : IsFrame R) (g : Numbering) (ds : 
           none_of true q = refl
           none_of false q = refl
       by true e true name =
-          let same : same_context (its_context s m) (its_context u n) ≡ true = ap (λ c. same_context (its_context s m) c) (sym (ap (its_context u) (same_symbol m n name)) ∙ sym (context-same s u m (same_order s u e))) ∙ same_context-same (its_context s m) in
+          let same : same_context (its_context s m) (its_context u n) ≡ true = ap (λ c. same_context (its_context s m) c) (sym (ap (its_context u) (same_symbol m n name)) ∙ sym (context-same s u m (same_order s u e))) ∙ same_context-refl (its_context s m) in
           ap (λ t. same_scope s u && bytes_eq m n && t) (sym same)

@@ -1,5 +1,5 @@
 -- What names of a CommonJS module mean in it, and which own statements it has.
-use Rattle.std.proofs.Common.{◌≡◌, ℕ, zero, suc, ◌+◌, ◌<◌, Bool, true, false, cond, not, ◌&&◌, ◌||◌, List, [], ◌∷◌, ◌++◌, Option, Some, filter, length, get_or, ◌⊎◌, inl, inr, refl, ap, sym, ◌∙◌, subst, arith, ne_eqb, flat_map, bytes_eq}
+use Rattle.std.proofs.Common.{◌≡◌, ℕ, zero, suc, ◌+◌, ◌<◌, Bool, true, false, cond, not, ◌&&◌, ◌||◌, List, [], ◌∷◌, ◌++◌, Some, filter, length, get_or, ◌⊎◌, inl, inr, refl, ap, sym, ◌∙◌, subst, arith, ne_eqb, flat_map, bytes_eq}
 use Rattle.std.specs.Prelude.{position}
 use Rattle.std.specs.List.{list_any}
 use Rattle.std.proofs.lemmas.Bool.{false≢true, and_parts, le-leb}

@@ -3,16 +3,7 @@
 use Rattle.std.specs.Prelude.{◌≡◌, ◌↔◌, ℕ, true, List, Option, Some, None, slice_get}
 use Rattle.std.specs.List.{AllZip}
 use Rattle.bundle_rules.specs.Order.{Group, Mention, mention_at}
-
--- two identifiers differ at most in the number of what they denote (verbatim from bundle_mentions/specs/Renumbered)
-pub record IsSameButTop (a b : Mention) : Type 0 where
-  pub declares : a.declares ≡ b.declares
-  pub later : a.later ≡ b.later
-  pub assigned : a.assigned ≡ b.assigned
-  pub argument : a.argument ≡ b.argument
-  pub chain : a.chain ≡ b.chain
-  pub prototype : a.prototype ≡ b.prototype
-  pub valueless : a.valueless ≡ b.valueless
+use Rattle.bundle_order_needs.specs.Renumbered.{IsSameButTop}
 
 -- two identifiers denote one binding of the top
 abbrev pub DenoteOne : Mention → Mention → Type 0

@@ -1,16 +1,10 @@
 -- Two trees whose names are declared alike, though their scopes begin elsewhere, as in a statement that was rewritten.
 use Rattle.std.specs.Prelude.{◌≡◌, ℕ, false, List, [], ◌∷◌, Option, Some, None}
+use Rattle.std.specs.List.{AllZip}
 use Rattle.bundle_rules.specs.Places.{Occurrence, is_binding}
 use Rattle.bundle_rules.specs.Scopes.{ModuleKind, Scope, ScopeKind, Wrapper, Top, Inner, scopes_around}
 use Rattle.bundle_rules.specs.Declarations.{Name, Declared, way_of}
 use Rattle.bundle_rules.specs.Denotes.{Denoted, Bound, Global}
-
--- pair by pair
-abbrev pub Zipped : {A B : Type 0} → (A → B → Type 0) → List A → List B → Type 0
-Zipped R [] [] = Unit {0}
-Zipped R [] (y ∷ ys) = ⊥
-Zipped R (x ∷ xs) [] = ⊥
-Zipped R (x ∷ xs) (y ∷ ys) = R x y × Zipped R xs ys
 
 -- positions of scopes correspond one to one
 pub record IsOneToOne (R : ℕ → ℕ → Type 0) : Type 0 where
@@ -34,7 +28,7 @@ BothAlike R (Some s) (Some t) = ScopesAlike R s t
 pub record DeclaredAlike (R : ℕ → ℕ → Type 0) (d e : Declared) : Type 0 where
   pub name : e.name ≡ d.name
   pub by : e.by ≡ d.by
-  pub scopes : Zipped (ScopesAlike R) d.scopes e.scopes
+  pub scopes : AllZip (ScopesAlike R) d.scopes e.scopes
 
 -- what is denoted corresponds
 pub data DenotedAlike (R : ℕ → ℕ → Type 0) : Denoted → Denoted → Type 0 where
@@ -45,7 +39,7 @@ pub data DenotedAlike (R : ℕ → ℕ → Type 0) : Denoted → Denoted → Typ
 pub record StandsAlike (R : ℕ → ℕ → Type 0) (kind : ModuleKind) (o u : Occurrence) : Type 0 where
   pub role : u.role ≡ o.role
   pub way : way_of u.path ≡ way_of o.path
-  pub scopes : Zipped (ScopesAlike R) (scopes_around kind o.path) (scopes_around kind u.path)
+  pub scopes : AllZip (ScopesAlike R) (scopes_around kind o.path) (scopes_around kind u.path)
 
 -- and has its name
 pub record SeenAlike (R : ℕ → ℕ → Type 0) (kind : ModuleKind) (o u : Occurrence) : Type 0 where
