@@ -11,8 +11,7 @@ use Rattle.bundle_rules.specs.Faults.{IsFaultlessProgram}
 use Rattle.bundle_rules.specs.Forms.{wrapped}
 use Rattle.bundle_rules.specs.Bundle.{AsCall, Hooks, IsBundle}
 use Rattle.bundle_rules.proofs.BundleExamples.{as_call, p, call, tree, only_main, is_bundle}
-use Rattle.bundle_merge_whole.specs.called.Moved.{Every, none, more}
-use Rattle.bundle_merge_whole.specs.called.Wrappable.{begins_list, nothing, StatesNoExports}
+use Rattle.bundle_rules.specs.Callable.{Every, none, more, begins_list, nothing, StatesNoExports}
 use Rattle.bundle_merge_whole.specs.called.Within.{AreIn, no_more, a_name, a_node}
 use Rattle.bundle_merge_whole.proofs.called.Seated.{can-be-called}
 use Rattle.bundle_merge_whole.proofs.called.Whole.{wrapping-keeps}

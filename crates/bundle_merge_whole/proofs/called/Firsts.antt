@@ -15,7 +15,7 @@ use Rattle.bundle_rules.specs.Meaning.{Meant, Mark, Sense, Means, Labelling, bun
 use Rattle.bundle_rules.specs.Marks.{Begins, Ends, Name, word_key, computed_key, begin_marks, end_marks, name_marks}
 use Rattle.bundle_rules.specs.Shorthands.{has_default, is_shorthand_in_pattern, is_object}
 use Rattle.bundle_rules.specs.Forms.{is_export_list}
-use Rattle.bundle_merge_whole.specs.called.Wrappable.{begins_list}
+use Rattle.bundle_rules.specs.Callable.{begins_list}
 
 -- whether marks begin with a list of exports
 abbrev pub first_is_list : List Mark → Bool

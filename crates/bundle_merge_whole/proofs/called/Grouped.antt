@@ -19,8 +19,9 @@ use Rattle.bundle_rules.specs.Entries.{is_call_head}
 use Rattle.bundle_rules.specs.Reads.{is_member, property_of}
 use Rattle.bundle_rules.specs.Mentions.{same_context, same_denoted, each_denoted_once}
 use Rattle.bundle_rules.specs.Order.{Mention, is_assigned, is_in_argument, roots_chain, is_text, is_prototype_read, is_in_assign_of, has_no_value, is_global_named, is_of_nothing, is_object_at, denoted_in, is_of_scope, mentioned, mention_of, group_of}
-use Rattle.bundle_merge_whole.specs.called.Moved.{moved_denoted, IsFair, Every, none, more, AreMet, followed, astray}
-use Rattle.bundle_merge_whole.specs.called.Called.{module_with, call_with, AreTwins}
+use Rattle.bundle_rules.specs.Callable.{Every, none, more, module_with}
+use Rattle.bundle_merge_whole.specs.called.Moved.{moved_denoted, IsFair, AreMet, followed, astray}
+use Rattle.bundle_merge_whole.specs.called.Called.{call_with, AreTwins}
 use Rattle.bundle_merge_whole.proofs.called.Homes.{same-moved, parameters-differ}
 use Rattle.bundle_merge_whole.proofs.called.Lists.{AreAlike, neither, both}
 use Rattle.bundle_merge_whole.proofs.called.Trees.{shows, occurrences-alike}

@@ -10,9 +10,7 @@ use Rattle.bundle_rules.specs.Idents.{Ident}
 use Rattle.bundle_rules.specs.Injected.{is_ascii_identifier}
 use Rattle.bundle_rules.specs.Rebuilds.{plain_key}
 use Rattle.bundle_rules.specs.Forms.{returned_key, returned_property, returned_object, exported_pairs, function_body}
-use Rattle.bundle_merge_whole.specs.called.Moved.{Every, none, more}
-use Rattle.bundle_merge_whole.specs.called.Called.{AreStatements}
-use Rattle.bundle_merge_whole.specs.called.Wrappable.{ExportedName, word, text, Specifier, name_items, specifier_items, export_items}
+use Rattle.bundle_rules.specs.Callable.{Every, none, more, AreStatements, ExportedName, word, text, Specifier, name_items, specifier_items, export_items}
 use Rattle.bundle_merge_whole.proofs.called.Sides.{sides-flat, sides-append, no-lists, IsNoList}
 
 -- whole nodes

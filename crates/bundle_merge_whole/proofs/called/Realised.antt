@@ -17,10 +17,9 @@ use Rattle.bundle_rules.specs.Meaning.{Mark, StatementMeans, Labelling, bundle_s
 use Rattle.bundle_rules.specs.Faults.{IsFaultlessProgram, arguments_under_iife}
 use Rattle.bundle_rules.specs.Bundle as b
 use Rattle.bundle_rules.specs.Bundle.{Form, AsModule, AsCall, form_of, Cause, IsDue, Hooks, Labelled, sense_of, elements_of, ItemMeans, SameMeaning, IsLoadFunction, Realises, properties_tree}
-use Rattle.bundle_merge_whole.specs.called.Moved.{Every, none, more}
-use Rattle.bundle_merge_whole.specs.called.Called.{AreTwins, module_with, call_with}
+use Rattle.bundle_rules.specs.Callable.{Every, none, more, module_with, StatesNoExports}
+use Rattle.bundle_merge_whole.specs.called.Called.{AreTwins, call_with}
 use Rattle.bundle_tree_names.specs.FileName.{real}
-use Rattle.bundle_merge_whole.specs.called.Wrappable.{StatesNoExports}
 use Rattle.bundle_merge_whole.proofs.called.Means.{IsPlaced, moved_element, moved_labels, IsPlainMark, plain-elements, means-moved, statement-moved}
 use Rattle.bundle_merge_whole.proofs.called.Sides.{IsNoList, moved_item, taken-moved, placed-moved, placed-items, placed-positive, every-front, every-rest, sides-front}
 use Rattle.bundle_merge_whole.proofs.called.Plain

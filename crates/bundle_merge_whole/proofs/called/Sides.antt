@@ -8,8 +8,7 @@ use Rattle.bundle_rules.specs.Nodes.{flat, put_first, side_by_side, begins_with}
 use Rattle.bundle_rules.specs.Statements.{TopItem, placed, Element, taken, taken_from}
 use Rattle.bundle_rules.specs.Bundle.{elements_of}
 use Rattle.bundle_rules.specs.Forms.{is_export_list}
-use Rattle.bundle_merge_whole.specs.called.Moved.{Every, none, more}
-use Rattle.bundle_merge_whole.specs.called.Called.{is_module_head, AreStatements, over, begun, ended, named, empty}
+use Rattle.bundle_rules.specs.Callable.{Every, none, more, is_module_head, AreStatements, over, begun, ended, named, empty}
 use Rattle.bundle_merge_whole.proofs.called.Means.{IsPlaced, placed_at, moved_element}
 
 first-flat : (x : Item) (lists : List (List Item)) → flat (put_first x lists) ≡ x ∷ flat lists

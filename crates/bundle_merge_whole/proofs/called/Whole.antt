@@ -24,9 +24,9 @@ use Rattle.bundle_rules.specs.Faults.{IsFaultlessProgram}
 use Rattle.bundle_rules.specs.Forms.{exported_pairs, function_body, returned_object, wrapped}
 use Rattle.bundle_rules.specs.Bundle as b
 use Rattle.bundle_rules.specs.Bundle.{Form, AsModule, AsCall, form_of, Cause, Exports, IsDue, Hooks, Labelled, ItemMeans, elements_of, AreLinked, Realises, Stars, Chosen, externals, function_front, function_back, HasBody, of_module, of_function, Pairing, labelled, IsPaired, IsLaidOut, IsBundle}
-use Rattle.bundle_merge_whole.specs.called.Moved.{moved_denoted, Every, none, more, IsTaken}
-use Rattle.bundle_merge_whole.specs.called.Called.{AreStatements, around, called_path, IsMoved, outside, module_with, call_with, module_start, call_start, AreTwins}
-use Rattle.bundle_merge_whole.specs.called.Wrappable.{Specifier, export_items, IsBack, nothing, exports, CanBeCalled, begins_list, StatesNoExports}
+use Rattle.bundle_rules.specs.Callable.{Every, none, more, IsTaken, AreStatements, module_with, Specifier, export_items, IsBack, nothing, exports, CanBeCalled, begins_list, StatesNoExports}
+use Rattle.bundle_merge_whole.specs.called.Moved.{moved_denoted}
+use Rattle.bundle_merge_whole.specs.called.Called.{around, called_path, IsMoved, outside, call_with, module_start, call_start, AreTwins}
 use Rattle.bundle_merge_whole.proofs.called.Lists.{behind}
 use Rattle.bundle_merge_whole.proofs.called.Trees.{start-moved}
 use Rattle.bundle_merge_whole.proofs.called.Means.{IsPlaced, is_fair, moved_label, moved_labels, contains-mapped, contains-filtered, every-map}
