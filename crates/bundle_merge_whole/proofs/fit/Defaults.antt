@@ -9,7 +9,8 @@ use Rattle.bundle_rules.specs.Shorthands.{is_shorthand_in_pattern, is_object}
 use Rattle.bundle_rules.specs.Forms.{is_export_list}
 use Rattle.bundle_merge_whole.specs.fit.Sorts.{Sort, ADefault, ADecl, One, Slot, slot, takes, names_in, slots}
 use Rattle.bundle_merge_whole.specs.fit.Fits.{AreFit, no_more, over, a_name, a_hole, a_node, IsFit, name, node}
-use Rattle.bundle_merge_whole.specs.fit.Asked.{spells_default, ArePlain, IsListless}
+use Rattle.bundle_scope_renamed.proofs.kept.Named.{spells_default, ArePlain}
+use Rattle.bundle_merge_whole.proofs.called.Filed.{IsListless}
 
 default_head : (head : Head) → takes head ADefault ≡ true → (is_shorthand_in_pattern head || is_object head) ≡ false
 default_head h.AssignPatProp is = absurd (false≢true is)
@@ -37,7 +38,8 @@ plain (a_node {number = n} {sort = k} {head = hd} {inside = ins} {rest = behind}
 pub are_plain : {list : List Slot} {items : List Item} → AreFit list items → ArePlain items
 are_plain {items = items} fit = subst ArePlain (append-nil items) (plain fit [] tt)
 
--- ---- lists of exports
+-- Lists of exports.
+
 last_off : (xs : List Item) (x : Item) → without_last (xs ++ x ∷ []) ≡ xs
 last_off [] x = refl
 last_off (y ∷ []) x = refl

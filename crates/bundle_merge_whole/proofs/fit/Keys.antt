@@ -1,5 +1,5 @@
 -- No block stands as the key of an accessor.
-use Rattle.std.proofs.Common.{◌≡◌, ◌==◌, ◌&&◌, Bool, true, false, not, List, [], ◌∷◌, refl}
+use Rattle.std.proofs.Common.{◌≡◌, ℕ, ◌&&◌, Bool, true, false, not, List, [], ◌∷◌, refl}
 use Rattle.std.proofs.lemmas.Bool.{false≢true}
 use Rattle.bundle_tree_piece.specs.declared.piece.Role.{Role}
 use Rattle.bundle_tree_piece.specs.Item as h
@@ -7,22 +7,22 @@ use Rattle.bundle_tree_piece.specs.Item.{Item, Head}
 use Rattle.bundle_rules.specs.Places.{Around, Spot, past, in_field}
 use Rattle.bundle_merge_whole.specs.fit.Sorts.{Sort, Slot, takes, takes_block, names_in, slots}
 use Rattle.bundle_merge_whole.specs.fit.Fits.{AreFit}
-use Rattle.bundle_merge_whole.specs.fit.Seen.{each_slot, AreSeen, Steps}
-use Rattle.bundle_merge_whole.specs.fit.Asked.{is_accessor, is_key, begins_key, HasNoKeys}
+use Rattle.bundle_merge_whole.specs.fit.Seen.{around, each_slot, AreSeen, Steps}
+use Rattle.bundle_scope_renamed.proofs.kept.Grouped.{is_key, begins_key, HasNoKeys}
 use Rattle.bundle_merge_whole.proofs.fit.Seeing.{seen}
 
 -- a sort that takes blocks stands in no key
 abbrev keyless : Sort → List Around → Bool
 keyless sort path = not (is_key path && takes_block sort)
 
-keyless_slots : (head : Head) (names : Role) → each_slot (λ number inner. not ((is_accessor head && number == 0) && takes_block inner)) (slots head names) ≡ true
-keyless_slots h.Module names = refl
-keyless_slots (h.NewExpr true) names = refl
-keyless_slots (h.NewExpr false) names = refl
-keyless_slots _ names = refl
+keyless_slots : (head : Head) (begins : ℕ) (outer : List Around) (names : Role) → each_slot (λ number inner. keyless inner (around head begins number ∷ outer)) (slots head names) ≡ true
+keyless_slots h.Module begins outer names = refl
+keyless_slots (h.NewExpr true) begins outer names = refl
+keyless_slots (h.NewExpr false) begins outer names = refl
+keyless_slots _ begins outer names = refl
 
 steps : Steps keyless
-steps head begins sort path takes_it holds = keyless_slots head (names_in sort)
+steps head begins sort path takes_it holds = keyless_slots head begins path (names_in sort)
 
 off : (a b : Bool) → b ≡ true → not (a && b) ≡ true → a ≡ false
 off false b e is = refl

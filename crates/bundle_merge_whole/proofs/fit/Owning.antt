@@ -12,7 +12,8 @@ use Rattle.bundle_tree_places.specs.Edits.{is_occurrence}
 use Rattle.bundle_merge_whole.specs.fit.Sorts.{Sort, AModule, AnItem, AnImport, AnExport, AnOuter, AnInner, APattern, APatternProperty, ABindingIdent, AnIdent, Slot, takes, takes_module, takes_item, takes_import, takes_export, takes_name, takes_outer, names_in, slots}
 use Rattle.bundle_merge_whole.specs.fit.Fits.{AreFit}
 use Rattle.bundle_merge_whole.specs.fit.Seen.{each_slot, AreSeen, Steps}
-use Rattle.bundle_merge_whole.specs.fit.Asked.{is_own_item, AreOwn, is_module_head}
+use Rattle.bundle_rules.specs.Callable.{is_module_head}
+use Rattle.bundle_merge_meaning.specs.walked.Rewrites.{is_own_item, AreOwn}
 use Rattle.bundle_merge_whole.proofs.fit.Seeing.{seen}
 
 -- a sort of statements and what stands in them

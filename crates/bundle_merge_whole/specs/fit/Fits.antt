@@ -3,7 +3,8 @@ use Rattle.std.specs.Prelude.{◌≡◌, ℕ, Bool, true, false, List, [], ◌�
 use Rattle.bundle_tree_piece.specs.declared.piece.Role.{Role}
 use Rattle.bundle_tree_piece.specs.Item as h
 use Rattle.bundle_tree_piece.specs.Item.{Item, Head}
-use Rattle.bundle_merge_whole.specs.fit.Sorts.{Sort, Count, One, Optional, Many, Places, Slot, slot, takes, takes_name, names_in, slots}
+use Rattle.bundle_rules.specs.Program.{Program, tree_of, IsReached}
+use Rattle.bundle_merge_whole.specs.fit.Sorts.{Sort, AModule, Count, One, Optional, Many, Places, Slot, slot, takes, takes_name, names_in, slots}
 
 -- whether something has to stand in a field
 abbrev pub is_needed : Count → Bool
@@ -45,3 +46,7 @@ pub data ArePlaces : Sort → ℕ → List Item → Type 0 where
   closed : {sort : Sort} {field : ℕ} → ArePlaces sort field []
   empty : {sort : Sort} {field : ℕ} {rest : List Item} → ArePlaces sort field rest → ArePlaces sort field (h.Hole field ∷ rest)
   held : {sort : Sort} {field : ℕ} {items rest : List Item} → IsFit sort field items → ArePlaces sort field rest → ArePlaces sort field (items ++ rest)
+
+-- the trees of a program's modules are fit
+pub record HasFitTrees (p : Program) : Type 0 where
+  pub each : (m : ℕ) → IsReached p m → IsFit AModule 0 (tree_of p m)
