@@ -166,13 +166,13 @@ module _ (pr : Program) (m : ℕ) (nodes : nested.AreNodes (tree_of pr m)) where
     by_literal : (l : ℕ) (call : RequireCall) → Contains (calls_of pr m) call → call.place ≡ node.begins → (its : Holds (tree_of pr m) place (path_at (tree_of pr m) place) node) → Replaces place node.begins (ByCall (Load l))
     by_literal l call listed same_place its =
         let found = required_there (drop node.begins (tree_of pr m)) call.specifier (ap (λ n. required_at (drop n (tree_of pr m))) (sym same_place) ∙ linked_there pr.settings (is_free (tree_of pr m)) (tree_of pr m) call listed) in
-        let literal = literal_call found.inside found.literal in
+        let literal = found.literal in
         let both : found.inside ++ h.Close ∷ found.behind ≡ its.inside ++ h.Close ∷ its.rest =
             tail_same (ap (λ l. h.Open found.field h.CallExpr ∷ l) (sym (append_assoc found.inside (h.Close ∷ []) found.behind)) ∙ sym found.is ∙ its.at) in
         let same = (same_nodes (literal_call_nodes literal) (plain_nodes its.nodes) found.behind its.rest both).0 in
         first literal its.k (subst (λ l. IsName (slice_get l its.k)) (sym same ∙ literal.is) (name_is its.name)) its.far
       where
-        first : {inside : List Item} (literal : IsLiteralCall inside) (k : ℕ) → IsName (slice_get (h.Ident literal.field literal.x literal.ctxt literal.role ∷ literal.arguments) k) → place ≡ suc node.begins + k → Replaces place node.begins (ByCall (Load l))
+        first : {role : Role} {inside : List Item} (literal : IsLiteralCall role inside) (k : ℕ) → IsName (slice_get (h.Ident literal.field literal.x literal.ctxt role ∷ literal.arguments) k) → place ≡ suc node.begins + k → Replaces place node.begins (ByCall (Load l))
         first literal zero is far = by_call_of (omega (arith, far))
         first literal (suc j) is far = absurd (literal.no_name j is.0 is.2 is.1 is.3 is.4)
 

@@ -21,7 +21,7 @@ use Rattle.bundle_merge_meaning.specs.noted.Marked.{Whole, Alone, Reads, Call, N
 use Rattle.bundle_merge_meaning.specs.noted.Agrees.{IsAt, IsClear, IsReplacedAround, IsNotable, by_reads, by_call, by_meta, StandsAlone, StandsForReads, StandsForCall, Agrees, AgreeInTurn, IsListing, ReplacesNotable}
 use Rattle.bundle_merge_meaning.proofs.noted.Spots.{fold-place, fold-path, spot-in, at-past, at-behind, at-as, at-get}
 use Rattle.bundle_merge_meaning.proofs.noted.Shapes.{reads_inside, nodes_in_reads, literal_call, literal_call_nodes, marked_nodes, join, one_node}
-use Rattle.bundle_merge_meaning.proofs.noted.Names.{occurrence_here, name_first, occurrences_append, occurrences_node, at_in_node, name_in_node, name_in_call, role_in_node, role_in_call}
+use Rattle.bundle_merge_meaning.proofs.noted.Names.{occurrence_here, name_first, occurrences_append, occurrences_node, at_in_node, name_in_node, name_in_call}
 use Rattle.bundle_merge_meaning.proofs.noted.Noted.{clear-field, clear-there, replaced-not, stays_unreplaced, other_unreplaced, kept_unreplaced}
 use Rattle.bundle_merge_meaning.proofs.noted.Steps.{is_in_object, Stands, stands_behind, stands_in, Gives, gives_as, gives_nothing, gives_one, gives_joined, gives_node, gives_replaced, steps_empty, steps_word, gives_name, opens_at, closes_at}
 use Rattle.bundle_merge_meaning.proofs.noted.Properties.{gives_shorthand, by_default}
@@ -42,20 +42,20 @@ object_in h.ExportNamedSpecifier (x ∷ []) = refl
 object_in h.ExportNamedSpecifier (x ∷ y ∷ rest) = refl
 object_in _ inside = refl
 
-keeps_short : (head : Head) → keeps_first head ≡ true → is_shorthand_in_pattern head ≡ false
-keeps_short (h.AssignExpr op) keeps = refl
-keeps_short (h.OptChainExpr optional) keeps = refl
-keeps_short _ keeps = absurd (false≢true keeps)
+keeps_short : (head : Head) (first : ℕ) → keeps_first head first ≡ true → is_shorthand_in_pattern head ≡ false
+keeps_short (h.AssignExpr op) first keeps = refl
+keeps_short (h.OptChainExpr optional) first keeps = refl
+keeps_short _ first keeps = absurd (false≢true keeps)
 
-keeps_object : (head : Head) → keeps_first head ≡ true → is_object head ≡ false
-keeps_object (h.AssignExpr op) keeps = refl
-keeps_object (h.OptChainExpr optional) keeps = refl
-keeps_object _ keeps = absurd (false≢true keeps)
+keeps_object : (head : Head) (first : ℕ) → keeps_first head first ≡ true → is_object head ≡ false
+keeps_object (h.AssignExpr op) first keeps = refl
+keeps_object (h.OptChainExpr optional) first keeps = refl
+keeps_object _ first keeps = absurd (false≢true keeps)
 
-keeps_notable : {meta : Option Meant} {head : Head} {inside : List Item} {by : Replacement} → IsNotable meta head inside by → keeps_first head ≡ true → ⊥
-keeps_notable (by_reads count are) keeps = false≢true keeps
-keeps_notable (by_call are) keeps = false≢true keeps
-keeps_notable (by_meta e) keeps = false≢true keeps
+keeps_notable : {meta : Option Meant} {head : Head} {inside : List Item} {by : Replacement} (first : ℕ) → IsNotable meta head inside by → keeps_first head first ≡ true → ⊥
+keeps_notable first (by_reads count are) keeps = false≢true keeps
+keeps_notable first (by_call are) keeps = false≢true keeps
+keeps_notable first (by_meta e) keeps = false≢true keeps
 
 property_notable : {meta : Option Meant} {inside : List Item} {by : Replacement} → IsNotable meta h.AssignPatProp inside by → ⊥
 property_notable it = elim it [ ]
@@ -158,11 +158,11 @@ module _ (sense : Sense) (inner : List Denoted) (meta : Option Meant) (listing :
   bridge (Kept {notes = notes} field head first {inside = inside} {more = more} {marks = marks} {more_marks = more_marks} keeps one two) s tail os at stands agree =
       let member : List Item = edits.node first h.MemberExpr inside in
       let behind : List Item = more ++ h.Close ∷ tail in
-      let short = keeps_short head keeps in
-      let none = other_unreplaced sense inner listing meta replaces s field head (((member ++ more) ++ h.Close ∷ []) ++ tail) at stands.clear (λ ins by it. keeps_notable it keeps) in
+      let short = keeps_short head first keeps in
+      let none = other_unreplaced sense inner listing meta replaces s field head (((member ++ more) ++ h.Close ∷ []) ++ tail) at stands.clear (λ ins by it. keeps_notable first it keeps) in
       let s1 : Spot = spot-in s field head in
       let at1 : IsAt sense.view.tree s1 (member ++ behind) = at-as refl (append_assoc member more (h.Close ∷ tail)) (at_in_node field head (member ++ more) tail at) in
-      let stands1 : Stands sense edits.Anywhere s1 = stands_in s edits.Anywhere field head stands none (keeps_object head keeps) short in
+      let stands1 : Stands sense edits.Anywhere s1 = stands_in s edits.Anywhere field head stands none (keeps_object head first keeps) short in
       let none1 = kept_unreplaced sense inner listing meta replaces s1 first ((inside ++ h.Close ∷ []) ++ behind) head s.place 0 (in_field field s.path) at1 stands1.clear refl keeps (omega arith) in
       let after : List Occurrence = occurrences_from (fold past s1 member) more ++ os in
       let agree1 : Agree s1 member after notes = agree_first s1 member more os notes (agree_in s field head (member ++ more) os notes agree) in
@@ -198,12 +198,12 @@ module _ (sense : Sense) (inner : List Denoted) (meta : Option Meant) (listing :
       }
   bridge (OfReads {meant = meant} {rest = rest} field count inside are) s tail os at stands agree =
       let found = reads_inside field count inside are in
-      let its = name_in_node found.reads (role_in_node listing found.reads field inside refl s tail at) field inside refl s in
+      let its = name_in_node found.reads refl field inside refl s in
       let both = subst (λ l. AgreeInTurn sense inner (l ++ os) (record { meant = meant; whole = Reads count } ∷ rest)) its.is agree in
       reads_bridged s field count inside os meant rest (nodes_in_reads found.reads field inside refl) its.o its.far both.0 both.1
   bridge (OfCall {meant = meant} {rest = rest} field inside are) s tail os at stands agree =
       let found = literal_call inside are in
-      let its = name_in_call field inside found (role_in_call listing field inside found s tail at) s in
+      let its = name_in_call field inside found refl s in
       let both = subst (λ l. AgreeInTurn sense inner (l ++ os) (record { meant = meant; whole = Call } ∷ rest)) its.is agree in
       call_bridged s field inside os meant rest (literal_call_nodes found) its.o its.far both.0 both.1
   bridge (OfMeta field meant is) s tail os at stands agree =

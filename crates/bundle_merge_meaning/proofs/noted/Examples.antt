@@ -191,16 +191,3 @@ module _ (one_stands : (y : Text) (t u : Target) → StandsFor p 0 y t → Stand
       (k.Begins 0 h.ExprStmt ∷ k.Begins 0 h.CallExpr ∷ k.Name 0 (Unbound used) ∷ k.Begins 1 (h.ExprOrSpread false) ∷ k.Name 1 (Known (Of (Declared 1 x))) ∷ k.Ends ∷ k.Ends ∷ k.Ends ∷ [])
   use_means = top_means p 0 Es (is_es (es_plain main 0)) None (Unbound []) listing replaces 0 main [] (plain_nodes main_nodes) refl
       (record { start = 8; items = statement }) (1, lit< tt, refl) notes [] _ statement_marked (taken_from 8 statement) refl agreed (λ e. absurd (true≢false (sym e)))
-
--- ---- where `Becomes` and `Replaced` would disagree, in trees that no module has
--- `ns.x = 1` with its target in the third field: `Becomes` keeps the target (its `Kept` asks nothing of the field), but it is a read by its place
-odd_target : read_word (module_of (node 0 h.ExprStmt (node 0 (h.AssignExpr Assign) (member 2 (uses 0 ns) x ++ node 3 (h.Number (codes "1")) [])))) 3 ≡ Some x
-odd_target = refl
-
--- in its own field it is none
-target : read_word (module_of (node 0 h.ExprStmt (node 0 (h.AssignExpr Assign) (member 1 (uses 0 ns) x ++ node 2 (h.Number (codes "1")) [])))) 3 ≡ None
-target = refl
-
--- a plain word with a read around it passes for a static read, though it is no occurrence and takes no note
-word_read : are_reads 1 (h.Ident 0 ns 0 Word ∷ node 1 (h.IdentName x) []) ≡ true
-word_read = refl

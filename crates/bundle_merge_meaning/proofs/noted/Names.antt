@@ -11,6 +11,7 @@ use Rattle.bundle_rules.specs.Places.{Around, Spot, Occurrence, in_field, past, 
 use Rattle.bundle_rules.specs.Nodes.{Text}
 use Rattle.bundle_tree_places.specs.Edits as edits
 use Rattle.bundle_tree_places.specs.Edits.{is_occurrence}
+use Rattle.bundle_merge_meaning.specs.noted.Listed.{is_reference}
 use Rattle.bundle_merge_meaning.specs.noted.Agrees.{IsAt, is_read_or_call, IsListing}
 use Rattle.bundle_merge_meaning.proofs.noted.Spots.{around, fold-append, spot-in, spot-behind, at-past, at-as, at-get, at-path}
 use Rattle.bundle_merge_meaning.proofs.noted.Shapes.{IsReads, base, read, IsLiteralCall}
@@ -103,13 +104,13 @@ name_in_node (read {field = f} {count = count} {object = object} second word it)
     (subst (λ l. HasName s l (suc count) (spot-in s f h.MemberExpr).path) e (read_around f second count word object s _ its))
 
 -- and that of a literal call
-pub name_in_call : (field : ℕ) (inside : List Item) (its : IsLiteralCall inside) → is_occurrence its.role ≡ true → (s : Spot) → HasName s (edits.node field h.CallExpr inside) 1 (spot-in s field h.CallExpr).path
-name_in_call field inside its occurs s = subst (λ l. HasName s (edits.node field h.CallExpr l) 1 (spot-in s field h.CallExpr).path) (sym its.is) (record {
-  o = occurrence_here inner its.field its.x its.ctxt its.role;
+pub name_in_call : {role : Role} (field : ℕ) (inside : List Item) → IsLiteralCall role inside → is_occurrence role ≡ true → (s : Spot) → HasName s (edits.node field h.CallExpr inside) 1 (spot-in s field h.CallExpr).path
+name_in_call {role = role} field inside its occurs s = subst (λ l. HasName s (edits.node field h.CallExpr l) 1 (spot-in s field h.CallExpr).path) (sym its.is) (record {
+  o = occurrence_here inner its.field its.x its.ctxt role;
   is =
-      occurrences_node s field h.CallExpr (h.Ident its.field its.x its.ctxt its.role ∷ its.arguments)
-      ∙ name_first inner its.field its.x its.ctxt its.role its.arguments occurs
-      ∙ ap (λ l. occurrence_here inner its.field its.x its.ctxt its.role ∷ l) (its.no_names (past inner (h.Ident its.field its.x its.ctxt its.role)));
+      occurrences_node s field h.CallExpr (h.Ident its.field its.x its.ctxt role ∷ its.arguments)
+      ∙ name_first inner its.field its.x its.ctxt role its.arguments occurs
+      ∙ ap (λ l. occurrence_here inner its.field its.x its.ctxt role ∷ l) (its.no_names (past inner (h.Ident its.field its.x its.ctxt role)));
   far = refl;
   inner = [];
   field = its.field;
@@ -119,23 +120,27 @@ name_in_call field inside its occurs s = subst (λ l. HasName s (edits.node fiel
     inner : Spot
     inner = spot-in s field h.CallExpr
 
--- ---- it is an occurrence, in each listing
-module _ {tree : List Item} (listing : IsListing tree) where
-  name_under : (s : Spot) (field : ℕ) (x : Text) (ctxt : ℕ) (role : Role) (rest : List Item) → IsAt tree s (h.Ident field x ctxt role ∷ rest) → (head : Head) (begins f : ℕ) (outer : List Around) → is_read_or_call head ≡ true → s.path ≡ around head begins f ∷ outer → is_occurrence role ≡ true
-  name_under s field x ctxt role rest at head begins f outer is path =
-      listing.names s.place field ctxt x role (around head begins field) outer (at-get at s.place 0 (omega arith)) (at-path at ∙ ap (in_field field) path) is
+-- ---- it refers, in each listing
+refers : (role : Role) → is_reference role ≡ true → role ≡ r.Reference
+refers r.Reference is = refl
+refers _ is = absurd (false≢true is)
 
-  role_in_reads : {count : ℕ} {role : Role} {xs : List Item} → IsReads count role xs → (s : Spot) (tail : List Item) → IsAt tree s (xs ++ tail) → (begins f : ℕ) (outer : List Around) → s.path ≡ around h.MemberExpr begins f ∷ outer → is_occurrence role ≡ true
+module _ {tree : List Item} (listing : IsListing tree) where
+  name_under : (s : Spot) (field : ℕ) (x : Text) (ctxt : ℕ) (role : Role) (rest : List Item) → IsAt tree s (h.Ident field x ctxt role ∷ rest) → (head : Head) (begins f : ℕ) (outer : List Around) → is_read_or_call head ≡ true → s.path ≡ around head begins f ∷ outer → role ≡ r.Reference
+  name_under s field x ctxt role rest at head begins f outer is path =
+      refers role (listing.names s.place field ctxt x role (around head begins field) outer (at-get at s.place 0 (omega arith)) (at-path at ∙ ap (in_field field) path) is)
+
+  role_in_reads : {count : ℕ} {role : Role} {xs : List Item} → IsReads count role xs → (s : Spot) (tail : List Item) → IsAt tree s (xs ++ tail) → (begins f : ℕ) (outer : List Around) → s.path ≡ around h.MemberExpr begins f ∷ outer → role ≡ r.Reference
   role_in_reads (base {field = field} {ctxt = ctxt} {x = x} {role = role}) s tail at begins f outer path = name_under s field x ctxt role tail at h.MemberExpr begins f outer refl path
   role_in_reads (read {field = g} {object = object} second word it) s tail at begins f outer path =
       role_in_reads it (spot-in s g h.MemberExpr) (word_end second word ++ tail) (at-as refl (append_assoc object (word_end second word) tail) (at-past (h.Open g h.MemberExpr) ((object ++ word_end second word) ++ tail) at)) s.place 0 (in_field g s.path) refl
 
-  pub role_in_node : {count : ℕ} {role : Role} {xs : List Item} → IsReads count role xs → (field : ℕ) (inside : List Item) → xs ≡ edits.node field h.MemberExpr inside → (s : Spot) (tail : List Item) → IsAt tree s (xs ++ tail) → is_occurrence role ≡ true
+  pub role_in_node : {count : ℕ} {role : Role} {xs : List Item} → IsReads count role xs → (field : ℕ) (inside : List Item) → xs ≡ edits.node field h.MemberExpr inside → (s : Spot) (tail : List Item) → IsAt tree s (xs ++ tail) → role ≡ r.Reference
   role_in_node base field inside e s tail at = cc
   role_in_node (read {field = g} {object = object} second word it) field inside e s tail at =
       role_in_reads it (spot-in s g h.MemberExpr) (word_end second word ++ tail) (at-as refl (append_assoc object (word_end second word) tail) (at-past (h.Open g h.MemberExpr) ((object ++ word_end second word) ++ tail) at)) s.place 0 (in_field g s.path) refl
 
-  pub role_in_call : (field : ℕ) (inside : List Item) (its : IsLiteralCall inside) (s : Spot) (tail : List Item) → IsAt tree s (edits.node field h.CallExpr inside ++ tail) → is_occurrence its.role ≡ true
-  role_in_call field inside its s tail at =
-      name_under (spot-in s field h.CallExpr) its.field its.x its.ctxt its.role ((its.arguments ++ h.Close ∷ []) ++ tail)
+  pub role_in_call : {role : Role} (field : ℕ) (inside : List Item) → IsLiteralCall role inside → (s : Spot) (tail : List Item) → IsAt tree s (edits.node field h.CallExpr inside ++ tail) → role ≡ r.Reference
+  role_in_call {role = role} field inside its s tail at =
+      name_under (spot-in s field h.CallExpr) its.field its.x its.ctxt role ((its.arguments ++ h.Close ∷ []) ++ tail)
       (at-past (h.Open field h.CallExpr) _ (at-as refl (ap (λ l. edits.node field h.CallExpr l ++ tail) its.is) at)) h.CallExpr s.place 0 (in_field field s.path) refl refl

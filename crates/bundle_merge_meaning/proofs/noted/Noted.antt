@@ -2,6 +2,7 @@
 use Rattle.std.proofs.Common.{◌≡◌, ℕ, suc, Bool, true, List, [], ◌∷◌, ◌++◌, Option, Some, None, is_none, refl, sym, ap, ◌∙◌, subst, arith}
 use Rattle.std.specs.Prelude.{if◌then◌else◌}
 use Rattle.std.proofs.lemmas.Bool.{false≢true}
+use Rattle.bundle_tree_piece.specs.declared.piece.Role.TheVariants as r
 use Rattle.bundle_tree_piece.specs.Item as h
 use Rattle.bundle_tree_piece.specs.Item.{Item, Head}
 use Rattle.bundle_rules.specs.Places.{Around, Spot, Occurrence, in_field, occurrences_from}
@@ -15,7 +16,7 @@ use Rattle.bundle_merge_meaning.specs.noted.Marked.{Whole, Alone, Reads, Call, N
 use Rattle.bundle_merge_meaning.specs.noted.Agrees.{IsAt, IsClear, IsReplacedAround, IsNotable, by_reads, by_call, by_meta, IsNotedNode, StandsAlone, StandsForReads, StandsForCall, Agrees, AgreeInTurn, IsListing, ReplacesNotable}
 use Rattle.bundle_merge_meaning.proofs.noted.Spots.{around, spot-in, at-drop, at-get, at-path}
 use Rattle.bundle_merge_meaning.proofs.noted.Shapes.{AreReads, reads_inside, nodes_in_reads, IsLiteralCall, literal_call, literal_call_nodes, same_nodes, tail_same}
-use Rattle.bundle_merge_meaning.proofs.noted.Names.{node_ahead, HasName, name_in_node, name_in_call, role_in_node, role_in_call}
+use Rattle.bundle_merge_meaning.proofs.noted.Names.{node_ahead, HasName, name_in_node, name_in_call}
 
 abbrev Table : Type 1
 Table = ℕ → Replacement → Type 0
@@ -109,7 +110,7 @@ module _ (sense : Sense) (inner : List Denoted) (listing : IsListing sense.view.
       found = reads_inside field count inside are
 
       its : HasName s (edits.node field h.MemberExpr inside) count (spot-in s field h.MemberExpr).path
-      its = name_in_node found.reads (role_in_node listing found.reads field inside refl s tail at) field inside refl s
+      its = name_in_node found.reads refl field inside refl s
 
       by_whole : (meant : Meant) (whole : Whole) → Agrees sense inner its.o meant whole → is_none (meant_by_reads meant whole inside) ≡ true → ⊥
       by_whole meant Alone alone none = not_alone sense inner s field h.MemberExpr _ count its clear (ByName l) is meant alone
@@ -126,11 +127,11 @@ module _ (sense : Sense) (inner : List Denoted) (listing : IsListing sense.view.
   not_stays {inside = inside} (by_call {l = l} are) s field tail os notes at clear is agree notable stay =
       on notes (subst (λ l. AgreeInTurn sense inner (l ++ os) notes) its.is agree) stay
     where
-      found : IsLiteralCall inside
+      found : IsLiteralCall r.Reference inside
       found = literal_call inside are
 
       its : HasName s (edits.node field h.CallExpr inside) 1 (spot-in s field h.CallExpr).path
-      its = name_in_call field inside found (role_in_call listing field inside found s tail at) s
+      its = name_in_call field inside found refl s
 
       by_whole : (meant : Meant) (whole : Whole) → Agrees sense inner its.o meant whole → is_none (meant_by_call meant whole inside) ≡ true → ⊥
       by_whole meant Alone alone none = not_alone sense inner s field h.CallExpr _ 1 its clear (ByCall l) is meant alone
@@ -170,7 +171,7 @@ module _ (sense : Sense) (inner : List Denoted) (listing : IsListing sense.view.
     other_unreplaced s field head rest at clear other = λ by is. let noted = noted_here s field head rest by at clear is in other noted.inside by noted.notable
 
     -- a member expression for which no name may stand
-    pub kept_unreplaced : (s : Spot) (first : ℕ) (rest : List Item) (head : Head) (begins f : ℕ) (outer : List Around) → IsAt sense.view.tree s (h.Open first h.MemberExpr ∷ rest) → IsClear sense.replaced s.path → s.path ≡ around head begins f ∷ outer → keeps_first head ≡ true → s.place ≡ suc begins → ((x : Replacement) → sense.replaced s.place x → ⊥)
+    pub kept_unreplaced : (s : Spot) (first : ℕ) (rest : List Item) (head : Head) (begins f : ℕ) (outer : List Around) → IsAt sense.view.tree s (h.Open first h.MemberExpr ∷ rest) → IsClear sense.replaced s.path → s.path ≡ around head begins f ∷ outer → keeps_first head first ≡ true → s.place ≡ suc begins → ((x : Replacement) → sense.replaced s.place x → ⊥)
     kept_unreplaced s first rest head begins f outer at clear path keeps place =
         λ by is.
         let noted = noted_here s first h.MemberExpr rest by at clear is in

@@ -1,11 +1,13 @@
 -- What is replaced in a module is what notes can tell of: static reads around a name, literal calls, `import.meta`.
-use Rattle.std.proofs.Common.{◌≡◌, inl, inr, ℕ, zero, suc, ◌+◌, ◌==◌, Bool, true, false, cond, not, ◌||◌, ◌&&◌, List, [], ◌∷◌, ◌++◌, append_assoc, append-nil, filter, drop, Option, Some, None, refl, sym, ap, ◌∙◌, subst, arith}
+use Rattle.std.proofs.Common.{◌≡◌, inl, inr, ℕ, zero, suc, ◌+◌, ◌==◌, Bool, true, false, cond, not, ◌||◌, ◌&&◌, List, [], ◌∷◌, ◌++◌, append_assoc, append-nil, filter, take, drop, Option, Some, None, refl, sym, ap, ◌∙◌, subst, arith}
 use Rattle.std.specs.Prelude.{if◌then◌else◌, Contains, slice_get, option_map, option_and_then}
 use Rattle.std.proofs.lemmas.Bool.{false≢true, true≢false, or_right}
 use Rattle.std.proofs.lemmas.Option.{none-some, same_Some}
+use Rattle.std.proofs.lemmas.List.{take-append-drop}
 use Rattle.std.proofs.lemmas.List.Elements.{Contains-append_cases}
 use Rattle.bundle_tree_leaf.specs.declared.kind.MetaPropKind.TheVariants as p
 use Rattle.bundle_tree_piece.specs.declared.piece.Role.{Role}
+use Rattle.bundle_tree_piece.specs.declared.piece.Role.TheVariants as r
 use Rattle.bundle_tree_piece.specs.Item as h
 use Rattle.bundle_tree_piece.specs.Item.{Item, Head}
 use Rattle.bundle_rules.specs.Places.{Around, spot_before, occurrence_of, path_at}
@@ -25,9 +27,10 @@ use Rattle.bundle_merge_meaning.specs.noted.Nodes as n
 use Rattle.bundle_merge_meaning.specs.noted.Nodes.{AreNodes}
 use Rattle.bundle_merge_meaning.specs.noted.Nested as nested
 use Rattle.bundle_merge_meaning.specs.noted.Nested.{HasParts, AreTwo}
-use Rattle.bundle_merge_meaning.specs.noted.Marked.{behind_word, behind_reads, is_end, are_reads, is_literal_call, keeps_first}
-use Rattle.bundle_merge_meaning.specs.noted.Agrees.{IsListing, IsNotable, by_reads, by_call, by_meta, IsNotedNode, ReplacesNotable}
-use Rattle.bundle_merge_meaning.proofs.noted.Shapes.{IsReads, base, read, join, one_node, reads_nodes, in_other_field}
+use Rattle.bundle_merge_meaning.specs.noted.Marked.{behind_word, behind_reads, is_end, are_reads, keeps_first}
+use Rattle.bundle_merge_meaning.specs.noted.Agrees.{IsAt, IsListing, IsNotable, by_reads, by_call, by_meta, IsNotedNode, ReplacesNotable}
+use Rattle.bundle_merge_meaning.proofs.noted.Shapes.{IsReads, base, read, join, one_node, reads_nodes, in_other_field, IsLiteralCall, literal_call_of, call_is_literal}
+use Rattle.bundle_merge_meaning.proofs.noted.Names.{role_in_node, role_in_call}
 use Rattle.bundle_merge_meaning.proofs.noted.Tops.{beside_node}
 use Rattle.bundle_merge_meaning.proofs.noted.StaticReads.{NodeThere, node_there, beside_one, IsMemberOf, IsReadThere, read_there, get-drop}
 
@@ -38,13 +41,13 @@ drop-next [] (suc b) x rest e = cc
 drop-next (y ∷ xs) zero x rest e = cc
 drop-next (y ∷ xs) (suc b) x rest e = drop-next xs b x rest e
 
-reads_back : {count : ℕ} {role : Role} {xs : List Item} → IsReads count role xs → (rest : List Item) → behind_reads count (xs ++ rest) ≡ Some rest
+reads_back : {count : ℕ} {xs : List Item} → IsReads count r.Reference xs → (rest : List Item) → behind_reads count (xs ++ rest) ≡ Some rest
 reads_back base rest = refl
 reads_back (read {count = count} {object = object} second word it) rest =
     ap (λ l. behind_word (behind_reads count l)) (append_assoc object (h.Open second (h.IdentName word) ∷ h.Close ∷ h.Close ∷ []) rest)
     ∙ ap behind_word (reads_back it (h.Open second (h.IdentName word) ∷ h.Close ∷ h.Close ∷ rest))
 
-pub are_reads_back : {count : ℕ} {role : Role} (field : ℕ) (inside : List Item) → IsReads count role (edits.node field h.MemberExpr inside) → are_reads count inside ≡ true
+pub are_reads_back : {count : ℕ} (field : ℕ) (inside : List Item) → IsReads count r.Reference (edits.node field h.MemberExpr inside) → are_reads count inside ≡ true
 are_reads_back {count = count} field inside it =
     ap is_end (ap (behind_reads count) (sym (append-nil (edits.node 0 h.MemberExpr inside))) ∙ reads_back (in_other_field it field 0 inside refl) [])
 
@@ -148,16 +151,15 @@ read_node tree place {count = suc count} {role = role} behind (read {field = f} 
     record { inside = inside; its_head = its_head; is = is; reads = subst (IsReads (suc count) role) is (read second word it) }
 
 -- where a read may be static, no node keeps it
-keeps_no_read : {tree : List Item} → IsListing tree → (place field : ℕ) (head : Head) → slice_get tree place ≡ Some (h.Open field head) → (is_written_to (path_at tree place) || is_optional_base (path_at tree place)) ≡ false → (around : Around) (outer : List Around) → path_at tree place ≡ around ∷ outer → keeps_first around.head ≡ true → place ≡ suc around.begins → ⊥
-keeps_no_read {tree = tree} listing place field head there free around outer path keeps begins = by around.head refl keeps
+keeps_no_read : (tree : List Item) (place : ℕ) → (is_written_to (path_at tree place) || is_optional_base (path_at tree place)) ≡ false → (around : Around) (outer : List Around) → path_at tree place ≡ around ∷ outer → keeps_first around.head around.field ≡ true → ⊥
+keeps_no_read tree place free around outer path keeps = by around.head refl keeps
   where
     free_here : (is_written_to (around ∷ outer) || is_optional_base (around ∷ outer)) ≡ false
     free_here = subst (λ l. (is_written_to l || is_optional_base l) ≡ false) path free
 
-    by : (k : Head) → around.head ≡ k → keeps_first k ≡ true → ⊥
+    by : (k : Head) → around.head ≡ k → keeps_first k around.field ≡ true → ⊥
     by (h.AssignExpr op) is keeps =
-        let first = listing.targets place field head around outer op there path is begins in
-        let written : writes around.head around.field ≡ true = ap (λ k. writes k around.field) is ∙ ap (λ n. n == 1) first in
+        let written : writes around.head around.field ≡ true = ap (λ k. writes k around.field) is ∙ keeps in
         true≢false (sym (ap (λ b. (b || (passes_writes around.head around.field && is_written_to outer)) || is_optional_base (around ∷ outer)) written) ∙ free_here)
     by (h.OptChainExpr optional) is keeps =
         let base : is_optional_chain around.head ≡ true = ap is_optional_chain is in
@@ -198,7 +200,8 @@ pub record IsCallThere (items : List Item) : Type 0 where
   pub inside : List Item
   pub behind : List Item
   pub is : items ≡ edits.node field h.CallExpr inside ++ behind
-  pub literal : is_literal_call inside ≡ true
+  pub role : Role
+  pub literal : IsLiteralCall role inside
 
 pub required_there : (items : List Item) (text : Text) → required_at items ≡ Some text → IsCallThere items
 required_there items text e = only (after is_plain_argument (after is_require_name (after is_call items))) refl e
@@ -224,7 +227,8 @@ required_there items text e = only (after is_plain_argument (after is_require_na
               ∙ ap (λ y. h.Open call.0 h.CallExpr ∷ h.Ident name.0 name.1 name.2 name.3 ∷ y ∷ x ∷ rest) argument.1
               ∙ ap (λ y. h.Open call.0 h.CallExpr ∷ h.Ident name.0 name.1 name.2 name.3 ∷ h.Open argument.0 (h.ExprOrSpread false) ∷ y ∷ rest) its_string.3
               ∙ ap (λ l. h.Open call.0 h.CallExpr ∷ h.Ident name.0 name.1 name.2 name.3 ∷ h.Open argument.0 (h.ExprOrSpread false) ∷ h.Open its_string.0 (h.Str its_string.1 its_string.2) ∷ l) its_ends.1;
-          literal = refl;
+          role = name.3;
+          literal = literal_call_of name.0 name.1 name.2 name.3 (h.Open argument.0 (h.ExprOrSpread false) ∷ h.Open its_string.0 (h.Str its_string.1 its_string.2) ∷ h.Close ∷ h.Close ∷ []) refl;
         }
 
     only : (l : List Item) → after is_plain_argument (after is_require_name (after is_call items)) ≡ l → only_argument l ≡ Some text → IsCallThere items
@@ -287,6 +291,9 @@ meta_head (h.MetaPropExpr kind) e = meta_kind kind e
 meta_head _ e = absurd (false≢true e)
 
 -- ---- the whole
+at_there : (tree : List Item) (place : ℕ) {rest : List Item} → drop place tree ≡ rest → IsAt tree (spot_before tree place) rest
+at_there tree place is = record { front = take place tree; tree_is = sym (take-append-drop place tree) ∙ ap (λ l. take place tree ++ l) is; spot_is = refl }
+
 -- what `import.meta` stands for in a module is known, if it stands there
 abbrev pub MetaIs : Program → ℕ → Option Meant → Type 0
 MetaIs pr m meta = (place field : ℕ) → slice_get (tree_of pr m) place ≡ Some (h.Open field (h.MetaPropExpr p.ImportMeta)) → meta ≡ Some (Known (Meta m))
@@ -299,8 +306,8 @@ noted_node pr m meta nodes listing metas place field head there (static_read {x 
   inside = its.inside;
   behind = chain.behind;
   there = chain.there ∙ ap (λ l. l ++ chain.behind) (its.is ∙ ap (λ k. edits.node field k its.inside) (sym its.its_head));
-  notable = subst (λ k. IsNotable meta k its.inside (ByName (Of t))) (sym its.its_head) (by_reads chain.count (are_reads_back field its.inside its.reads));
-  unkept = λ around outer is path keeps begins. keeps_no_read listing place field head there (word_property (tree_of pr m) place word).0 around outer path keeps begins;
+  notable = subst (λ k. IsNotable meta k its.inside (ByName (Of t))) (sym its.its_head) (by_reads chain.count (are_reads_back field its.inside (subst (λ role. IsReads chain.count role (edits.node field h.MemberExpr its.inside)) refers its.reads)));
+  unkept = λ around outer is path keeps begins. keeps_no_read (tree_of pr m) place (word_property (tree_of pr m) place word).0 around outer path keeps;
 }
   where
     chain : IsChain (tree_of pr m) place
@@ -308,6 +315,9 @@ noted_node pr m meta nodes listing metas place field head there (static_read {x 
 
     its : IsReadNode chain.count field chain.role head chain.xs
     its = read_node (tree_of pr m) place chain.behind chain.reads chain.there field head there
+
+    refers : chain.role ≡ r.Reference
+    refers = role_in_node listing its.reads field its.inside refl (spot_before (tree_of pr m) place) chain.behind (at_there (tree_of pr m) place (chain.there ∙ ap (λ l. l ++ chain.behind) its.is))
 noted_node pr m meta nodes listing metas place field head there (import_meta is) = record {
   inside = [];
   behind = node.behind;
@@ -331,7 +341,7 @@ noted_node pr m meta nodes listing metas place field head there (require_call {c
   inside = its.inside;
   behind = its.behind;
   there = items ∙ ap (λ y. y ∷ ((its.inside ++ h.Close ∷ []) ++ its.behind)) first;
-  notable = subst (λ k. IsNotable meta k its.inside (ByCall (Load c))) head_is (by_call its.literal);
+  notable = subst (λ k. IsNotable meta k its.inside (ByCall (Load c))) head_is (by_call (call_is_literal (subst (λ role. IsLiteralCall role its.inside) refers its.literal)));
   unkept = λ around outer member path keeps begins. not_member (head_is ∙ member);
 }
   where
@@ -340,6 +350,9 @@ noted_node pr m meta nodes listing metas place field head there (require_call {c
 
     items : drop place (tree_of pr m) ≡ edits.node its.field h.CallExpr its.inside ++ its.behind
     items = its.is
+
+    refers : its.role ≡ r.Reference
+    refers = role_in_call listing its.field its.inside its.literal (spot_before (tree_of pr m) place) its.behind (at_there (tree_of pr m) place items)
 
     first : h.Open its.field h.CallExpr ≡ h.Open field head
     first = same_Some (h.Open its.field h.CallExpr) (h.Open field head) (sym (get-drop (tree_of pr m) place ∙ ap (λ l. slice_get l 0) items) ∙ there)

@@ -4,6 +4,7 @@ use Rattle.std.proofs.lemmas.List.{append_cancel_right}
 use Rattle.std.proofs.lemmas.Bool.{false≢true}
 use Rattle.std.proofs.lemmas.Option.{none-some, same_Some}
 use Rattle.bundle_tree_piece.specs.declared.piece.Role.{Role}
+use Rattle.bundle_tree_piece.specs.declared.piece.Role.TheVariants as r
 use Rattle.bundle_tree_piece.specs.Item as h
 use Rattle.bundle_tree_piece.specs.Item.{Item, Head}
 use Rattle.std.specs.Prelude.{slice_get}
@@ -93,18 +94,16 @@ word_behind _ rest e = absurd (none-some rest e)
 
 -- reads, and what stands behind them
 pub record BeginsWithReads (count : ℕ) (list rest : List Item) : Type 0 where
-  pub role : Role
   pub xs : List Item
-  pub reads : IsReads count role xs
+  pub reads : IsReads count r.Reference xs
   pub is : list ≡ xs ++ rest
 
 begins_with_reads : (count : ℕ) (list rest : List Item) → behind_reads count list ≡ Some rest → BeginsWithReads count list rest
-begins_with_reads zero (h.Ident field x ctxt role ∷ more) rest e = record { role = role; xs = h.Ident field x ctxt role ∷ []; reads = base; is = ap (λ l. h.Ident field x ctxt role ∷ l) (same_Some more rest e) }
+begins_with_reads zero (h.Ident field x ctxt r.Reference ∷ more) rest e = record { xs = h.Ident field x ctxt r.Reference ∷ []; reads = base; is = ap (λ l. h.Ident field x ctxt r.Reference ∷ l) (same_Some more rest e) }
 begins_with_reads (suc count) (h.Open field h.MemberExpr ∷ more) rest e =
     let word = word_behind (behind_reads count more) rest e in
     let object = begins_with_reads count more _ word.is in
     record {
-      role = object.role;
       xs = h.Open field h.MemberExpr ∷ (object.xs ++ h.Open word.field (h.IdentName word.word) ∷ h.Close ∷ h.Close ∷ []);
       reads = read word.field word.word object.reads;
       is = ap (λ l. h.Open field h.MemberExpr ∷ l) (object.is ∙ sym (append_assoc object.xs (h.Open word.field (h.IdentName word.word) ∷ h.Close ∷ h.Close ∷ []) rest));
@@ -117,8 +116,7 @@ ends_there _ e = absurd (false≢true e)
 
 -- what is in a member expression that is just so many static reads
 pub record AreReads (field count : ℕ) (inside : List Item) : Type 0 where
-  pub role : Role
-  pub reads : IsReads count role (edits.node field h.MemberExpr inside)
+  pub reads : IsReads count r.Reference (edits.node field h.MemberExpr inside)
 
 pub in_other_field : {count : ℕ} {role : Role} {xs : List Item} → IsReads count role xs → (old field : ℕ) (inside : List Item) → xs ≡ edits.node old h.MemberExpr inside → IsReads count role (edits.node field h.MemberExpr inside)
 in_other_field base old field inside e = cc
@@ -134,15 +132,16 @@ nodes_in_reads (read {object = object} second word it) field inside e =
 pub reads_inside : (field count : ℕ) (inside : List Item) → are_reads count inside ≡ true → AreReads field count inside
 reads_inside field count inside e =
     let begins = begins_with_reads count (edits.node 0 h.MemberExpr inside) [] (ends_there (behind_reads count (edits.node 0 h.MemberExpr inside)) e) in
-    record { role = begins.role; reads = in_other_field begins.reads 0 field inside (sym (append-nil begins.xs) ∙ sym begins.is) }
+    record { reads = in_other_field begins.reads 0 field inside (sym (append-nil begins.xs) ∙ sym begins.is) }
 
 -- ---- literal calls
-pub record IsLiteralCall (inside : List Item) : Type 0 where
+-- what is in a call of an identifier of this role with one string
+pub record IsLiteralCall (role : Role) (inside : List Item) : Type 0 where
   pub field : ℕ
   pub x : Text
   pub ctxt : ℕ
-  pub role : Role
   pub arguments : List Item
+  pub one : is_one_string arguments ≡ true
   pub nodes : AreNodes arguments
   pub no_names : (s : Spot) → occurrences_from s arguments ≡ []
   pub no_name : (j f c : ℕ) (y : Text) (k : Role) → slice_get arguments j ≡ Some (h.Ident f y c k) → ⊥
@@ -155,13 +154,13 @@ no_name_there second inner value raw (suc (suc zero)) f c y k e = cc
 no_name_there second inner value raw (suc (suc (suc zero))) f c y k e = cc
 no_name_there second inner value raw (suc (suc (suc (suc j)))) f c y k e = none-some _ e
 
-literal_call_of : (field : ℕ) (x : Text) (ctxt : ℕ) (role : Role) (arguments : List Item) → is_one_string arguments ≡ true → IsLiteralCall (h.Ident field x ctxt role ∷ arguments)
+pub literal_call_of : (field : ℕ) (x : Text) (ctxt : ℕ) (role : Role) (arguments : List Item) → is_one_string arguments ≡ true → IsLiteralCall role (h.Ident field x ctxt role ∷ arguments)
 literal_call_of field x ctxt role (h.Open second (h.ExprOrSpread false) ∷ h.Open inner (h.Str value raw) ∷ h.Close ∷ h.Close ∷ []) e = record {
   field = field;
   x = x;
   ctxt = ctxt;
-  role = role;
   arguments = h.Open second (h.ExprOrSpread false) ∷ h.Open inner (h.Str value raw) ∷ h.Close ∷ h.Close ∷ [];
+  one = refl;
   nodes = one_node second (h.ExprOrSpread false) (one_node inner (h.Str value raw) n.nothing);
   no_names = λ s. refl;
   no_name = no_name_there second inner value raw;
@@ -169,11 +168,14 @@ literal_call_of field x ctxt role (h.Open second (h.ExprOrSpread false) ∷ h.Op
 }
 literal_call_of field x ctxt role _ e = absurd (false≢true e)
 
-pub literal_call : (inside : List Item) → is_literal_call inside ≡ true → IsLiteralCall inside
-literal_call (h.Ident field x ctxt role ∷ arguments) e = literal_call_of field x ctxt role arguments e
+pub literal_call : (inside : List Item) → is_literal_call inside ≡ true → IsLiteralCall r.Reference inside
+literal_call (h.Ident field x ctxt r.Reference ∷ arguments) e = literal_call_of field x ctxt r.Reference arguments e
 literal_call _ e = absurd (false≢true e)
 
-pub literal_call_nodes : {inside : List Item} → IsLiteralCall inside → AreNodes inside
+pub call_is_literal : {inside : List Item} → IsLiteralCall r.Reference inside → is_literal_call inside ≡ true
+call_is_literal its = ap is_literal_call its.is ∙ its.one
+
+pub literal_call_nodes : {role : Role} {inside : List Item} → IsLiteralCall role inside → AreNodes inside
 literal_call_nodes its = subst AreNodes (sym its.is) (n.name its.nodes)
 
 -- ---- what has marks

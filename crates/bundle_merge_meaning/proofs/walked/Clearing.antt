@@ -44,12 +44,12 @@ head_alike (h.ExportAll meta) inside field x meant = refl
 head_alike (h.VarDecl kind meta) inside field x meant = refl
 head_alike head inside field x meant = alike_inside head inside (cleared inside) field x meant
 
-first_kept : (head : Head) → keeps_first head ≡ true → keeps_first (cleared_head head) ≡ true
-first_kept (h.ImportDecl meta) keeps = keeps
-first_kept (h.NamedExport meta) keeps = keeps
-first_kept (h.ExportAll meta) keeps = keeps
-first_kept (h.VarDecl kind meta) keeps = keeps
-first_kept head keeps = keeps
+first_kept : (head : Head) (first : ℕ) → keeps_first head first ≡ true → keeps_first (cleared_head head) first ≡ true
+first_kept (h.ImportDecl meta) first keeps = keeps
+first_kept (h.NamedExport meta) first keeps = keeps
+first_kept (h.ExportAll meta) first keeps = keeps
+first_kept (h.VarDecl kind meta) first keeps = keeps
+first_kept head first keeps = keeps
 
 -- a node
 cleared_node : {around : Around} {notes rest : List Note} (field : ℕ) (head : Head) (inside : List Item) (marks : List Mark) → Marked None around notes (node field (cleared_head head) (cleared inside)) (node_marks field (cleared_head head) marks) rest → Marked None around notes (cleared (node field head inside)) (node_marks field head marks) rest
@@ -75,7 +75,7 @@ marked-cleared {around = around} {notes = notes} {rest = rest} (d.Kept field hea
     cleared_node field head (node first h.MemberExpr inside ++ more) (node_marks first h.MemberExpr marks ++ more_marks)
     (subst (λ list. Marked None around notes (node field (cleared_head head) list) (node_marks field (cleared_head head) (node_marks first h.MemberExpr marks ++ more_marks)) rest)
     (sym (cleared-append (node first h.MemberExpr inside) more ∙ ap (λ list. list ++ cleared more) (node-cleared first h.MemberExpr inside)))
-    (d.Kept field (cleared_head head) first (first_kept head keeps) (marked-cleared one its) (marked-cleared two (alone_left one its))))
+    (d.Kept field (cleared_head head) first (first_kept head first keeps) (marked-cleared one its) (marked-cleared two (alone_left one its))))
 marked-cleared {around = around} (d.Shorthand {note = note} {notes = notes} {rest = rest} field x ctxt role {default = default} {marks = marks} occurs one) its =
     subst (λ list. Marked None around (note ∷ notes) list (shorthand_marks field x note.meant default marks) rest) (sym (node-cleared field h.AssignPatProp (binding None 0 x ctxt role ++ default)))
     (subst (λ list. Marked None around (note ∷ notes) (node field h.AssignPatProp (binding None 0 x 0 role ++ cleared default)) list rest) (default-cleared field x note.meant default marks)

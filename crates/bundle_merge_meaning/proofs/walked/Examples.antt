@@ -13,13 +13,12 @@ use Rattle.bundle_rules.specs.Meaning.{Meant}
 use Rattle.bundle_rules.specs.Rebuilds.{with_idents}
 use Rattle.bundle_tree_places.specs.Edits.{Anywhere, InObject, node, in_its_place}
 use Rattle.bundle_merge_meaning.specs.walked.Work.{Step, Work, BySymbol, is_spelled_out_by}
-use Rattle.bundle_merge_meaning.specs.noted.Marked.{Note, Alone, Reads, Marked, is_literal_call, marks_there}
+use Rattle.bundle_merge_meaning.specs.noted.Marked.{Note, Alone, Reads, Marked, marks_there}
 use Rattle.bundle_merge_meaning.specs.noted.Marked as d
 use Rattle.bundle_merge_meaning.specs.walked.Becomes.{Becomes, reference}
 use Rattle.bundle_merge_meaning.specs.walked.Becomes as b
 use Rattle.bundle_merge_meaning.specs.walked.Keeps.{Same}
 use Rattle.bundle_merge_meaning.proofs.walked.Whole.{becomes_same}
-use Rattle.bundle_merge_meaning.specs.walked.Names.{names_of}
 use Rattle.bundle_merge_meaning.specs.walked.Rewrites.{KeepsSymbol}
 use Rattle.bundle_merge_meaning.proofs.walked.Naming.{not_false}
 
@@ -51,19 +50,6 @@ two_names = refl
 
 other_key : in_its_place InObject (Some (record { ident = (codes "y", 0); is_spelled_out = false })) 0 (codes "x") 0 r.Reference ≡ h.Ident 0 (codes "y") 0 r.Reference ∷ []
 other_key = refl
-
--- A plain word may be called by these tests, though it is no occurrence: a step of another occurrence is then taken for it.
-
-word_called : List Item
-word_called = h.Ident 0 (codes "require") 0 r.Word ∷ node 1 (h.ExprOrSpread false) (node 0 (h.Str (codes "./a") None) [])
-
-is_called : is_literal_call word_called ≡ true
-unfolding word_called
-is_called = refl
-
-has_no_name : names_of word_called ≡ []
-unfolding word_called
-has_no_name = refl
 
 -- Steps that spell out by symbol fit any names of their number.
 

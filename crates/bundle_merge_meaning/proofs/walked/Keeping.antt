@@ -313,7 +313,7 @@ declared field kind old new one =
     one
 
 -- what is first in a node stays, whatever stands for it
-kept : {around : Around} {work between rest : Work} {meta : Option Meant} {notes : List Note} (field : ℕ) (head : Head) (first : ℕ) {inside made more made_more : List Item} → keeps_first head ≡ true → (front : Keeps Anywhere work meta notes inside made between) → Keeps Anywhere between meta front.left more made_more rest → Keeps around work meta notes (node field head (node first h.MemberExpr inside ++ more)) (node field head (node first h.MemberExpr made ++ made_more)) rest
+kept : {around : Around} {work between rest : Work} {meta : Option Meant} {notes : List Note} (field : ℕ) (head : Head) (first : ℕ) {inside made more made_more : List Item} → keeps_first head first ≡ true → (front : Keeps Anywhere work meta notes inside made between) → Keeps Anywhere between meta front.left more made_more rest → Keeps around work meta notes (node field head (node first h.MemberExpr inside ++ more)) (node field head (node first h.MemberExpr made ++ made_more)) rest
 unfolding joined
 kept field head first {inside = inside} {made = made} {more = more} {made_more = made_more} keeps_it front back =
     let both = joined front back in

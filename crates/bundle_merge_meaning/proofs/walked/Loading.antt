@@ -41,19 +41,12 @@ nodes_whole whole.nothing = refl
 nodes_whole (whole.name {field = field} {ctxt = ctxt} {sym = x} {role = role} rest) = ap (λ list. h.Ident field x ctxt role ∷ list) (nodes_whole rest)
 nodes_whole (whole.hole {field = field} rest) = ap (λ list. h.Hole field ∷ list) (nodes_whole rest)
 nodes_whole (whole.node {field = field} {head = head} {inside = inside} {rest = rest} it more) =
-    ap flat (beside_node field head it rest) ∙ (ap (λ list. h.Open field head ∷ ((inside ++ h.Close ∷ []) ++ list)) (nodes_whole more) ∙ ap (λ list. h.Open field head ∷ list) (append_assoc inside (h.Close ∷ []) rest))
+    ap (λ list. flat (side_by_side zero (h.Open field head ∷ list))) (append_assoc inside (h.Close ∷ rest) (h.Close ∷ []))
+    ∙ (ap flat (beside_node field head it (rest ++ h.Close ∷ [])) ∙ (ap (λ list. h.Open field head ∷ ((inside ++ h.Close ∷ []) ++ list)) (nodes_whole more) ∙ ap (λ list. h.Open field head ∷ list) (append_assoc inside (h.Close ∷ []) rest)))
 
 -- and so does a module of them
-before_end : {xs : List Item} → AreNodes xs → flat (side_by_side zero (xs ++ h.Close ∷ [])) ≡ xs
-before_end whole.nothing = refl
-before_end (whole.name {field = field} {ctxt = ctxt} {sym = x} {role = role} rest) = ap (λ list. h.Ident field x ctxt role ∷ list) (before_end rest)
-before_end (whole.hole {field = field} rest) = ap (λ list. h.Hole field ∷ list) (before_end rest)
-before_end (whole.node {field = field} {head = head} {inside = inside} {rest = rest} it more) =
-    ap (λ list. flat (side_by_side zero (h.Open field head ∷ list))) (append_assoc inside (h.Close ∷ rest) (h.Close ∷ []))
-    ∙ (ap flat (beside_node field head it (rest ++ h.Close ∷ [])) ∙ (ap (λ list. h.Open field head ∷ ((inside ++ h.Close ∷ []) ++ list)) (before_end more) ∙ ap (λ list. h.Open field head ∷ list) (append_assoc inside (h.Close ∷ []) rest)))
-
 pub module_whole : {xs : List Item} → AreNodes xs → IsWholeModule (h.Open 0 h.Module ∷ (xs ++ h.Close ∷ []))
-module_whole nodes = ap (λ list. h.Open 0 h.Module ∷ (list ++ h.Close ∷ [])) (sym (before_end nodes))
+module_whole nodes = ap (λ list. h.Open 0 h.Module ∷ (list ++ h.Close ∷ [])) (sym (nodes_whole nodes))
 
 -- (The next five are private in the probe `mean`.)
 none_notable : (sense : Sense) → ((place : ℕ) (by : Replacement) → sense.replaced place by → ⊥) → ReplacesNotable sense None
@@ -160,6 +153,8 @@ load_function_stands p b c item load helper m e stmts is nodes listing path its 
           (front_means sense [] nothing listing (front_marked load helper m e c) its.s (stmts ++ (closes 7 ++ its.tail)) there (stands_there sense nothing its object short) (all_agree sense [] nothing (occurrences_from its.s front) (alone (Known (Load c) ∷ Known Helper ∷ Known (Parameter c (codes "module")) ∷ Known (Parameter c (codes "exports")) ∷ [])) names));
       back_means = subst (λ place. Means sense [] (taken_from place (closes 7)) load_back) (fold-place (fold past its.s front) stmts ∙ ap (λ place. place + length stmts) (fold-place its.s front ∙ ap (λ place. place + length front) its.place))
           (back_means sense [] nothing listing 7 (fold past (fold past its.s front) stmts) (fold past (fold past its.s front) stmts).path its.tail refl behind closable);
+      front_length = refl;
+      back_length = refl;
       whole = nodes_whole nodes;
       statements = statements;
     }

@@ -132,12 +132,12 @@ noted_node {around = around} {notes = notes} {rest = rest} field its within insi
     subst (λ head. Marked None around notes (node field its within) (m.Begins field head ∷ (marks ++ m.Ends ∷ [])) rest) (sym (twice its))
     (d.Inside field its still (alike (λ n x meant. alike_inside (cleared_head its) inside (cleared within) n x meant ∙ sym (head_alike its within n x meant)) one))
 
-kept_plain : (head : Head) → keeps_first head ≡ true → is_noted head ≡ false
-kept_plain (h.ImportDecl meta) keeps = cc
-kept_plain (h.NamedExport meta) keeps = cc
-kept_plain (h.ExportAll meta) keeps = cc
-kept_plain (h.VarDecl kind meta) keeps = cc
-kept_plain _ keeps = refl
+kept_plain : (head : Head) (first : ℕ) → keeps_first head first ≡ true → is_noted head ≡ false
+kept_plain (h.ImportDecl meta) first keeps = cc
+kept_plain (h.NamedExport meta) first keeps = cc
+kept_plain (h.ExportAll meta) first keeps = cc
+kept_plain (h.VarDecl kind meta) first keeps = cc
+kept_plain _ first keeps = refl
 
 -- what is first in a node, and what follows
 record KeptOf (xs : List Item) (field : ℕ) (head : Head) (first : ℕ) (inside more : List Item) : Type 0 where
@@ -208,7 +208,7 @@ noted {around = around} {notes = notes} {rest = rest} (d.Inside field head {insi
     (subst (λ its. Marked None around notes (node field it.its it.within) (node_marks field its marks) rest) it.same
     (noted_node field it.its it.within inside marks are_alone (subst (λ its. stays None (d.upcoming notes) its inside ≡ true) (sym it.same) it_stays) (subst (λ its. Marked None (around_in its inside) notes it.within marks rest) (sym it.same) within)))
 noted (d.Kept field head first {inside = inside} {more = more} keeps one two) are_alone xs same =
-    let it = kept_of xs field head first inside more (kept_plain head keeps) same in
+    let it = kept_of xs field head first inside more (kept_plain head first keeps) same in
     listed_so it.is (d.Kept field head first keeps (noted one are_alone it.front it.front_is) (noted two (alone_left one are_alone) it.back it.back_is))
 noted {around = around} (d.Shorthand {note = note} {notes = notes} {rest = rest} field x ctxt role {default = default} {marks = marks} occurs one) are_alone xs same =
     let it = short_of xs field x ctxt role default same in

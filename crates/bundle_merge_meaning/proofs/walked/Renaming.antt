@@ -270,15 +270,15 @@ renamed_node {notes = notes} {inside = inside} {left = left} field head alone it
 }
 
 -- where the first of what is in a node is kept
-kept_edits : {around : Around} {changes left : List Change} (field : ℕ) (head : Head) {inside made : List Item} → keeps_first head ≡ true → Edits Anywhere changes inside made left → Edits around changes (node field head inside) (node field head made) left
-kept_edits field (h.AssignExpr op) keeps one = c.Inside field (h.AssignExpr op) refl one
-kept_edits field (h.OptChainExpr optional) keeps one = c.Inside field (h.OptChainExpr optional) refl one
-kept_edits field _ keeps one = cc
+kept_edits : {around : Around} {changes left : List Change} (field : ℕ) (head : Head) (first : ℕ) {inside made : List Item} → keeps_first head first ≡ true → Edits Anywhere changes inside made left → Edits around changes (node field head inside) (node field head made) left
+kept_edits field (h.AssignExpr op) first keeps one = c.Inside field (h.AssignExpr op) refl one
+kept_edits field (h.OptChainExpr optional) first keeps one = c.Inside field (h.OptChainExpr optional) refl one
+kept_edits field _ first keeps one = cc
 
-renamed_kept : {around : Around} {notes between rest : List Note} {inside more : List Item} {marks more_marks : List Mark} {changes middle left : List Change} (field : ℕ) (head : Head) (first : ℕ) → keeps_first head ≡ true → Renamed Anywhere notes between inside marks changes middle → Renamed Anywhere between rest more more_marks middle left → Renamed around notes rest (node field head (node first h.MemberExpr inside ++ more)) (node_marks field head (node_marks first h.MemberExpr marks ++ more_marks)) changes left
+renamed_kept : {around : Around} {notes between rest : List Note} {inside more : List Item} {marks more_marks : List Mark} {changes middle left : List Change} (field : ℕ) (head : Head) (first : ℕ) → keeps_first head first ≡ true → Renamed Anywhere notes between inside marks changes middle → Renamed Anywhere between rest more more_marks middle left → Renamed around notes rest (node field head (node first h.MemberExpr inside ++ more)) (node_marks field head (node_marks first h.MemberExpr marks ++ more_marks)) changes left
 renamed_kept {left = left} field head first keeps front back = record {
   after = node field head (node first h.MemberExpr front.after ++ back.after);
-  edits = kept_edits field head keeps (c.Joined (c.Inside first h.MemberExpr refl front.edits) back.edits);
+  edits = kept_edits field head first keeps (c.Joined (c.Inside first h.MemberExpr refl front.edits) back.edits);
   marked = d.Kept field head first keeps front.marked back.marked;
   names = both_names (names_of front.after) (names_of back.after) (map ident_of_change left) front.names back.names ∙ ap (λ list. list ++ map ident_of_change left) (sym (kept_names field head first front.after back.after));
 }

@@ -127,9 +127,9 @@ word_behind (Some (h.Open field (h.IdentName word) ∷ h.Close ∷ h.Close ∷ m
 word_behind _ rest is = cc
 
 reads_names : (count : ℕ) (items rest : List Item) → AreOwn items → behind_reads count items ≡ Some rest → OneName items rest
-reads_names zero (h.Ident field x ctxt role ∷ items) rest own is =
+reads_names zero (h.Ident field x ctxt r.Reference ∷ items) rest own is =
     let same : items ≡ rest = cc in
-    record { ident = (x, ctxt); is = name_names field x ctxt role items (and_both (is_occurrence role) (list_all is_own_item items) own).0 ∙ ap (λ list. (x, ctxt) ∷ names_of list) same }
+    record { ident = (x, ctxt); is = ap (λ list. (x, ctxt) ∷ names_of list) same }
 reads_names (suc count) (h.Open field h.MemberExpr ∷ items) rest own is =
     let word = word_behind (behind_reads count items) rest is in
     let one = reads_names count items (h.Open word.field (h.IdentName word.word) ∷ h.Close ∷ h.Close ∷ rest) own word.is in
@@ -152,11 +152,9 @@ string_names (h.Open field (h.ExprOrSpread false) ∷ h.Open inner (h.Str value 
 string_names _ is = cc
 
 call_names : (field : ℕ) (inside : List Item) → AreOwn (node field h.CallExpr inside) → is_literal_call inside ≡ true → OneName (node field h.CallExpr inside) []
-call_names field (h.Ident inner x ctxt role ∷ arguments) own calls = record {
+call_names field (h.Ident inner x ctxt r.Reference ∷ arguments) own calls = record {
   ident = (x, ctxt);
-  is = node_names field h.CallExpr (h.Ident inner x ctxt role ∷ arguments)
-      ∙ (name_names inner x ctxt role arguments (and_both (is_occurrence role) (list_all is_own_item (arguments ++ h.Close ∷ [])) own).0
-      ∙ ap (λ list. (x, ctxt) ∷ list) (string_names arguments calls));
+  is = node_names field h.CallExpr (h.Ident inner x ctxt r.Reference ∷ arguments) ∙ ap (λ list. (x, ctxt) ∷ list) (string_names arguments calls);
 }
 call_names field _ own calls = cc
 

@@ -9,7 +9,8 @@ use Rattle.bundle_rules.specs.Places.{Around, Spot, Occurrence, past, start, pat
 use Rattle.bundle_rules.specs.Denotes.{Denoted, denoted_at}
 use Rattle.bundle_rules.specs.Nodes.{Text}
 use Rattle.bundle_rules.specs.Meaning.{Sense, Replacement, ByName, ByCall, Label, Meant, Known, NameMeans}
-use Rattle.bundle_tree_places.specs.Edits.{node, is_occurrence}
+use Rattle.bundle_tree_places.specs.Edits.{node}
+use Rattle.bundle_merge_meaning.specs.noted.Listed.{is_reference}
 use Rattle.bundle_merge_meaning.specs.noted.Marked.{Whole, Alone, Reads, Call, Note, are_reads, is_literal_call, keeps_first}
 
 -- Where a part of a tree stands.
@@ -50,7 +51,7 @@ pub record IsNotedNode (tree : List Item) (meta : Option Meant) (place field : �
   pub there : drop place tree ≡ node field head inside ++ behind
   pub notable : IsNotable meta head inside by
   -- it is no member expression that is assigned to or begins an optional chain
-  pub unkept : (around : Around) (outer : List Around) → head ≡ h.MemberExpr → path_at tree place ≡ around ∷ outer → keeps_first around.head ≡ true → place ≡ suc around.begins → ⊥
+  pub unkept : (around : Around) (outer : List Around) → head ≡ h.MemberExpr → path_at tree place ≡ around ∷ outer → keeps_first around.head around.field ≡ true → place ≡ suc around.begins → ⊥
 
 -- Notes.
 
@@ -110,9 +111,9 @@ is_read_or_call h.MemberExpr = true
 is_read_or_call h.CallExpr = true
 is_read_or_call head = false
 
--- no plain word stands right in a member expression or a call; what is assigned to stands first in an assignment, in its field
+-- a name right in a member expression or a call refers; what is assigned to stands first in an assignment, in its field
 pub record IsListing (tree : List Item) : Type 0 where
-  pub names : (place field ctxt : ℕ) (x : Text) (role : Role) (around : Around) (outer : List Around) → slice_get tree place ≡ Some (h.Ident field x ctxt role) → path_at tree place ≡ around ∷ outer → is_read_or_call around.head ≡ true → is_occurrence role ≡ true
+  pub names : (place field ctxt : ℕ) (x : Text) (role : Role) (around : Around) (outer : List Around) → slice_get tree place ≡ Some (h.Ident field x ctxt role) → path_at tree place ≡ around ∷ outer → is_read_or_call around.head ≡ true → is_reference role ≡ true
   pub targets : (place field : ℕ) (head : Head) (around : Around) (outer : List Around) (op : AssignOp) → slice_get tree place ≡ Some (h.Open field head) → path_at tree place ≡ around ∷ outer → around.head ≡ h.AssignExpr op → place ≡ suc around.begins → around.field ≡ 1
 
 -- what is replaced in a tree, where `meta` is what `import.meta` stands for

@@ -1,9 +1,9 @@
 -- Lists that are whole nodes, as trees list them, with what `IsListing` needs of what stands right in a node.
-use Rattle.std.specs.Prelude.{◌≡◌, ℕ, true, List, [], ◌∷◌, ◌++◌}
+use Rattle.std.specs.Prelude.{◌≡◌, ℕ, Bool, true, false, List, [], ◌∷◌, ◌++◌}
 use Rattle.bundle_tree_piece.specs.declared.piece.Role.{Role}
+use Rattle.bundle_tree_piece.specs.declared.piece.Role.TheVariants.{Reference}
 use Rattle.bundle_tree_piece.specs.Item as h
 use Rattle.bundle_tree_piece.specs.Item.{Item, Head}
-use Rattle.bundle_tree_places.specs.Edits.{is_occurrence}
 
 -- where an element stands in the node around it: in a member expression or a call; first in an assignment; anywhere else
 pub data Stand : Type 0 where
@@ -23,9 +23,14 @@ abbrev pub next_to : Stand → Stand
 next_to AtTarget = Other
 next_to stand = stand
 
--- a name of this role may stand there: no plain word in a member expression or a call
+-- whether an identifier of this role refers
+abbrev pub is_reference : Role → Bool
+is_reference Reference = true
+is_reference role = false
+
+-- a name of this role may stand there: in a member expression or a call one that refers
 abbrev pub NameFits : Stand → Role → Type 0
-NameFits InReadOrCall role = is_occurrence role ≡ true
+NameFits InReadOrCall role = is_reference role ≡ true
 NameFits stand role = Unit {0}
 
 -- a node in this field may stand there: what is assigned to in the second

@@ -1,9 +1,10 @@
 -- Which marks a part of a tree has, where a note tells of each occurrence what it means and how much of what is around
 -- it stands for that: a relation over the nodes of its list. Each clause is one of `Becomes` (bundle_rebuild).
-use Rattle.std.specs.Prelude.{◌≡◌, ℕ, zero, suc, Bool, true, false, is_none, List, [], ◌∷◌, ◌++◌, Option, Some, None, slice_get, if◌then◌else◌}
+use Rattle.std.specs.Prelude.{◌≡◌, ℕ, zero, suc, ◌==◌, Bool, true, false, is_none, List, [], ◌∷◌, ◌++◌, Option, Some, None, slice_get, if◌then◌else◌}
 use Rattle.bundle_tree_leaf.specs.declared.kind.MetaPropKind.{MetaPropKind}
 use Rattle.bundle_tree_leaf.specs.declared.kind.MetaPropKind.TheVariants as p
 use Rattle.bundle_tree_piece.specs.declared.piece.Role.{Role}
+use Rattle.bundle_tree_piece.specs.declared.piece.Role.TheVariants as r
 use Rattle.bundle_tree_piece.specs.Item as h
 use Rattle.bundle_tree_piece.specs.Item.{Item, Head}
 use Rattle.bundle_rules.specs.Nodes.{Text}
@@ -35,9 +36,9 @@ abbrev pub behind_word : Option (List Item) → Option (List Item)
 behind_word (Some (h.Open field (h.IdentName word) ∷ h.Close ∷ h.Close ∷ rest)) = Some rest
 behind_word _ = None
 
--- what stands behind an identifier with so many static reads around it, as `a.b.c` with 2, if these elements begin with one
+-- what stands behind an identifier that refers with so many static reads around it, as `a.b.c` with 2, if these elements begin with one
 abbrev pub behind_reads : ℕ → List Item → Option (List Item)
-behind_reads zero (h.Ident field x ctxt role ∷ rest) = Some rest
+behind_reads zero (h.Ident field x ctxt r.Reference ∷ rest) = Some rest
 behind_reads (suc count) (h.Open field h.MemberExpr ∷ rest) = behind_word (behind_reads count rest)
 behind_reads _ _ = None
 
@@ -55,9 +56,9 @@ abbrev pub is_one_string : List Item → Bool
 is_one_string (h.Open field (h.ExprOrSpread false) ∷ h.Open inner (h.Str value raw) ∷ h.Close ∷ h.Close ∷ []) = true
 is_one_string _ = false
 
--- whether what is in a call is an identifier that is called, and one string
+-- whether what is in a call is an identifier that refers and is called, and one string
 abbrev pub is_literal_call : (inside : List Item) → Bool
-is_literal_call (h.Ident field x ctxt role ∷ arguments) = is_one_string arguments
+is_literal_call (h.Ident field x ctxt r.Reference ∷ arguments) = is_one_string arguments
 is_literal_call _ = false
 
 -- what a member expression stands for by this note, if it does
@@ -93,11 +94,11 @@ stays meta next (h.MetaPropExpr kind) inside = is_none (meant_for_meta meta kind
 stays meta next h.AssignPatProp inside = false
 stays meta next head inside = true
 
--- whether no name may stand for what is first in a node: what is assigned to, and what begins an optional chain
-abbrev pub keeps_first : Head → Bool
-keeps_first (h.AssignExpr op) = true
-keeps_first (h.OptChainExpr optional) = true
-keeps_first head = false
+-- whether no name may stand for what is first in a node, in this field: what is assigned to, and what begins an optional chain
+abbrev pub keeps_first : Head → ℕ → Bool
+keeps_first (h.AssignExpr op) field = field == 1
+keeps_first (h.OptChainExpr optional) field = field == 1
+keeps_first head field = false
 
 -- The marks.
 
@@ -139,7 +140,7 @@ pub data Marked (meta : Option Meant) : Around → List Note → List Item → L
   -- a node stays, and what is in it is marked
   Inside : {around : Around} {notes rest : List Note} (field : ℕ) (head : Head) {inside : List Item} {marks : List Mark} → stays meta (upcoming notes) head inside ≡ true → Marked meta (around_in head inside) notes inside marks rest → Marked meta around notes (node field head inside) (node_marks field head marks) rest
   -- the same where the first of what is in a node is a member expression for which no name may stand
-  Kept : {around : Around} {notes between rest : List Note} (field : ℕ) (head : Head) (first : ℕ) {inside more : List Item} {marks more_marks : List Mark} → keeps_first head ≡ true → Marked meta Anywhere notes inside marks between → Marked meta Anywhere between more more_marks rest → Marked meta around notes (node field head (node first h.MemberExpr inside ++ more)) (node_marks field head (node_marks first h.MemberExpr marks ++ more_marks)) rest
+  Kept : {around : Around} {notes between rest : List Note} (field : ℕ) (head : Head) (first : ℕ) {inside more : List Item} {marks more_marks : List Mark} → keeps_first head first ≡ true → Marked meta Anywhere notes inside marks between → Marked meta Anywhere between more more_marks rest → Marked meta around notes (node field head (node first h.MemberExpr inside ++ more)) (node_marks field head (node_marks first h.MemberExpr marks ++ more_marks)) rest
   -- a shorthand property of a pattern takes the next note for its name
   Shorthand : {around : Around} {note : Note} {notes rest : List Note} (field : ℕ) (x : Text) (ctxt : ℕ) (role : Role) {default : List Item} {marks : List Mark} → is_occurrence role ≡ true → Marked meta Anywhere notes default marks rest → Marked meta around (note ∷ notes) (node field h.AssignPatProp (binding None 0 x ctxt role ++ default)) (shorthand_marks field x note.meant default marks) rest
   -- static reads that stand for what the next note tells

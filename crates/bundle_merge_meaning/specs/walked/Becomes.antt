@@ -96,7 +96,7 @@ pub data Becomes : Around → Work → List Item → List Item → Work → Type
   -- the same of a declaration of variables, whose notes may be cleared
   Declaration : {around : Around} {work rest : Work} (field : ℕ) (kind : VarDeclKind) (notes : ExportMetadata) {inside made : List Item} → Becomes Anywhere work inside made rest → Becomes around work (node field (h.VarDecl kind notes) inside) (node field (h.VarDecl kind (kept_notes work.clears_notes notes)) made) rest
   -- the same where the first of what is in a node is a member expression for which no name may stand
-  Kept : {around : Around} {work between rest : Work} (field : ℕ) (head : Head) (first : ℕ) {inside made more made_more : List Item} → keeps_first head ≡ true → Becomes Anywhere work inside made between → Becomes Anywhere between more made_more rest → Becomes around work (node field head (node first h.MemberExpr inside ++ more)) (node field head (node first h.MemberExpr made ++ made_more)) rest
+  Kept : {around : Around} {work between rest : Work} (field : ℕ) (head : Head) (first : ℕ) {inside made more made_more : List Item} → keeps_first head first ≡ true → Becomes Anywhere work inside made between → Becomes Anywhere between more made_more rest → Becomes around work (node field head (node first h.MemberExpr inside ++ more)) (node field head (node first h.MemberExpr made ++ made_more)) rest
   -- a shorthand property of a pattern gets the next name
   Shorthand : {around : Around} {work rest : Work} (field : ℕ) (x : Text) (ctxt : ℕ) (role : Role) {default made : List Item} → is_occurrence role ≡ true → Becomes Anywhere (after work) default made rest → Becomes around work (node field h.AssignPatProp (binding None 0 x ctxt role ++ default)) (shorthand_in_its_place (next work x) field x ctxt role made) rest
   -- a name stands for static reads
