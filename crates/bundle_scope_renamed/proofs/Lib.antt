@@ -1,2 +1,2 @@
 pub mod kept
-pub mod numbered
+pub mod fit

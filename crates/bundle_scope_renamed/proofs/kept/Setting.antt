@@ -180,7 +180,7 @@ module _ (K : Table) (os : List Occurrence) (all : List Declared) (s : Shape K o
       one.2 ∙ ap (λ h. group_of (h ∷ one.0)) both.0 ∙ ap (λ l. group_of (home_of all e ∷ l)) both.1 ∙ sym two.2
 
   -- the first declaration of a binding
-  first-of : (d : Declared) → IsIn all d → (f : Declared) × IsIn all f × IsSame all f d × (first_place all d ≡ f.place)
+  pub first-of : (d : Declared) → IsIn all d → (f : Declared) × IsIn all f × IsSame all f d × (first_place all d ≡ f.place)
   first-of d at =
       let itself : is_declared_in all (home_of all d) d.name d ≡ true = and_from (same_scope (home_of all d) (home_of all d)) (names_agree d.name d.name) (eq-eqb (scope_order (home_of all d)) (scope_order (home_of all d)) refl) (agree-self d at) in
       let found = find-some (is_declared_in all (home_of all d) d.name) all d at itself in
