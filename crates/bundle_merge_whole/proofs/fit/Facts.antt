@@ -21,13 +21,15 @@ use Rattle.bundle_merge_joined.specs.joined.Joined.{IsWhole, open_behind}
 use Rattle.bundle_merge_joined.proofs.grouped.WholeLemmas as gw
 use Rattle.bundle_merge_whole.specs.called.Within.{AreIn}
 use Rattle.bundle_merge_whole.proofs.called.Filed.{IsListless}
-use Rattle.bundle_merge_whole.specs.fit.Sorts.{Sort, AModule, AnItem, Slot}
-use Rattle.bundle_merge_whole.specs.fit.Fits.{AreFit, no_more, over, a_name, a_hole, a_node, IsFit}
-use Rattle.bundle_merge_whole.proofs.fit.Rows.{last}
-use Rattle.bundle_merge_whole.proofs.fit.Keys.{no_keys}
-use Rattle.bundle_merge_whole.proofs.fit.Owning.{is_own, are_own}
+use Rattle.bundle_scope_renamed.specs.fit.Sorts.{Sort, AModule, AnItem, Slot}
+use Rattle.bundle_scope_renamed.specs.fit.Fits.{AreFit, no_more, over, a_name, a_hole, a_node, IsFit}
+use Rattle.bundle_scope_renamed.proofs.fit.Rows.{last}
+use Rattle.bundle_scope_renamed.proofs.fit.Keys.{no_keys}
+use Rattle.bundle_scope_renamed.proofs.fit.Owning.{is_own}
+use Rattle.bundle_merge_whole.proofs.fit.Owning.{are_own}
 use Rattle.bundle_merge_whole.proofs.fit.Ways.{declares, has_ways}
-use Rattle.bundle_merge_whole.proofs.fit.Defaults.{are_plain, is_listless}
+use Rattle.bundle_scope_renamed.proofs.fit.Defaults.{are_plain}
+use Rattle.bundle_merge_whole.proofs.fit.Listless.{is_listless}
 use Rattle.bundle_merge_whole.proofs.fit.Listing.{listed}
 use Rattle.bundle_merge_whole.proofs.fit.Within.{seats, are_in}
 use Rattle.bundle_merge_whole.proofs.fit.Parts.{items_of_module}

@@ -5,11 +5,11 @@ use Rattle.bundle_tree_piece.specs.declared.piece.Role.{Role}
 use Rattle.bundle_tree_piece.specs.declared.piece.Role.TheVariants as r
 use Rattle.bundle_tree_piece.specs.Item as h
 use Rattle.bundle_tree_piece.specs.Item.{Item, Head}
-use Rattle.bundle_merge_whole.specs.fit.Sorts.{Sort, Count, One, Optional, Many, Places, Slot, slot, takes_outer, takes_binding, takes_name, names_in, slots}
-use Rattle.bundle_merge_whole.specs.fit.Fits.{is_needed, after, AreFit, no_more, over, a_name, a_hole, a_node}
-use Rattle.bundle_merge_whole.specs.fit.Seen.{each_slot}
+use Rattle.bundle_scope_renamed.specs.fit.Sorts.{Sort, Count, One, Optional, Many, Places, Slot, slot, takes_outer, takes_binding, takes_name, names_in, slots}
+use Rattle.bundle_scope_renamed.specs.fit.Fits.{is_needed, after, AreFit, no_more, over, a_name, a_hole, a_node}
+use Rattle.bundle_scope_renamed.specs.fit.Seen.{each_slot}
 use Rattle.bundle_merge_meaning.specs.noted.Listed.{Stand, Other, InReadOrCall, AtTarget, first_in, next_to, NameFits, NodeFits, AreListed, nothing, name, hole, node}
-use Rattle.bundle_merge_whole.proofs.fit.Seeing.{after_slot}
+use Rattle.bundle_scope_renamed.proofs.fit.Seeing.{after_slot}
 
 -- whether each name that such a field takes refers
 abbrev refers : ℕ → Sort → Bool

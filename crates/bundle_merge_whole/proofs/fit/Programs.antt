@@ -11,9 +11,10 @@ use Rattle.bundle_scope_renamed.proofs.kept.Grouped.{HasPlainKeys}
 use Rattle.bundle_merge_joined.specs.grouped.Renaming.{HasWays}
 use Rattle.bundle_merge_joined.specs.joined.Joined.{joined}
 use Rattle.bundle_merge_whole.proofs.called.HandedOut.{AreListless}
-use Rattle.bundle_merge_whole.specs.fit.Sorts.{AnItem, AModule}
-use Rattle.bundle_merge_whole.specs.fit.Fits.{IsFit, AreEach, ended, next, HasFitTrees}
-use Rattle.bundle_merge_whole.proofs.fit.Rows.{last_each, in_node}
+use Rattle.bundle_scope_renamed.specs.fit.Sorts.{AnItem, AModule}
+use Rattle.bundle_scope_renamed.specs.fit.Fits.{IsFit, AreEach, ended, next}
+use Rattle.bundle_merge_whole.specs.fit.Programs.{HasFitTrees}
+use Rattle.bundle_scope_renamed.proofs.fit.Rows.{last_each, in_node}
 use Rattle.bundle_merge_whole.proofs.fit.Facts.{one_listing, one_plain, one_keyless, one_ways, module_listless}
 
 -- A program.

@@ -17,9 +17,9 @@ use Rattle.bundle_rules.specs.Declarations.{Reading}
 use Rattle.bundle_rules.specs.Callable.{module_with, ExportedName, word, text, Specifier, name_items, specifier_items, IsBack, nothing, exports, CanBeCalled}
 use Rattle.bundle_merge_whole.specs.called.Within.{AreIn}
 use Rattle.bundle_merge_whole.proofs.called.Seated.{can-be-called}
-use Rattle.bundle_merge_whole.specs.fit.Sorts.{AStmt}
-use Rattle.bundle_merge_whole.specs.fit.Fits.{AreEach, ended, next}
-use Rattle.bundle_merge_whole.proofs.fit.Rows.{last_each}
+use Rattle.bundle_scope_renamed.specs.fit.Sorts.{AStmt}
+use Rattle.bundle_scope_renamed.specs.fit.Fits.{AreEach, ended, next}
+use Rattle.bundle_scope_renamed.proofs.fit.Rows.{last_each}
 use Rattle.bundle_merge_whole.proofs.fit.Within.{are_in}
 use Rattle.bundle_merge_whole.proofs.grown.Grown.{stmt_fit}
 

@@ -21,8 +21,8 @@ use Rattle.bundle_scope_renamed.proofs.kept.Grouped.{HasPlainKeys}
 use Rattle.bundle_merge_joined.specs.grouped.Renaming.{HasWays}
 use Rattle.bundle_merge_whole.specs.called.Within.{AreIn}
 use Rattle.bundle_merge_whole.proofs.called.Filed.{IsListless}
-use Rattle.bundle_merge_whole.specs.fit.Sorts.{AModule, AStmt, ADecl, AnExpr}
-use Rattle.bundle_merge_whole.specs.fit.Fits.{IsFit}
+use Rattle.bundle_scope_renamed.specs.fit.Sorts.{AModule, AStmt, ADecl, AnExpr}
+use Rattle.bundle_scope_renamed.specs.fit.Fits.{IsFit}
 use Rattle.bundle_merge_whole.proofs.fit.Clearing.{one_cleared}
 use Rattle.bundle_merge_whole.proofs.fit.Facts as fit
 use Rattle.bundle_merge_whole.proofs.fit.Facts.{one_listing, one_plain, one_keyless, one_own, one_ways, one_in, one_listless}
