@@ -1,5 +1,5 @@
 -- What is so of the lists of syntax trees, since they are fit.
-use Rattle.std.proofs.Common.{◌≡◌, ℕ, true, List, refl}
+use Rattle.std.proofs.Common.{◌≡◌, ℕ, true, List, Some, refl, sym, subst}
 use Rattle.bundle_tree_ast.specs.declared.module.Module.{Module}
 use Rattle.bundle_tree_ast.specs.declared.module.ModuleItem.{ModuleItem}
 use Rattle.bundle_tree_ast.specs.declared.stmt.Stmt.{Stmt}
@@ -8,10 +8,13 @@ use Rattle.bundle_tree_ast.specs.declared.expr.Expr.{Expr}
 use Rattle.bundle_tree_ast.specs.declared.class.Function.{Function}
 use Rattle.bundle_tree_ast.specs.declared.class.Class.{Class}
 use Rattle.bundle_tree_ast.specs.declared.prop.KeyValueProp.{KeyValueProp}
+use Rattle.bundle_tree_names.specs.FileName.{Name}
 use Rattle.bundle_tree_piece.specs.Item as h
 use Rattle.bundle_tree_piece.specs.Item.{Head}
 use Rattle.bundle_tree_listed.specs.Tree.{stmt_items, decl_items, expr_items, class_items, function_items, key_value_prop_items, module_item_items, module_items}
 use Rattle.bundle_rules.specs.Statements.{TopItem, top_items}
+use Rattle.bundle_rules.specs.Program.{Loaded, Program, module_of, tree_of}
+use Rattle.bundle_rules.specs.Kept.{Answers}
 use Rattle.bundle_rules.specs.Cleared.{cleared}
 use Rattle.bundle_rules.specs.Callable.{Every}
 use Rattle.bundle_merge_meaning.specs.noted.Agrees.{IsListing}
@@ -23,7 +26,9 @@ use Rattle.bundle_merge_whole.specs.called.Within.{AreIn}
 use Rattle.bundle_merge_whole.proofs.called.Filed.{IsListless}
 use Rattle.bundle_scope_renamed.specs.fit.Sorts.{AModule, AStmt, ADecl, AnExpr}
 use Rattle.bundle_scope_renamed.specs.fit.Fits.{IsFit}
+use Rattle.bundle_merge_whole.specs.fit.Kept.{IsFitModule, HandsInFit}
 use Rattle.bundle_merge_whole.proofs.fit.Clearing.{one_cleared}
+use Rattle.bundle_merge_whole.proofs.fit.Kept.{tree-fit}
 use Rattle.bundle_merge_whole.proofs.fit.Facts as fit
 use Rattle.bundle_merge_whole.proofs.fit.Facts.{one_listing, one_plain, one_keyless, one_own, one_ways, one_in, one_listless}
 use Rattle.bundle_merge_whole.proofs.fit.Within.{seats}
@@ -107,3 +112,20 @@ property_listing field it = one_listing (key_value_prop_fit field it)
 
 pub property_plain : (field : ℕ) (it : KeyValueProp Expr) → ArePlain (key_value_prop_items field it)
 property_plain field it = one_plain (key_value_prop_fit field it)
+
+-- What is handed in as trees.
+
+-- a module as its list
+abbrev pub IsOfTree : Loaded → Type 0
+IsOfTree loaded = (it : Module) × (loaded.items ≡ module_items 0 it)
+
+pub of-tree-fit : (loaded : Loaded) → IsOfTree loaded → IsFitModule loaded
+of-tree-fit loaded its = subst (IsFit AModule 0) (sym its.1) (module_fit 0 its.0)
+
+-- a loader that hands in trees
+pub hands-in-fit : (answers : Answers) → ((file : Name) (loaded : Loaded) → answers.may_load file loaded → IsOfTree loaded) → HandsInFit answers
+hands-in-fit answers trees file loaded may = of-tree-fit loaded (trees file loaded may)
+
+-- the tree of a program, where it is kept of a module
+pub kept-tree-fit : (p : Program) (m : ℕ) (loaded : Loaded) → module_of p m ≡ Some loaded → (it : Module) → loaded.items ≡ cleared (module_items 0 it) → IsFit AModule 0 (tree_of p m)
+kept-tree-fit p m loaded there it is = tree-fit p m loaded there (subst (IsFit AModule 0) (sym is) (kept_fit it))
