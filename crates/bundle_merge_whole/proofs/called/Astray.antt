@@ -9,8 +9,9 @@ use Rattle.bundle_rules.specs.Scopes.{Es, Scope, Top, Inner, Parameters, Functio
 use Rattle.bundle_rules.specs.Declarations.{Reading, BySymbol, ByContext, Name, name_of, Declared, declaration_of}
 use Rattle.bundle_rules.specs.Homes.{declares, is_arguments, is_function, has_implicit_arguments, binds}
 use Rattle.bundle_rules.specs.Denotes.{Denoted, Bound, Global, without_context, bound_in, denoted_by_symbol, is_unresolved, is_written_in, is_implied_in, implied, written_or_implied, denoted_by_context, denoted_in, own_or_found, denoted_of, denoted_at}
-use Rattle.bundle_merge_whole.specs.called.Moved.{moved_scope, moved_scopes, moved_declared, AreFair, top, inner, IsFair, IsSeated, Every, AreMet, followed, astray}
-use Rattle.bundle_merge_whole.specs.called.Called.{module_with, call_with, AreTwins}
+use Rattle.bundle_rules.specs.Callable.{Every, module_with}
+use Rattle.bundle_merge_whole.specs.called.Moved.{moved_scope, moved_scopes, moved_declared, AreFair, top, inner, IsFair, IsSeated, AreMet, followed, astray}
+use Rattle.bundle_merge_whole.specs.called.Called.{call_with, AreTwins}
 use Rattle.bundle_merge_whole.proofs.called.Homes.{home-moved, find-there, IsOuter, at_parameters, at_name, at_top, declares-outer, written-moved, written-outer, binds-moved, implied-moved}
 use Rattle.bundle_merge_whole.proofs.called.Paths.{scopes-moved, scopes-fair, declaration-moved}
 use Rattle.bundle_merge_whole.proofs.called.Lists.{AreAlike, neither, both}

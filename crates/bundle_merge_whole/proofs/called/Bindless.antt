@@ -15,8 +15,7 @@ use Rattle.bundle_rules.specs.Injected.{is_ascii_identifier}
 use Rattle.bundle_rules.specs.Rebuilds.{plain_key}
 use Rattle.bundle_rules.specs.Forms.{returned_key, returned_property, returned_object}
 use Rattle.bundle_rules.specs.Bundle.{function_back}
-use Rattle.bundle_merge_whole.specs.called.Moved.{Every, none, more}
-use Rattle.bundle_merge_whole.specs.called.Wrappable.{ExportedName, word, text, Specifier, name_items, specifier_items, export_items, IsBack, nothing, exports}
+use Rattle.bundle_rules.specs.Callable.{Every, none, more, ExportedName, word, text, Specifier, name_items, specifier_items, export_items, IsBack, nothing, exports}
 use Rattle.bundle_merge_whole.proofs.called.Plain.{every-join, every-each}
 
 -- an element that declares nothing

@@ -1,19 +1,17 @@
 -- The premises can be met: `f(1);` can be called, and so its call is a bundle where the program has no fault. And nodes that
 -- the condition on nodes turns on.
-use Rattle.std.proofs.Common.{◌≡◌, true, false, [], ◌∷◌, ◌++◌, refl, sym, subst, ap, codes}
+use Rattle.std.proofs.Common.{◌≡◌, false, [], ◌∷◌, ◌++◌, refl, sym, subst, codes}
 use Rattle.bundle_tree_piece.specs.declared.piece.Role.TheVariants.{Binding, Reference}
 use Rattle.bundle_tree_piece.specs.Item as h
 use Rattle.bundle_tree_piece.specs.Item.{Item}
 use Rattle.bundle_rules.specs.Declarations.{BySymbol}
-use Rattle.bundle_rules.specs.Program.{tree_of, IsReached}
+use Rattle.bundle_rules.specs.Program.{tree_of}
 use Rattle.bundle_rules.specs.Statements.{own_statements}
 use Rattle.bundle_rules.specs.Faults.{IsFaultlessProgram}
 use Rattle.bundle_rules.specs.Forms.{wrapped}
 use Rattle.bundle_rules.specs.Bundle.{AsCall, Hooks, IsBundle}
-use Rattle.bundle_rules.proofs.Programs.{main_js}
 use Rattle.bundle_rules.proofs.BundleExamples.{as_call, p, call, tree, only_main, is_bundle}
-use Rattle.bundle_merge_whole.specs.called.Moved.{Every, none, more}
-use Rattle.bundle_merge_whole.specs.called.Wrappable.{begins_list, nothing, StatesNoExports}
+use Rattle.bundle_rules.specs.Callable.{Every, none, more, begins_list, nothing, StatesNoExports}
 use Rattle.bundle_merge_whole.specs.called.Within.{AreIn, no_more, a_name, a_node}
 use Rattle.bundle_merge_whole.proofs.called.Seated.{can-be-called}
 use Rattle.bundle_merge_whole.proofs.called.Whole.{wrapping-keeps}

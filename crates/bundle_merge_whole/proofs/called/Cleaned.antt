@@ -14,9 +14,8 @@ use Rattle.bundle_rules.specs.Injected.{is_ascii_identifier}
 use Rattle.bundle_rules.specs.Rebuilds.{plain_key}
 use Rattle.bundle_rules.specs.Forms.{is_less, put_by_name, by_names, exported_pairs, returned_key, returned_property, wrapped}
 use Rattle.bundle_rules.specs.Bundle.{function_front, function_back}
-use Rattle.bundle_merge_whole.specs.called.Moved.{Every, none, more}
-use Rattle.bundle_merge_whole.specs.called.Called.{AreStatements, module_with, call_with}
-use Rattle.bundle_merge_whole.specs.called.Wrappable.{Specifier, specifier_items, export_items, IsBack, nothing, exports, CanBeCalled}
+use Rattle.bundle_rules.specs.Callable.{Every, none, more, AreStatements, module_with, Specifier, specifier_items, export_items, IsBack, nothing, exports, CanBeCalled}
+use Rattle.bundle_merge_whole.specs.called.Called.{call_with}
 use Rattle.bundle_merge_whole.proofs.called.Sides.{every-front, every-rest}
 use Rattle.bundle_merge_whole.proofs.called.Plain.{every-join}
 use Rattle.bundle_merge_whole.proofs.called.Exported.{pair_of, pairs-of}

@@ -1,23 +1,14 @@
 -- Why the statement wants its premises, by the smallest examples.
-use Rattle.std.proofs.Common.{◌≡◌, ℕ, zero, true, false, List, [], ◌∷◌, ◌++◌, Some, None, refl, ap, sym, ◌∙◌, subst, codes, lit<}
-use Rattle.std.specs.List.{AllZip}
-use Rattle.std.proofs.lemmas.Option.{none-some}
-use Rattle.std.specs.Prelude.{slice_get}
-use Rattle.bundle_tree_leaf.specs.declared.kind.VarDeclKind.TheVariants.{Var}
+use Rattle.std.proofs.Common.{◌≡◌, zero, true, List, [], ◌∷◌, Some, None, refl, codes}
 use Rattle.bundle_tree_piece.specs.declared.piece.Role.TheVariants.{Binding, Reference}
 use Rattle.bundle_tree_piece.specs.Item as h
 use Rattle.bundle_tree_piece.specs.Item.{Item}
-use Rattle.bundle_rules.specs.Scopes.{Es, Top, Inner, Parameters, FunctionBody}
+use Rattle.bundle_rules.specs.Scopes.{Es, Top, Inner, Parameters}
 use Rattle.bundle_rules.specs.Declarations.{BySymbol}
-use Rattle.bundle_rules.specs.Denotes.{Denoted, Bound, Global, denoted_at}
+use Rattle.bundle_rules.specs.Denotes.{Bound, Global, denoted_at}
 use Rattle.bundle_rules.specs.Nodes.{side_by_side, parts}
-use Rattle.bundle_rules.specs.Statements.{TopItem, taken_from, no_notes, own_statements}
 use Rattle.bundle_rules.specs.Bound.{has_free}
-use Rattle.bundle_rules.specs.Program.{Program, tree_of}
-use Rattle.bundle_rules.specs.Meaning.{Parameter, Load, Helper, Known, Labelling, begun, ended, named, finished, outside}
-use Rattle.bundle_rules.specs.Faults.{IsFaultlessProgram}
 use Rattle.bundle_rules.specs.Forms.{wrapped, function_body, returned_object}
-use Rattle.bundle_rules.specs.Bundle.{SameMeaning, IsLoadFunction}
 
 -- `arguments;` has a free `arguments`, and in the call it is the function's
 abbrev pub free_arguments : List Item

@@ -29,9 +29,9 @@ use Rattle.bundle_rules.specs.Injected.{NamedTarget, is_ascii_identifier, string
 use Rattle.bundle_rules.specs.Rebuilds.{plain_key}
 use Rattle.bundle_rules.specs.Forms.{exported_pair, is_less, put_by_name, by_names, exported_pairs, returned_key, returned_property, returned_object}
 use Rattle.bundle_rules.specs.Bundle.{IsAscending}
-use Rattle.bundle_merge_whole.specs.called.Moved.{moved_scopes, moved_denoted, top, Every, none, more}
-use Rattle.bundle_merge_whole.specs.called.Called.{around, called_path, module_with, call_with, AreTwins}
-use Rattle.bundle_merge_whole.specs.called.Wrappable.{ExportedName, word, text, Specifier, name_items, specifier_items, export_items}
+use Rattle.bundle_rules.specs.Callable.{Every, none, more, module_with, ExportedName, word, text, Specifier, name_items, specifier_items, export_items}
+use Rattle.bundle_merge_whole.specs.called.Moved.{moved_scopes, moved_denoted, top}
+use Rattle.bundle_merge_whole.specs.called.Called.{around, called_path, call_with, AreTwins}
 use Rattle.bundle_merge_whole.proofs.called.Homes.{differs, denoted_in-moved}
 use Rattle.bundle_merge_whole.proofs.called.Trees.{declared-twins, seats-twins}
 use Rattle.bundle_merge_whole.proofs.called.Means.{moved_labels, labels-moved, position-none, every-once, every-map}

@@ -16,8 +16,7 @@ use Rattle.bundle_rules.specs.Program.{Program, file_of, tree_of, resolves, is_e
 use Rattle.bundle_rules.specs.Kept.{Kept, number_in, kept_file, led_to, program_of}
 use Rattle.bundle_rules.specs.Forms.{is_export_list}
 use Rattle.bundle_rules.specs.Judging.{Entry, IsProgramOf}
-use Rattle.bundle_merge_whole.specs.called.Moved.{Every, none, more}
-use Rattle.bundle_merge_whole.specs.called.Wrappable.{begins_list}
+use Rattle.bundle_rules.specs.Callable.{Every, none, more, begins_list}
 use Rattle.bundle_merge_whole.proofs.called.Means.{contains-filtered}
 use Rattle.bundle_merge_whole.proofs.called.Plain.{every-join}
 use Rattle.bundle_merge_whole.proofs.called.Firsts.{begins-item}

@@ -2,7 +2,6 @@
 use Rattle.std.proofs.Common.{◌≡◌, ℕ, Bool, true, false, ◌&&◌, List, [], ◌∷◌, ◌++◌, bytes_eq, refl, sym, ◌∙◌, codes}
 use Rattle.std.specs.Prelude.{if◌then◌else◌}
 use Rattle.std.proofs.lemmas.Bool.{false≢true}
-use Rattle.std.proofs.lemmas.Option.{none-some}
 use Rattle.bundle_tree_piece.specs.Item as h
 use Rattle.bundle_tree_piece.specs.Item.{Item, Head}
 use Rattle.bundle_rules.specs.Places.{Around, path_at}
@@ -16,7 +15,7 @@ use Rattle.bundle_rules.specs.Meaning.{Meant, Mark, Sense, Means, Labelling, bun
 use Rattle.bundle_rules.specs.Marks.{Begins, Ends, Name, word_key, computed_key, begin_marks, end_marks, name_marks}
 use Rattle.bundle_rules.specs.Shorthands.{has_default, is_shorthand_in_pattern, is_object}
 use Rattle.bundle_rules.specs.Forms.{is_export_list}
-use Rattle.bundle_merge_whole.specs.called.Wrappable.{begins_list}
+use Rattle.bundle_rules.specs.Callable.{begins_list}
 
 -- whether marks begin with a list of exports
 abbrev pub first_is_list : List Mark → Bool

@@ -13,19 +13,20 @@ use Rattle.bundle_rules.specs.Scopes.{Es, Top, Inner, Parameters, FunctionBody}
 use Rattle.bundle_rules.specs.Declarations.{Reading, BySymbol, ByContext, declared}
 use Rattle.bundle_rules.specs.Denotes.{Denoted, Bound, Global, denoted_at}
 use Rattle.bundle_rules.specs.Deferred.{runs_later}
-use Rattle.bundle_rules.specs.Nodes.{Text, side_by_side, first_or_nothing, node_at}
+use Rattle.bundle_rules.specs.Nodes.{Text, side_by_side, flat, first_or_nothing, node_at}
 use Rattle.bundle_rules.specs.Statements.{TopItem}
 use Rattle.bundle_rules.specs.Entries.{is_call_head}
 use Rattle.bundle_rules.specs.Reads.{is_member, property_of}
 use Rattle.bundle_rules.specs.Mentions.{same_context, same_denoted, each_denoted_once}
 use Rattle.bundle_rules.specs.Order.{Mention, is_assigned, is_in_argument, roots_chain, is_text, is_prototype_read, is_in_assign_of, has_no_value, is_global_named, is_of_nothing, is_object_at, denoted_in, is_of_scope, mentioned, mention_of, group_of}
-use Rattle.bundle_merge_whole.specs.called.Moved.{moved_denoted, IsFair, Every, none, more, AreMet, followed, astray}
-use Rattle.bundle_merge_whole.specs.called.Called.{module_with, call_with, AreTwins}
+use Rattle.bundle_rules.specs.Callable.{Every, none, more, module_with}
+use Rattle.bundle_merge_whole.specs.called.Moved.{moved_denoted, IsFair, AreMet, followed, astray}
+use Rattle.bundle_merge_whole.specs.called.Called.{call_with, AreTwins}
 use Rattle.bundle_merge_whole.proofs.called.Homes.{same-moved, parameters-differ}
 use Rattle.bundle_merge_whole.proofs.called.Lists.{AreAlike, neither, both}
 use Rattle.bundle_merge_whole.proofs.called.Trees.{shows, occurrences-alike}
 use Rattle.bundle_merge_whole.proofs.called.Means.{IsFairly, denoted-fairly, occurrence-seated, same_denoted-moved, every-filter, every-once, once-moved, position-map, every-map, position-none}
-use Rattle.bundle_merge_whole.proofs.called.Sides.{joined, sides-front, moved_item}
+use Rattle.bundle_merge_whole.proofs.called.Sides.{sides-front, moved_item}
 use Rattle.bundle_merge_whole.proofs.called.Astray.{AreMetAt, nothing_met, met, met-twins}
 
 -- an item that is a part of the statements
@@ -200,9 +201,9 @@ object-met {reading} {is_async} {stmts} {after} {its} twins {item} s n l =
     new = omega (arith, s.start)
 
 -- a read has its object and its property behind it
-node-front : (lists : List (List Item)) (rest : List Item) → length (first_or_nothing lists) ≤ length (joined lists ++ rest)
+node-front : (lists : List (List Item)) (rest : List Item) → length (first_or_nothing lists) ≤ length (flat lists ++ rest)
 node-front [] rest = omega arith
-node-front (xs ∷ lists) rest = omega (arith, length-append (xs ++ joined lists) rest, length-append xs (joined lists))
+node-front (xs ∷ lists) rest = omega (arith, length-append (xs ++ flat lists) rest, length-append xs (flat lists))
 
 read-long : (x : Text) (node : List Item) → is_text x (property_of node) ≡ true → 1 < length node
 read-long x [] e = absurd (false≢true e)
@@ -220,8 +221,8 @@ read-within : (x : Text) (items : List Item) (n : ℕ) → is_text x (property_o
 read-within x items n e =
     let long : 1 < length (node_at items n) = read-long x (node_at items n) e in
     let r = sides-front zero (drop n items) in
-    let front : length (node_at items n) ≤ length (joined (side_by_side zero (drop n items)) ++ r.0) = node-front (side_by_side zero (drop n items)) r.0 in
-    let same : length (drop n items) ≡ length (joined (side_by_side zero (drop n items)) ++ r.0) = ap length r.1 in
+    let front : length (node_at items n) ≤ length (flat (side_by_side zero (drop n items)) ++ r.0) = node-front (side_by_side zero (drop n items)) r.0 in
+    let same : length (drop n items) ≡ length (flat (side_by_side zero (drop n items)) ++ r.0) = ap length r.1 in
     omega (arith, length-drop n items, long, front, same)
 
 assigns-same : (f g : ℕ → Bool) (items : List Item) → ((n : ℕ) → n < length items → f n ≡ g n) → (path : List Around) → is_in_assign_of f items path ≡ is_in_assign_of g items path

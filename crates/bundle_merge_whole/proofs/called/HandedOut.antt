@@ -18,8 +18,7 @@ use Rattle.bundle_rules.specs.Nodes.{IsWholeModule}
 use Rattle.bundle_rules.specs.Merged.{IsMerged, IsNamedAs}
 use Rattle.bundle_rules.specs.Declarations.{BySymbol, ByContext}
 use Rattle.bundle_rules.specs.Keywords.{keyword_free}
-use Rattle.bundle_merge_whole.specs.called.Moved.{Every}
-use Rattle.bundle_merge_whole.specs.called.Wrappable.{CanBeCalled, StatesNoExports}
+use Rattle.bundle_rules.specs.Callable.{Every, CanBeCalled, StatesNoExports}
 use Rattle.bundle_merge_whole.proofs.called.Whole.{wrapping-keeps}
 use Rattle.bundle_merge_whole.proofs.called.Undoubled.{wrapped-undoubled}
 use Rattle.bundle_merge_whole.proofs.called.Cleaned.{wrapped-cleared, wrapped-tidied}

@@ -11,7 +11,8 @@ use Rattle.bundle_rules.specs.Scopes.{Scope, ScopeKind, Wrapper, Top, Inner, Par
 use Rattle.bundle_rules.specs.Declarations.{Way, ByImport, ByVar, ByLet, ByConst, ByFunction, ByClass, ByDefault, ByParameter, ByCatch, ByLoop, ByFunctionName, ByClassName, ByWrapper, Reading, BySymbol, ByContext, Name, names_agree, Declared}
 use Rattle.bundle_rules.specs.Homes.{is_body, is_block, is_parameters, is_loop, is_catch, is_function_name, is_class_name, takes, from_taker, nearest, taker, parameters_of, joins_parameter, is_parameter, home_beside, home_of, is_wrapper, is_declared_in, declares, is_arguments, is_function, has_implicit_arguments, binds}
 use Rattle.bundle_rules.specs.Denotes.{Denoted, Global, without_context, bound_in, denoted_by_symbol, is_unresolved, has_identifier, is_written_in, is_implied_in, implied, written_or_implied, denoted_by_context, denoted_in}
-use Rattle.bundle_merge_whole.specs.called.Moved.{moved_scope, moved_scopes, moved_denoted, moved_declared, is_module_way, AreFair, top, inner, IsFair, IsSeated, Every, none, more}
+use Rattle.bundle_rules.specs.Callable.{Every, none, more}
+use Rattle.bundle_merge_whole.specs.called.Moved.{moved_scope, moved_scopes, moved_denoted, moved_declared, is_module_way, AreFair, top, inner, IsFair, IsSeated}
 
 -- Lists.
 

@@ -12,8 +12,9 @@ use Rattle.bundle_rules.specs.Places.{Around, Spot, in_field, outer_path, past, 
 use Rattle.bundle_rules.specs.Scopes.{Es, scopes_around}
 use Rattle.bundle_rules.specs.Declarations.{Way, Reading, name_of, Declared, way_of, is_nameless_default, declared_by, declaration_of, nameless_default, declared_at, declared_from}
 use Rattle.bundle_rules.specs.Denotes.{Denoted, Bound, Global, denoted_in, own_or_found, denoted_of}
-use Rattle.bundle_merge_whole.specs.called.Moved.{moved_denoted, moved_declared, is_module_way, AreFair, IsSeated, Every, none, more, IsTaken}
-use Rattle.bundle_merge_whole.specs.called.Called.{is_module_head, AreStatements, over, begun, ended, named, empty, around, IsMoved, within, IsMovedSpot}
+use Rattle.bundle_rules.specs.Callable.{Every, none, more, IsTaken, is_module_head, AreStatements, over, begun, ended, named, empty}
+use Rattle.bundle_merge_whole.specs.called.Moved.{moved_denoted, moved_declared, is_module_way, AreFair, IsSeated}
+use Rattle.bundle_merge_whole.specs.called.Called.{around, IsMoved, within, IsMovedSpot}
 use Rattle.bundle_merge_whole.proofs.called.Homes.{home-moved, denoted_in-moved}
 use Rattle.bundle_merge_whole.proofs.called.Paths.{IsPlainWay, in_field-moved, scopes-moved, scopes-fair, way-plain, declaration-moved}
 

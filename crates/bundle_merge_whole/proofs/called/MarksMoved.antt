@@ -11,7 +11,8 @@ use Rattle.bundle_rules.specs.Nodes.{Text}
 use Rattle.bundle_rules.specs.Cleared.{cleared_head}
 use Rattle.bundle_rules.specs.Shorthands.{ends_at, has_default, is_shorthand_in_pattern, symbol_of}
 use Rattle.bundle_rules.specs.Marks.{MarkOf, Begins, Ends, word_key, begin_marks, end_marks, name_marks}
-use Rattle.bundle_merge_whole.specs.called.Called.{AreStatements, over, begun, ended, named, empty, around, called_path, moved_around, IsMoved, outside, within, module_with, call_with, module_start, Roots, rooted, deeper}
+use Rattle.bundle_rules.specs.Callable.{AreStatements, over, begun, ended, named, empty, module_with}
+use Rattle.bundle_merge_whole.specs.called.Called.{around, called_path, moved_around, IsMoved, outside, within, call_with, module_start, Roots, rooted, deeper}
 use Rattle.bundle_merge_whole.proofs.called.Paths.{in_field-moved}
 use Rattle.bundle_merge_whole.proofs.called.Lists.{at}
 use Rattle.bundle_merge_whole.proofs.called.Trees.{module-item, call-item, Shows, shows}

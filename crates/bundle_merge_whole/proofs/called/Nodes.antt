@@ -5,15 +5,13 @@ use Rattle.bundle_tree_leaf.specs.declared.kind.ExportMetadata.{ExportMetadata}
 use Rattle.bundle_tree_piece.specs.Item as h
 use Rattle.bundle_tree_piece.specs.Item.{Item, Head}
 use Rattle.bundle_tree_piece.specs.declared.piece.Role.{Role}
-use Rattle.bundle_rules.specs.Nodes.{Text, put_first, side_by_side}
+use Rattle.bundle_rules.specs.Nodes.{Text, put_first, side_by_side, flat, StandsWhole}
 use Rattle.bundle_rules.specs.Idents.{Ident}
 use Rattle.bundle_rules.specs.Injected.{is_ascii_identifier}
 use Rattle.bundle_rules.specs.Rebuilds.{plain_key}
 use Rattle.bundle_rules.specs.Forms.{returned_key, returned_property, returned_object, exported_pairs, function_body}
-use Rattle.bundle_merge_whole.specs.called.Moved.{Every, none, more}
-use Rattle.bundle_merge_whole.specs.called.Called.{AreStatements}
-use Rattle.bundle_merge_whole.specs.called.Wrappable.{ExportedName, word, text, Specifier, name_items, specifier_items, export_items}
-use Rattle.bundle_merge_whole.proofs.called.Sides.{joined, sides-joined, sides-append, no-lists, IsNoList}
+use Rattle.bundle_rules.specs.Callable.{Every, none, more, AreStatements, ExportedName, word, text, Specifier, name_items, specifier_items, export_items}
+use Rattle.bundle_merge_whole.proofs.called.Sides.{sides-flat, sides-append, no-lists, IsNoList}
 
 -- whole nodes
 data AreWhole : ℕ → List Item → Type 0 where
@@ -90,37 +88,45 @@ pub list-alone : (meta : ExportMetadata) (specifiers : List Specifier) (rest : L
 list-alone meta specifiers rest = ap (λ l. side_by_side zero (h.Open 0 (h.NamedExport meta) ∷ l)) (append_assoc (flat_map specifier_items specifiers) (h.Close ∷ []) rest) ∙ node-alone 0 (h.NamedExport meta) (specifiers-whole specifiers) rest
 
 -- the object that is returned
-pub object-alone : (pairs : List (Text × Ident)) → side_by_side zero (returned_object pairs) ≡ returned_object pairs ∷ []
-object-alone pairs =
-    ap (λ l. side_by_side zero (h.Open 0 h.ReturnStmt ∷ h.Open 0 h.ObjectLit ∷ l)) (sym (append_assoc (flat_map returned_property pairs) (h.Close ∷ []) (h.Close ∷ [])))
-    ∙ node-alone 0 h.ReturnStmt (w_begun (whole-close (properties-whole pairs))) []
-    ∙ ap (λ l. (h.Open 0 h.ReturnStmt ∷ h.Open 0 h.ObjectLit ∷ l) ∷ []) (append_assoc (flat_map returned_property pairs) (h.Close ∷ []) (h.Close ∷ []))
+object-alone : (pairs : List (Text × Ident)) (rest : List Item) → side_by_side zero (returned_object pairs ++ rest) ≡ returned_object pairs ∷ side_by_side zero rest
+object-alone pairs rest =
+    ap (λ l. side_by_side zero (h.Open 0 h.ReturnStmt ∷ h.Open 0 h.ObjectLit ∷ l)) (append_assoc properties (h.Close ∷ h.Close ∷ []) rest ∙ sym (append_assoc properties (h.Close ∷ []) (h.Close ∷ rest)))
+    ∙ node-alone 0 h.ReturnStmt (w_begun (whole-close (properties-whole pairs))) rest
+    ∙ ap (λ l. (h.Open 0 h.ReturnStmt ∷ h.Open 0 h.ObjectLit ∷ l) ∷ side_by_side zero rest) (append_assoc properties (h.Close ∷ []) (h.Close ∷ []))
+  where
+    properties : List Item
+    properties = flat_map returned_property pairs
 
 -- nodes that are no lists stay in the body
-body-nodes : {lists : List (List Item)} → Every IsNoList lists → (others : List (List Item)) → function_body (lists ++ others) ≡ joined lists ++ function_body others
+body-nodes : {lists : List (List Item)} → Every IsNoList lists → (others : List (List Item)) → function_body (lists ++ others) ≡ flat lists ++ function_body others
 body-nodes none others = refl
-body-nodes (more {x = node} {xs = lists} here later) others = ap (λ t. if t then returned_object (exported_pairs node) else node ++ function_body (lists ++ others)) here ∙ ap (λ l. node ++ l) (body-nodes later others) ∙ sym (append_assoc node (joined lists) (function_body others))
+body-nodes (more {x = node} {xs = lists} here later) others = ap (λ t. if t then returned_object (exported_pairs node) else node ++ function_body (lists ++ others)) here ∙ ap (λ l. node ++ l) (body-nodes later others) ∙ sym (append_assoc node (flat lists) (function_body others))
 
 pub body-plain : {stmts : List Item} → AreStatements zero stmts → function_body (side_by_side zero (stmts ++ h.Close ∷ [])) ≡ stmts ++ returned_object []
 body-plain {stmts} statements =
-    ap function_body (sides-append statements (h.Close ∷ [])) ∙ body-nodes (no-lists statements) [] ∙ ap (λ l. l ++ returned_object []) (sides-joined statements)
+    ap function_body (sides-append statements (h.Close ∷ [])) ∙ body-nodes (no-lists statements) [] ∙ ap (λ l. l ++ returned_object []) (sides-flat statements)
 
 pub body-exports : {stmts : List Item} → AreStatements zero stmts → (meta : ExportMetadata) (specifiers : List Specifier) → function_body (side_by_side zero (stmts ++ (export_items meta specifiers ++ h.Close ∷ []))) ≡ stmts ++ returned_object (exported_pairs (export_items meta specifiers))
 body-exports {stmts} statements meta specifiers =
     ap function_body (sides-append statements (export_items meta specifiers ++ h.Close ∷ []) ∙ ap (λ l. side_by_side zero stmts ++ l) (list-alone meta specifiers (h.Close ∷ [])))
     ∙ body-nodes (no-lists statements) (export_items meta specifiers ∷ [])
-    ∙ ap (λ l. l ++ returned_object (exported_pairs (export_items meta specifiers))) (sides-joined statements)
+    ∙ ap (λ l. l ++ returned_object (exported_pairs (export_items meta specifiers))) (sides-flat statements)
+
+-- the nodes of the body, with what stands behind them
+sides-followed : {stmts : List Item} → AreStatements zero stmts → (pairs : List (Text × Ident)) (rest : List Item) → side_by_side zero (stmts ++ (returned_object pairs ++ rest)) ≡ side_by_side zero stmts ++ returned_object pairs ∷ side_by_side zero rest
+sides-followed {stmts} statements pairs rest = sides-append statements (returned_object pairs ++ rest) ∙ ap (λ l. side_by_side zero stmts ++ l) (object-alone pairs rest)
 
 -- the nodes of the body
 pub body-sides : {stmts : List Item} → AreStatements zero stmts → (pairs : List (Text × Ident)) → side_by_side zero (stmts ++ returned_object pairs) ≡ side_by_side zero stmts ++ returned_object pairs ∷ []
-body-sides {stmts} statements pairs = sides-append statements (returned_object pairs) ∙ ap (λ l. side_by_side zero stmts ++ l) (object-alone pairs)
+body-sides {stmts} statements pairs = ap (λ l. side_by_side zero (stmts ++ l)) (sym (append-nil (returned_object pairs))) ∙ sides-followed statements pairs []
 
-joined-append : (lists others : List (List Item)) → joined (lists ++ others) ≡ joined lists ++ joined others
-joined-append [] others = refl
-joined-append (xs ∷ lists) others = ap (λ l. xs ++ l) (joined-append lists others) ∙ sym (append_assoc xs (joined lists) (joined others))
+flat-append : (lists others : List (List Item)) → flat (lists ++ others) ≡ flat lists ++ flat others
+flat-append [] others = refl
+flat-append (xs ∷ lists) others = ap (λ l. xs ++ l) (flat-append lists others) ∙ sym (append_assoc xs (flat lists) (flat others))
 
--- WHOLE: the body is its nodes, so a definition of a body may ask for that
-pub body-whole : {stmts : List Item} → AreStatements zero stmts → (pairs : List (Text × Ident)) → joined (side_by_side zero (stmts ++ returned_object pairs)) ≡ stmts ++ returned_object pairs
+-- the body stands whole in the function
+pub body-whole : {stmts : List Item} → AreStatements zero stmts → (pairs : List (Text × Ident)) → StandsWhole (stmts ++ returned_object pairs)
 body-whole {stmts} statements pairs =
-    ap joined (body-sides statements pairs) ∙ joined-append (side_by_side zero stmts) (returned_object pairs ∷ [])
-    ∙ ap₂ (λ (xs : List Item) (ys : List Item). xs ++ ys) (sides-joined statements) (append-nil (returned_object pairs))
+    ap flat (ap (side_by_side zero) (append_assoc stmts (returned_object pairs) (h.Close ∷ [])) ∙ sides-followed statements pairs (h.Close ∷ []))
+    ∙ flat-append (side_by_side zero stmts) (returned_object pairs ∷ [])
+    ∙ ap₂ (λ (xs : List Item) (ys : List Item). xs ++ ys) (sides-flat statements) (append-nil (returned_object pairs))

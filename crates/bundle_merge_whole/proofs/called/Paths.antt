@@ -9,8 +9,9 @@ use Rattle.bundle_tree_piece.specs.Item.{Item, Head}
 use Rattle.bundle_rules.specs.Places.{Around, in_field, is_binding}
 use Rattle.bundle_rules.specs.Scopes.{Es, Scope, ScopeKind, FunctionName, ClassName, block_kind, is_default, kind_of_scope, scope_at, scopes_around}
 use Rattle.bundle_rules.specs.Declarations.{Way, ByLet, ByConst, ByLoop, ByFunction, ByFunctionName, ByClass, ByClassName, Reading, name_of, is_pattern, way_of, way_in, way_of_declarator, way_of_variable, way_of_kind, heads_loop, declared_by, declaration_of}
+use Rattle.bundle_rules.specs.Callable.{is_module_head}
 use Rattle.bundle_merge_whole.specs.called.Moved.{moved_scopes, moved_declared, is_module_way, AreFair, top, inner}
-use Rattle.bundle_merge_whole.specs.called.Called.{is_module_head, IsMoved, outside, within}
+use Rattle.bundle_merge_whole.specs.called.Called.{IsMoved, outside, within}
 
 pub in_field-moved : {is_async : Bool} {depth : ℕ} {old new : List Around} → IsMoved is_async depth old new → (field : ℕ) → IsMoved is_async depth (in_field field old) (in_field field new)
 in_field-moved (outside its) field = outside field

@@ -21,7 +21,7 @@ use Rattle.bundle_rules.specs.Meaning.{Label, Meant, Mark, View, Sense, NameMean
 use Rattle.bundle_rules.specs.Marks.{Begins, Ends, Empty, Name, Word, word_key, computed_key, begin_marks, end_marks, name_marks}
 use Rattle.bundle_rules.specs.Shorthands.{has_default, is_shorthand_in_pattern, is_object}
 use Rattle.bundle_rules.specs.Injected as j
-use Rattle.bundle_merge_whole.specs.called.Moved.{Every, none, more}
+use Rattle.bundle_rules.specs.Callable.{Every, none, more}
 use Rattle.bundle_merge_whole.proofs.called.Means.{IsPlainMeant, IsPlainMark}
 
 -- Lists of marks.

@@ -17,10 +17,9 @@ use Rattle.bundle_rules.specs.Meaning.{Mark, StatementMeans, Labelling, bundle_s
 use Rattle.bundle_rules.specs.Faults.{IsFaultlessProgram, arguments_under_iife}
 use Rattle.bundle_rules.specs.Bundle as b
 use Rattle.bundle_rules.specs.Bundle.{Form, AsModule, AsCall, form_of, Cause, IsDue, Hooks, Labelled, sense_of, elements_of, ItemMeans, SameMeaning, IsLoadFunction, Realises, properties_tree}
-use Rattle.bundle_merge_whole.specs.called.Moved.{Every, none, more}
-use Rattle.bundle_merge_whole.specs.called.Called.{AreTwins, module_with, call_with}
+use Rattle.bundle_rules.specs.Callable.{Every, none, more, module_with, StatesNoExports}
+use Rattle.bundle_merge_whole.specs.called.Called.{AreTwins, call_with}
 use Rattle.bundle_tree_names.specs.FileName.{real}
-use Rattle.bundle_merge_whole.specs.called.Wrappable.{StatesNoExports}
 use Rattle.bundle_merge_whole.proofs.called.Means.{IsPlaced, moved_element, moved_labels, IsPlainMark, plain-elements, means-moved, statement-moved}
 use Rattle.bundle_merge_whole.proofs.called.Sides.{IsNoList, moved_item, taken-moved, placed-moved, placed-items, placed-positive, every-front, every-rest, sides-front}
 use Rattle.bundle_merge_whole.proofs.called.Plain
@@ -101,7 +100,9 @@ load-moved {p} {reading} {is_async} {stmts} {after} {its} scene labels c reached
   back = map moved_element load.back;
   is = taken-moved item.start item.items ∙ ap (map moved_element) load.is ∙ map-join load.front (taken_from at load.inside ++ load.back) ∙ ap (λ l. map moved_element load.front ++ l) (map-join (taken_from at load.inside) load.back ∙ ap (λ l. l ++ map moved_element load.back) (sym (taken-moved at load.inside) ∙ ap (λ k. taken_from k load.inside) new_at));
   front_means = means-moved scene.twins labels none load.front_means front_placed (plain-elements reading stmts after labels none load.front_means front_placed (Plain.front-plain c));
+  front_length = map-length load.front ∙ load.front_length;
   back_means = means-moved scene.twins labels none load.back_means back_placed (plain-elements reading stmts after labels none load.back_means back_placed Plain.back-plain);
+  back_length = map-length load.back ∙ load.back_length;
   whole = load.whole;
   statements = subst (λ items. AllZip (SameMeaning p (new_bundle reading is_async stmts its labels) c) items (own_statements (tree_of p c))) (sym (placed-moved at (side_by_side zero load.inside)) ∙ ap (λ k. placed k (side_by_side zero load.inside)) new_at) (zip-map (SameMeaning p (old_bundle reading stmts after labels) c) (SameMeaning p (new_bundle reading is_async stmts its labels) c) moved_item (λ it statement inside same. same-moved scene labels c reached inside statement same) items_placed (own_statements (tree_of p c)) load.statements);
 }

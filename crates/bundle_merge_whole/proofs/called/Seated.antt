@@ -14,9 +14,8 @@ use Rattle.bundle_rules.specs.Places.{Around, Spot, in_field, outer_path, past}
 use Rattle.bundle_rules.specs.Scopes.{Es, Scope, ScopeKind, Top, Inner, Parameters, ArrowParameters, Loop, Catch, FunctionName, ClassName, is_default, kind_of_scope, scope_at, scopes_around}
 use Rattle.bundle_rules.specs.Declarations.{Way, ByImport, ByVar, ByLet, ByConst, ByLoop, ByFunction, ByFunctionName, ByClass, ByClassName, ByParameter, ByCatch, Reading, name_of, Declared, is_pattern, is_loop_head, heads_loop, way_of, way_in, way_of_declarator, way_of_variable, way_of_kind, declared_by, declared_at, declared_from}
 use Rattle.bundle_rules.specs.Homes.{takes, from_taker, nearest}
-use Rattle.bundle_merge_whole.specs.called.Moved.{Every, none, more, IsTaken}
-use Rattle.bundle_merge_whole.specs.called.Called.{HasName, AreStatements, over, begun, ended, named, empty, around, module_with, module_start}
-use Rattle.bundle_merge_whole.specs.called.Wrappable.{IsBack, CanBeCalled}
+use Rattle.bundle_rules.specs.Callable.{Every, none, more, IsTaken, HasName, AreStatements, over, begun, ended, named, empty, module_with, IsBack, CanBeCalled}
+use Rattle.bundle_merge_whole.specs.called.Called.{around, module_start}
 use Rattle.bundle_merge_whole.specs.called.Within.{is_setter_key, has_parameters, may_hold, may_name, AreIn, no_more, a_name, a_hole, a_node}
 use Rattle.bundle_merge_whole.proofs.called.Lists.{open-declares}
 use Rattle.bundle_merge_whole.proofs.called.Bindless.{nothing-declared, back-bindless}

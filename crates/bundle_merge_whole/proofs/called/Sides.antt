@@ -8,40 +8,35 @@ use Rattle.bundle_rules.specs.Nodes.{flat, put_first, side_by_side, begins_with}
 use Rattle.bundle_rules.specs.Statements.{TopItem, placed, Element, taken, taken_from}
 use Rattle.bundle_rules.specs.Bundle.{elements_of}
 use Rattle.bundle_rules.specs.Forms.{is_export_list}
-use Rattle.bundle_merge_whole.specs.called.Moved.{Every, none, more}
-use Rattle.bundle_merge_whole.specs.called.Called.{is_module_head, AreStatements, over, begun, ended, named, empty}
+use Rattle.bundle_rules.specs.Callable.{Every, none, more, is_module_head, AreStatements, over, begun, ended, named, empty}
 use Rattle.bundle_merge_whole.proofs.called.Means.{IsPlaced, placed_at, moved_element}
 
--- lists joined
-abbrev pub joined : List (List Item) → List Item
-joined lists = flat lists
-
-joined-first : (x : Item) (lists : List (List Item)) → joined (put_first x lists) ≡ x ∷ joined lists
-joined-first x [] = refl
-joined-first x (xs ∷ lists) = refl
+first-flat : (x : Item) (lists : List (List Item)) → flat (put_first x lists) ≡ x ∷ flat lists
+first-flat x [] = refl
+first-flat x (xs ∷ lists) = refl
 
 -- nodes side by side are the front of the list
-pub sides-front : (depth : ℕ) (xs : List Item) → (rest : List Item) × (xs ≡ joined (side_by_side depth xs) ++ rest)
+pub sides-front : (depth : ℕ) (xs : List Item) → (rest : List Item) × (xs ≡ flat (side_by_side depth xs) ++ rest)
 sides-front depth [] = ([], refl)
-sides-front depth (h.Open field head ∷ xs) = let r = sides-front (suc depth) xs in (r.0, ap (λ l. h.Open field head ∷ l) r.1 ∙ ap (λ l. l ++ r.0) (sym (joined-first (h.Open field head) (side_by_side (suc depth) xs))))
+sides-front depth (h.Open field head ∷ xs) = let r = sides-front (suc depth) xs in (r.0, ap (λ l. h.Open field head ∷ l) r.1 ∙ ap (λ l. l ++ r.0) (sym (first-flat (h.Open field head) (side_by_side (suc depth) xs))))
 sides-front zero (h.Ident field x ctxt role ∷ xs) = let r = sides-front zero xs in (r.0, ap (λ l. h.Ident field x ctxt role ∷ l) r.1)
-sides-front (suc depth) (h.Ident field x ctxt role ∷ xs) = let r = sides-front (suc depth) xs in (r.0, ap (λ l. h.Ident field x ctxt role ∷ l) r.1 ∙ ap (λ l. l ++ r.0) (sym (joined-first (h.Ident field x ctxt role) (side_by_side (suc depth) xs))))
+sides-front (suc depth) (h.Ident field x ctxt role ∷ xs) = let r = sides-front (suc depth) xs in (r.0, ap (λ l. h.Ident field x ctxt role ∷ l) r.1 ∙ ap (λ l. l ++ r.0) (sym (first-flat (h.Ident field x ctxt role) (side_by_side (suc depth) xs))))
 sides-front zero (h.Hole field ∷ xs) = let r = sides-front zero xs in (r.0, ap (λ l. h.Hole field ∷ l) r.1)
-sides-front (suc depth) (h.Hole field ∷ xs) = let r = sides-front (suc depth) xs in (r.0, ap (λ l. h.Hole field ∷ l) r.1 ∙ ap (λ l. l ++ r.0) (sym (joined-first (h.Hole field) (side_by_side (suc depth) xs))))
+sides-front (suc depth) (h.Hole field ∷ xs) = let r = sides-front (suc depth) xs in (r.0, ap (λ l. h.Hole field ∷ l) r.1 ∙ ap (λ l. l ++ r.0) (sym (first-flat (h.Hole field) (side_by_side (suc depth) xs))))
 sides-front zero (h.Close ∷ xs) = (h.Close ∷ xs, refl)
 sides-front (suc zero) (h.Close ∷ xs) = let r = sides-front zero xs in (r.0, ap (λ l. h.Close ∷ l) r.1)
-sides-front (suc (suc depth)) (h.Close ∷ xs) = let r = sides-front (suc depth) xs in (r.0, ap (λ l. h.Close ∷ l) r.1 ∙ ap (λ l. l ++ r.0) (sym (joined-first h.Close (side_by_side (suc depth) xs))))
+sides-front (suc (suc depth)) (h.Close ∷ xs) = let r = sides-front (suc depth) xs in (r.0, ap (λ l. h.Close ∷ l) r.1 ∙ ap (λ l. l ++ r.0) (sym (first-flat h.Close (side_by_side (suc depth) xs))))
 
 -- whole nodes
-pub sides-joined : {depth : ℕ} {xs : List Item} → AreStatements depth xs → joined (side_by_side depth xs) ≡ xs
-sides-joined over = refl
-sides-joined (begun {depth} {field} {head} {rest} plain name inner) = joined-first (h.Open field head) (side_by_side (suc depth) rest) ∙ ap (λ l. h.Open field head ∷ l) (sides-joined inner)
-sides-joined (ended {depth = zero} inner) = ap (λ l. h.Close ∷ l) (sides-joined inner)
-sides-joined (ended {depth = suc depth} {rest} inner) = joined-first h.Close (side_by_side (suc depth) rest) ∙ ap (λ l. h.Close ∷ l) (sides-joined inner)
-sides-joined (named {depth = zero} {field} {ctxt} {sym = x} {role} inner) = ap (λ l. h.Ident field x ctxt role ∷ l) (sides-joined inner)
-sides-joined (named {depth = suc depth} {field} {ctxt} {sym = x} {role} {rest} inner) = joined-first (h.Ident field x ctxt role) (side_by_side (suc depth) rest) ∙ ap (λ l. h.Ident field x ctxt role ∷ l) (sides-joined inner)
-sides-joined (empty {depth = zero} {field} inner) = ap (λ l. h.Hole field ∷ l) (sides-joined inner)
-sides-joined (empty {depth = suc depth} {field} {rest} inner) = joined-first (h.Hole field) (side_by_side (suc depth) rest) ∙ ap (λ l. h.Hole field ∷ l) (sides-joined inner)
+pub sides-flat : {depth : ℕ} {xs : List Item} → AreStatements depth xs → flat (side_by_side depth xs) ≡ xs
+sides-flat over = refl
+sides-flat (begun {depth} {field} {head} {rest} plain name inner) = first-flat (h.Open field head) (side_by_side (suc depth) rest) ∙ ap (λ l. h.Open field head ∷ l) (sides-flat inner)
+sides-flat (ended {depth = zero} inner) = ap (λ l. h.Close ∷ l) (sides-flat inner)
+sides-flat (ended {depth = suc depth} {rest} inner) = first-flat h.Close (side_by_side (suc depth) rest) ∙ ap (λ l. h.Close ∷ l) (sides-flat inner)
+sides-flat (named {depth = zero} {field} {ctxt} {sym = x} {role} inner) = ap (λ l. h.Ident field x ctxt role ∷ l) (sides-flat inner)
+sides-flat (named {depth = suc depth} {field} {ctxt} {sym = x} {role} {rest} inner) = first-flat (h.Ident field x ctxt role) (side_by_side (suc depth) rest) ∙ ap (λ l. h.Ident field x ctxt role ∷ l) (sides-flat inner)
+sides-flat (empty {depth = zero} {field} inner) = ap (λ l. h.Hole field ∷ l) (sides-flat inner)
+sides-flat (empty {depth = suc depth} {field} {rest} inner) = first-flat (h.Hole field) (side_by_side (suc depth) rest) ∙ ap (λ l. h.Hole field ∷ l) (sides-flat inner)
 
 -- what nodes side by side look like: no list of exports is among those that begin there
 abbrev pub IsNoList : List Item → Type 0
@@ -126,11 +121,11 @@ taken-append start [] ys = let n : start ≡ start + length {A = Item} [] = omeg
 taken-append start (x ∷ xs) ys = let n : suc start + length xs ≡ start + length (x ∷ xs) = omega arith in ap (λ l. taken start x ∷ l) (taken-append (suc start) xs ys ∙ ap (λ k. taken_from (suc start) xs ++ taken_from k ys) n)
 
 -- each of these items
-pub placed-items : {P : Element → Type 0} (start : ℕ) (lists : List (List Item)) (rest : List Item) → Every P (taken_from start (joined lists ++ rest)) → Every (λ (item : TopItem). Every P (elements_of item)) (placed start lists)
+pub placed-items : {P : Element → Type 0} (start : ℕ) (lists : List (List Item)) (rest : List Item) → Every P (taken_from start (flat lists ++ rest)) → Every (λ (item : TopItem). Every P (elements_of item)) (placed start lists)
 placed-items start [] rest each = none
 placed-items {P} start (xs ∷ lists) rest each =
-    let whole = subst (Every P) (ap (taken_from start) (append_assoc xs (joined lists) rest) ∙ taken-append start xs (joined lists ++ rest)) each in
-    more (every-front (taken_from start xs) (taken_from (start + length xs) (joined lists ++ rest)) whole) (placed-items (start + length xs) lists rest (every-rest (taken_from start xs) (taken_from (start + length xs) (joined lists ++ rest)) whole))
+    let whole = subst (Every P) (ap (taken_from start) (append_assoc xs (flat lists) rest) ∙ taken-append start xs (flat lists ++ rest)) each in
+    more (every-front (taken_from start xs) (taken_from (start + length xs) (flat lists ++ rest)) whole) (placed-items (start + length xs) lists rest (every-rest (taken_from start xs) (taken_from (start + length xs) (flat lists ++ rest)) whole))
 
 -- an item that begins 6 places later
 abbrev pub moved_item : TopItem → TopItem
@@ -144,10 +139,10 @@ pub placed-moved : (start : ℕ) (lists : List (List Item)) → placed (start + 
 placed-moved start [] = refl
 placed-moved start (xs ∷ lists) = let n : start + 6 + length xs ≡ start + length xs + 6 = omega arith in ap (λ l. record { start = start + 6; items = xs } ∷ l) (ap (λ k. placed k lists) n ∙ placed-moved (start + length xs) lists)
 
-pub placed-append : (start : ℕ) (lists others : List (List Item)) → placed start (lists ++ others) ≡ placed start lists ++ placed (start + length (joined lists)) others
+pub placed-append : (start : ℕ) (lists others : List (List Item)) → placed start (lists ++ others) ≡ placed start lists ++ placed (start + length (flat lists)) others
 placed-append start [] others = let n : start ≡ start + length {A = Item} [] = omega arith in ap (λ k. placed k others) n
 placed-append start (xs ∷ lists) others =
-    let n : start + length xs + length (joined lists) ≡ start + length (xs ++ joined lists) = omega (arith, length-append xs (joined lists)) in
+    let n : start + length xs + length (flat lists) ≡ start + length (xs ++ flat lists) = omega (arith, length-append xs (flat lists)) in
     ap (λ l. record { start = start; items = xs } ∷ l) (placed-append (start + length xs) lists others ∙ ap (λ k. placed (start + length xs) lists ++ placed k others) n)
 
 -- an item begins behind the module's own beginning

@@ -18,7 +18,8 @@ use Rattle.bundle_rules.specs.Meaning as m
 use Rattle.bundle_rules.specs.Meaning.{Meant, Mark, NameMeans, Means, Labelling, bundle_sense}
 use Rattle.bundle_rules.specs.Marks.{MarkOf, Begins, Ends, Name, Word, begin_marks, end_marks, name_marks}
 use Rattle.bundle_rules.specs.Shorthands.{has_default, is_shorthand_in_pattern, is_object}
-use Rattle.bundle_merge_whole.specs.called.Called.{module_with, call_with, module_start, call_start}
+use Rattle.bundle_rules.specs.Callable.{module_with}
+use Rattle.bundle_merge_whole.specs.called.Called.{call_with, module_start, call_start}
 use Rattle.bundle_merge_whole.proofs.called.MarksMoved.{other-head}
 
 -- what is left of a list from a place on, and the spot there

@@ -6,8 +6,9 @@ use Rattle.bundle_rules.specs.Places.{Spot, past, spot_before, occurrence_of, oc
 use Rattle.bundle_rules.specs.Scopes.{Es}
 use Rattle.bundle_rules.specs.Declarations.{Reading, Declared, declaration_of, declared}
 use Rattle.bundle_rules.specs.Denotes.{Global, denoted_of, denoted_at}
-use Rattle.bundle_merge_whole.specs.called.Moved.{moved_denoted, moved_declared, IsSeated, Every}
-use Rattle.bundle_merge_whole.specs.called.Called.{AreStatements, outside, IsMovedSpot, module_with, call_with, module_start, call_start, AreTwins}
+use Rattle.bundle_rules.specs.Callable.{Every, AreStatements, module_with}
+use Rattle.bundle_merge_whole.specs.called.Moved.{moved_denoted, moved_declared, IsSeated}
+use Rattle.bundle_merge_whole.specs.called.Called.{outside, IsMovedSpot, call_with, module_start, call_start, AreTwins}
 use Rattle.bundle_merge_whole.proofs.called.Lists.{At, at, AreAlike, occurrence-moved, declared-moved, seats, declared-there, denoted-alike}
 
 -- an element of a list's front

@@ -12,9 +12,9 @@ use Rattle.bundle_rules.specs.Declarations.{Way, ByImport, ByVar, ByLet, ByConst
 use Rattle.bundle_rules.specs.Homes.{takes, taker, from_taker, nearest, group_of}
 use Rattle.bundle_rules.specs.Doubled.{may_double_functions, stands_once, is_lexical, stands_beside, is_var, passes_scope_of, excludes, clash, is_doubled, first_doubled}
 use Rattle.bundle_rules.specs.Forms.{exported_pairs, wrapped}
-use Rattle.bundle_merge_whole.specs.called.Moved.{moved_scope, moved_scopes, moved_declared, AreFair, top, inner, IsFair, IsSeated, Every, none, more, IsTaken}
-use Rattle.bundle_merge_whole.specs.called.Called.{AreStatements, module_with, call_with, AreTwins}
-use Rattle.bundle_merge_whole.specs.called.Wrappable.{export_items, IsBack, nothing, exports, CanBeCalled}
+use Rattle.bundle_rules.specs.Callable.{Every, none, more, IsTaken, AreStatements, module_with, export_items, IsBack, nothing, exports, CanBeCalled}
+use Rattle.bundle_merge_whole.specs.called.Moved.{moved_scope, moved_scopes, moved_declared, AreFair, top, inner, IsFair, IsSeated}
+use Rattle.bundle_merge_whole.specs.called.Called.{call_with, AreTwins}
 use Rattle.bundle_merge_whole.proofs.called.Homes.{from_taker-moved, from_taker-fair, takes-at, taker-moved, taker-fair, same-moved, at_parameters, outer-differs}
 use Rattle.bundle_merge_whole.proofs.called.Trees.{declared-twins, seats-twins}
 use Rattle.bundle_merge_whole.proofs.called.Nodes.{body-plain, body-exports}

@@ -13,7 +13,7 @@ use Rattle.bundle_rules.specs.Places.{Spot, past}
 use Rattle.bundle_rules.specs.Scopes.{Es, Scope, Wrapper, Top, Inner, FunctionBody}
 use Rattle.bundle_rules.specs.Declarations.{Reading, declared}
 use Rattle.bundle_rules.specs.Denotes.{Denoted, Bound, Global}
-use Rattle.bundle_rules.specs.Nodes.{Text, side_by_side, parts}
+use Rattle.bundle_rules.specs.Nodes.{Text, side_by_side, flat, parts}
 use Rattle.bundle_rules.specs.Statements.{TopItem, top_items, placed, taken_from}
 use Rattle.bundle_rules.specs.Awaits.{awaits_outside}
 use Rattle.bundle_rules.specs.Program.{Program, IsReached}
@@ -24,13 +24,13 @@ use Rattle.bundle_rules.specs.Faults.{IsFaultlessProgram}
 use Rattle.bundle_rules.specs.Forms.{exported_pairs, function_body, returned_object, wrapped}
 use Rattle.bundle_rules.specs.Bundle as b
 use Rattle.bundle_rules.specs.Bundle.{Form, AsModule, AsCall, form_of, Cause, Exports, IsDue, Hooks, Labelled, ItemMeans, elements_of, AreLinked, Realises, Stars, Chosen, externals, function_front, function_back, HasBody, of_module, of_function, Pairing, labelled, IsPaired, IsLaidOut, IsBundle}
-use Rattle.bundle_merge_whole.specs.called.Moved.{moved_denoted, Every, none, more, IsTaken}
-use Rattle.bundle_merge_whole.specs.called.Called.{AreStatements, around, called_path, IsMoved, outside, module_with, call_with, module_start, call_start, AreTwins}
-use Rattle.bundle_merge_whole.specs.called.Wrappable.{Specifier, export_items, IsBack, nothing, exports, CanBeCalled, begins_list, StatesNoExports}
+use Rattle.bundle_rules.specs.Callable.{Every, none, more, IsTaken, AreStatements, module_with, Specifier, export_items, IsBack, nothing, exports, CanBeCalled, begins_list, StatesNoExports}
+use Rattle.bundle_merge_whole.specs.called.Moved.{moved_denoted}
+use Rattle.bundle_merge_whole.specs.called.Called.{around, called_path, IsMoved, outside, call_with, module_start, call_start, AreTwins}
 use Rattle.bundle_merge_whole.proofs.called.Lists.{behind}
 use Rattle.bundle_merge_whole.proofs.called.Trees.{start-moved}
 use Rattle.bundle_merge_whole.proofs.called.Means.{IsPlaced, is_fair, moved_label, moved_labels, contains-mapped, contains-filtered, every-map}
-use Rattle.bundle_merge_whole.proofs.called.Sides.{joined, sides-joined, sides-append, no-lists, IsNoList, placed-elements, placed-append, placed-moved, moved_item}
+use Rattle.bundle_merge_whole.proofs.called.Sides.{sides-flat, sides-append, no-lists, IsNoList, placed-elements, placed-append, placed-moved, moved_item}
 use Rattle.bundle_merge_whole.proofs.called.Grouped.{IsSegment}
 use Rattle.bundle_merge_whole.proofs.called.Firsts.{first_is_list, list-meant, list-means, begins-item, nothing-meant, front-begins}
 use Rattle.bundle_merge_whole.proofs.called.Realised.{IsScene, old_bundle, new_bundle, IsInPlace, zip-map, realised-moved}
@@ -111,13 +111,13 @@ drop-past all n (x ∷ xs) ys e =
     let m : n + length (x ∷ xs) ≡ suc n + length xs = omega arith in
     ap (λ k. drop k all) m ∙ further
 
-placed-segments : (stmts : List Item) (j : ℕ) (lists : List (List Item)) (rest : List Item) → drop j stmts ≡ joined lists ++ rest → Every (IsSegment stmts) (placed (suc j) lists)
+placed-segments : (stmts : List Item) (j : ℕ) (lists : List (List Item)) (rest : List Item) → drop j stmts ≡ flat lists ++ rest → Every (IsSegment stmts) (placed (suc j) lists)
 placed-segments stmts j [] rest e = none
 placed-segments stmts j (xs ∷ lists) rest e =
     let n : suc (j + length xs) ≡ suc j + length xs = omega arith in
-    let whole : drop j stmts ≡ xs ++ (joined lists ++ rest) = e ∙ append_assoc xs (joined lists) rest in
-    more (record { at = j; start = refl; rest = joined lists ++ rest; is = whole })
-    (subst (λ k. Every (IsSegment stmts) (placed k lists)) n (placed-segments stmts (j + length xs) lists rest (drop-past stmts j xs (joined lists ++ rest) whole)))
+    let whole : drop j stmts ≡ xs ++ (flat lists ++ rest) = e ∙ append_assoc xs (flat lists) rest in
+    more (record { at = j; start = refl; rest = flat lists ++ rest; is = whole })
+    (subst (λ k. Every (IsSegment stmts) (placed k lists)) n (placed-segments stmts (j + length xs) lists rest (drop-past stmts j xs (flat lists ++ rest) whole)))
 
 segment-place : {stmts : List Item} (item : TopItem) → IsSegment stmts item → IsInPlace stmts item
 segment-place {stmts} item s = record {
@@ -141,7 +141,7 @@ record IsStatement (stmts : List Item) (item : TopItem) : Type 0 where
 statement-items : {stmts : List Item} → AreStatements zero stmts → Every (IsStatement stmts) (placed 1 (side_by_side zero stmts))
 statement-items {stmts} statements =
     pair-up (λ item segment no_list. record { segment = segment; no_list = no_list })
-    (placed-segments stmts 0 (side_by_side zero stmts) [] (sym (append-nil (joined (side_by_side zero stmts)) ∙ sides-joined statements)))
+    (placed-segments stmts 0 (side_by_side zero stmts) [] (sym (append-nil (flat (side_by_side zero stmts)) ∙ sides-flat statements)))
     (placed-lists 1 (side_by_side zero stmts) (no-lists statements))
 
 -- Lists zipped.
@@ -289,7 +289,7 @@ call-is stmts rs = ap (λ l. function_front (is_async_of stmts rs) ++ l) (append
 
 new-body : {stmts : List Item} → AreStatements zero stmts → (rs : List (Text × Ident)) → placed 7 (side_by_side zero (stmts ++ returned_object rs)) ≡ new_items stmts rs
 new-body {stmts} statements rs =
-    let n : 7 + length (joined (side_by_side zero stmts)) ≡ suc (length stmts) + 6 = omega (arith, ap length (sides-joined statements)) in
+    let n : 7 + length (flat (side_by_side zero stmts)) ≡ suc (length stmts) + 6 = omega (arith, ap length (sides-flat statements)) in
     ap (placed 7) (body-sides statements rs)
     ∙ placed-append 7 (side_by_side zero stmts) (returned_object rs ∷ [])
     ∙ ap₂ (λ (l : List TopItem) (k : ℕ). l ++ record { start = k; items = returned_object rs } ∷ []) (placed-moved 1 (side_by_side zero stmts)) n
@@ -557,7 +557,7 @@ exports-bundle {p} {hooks} reading stmts meta specifiers form faultless filed st
 
     items_are : top_items (module_with stmts (export_items meta specifiers ++ h.Close ∷ [])) ≡ placed 1 (side_by_side zero stmts) ++ record { start = suc (length stmts); items = export_items meta specifiers } ∷ []
     items_are =
-        let n : 1 + length (joined (side_by_side zero stmts)) ≡ suc (length stmts) = omega (arith, ap length (sides-joined statements)) in
+        let n : 1 + length (flat (side_by_side zero stmts)) ≡ suc (length stmts) = omega (arith, ap length (sides-flat statements)) in
         ap (placed 1) (sides-append statements (export_items meta specifiers ++ h.Close ∷ []) ∙ ap (λ l. side_by_side zero stmts ++ l) (list-alone meta specifiers (h.Close ∷ [])))
         ∙ placed-append 1 (side_by_side zero stmts) (export_items meta specifiers ∷ [])
         ∙ ap (λ k. placed 1 (side_by_side zero stmts) ++ record { start = k; items = export_items meta specifiers } ∷ []) n

@@ -5,8 +5,8 @@ use Rattle.bundle_tree_piece.specs.declared.piece.Role.TheVariants as r
 use Rattle.bundle_tree_piece.specs.Item as h
 use Rattle.bundle_tree_piece.specs.Item.{Item, Head}
 use Rattle.bundle_rules.specs.Cleared.{cleared_head, cleared_item, cleared, without_note, without_notes, tidy_item, tidied}
-use Rattle.bundle_merge_whole.specs.fit.Sorts.{Sort, Slot, slot, takes, names_in, slots}
-use Rattle.bundle_merge_whole.specs.fit.Fits.{AreFit, no_more, over, a_name, a_hole, a_node, IsFit, name, node}
+use Rattle.bundle_scope_renamed.specs.fit.Sorts.{Sort, Slot, slot, takes, names_in, slots}
+use Rattle.bundle_scope_renamed.specs.fit.Fits.{AreFit, no_more, over, a_name, a_hole, a_node, IsFit, name, node}
 
 takes_cleared : (head : Head) (sort : Sort) → takes (cleared_head head) sort ≡ takes head sort
 takes_cleared (h.ImportDecl meta) sort = refl

@@ -5,11 +5,11 @@ use Rattle.bundle_tree_piece.specs.declared.piece.Role.TheVariants as r
 use Rattle.bundle_tree_piece.specs.Item as h
 use Rattle.bundle_tree_piece.specs.Item.{Item, Head}
 use Rattle.bundle_rules.specs.Places.{start}
-use Rattle.bundle_merge_whole.specs.fit.Sorts.{AnItem, AStmt, AnArgument, AProperty}
-use Rattle.bundle_merge_whole.specs.fit.Fits.{IsFit, AreEach, ended, next}
-use Rattle.bundle_merge_whole.proofs.fit.Rows.{one, last, last_each, in_node, alone}
-use Rattle.bundle_merge_whole.proofs.fit.Keys.{no_keys}
-use Rattle.bundle_merge_whole.proofs.fit.Defaults.{are_plain}
+use Rattle.bundle_scope_renamed.specs.fit.Sorts.{AnItem, AStmt, AnArgument, AProperty}
+use Rattle.bundle_scope_renamed.specs.fit.Fits.{IsFit, AreEach, ended, next}
+use Rattle.bundle_scope_renamed.proofs.fit.Rows.{one, last, last_each, in_node, alone}
+use Rattle.bundle_scope_renamed.proofs.fit.Keys.{no_keys}
+use Rattle.bundle_scope_renamed.proofs.fit.Defaults.{are_plain}
 
 -- `use(x);`
 call : List Item

@@ -1,22 +1,19 @@
--- A name right in a member expression or a call is no plain word; behind the name of a shorthand property nothing stands in
--- its field; what stands first in an assignment stands in field 1.
-use Rattle.std.proofs.Common.{◌≡◌, ℕ, ◌==◌, ◌&&◌, Bool, true, false, not, List, [], ◌∷◌, refl, sym, ap, ◌∙◌, eqb-true, eq-eqb}
+-- A name right in a member expression or a call refers; what stands first in an assignment stands in field 1.
+use Rattle.std.proofs.Common.{◌≡◌, ℕ, ◌==◌, ◌&&◌, ◌||◌, Bool, true, false, not, List, [], ◌∷◌, refl, sym, ap, ◌∙◌, eqb-true, eq-eqb}
 use Rattle.std.proofs.lemmas.Bool.{false≢true, true≢false, and_parts}
 use Rattle.bundle_tree_piece.specs.declared.piece.Role.{Role}
 use Rattle.bundle_tree_piece.specs.declared.piece.Role.TheVariants as r
 use Rattle.bundle_tree_piece.specs.Item as h
 use Rattle.bundle_tree_piece.specs.Item.{Item, Head}
-use Rattle.bundle_merge_whole.specs.fit.Sorts.{Sort, Count, One, Optional, Many, Places, Slot, slot, takes_outer, takes_name, names_in, slots}
-use Rattle.bundle_merge_whole.specs.fit.Fits.{is_needed, after, AreFit, no_more, over, a_name, a_hole, a_node}
-use Rattle.bundle_merge_whole.specs.fit.Seen.{each_slot}
-use Rattle.bundle_merge_whole.specs.fit.Asked.{Stand, Other, InReadOrCall, AtKey, BehindKey, AtTarget, first_in, next_to, NameFits, NodeFits, AreListed, nothing, name, hole, node}
-use Rattle.bundle_merge_whole.proofs.fit.Seeing.{after_slot}
+use Rattle.bundle_scope_renamed.specs.fit.Sorts.{Sort, Count, One, Optional, Many, Places, Slot, slot, takes_outer, takes_binding, takes_name, names_in, slots}
+use Rattle.bundle_scope_renamed.specs.fit.Fits.{is_needed, after, AreFit, no_more, over, a_name, a_hole, a_node}
+use Rattle.bundle_scope_renamed.specs.fit.Seen.{each_slot}
+use Rattle.bundle_merge_meaning.specs.noted.Listed.{Stand, Other, InReadOrCall, AtTarget, first_in, next_to, NameFits, NodeFits, AreListed, nothing, name, hole, node}
+use Rattle.bundle_scope_renamed.proofs.fit.Seeing.{after_slot}
 
-abbrev wordless : ℕ → Sort → Bool
-wordless number sort = not (takes_outer sort)
-
-abbrev behind_first : ℕ → Sort → Bool
-behind_first number sort = not (number == 0)
+-- whether each name that such a field takes refers
+abbrev refers : ℕ → Sort → Bool
+refers number sort = not (takes_outer sort || takes_binding sort)
 
 abbrev is_one : Count → Bool
 is_one One = true
@@ -25,10 +22,7 @@ is_one _ = false
 -- what the fields are where an element stands so
 abbrev pub suits : Stand → List Slot → Bool
 suits Other list = true
-suits InReadOrCall list = each_slot wordless list
-suits AtKey [] = true
-suits AtKey (slot number count sort ∷ more) = is_one count && each_slot behind_first more
-suits BehindKey list = each_slot behind_first list
+suits InReadOrCall list = each_slot refers list
 suits AtTarget [] = true
 suits AtTarget (slot number count sort ∷ more) = is_one count && (number == 1)
 
@@ -36,14 +30,7 @@ suits_first : (head : Head) (names : Role) → suits (first_in head) (slots head
 suits_first h.MemberExpr names = refl
 suits_first h.CallExpr names = refl
 suits_first (h.AssignExpr op) names = refl
-suits_first h.AssignPatProp names = refl
 suits_first _ names = refl
-
-behind_key : (n : ℕ) (c : Count) (k : Sort) (more : List Slot) → (is_one c && each_slot behind_first more) ≡ true → each_slot behind_first (after n c k more) ≡ true
-behind_key n One k more ok = ok
-behind_key n Optional k more ok = absurd (false≢true ok)
-behind_key n Many k more ok = absurd (false≢true ok)
-behind_key n Places k more ok = absurd (false≢true ok)
 
 needed : (c : Count) (rest : Bool) → is_needed c ≡ false → (is_one c && rest) ≡ true → ⊥
 needed One rest e ok = true≢false e
@@ -53,35 +40,29 @@ needed Places rest e ok = false≢true ok
 
 suits_next : (stand : Stand) (n : ℕ) (c : Count) (k : Sort) (more : List Slot) → suits stand (slot n c k ∷ more) ≡ true → suits (next_to stand) (after n c k more) ≡ true
 suits_next Other n c k more ok = refl
-suits_next InReadOrCall n c k more ok = after_slot wordless n c k more ok
-suits_next AtKey n c k more ok = behind_key n c k more ok
-suits_next BehindKey n c k more ok = after_slot behind_first n c k more ok
+suits_next InReadOrCall n c k more ok = after_slot refers n c k more ok
 suits_next AtTarget n c k more ok = refl
 
 suits_over : (stand : Stand) (n : ℕ) (c : Count) (k : Sort) (more : List Slot) → is_needed c ≡ false → suits stand (slot n c k ∷ more) ≡ true → suits stand more ≡ true
 suits_over Other n c k more e ok = refl
-suits_over InReadOrCall n c k more e ok = (and_parts (wordless n k) (each_slot wordless more) ok).1
-suits_over AtKey n c k more e ok = absurd (needed c (each_slot behind_first more) e ok)
-suits_over BehindKey n c k more e ok = (and_parts (behind_first n k) (each_slot behind_first more) ok).1
+suits_over InReadOrCall n c k more e ok = (and_parts (refers n k) (each_slot refers more) ok).1
 suits_over AtTarget n c k more e ok = absurd (needed c (n == 1) e ok)
+
+neither : (a b : Bool) → not (a || b) ≡ true → (a ≡ true → ⊥) × (b ≡ true → ⊥)
+neither true b e = absurd (false≢true e)
+neither false true e = absurd (false≢true e)
+neither false false e = (λ is. false≢true is, λ is. false≢true is)
 
 name_fits : (stand : Stand) (role : Role) (n : ℕ) (c : Count) (k : Sort) (more : List Slot) → takes_name role k ≡ true → suits stand (slot n c k ∷ more) ≡ true → NameFits stand role
 name_fits Other role n c k more it ok = tt
 name_fits AtTarget role n c k more it ok = tt
-name_fits AtKey role n c k more it ok = tt
-name_fits BehindKey role n c k more it ok = tt
-name_fits InReadOrCall r.Binding n c k more it ok = refl
 name_fits InReadOrCall r.Reference n c k more it ok = refl
-name_fits InReadOrCall r.Word n c k more it ok = absurd (false≢true (sym (ap not it) ∙ (and_parts (wordless n k) (each_slot wordless more) ok).0))
-
-not_first : (n : ℕ) → not (n == 0) ≡ true → n ≡ 0 → ⊥
-not_first n e is = true≢false (sym e ∙ ap not (eq-eqb n 0 is))
+name_fits InReadOrCall r.Binding n c k more it ok = absurd ((neither (takes_outer k) (takes_binding k) (and_parts (refers n k) (each_slot refers more) ok).0).1 it)
+name_fits InReadOrCall r.Word n c k more it ok = absurd ((neither (takes_outer k) (takes_binding k) (and_parts (refers n k) (each_slot refers more) ok).0).0 it)
 
 node_fits : (stand : Stand) (n : ℕ) (c : Count) (k : Sort) (more : List Slot) → suits stand (slot n c k ∷ more) ≡ true → NodeFits stand n
 node_fits Other n c k more ok = tt
 node_fits InReadOrCall n c k more ok = tt
-node_fits AtKey n c k more ok = tt
-node_fits BehindKey n c k more ok = not_first n (and_parts (behind_first n k) (each_slot behind_first more) ok).0
 node_fits AtTarget n c k more ok = eqb-true n 1 (and_parts (is_one c) (n == 1) ok).1
 
 pub listed : {list : List Slot} {items : List Item} → AreFit list items → (stand : Stand) → suits stand list ≡ true → AreListed stand items

@@ -7,8 +7,8 @@ use Rattle.bundle_tree_piece.specs.declared.piece.Role.TheVariants as r
 use Rattle.bundle_tree_piece.specs.Item as h
 use Rattle.bundle_tree_piece.specs.Item.{Item, Head}
 use Rattle.bundle_rules.specs.Nodes.{put_first, side_by_side, begins_in, parts}
-use Rattle.bundle_merge_whole.specs.fit.Sorts.{Sort, One, Slot, slot, AModule, AnItem, Many, takes, takes_name, names_in, slots}
-use Rattle.bundle_merge_whole.specs.fit.Fits.{AreFit, no_more, over, a_name, a_hole, a_node, IsFit, name, node, AreEach, ended, next}
+use Rattle.bundle_scope_renamed.specs.fit.Sorts.{Sort, One, Slot, slot, AModule, AnItem, Many, takes, takes_name, names_in, slots}
+use Rattle.bundle_scope_renamed.specs.fit.Fits.{AreFit, no_more, over, a_name, a_hole, a_node, IsFit, name, node, AreEach, ended, next}
 
 -- these elements in front of the first list
 put_all : List Item → List (List Item) → List (List Item)

@@ -9,11 +9,11 @@ use Rattle.bundle_tree_piece.specs.Item as h
 use Rattle.bundle_tree_piece.specs.Item.{Item, Head}
 use Rattle.bundle_rules.specs.Places.{Around, Spot, past, start, in_field, Occurrence, occurrences_from, is_binding}
 use Rattle.bundle_rules.specs.Declarations.{Way, way_of, way_of_declarator}
-use Rattle.bundle_merge_whole.specs.fit.Sorts.{Sort, ALocal, AnIdent, Slot, takes_name, takes_binding, takes_declarator, names_in}
-use Rattle.bundle_merge_whole.specs.fit.Fits.{AreFit}
-use Rattle.bundle_merge_whole.specs.fit.Seen.{each_slot, AreSeen, Steps}
-use Rattle.bundle_merge_whole.specs.fit.Asked.{HasWays}
-use Rattle.bundle_merge_whole.proofs.fit.Seeing.{seen}
+use Rattle.bundle_scope_renamed.specs.fit.Sorts.{Sort, ALocal, AnIdent, Slot, takes_name, takes_binding, takes_declarator, names_in}
+use Rattle.bundle_scope_renamed.specs.fit.Fits.{AreFit}
+use Rattle.bundle_scope_renamed.specs.fit.Seen.{each_slot, AreSeen, Steps}
+use Rattle.bundle_merge_joined.specs.grouped.Renaming.{HasWays}
+use Rattle.bundle_scope_renamed.proofs.fit.Seeing.{seen}
 
 -- where names are bound something declares them; a declarator stands in a declaration
 abbrev pub declares : Sort → List Around → Bool

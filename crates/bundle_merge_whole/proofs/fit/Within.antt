@@ -5,13 +5,14 @@ use Rattle.bundle_tree_piece.specs.declared.piece.Role.{Role}
 use Rattle.bundle_tree_piece.specs.declared.piece.Role.TheVariants as r
 use Rattle.bundle_tree_piece.specs.Item as h
 use Rattle.bundle_tree_piece.specs.Item.{Item, Head}
-use Rattle.bundle_merge_whole.specs.fit.Sorts.{Sort, AKey, ABindingIdent, AnIdent, AnExpr, One, Optional, Slot, slot, takes, takes_parameter, takes_name, names_in, slots}
-use Rattle.bundle_merge_whole.specs.fit.Fits.{after, AreFit, no_more, over, a_name, a_hole, a_node}
-use Rattle.bundle_merge_whole.specs.fit.Seen.{each_slot}
-use Rattle.bundle_merge_whole.specs.fit.Asked.{is_module_head, BeginsNamed, HasName, is_setter_key, has_parameters, may_hold, may_name, AreIn}
-use Rattle.bundle_merge_whole.specs.fit.Asked as w
-use Rattle.bundle_merge_whole.proofs.fit.Seeing.{after_slot}
-use Rattle.bundle_merge_whole.proofs.fit.Owning.{is_own, own_head, own_slots}
+use Rattle.bundle_scope_renamed.specs.fit.Sorts.{Sort, AKey, ABindingIdent, AnIdent, AnExpr, One, Optional, Slot, slot, takes, takes_parameter, takes_name, names_in, slots}
+use Rattle.bundle_scope_renamed.specs.fit.Fits.{after, AreFit, no_more, over, a_name, a_hole, a_node}
+use Rattle.bundle_scope_renamed.specs.fit.Seen.{each_slot}
+use Rattle.bundle_rules.specs.Callable.{is_module_head, BeginsNamed, HasName}
+use Rattle.bundle_merge_whole.specs.called.Within.{is_setter_key, has_parameters, may_hold, may_name, AreIn}
+use Rattle.bundle_merge_whole.specs.called.Within as w
+use Rattle.bundle_scope_renamed.proofs.fit.Seeing.{after_slot}
+use Rattle.bundle_scope_renamed.proofs.fit.Owning.{is_own, own_head, own_slots}
 
 abbrev pub is_plain_key : Sort → Bool
 is_plain_key AKey = true
@@ -62,7 +63,8 @@ names_it parent n r.Binding sort is ok = no_setter (takes_name r.Binding) refl p
 names_it parent n r.Reference sort is ok = refl
 names_it parent n r.Word sort is ok = refl
 
--- ---- the name of a shorthand property
+-- The name of a shorthand property.
+
 pub record IsName (items : List Item) : Type 0 where
   pub inner : ℕ
   pub sym : List ℕ

@@ -43,9 +43,9 @@ use Rattle.bundle_tree_piece.specs.declared.piece.Role.{Role}
 use Rattle.bundle_tree_piece.specs.Item as h
 use Rattle.bundle_tree_piece.specs.Item.{Item}
 use Rattle.bundle_tree_listed.specs.Tree.{ident_items, ident_name_items, private_name_items, binding_ident_items, str_items, lit_items, tpl_element_items, stmt_items, for_init_items, for_head_items, held_option_boxed_stmt, held_option_block_stmt, held_option_catch_clause, held_option_for_init, row_of_stmt, row_of_switch_case, decl_items, row_of_var_declarator, expr_items, arrow_body_items, held_callee, held_opt_chain_base, held_option_expr, held_option_boxed_expr, place_of_expr_or_spread, held_option_each_expr_or_spread, row_of_expr, row_of_expr_or_spread, row_of_option_expr_or_spread, prop_or_spread_items, prop_items, held_prop_name, held_member_prop, held_super_prop, row_of_prop_or_spread, pat_items, object_pat_prop_items, assign_target_items, held_option_pat, place_of_pat, row_of_pat, row_of_option_pat, row_of_object_pat_prop, class_member_items, row_of_param, row_of_class_member, option_items, class_items, function_items, key_value_prop_items, module_export_name_items, import_specifier_items, export_specifier_items, role_of_names, is_given, default_decl_items, module_decl_items, module_item_items, module_items}
-use Rattle.bundle_merge_whole.specs.fit.Sorts.{Sort, AModule, AnItem, AnImport, AnExport, ALocal, AnOuter, AnInner, ASource, ADefault, ADecl, AStmt, ABlock, ALabel, ACase, AHandler, AnInit, ALoopHead, ADeclarator, AnExpr, ACallee, AnArgument, ALink, AnArrowBody, ATextPart, AProperty, AKey, AMemberKey, ASuperKey, APattern, APatternProperty, ABindingIdent, AnIdent, ATarget, AParameter, AFunction, AClass, AMember, takes, takes_name}
-use Rattle.bundle_merge_whole.specs.fit.Fits.{no_more, IsFit, IsMaybe, none, some, AreEach, ended, next, ArePlaces, closed, empty, held}
-use Rattle.bundle_merge_whole.proofs.fit.Rows.{one, last, maybe, last_maybe, each, last_each, last_places, in_node, alone, as_init, as_callee, as_body, as_pattern, as_loop_head, as_stmt, as_item}
+use Rattle.bundle_scope_renamed.specs.fit.Sorts.{Sort, AModule, AnItem, AnImport, AnExport, ALocal, AnOuter, AnInner, ASource, ADefault, ADecl, AStmt, ABlock, ALabel, ACase, AHandler, AnInit, ALoopHead, ADeclarator, AnExpr, ACallee, AnArgument, ALink, AnArrowBody, ATextPart, AProperty, AKey, AMemberKey, ASuperKey, APattern, APatternProperty, ABindingIdent, AnIdent, ATarget, AParameter, AFunction, AClass, AMember, takes, takes_name}
+use Rattle.bundle_scope_renamed.specs.fit.Fits.{no_more, IsFit, IsMaybe, none, some, AreEach, ended, next, ArePlaces, closed, empty, held}
+use Rattle.bundle_scope_renamed.proofs.fit.Rows.{one, last, maybe, last_maybe, each, last_each, last_places, in_node, alone, as_init, as_callee, as_body, as_pattern, as_loop_head, as_stmt, as_item}
 
 -- what stands in an option
 option_fit : {A : Type 0} {sort : Sort} {field : ℕ} (items : A → List Item) → ((it : A) → IsFit sort field (items it)) → (it : Option A) → IsMaybe sort field (option_items items it)

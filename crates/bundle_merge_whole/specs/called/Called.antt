@@ -1,14 +1,12 @@
 -- What a module has to be so that it can be one function's call.
-use Rattle.std.specs.Prelude.{◌≡◌, ℕ, zero, suc, ◌+◌, ◌<◌, Bool, true, false, List, [], ◌∷◌, ◌++◌, fold}
-use Rattle.bundle_tree_piece.specs.declared.piece.Role.{Role}
+use Rattle.std.specs.Prelude.{◌≡◌, ℕ, zero, suc, ◌+◌, ◌<◌, Bool, false, List, [], ◌∷◌, ◌++◌, fold}
 use Rattle.bundle_tree_piece.specs.Item as h
 use Rattle.bundle_tree_piece.specs.Item.{Item, Head}
 use Rattle.bundle_rules.specs.Places.{Around, Spot, past}
 use Rattle.bundle_rules.specs.Scopes.{Es}
 use Rattle.bundle_rules.specs.Declarations.{Reading, declared, declared_from}
 use Rattle.bundle_rules.specs.Bundle.{function_front}
-pub use Rattle.bundle_rules.specs.Callable.{is_module_head, BeginsNamed, HasName, AreStatements, over, begun, ended, named, empty, module_with}
-use Rattle.bundle_merge_whole.specs.called.Moved.{Every, IsTaken}
+use Rattle.bundle_rules.specs.Callable.{Every, IsTaken, is_module_head, AreStatements, module_with}
 
 -- a node that is open
 abbrev pub around : Head → ℕ → ℕ → Around

@@ -4,7 +4,6 @@ use Rattle.bundle_rules.specs.Scopes.{Scope, ScopeKind, Wrapper, Top, Inner, Par
 use Rattle.bundle_rules.specs.Declarations.{Way, ByImport, ByDefault, ByWrapper, Name, Declared}
 use Rattle.bundle_rules.specs.Homes.{from_taker, nearest}
 use Rattle.bundle_rules.specs.Denotes.{Denoted, Bound, Global}
-pub use Rattle.bundle_rules.specs.Callable.{Every, none, more, IsTaken}
 
 -- where a scope goes: the top becomes the function's body, and each other begins 6 places later
 abbrev pub moved_scope : Scope → Scope

@@ -6,7 +6,7 @@ use Rattle.bundle_tree_piece.specs.declared.piece.Role.TheVariants as r
 use Rattle.bundle_tree_piece.specs.Item as h
 use Rattle.bundle_tree_piece.specs.Item.{Item, Head}
 use Rattle.bundle_rules.specs.Declarations.{is_pattern}
-use Rattle.bundle_merge_whole.specs.called.Called.{is_module_head, HasName}
+use Rattle.bundle_rules.specs.Callable.{is_module_head, HasName}
 
 -- whether a field of such a node is the key of a setter, in which nothing is bound
 abbrev pub is_setter_key : Head → ℕ → Bool
