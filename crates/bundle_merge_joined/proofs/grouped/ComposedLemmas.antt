@@ -8,7 +8,7 @@ use Rattle.bundle_rules.specs.Scopes.{Es, Top}
 use Rattle.bundle_rules.specs.Declarations.{BySymbol, ByContext}
 use Rattle.bundle_rules.specs.Denotes.{Denoted, denotations, DenoteAlike, IsResolved, Global}
 use Rattle.bundle_rules.specs.Statements.{TopItem, top_items}
-use Rattle.bundle_rules.specs.Cleared.{cleared_head, cleared, without_notes}
+use Rattle.bundle_rules.specs.Cleared.{cleared, without_notes}
 use Rattle.bundle_rules.specs.Idents.{idents}
 use Rattle.bundle_rules.specs.Rebuilds.{Change, changes_to, with_idents}
 use Rattle.bundle_rules.specs.Renamed.{KeepsNames}
@@ -18,6 +18,7 @@ use Rattle.bundle_tree_places.specs.Edits.{Anywhere, Edits, Inside, node}
 use Rattle.bundle_tree_places.proofs.EditsLemmas.{rebuilt_so}
 use Rattle.bundle_rules.proofs.DenotesLemmas.{denotations-cleared}
 use Rattle.bundle_order_needs.proofs.RenumberLemmas.{zip-at}
+use Rattle.bundle_merge_meaning.proofs.walked.Clearing.{twice}
 use Rattle.bundle_merge_joined.specs.grouped.Alike.{OwnersAlike}
 use Rattle.bundle_merge_joined.specs.grouped.Renaming.{HasWays, HasObjects, AtOne}
 use Rattle.bundle_merge_joined.specs.grouped.Contexts.{BindsOwn, IsTold, StandsInBoth}
@@ -30,23 +31,16 @@ use Rattle.bundle_merge_joined.proofs.grouped.CoverLemmas.{told-alone, resolved-
 use Rattle.bundle_merge_joined.proofs.grouped.ClearedLemmas.{cleared_top, top_items-cleared, cleared-good_order}
 
 -- ---- cleared twice
-head-twice : (head : Head) → cleared_head (cleared_head head) ≡ cleared_head head
-head-twice (h.ImportDecl meta) = refl
-head-twice (h.NamedExport meta) = refl
-head-twice (h.ExportAll meta) = refl
-head-twice (h.VarDecl kind meta) = refl
-head-twice _ = refl
-
 cleared-twice : (tree : List Item) → cleared (cleared tree) ≡ cleared tree
 cleared-twice [] = refl
-cleared-twice (h.Open field head ∷ rest) = λ i. h.Open field (head-twice head i) ∷ cleared-twice rest i
+cleared-twice (h.Open field head ∷ rest) = λ i. h.Open field (twice head i) ∷ cleared-twice rest i
 cleared-twice (h.Ident field x ctxt role ∷ rest) = λ i. h.Ident field x 0 role ∷ cleared-twice rest i
 cleared-twice (h.Hole field ∷ rest) = λ i. h.Hole field ∷ cleared-twice rest i
 cleared-twice (h.Close ∷ rest) = λ i. h.Close ∷ cleared-twice rest i
 
 cleared-noteless : (tree : List Item) → cleared (without_notes tree) ≡ cleared tree
 cleared-noteless [] = refl
-cleared-noteless (h.Open field head ∷ rest) = λ i. h.Open field (head-twice head i) ∷ cleared-noteless rest i
+cleared-noteless (h.Open field head ∷ rest) = λ i. h.Open field (twice head i) ∷ cleared-noteless rest i
 cleared-noteless (h.Ident field x ctxt role ∷ rest) = λ i. h.Ident field x 0 role ∷ cleared-noteless rest i
 cleared-noteless (h.Hole field ∷ rest) = λ i. h.Hole field ∷ cleared-noteless rest i
 cleared-noteless (h.Close ∷ rest) = λ i. h.Close ∷ cleared-noteless rest i

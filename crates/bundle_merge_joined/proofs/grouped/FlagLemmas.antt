@@ -12,8 +12,9 @@ use Rattle.bundle_rules.specs.Nodes.{Text, in_field, node_at}
 use Rattle.bundle_rules.specs.Entries.{is_call_head}
 use Rattle.bundle_rules.specs.Reads.{property_of}
 use Rattle.bundle_rules.specs.Order.{passes_assignments, assigns, is_assigned, is_chain_step, is_parenthesis, ends_chain, roots_chain, is_text, is_prototype_read, is_in_assign_of, is_any_call, is_in_argument, is_declarator, is_nothing, has_no_value}
+use Rattle.bundle_merge_meaning.proofs.noted.Spots.{around}
 use Rattle.bundle_merge_joined.specs.grouped.Standing.{SameFlags}
-use Rattle.bundle_merge_joined.specs.grouped.Paths.{node_in, PathAlike, outside, same, pair, key, defaulted, NameAlike}
+use Rattle.bundle_merge_joined.specs.grouped.Paths.{PathAlike, outside, same, pair, key, defaulted, NameAlike}
 use Rattle.bundle_merge_joined.proofs.joined.Lists.{any-append}
 
 -- a test that is the same in both, or of which nothing is asked
@@ -67,7 +68,7 @@ module _ (before after : List Item) (test_before test_after : ℕ → Bool) wher
   pub ends-alike : {p q : List Around} → Alike p q → ends_chain p ≡ ends_chain q
   ends-alike outside = refl
   ends-alike (same head b a field {p = p} {q = q} node outer) =
-      ap (λ x. ((is_chain_step head field || is_parenthesis head) && x) || is_assigned (node_in head b field ∷ p)) (ends-alike outer)
+      ap (λ x. ((is_chain_step head field || is_parenthesis head) && x) || is_assigned (around head b field ∷ p)) (ends-alike outer)
       ∙ ap (λ x. ((is_chain_step head field || is_parenthesis head) && ends_chain q) || x) (assigned-alike (same head b a field node outer))
   ends-alike (pair b a field word outer) = refl
   ends-alike (key b a word outer) = assigned-alike outer

@@ -14,7 +14,7 @@ use Rattle.bundle_rules.specs.Declarations.{Way, ByImport, ByVar, ByLet, ByConst
 use Rattle.bundle_rules.specs.Homes.{takes, from_taker, nearest, taker, parameters_of, joins_parameter, is_parameters, is_wrapper, is_parameter, home_beside, home_of}
 use Rattle.bundle_rules.specs.Denotes.{Denoted, denoted_in, own_or_found, denoted_of}
 use Rattle.bundle_rules.specs.Order.{is_of_scope}
-use Rattle.bundle_merge_joined.specs.grouped.Paths.{node_in, PathAlike}
+use Rattle.bundle_merge_joined.specs.grouped.Paths.{PathAlike}
 use Rattle.bundle_merge_joined.specs.grouped.Paths as path
 use Rattle.bundle_merge_joined.specs.grouped.Forms.{FormAlike, outside, in_module, same, pair, key, defaulted, Under, out, below, deeper, is_top_first}
 

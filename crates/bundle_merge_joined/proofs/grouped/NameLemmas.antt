@@ -16,8 +16,8 @@ use Rattle.bundle_rules.specs.Order.{is_declarator, is_nothing, is_text}
 use Rattle.bundle_rules.specs.Rebuilds.{Change, spells_out, plain_key, key_in_object}
 use Rattle.bundle_tree_places.specs.Edits.{Around as Surrounding, Anywhere, InObject, InSpecifier, Edits, Nothing, Joined, Hole, Word, Name, Inside, Shorthand, node, is_occurrence, next, renamed, around_in, in_its_place, binding, pattern_in_its_place}
 use Rattle.bundle_merge_meaning.proofs.noted.ListFacts.{drop-past}
-use Rattle.bundle_merge_meaning.proofs.noted.Spots.{field-twice}
-use Rattle.bundle_merge_joined.specs.grouped.Paths.{node_in, calls_assign, OfNames, NodeAlike, PathAlike, same, pair, key, defaulted, NameAlike}
+use Rattle.bundle_merge_meaning.proofs.noted.Spots.{field-twice, around}
+use Rattle.bundle_merge_joined.specs.grouped.Paths.{calls_assign, OfNames, NodeAlike, PathAlike, same, pair, key, defaulted, NameAlike}
 use Rattle.bundle_merge_joined.proofs.grouped.WholeLemmas.{node_at-is, drop-next, keeps}
 use Rattle.bundle_merge_joined.proofs.grouped.EditLemmas.{whole-before, whole-after, word-alike, empty-alike, Here, callee, no-word, Begin, begin, so, zip-append}
 use Rattle.bundle_merge_joined.proofs.joined.Paths.{occurrences-append, fold-place}
@@ -111,7 +111,7 @@ module _ (before after : List Item) (test_before test_after : ℕ → Bool) (of_
   pub record InLiteral (p : List Around) : Type 0 where
     pub begins : ℕ
     pub outer : List Around
-    pub is : in_field 0 p ≡ node_in h.ObjectLit begins 0 ∷ outer
+    pub is : in_field 0 p ≡ around h.ObjectLit begins 0 ∷ outer
     pub no_word : property_of (node_at before begins) ≡ None
 
   abbrev Fits : Surrounding → List Around → Type 0
@@ -124,7 +124,7 @@ module _ (before after : List Item) (test_before test_after : ℕ → Bool) (of_
   fits-same InSpecifier p q e fits = tt
   fits-same Anywhere p q e fits = tt
 
-  fits-inside : (head : Head) (inside : List Item) (begins : ℕ) (outer : List Around) (field : ℕ) (rest : List Item) → drop begins before ≡ h.Open field head ∷ rest → Fits (around_in head inside) (node_in head begins 0 ∷ outer)
+  fits-inside : (head : Head) (inside : List Item) (begins : ℕ) (outer : List Around) (field : ℕ) (rest : List Item) → drop begins before ≡ h.Open field head ∷ rest → Fits (around_in head inside) (around head begins 0 ∷ outer)
   fits-inside h.ObjectLit inside begins outer field rest here = record { begins = begins; outer = outer; is = refl; no_word = no-word before begins _ rest here refl }
   fits-inside h.ImportNamedSpecifier [] begins outer field rest here = tt
   fits-inside h.ImportNamedSpecifier (x ∷ []) begins outer field rest here = tt
@@ -153,7 +153,7 @@ module _ (before after : List Item) (test_before test_after : ℕ → Bool) (of_
   name-and-word sb sa (Some change) field x y ctxt r.Word occurs paths = absurd (false≢true occurs)
 
   -- a name in its pair
-  name-paired : (sb sa : Spot) (proto : Bool) (change : Option Change) (field : ℕ) (x y : Text) (ctxt : ℕ) (role : Role) → is_occurrence role ≡ true → Path (in_field field sb.path) (node_in h.KeyValueProp sa.place 1 ∷ in_field field sa.path) → Names sb sa (h.Ident field x ctxt role ∷ []) (node field h.KeyValueProp ((if proto then h.Open 0 h.ComputedPropName ∷ h.Open 0 (h.Str y None) ∷ h.Close ∷ h.Close ∷ [] else plain_key y) ++ renamed change 1 x ctxt role ∷ []))
+  name-paired : (sb sa : Spot) (proto : Bool) (change : Option Change) (field : ℕ) (x y : Text) (ctxt : ℕ) (role : Role) → is_occurrence role ≡ true → Path (in_field field sb.path) (around h.KeyValueProp sa.place 1 ∷ in_field field sa.path) → Names sb sa (h.Ident field x ctxt role ∷ []) (node field h.KeyValueProp ((if proto then h.Open 0 h.ComputedPropName ∷ h.Open 0 (h.Str y None) ∷ h.Close ∷ h.Close ∷ [] else plain_key y) ++ renamed change 1 x ctxt role ∷ []))
   name-paired sb sa true None field x y ctxt r.Binding occurs path = (record { role = refl; path = path }, tt)
   name-paired sb sa true None field x y ctxt r.Reference occurs path = (record { role = refl; path = path }, tt)
   name-paired sb sa true None field x y ctxt r.Word occurs path = absurd (false≢true occurs)
@@ -171,9 +171,9 @@ module _ (before after : List Item) (test_before test_after : ℕ → Bool) (of_
   name-in-object : (b : Bool) (sb sa : Spot) (change : Option Change) (field : ℕ) (x : Text) (ctxt : ℕ) (role : Role) → is_occurrence role ≡ true → InLiteral sb.path → Paths sb sa → Names sb sa (h.Ident field x ctxt role ∷ []) (if b then node field h.KeyValueProp (key_in_object x ++ renamed change 1 x ctxt role ∷ []) else renamed change field x ctxt role ∷ [])
   name-in-object false sb sa change field x ctxt role occurs fits paths = one-name sb sa change field x ctxt role occurs paths
   name-in-object true sb sa change field x ctxt role occurs fits paths =
-      let is : in_field field sb.path ≡ node_in h.ObjectLit fits.begins field ∷ fits.outer = sym (field-twice field 0 sb.path) ∙ ap (in_field field) fits.is in
+      let is : in_field field sb.path ≡ around h.ObjectLit fits.begins field ∷ fits.outer = sym (field-twice field 0 sb.path) ∙ ap (in_field field) fits.is in
       name-paired sb sa _ change field x x ctxt role occurs
-      (subst (λ (p : List Around). Path p (node_in h.KeyValueProp sa.place 1 ∷ in_field field sa.path)) (sym is)
+      (subst (λ (p : List Around). Path p (around h.KeyValueProp sa.place 1 ∷ in_field field sa.path)) (sym is)
       (pair fits.begins sa.place field fits.no_word (subst (λ (p : List Around). Path p (in_field field sa.path)) is (paths field))))
 
   name-in-specifier : (b : Bool) (sb sa : Spot) (change : Option Change) (field : ℕ) (x : Text) (ctxt : ℕ) (role : Role) → is_occurrence role ≡ true → Paths sb sa → Names sb sa (h.Ident field x ctxt role ∷ []) (if b then renamed change field x ctxt role ∷ h.Ident 1 x 0 r.Word ∷ [] else renamed change field x ctxt role ∷ [])
@@ -266,7 +266,7 @@ module _ (before after : List Item) (test_before test_after : ℕ → Bool) (of_
       let four_dropped : drop four.place before ≡ (d ++ h.Close ∷ []) ++ pb = drop-four before sb.place _ _ _ _ _ at.here in
       let three_dropped : drop (sa.place + 1 + 1 + 1) after ≡ h.Open 1 h.AssignPat ∷ h.Open 0 h.BindingIdent ∷ h.Ident 0 y c' r.Binding ∷ h.Close ∷ (((made ++ h.Close ∷ []) ++ h.Close ∷ []) ++ pa) = drop-three after sa.place _ _ _ _ at.its in
       let name : NodeAlike before after test_before test_after h.BindingIdent (sb.place + 1) (sa.place + 1 + 1 + 1 + 1) = binding-alike (sb.place + 1) (sa.place + 1 + 1 + 1 + 1) 0 0 _ _ (drop-next sb.place before _ _ at.here) (drop-next (sa.place + 1 + 1 + 1) after _ _ three_dropped) in
-      let around : (m : ℕ) → Path (node_in h.AssignPatProp sb.place m ∷ in_field field sb.path) (node_in h.AssignPat (sa.place + 1 + 1 + 1) m ∷ node_in h.KeyValuePatProp sa.place 1 ∷ in_field field sa.path) =
+      let around : (m : ℕ) → Path (around h.AssignPatProp sb.place m ∷ in_field field sb.path) (around h.AssignPat (sa.place + 1 + 1 + 1) m ∷ around h.KeyValuePatProp sa.place 1 ∷ in_field field sa.path) =
       λ m. defaulted sb.place (sa.place + 1 + 1 + 1) sa.place m (no-word before sb.place _ _ at.here refl) (no-word after (sa.place + 1 + 1 + 1) _ _ three_dropped refl) (paths field) in
       subst (λ (l : List Item). AllZip (NameAlike before after test_before test_after) (occurrences_from sb (node field h.AssignPatProp (node 0 h.BindingIdent (h.Ident 0 x c r.Binding ∷ []) ++ d))) (occurrences_from sa (h.Open field h.KeyValuePatProp ∷ h.Open 0 (h.IdentName z) ∷ h.Close ∷ h.Open 1 h.AssignPat ∷ h.Open 0 h.BindingIdent ∷ h.Ident 0 y c' r.Binding ∷ h.Close ∷ l))) (sym (append_assoc made (h.Close ∷ []) (h.Close ∷ [])))
       (names-then four seven _ _ d made (h.Close ∷ h.Close ∷ [])
@@ -282,7 +282,7 @@ module _ (before after : List Item) (test_before test_after : ℕ → Bool) (of_
       let four_dropped : drop four.place before ≡ (d ++ h.Close ∷ []) ++ pb = drop-four before sb.place _ _ _ _ _ at.here in
       let three_dropped : drop (sa.place + 1 + 1 + 1) after ≡ h.Open 1 h.AssignPat ∷ h.Open 0 h.BindingIdent ∷ h.Ident 0 y c' r.Reference ∷ h.Close ∷ (((made ++ h.Close ∷ []) ++ h.Close ∷ []) ++ pa) = drop-three after sa.place _ _ _ _ at.its in
       let name : NodeAlike before after test_before test_after h.BindingIdent (sb.place + 1) (sa.place + 1 + 1 + 1 + 1) = binding-alike (sb.place + 1) (sa.place + 1 + 1 + 1 + 1) 0 0 _ _ (drop-next sb.place before _ _ at.here) (drop-next (sa.place + 1 + 1 + 1) after _ _ three_dropped) in
-      let around : (m : ℕ) → Path (node_in h.AssignPatProp sb.place m ∷ in_field field sb.path) (node_in h.AssignPat (sa.place + 1 + 1 + 1) m ∷ node_in h.KeyValuePatProp sa.place 1 ∷ in_field field sa.path) =
+      let around : (m : ℕ) → Path (around h.AssignPatProp sb.place m ∷ in_field field sb.path) (around h.AssignPat (sa.place + 1 + 1 + 1) m ∷ around h.KeyValuePatProp sa.place 1 ∷ in_field field sa.path) =
       λ m. defaulted sb.place (sa.place + 1 + 1 + 1) sa.place m (no-word before sb.place _ _ at.here refl) (no-word after (sa.place + 1 + 1 + 1) _ _ three_dropped refl) (paths field) in
       subst (λ (l : List Item). AllZip (NameAlike before after test_before test_after) (occurrences_from sb (node field h.AssignPatProp (node 0 h.BindingIdent (h.Ident 0 x c r.Reference ∷ []) ++ d))) (occurrences_from sa (h.Open field h.KeyValuePatProp ∷ h.Open 0 (h.IdentName z) ∷ h.Close ∷ h.Open 1 h.AssignPat ∷ h.Open 0 h.BindingIdent ∷ h.Ident 0 y c' r.Reference ∷ h.Close ∷ l))) (sym (append_assoc made (h.Close ∷ []) (h.Close ∷ [])))
       (names-then four seven _ _ d made (h.Close ∷ h.Close ∷ [])

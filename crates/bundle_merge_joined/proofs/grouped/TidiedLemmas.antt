@@ -17,13 +17,14 @@ use Rattle.bundle_rules.specs.Nodes.{node_at, put_first, side_by_side, parts}
 use Rattle.bundle_rules.specs.Nodes as n
 use Rattle.bundle_rules.specs.Reads.{property_of}
 use Rattle.bundle_rules.specs.Statements.{TopItem, placed, top_items}
-use Rattle.bundle_rules.specs.Cleared.{cleared_head, cleared_item, cleared, tidy_item, tidied}
+use Rattle.bundle_rules.specs.Cleared.{cleared_item, cleared, tidy_item, tidied}
 use Rattle.bundle_rules.specs.Order as order
 use Rattle.bundle_rules.specs.Order.{IsGoodOrder, group_of, is_nothing, is_object_at, is_global_named, is_of_nothing}
 use Rattle.bundle_rules.proofs.HeadLemmas.{of_head}
 use Rattle.bundle_rules.proofs.PathLemmas.{cleared_path, cleared_spot, past-cleared}
 use Rattle.bundle_rules.proofs.DenotesLemmas.{is_default-cleared, scopes_around-cleared}
 use Rattle.bundle_order_needs.proofs.RenumberLemmas.{zip-at}
+use Rattle.bundle_merge_meaning.proofs.walked.Clearing.{twice}
 use Rattle.bundle_merge_joined.specs.grouped.Standing.{SameFlags, object_in, ItemsAlike, Stands, Correspond}
 use Rattle.bundle_merge_joined.specs.grouped.Renaming.{AtOne}
 use Rattle.bundle_merge_joined.proofs.grouped.AlikeLemmas.{owners-refl}
@@ -31,15 +32,8 @@ use Rattle.bundle_merge_joined.proofs.grouped.ClearedLemmas.{property_at, nothin
 use Rattle.bundle_merge_joined.proofs.grouped.GroupLemmas.{good_order-corresponds}
 
 -- ---- it is the same when cleared
-head-twice : (head : Head) → cleared_head (cleared_head head) ≡ cleared_head head
-head-twice (h.ImportDecl meta) = refl
-head-twice (h.NamedExport meta) = refl
-head-twice (h.ExportAll meta) = refl
-head-twice (h.VarDecl kind meta) = refl
-head-twice _ = refl
-
 item-twice : (x : Item) → cleared_item (tidy_item x) ≡ cleared_item x
-item-twice (h.Open field head) = λ i. h.Open field (head-twice head i)
+item-twice (h.Open field head) = λ i. h.Open field (twice head i)
 item-twice (h.Ident field x ctxt r.Word) = refl
 item-twice (h.Ident field x ctxt r.Binding) = refl
 item-twice (h.Ident field x ctxt r.Reference) = refl

@@ -30,7 +30,7 @@ put_all-append : (xs ys : List Item) (lists : List (List Item)) → put_all (xs 
 put_all-append [] ys lists = refl
 put_all-append (x ∷ xs) ys lists = ap (put_first x) (put_all-append xs ys lists)
 
-put_all-cons : (xs list : List Item) (lists : List (List Item)) → put_all xs (list ∷ lists) ≡ (xs ++ list) ∷ lists
+pub put_all-cons : (xs list : List Item) (lists : List (List Item)) → put_all xs (list ∷ lists) ≡ (xs ++ list) ∷ lists
 put_all-cons [] list lists = refl
 put_all-cons (x ∷ xs) list lists = ap (put_first x) (put_all-cons xs list lists)
 

@@ -14,7 +14,7 @@ use Rattle.bundle_merge_joined.proofs.joined.Ranges.{IsIn, IsDeclaredIn, in-move
 pub taker-moved : (k : ℕ) (d : Declared) → taker (moved_declared k d) ≡ moved_scope k (taker d)
 taker-moved k d = ap (λ scopes. unwrap_or (nearest scopes) Top) (from_taker-relocated (moved k) d.by d.scopes) ∙ ap (λ scope. unwrap_or scope Top) (nearest-relocated (moved k) (from_taker d.by d.scopes)) ∙ or_top-relocated (moved k) (nearest (from_taker d.by d.scopes))
 
--- Where a name belongs is the top or one of the scopes around it.
+-- Where a name belongs is the top or one of the scopes around it: what these have in common, it has too.
 
 from_taker-in : (P : Scope → Type 0) (way : Way) (scopes : List Scope) → AllOf P scopes → AllOf P (from_taker way scopes)
 from_taker-in P way [] all = tt
@@ -40,27 +40,27 @@ parameters-in P (Top ∷ outer) all = nearest-in P outer all.1
 parameters-in P (Inner FunctionBody begins ∷ outer) all = nearest-in P outer all.1
 parameters-in P (Inner _ begins ∷ outer) all = tt
 
-or_top-in : (low high : ℕ) (scope : Option Scope) → HasIn (IsIn low high) scope → IsIn low high (unwrap_or scope Top)
-or_top-in low high None is = tt
-or_top-in low high (Some scope) is = is
+or_top-in : (P : Scope → Type 0) → P Top → (scope : Option Scope) → HasIn P scope → P (unwrap_or scope Top)
+or_top-in P at_top None has = at_top
+or_top-in P at_top (Some scope) has = has
 
-pub taker-in : (low high : ℕ) (d : Declared) → IsDeclaredIn low high d → IsIn low high (taker d)
-taker-in low high d all = or_top-in low high (nearest (from_taker d.by d.scopes)) (nearest-in (IsIn low high) (from_taker d.by d.scopes) (from_taker-in (IsIn low high) d.by d.scopes all))
+pub taker-in : (P : Scope → Type 0) → P Top → (d : Declared) → AllOf P d.scopes → P (taker d)
+taker-in P at_top d all = or_top-in P at_top (nearest (from_taker d.by d.scopes)) (nearest-in P (from_taker d.by d.scopes) (from_taker-in P d.by d.scopes all))
 
-pub home-in : (all : List Declared) (low high : ℕ) (d : Declared) → IsDeclaredIn low high d → IsIn low high (home_of all d)
-home-in all low high d is = by_joins (joins_parameter d.by)
+pub home-in : (P : Scope → Type 0) → P Top → (all : List Declared) (d : Declared) → AllOf P d.scopes → P (home_of all d)
+home-in P at_top all d has = by_joins (joins_parameter d.by)
   where
-    by_parameter : (beside : Option Scope) → HasIn (IsIn low high) beside → IsIn low high (home_beside all d beside)
-    by_parameter None has = taker-in low high d is
-    by_parameter (Some scope) has = by_found (list_any (is_parameter scope d.name) all)
+    by_parameter : (beside : Option Scope) → HasIn P beside → P (home_beside all d beside)
+    by_parameter None none = taker-in P at_top d has
+    by_parameter (Some scope) its = by_found (list_any (is_parameter scope d.name) all)
       where
-        by_found : (b : Bool) → IsIn low high (cond b scope (taker d))
-        by_found true = has
-        by_found false = taker-in low high d is
+        by_found : (b : Bool) → P (cond b scope (taker d))
+        by_found true = its
+        by_found false = taker-in P at_top d has
 
-    by_joins : (b : Bool) → IsIn low high (cond b (home_beside all d (parameters_of (from_taker d.by d.scopes))) (taker d))
-    by_joins true = by_parameter (parameters_of (from_taker d.by d.scopes)) (parameters-in (IsIn low high) (from_taker d.by d.scopes) (from_taker-in (IsIn low high) d.by d.scopes is))
-    by_joins false = taker-in low high d is
+    by_joins : (b : Bool) → P (cond b (home_beside all d (parameters_of (from_taker d.by d.scopes))) (taker d))
+    by_joins true = by_parameter (parameters_of (from_taker d.by d.scopes)) (parameters-in P (from_taker d.by d.scopes) (from_taker-in P d.by d.scopes has))
+    by_joins false = taker-in P at_top d has
 
 -- Parameters.
 
@@ -83,7 +83,7 @@ no_parameter s t b other = by_top (is_top s) refl
 
 -- what is declared in other ranges is no parameter of a scope
 pub other-parameter : (low high other last : ℕ) → (high ≤ other) ⊎ (last ≤ low) → (scope : Scope) → IsIn low high scope → (name : Name) (d : Declared) → IsDeclaredIn other last d → is_parameter scope name d ≡ false
-other-parameter low high other last sides scope at name d is = no_parameter (taker d) scope (names_agree d.name name) (λ inner. same-sym (taker d) scope ∙ apart low high other last sides scope (taker d) at (taker-in other last d is) inner)
+other-parameter low high other last sides scope at name d is = no_parameter (taker d) scope (names_agree d.name name) (λ inner. same-sym (taker d) scope ∙ apart low high other last sides scope (taker d) at (taker-in (IsIn other last) tt d is) inner)
   where
     same-sym : (s t : Scope) → same_scope s t ≡ same_scope t s
     same-sym s t = both-alike (scope_order s) (scope_order t) (scope_order t) (scope_order s) (λ e. sym e) (λ e. sym e)
@@ -145,8 +145,8 @@ module _ (before own after : List Declared) (k n last : ℕ) (in_before : AllOf 
   pub written-own : (scope : Scope) (name : Name) → IsIn 1 (1 + n) scope → is_top scope ≡ false → is_written_in all_of (moved_scope k scope) name ≡ is_written_in own scope name
   written-own scope name at inner =
       any-own (λ d. has_identifier d && is_declared_in own scope name d) (λ d. has_identifier d && is_declared_in all_of (moved_scope k scope) name d)
-      (λ d is. outside d (apart 1 (1 + k) (1 + k) (1 + n + k) (inl (omega arith)) (home_of all_of d) (moved_scope k scope) (home-in all_of 1 (1 + k) d is) (in-moved k (1 + n) scope at) (is_top-relocated (moved k) scope ∙ inner)))
-      (λ d is. outside d (apart (1 + n + k) last (1 + k) (1 + n + k) (inr (omega arith)) (home_of all_of d) (moved_scope k scope) (home-in all_of (1 + n + k) last d is) (in-moved k (1 + n) scope at) (is_top-relocated (moved k) scope ∙ inner)))
+      (λ d is. outside d (apart 1 (1 + k) (1 + k) (1 + n + k) (inl (omega arith)) (home_of all_of d) (moved_scope k scope) (home-in (IsIn 1 (1 + k)) tt all_of d is) (in-moved k (1 + n) scope at) (is_top-relocated (moved k) scope ∙ inner)))
+      (λ d is. outside d (apart (1 + n + k) last (1 + k) (1 + n + k) (inr (omega arith)) (home_of all_of d) (moved_scope k scope) (home-in (IsIn (1 + n + k) last) tt all_of d is) (in-moved k (1 + n) scope at) (is_top-relocated (moved k) scope ∙ inner)))
       (λ d is. ap (λ home. has_identifier d && (same_scope home (moved_scope k scope) && names_agree d.name name)) (home-moved d is) ∙ ap (λ b. has_identifier d && (b && names_agree d.name name)) (same-moved k (home_of own d) scope))
     where
       fails : (x y : Bool) → (x && (false && y)) ≡ false

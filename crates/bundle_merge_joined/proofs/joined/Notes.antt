@@ -97,7 +97,7 @@ module _ (item : List Item) (o : Occurrence) (listed : IsListedIn item o) (safe 
       own_home way is =
           let d : Declared = record { place = o.place; name = its_name o; by = way; scopes = scopes_around Es o.path } in
           let home : Scope = home_of (own_declared item) d in
-          written home (home-in (own_declared item) 1 (1 + length item) d (within item o listed))
+          written home (home-in (IsIn 1 (1 + length item)) tt (own_declared item) d (within item o listed))
           (declared-listed item o listed d is (λ x. has_identifier x && is_declared_in (own_declared item) home (its_name o) x)
           (and_from (same_scope home home) (names_agree (its_name o) (its_name o)) (eq-eqb _ _ refl) (agrees-itself o.sym o.ctxt)))
 

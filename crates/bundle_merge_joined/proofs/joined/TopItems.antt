@@ -18,6 +18,7 @@ use Rattle.bundle_merge_joined.proofs.joined.Declarations.{IsNamed}
 use Rattle.bundle_merge_joined.proofs.joined.Items.{all-at}
 use Rattle.bundle_merge_joined.proofs.joined.Blocks.{order-joined}
 use Rattle.bundle_merge_joined.proofs.joined.Lists.{get-first}
+use Rattle.bundle_merge_joined.proofs.grouped.WholeLemmas.{put_all, put_all-cons}
 
 -- One node.
 pub single-name : (field : ℕ) (symbol : List ℕ) (ctxt : ℕ) (role : Role) → IsSingle (h.Ident field symbol ctxt role ∷ [])
@@ -25,15 +26,6 @@ single-name field symbol ctxt role rest = refl
 
 pub single-hole : (field : ℕ) → IsSingle (h.Hole field ∷ [])
 single-hole field rest = refl
-
--- these elements in front of the first of the lists
-abbrev put_all : List Item → List (List Item) → List (List Item)
-put_all [] nodes = nodes
-put_all (x ∷ xs) nodes = put_first x (put_all xs nodes)
-
-put_all-cons : (xs node : List Item) (more : List (List Item)) → put_all xs (node ∷ more) ≡ (xs ++ node) ∷ more
-put_all-cons [] node more = refl
-put_all-cons (x ∷ xs) node more = ap (put_first x) (put_all-cons xs node more)
 
 inside-node : (xs : List Item) (depth last : ℕ) → open_behind depth xs ≡ Some last → (rest : List Item) → side_by_side (suc depth) (xs ++ rest) ≡ put_all xs (side_by_side (suc last) rest)
 inside-node [] depth last e rest = ap (λ n. side_by_side (suc n) rest) (same_Some depth last e)

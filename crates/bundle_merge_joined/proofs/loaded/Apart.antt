@@ -1,5 +1,5 @@
 -- The rest of what is asked of the item of a load function that is put together with others: it is whole nodes, and has no free `arguments`.
-use Rattle.std.proofs.Common.{◌≡◌, ℕ, zero, suc, ◌+◌, Bool, true, false, cond, not, ◌||◌, List, [], ◌∷◌, ◌++◌, Option, Some, None, slice_get, find, refl, ap, sym, ◌∙◌, arith, codes}
+use Rattle.std.proofs.Common.{◌≡◌, ℕ, zero, suc, ◌+◌, Bool, true, false, cond, not, ◌||◌, List, ◌∷◌, ◌++◌, Option, Some, None, slice_get, find, refl, ap, sym, ◌∙◌, arith, codes}
 use Rattle.std.proofs.lemmas.Bool.{false≢true}
 use Rattle.std.proofs.lemmas.Option.{none-some, same_Some}
 use Rattle.bundle_tree_piece.specs.Item.{Item}
@@ -8,11 +8,12 @@ use Rattle.bundle_rules.specs.Scopes.{Es, Cjs, Scope, Wrapper, Top, Inner, scope
 use Rattle.bundle_rules.specs.Declarations.{BySymbol, Declared}
 use Rattle.bundle_rules.specs.Homes.{binds, is_function}
 use Rattle.bundle_rules.specs.Homes as k
-use Rattle.bundle_rules.specs.Denotes.{Denoted, Bound, Global, bound_in, denoted_in, own_or_found, denoted_of}
+use Rattle.bundle_rules.specs.Denotes.{Denoted, Global, bound_in, denoted_in, own_or_found, denoted_of}
 use Rattle.bundle_rules.specs.Idents.{Ident}
 use Rattle.bundle_scope_names.proofs.Numbering.{Numbering}
 use Rattle.bundle_scope_names.proofs.FoundLemmas.{plain}
 use Rattle.bundle_scope_names.proofs.TreeLemmas.{DeclaresOrNot, DoesNot, Does, declares_or_not}
+use Rattle.bundle_rules.specs.Symbols.{denoted_symbol}
 use Rattle.bundle_merge_joined.specs.joined.Joined.{open_behind, IsWhole, is_top_name}
 use Rattle.bundle_merge_joined.specs.joined.Notes.{its_name, own_denoted, IsListedIn}
 use Rattle.bundle_merge_joined.specs.loaded.Kept.{DenotedBeside, globals, bindings}
@@ -21,6 +22,7 @@ use Rattle.bundle_merge_joined.specs.loaded.Item.{load_name, helper_name, parame
 use Rattle.bundle_merge_joined.specs.loaded.Loaded.{module_declared, body_names, IsLoaded}
 use Rattle.bundle_merge_joined.proofs.loaded.Parameters.{Chain, last, further, chain-around}
 use Rattle.bundle_merge_joined.proofs.loaded.Noted.{AreKnown, NamedHere, of_kept, of_changed, named-here, occurrences-item}
+use Rattle.bundle_merge_joined.proofs.joined.Bindings.{bound-global}
 
 -- Whole nodes.
 
@@ -54,13 +56,6 @@ found-last p (further {kind = kind} {a = a} {ss = ss} rest) there is = by (p (In
     by true is ih = none-some (Inner kind a) (sym is)
     by false is ih = ih is
 
-bound-global : {s : Scope} {k : _} {x : List ℕ} → Bound s k ≡ Global x → ⊥
-bound-global same = cc
-
-abbrev symbol_of : Denoted → List ℕ
-symbol_of (Bound s k) = []
-symbol_of (Global x) = x
-
 wrapper-arguments : (ds : List Declared) → binds ds Wrapper (plain (codes "arguments")) ≡ true
 wrapper-arguments ds = by (k.declares ds Wrapper (plain (codes "arguments")))
   where
@@ -74,7 +69,7 @@ arguments-bound ds o is = by (declares_or_not Cjs o)
   where
     found : (p : Option Scope) → find (λ s. binds ds s (plain o.sym)) (scopes_around Cjs o.path) ≡ p → bound_in (plain o.sym) p ≡ Global (codes "arguments") → ⊥
     found (Some s) at same = bound-global same
-    found None at same = found-last (λ s. binds ds s (plain o.sym)) (chain-around o.path) (ap (λ x. binds ds Wrapper (plain x)) (ap symbol_of same) ∙ wrapper-arguments ds) at
+    found None at same = found-last (λ s. binds ds s (plain o.sym)) (chain-around o.path) (ap (λ x. binds ds Wrapper (plain x)) (ap denoted_symbol same) ∙ wrapper-arguments ds) at
 
     by : DeclaresOrNot Cjs o → ⊥
     by (DoesNot never) = found (find (λ s. binds ds s (plain o.sym)) (scopes_around Cjs o.path)) refl (sym (ap (own_or_found ds (denoted_in BySymbol ds (scopes_around Cjs o.path) (plain o.sym))) (never BySymbol o.ctxt)) ∙ is)

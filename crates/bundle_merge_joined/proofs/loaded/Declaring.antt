@@ -12,9 +12,10 @@ use Rattle.bundle_scope_names.proofs.Numbering.{Numbering, lifted}
 use Rattle.bundle_scope_names.proofs.Lists.{Each, each-rest}
 use Rattle.bundle_scope_names.proofs.FoundLemmas.{plain, with}
 use Rattle.bundle_scope_names.proofs.HomesLemmas.{IsBySymbol}
+use Rattle.bundle_rules.specs.Callable.{is_module_head}
 use Rattle.bundle_merge_joined.specs.loaded.Framed.{IsFrame, DeclaredBeside, of_body, AllBeside, none, more}
 use Rattle.bundle_merge_joined.specs.loaded.Kept.{moved_numbering, StandsBeside, IsTaken, KeepsName}
-use Rattle.bundle_merge_joined.specs.loaded.Turned.{is_module_head, Turned, over, begun, declares, ended, named, word, empty, called, skipped, Follows, done, kept, changed}
+use Rattle.bundle_merge_joined.specs.loaded.Turned.{Turned, over, begun, declares, ended, named, word, empty, called, skipped, Follows, done, kept, changed}
 use Rattle.bundle_merge_joined.specs.loaded.Item.{declared_by_names}
 use Rattle.bundle_merge_joined.proofs.loaded.Kept.{there_declared, here_declared, declares-own}
 

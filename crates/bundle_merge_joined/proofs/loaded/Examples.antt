@@ -17,6 +17,7 @@ use Rattle.bundle_scope_names.proofs.Numbering.{Numbering}
 use Rattle.bundle_scope_names.proofs.FoundLemmas.{plain, with}
 use Rattle.bundle_rules.specs.Homes.{from_taker, nearest}
 use Rattle.bundle_scope_names.proofs.Lists.{Each}
+use Rattle.bundle_rules.specs.Symbols.{denoted_symbol}
 use Rattle.bundle_merge_joined.specs.loaded.Kept.{IsTaken}
 use Rattle.bundle_merge_joined.specs.loaded.Turned.{called, Turned, over, begun, ended, named}
 use Rattle.bundle_merge_joined.specs.loaded.Item.{load_item}
@@ -33,6 +34,7 @@ use Rattle.bundle_rules.specs.Denotes.{denoted_of}
 use Rattle.bundle_scope_names.proofs.Numbering.{context_of}
 use Rattle.bundle_merge_joined.specs.loaded.Loaded.{module_names}
 use Rattle.bundle_merge_joined.proofs.loaded.Parameters.{tells-apart}
+use Rattle.bundle_merge_joined.proofs.joined.Bindings.{scope_in}
 
 -- `load#9`, `helper#8`, and the parameters of a module with the local context 7
 abbrev items_of : List Item → List Item
@@ -92,11 +94,7 @@ not-inner : {kind : ScopeKind} {a : ℕ} {m : Name} → Bound Wrapper (plain (co
 not-inner same = cc
 
 wrapped : (s : Scope) (m : Name) → Bound Wrapper (plain (codes "arguments")) ≡ Bound s m → names_agree (with (codes "load") 9) (with m.sym (contexts (scope_order s) m.sym)) ≡ false
-wrapped Wrapper m same = ap (λ x. names_agree (with (codes "load") 9) (with x 7)) (sym (ap symbol_of same))
-  where
-    symbol_of : Denoted → List ℕ
-    symbol_of (Bound s k) = k.sym
-    symbol_of (Global x) = x
+wrapped Wrapper m same = ap (λ x. names_agree (with (codes "load") 9) (with x 7)) (sym (ap denoted_symbol same))
 wrapped Top m same = absurd (not-top same)
   where
     not-top : Bound Wrapper (plain (codes "arguments")) ≡ Bound Top m → ⊥
@@ -174,19 +172,11 @@ bound_wrapper (suc (suc i)) s m at = absurd (none-some (Bound s m) at)
 only_wrapper : {kind : ScopeKind} {a : ℕ} {m : Name} → Bound Wrapper (plain (codes "exports")) ≡ Bound (Inner kind a) m → ⊥
 only_wrapper same = cc
 
-abbrev scope_in : Denoted → Scope
-scope_in (Bound s k) = s
-scope_in (Global x) = Top
-
-abbrev symbol_in : Denoted → List ℕ
-symbol_in (Bound s k) = k.sym
-symbol_in (Global x) = x
-
 -- a name of another symbol or context than exports#7
 strangely : (x : List ℕ) (c : ℕ) → names_agree (with (codes "exports") 7) (with x c) ≡ false → (i : ℕ) (s : Scope) (m : Name) → slice_get its_denoted i ≡ Some (Bound s m) → names_agree (with m.sym (contexts (scope_order s) m.sym)) (with x c) ≡ false
 strangely x c other i s m at =
     let same = bound_wrapper i s m at in
-    (λ k. names_agree (with (ap symbol_in (sym same) k) (contexts (scope_order (ap scope_in (sym same) k)) (ap symbol_in (sym same) k))) (with x c)) ∙ other
+    (λ k. names_agree (with (ap denoted_symbol (sym same) k) (contexts (scope_order (ap scope_in (sym same) k)) (ap denoted_symbol (sym same) k))) (with x c)) ∙ other
 
 gives_both : GivesLocal 7 contexts (tree_of_items both_there) (with (codes "load") 9)
 gives_both = record {
@@ -195,7 +185,7 @@ gives_both = record {
   local_own = λ e. seven-one e;
   inner_own = λ i kind a m at. absurd (only_wrapper (bound_wrapper i (Inner kind a) m at));
   inner_one = λ i j kind other a b m n at there numbers. absurd (only_wrapper (bound_wrapper i (Inner kind a) m at));
-  not_load = λ i s m at. let same = bound_wrapper i s m at in λ k. names_agree (with (codes "load") 9) (with (ap symbol_in (sym same) k) (contexts (scope_order (ap scope_in (sym same) k)) (ap symbol_in (sym same) k)));
+  not_load = λ i s m at. let same = bound_wrapper i s m at in λ k. names_agree (with (codes "load") 9) (with (ap denoted_symbol (sym same) k) (contexts (scope_order (ap scope_in (sym same) k)) (ap denoted_symbol (sym same) k)));
   load_other = λ x. never (bytes_eq (codes "load") x);
 }
   where

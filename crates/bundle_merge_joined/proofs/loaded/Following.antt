@@ -12,8 +12,10 @@ use Rattle.bundle_rules.specs.Declarations.{Declared}
 use Rattle.bundle_rules.specs.Nodes.{Text}
 use Rattle.bundle_rules.specs.Idents.{Ident, ident_of}
 use Rattle.bundle_scope_names.proofs.Numbering.{Numbering}
+use Rattle.bundle_merge_meaning.proofs.noted.Names.{occurrence_here}
+use Rattle.bundle_tree_places.specs.Edits.{is_occurrence}
 use Rattle.bundle_merge_joined.specs.loaded.Kept.{StandsBeside}
-use Rattle.bundle_merge_joined.specs.loaded.Turned.{is_occurrence, Turned, over, begun, declares, ended, named, word, empty, called, skipped, Goes, occurrence_here, FitsName, FitNames, HasContexts, Follows, done, kept, changed}
+use Rattle.bundle_merge_joined.specs.loaded.Turned.{Turned, over, begun, declares, ended, named, word, empty, called, skipped, Goes, FitsName, FitNames, HasContexts, Follows, done, kept, changed}
 use Rattle.bundle_merge_joined.specs.loaded.Paths.{same, noted, PathBeside, in_node}
 use Rattle.bundle_merge_joined.proofs.loaded.Paths.{way_of-beside, scopes-beside, field-beside, outer-beside, top-field, own-way}
 

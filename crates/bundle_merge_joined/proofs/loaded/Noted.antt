@@ -14,6 +14,7 @@ use Rattle.bundle_rules.specs.Parts.{tree_of_items}
 use Rattle.bundle_scope_names.proofs.Numbering.{Numbering, context_of}
 use Rattle.bundle_scope_names.proofs.Lists.{list_any-found, find-passes, find-none}
 use Rattle.bundle_scope_names.proofs.FoundLemmas.{plain, with}
+use Rattle.bundle_rules.specs.Symbols.{denoted_symbol}
 use Rattle.bundle_merge_joined.specs.joined.Joined.{own_declared, is_top_name}
 use Rattle.bundle_merge_joined.specs.joined.Notes.{its_name, own_denoted, is_inner, is_inner_name, IsNoted, IsListedIn}
 use Rattle.bundle_merge_joined.specs.joined.Notes as n
@@ -29,14 +30,8 @@ use Rattle.bundle_merge_joined.specs.loaded.Item.{load_name, helper_name, parame
 use Rattle.bundle_merge_joined.specs.loaded.Loaded.{module_declared, module_names, body_names, IsLoaded}
 use Rattle.bundle_merge_joined.proofs.loaded.Whole.{picked, declared-body, follows, kept-there}
 
-
-
 global-bound : {x : List ℕ} {s : Scope} {k : Name} → Global x ≡ Bound s k → ⊥
 global-bound same = cc
-
-abbrev denoted_sym : Denoted → List ℕ
-denoted_sym (Bound s k) = k.sym
-denoted_sym (Global x) = x
 
 -- what an identifier declares has its name
 declared-name : (u : Occurrence) (d : Declared) → declaration_of ByContext Es u ≡ Some d → d.name ≡ with u.sym u.ctxt
@@ -113,7 +108,7 @@ module _ {L : Ident → Type 0} {xs ys : List Item} (w : Turned L zero xs ys) (g
                   go : (a b : Denoted) → denoted_of BySymbol Cjs (module_declared xs) o ≡ a → own_denoted item u ≡ b → DenotedBeside (Goes w 1 22) g (module_declared xs) a b → ⊥
                   go a b first second globals = global-bound (sym second ∙ its_own)
                   go a b first second (bindings {s = s} {t = t} {x = y} near) =
-                      let symbol : y ≡ d.name.sym = ap denoted_sym (sym second ∙ its_own) in
+                      let symbol : y ≡ d.name.sym = ap denoted_symbol (sym second ∙ its_own) in
                       let name : d.name ≡ with u.sym u.ctxt = declared-name u d is in
                       let number : u.ctxt ≡ g (scope_order s) y = keeps.ctxt ∙ ap (context_of g) first in
                       false≢true (sym (strange.bindings i o s (plain y) there first) ∙ (ap (λ (k : Name). names_agree k (with x c)) (λ k. with ((symbol ∙ ap (λ (q : Name). q.sym) name) k) (sym number k)) ∙ (ap (λ (k : Name). names_agree k (with x c)) (sym name) ∙ agrees)))

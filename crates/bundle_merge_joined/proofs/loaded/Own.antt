@@ -18,8 +18,8 @@ use Rattle.bundle_rules.specs.Linking.{IsCommonJs, Target, Declared, imports, St
 use Rattle.bundle_rules.specs.Linking as l
 use Rattle.bundle_rules.specs.Meaning.{Label, Of, Parameter, Meant, Inside, Known, Unbound, Replacement, Sense, NameMeans, OwnName, plain, is_inside, own_sense}
 use Rattle.bundle_rules.specs.Meaning as n
+use Rattle.bundle_rules.specs.Callable.{is_module_head}
 use Rattle.bundle_merge_joined.specs.joined.Joined.{AllOf}
-use Rattle.bundle_merge_joined.specs.loaded.Turned.{is_module_head}
 use Rattle.bundle_merge_joined.specs.loaded.Names.{NamedAs, one_inside, of_top, of_wrapper, unbound}
 
 -- A script imports nothing.

@@ -2,18 +2,16 @@
 use Rattle.std.proofs.Common.{◌≡◌, ◌≢◌, ℕ, zero, suc, ◌+◌, ◌<◌, ◌≤◌, ◌==◌, ◌⊎◌, inl, inr, Bool, true, false, cond, not, ◌&&◌, ◌||◌, List, [], ◌∷◌, ◌++◌, Option, Some, None, is_some, unwrap_or, slice_get, find, bytes_eq, refl, ap, ap₂, sym, ◌∙◌, subst, arith, codes, ne_eqb}
 use Rattle.std.specs.Prelude.{nat_lt, option_map}
 use Rattle.std.specs.List.{list_any, cons_option}
-use Rattle.std.proofs.lemmas.Bool.{false≢true, and_parts, and_from, or_left, or_right, false_from_ne_true, le-leb}
+use Rattle.std.proofs.lemmas.Bool.{false≢true, and_parts, and_from, or_left, or_right, false_from_ne_true, le-leb, and_right}
 use Rattle.std.proofs.lemmas.Option.{none-some, same_Some, slice_get-map}
 use Rattle.std.proofs.lemmas.Slice.Eq.{bytes_eq-Decides}
-use Rattle.bundle_tree_piece.specs.declared.piece.Role.TheVariants as r
-use Rattle.bundle_tree_piece.specs.Item as h
 use Rattle.bundle_tree_piece.specs.Item.{Item}
 use Rattle.bundle_rules.specs.Places.{Around, Spot, past, Occurrence, occurrence_of, occurrences, occurrences_from}
 use Rattle.bundle_rules.specs.Scopes.{Cjs, Scope, ScopeKind, Wrapper, Top, Inner, FunctionBody, scope_order, same_scope, kind_of_scope, scope_at, scopes_around}
 use Rattle.bundle_rules.specs.Declarations.{Way, ByVar, ByFunction, ByParameter, ByCatch, ByFunctionName, ByClassName, ByWrapper, BySymbol, Name, names_agree, Declared, declaration_of, wrapper_parameter}
 use Rattle.bundle_rules.specs.Homes.{is_parameters, is_wrapper, takes, from_taker, nearest, taker, parameters_of, joins_parameter, is_parameter, home_beside, home_of, group_of, is_declared_in, declares, binds, is_arguments}
 use Rattle.bundle_rules.specs.Doubled.{stands_once, is_lexical, stands_beside, excludes, clash, is_doubled, first_doubled}
-use Rattle.bundle_rules.specs.Denotes.{Denoted, Bound, Global, bound_in, denoted_in, own_or_found, denoted_of, denotations}
+use Rattle.bundle_rules.specs.Denotes.{Denoted, Bound, bound_in, denoted_in, own_or_found, denoted_of, denotations}
 use Rattle.bundle_rules.specs.Idents.{Ident}
 use Rattle.bundle_rules.specs.Parts.{tree_of_items}
 use Rattle.bundle_rules.specs.Linking.{Target, Declared as IsDeclared}
@@ -23,12 +21,15 @@ use Rattle.bundle_scope_names.proofs.Lists.{Each, list_any-found, list_any-here,
 use Rattle.bundle_scope_names.proofs.FoundLemmas.{plain}
 use Rattle.bundle_scope_names.proofs.HomesLemmas.{names_agree-by_symbol, same_symbol}
 use Rattle.bundle_scope_names.proofs.TreeLemmas.{each-occurrence, DeclaresOrNot, DoesNot, Does, declares_or_not, declaration_by_way}
+use Rattle.bundle_rules.specs.Symbols.{denoted_symbol}
+use Rattle.bundle_merge_meaning.proofs.walked.Denoting.{occurrence_place}
 use Rattle.bundle_merge_joined.specs.loaded.Kept.{IsTaken, TellsApart}
 use Rattle.bundle_merge_joined.specs.loaded.Turned.{Turned}
 use Rattle.bundle_merge_joined.specs.loaded.Item.{module_start, declared_by_names}
 use Rattle.bundle_merge_joined.specs.loaded.Loaded.{module_declared, module_names}
 use Rattle.bundle_merge_joined.specs.loaded.Contexts.{GivesLocal, OwnEntry, top_entry, wrapper_entry, parameter_entry}
 use Rattle.bundle_merge_joined.proofs.loaded.Whole.{picked, declared-module}
+use Rattle.bundle_merge_joined.proofs.joined.Bindings.{scope_in}
 
 -- Scopes of a CommonJS module.
 
@@ -71,15 +72,11 @@ taken-in way known (further {kind = kind} {a = a} {ss = ss} rest) = by (takes wa
 inner-order : (kind : ScopeKind) (a n : ℕ) → n < 2 → ((a + 2) == n) ≡ false
 inner-order kind a n small = ne_eqb (a + 2) n (λ e. omega (arith, e, small))
 
-and-false : (b : Bool) → (b && false) ≡ false
-and-false true = refl
-and-false false = refl
-
 -- no parameter belongs to the top
 no-top : (s : Scope) → ((is_parameters s || is_wrapper s) && same_scope s Top) ≡ false
 no-top Wrapper = refl
 no-top Top = refl
-no-top (Inner kind a) = ap (λ b. (is_parameters (Inner kind a) || is_wrapper (Inner kind a)) && b) (inner-order kind a 1 (omega arith)) ∙ and-false (is_parameters (Inner kind a) || is_wrapper (Inner kind a))
+no-top (Inner kind a) = ap (λ b. (is_parameters (Inner kind a) || is_wrapper (Inner kind a)) && b) (inner-order kind a 1 (omega arith)) ∙ and_right (is_parameters (Inner kind a) || is_wrapper (Inner kind a)) false refl
 
 no-parameter : (name : Name) (ds : List Declared) → list_any (is_parameter Top name) ds ≡ false
 no-parameter name [] = refl
@@ -127,18 +124,10 @@ once ByClassName known takes joins = absurd (false≢true takes)
 once ByWrapper known takes joins = absurd (false≢true known)
 once _ known takes joins = refl
 
-its_place : (s : Spot) (x : Item) (o : Occurrence) → occurrence_of s x ≡ Some o → o.place ≡ s.place
-its_place s (h.Open field head) o is = absurd (none-some o is)
-its_place s (h.Ident field y ctxt r.Word) o is = absurd (none-some o is)
-its_place s (h.Ident field y ctxt r.Binding) o is = ap (λ (q : Occurrence). q.place) (sym (same_Some _ o is))
-its_place s (h.Ident field y ctxt r.Reference) o is = ap (λ (q : Occurrence). q.place) (sym (same_Some _ o is))
-its_place s (h.Hole field) o is = absurd (none-some o is)
-its_place s h.Close o is = absurd (none-some o is)
-
 -- names stand behind the beginning
 place-behind : (s : Spot) (xs : List Item) (i : ℕ) (o : Occurrence) → slice_get (occurrences_from s xs) i ≡ Some o → s.place ≤ o.place
 place-behind s [] i o at = absurd (none-some o at)
-place-behind s (x ∷ xs) i o at = by (occurrence_of s x) (its_place s x) i at (λ j is. let ih = place-behind (past s x) xs j o is in omega (arith, ih))
+place-behind s (x ∷ xs) i o at = by (occurrence_of s x) (occurrence_place s x) i at (λ j is. let ih = place-behind (past s x) xs j o is in omega (arith, ih))
   where
     by : (p : Option Occurrence) → ((o : Occurrence) → p ≡ Some o → o.place ≡ s.place) → (i : ℕ) → slice_get (cons_option p (occurrences_from (past s x) xs)) i ≡ Some o → ((j : ℕ) → slice_get (occurrences_from (past s x) xs) j ≡ Some o → s.place ≤ o.place) → s.place ≤ o.place
     by None same i at rest = rest i at
@@ -228,14 +217,6 @@ module _ {L : Ident → Type 0} {xs ys : List Item} (w : Turned L zero xs ys) (t
   listed-declared : (i : ℕ) (o : Occurrence) → slice_get (occurrences (tree_of_items xs)) i ≡ Some o → (d : Declared) → declaration_of BySymbol Cjs o ≡ Some d → (j : ℕ) × (slice_get ds j ≡ Some d)
   listed-declared i o at d is = each-occurrence (λ d. (j : ℕ) × (slice_get ds j ≡ Some d)) BySymbol Cjs (tree_of_items xs) (λ j d at. (j, at)) i o at d is
 
-  abbrev scope_of : Denoted → Scope
-  scope_of (Bound s k) = s
-  scope_of (Global x) = Top
-
-  abbrev symbol_of : Denoted → List ℕ
-  symbol_of (Bound s k) = k.sym
-  symbol_of (Global x) = x
-
   top-function : (x : List ℕ) → binds ds Top (plain x) ≡ declares ds Top (plain x)
   top-function x = by (declares ds Top (plain x)) (is_arguments x)
     where
@@ -251,8 +232,8 @@ module _ {L : Ident → Type 0} {xs ys : List Item} (w : Turned L zero xs ys) (t
       found : (x : List ℕ) (ss : List Scope) (p : Option Scope) → find (λ s. binds ds s (plain x)) ss ≡ p → bound_in (plain x) p ≡ Bound Top m → declares ds Top (plain m.sym) ≡ true
       found x ss None is same = absurd cc
       found x ss (Some s) is same =
-          let top : s ≡ Top = ap scope_of same in
-          let symbol : x ≡ m.sym = ap symbol_of same in
+          let top : s ≡ Top = ap scope_in same in
+          let symbol : x ≡ m.sym = ap denoted_symbol same in
           subst (λ y. declares ds Top (plain y) ≡ true) symbol (sym (top-function x) ∙ (ap (λ u. binds ds u (plain x)) (sym top) ∙ find-passes (λ s. binds ds s (plain x)) ss s is))
 
       by : (o : Occurrence) → slice_get (occurrences (tree_of_items xs)) i ≡ Some o → denoted_of BySymbol Cjs ds o ≡ Bound Top m → DeclaresOrNot Cjs o → declares ds Top (plain m.sym) ≡ true
@@ -261,8 +242,8 @@ module _ {L : Ident → Type 0} {xs ys : List Item} (w : Turned L zero xs ys) (t
           let d : Declared = declaration_by_way Cjs o way in
           let listed = listed-declared i o here d own in
           let same : Bound (home_of ds d) (plain o.sym) ≡ Bound Top m = sym (ap (own_or_found ds (denoted_in BySymbol ds (scopes_around Cjs o.path) (plain o.sym))) own) ∙ is in
-          let top : home_of ds d ≡ Top = ap scope_of same in
-          let symbol : o.sym ≡ m.sym = ap symbol_of same in
+          let top : home_of ds d ≡ Top = ap scope_in same in
+          let symbol : o.sym ≡ m.sym = ap denoted_symbol same in
           list_any-here (is_declared_in ds Top (plain m.sym)) ds listed.0 d listed.1 (and_from (same_scope (home_of ds d) Top) _ (ap (λ s. same_scope s Top) top) (names_agree-by_symbol (plain o.sym) (plain m.sym) refl ∙ (bytes_eq-Decides o.sym m.sym).1 symbol))
 
   found-chain : (p : Scope → Bool) {ss : List Scope} → Chain ss → find p ss ≡ Some Wrapper → p Top ≡ false
@@ -313,8 +294,8 @@ module _ {L : Ident → Type 0} {xs ys : List Item} (w : Turned L zero xs ys) (t
       found : (x : List ℕ) {ss : List Scope} → Chain ss → (p : Option Scope) → find (λ s. binds ds s (plain x)) ss ≡ p → bound_in (plain x) p ≡ Bound Wrapper m → declares ds Top (plain m.sym) ≡ false
       found x chain None is same = absurd cc
       found x chain (Some s) is same =
-          let wrapped : s ≡ Wrapper = ap scope_of same in
-          let symbol : x ≡ m.sym = ap symbol_of same in
+          let wrapped : s ≡ Wrapper = ap scope_in same in
+          let symbol : x ≡ m.sym = ap denoted_symbol same in
           subst (λ y. declares ds Top (plain y) ≡ false) symbol (sym (top-function x) ∙ found-chain (λ s. binds ds s (plain x)) chain (is ∙ ap Some wrapped))
 
       own-name : (o : Occurrence) (way : Way) → is_identified way ≡ true → declaration_of BySymbol Cjs o ≡ Some (declaration_by_way Cjs o way) → slice_get (occurrences (tree_of_items xs)) i ≡ Some o → home_of ds (declaration_by_way Cjs o way) ≡ Wrapper → IsParameterName o.sym
@@ -347,8 +328,8 @@ module _ {L : Ident → Type 0} {xs ys : List Item} (w : Turned L zero xs ys) (t
       by o here is (DoesNot never) = found o.sym (chain-around o.path) (find (λ s. binds ds s (plain o.sym)) (scopes_around Cjs o.path)) refl (sym (ap (own_or_found ds (denoted_in BySymbol ds (scopes_around Cjs o.path) (plain o.sym))) (never BySymbol o.ctxt)) ∙ is)
       by o here is (Does way known own later) =
           let same : Bound (home_of ds (declaration_by_way Cjs o way)) (plain o.sym) ≡ Bound Wrapper m = sym (ap (own_or_found ds (denoted_in BySymbol ds (scopes_around Cjs o.path) (plain o.sym))) own) ∙ is in
-          let symbol : o.sym ≡ m.sym = ap symbol_of same in
-          top-free m.sym (subst IsParameterName symbol (own-name o way known own here (ap scope_of same)))
+          let symbol : o.sym ≡ m.sym = ap denoted_symbol same in
+          top-free m.sym (subst IsParameterName symbol (own-name o way known own here (ap scope_in same)))
 
   -- THE CONTEXTS of the linker tell the names of a CommonJS module apart, though the top and the wrapper share one
   pub tells-apart : (local : ℕ) (g : Numbering) (load : Name) → GivesLocal local g (tree_of_items xs) load → TellsApart g (tree_of_items xs) load

@@ -8,8 +8,8 @@ use Rattle.bundle_tree_piece.specs.Item.{Head}
 use Rattle.bundle_rules.specs.Places.{Around, in_field, outer_path}
 use Rattle.bundle_rules.specs.Scopes.{Es, Cjs, ScopeKind, FunctionName, ClassName, block_in, block_kind, exports_default, is_default, kind_of_scope, scope_at, scopes_around}
 use Rattle.bundle_rules.specs.Declarations.{Way, ByLet, ByConst, ByLoop, ByFunction, ByFunctionName, ByClass, ByClassName, is_pattern, is_loop_head, heads_loop, way_of_kind, way_of_variable, way_of_declarator, way_in, way_of}
+use Rattle.bundle_rules.specs.Callable.{is_module_head}
 use Rattle.bundle_merge_joined.specs.loaded.Framed.{Framed, outside, within, is_module_way}
-use Rattle.bundle_merge_joined.specs.loaded.Turned.{is_module_head}
 use Rattle.bundle_merge_joined.specs.loaded.Paths.{SameHead, same, noted, PathBeside, at_top, in_node}
 
 -- a test of heads that does not see notes

@@ -1,14 +1,14 @@
--- Symbols and contexts tell the inner bindings of a load function's item apart (`IsResolvedInside` of the probe `join`), and it has no free `arguments`.
+-- Symbols and contexts tell the inner bindings of a load function's item apart, and it has no free `arguments`.
 use Rattle.std.proofs.Common.{◌≡◌, ◌↔◌, ℕ, zero, suc, ◌⊎◌, inl, inr, true, false, cond, List, ◌∷◌, Option, Some, None, slice_get, bytes_eq, refl, ap, sym, ◌∙◌, subst, codes, eq-eqb, eqb-true}
 use Rattle.std.proofs.lemmas.Bool.{false≢true, and_from}
 use Rattle.std.proofs.lemmas.Option.{same_Some}
 use Rattle.std.proofs.lemmas.Slice.Eq.{bytes_eq-Decides}
 use Rattle.bundle_tree_piece.specs.Item.{Item}
 use Rattle.bundle_rules.specs.Places.{start, Occurrence, is_binding}
-use Rattle.bundle_rules.specs.Scopes.{Cjs, Scope, Wrapper, Top, Inner, Parameters, scope_order}
+use Rattle.bundle_rules.specs.Scopes.{Cjs, Scope, Wrapper, Inner, Parameters, scope_order}
 use Rattle.bundle_rules.specs.Declarations.{BySymbol, Name, names_agree, Declared}
 use Rattle.bundle_rules.specs.Homes.{is_declared_in, declares}
-use Rattle.bundle_rules.specs.Denotes.{Denoted, Bound, Global, denoted_of, denotations, SameIdent}
+use Rattle.bundle_rules.specs.Denotes.{Denoted, Bound, denoted_of, denotations, SameIdent}
 use Rattle.bundle_rules.specs.Idents.{Ident}
 use Rattle.bundle_rules.specs.Parts.{tree_of_items}
 use Rattle.bundle_scope_names.proofs.Numbering.{Numbering, context_of}
@@ -18,6 +18,7 @@ use Rattle.bundle_scope_names.proofs.HomesLemmas.{names_agree-by_symbol}
 use Rattle.bundle_scope_names.proofs.GivenLemmas.{denotation-at}
 use Rattle.bundle_scope_names.proofs.Separation.{IsFor, denoted-for}
 use Rattle.bundle_scope_names.proofs.KindsLemmas.{DenotesOf, denoted-known, same-of, kind_in, occurrences-known}
+use Rattle.bundle_rules.specs.Symbols.{denoted_symbol}
 use Rattle.bundle_merge_joined.specs.joined.Notes.{own_denoted, is_inner, IsListedIn, IsResolvedInside}
 use Rattle.bundle_merge_joined.proofs.joined.Paths.{item-occurrences}
 use Rattle.bundle_merge_joined.specs.loaded.Framed.{IsFrame, Beside, top, wrapper, inner}
@@ -29,6 +30,7 @@ use Rattle.bundle_merge_joined.proofs.loaded.Turning.{turned-frame}
 use Rattle.bundle_merge_joined.proofs.loaded.Beside.{same-beside}
 use Rattle.bundle_merge_joined.proofs.loaded.Whole.{declared-module}
 use Rattle.bundle_merge_joined.proofs.loaded.Noted.{IsStrange, AreKnown, NamedHere, of_kept, of_changed, named-here, occurrences-item, strange-own}
+use Rattle.bundle_merge_joined.proofs.joined.Bindings.{scope_in}
 
 agrees-itself : (x : List ℕ) (c : ℕ) → names_agree (with x c) (with x c) ≡ true
 agrees-itself x c = and_from (bytes_eq x x) _ ((bytes_eq-Decides x x).1 refl) (eq-eqb c c refl)
@@ -38,17 +40,6 @@ beside-one : {R : ℕ → ℕ → Type 0} → IsFrame R → {s t u : Scope} → 
 beside-one frame top top = refl
 beside-one frame wrapper wrapper = refl
 beside-one frame (inner {kind = kind} {a = a} {b = b} r) (inner {b = c} q) = ap (Inner kind) (frame.one a b c r q)
-
-bound-global : {s : Scope} {k : Name} {x : List ℕ} → Bound s k ≡ Global x → ⊥
-bound-global same = cc
-
-abbrev scope_of : Denoted → Scope
-scope_of (Bound s k) = s
-scope_of (Global x) = Top
-
-abbrev symbol_of : Denoted → List ℕ
-symbol_of (Bound s k) = k.sym
-symbol_of (Global x) = x
 
 module _ {L : Ident → Type 0} {xs ys : List Item} (w : Turned L zero xs ys) (g : Numbering) (load helper m e : Ident) (its : IsLoaded g w load m e) (items : List (List Item)) (known : AreKnown w g load helper m e its items) where
   abbrev ds : List Declared
@@ -179,7 +170,7 @@ module _ {L : Ident → Type 0} {xs ys : List Item} (w : Turned L zero xs ys) (g
           let there : i.t ≡ j.t = beside-one (turned-frame w) (subst (λ z. Beside R z (i.t)) scopes (i.beside)) (j.beside) in
           i.denotes ∙ ((λ k. Bound (there k) (record { sym = same.0 k; ctxt = its_context (scopes k) (same.0 k) })) ∙ sym (j.denotes)),
           λ same. let both : Bound (i.t) (record { sym = a.sym; ctxt = its_context (i.s) a.sym }) ≡ Bound (j.t) (record { sym = b.sym; ctxt = its_context (j.s) b.sym }) = sym (i.denotes) ∙ (same ∙ j.denotes) in
-          let there : i.t ≡ j.t = ap scope_of both in
-          let symbol : a.sym ≡ b.sym = ap symbol_of both in
+          let there : i.t ≡ j.t = ap scope_in both in
+          let symbol : a.sym ≡ b.sym = ap denoted_symbol both in
           let order : scope_order (i.s) ≡ scope_order (j.s) = eqb-true (scope_order (i.s)) (scope_order (j.s)) (sym (same-beside R (turned-frame w) (i.beside) (j.beside)) ∙ eq-eqb (scope_order (i.t)) (scope_order (j.t)) (ap scope_order there)) in
           (symbol, i.number ∙ ((λ k. g (order k) (symbol k)) ∙ sym (j.number))))

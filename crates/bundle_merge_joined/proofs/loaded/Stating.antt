@@ -1,14 +1,14 @@
 -- What the names of a statement of a CommonJS module mean in the item of its load function.
-use Rattle.std.proofs.Common.{◌≡◌, ℕ, zero, suc, ◌+◌, ◌<◌, ◌≤◌, Bool, true, false, cond, List, [], ◌∷◌, ◌++◌, Option, Some, None, unwrap_or, filter, map, fold, length, slice_get, refl, ap, ap₂, sym, ◌∙◌, subst, arith, find}
+use Rattle.std.proofs.Common.{◌≡◌, ℕ, zero, suc, ◌+◌, ◌<◌, ◌≤◌, Bool, true, false, cond, List, [], ◌∷◌, Option, Some, None, filter, map, fold, length, slice_get, refl, ap, ap₂, sym, ◌∙◌, subst, arith, find}
 use Rattle.std.specs.Prelude.{Contains, position, nat_le}
-use Rattle.std.specs.List.{AllZip, list_any}
+use Rattle.std.specs.List.{AllZip}
 use Rattle.std.proofs.lemmas.Bool.{false≢true, false_from_ne_true, leb-true, le-leb}
 use Rattle.std.proofs.lemmas.Option.{none-some, same_Some}
 use Rattle.bundle_tree_piece.specs.Item.{Item}
 use Rattle.bundle_rules.specs.Places.{Spot, past, Occurrence, occurrences_from}
-use Rattle.bundle_rules.specs.Scopes.{Cjs, Scope, Wrapper, Top, Inner, FunctionBody, scopes_around}
-use Rattle.bundle_rules.specs.Declarations.{Way, BySymbol, Name, Declared}
-use Rattle.bundle_rules.specs.Homes.{from_taker, nearest, taker, takes, parameters_of, joins_parameter, is_parameter, home_beside, home_of, binds}
+use Rattle.bundle_rules.specs.Scopes.{Cjs, Scope, Wrapper, Top, Inner, scopes_around}
+use Rattle.bundle_rules.specs.Declarations.{BySymbol, Name, Declared}
+use Rattle.bundle_rules.specs.Homes.{binds}
 use Rattle.bundle_rules.specs.Denotes.{Denoted, Bound, Global, bound_in, denoted_in, own_or_found, denoted_of}
 use Rattle.bundle_rules.specs.Idents.{Ident, ident_of}
 use Rattle.bundle_rules.specs.Mentions.{same_denoted, each_denoted_once}
@@ -19,6 +19,7 @@ use Rattle.bundle_scope_names.proofs.Numbering.{Numbering, context_of}
 use Rattle.bundle_scope_names.proofs.FoundLemmas.{plain, with}
 use Rattle.bundle_scope_names.proofs.Separation.{IsFor, denoted-for}
 use Rattle.bundle_scope_names.proofs.TreeLemmas.{DeclaresOrNot, DoesNot, Does, declares_or_not}
+use Rattle.bundle_merge_meaning.proofs.walked.Numbers.{numbers_agree}
 use Rattle.bundle_merge_joined.specs.joined.Joined.{AllOf, own_declared, is_top_name}
 use Rattle.bundle_merge_joined.specs.joined.Notes.{its_name, own_denoted, is_inner, is_inner_name}
 use Rattle.bundle_merge_joined.proofs.joined.Paths.{occurrences-append, fold-place}
@@ -35,19 +36,11 @@ use Rattle.bundle_merge_joined.proofs.loaded.Following.{follows-turned}
 use Rattle.bundle_merge_joined.proofs.loaded.Whole.{kept-there}
 use Rattle.bundle_merge_joined.proofs.loaded.One.{denoted-one}
 use Rattle.bundle_merge_joined.proofs.loaded.Parts.{turned-append, goes-first, goes-second, has-first, has-second, path-behind}
-use Rattle.bundle_merge_joined.proofs.loaded.Numbers.{both_once, numbers_agree, inside_zip}
+use Rattle.bundle_merge_joined.proofs.loaded.Numbers.{both_once, inside_zip}
 use Rattle.bundle_merge_joined.proofs.loaded.Noted.{AreKnown, strange-outside, strange-own, beside-inner}
-
--- Lists.
-
-behind : {A : Type 0} (xs ys : List A) (j : ℕ) (y : A) → slice_get ys j ≡ Some y → (i : ℕ) × (slice_get (xs ++ ys) i ≡ Some y)
-behind [] ys j y at = (j, at)
-behind (x ∷ xs) ys j y at = let it = behind xs ys j y at in (suc it.0, it.1)
-
-in-front : {A : Type 0} (xs ys : List A) (j : ℕ) (x : A) → slice_get xs j ≡ Some x → slice_get (xs ++ ys) j ≡ Some x
-in-front [] ys j x at = absurd (none-some x at)
-in-front (first ∷ xs) ys zero x at = at
-in-front (first ∷ xs) ys (suc j) x at = in-front xs ys j x at
+use Rattle.bundle_merge_joined.proofs.joined.Lists.{get-left, get-right}
+use Rattle.bundle_merge_joined.proofs.joined.Homes.{home-in}
+use Rattle.bundle_merge_joined.proofs.joined.Bindings.{scope_in, bound-global}
 
 -- What holds of the scopes around a name holds of the one that it denotes.
 
@@ -59,71 +52,16 @@ find-in P p (first ∷ ss) s all is = by (p first) is (λ further. find-in P p s
     by true is rest = subst P (same_Some first s is) all.0
     by false is rest = rest is
 
-taker-in : (P : Scope → Type 0) (way : Way) (ss : List Scope) → AllOf P ss → AllOf P (from_taker way ss)
-taker-in P way [] all = tt
-taker-in P way (s ∷ ss) all = by (takes way s) (taker-in P way ss all.1)
-  where
-    by : (b : Bool) → AllOf P (from_taker way ss) → AllOf P (cond b (s ∷ ss) (from_taker way ss))
-    by true rest = all
-    by false rest = rest
-
-abbrev Optional : (P : Scope → Type 0) → Option Scope → Type 0
-Optional P None = Unit {0}
-Optional P (Some s) = P s
-
-nearest-in : (P : Scope → Type 0) (ss : List Scope) → AllOf P ss → Optional P (nearest ss)
-nearest-in P [] all = tt
-nearest-in P (s ∷ ss) all = all.0
-
-parameters-in : (P : Scope → Type 0) (ss : List Scope) → AllOf P ss → Optional P (parameters_of ss)
-parameters-in P [] all = tt
-parameters-in P (Wrapper ∷ ss) all = tt
-parameters-in P (Top ∷ ss) all = nearest-in P ss all.1
-parameters-in P (Inner FunctionBody begins ∷ ss) all = nearest-in P ss all.1
-parameters-in P (Inner _ begins ∷ ss) all = tt
-
-or-top-in : (P : Scope → Type 0) → P Top → (s : Option Scope) → Optional P s → P (unwrap_or s Top)
-or-top-in P at_last None its = at_last
-or-top-in P at_last (Some s) its = its
-
-home-in : (P : Scope → Type 0) → P Top → (ds : List Declared) (d : Declared) → AllOf P d.scopes → P (home_of ds d)
-home-in P at_last ds d all = by (joins_parameter d.by) (beside (parameters_of (from_taker d.by d.scopes)) (parameters-in P (from_taker d.by d.scopes) taken)) mine
-  where
-    taken : AllOf P (from_taker d.by d.scopes)
-    taken = taker-in P d.by d.scopes all
-
-    mine : P (taker d)
-    mine = or-top-in P at_last (nearest (from_taker d.by d.scopes)) (nearest-in P (from_taker d.by d.scopes) taken)
-
-    choose : (b : Bool) (s : Scope) → P s → P (cond b s (taker d))
-    choose true s its = its
-    choose false s its = mine
-
-    beside : (s : Option Scope) → Optional P s → P (home_beside ds d s)
-    beside None its = mine
-    beside (Some s) its = choose (list_any (is_parameter s d.name) ds) s its
-
-    by : (b : Bool) → P (home_beside ds d (parameters_of (from_taker d.by d.scopes))) → P (taker d) → P (cond b (home_beside ds d (parameters_of (from_taker d.by d.scopes))) (taker d))
-    by true first second = first
-    by false first second = second
-
-abbrev its_scope : Denoted → Scope
-its_scope (Bound s k) = s
-its_scope (Global x) = Top
-
-denoted-in : (P : Scope → Type 0) → P Top → (ds : List Declared) (o : Occurrence) → AllOf P (scopes_around Cjs o.path) → P (its_scope (denoted_of BySymbol Cjs ds o))
+denoted-in : (P : Scope → Type 0) → P Top → (ds : List Declared) (o : Occurrence) → AllOf P (scopes_around Cjs o.path) → P (scope_in (denoted_of BySymbol Cjs ds o))
 denoted-in P at_last ds o all = by (declares_or_not Cjs o)
   where
-    found : (s : Option Scope) → find (λ s. binds ds s (plain o.sym)) (scopes_around Cjs o.path) ≡ s → P (its_scope (bound_in (plain o.sym) s))
+    found : (s : Option Scope) → find (λ s. binds ds s (plain o.sym)) (scopes_around Cjs o.path) ≡ s → P (scope_in (bound_in (plain o.sym) s))
     found None is = at_last
     found (Some s) is = find-in P (λ s. binds ds s (plain o.sym)) (scopes_around Cjs o.path) s all is
 
-    by : DeclaresOrNot Cjs o → P (its_scope (denoted_of BySymbol Cjs ds o))
-    by (DoesNot never) = subst (λ d. P (its_scope (own_or_found ds (denoted_in BySymbol ds (scopes_around Cjs o.path) (plain o.sym)) d))) (sym (never BySymbol o.ctxt)) (found (find (λ s. binds ds s (plain o.sym)) (scopes_around Cjs o.path)) refl)
-    by (Does way known is later) = subst (λ d. P (its_scope (own_or_found ds (denoted_in BySymbol ds (scopes_around Cjs o.path) (plain o.sym)) d))) (sym is) (home-in P at_last ds (record { place = o.place; name = plain o.sym; by = way; scopes = scopes_around Cjs o.path }) all)
-
-bound-global : {s : Scope} {k : Name} {x : List ℕ} → Bound s k ≡ Global x → ⊥
-bound-global same = cc
+    by : DeclaresOrNot Cjs o → P (scope_in (denoted_of BySymbol Cjs ds o))
+    by (DoesNot never) = subst (λ d. P (scope_in (own_or_found ds (denoted_in BySymbol ds (scopes_around Cjs o.path) (plain o.sym)) d))) (sym (never BySymbol o.ctxt)) (found (find (λ s. binds ds s (plain o.sym)) (scopes_around Cjs o.path)) refl)
+    by (Does way known is later) = subst (λ d. P (scope_in (own_or_found ds (denoted_in BySymbol ds (scopes_around Cjs o.path) (plain o.sym)) d))) (sym is) (home-in P at_last ds (record { place = o.place; name = plain o.sym; by = way; scopes = scopes_around Cjs o.path }) all)
 
 -- inner scopes go somewhere
 abbrev GoesIn : (ℕ → ℕ → Type 0) → Scope → Type 0
@@ -166,7 +104,7 @@ first-part {xs = xs} w g {x = x} {more = more} wx rest s t part = record {
   path = part.path;
   goes = λ a b there. part.goes a b (goes-first wx rest s.place t.place a b there);
   has = has-first g (module_declared xs) wx rest s part.has;
-  listed = λ j o at. part.listed j o (ap (λ os. slice_get os j) (occurrences-append s x more) ∙ in-front (occurrences_from s x) (occurrences_from (fold past s x) more) j o at);
+  listed = λ j o at. part.listed j o (ap (λ os. slice_get os j) (occurrences-append s x more) ∙ get-left (occurrences_from s x) (occurrences_from (fold past s x) more) j o at);
   far = part.far;
 }
 
@@ -175,7 +113,7 @@ next-part {xs = xs} w g {x = x} {y = y} {more = more} wx rest s t part = record 
   path = path-behind (Goes w 1 22) wx s t part.path (λ a b there. part.goes a b (goes-first wx rest s.place t.place a b there));
   goes = λ a b there. part.goes a b (goes-second wx rest s.place t.place a b (subst (λ n. Goes rest n (t.place + length y) a b) (fold-place s x) (subst (λ n. Goes rest (fold past s x).place n a b) (fold-place t y) there)));
   has = has-second g (module_declared xs) wx rest s part.has;
-  listed = λ j o at. let it = behind (occurrences_from s x) (occurrences_from (fold past s x) more) j o at in part.listed it.0 o (ap (λ os. slice_get os it.0) (occurrences-append s x more) ∙ it.1);
+  listed = λ j o at. let it = get-right (occurrences_from s x) (occurrences_from (fold past s x) more) j o at in part.listed it.0 o (ap (λ os. slice_get os it.0) (occurrences-append s x more) ∙ it.1);
   far = let place = fold-place t y in let before = part.far in omega (arith, place, before);
 }
 
@@ -212,7 +150,7 @@ module _ {L : Ident → Type 0} {xs ys : List Item} (w : Turned L zero xs ys) (g
   near : (o u : Occurrence) → StandsBeside In o u → DenotedBeside R g ds (denoted_of BySymbol Cjs ds o) (own_denoted item u) → is_inside 0 (denoted_of BySymbol Cjs ds o) ≡ is_inside t.place (own_denoted item u)
   near o u stands beside = by (denoted_of BySymbol Cjs ds o) (own_denoted item u) beside (denoted-in (GoesIn In) tt ds o (framed-in stands.scopes))
     where
-      by : (a b : Denoted) → DenotedBeside R g ds a b → GoesIn In (its_scope a) → is_inside 0 a ≡ is_inside t.place b
+      by : (a b : Denoted) → DenotedBeside R g ds a b → GoesIn In (scope_in a) → is_inside 0 a ≡ is_inside t.place b
       by a b globals goes = refl
       by a b (bindings top) goes = sym (not-inside 21 (omega arith))
       by a b (bindings wrapper) goes = sym (not-inside 10 (omega arith))
@@ -301,7 +239,7 @@ module _ {L : Ident → Type 0} {xs ys : List Item} (w : Turned L zero xs ys) (g
       all-noted (changed stands refers is rest) [] at told = absurd told
       all-noted (changed {o = o} {u = u} stands refers is rest) (meant ∷ meants) at told = (name-noted o u meant (stands, at zero o refl) told.0, all-noted rest meants (λ j q is. at (suc j) q is) told.1)
 
-  -- THE STATEMENT: noted in the module, it is noted in the item of the load function, by itself (`StatementNoted` of the probe `compose`)
+  -- THE STATEMENT: noted in the module, it is noted in the item of the load function, by itself
   pub statement-noted : (items : List (List Item)) → AreKnown w g load helper m e its items → (table : Table) (c : ℕ) → AreTabled table c g xs L → (meants : List Meant) → AreTold table L c g ds (each_denoted_once (filter (is_inside 0) (map (denoted_of BySymbol Cjs ds) (occurrences_from s x)))) (occurrences_from s x) (occurrences_from t y) meants → AllZip (NameNoted items table item t.place (each_denoted_once (filter (is_inside t.place) (map (own_denoted item) (occurrences_from t y))))) (occurrences_from t y) meants
   statement-noted items known table c tabled meants told =
       let inner0 : List Denoted = each_denoted_once (filter (is_inside 0) (map (denoted_of BySymbol Cjs ds) (occurrences_from s x))) in
@@ -311,7 +249,7 @@ module _ {L : Ident → Type 0} {xs ys : List Item} (w : Turned L zero xs ys) (g
       (inside_zip (DenotedBeside R g ds) (is_inside 0) (is_inside t.place) (map (denoted_of BySymbol Cjs ds) (occurrences_from s x)) (map (own_denoted item) (occurrences_from t y)) (all-inside items known table c tabled inner0 part-follows meants part-index told)) d v beside)
       part-follows meants part-index told
 
-  -- the bindings inside are called as in the module (for `CalledAlike` of bundle_terms/specs/Symbols.antt)
+  -- the bindings inside are called as in the module
   symbols-same : (olds bs : List Denoted) → AllZip (DenotedBeside R g ds) olds bs → map denoted_symbol bs ≡ map denoted_symbol olds
   symbols-same [] [] all = refl
   symbols-same [] (b ∷ bs) all = absurd all

@@ -1,5 +1,5 @@
 -- Such a walk turns a statement into one of the load function.
-use Rattle.std.proofs.Common.{◌≡◌, ℕ, suc, true, false, List, [], ◌∷◌, ◌++◌, Some, None, refl, ap, sym, subst, append_assoc}
+use Rattle.std.proofs.Common.{◌≡◌, ℕ, suc, false, List, [], ◌∷◌, ◌++◌, Some, None, refl, ap, sym, subst, append_assoc}
 use Rattle.std.specs.Prelude.{if◌then◌else◌}
 use Rattle.std.proofs.lemmas.Bool.{false≢true}
 use Rattle.bundle_tree_piece.specs.declared.piece.Role.{Role}
@@ -10,17 +10,12 @@ use Rattle.bundle_rules.specs.Nodes.{Text}
 use Rattle.bundle_rules.specs.Idents.{Ident}
 use Rattle.bundle_rules.specs.Rebuilds.{Change, key_in_object, plain_key}
 use Rattle.bundle_tree_places.specs.Edits.{Around, Anywhere, InObject, InSpecifier, node, binding, in_its_place, pattern_in_its_place, shorthand_in_its_place}
-use Rattle.bundle_tree_places.specs.Edits as d
 use Rattle.bundle_merge_meaning.specs.walked.Work.{Work, change_at}
 use Rattle.bundle_merge_meaning.specs.walked.Becomes.{reference, kept_notes}
 use Rattle.bundle_merge_meaning.specs.walked.Rewrites.{Rewrites, Nothing, Joined, Hole, Word, Name, Inside, Declaration, Kept, Shorthand, OfReads, OfCall, OfMeta}
-use Rattle.bundle_merge_joined.specs.loaded.Turned.{is_module_head, is_occurrence, Turned, begun, declares, ended, named, word, empty, called}
+use Rattle.bundle_rules.specs.Callable.{is_module_head}
+use Rattle.bundle_merge_joined.specs.loaded.Turned.{Turned, begun, declares, ended, named, word, empty, called}
 use Rattle.bundle_merge_joined.specs.loaded.Walk.{IsFine}
-
-occurs : (role : Role) → d.is_occurrence role ≡ true → is_occurrence role ≡ true
-occurs r.Word is = absurd (false≢true is)
-occurs r.Binding is = refl
-occurs r.Reference is = refl
 
 -- what keeps its symbol is not spelled out
 stays-short : (around : Around) (change : Change) (field : ℕ) (x : Text) (ctxt : ℕ) (role : Role) → change.is_spelled_out ≡ false → in_its_place around (Some change) field x ctxt role ≡ h.Ident field change.ident.0 change.ident.1 role ∷ []
@@ -51,7 +46,7 @@ module _ (L : Ident → Type 0) where
   walk-turns (Word field x ctxt r.Reference is) fine depth xs ys v = absurd (false≢true (sym is))
   walk-turns (Name around field x ctxt role step is free takes) fine depth xs ys v =
       subst (λ list. Turned L depth (h.Ident field x ctxt role ∷ xs) (list ++ ys)) (sym (stays-short around (change_at x step) field x ctxt role fine.short))
-      (subst (λ y. Turned L depth (h.Ident field x ctxt role ∷ xs) (h.Ident field y step.ident.1 role ∷ ys)) (sym fine.symbol) (named (occurs role is) v))
+      (subst (λ y. Turned L depth (h.Ident field x ctxt role ∷ xs) (h.Ident field y step.ident.1 role ∷ ys)) (sym fine.symbol) (named is v))
   walk-turns (Inside field head {inside = inside} {made = made} stays one) fine depth xs ys v = turned-node field head inside made xs ys fine.0 (walk-turns one fine.1 (suc depth) (h.Close ∷ xs) (h.Close ∷ ys) (ended v))
   walk-turns (Declaration {work = work} field kind notes {inside = inside} {made = made} one) fine depth xs ys v =
       subst (λ list. Turned L depth list (node field (h.VarDecl kind (kept_notes work.clears_notes notes)) made ++ ys)) (sym (node-append field (h.VarDecl kind notes) inside xs)) (subst (Turned L depth (h.Open field (h.VarDecl kind notes) ∷ (inside ++ h.Close ∷ xs))) (sym (node-append field (h.VarDecl kind (kept_notes work.clears_notes notes)) made ys))
@@ -64,7 +59,7 @@ module _ (L : Ident → Type 0) where
       subst (λ list. Turned L depth (node field h.AssignPatProp (binding None 0 x ctxt role ++ default) ++ xs) (list ++ ys)) (sym (pattern-short (change_at x step) field x ctxt role made fine.0.short))
       (turned-node field h.AssignPatProp (binding None 0 x ctxt role ++ default) (binding (Some (change_at x step)) 0 x ctxt role ++ made) xs ys refl
       (begun refl (subst (λ y. Turned L (suc (suc depth)) (h.Ident 0 x ctxt role ∷ h.Close ∷ (default ++ h.Close ∷ xs)) (h.Ident 0 y step.ident.1 role ∷ h.Close ∷ (made ++ h.Close ∷ ys))) (sym fine.0.symbol)
-      (named (occurs role is) (ended (walk-turns one fine.1 (suc depth) (h.Close ∷ xs) (h.Close ∷ ys) (ended v)))))))
+      (named is (ended (walk-turns one fine.1 (suc depth) (h.Close ∷ xs) (h.Close ∷ ys) (ended v)))))))
   walk-turns (OfReads field name inside is) fine depth xs ys v = absurd fine
   walk-turns (OfCall field name inside is) fine depth xs ys v =
       subst (λ list. Turned L depth (node field h.CallExpr list ++ xs) (node field h.CallExpr (reference 0 name) ++ ys)) (sym fine.0.is) (called fine.1 v)

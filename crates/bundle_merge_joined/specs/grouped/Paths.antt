@@ -8,6 +8,7 @@ use Rattle.bundle_rules.specs.Nodes.{in_field, node_at}
 use Rattle.bundle_rules.specs.Entries.{is_call_head}
 use Rattle.bundle_rules.specs.Reads.{property_of}
 use Rattle.bundle_rules.specs.Order.{is_declarator, is_nothing, is_text}
+use Rattle.bundle_merge_meaning.proofs.noted.Spots.{around}
 
 -- whether an element is an identifier that binds or refers
 abbrev pub is_named : Item → Bool
@@ -16,10 +17,6 @@ is_named (h.Ident field sym ctxt role) = true
 is_named (h.Open field head) = false
 is_named (h.Hole field) = false
 is_named h.Close = false
-
--- a node as it is around a place in this field of it
-abbrev pub node_in : Head → ℕ → ℕ → Around
-node_in head begins field = record { head = head; begins = begins; field = field }
 
 -- whether a node that begins at a place calls the `assign` of what passes the test at its place
 abbrev pub calls_assign : List Item → (ℕ → Bool) → ℕ → Bool
@@ -39,13 +36,13 @@ pub record NodeAlike (before after : List Item) (test_before test_after : ℕ �
 pub data PathAlike (before after : List Item) (test_before test_after : ℕ → Bool) : List Around → List Around → Type 0 where
   outside : PathAlike before after test_before test_after [] []
   -- the same node
-  same : (head : Head) (b a field : ℕ) {p q : List Around} → NodeAlike before after test_before test_after head b a → PathAlike before after test_before test_after p q → PathAlike before after test_before test_after (node_in head b field ∷ p) (node_in head a field ∷ q)
+  same : (head : Head) (b a field : ℕ) {p q : List Around} → NodeAlike before after test_before test_after head b a → PathAlike before after test_before test_after p q → PathAlike before after test_before test_after (around head b field ∷ p) (around head a field ∷ q)
   -- the pair that a shorthand of an object literal is spelled out with
-  pair : (b a field : ℕ) {p q : List Around} → property_of (node_at before b) ≡ None → PathAlike before after test_before test_after (node_in h.ObjectLit b field ∷ p) q → PathAlike before after test_before test_after (node_in h.ObjectLit b field ∷ p) (node_in h.KeyValueProp a 1 ∷ q)
+  pair : (b a field : ℕ) {p q : List Around} → property_of (node_at before b) ≡ None → PathAlike before after test_before test_after (around h.ObjectLit b field ∷ p) q → PathAlike before after test_before test_after (around h.ObjectLit b field ∷ p) (around h.KeyValueProp a 1 ∷ q)
   -- the pair that a shorthand property of a pattern is spelled out with, around the name: without a default value
-  key : (b a : ℕ) {p q : List Around} → property_of (node_at before b) ≡ None → PathAlike before after test_before test_after p q → PathAlike before after test_before test_after (node_in h.AssignPatProp b 0 ∷ p) (node_in h.KeyValuePatProp a 1 ∷ q)
+  key : (b a : ℕ) {p q : List Around} → property_of (node_at before b) ≡ None → PathAlike before after test_before test_after p q → PathAlike before after test_before test_after (around h.AssignPatProp b 0 ∷ p) (around h.KeyValuePatProp a 1 ∷ q)
   -- with a default value, around the name and around the value
-  defaulted : (b a outer field : ℕ) {p q : List Around} → property_of (node_at before b) ≡ None → property_of (node_at after a) ≡ None → PathAlike before after test_before test_after p q → PathAlike before after test_before test_after (node_in h.AssignPatProp b field ∷ p) (node_in h.AssignPat a field ∷ node_in h.KeyValuePatProp outer 1 ∷ q)
+  defaulted : (b a outer field : ℕ) {p q : List Around} → property_of (node_at before b) ≡ None → property_of (node_at after a) ≡ None → PathAlike before after test_before test_after p q → PathAlike before after test_before test_after (around h.AssignPatProp b field ∷ p) (around h.AssignPat a field ∷ around h.KeyValuePatProp outer 1 ∷ q)
 
 -- two identifiers correspond: they both bind or both refer, and the nodes around them are alike
 pub record NameAlike (before after : List Item) (test_before test_after : ℕ → Bool) (o its : Occurrence) : Type 0 where

@@ -5,16 +5,6 @@ use Rattle.bundle_rules.specs.Scopes.{Scope, ScopeKind, Wrapper, Top, Inner, Par
 use Rattle.bundle_rules.specs.Declarations.{Way, ByImport, ByDefault, ByWrapper, ByParameter, Declared, wrapper_parameter}
 use Rattle.bundle_rules.specs.Homes.{from_taker, nearest}
 
--- the scope of the function's name, which nothing declares; that of its parameters; and that of its body
-abbrev pub name_scope : Scope
-name_scope = Inner FunctionName 9
-
-abbrev pub parameters_scope : Scope
-parameters_scope = Inner Parameters 10
-
-abbrev pub body_scope : Scope
-body_scope = Inner FunctionBody 21
-
 -- nodes of the module's statements go to nodes in the body, one to one: `from` leads back
 pub record IsFrame (R : ℕ → ℕ → Type 0) : Type 0 where
   pub one : (a b c : ℕ) → R a b → R a c → b ≡ c

@@ -9,6 +9,7 @@ use Rattle.bundle_rules.specs.Scopes.{ModuleKind, Top, Inner, Parameters, Functi
 use Rattle.bundle_rules.specs.Declarations.{Reading, ByParameter, Declared, declaration_of}
 use Rattle.bundle_rules.specs.Idents.{Ident}
 use Rattle.bundle_rules.specs.Statements.{no_notes}
+use Rattle.bundle_merge_meaning.proofs.noted.Spots.{around}
 
 -- `var load = helper(function (m, e) {` (as `load_front_items` of the probe `become`)
 abbrev pub front_items : (load helper m e : Ident) → List Item
@@ -25,10 +26,6 @@ back_items = h.Close ∷ h.Close ∷ h.Close ∷ h.Close ∷ h.Close ∷ h.Close
 
 abbrev pub load_item : (load helper m e : Ident) → List Item → List Item
 load_item load helper m e made = front_items load helper m e ++ (made ++ back_items)
-
--- a node that is open
-abbrev pub around : Head → ℕ → ℕ → Around
-around head begins field = record { head = head; begins = begins; field = field }
 
 -- the nodes around the statements, in this field of the body
 abbrev pub body_path : ℕ → List Around

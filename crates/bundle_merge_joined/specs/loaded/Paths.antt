@@ -5,8 +5,9 @@ use Rattle.bundle_tree_leaf.specs.declared.kind.VarDeclKind.{VarDeclKind}
 use Rattle.bundle_tree_piece.specs.Item as h
 use Rattle.bundle_tree_piece.specs.Item.{Head}
 use Rattle.bundle_rules.specs.Places.{Around}
-use Rattle.bundle_merge_joined.specs.loaded.Turned.{is_module_head}
-use Rattle.bundle_merge_joined.specs.loaded.Item.{around, body_path}
+use Rattle.bundle_rules.specs.Callable.{is_module_head}
+use Rattle.bundle_merge_meaning.proofs.noted.Spots.{around}
+use Rattle.bundle_merge_joined.specs.loaded.Item.{body_path}
 
 -- the same node but for notes
 pub data SameHead : Head → Head → Type 0 where

@@ -1,41 +1,23 @@
 -- What becomes of the statements of a CommonJS module in its load function: names get contexts, literal calls of `require` become
 -- calls of load functions, and empty statements go.
-use Rattle.std.specs.Prelude.{◌≡◌, ℕ, zero, suc, ◌+◌, ◌==◌, ◌⊎◌, Bool as Truth, true, false, cond, List, [], ◌∷◌, Option, ⊤}
+use Rattle.std.specs.Prelude.{◌≡◌, ℕ, zero, suc, ◌+◌, ◌==◌, ◌⊎◌, true, false, cond, List, [], ◌∷◌, Option, ⊤}
 use Rattle.bundle_tree_leaf.specs.declared.kind.ExportMetadata.{ExportMetadata}
 use Rattle.bundle_tree_leaf.specs.declared.kind.VarDeclKind.{VarDeclKind}
 use Rattle.bundle_tree_piece.specs.declared.piece.Role.{Role}
 use Rattle.bundle_tree_piece.specs.declared.piece.Role.TheVariants as r
 use Rattle.bundle_tree_piece.specs.Item as h
 use Rattle.bundle_tree_piece.specs.Item.{Item, Head}
-use Rattle.bundle_rules.specs.Places.{Spot, past, Occurrence, in_field, is_binding}
+use Rattle.bundle_rules.specs.Places.{Spot, past, Occurrence, is_binding}
 use Rattle.bundle_rules.specs.Scopes.{Cjs}
 use Rattle.bundle_rules.specs.Declarations.{BySymbol, Declared}
 use Rattle.bundle_rules.specs.Denotes.{denoted_of}
 use Rattle.bundle_rules.specs.Nodes.{Text}
 use Rattle.bundle_rules.specs.Idents.{Ident}
 use Rattle.bundle_scope_names.proofs.Numbering.{Numbering, context_of}
+use Rattle.bundle_rules.specs.Callable.{is_module_head}
+use Rattle.bundle_tree_places.specs.Edits.{is_occurrence}
+use Rattle.bundle_merge_meaning.proofs.noted.Names.{occurrence_here}
 use Rattle.bundle_merge_joined.specs.loaded.Kept.{StandsBeside, KeepsName}
-
--- whether such a node is a module, or an import, an export or a part of one (as in the probe `wrap`)
-abbrev pub is_module_head : Head → Truth
-is_module_head h.Module = true
-is_module_head (h.ImportDecl meta) = true
-is_module_head h.ImportNamedSpecifier = true
-is_module_head h.ImportDefaultSpecifier = true
-is_module_head h.ImportStarAsSpecifier = true
-is_module_head h.ExportDecl = true
-is_module_head (h.NamedExport meta) = true
-is_module_head h.ExportNamespaceSpecifier = true
-is_module_head h.ExportNamedSpecifier = true
-is_module_head h.ExportDefaultDecl = true
-is_module_head h.ExportDefaultExpr = true
-is_module_head (h.ExportAll meta) = true
-is_module_head _ = false
-
--- whether an identifier binds or refers
-abbrev pub is_occurrence : Role → Truth
-is_occurrence r.Word = false
-is_occurrence _ = true
 
 -- `Turned L depth xs ys`, where `L` tells the names of load functions: whole nodes, of which `depth` are open at first, and what becomes of them
 pub data Turned (L : Ident → Type 0) : ℕ → List Item → List Item → Type 0 where
@@ -76,10 +58,6 @@ origin (word rest) from to b = origin rest (from + 1) (to + 1) b
 origin (empty rest) from to b = origin rest (from + 1) (to + 1) b
 origin (called is rest) from to b = cond (b == to) from (origin rest (from + 7) (to + 3) b)
 origin (skipped rest) from to b = origin rest (from + 2) to b
-
--- an occurrence at a spot
-abbrev pub occurrence_here : Spot → ℕ → Text → ℕ → Role → Occurrence
-occurrence_here s field x ctxt role = record { place = s.place; sym = x; ctxt = ctxt; role = role; path = in_field field s.path }
 
 -- a name becomes its symbol with the context of what it denotes by its symbol in the module; or, where it refers, the name of a load function
 abbrev pub FitsName : (L : Ident → Type 0) → Numbering → List Declared → Occurrence → Ident → Type 0

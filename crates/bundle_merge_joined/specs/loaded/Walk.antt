@@ -8,7 +8,7 @@ use Rattle.bundle_rules.specs.Idents.{Ident}
 use Rattle.bundle_tree_places.specs.Edits.{Around}
 use Rattle.bundle_merge_meaning.specs.walked.Work.{Step, Work, is_spelled_out_by}
 use Rattle.bundle_merge_meaning.specs.walked.Rewrites.{Rewrites, Nothing, Joined, Hole, Word, Name, Inside, Declaration, Kept, Shorthand, OfReads, OfCall, OfMeta}
-use Rattle.bundle_merge_joined.specs.loaded.Turned.{is_module_head}
+use Rattle.bundle_rules.specs.Callable.{is_module_head}
 
 -- a name that refers, and one string as an argument, not spread
 pub record IsLiteral (inside : List Item) : Type 0 where
