@@ -94,6 +94,10 @@ blank-plain (h.Ident field x c r.Reference ∷ xs) = blank-plain xs
 blank-plain (h.Hole field ∷ xs) = blank-plain xs
 blank-plain (h.Close ∷ xs) = blank-plain xs
 
+blank-length : (xs : List Item) → length (blanks xs) ≡ length xs
+blank-length [] = refl
+blank-length (x ∷ xs) = ap suc (blank-length xs)
+
 blank-marks : (xs : List Item) (names : List Label) → plain_marks (blanks xs) names ≡ plain_marks xs names
 blank-marks [] names = refl
 blank-marks (h.Open field head ∷ xs) names = λ i. k.Begins field (twice head i) ∷ blank-marks xs names i
@@ -109,6 +113,7 @@ pub same-marks : (xs ys : List Item) (names : List Label) (marks : List Mark) �
 same-marks xs ys names marks e its = record {
   plain = sym (blank-plain ys) ∙ ap are_plain (sym e) ∙ blank-plain xs ∙ its.plain;
   its = sym (blank-marks ys names) ∙ ap (λ l. plain_marks l names) (sym e) ∙ blank-marks xs names ∙ its.its;
+  long = sym (blank-length ys) ∙ ap length (sym e) ∙ blank-length xs ∙ its.long;
 }
 
 -- Spots.
@@ -187,7 +192,7 @@ pub front-blank : (meta : ExportMetadata) (load helper own its : Ident) → blan
 front-blank meta load helper own its = refl
 
 pub front-marks : (c : ℕ) (meta : ExportMetadata) (load helper own its : Ident) → HasPlainMarks (function_front meta load helper own its) (function_names c) (load_front c)
-front-marks c meta load helper own its = record { plain = refl; its = refl }
+front-marks c meta load helper own its = record { plain = refl; its = refl; long = refl }
 
 -- the function is its front, its body and its ends
 pub function-parts : (meta : ExportMetadata) (load helper own its : Ident) (body : List Item) → function_items meta load helper own its body ≡ function_front meta load helper own its ++ (body ++ function_ends)

@@ -53,6 +53,14 @@ beside-flat : (items : List (List Item)) → AllOf IsSingle items → side_by_si
 beside-flat [] single = refl
 beside-flat (item ∷ more) single = single.0 (flat more) ∙ ap (λ rest. item ∷ rest) (beside-flat more single.1)
 
+-- the same up to the end of the node around them
+beside-end : (items : List (List Item)) → AllOf IsSingle items → side_by_side zero (flat items ++ h.Close ∷ []) ≡ items
+beside-end [] single = refl
+beside-end (item ∷ more) single =
+    ap (side_by_side zero) (append_assoc item (flat more) (h.Close ∷ []))
+    ∙ single.0 (flat more ++ h.Close ∷ [])
+    ∙ ap (λ rest. item ∷ rest) (beside-end more single.1)
+
 -- paths of plain elements
 plain_behind : (s : Spot) (xs : List Item) → IsPlainPath s.path → are_plain xs ≡ true → IsPlainPath (fold past s xs).path
 plain_behind s [] plain all = plain
@@ -151,7 +159,9 @@ module _ (b : Labelled) (listing : IsListing b.tree) where
             ∙ ap₂ (λ k j. taken_from s.place front ++ (taken_from k (flat insides) ++ taken_from j function_ends)) place back_place;
         front_means = subst (λ marks. Means (sense_of b) [] (taken_from s.place front) marks) its.its (plain_means b s front ((flat insides ++ function_ends) ++ tail) at_front plain its.plain names agree);
         back_means = plain_means b (fold past (fold past s front) (flat insides)) function_ends tail at_back plain_back refl [] tt;
-        whole = ap flat (beside-flat insides states.single);
+        front_length = taken-length s.place front ∙ its.long;
+        back_length = taken-length (fold past (fold past s front) (flat insides)).place function_ends;
+        whole = ap flat (beside-end insides states.single);
         statements = subst (λ parts. AllZip (SameMeaning p b c) (placed (s.place + length (taken_from s.place front)) parts) (own_statements (tree_of p c))) (sym (beside-flat insides states.single))
             (subst (λ k. AllZip (SameMeaning p b c) (placed k insides) (own_statements (tree_of p c))) place
             (statements_mean p c (fold past s front) insides tolds (own_statements (tree_of p c)) (function_ends ++ tail) at_inside own.0 (fold past s front).path own.1 plain_inside states.marked states.means all_agree));

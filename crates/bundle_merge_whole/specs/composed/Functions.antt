@@ -1,5 +1,5 @@
 -- The function of a CommonJS module in a bundle, by its list, where these identifiers stand in front of its statements.
-use Rattle.std.specs.Prelude.{ℕ, false, List, [], ◌∷◌, ◌++◌, codes}
+use Rattle.std.specs.Prelude.{ℕ, false, List, [], ◌∷◌, ◌++◌}
 use Rattle.std.specs.List.{AllZip}
 use Rattle.bundle_tree_leaf.specs.declared.kind.ExportMetadata.{ExportMetadata}
 use Rattle.bundle_tree_leaf.specs.declared.kind.VarDeclKind.TheVariants.{Var}
@@ -8,8 +8,8 @@ use Rattle.bundle_tree_piece.specs.Item as h
 use Rattle.bundle_tree_piece.specs.Item.{Item}
 use Rattle.bundle_rules.specs.Idents.{Ident}
 use Rattle.bundle_rules.specs.Sorting.{flat}
-use Rattle.bundle_rules.specs.Meaning.{Label, Load, Helper, Parameter}
 use Rattle.bundle_tree_places.specs.Edits.{node}
+pub use Rattle.bundle_merge_joined.specs.loaded.Pieces.{function_names}
 use Rattle.bundle_merge_meaning.specs.walked.Renaming.{Told, IsMarked}
 use Rattle.bundle_merge_whole.specs.composed.Noted.{Noted, AsWhole, AsFunction}
 
@@ -21,10 +21,6 @@ function_front meta load helper «module» exports =
     ∷ h.Open 0 h.Param ∷ h.Open 0 h.BindingIdent ∷ h.Ident 0 «module».0 «module».1 Binding ∷ h.Close ∷ h.Close
     ∷ h.Open 0 h.Param ∷ h.Open 0 h.BindingIdent ∷ h.Ident 0 exports.0 exports.1 Binding ∷ h.Close ∷ h.Close
     ∷ h.Open 1 h.BlockStmt ∷ []
-
--- what its names stand for
-abbrev pub function_names : ℕ → List Label
-function_names c = Load c ∷ Helper ∷ Parameter c (codes "module") ∷ Parameter c (codes "exports") ∷ []
 
 -- its declarator, with these elements as the body
 abbrev pub function_declarator : (load helper «module» exports : Ident) → List Item → List Item

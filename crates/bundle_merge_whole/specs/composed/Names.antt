@@ -1,6 +1,6 @@
 -- What the names of a bundle's items are told to mean, by their identifiers: by a table from identifiers to labels, and
 -- by each item by itself.
-use Rattle.std.specs.Prelude.{◌≡◌, ℕ, true, false, List, [], ◌∷◌, Option, Some, Contains, filter, find, fold, map, option_map, position, ⊤}
+use Rattle.std.specs.Prelude.{◌≡◌, ℕ, false, List, [], ◌∷◌, Option, Some, Contains, find, fold, map, option_map}
 use Rattle.std.specs.List.{AllZip, cons_option}
 use Rattle.bundle_tree_piece.specs.Item.{Item}
 use Rattle.bundle_rules.specs.Places.{Spot, Occurrence, past, occurrences, occurrences_from}
@@ -11,19 +11,16 @@ use Rattle.bundle_rules.specs.Keywords.{is_keyword}
 use Rattle.bundle_rules.specs.Nodes.{Text}
 use Rattle.bundle_rules.specs.Idents.{Ident, ident_of}
 use Rattle.bundle_rules.specs.Rebuilds.{ident_eq}
-use Rattle.bundle_rules.specs.Mentions.{same_denoted, each_denoted_once}
 use Rattle.bundle_rules.specs.Program.{Program}
 use Rattle.bundle_rules.specs.Linking.{Declared as IsDeclared}
-use Rattle.bundle_rules.specs.Meaning.{Of, Label, Meant, Inside, Known, Unbound, Labelling, is_inside}
+use Rattle.bundle_rules.specs.Meaning.{Of, Label, Labelling}
 use Rattle.bundle_rules.specs.Symbols.{symbol_of_label}
-use Rattle.bundle_merge_joined.specs.joined.Joined.{own_declared, is_top_name, is_written}
-use Rattle.bundle_merge_joined.specs.joined.Notes.{its_name, own_denoted, is_inner, is_inner_name}
+pub use Rattle.bundle_merge_joined.specs.loaded.Names.{Table, IsLabelled, labelled_top, labelled_inner}
+pub use Rattle.bundle_merge_joined.specs.loaded.Names.{NameNoted, is_one_inside, is_known, is_free}
+use Rattle.bundle_merge_joined.specs.loaded.Pieces as pieces
+pub use Rattle.bundle_merge_joined.specs.loaded.Pieces.{own_from}
 use Rattle.bundle_merge_meaning.specs.walked.Renaming.{Told}
 use Rattle.bundle_merge_whole.specs.composed.Noted.{Noted, AsWhole, AsFunction, first_spot}
-
--- which identifier stands for what
-abbrev pub Table : Type 0
-Table = List (Ident × Label)
 
 -- no identifier has two labels, and no label two identifiers
 pub record IsTable (table : Table) : Type 0 where
@@ -43,30 +40,14 @@ abbrev pub labels_in : List Item → Table → Labelling
 labels_in tree [] = []
 labels_in tree (entry ∷ rest) = cons_option (option_map (λ d. (d, entry.1)) (denoted_ident tree entry.0)) (labels_in tree rest)
 
--- an occurrence of an item stands for the label: a name of the top of the whole, or a binding of an inner scope of the item by itself
-pub data IsLabelled (items : List (List Item)) (table : Table) (item : List Item) (o : Occurrence) (l : Label) : Type 0 where
-  labelled_top : is_top_name items (its_name o) ≡ true → is_inner_name (own_declared item) (its_name o) ≡ false → Contains table (ident_of o, l) → IsLabelled items table item o l
-  labelled_inner : is_inner (own_denoted item o) ≡ true → (is_written (own_denoted item o) ≡ false → is_top_name items (its_name o) ≡ false) → Contains table (ident_of o, l) → IsLabelled items table item o l
-
--- what an occurrence of an item means, in a statement that begins at this place of the item by itself and has these bindings inside
-pub data NameNoted (items : List (List Item)) (table : Table) (item : List Item) (begins : ℕ) (inner : List Denoted) (o : Occurrence) : Meant → Type 0 where
-  is_one_inside : {k : ℕ} → is_inner (own_denoted item o) ≡ true → (is_written (own_denoted item o) ≡ false → is_top_name items (its_name o) ≡ false) → is_inside begins (own_denoted item o) ≡ true → position (same_denoted (own_denoted item o)) inner ≡ Some k → NameNoted items table item begins inner o (Inside k)
-  is_known : {l : Label} → is_inside begins (own_denoted item o) ≡ false → IsLabelled items table item o l → NameNoted items table item begins inner o (Known l)
-  is_free : o.ctxt ≡ 1 → is_top_name items (its_name o) ≡ false → is_inner_name (own_declared item) (its_name o) ≡ false → NameNoted items table item begins inner o (Unbound o.sym)
-
--- what the names of a part of an item denote by itself, in turn, where the part stands at this spot of it
-abbrev pub own_from : List Item → Spot → List Item → List Denoted
-own_from item s part = map (own_denoted item) (occurrences_from s part)
-
 -- a statement in an item, at this spot of the item by itself, is noted by its identifiers
 abbrev pub StatementNoted : List (List Item) → Table → List Item → Spot → List Item → Told → Type 0
-StatementNoted items table item s part told = AllZip (NameNoted items table item s.place (each_denoted_once (filter (is_inside s.place) (own_from item s part)))) (occurrences_from s part) told.0
+StatementNoted items table item s part told = pieces.StatementNoted items table item s part told.0
 
 -- statements in an item, one after another
 abbrev pub StatementsNoted : List (List Item) → Table → List Item → Spot → List (List Item) → List Told → Type 0
-StatementsNoted items table item s [] [] = ⊤
-StatementsNoted items table item s (part ∷ parts) (told ∷ tolds) = StatementNoted items table item s part told × StatementsNoted items table item (fold past s part) parts tolds
-StatementsNoted items table item s _ _ = ⊥
+StatementsNoted items table item s parts tolds =
+    pieces.StatementsNoted items table item s parts (map (λ (told : Told). told.0) tolds)
 
 -- an item is noted by its identifiers
 abbrev pub ItemNoted : List (List Item) → Table → List Item → Noted → Type 0

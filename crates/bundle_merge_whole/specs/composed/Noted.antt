@@ -1,6 +1,6 @@
 -- A bundle in the form of a module whose items are noted right: what each item's names mean and its marks, and what its
 -- names have to denote, in whatever reading.
-use Rattle.std.specs.Prelude.{◌≡◌, ℕ, Bool, true, false, ◌&&◌, not, ◌↔◌, List, [], ◌∷◌, ◌++◌, Some, Contains, filter, map, slice_get, position, fold, IsTrue, ⊤}
+use Rattle.std.specs.Prelude.{◌≡◌, ℕ, Bool, true, false, ◌&&◌, not, ◌↔◌, List, [], ◌∷◌, ◌++◌, Some, Contains, filter, length, map, slice_get, position, fold, IsTrue, ⊤}
 use Rattle.std.specs.List.{AllZip}
 use Rattle.bundle_tree_piece.specs.declared.piece.Role.TheVariants.{Word as IsWord}
 use Rattle.bundle_tree_piece.specs.Item as h
@@ -66,10 +66,11 @@ plain_marks (h.Ident field x ctxt role ∷ rest) (l ∷ names) = k.Name field (K
 plain_marks (h.Hole field ∷ rest) names = k.Empty field ∷ plain_marks rest names
 plain_marks (h.Close ∷ rest) names = k.Ends ∷ plain_marks rest names
 
--- in these elements nothing is spelled out, and they have these marks
+-- in these elements nothing is spelled out, and they have these marks, one each
 pub record HasPlainMarks (items : List Item) (names : List Label) (marks : List Mark) : Type 0 where
   pub plain : are_plain items ≡ true
   pub its : plain_marks items names ≡ marks
+  pub long : length items ≡ length marks
 
 -- the statements of a CommonJS module, each with what is told of it
 pub record StateAll (p : Program) (c : ℕ) (insides : List (List Item)) (tolds : List Told) : Type 0 where
