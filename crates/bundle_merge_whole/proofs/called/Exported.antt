@@ -41,7 +41,8 @@ use Rattle.bundle_merge_whole.proofs.called.Spots.{IsAt, at-next, at-path, at-oc
 
 -- the name under which a specifier exports
 abbrev pub exported : Specifier → Text
-exported it = elim (it.name) [ None ↦ it.sym | Some n ↦ elim n [ word x ctxt ↦ x | text x raw ↦ x ] ]
+exported it =
+    elim (it.name) [ None ↦ it.sym | Some n ↦ elim n [ word x ctxt ↦ x | text x raw ↦ x ] ]
 
 -- the binding of the top that has this name, and its label
 pub record StandsFor (reading : Reading) (all : List Declared) (labels : Labelling) (x : Text) (ctxt : ℕ) (t : Target) : Type 0 where
@@ -66,24 +67,39 @@ abbrev IsOfTop : Denoted → Type 0
 IsOfTop (Bound scope name) = scope ≡ Top
 IsOfTop (Global x) = Unit {0}
 
-found-top : (name : Known_as) (o : Option Scope) → ((s : Scope) → o ≡ Some s → s ≡ Top) → IsOfTop (bound_in name o)
+found-top : (name : Known_as) (o : Option Scope) → ((s : Scope) → o ≡ Some s → s ≡ Top) →
+    IsOfTop (bound_in name o)
 found-top name None at = tt
 found-top name (Some s) at = at s refl
 
-of-top : (reading : Reading) (all : List Declared) (name : Known_as) → IsOfTop (denoted_in reading all (Top ∷ []) name)
-of-top BySymbol all name = found-top name (find (λ scope. binds all scope name) (Top ∷ [])) (top-found (λ scope. binds all scope name))
-of-top ByContext all name = by (find (λ scope. is_written_in all scope name) (Top ∷ [])) (top-found (λ scope. is_written_in all scope name))
+of-top : (reading : Reading) (all : List Declared) (name : Known_as) →
+    IsOfTop (denoted_in reading all (Top ∷ []) name)
+of-top BySymbol all name =
+    found-top name (find (λ scope. binds all scope name) (Top ∷ []))
+    (top-found (λ scope. binds all scope name))
+of-top ByContext all name =
+    by (find (λ scope. is_written_in all scope name) (Top ∷ []))
+    (top-found (λ scope. is_written_in all scope name))
   where
-    unresolved : (t : Bool) → IsOfTop (cond t (Global name.sym) (bound_in (without_context name) (find (λ scope. is_implied_in all scope name) (Top ∷ []))))
+    unresolved : (t : Bool) →
+        IsOfTop
+            (cond t (Global name.sym) (bound_in (without_context name) (find (λ scope. is_implied_in all scope name) (Top ∷ []))))
     unresolved true = tt
-    unresolved false = found-top (without_context name) (find (λ scope. is_implied_in all scope name) (Top ∷ [])) (top-found (λ scope. is_implied_in all scope name))
+    unresolved false =
+        found-top (without_context name) (find (λ scope. is_implied_in all scope name) (Top ∷ []))
+        (top-found (λ scope. is_implied_in all scope name))
 
-    by : (o : Option Scope) → ((s : Scope) → o ≡ Some s → s ≡ Top) → IsOfTop (written_or_implied all (Top ∷ []) name o)
+    by : (o : Option Scope) → ((s : Scope) → o ≡ Some s → s ≡ Top) →
+        IsOfTop (written_or_implied all (Top ∷ []) name o)
     by None at = unresolved (is_unresolved name.ctxt)
     by (Some s) at = at s refl
 
 -- a name that means a label
-known : {tree : List Item} {reading : Reading} (labels : Labelling) {inner : List Denoted} {d : Denoted} {meant : Meant} (l : Label) → NameMeans (bundle_sense tree reading labels) inner d meant → meant ≡ m.Known l → (scope : Scope) × (name : Known_as) × (d ≡ Bound scope name) × Contains labels (Bound scope name, l)
+known : {tree : List Item} {reading : Reading} (labels : Labelling) {inner : List Denoted}
+    {d : Denoted} {meant : Meant} (l : Label) →
+    NameMeans (bundle_sense tree reading labels) inner d meant → meant ≡ m.Known l →
+    (scope : Scope) × (name : Known_as) × (d ≡ Bound scope name) ×
+        Contains labels (Bound scope name, l)
 known labels l (m.inside e) is = absurd cc
 known labels l (m.outside {scope} {name} {l = its} e stands) is = let same : its ≡ l = cc in (scope, name, refl, subst (λ k. Contains labels (Bound scope name, k)) same stands)
 known labels l m.unbound is = absurd cc
@@ -95,10 +111,22 @@ record NameRead (tree : List Item) (reading : Reading) (labels : Labelling) (inn
   named : exported it ≡ x
   j : ℕ
   n : ℕ
-  at : IsAt tree j (record { place = n; path = around (h.NamedExport meta) b 0 ∷ around h.Module 0 g ∷ [] }) behind_it
+  at : IsAt tree j
+      (record { place = n; path = around (h.NamedExport meta) b 0 ∷ around h.Module 0 g ∷ [] })
+      behind_it
   means : Means (bundle_sense tree reading labels) inner (taken_from j es) marks
 
-name-read : (tree : List Item) (reading : Reading) (labels : Labelling) {inner : List Denoted} (meta : ExportMetadata) (b g c f : ℕ) (y : Text) (ctxt : ℕ) (name : Option ExportedName) (x : Text) (t : Bool) (behind_it es : List Item) (some others : List Mark) (j n : ℕ) → IsAt tree j (record { place = n; path = around h.ExportNamedSpecifier c f ∷ around (h.NamedExport meta) b 0 ∷ around h.Module 0 g ∷ [] }) ((name_items name ++ h.Close ∷ []) ++ behind_it) → Means (bundle_sense tree reading labels) inner (taken_from j ((name_items name ++ h.Close ∷ []) ++ es)) ((((if t then Word 1 x ∷ [] else string_marks 1 x) ++ Ends ∷ []) ++ some) ++ others) → NameRead tree reading labels inner meta b g (record { sym = y; ctxt = ctxt; name = name }) x behind_it es (some ++ others)
+name-read : (tree : List Item) (reading : Reading) (labels : Labelling) {inner : List Denoted}
+    (meta : ExportMetadata) (b g c f : ℕ) (y : Text) (ctxt : ℕ) (name : Option ExportedName)
+    (x : Text) (t : Bool) (behind_it es : List Item) (some others : List Mark) (j n : ℕ) →
+    IsAt tree j
+        (record { place = n; path = around h.ExportNamedSpecifier c f ∷ around (h.NamedExport meta) b 0 ∷ around h.Module 0 g ∷ [] })
+        ((name_items name ++ h.Close ∷ []) ++ behind_it) →
+    Means (bundle_sense tree reading labels) inner
+        (taken_from j ((name_items name ++ h.Close ∷ []) ++ es))
+        ((((if t then Word 1 x ∷ [] else string_marks 1 x) ++ Ends ∷ []) ++ some) ++ others) →
+    NameRead tree reading labels inner meta b g (record { sym = y; ctxt = ctxt; name = name }) x
+        behind_it es (some ++ others)
 name-read tree reading labels meta b g c f y ctxt None x true behind_it es some others j n at means =
     let e = (meant-next (un-close tree reading labels j (around h.ExportNamedSpecifier c f) (around (h.NamedExport meta) b 0 ∷ around h.Module 0 g ∷ []) (at-path at) refl means)).0 in absurd cc
 name-read tree reading labels meta b g c f y ctxt None x false behind_it es some others j n at means =
@@ -126,7 +154,17 @@ record SpecifierRead (tree : List Item) (reading : Reading) (labels : Labelling)
   fits : Fits reading (declared reading Es tree) labels it pair
   read : NameRead tree reading labels inner meta b g it pair.0 behind_it es marks
 
-specifier-read : (tree : List Item) (reading : Reading) (labels : Labelling) {inner : List Denoted} (meta : ExportMetadata) (b g : ℕ) (y : Text) (ctxt : ℕ) (name : Option ExportedName) (pair : NamedTarget) (behind_it es : List Item) (some others : List Mark) (j n f : ℕ) → IsAt tree j (record { place = n; path = around (h.NamedExport meta) b f ∷ around h.Module 0 g ∷ [] }) (specifier_items (record { sym = y; ctxt = ctxt; name = name }) ++ behind_it) → Means (bundle_sense tree reading labels) inner (taken_from j (specifier_items (record { sym = y; ctxt = ctxt; name = name }) ++ es)) ((export_specifier pair ++ some) ++ others) → SpecifierRead tree reading labels inner meta b g (record { sym = y; ctxt = ctxt; name = name }) pair behind_it es (some ++ others)
+specifier-read : (tree : List Item) (reading : Reading) (labels : Labelling) {inner : List Denoted}
+    (meta : ExportMetadata) (b g : ℕ) (y : Text) (ctxt : ℕ) (name : Option ExportedName)
+    (pair : NamedTarget) (behind_it es : List Item) (some others : List Mark) (j n f : ℕ) →
+    IsAt tree j
+        (record { place = n; path = around (h.NamedExport meta) b f ∷ around h.Module 0 g ∷ [] })
+        (specifier_items (record { sym = y; ctxt = ctxt; name = name }) ++ behind_it) →
+    Means (bundle_sense tree reading labels) inner
+        (taken_from j (specifier_items (record { sym = y; ctxt = ctxt; name = name }) ++ es))
+        ((export_specifier pair ++ some) ++ others) →
+    SpecifierRead tree reading labels inner meta b g (record { sym = y; ctxt = ctxt; name = name })
+        pair behind_it es (some ++ others)
 specifier-read tree reading labels {inner} meta b g y ctxt name pair behind_it es some others j n f at means =
     let first = meant-next (un-open tree reading labels j 0 h.ExportNamedSpecifier (around (h.NamedExport meta) b 0) (around h.Module 0 g ∷ []) (at-path at) refl refl means) in
     let local = un-name tree reading labels (suc j) 0 y ctxt (around h.ExportNamedSpecifier n 0) (around (h.NamedExport meta) b 0 ∷ around h.Module 0 g ∷ []) (at-path (at-next at)) refl first.1 in
@@ -147,7 +185,16 @@ specifier-read tree reading labels {inner} meta b g y ctxt name pair behind_it e
     }
 
 -- what a list of specifiers says
-specifiers-read : (tree : List Item) (reading : Reading) (labels : Labelling) {inner : List Denoted} (meta : ExportMetadata) (b : ℕ) (g : ℕ) (specifiers : List Specifier) (pairs : List NamedTarget) (post : List Item) (j n f : ℕ) → IsAt tree j (record { place = n; path = around (h.NamedExport meta) b f ∷ around h.Module 0 g ∷ [] }) (flat_map specifier_items specifiers ++ h.Close ∷ post) → Means (bundle_sense tree reading labels) inner (taken_from j (flat_map specifier_items specifiers ++ h.Close ∷ [])) (flat_map export_specifier pairs ++ Ends ∷ []) → AllZip (Fits reading (declared reading Es tree) labels) specifiers pairs
+specifiers-read : (tree : List Item) (reading : Reading) (labels : Labelling) {inner : List Denoted}
+    (meta : ExportMetadata) (b : ℕ) (g : ℕ) (specifiers : List Specifier) (pairs : List NamedTarget)
+    (post : List Item) (j n f : ℕ) →
+    IsAt tree j
+        (record { place = n; path = around (h.NamedExport meta) b f ∷ around h.Module 0 g ∷ [] })
+        (flat_map specifier_items specifiers ++ h.Close ∷ post) →
+    Means (bundle_sense tree reading labels) inner
+        (taken_from j (flat_map specifier_items specifiers ++ h.Close ∷ []))
+        (flat_map export_specifier pairs ++ Ends ∷ []) →
+    AllZip (Fits reading (declared reading Es tree) labels) specifiers pairs
 specifiers-read tree reading labels meta b g [] [] post j n f at means = tt
 specifiers-read tree reading labels meta b g [] (pair ∷ pairs) post j n f at means =
     let e = (meant-next (un-close tree reading labels j (around (h.NamedExport meta) b f) (around h.Module 0 g ∷ []) (at-path at) refl means)).0 in absurd cc
@@ -160,7 +207,14 @@ specifiers-read tree reading labels {inner} meta b g (it ∷ specifiers) (pair �
     (one.fits, specifiers-read tree reading labels meta b g specifiers pairs post one.read.j one.read.n 0 one.read.at one.read.means)
 
 -- the list of exports
-pub exports-read : (tree : List Item) (reading : Reading) (labels : Labelling) {inner : List Denoted} (meta : ExportMetadata) (g : ℕ) (specifiers : List Specifier) (pairs : List NamedTarget) (post : List Item) (j n : ℕ) → IsAt tree j (record { place = n; path = around h.Module 0 g ∷ [] }) (export_items meta specifiers ++ post) → Means (bundle_sense tree reading labels) inner (taken_from j (export_items meta specifiers)) (export_list pairs) → AllZip (Fits reading (declared reading Es tree) labels) specifiers pairs
+pub exports-read : (tree : List Item) (reading : Reading) (labels : Labelling)
+    {inner : List Denoted} (meta : ExportMetadata) (g : ℕ) (specifiers : List Specifier)
+    (pairs : List NamedTarget) (post : List Item) (j n : ℕ) →
+    IsAt tree j (record { place = n; path = around h.Module 0 g ∷ [] })
+        (export_items meta specifiers ++ post) →
+    Means (bundle_sense tree reading labels) inner (taken_from j (export_items meta specifiers))
+        (export_list pairs) →
+    AllZip (Fits reading (declared reading Es tree) labels) specifiers pairs
 exports-read tree reading labels meta g specifiers pairs post j n at means =
     let first = meant-next (un-open tree reading labels j 0 (h.NamedExport meta) (around h.Module 0 0) [] (at-path at) refl refl means) in
     specifiers-read tree reading labels meta n 0 specifiers pairs post (suc j) (n + 1) 0 (at-list (append_assoc (flat_map specifier_items specifiers) (h.Close ∷ []) post) (at-next at)) first.1
@@ -176,7 +230,8 @@ passing : {A : Type 0} (q : A → Bool) (xs : List A) → Every (λ x. q x ≡ t
 passing q [] = none
 passing q (x ∷ xs) = by (q x) refl (passing q xs)
   where
-    by : (t : Bool) → q x ≡ t → Every (λ x. q x ≡ true) (filter q xs) → Every (λ x. q x ≡ true) (cond t (x ∷ filter q xs) (filter q xs))
+    by : (t : Bool) → q x ≡ t → Every (λ x. q x ≡ true) (filter q xs) →
+        Every (λ x. q x ≡ true) (cond t (x ∷ filter q xs) (filter q xs))
     by true e rest = more e rest
     by false e rest = rest
 
@@ -184,7 +239,8 @@ passing q (x ∷ xs) = by (q x) refl (passing q xs)
 abbrev IsInsideOf : ℕ → Denoted → Type 0
 IsInsideOf start d = is_inside start d ≡ true
 
-body-outside : (start : ℕ) → 6 < start → (name : Known_as) (d : Denoted) → IsInsideOf start d → same_denoted (Bound (Inner FunctionBody 6) name) d ≡ false
+body-outside : (start : ℕ) → 6 < start → (name : Known_as) (d : Denoted) → IsInsideOf start d →
+    same_denoted (Bound (Inner FunctionBody 6) name) d ≡ false
 body-outside start l name (Global x) inside = refl
 body-outside start l name (Bound Rattle.bundle_rules.specs.Scopes.Wrapper its) inside = refl
 body-outside start l name (Bound Top its) inside = refl
@@ -192,7 +248,8 @@ body-outside start l name (Bound (Inner kind begins) its) inside =
     let within : start ≤ begins = leb-true start begins inside in
     ap (λ t. t && bytes_eq name.sym its.sym && same_context name.ctxt its.ctxt) (differs 8 (begins + 2) (λ e. omega (arith, within)))
 
-insides : (view : View) (start : ℕ) (es : List Element) → Every (IsInsideOf start) (inner_bindings view start es)
+insides : (view : View) (start : ℕ) (es : List Element) →
+    Every (IsInsideOf start) (inner_bindings view start es)
 insides view start es = every-once (filtered (filter_map (denoted view) es))
   where
     filtered : (ds : List Denoted) → Every (IsInsideOf start) (filter (is_inside start) ds)
@@ -200,17 +257,34 @@ insides view start es = every-once (filtered (filter_map (denoted view) es))
 
 -- the object's spots
 abbrev object_path : Bool → ℕ → ℕ → ℕ → ℕ → ℕ → List Around
-object_path is_async b f c e g = around h.ObjectLit b f ∷ around h.ReturnStmt c e ∷ called_path is_async g
+object_path is_async b f c e g =
+    around h.ObjectLit b f ∷ around h.ReturnStmt c e ∷ called_path is_async g
 
 -- a name of the object
-returned-denotes : {reading : Reading} {is_async : Bool} {stmts after its : List Item} → AreTwins reading is_async stmts after its → {labels : Labelling} {x : Text} {ctxt : ℕ} {t : Target} → (s : StandsFor reading (declared reading Es (module_with stmts after)) labels x ctxt t) → denoted_in reading (declared reading Es (call_with is_async stmts its)) (moved_scopes (Top ∷ [])) (name_of reading x ctxt) ≡ Bound (Inner FunctionBody 6) s.name
+returned-denotes : {reading : Reading} {is_async : Bool} {stmts after its : List Item} →
+    AreTwins reading is_async stmts after its →
+    {labels : Labelling} {x : Text} {ctxt : ℕ} {t : Target} →
+    (s : StandsFor reading (declared reading Es (module_with stmts after)) labels x ctxt t) →
+    denoted_in reading (declared reading Es (call_with is_async stmts its))
+        (moved_scopes (Top ∷ [])) (name_of reading x ctxt) ≡
+        Bound (Inner FunctionBody 6) s.name
 returned-denotes {reading} {is_async} {stmts} {after} {its} twins {x} {ctxt} s =
     ap (λ all. denoted_in reading all (moved_scopes (Top ∷ [])) (name_of reading x ctxt)) (declared-twins twins)
     ∙ denoted_in-moved reading (seats-twins twins) top (name_of reading x ctxt) (λ strays. let e = sym s.denotes ∙ strays in absurd cc)
     ∙ ap moved_denoted s.denotes
 
 -- a key
-key-mean : (tree : List Item) (reading : Reading) (labels : Labelling) {inner : List Denoted} (k f : ℕ) (outer : List Around) (x : Text) (t u : Bool) (behind_it es : List Item) (marks : List Mark) (j n : ℕ) → IsAt tree j (record { place = n; path = around h.KeyValueProp k f ∷ outer }) ((if t then h.Open 0 h.ComputedPropName ∷ h.Open 0 (h.Str x None) ∷ h.Close ∷ h.Close ∷ [] else (if u then plain_key x else h.Open 0 (h.Str x None) ∷ h.Close ∷ [])) ++ behind_it) → ((its at_it : ℕ) → IsAt tree its (record { place = at_it; path = around h.KeyValueProp k 0 ∷ outer }) behind_it → Means (bundle_sense tree reading labels) inner (taken_from its es) marks) → Means (bundle_sense tree reading labels) inner (taken_from j ((if t then h.Open 0 h.ComputedPropName ∷ h.Open 0 (h.Str x None) ∷ h.Close ∷ h.Close ∷ [] else (if u then plain_key x else h.Open 0 (h.Str x None) ∷ h.Close ∷ [])) ++ es)) ((if t then computed_key x else (if u then word_key x else string_marks 0 x)) ++ marks)
+key-mean : (tree : List Item) (reading : Reading) (labels : Labelling) {inner : List Denoted}
+    (k f : ℕ) (outer : List Around) (x : Text) (t u : Bool) (behind_it es : List Item)
+    (marks : List Mark) (j n : ℕ) →
+    IsAt tree j (record { place = n; path = around h.KeyValueProp k f ∷ outer })
+        ((if t then h.Open 0 h.ComputedPropName ∷ h.Open 0 (h.Str x None) ∷ h.Close ∷ h.Close ∷ [] else (if u then plain_key x else h.Open 0 (h.Str x None) ∷ h.Close ∷ [])) ++ behind_it)
+        →
+    ((its at_it : ℕ) → IsAt tree its (record { place = at_it; path = around h.KeyValueProp k 0 ∷ outer }) behind_it → Means (bundle_sense tree reading labels) inner (taken_from its es) marks)
+        →
+    Means (bundle_sense tree reading labels) inner
+        (taken_from j ((if t then h.Open 0 h.ComputedPropName ∷ h.Open 0 (h.Str x None) ∷ h.Close ∷ h.Close ∷ [] else (if u then plain_key x else h.Open 0 (h.Str x None) ∷ h.Close ∷ [])) ++ es))
+        ((if t then computed_key x else (if u then word_key x else string_marks 0 x)) ++ marks)
 key-mean tree reading labels k f outer x true u behind_it es marks j n at rest =
     mean-open tree reading labels j 0 h.ComputedPropName (around h.KeyValueProp k 0) outer (at-path at) refl refl
     (mean-open tree reading labels (suc j) 0 (h.Str x None) (around h.ComputedPropName n 0) (around h.KeyValueProp k 0 ∷ outer) (at-path (at-next at)) refl refl
@@ -226,10 +300,32 @@ key-mean tree reading labels k f outer x false false behind_it es marks j n at r
     (mean-close tree reading labels (suc j) (around (h.Str x None) n 0) (around h.KeyValueProp k 0 ∷ outer) (at-path (at-next at)) refl
     (rest (suc (suc j)) (n + 1 + 1) (at-next (at-next at))))
 
-name-means : (tree : List Item) (reading : Reading) (labels : Labelling) {inner : List Denoted} (start : ℕ) → 6 < start → Every (IsInsideOf start) inner → (name : Known_as) (l : Label) → Contains labels (Bound Top name, l) → NameMeans (bundle_sense tree reading (moved_labels labels)) inner (Bound (Inner FunctionBody 6) name) (m.Known l)
-name-means tree reading labels start past_body inside name l there = m.outside (position-none (same_denoted (Bound (Inner FunctionBody 6) name)) (every-map (body-outside start past_body name) inside)) (labels-moved labels Top name l tt there)
+name-means : (tree : List Item) (reading : Reading) (labels : Labelling) {inner : List Denoted}
+    (start : ℕ) →
+    6 < start → Every (IsInsideOf start) inner → (name : Known_as) (l : Label) →
+    Contains labels (Bound Top name, l) →
+    NameMeans (bundle_sense tree reading (moved_labels labels)) inner
+        (Bound (Inner FunctionBody 6) name) (m.Known l)
+name-means tree reading labels start past_body inside name l there =
+    m.outside
+    (position-none (same_denoted (Bound (Inner FunctionBody 6) name)) (every-map (body-outside start past_body name) inside))
+    (labels-moved labels Top name l tt there)
 
-property-mean : {reading : Reading} {is_async : Bool} {stmts after its : List Item} → AreTwins reading is_async stmts after its → (labels : Labelling) {inner : List Denoted} (start : ℕ) → 6 < start → Every (IsInsideOf start) inner → (b c g f : ℕ) (x y : Text) (ctxt : ℕ) (t : Target) → StandsFor reading (declared reading Es (module_with stmts after)) labels y ctxt t → (behind_it es : List Item) (marks : List Mark) (j n : ℕ) → IsAt (call_with is_async stmts its) j (record { place = n; path = object_path is_async b f c 0 g }) (h.Open 0 h.KeyValueProp ∷ (returned_key x ++ h.Ident 1 y ctxt r.Reference ∷ h.Close ∷ behind_it)) → ((new at_new : ℕ) → IsAt (call_with is_async stmts its) new (record { place = at_new; path = object_path is_async b 0 c 0 g }) behind_it → Means (bundle_sense (call_with is_async stmts its) reading (moved_labels labels)) inner (taken_from new es) marks) → Means (bundle_sense (call_with is_async stmts its) reading (moved_labels labels)) inner (taken j (h.Open 0 h.KeyValueProp) ∷ taken_from (suc j) (returned_key x ++ h.Ident 1 y ctxt r.Reference ∷ h.Close ∷ es)) (Begins 0 h.KeyValueProp ∷ (key_marks x ++ Name 1 (m.Known (Of t)) ∷ Ends ∷ marks))
+property-mean : {reading : Reading} {is_async : Bool} {stmts after its : List Item} →
+    AreTwins reading is_async stmts after its →
+    (labels : Labelling) {inner : List Denoted} (start : ℕ) → 6 < start →
+    Every (IsInsideOf start) inner → (b c g f : ℕ) (x y : Text) (ctxt : ℕ) (t : Target) →
+    StandsFor reading (declared reading Es (module_with stmts after)) labels y ctxt t →
+    (behind_it es : List Item) (marks : List Mark) (j n : ℕ) →
+    IsAt (call_with is_async stmts its) j
+        (record { place = n; path = object_path is_async b f c 0 g })
+        (h.Open 0 h.KeyValueProp ∷ (returned_key x ++ h.Ident 1 y ctxt r.Reference ∷ h.Close ∷ behind_it))
+        →
+    ((new at_new : ℕ) → IsAt (call_with is_async stmts its) new (record { place = at_new; path = object_path is_async b 0 c 0 g }) behind_it → Means (bundle_sense (call_with is_async stmts its) reading (moved_labels labels)) inner (taken_from new es) marks)
+        →
+    Means (bundle_sense (call_with is_async stmts its) reading (moved_labels labels)) inner
+        (taken j (h.Open 0 h.KeyValueProp) ∷ taken_from (suc j) (returned_key x ++ h.Ident 1 y ctxt r.Reference ∷ h.Close ∷ es))
+        (Begins 0 h.KeyValueProp ∷ (key_marks x ++ Name 1 (m.Known (Of t)) ∷ Ends ∷ marks))
 property-mean {reading} {is_async} {stmts} {after} {its} twins labels {inner} start past_body inside b c g f x y ctxt t stands behind_it es marks j n at rest =
     mean-open call reading (moved_labels labels) j 0 h.KeyValueProp (around h.ObjectLit b 0) (around h.ReturnStmt c 0 ∷ called_path is_async g) (at-path at) refl refl
     (key-mean call reading (moved_labels labels) n 0 (object_path is_async b 0 c 0 g) x (bytes_eq x (codes "__proto__")) (is_ascii_identifier x) (h.Ident 1 y ctxt r.Reference ∷ h.Close ∷ behind_it) (h.Ident 1 y ctxt r.Reference ∷ h.Close ∷ es) (Name 1 (m.Known (Of t)) ∷ Ends ∷ marks) (suc j) (n + 1) (at-next at) value)
@@ -237,7 +333,13 @@ property-mean {reading} {is_async} {stmts} {after} {its} twins labels {inner} st
     call : List Item
     call = call_with is_async stmts its
 
-    value : (k at_it : ℕ) → IsAt (call_with is_async stmts its) k (record { place = at_it; path = around h.KeyValueProp n 0 ∷ object_path is_async b 0 c 0 g }) (h.Ident 1 y ctxt r.Reference ∷ h.Close ∷ behind_it) → Means (bundle_sense (call_with is_async stmts its) reading (moved_labels labels)) inner (taken k (h.Ident 1 y ctxt r.Reference) ∷ taken (suc k) h.Close ∷ taken_from (suc (suc k)) es) (Name 1 (m.Known (Of t)) ∷ Ends ∷ marks)
+    value : (k at_it : ℕ) →
+        IsAt (call_with is_async stmts its) k
+            (record { place = at_it; path = around h.KeyValueProp n 0 ∷ object_path is_async b 0 c 0 g })
+            (h.Ident 1 y ctxt r.Reference ∷ h.Close ∷ behind_it) →
+        Means (bundle_sense (call_with is_async stmts its) reading (moved_labels labels)) inner
+            (taken k (h.Ident 1 y ctxt r.Reference) ∷ taken (suc k) h.Close ∷ taken_from (suc (suc k)) es)
+            (Name 1 (m.Known (Of t)) ∷ Ends ∷ marks)
     value k at_it there =
         mean-name (call_with is_async stmts its) reading (moved_labels labels) k 1 y ctxt r.Reference (around h.KeyValueProp n 1) (object_path is_async b 0 c 0 g) (at-path there) refl (Bound (Inner FunctionBody 6) stands.name) (m.Known (Of t))
         (ap (option_map (denoted_of reading Es (declared reading Es (call_with is_async stmts its)))) (at-occurrence there) ∙ ap Some (returned-denotes twins stands))
@@ -246,28 +348,60 @@ property-mean {reading} {is_async} {stmts} {after} {its} twins labels {inner} st
         (rest (suc (suc k)) (at_it + 1 + 1) (at-next (at-next there))))
 
 -- the properties
-properties-mean : {reading : Reading} {is_async : Bool} {stmts after its : List Item} → AreTwins reading is_async stmts after its → (labels : Labelling) {inner : List Denoted} (start : ℕ) → 6 < start → Every (IsInsideOf start) inner → (b c g f : ℕ) (rs : List (Text × Ident)) (pairs : List NamedTarget) → AllZip (Returns reading (declared reading Es (module_with stmts after)) labels) rs pairs → (post : List Item) (j n : ℕ) → IsAt (call_with is_async stmts its) j (record { place = n; path = object_path is_async b f c 0 g }) (flat_map returned_property rs ++ h.Close ∷ h.Close ∷ post) → Means (bundle_sense (call_with is_async stmts its) reading (moved_labels labels)) inner (taken_from j (flat_map returned_property rs ++ h.Close ∷ h.Close ∷ [])) (flat_map property pairs ++ Ends ∷ Ends ∷ [])
+properties-mean : {reading : Reading} {is_async : Bool} {stmts after its : List Item} →
+    AreTwins reading is_async stmts after its →
+    (labels : Labelling) {inner : List Denoted} (start : ℕ) → 6 < start →
+    Every (IsInsideOf start) inner →
+    (b c g f : ℕ) (rs : List (Text × Ident)) (pairs : List NamedTarget) →
+    AllZip (Returns reading (declared reading Es (module_with stmts after)) labels) rs pairs →
+    (post : List Item) (j n : ℕ) →
+    IsAt (call_with is_async stmts its) j
+        (record { place = n; path = object_path is_async b f c 0 g })
+        (flat_map returned_property rs ++ h.Close ∷ h.Close ∷ post) →
+    Means (bundle_sense (call_with is_async stmts its) reading (moved_labels labels)) inner
+        (taken_from j (flat_map returned_property rs ++ h.Close ∷ h.Close ∷ []))
+        (flat_map property pairs ++ Ends ∷ Ends ∷ [])
 properties-mean {reading} {is_async} {stmts} {after} {its} twins labels start past_body inside b c g f [] [] zip post j n at =
     mean-close (call_with is_async stmts its) reading (moved_labels labels) j (around h.ObjectLit b f) (around h.ReturnStmt c 0 ∷ called_path is_async g) (at-path at) refl
     (mean-close (call_with is_async stmts its) reading (moved_labels labels) (suc j) (around h.ReturnStmt c 0) (called_path is_async g) (at-path (at-next at)) refl m.finished)
-properties-mean twins labels start past_body inside b c g f [] (pair ∷ pairs) zip post j n at = absurd zip
-properties-mean twins labels start past_body inside b c g f (it ∷ rs) [] zip post j n at = absurd zip
+properties-mean twins labels start past_body inside b c g f [] (pair ∷ pairs) zip post j n at =
+    absurd zip
+properties-mean twins labels start past_body inside b c g f (it ∷ rs) [] zip post j n at =
+    absurd zip
 properties-mean {reading} {is_async} {stmts} {after} {its} twins labels {inner} start past_body inside b c g f (it ∷ rs) (pair ∷ pairs) zip post j n at =
     subst (λ x. x) (λ i. Means (bundle_sense (call_with is_async stmts its) reading (moved_labels labels)) inner (taken j (h.Open 0 h.KeyValueProp) ∷ taken_from (suc j) (sym (elements (h.Close ∷ h.Close ∷ [])) i)) (Begins 0 h.KeyValueProp ∷ marks i))
     (property-mean twins labels start past_body inside b c g f it.0 it.1.0 it.1.1 pair.1 zip.0.stands (flat_map returned_property rs ++ h.Close ∷ h.Close ∷ post) (flat_map returned_property rs ++ h.Close ∷ h.Close ∷ []) (flat_map property pairs ++ Ends ∷ Ends ∷ []) j n
     (at-list (ap (λ l. h.Open 0 h.KeyValueProp ∷ l) (elements (h.Close ∷ h.Close ∷ post))) at)
     (λ new at_new there. properties-mean twins labels start past_body inside b c g 0 rs pairs zip.1 post new at_new there))
   where
-    elements : (tail : List Item) → ((returned_key it.0 ++ h.Ident 1 it.1.0 it.1.1 r.Reference ∷ h.Close ∷ []) ++ flat_map returned_property rs) ++ tail ≡ returned_key it.0 ++ h.Ident 1 it.1.0 it.1.1 r.Reference ∷ h.Close ∷ (flat_map returned_property rs ++ tail)
-    elements tail = append_assoc (returned_key it.0 ++ h.Ident 1 it.1.0 it.1.1 r.Reference ∷ h.Close ∷ []) (flat_map returned_property rs) tail ∙ append_assoc (returned_key it.0) (h.Ident 1 it.1.0 it.1.1 r.Reference ∷ h.Close ∷ []) (flat_map returned_property rs ++ tail)
+    elements : (tail : List Item) →
+        ((returned_key it.0 ++ h.Ident 1 it.1.0 it.1.1 r.Reference ∷ h.Close ∷ []) ++ flat_map returned_property rs)
+            ++ tail ≡
+            returned_key it.0 ++ h.Ident 1 it.1.0 it.1.1 r.Reference ∷ h.Close ∷
+                (flat_map returned_property rs ++ tail)
+    elements tail =
+        append_assoc (returned_key it.0 ++ h.Ident 1 it.1.0 it.1.1 r.Reference ∷ h.Close ∷ [])
+            (flat_map returned_property rs) tail
+        ∙ append_assoc (returned_key it.0) (h.Ident 1 it.1.0 it.1.1 r.Reference ∷ h.Close ∷ [])
+            (flat_map returned_property rs ++ tail)
 
-    marks : ◌≡◌ {A = List Mark} (key_marks it.0 ++ Name 1 (m.Known (Of pair.1)) ∷ Ends ∷ (flat_map property pairs ++ Ends ∷ Ends ∷ [])) ((((key_marks pair.0 ++ Name 1 (m.Known (Of pair.1)) ∷ []) ++ Ends ∷ []) ++ flat_map property pairs) ++ Ends ∷ Ends ∷ [])
+    marks : ◌≡◌ {A = List Mark}
+        (key_marks it.0 ++ Name 1 (m.Known (Of pair.1)) ∷ Ends ∷ (flat_map property pairs ++ Ends ∷ Ends ∷ []))
+        ((((key_marks pair.0 ++ Name 1 (m.Known (Of pair.1)) ∷ []) ++ Ends ∷ []) ++ flat_map property pairs) ++ Ends ∷ Ends ∷ [])
     marks =
         ap (λ x. key_marks x ++ Name 1 (m.Known (Of pair.1)) ∷ Ends ∷ (flat_map property pairs ++ Ends ∷ Ends ∷ [])) zip.0.named
         ∙ sym (append_assoc ((key_marks pair.0 ++ Name 1 (m.Known (Of pair.1)) ∷ []) ++ Ends ∷ []) (flat_map property pairs) (Ends ∷ Ends ∷ []) ∙ append_assoc (key_marks pair.0 ++ Name 1 (m.Known (Of pair.1)) ∷ []) (Ends ∷ []) (flat_map property pairs ++ Ends ∷ Ends ∷ []) ∙ append_assoc (key_marks pair.0) (Name 1 (m.Known (Of pair.1)) ∷ []) (Ends ∷ (flat_map property pairs ++ Ends ∷ Ends ∷ [])))
 
--- RETURNED: the object that is returned
-pub object-means : {reading : Reading} {is_async : Bool} {stmts after its : List Item} → AreTwins reading is_async stmts after its → (labels : Labelling) (start : ℕ) → 6 < start → (g : ℕ) (rs : List (Text × Ident)) (pairs : List NamedTarget) → AllZip (Returns reading (declared reading Es (module_with stmts after)) labels) rs pairs → (post : List Item) (n : ℕ) → IsAt (call_with is_async stmts its) start (record { place = n; path = called_path is_async g }) (returned_object rs ++ post) → StatementMeans (bundle_sense (call_with is_async stmts its) reading (moved_labels labels)) start (taken_from start (returned_object rs)) (return_object pairs)
+-- the object that is returned
+pub object-means : {reading : Reading} {is_async : Bool} {stmts after its : List Item} →
+    AreTwins reading is_async stmts after its → (labels : Labelling) (start : ℕ) → 6 < start →
+    (g : ℕ) (rs : List (Text × Ident)) (pairs : List NamedTarget) →
+    AllZip (Returns reading (declared reading Es (module_with stmts after)) labels) rs pairs →
+    (post : List Item) (n : ℕ) →
+    IsAt (call_with is_async stmts its) start (record { place = n; path = called_path is_async g })
+        (returned_object rs ++ post) →
+    StatementMeans (bundle_sense (call_with is_async stmts its) reading (moved_labels labels)) start
+        (taken_from start (returned_object rs)) (return_object pairs)
 object-means {reading} {is_async} {stmts} {after} {its} twins labels start past_body g rs pairs zip post n at =
     subst (λ l. Means (bundle_sense (call_with is_async stmts its) reading (moved_labels labels)) inner (taken_from start (returned_object rs)) (Begins 0 h.ReturnStmt ∷ Begins 0 h.ObjectLit ∷ l)) (sym (append_assoc (flat_map property pairs) (Ends ∷ []) (Ends ∷ [])))
     (mean-open (call_with is_async stmts its) reading (moved_labels labels) start 0 h.ReturnStmt (around h.BlockStmt 6 0) (Rattle.bundle_rules.specs.Places.outer_path (called_path is_async 0)) (at-path at) refl refl
@@ -275,7 +409,10 @@ object-means {reading} {is_async} {stmts} {after} {its} twins labels start past_
     (properties-mean twins labels start past_body (insides (record { tree = call_with is_async stmts its; kind = Es; reading = reading }) start (taken_from start (returned_object rs))) (n + 1) n 0 0 rs pairs zip post (suc (suc start)) (n + 1 + 1) (at-list (append_assoc (flat_map returned_property rs) (h.Close ∷ h.Close ∷ []) post) (at-next (at-next at))))))
   where
     inner : List Denoted
-    inner = inner_bindings (record { tree = call_with is_async stmts its; kind = Es; reading = reading }) start (taken_from start (returned_object rs))
+    inner =
+        inner_bindings
+        (record { tree = call_with is_async stmts its; kind = Es; reading = reading }) start
+        (taken_from start (returned_object rs))
 
 -- What a list of exports lists.
 
@@ -283,50 +420,85 @@ object-means {reading} {is_async} {stmts} {after} {its} twins labels start past_
 abbrev pub pair_of : Specifier → Text × Ident
 pair_of it = (exported it, (it.sym, it.ctxt))
 
-specifier-alone : (y : Text) (ctxt : ℕ) (name : Option ExportedName) (rest : List Item) → side_by_side zero (specifier_items (record { sym = y; ctxt = ctxt; name = name }) ++ rest) ≡ specifier_items (record { sym = y; ctxt = ctxt; name = name }) ∷ side_by_side zero rest
+specifier-alone : (y : Text) (ctxt : ℕ) (name : Option ExportedName) (rest : List Item) →
+    side_by_side zero (specifier_items (record { sym = y; ctxt = ctxt; name = name }) ++ rest) ≡
+        specifier_items (record { sym = y; ctxt = ctxt; name = name }) ∷ side_by_side zero rest
 specifier-alone y ctxt None rest = refl
 specifier-alone y ctxt (Some (word x its)) rest = refl
 specifier-alone y ctxt (Some (text x raw)) rest = refl
 
-specifier-pair : (y : Text) (ctxt : ℕ) (name : Option ExportedName) → exported_pair (specifier_items (record { sym = y; ctxt = ctxt; name = name })) ≡ pair_of (record { sym = y; ctxt = ctxt; name = name })
+specifier-pair : (y : Text) (ctxt : ℕ) (name : Option ExportedName) →
+    exported_pair (specifier_items (record { sym = y; ctxt = ctxt; name = name })) ≡
+        pair_of (record { sym = y; ctxt = ctxt; name = name })
 specifier-pair y ctxt None = refl
 specifier-pair y ctxt (Some (word x its)) = refl
 specifier-pair y ctxt (Some (text x raw)) = refl
 
-specifiers-sides : (specifiers : List Specifier) (post : List Item) → side_by_side zero (flat_map specifier_items specifiers ++ h.Close ∷ post) ≡ map specifier_items specifiers
+specifiers-sides : (specifiers : List Specifier) (post : List Item) →
+    side_by_side zero (flat_map specifier_items specifiers ++ h.Close ∷ post) ≡
+        map specifier_items specifiers
 specifiers-sides [] post = refl
-specifiers-sides (it ∷ specifiers) post = ap (side_by_side zero) (append_assoc (specifier_items it) (flat_map specifier_items specifiers) (h.Close ∷ post)) ∙ specifier-alone it.sym it.ctxt it.name (flat_map specifier_items specifiers ++ h.Close ∷ post) ∙ ap (λ l. specifier_items it ∷ l) (specifiers-sides specifiers post)
+specifiers-sides (it ∷ specifiers) post =
+    ap (side_by_side zero)
+        (append_assoc (specifier_items it) (flat_map specifier_items specifiers) (h.Close ∷ post))
+    ∙ specifier-alone it.sym it.ctxt it.name (flat_map specifier_items specifiers ++ h.Close ∷ post)
+    ∙ ap (λ l. specifier_items it ∷ l) (specifiers-sides specifiers post)
 
-listed-pairs : (specifiers : List Specifier) → map exported_pair (filter (begins_in 0) (map specifier_items specifiers)) ≡ map pair_of specifiers
+listed-pairs : (specifiers : List Specifier) →
+    map exported_pair (filter (begins_in 0) (map specifier_items specifiers)) ≡
+        map pair_of specifiers
 listed-pairs [] = refl
-listed-pairs (it ∷ specifiers) = ap₂ (λ (pair : Text × Ident) (l : List (Text × Ident)). pair ∷ l) (specifier-pair it.sym it.ctxt it.name) (listed-pairs specifiers)
+listed-pairs (it ∷ specifiers) =
+    ap₂ (λ (pair : Text × Ident) (l : List (Text × Ident)). pair ∷ l)
+    (specifier-pair it.sym it.ctxt it.name) (listed-pairs specifiers)
 
 less-greater : (x y : Text) → slice_cmp nat_cmp x y ≡ Less → is_less (slice_cmp nat_cmp y x) ≡ false
-less-greater x y e = ap is_less (nat_list_cmp_total.antisymm y x ∙ ap Rattle.std.specs.Ordering.ordering_reverse e)
+less-greater x y e =
+    ap is_less (nat_list_cmp_total.antisymm y x ∙ ap Rattle.std.specs.Ordering.ordering_reverse e)
 
-ascending-kept : (pairs : List (Text × Ident)) → IsAscending (map (λ pair. pair.0) pairs) → by_names pairs ≡ pairs
+ascending-kept : (pairs : List (Text × Ident)) → IsAscending (map (λ pair. pair.0) pairs) →
+    by_names pairs ≡ pairs
 ascending-kept [] e = refl
 ascending-kept (x ∷ []) e = refl
-ascending-kept (x ∷ y ∷ rest) e = ap (put_by_name x) (ascending-kept (y ∷ rest) e.1) ∙ ap (λ t. if t then y ∷ put_by_name x rest else x ∷ y ∷ rest) (less-greater x.0 y.0 e.0)
+ascending-kept (x ∷ y ∷ rest) e =
+    ap (put_by_name x) (ascending-kept (y ∷ rest) e.1)
+    ∙ ap (λ t. if t then y ∷ put_by_name x rest else x ∷ y ∷ rest) (less-greater x.0 y.0 e.0)
 
-names-fit : (reading : Reading) (all : List Declared) (labels : Labelling) (specifiers : List Specifier) (pairs : List NamedTarget) → AllZip (Fits reading all labels) specifiers pairs → map (λ (pair : NamedTarget). pair.0) pairs ≡ map (λ (pair : Text × Ident). pair.0) (map pair_of specifiers)
+names-fit : (reading : Reading) (all : List Declared) (labels : Labelling)
+    (specifiers : List Specifier) (pairs : List NamedTarget) →
+    AllZip (Fits reading all labels) specifiers pairs →
+    map (λ (pair : NamedTarget). pair.0) pairs ≡
+        map (λ (pair : Text × Ident). pair.0) (map pair_of specifiers)
 names-fit reading all labels [] [] zip = refl
 names-fit reading all labels [] (pair ∷ pairs) zip = absurd zip
 names-fit reading all labels (it ∷ specifiers) [] zip = absurd zip
-names-fit reading all labels (it ∷ specifiers) (pair ∷ pairs) zip = ap₂ (λ (x : Text) (l : List Text). x ∷ l) (sym zip.0.named) (names-fit reading all labels specifiers pairs zip.1)
+names-fit reading all labels (it ∷ specifiers) (pair ∷ pairs) zip =
+    ap₂ (λ (x : Text) (l : List Text). x ∷ l) (sym zip.0.named)
+    (names-fit reading all labels specifiers pairs zip.1)
 
 -- the pairs of the list
-pub pairs-of : (meta : ExportMetadata) (specifiers : List Specifier) → exported_pairs (export_items meta specifiers) ≡ by_names (map pair_of specifiers)
-pairs-of meta specifiers = ap (λ l. by_names (map exported_pair (filter (begins_in 0) l))) (specifiers-sides specifiers []) ∙ ap by_names (listed-pairs specifiers)
+pub pairs-of : (meta : ExportMetadata) (specifiers : List Specifier) →
+    exported_pairs (export_items meta specifiers) ≡ by_names (map pair_of specifiers)
+pairs-of meta specifiers =
+    ap (λ l. by_names (map exported_pair (filter (begins_in 0) l))) (specifiers-sides specifiers [])
+    ∙ ap by_names (listed-pairs specifiers)
 
 -- the pairs of the list, where their names ascend
-pub pairs-listed : (reading : Reading) (all : List Declared) (labels : Labelling) (meta : ExportMetadata) (specifiers : List Specifier) (pairs : List NamedTarget) → AllZip (Fits reading all labels) specifiers pairs → IsAscending (map (λ (pair : NamedTarget). pair.0) pairs) → exported_pairs (export_items meta specifiers) ≡ map pair_of specifiers
+pub pairs-listed : (reading : Reading) (all : List Declared) (labels : Labelling)
+    (meta : ExportMetadata) (specifiers : List Specifier) (pairs : List NamedTarget) →
+    AllZip (Fits reading all labels) specifiers pairs →
+    IsAscending (map (λ (pair : NamedTarget). pair.0) pairs) →
+    exported_pairs (export_items meta specifiers) ≡ map pair_of specifiers
 pairs-listed reading all labels meta specifiers pairs zip ascending =
     ap (λ l. by_names (map exported_pair (filter (begins_in 0) l))) (specifiers-sides specifiers []) ∙ ap by_names (listed-pairs specifiers)
     ∙ ascending-kept (map pair_of specifiers) (subst IsAscending (names-fit reading all labels specifiers pairs zip) ascending)
 
-pub fits-returns : (reading : Reading) (all : List Declared) (labels : Labelling) (specifiers : List Specifier) (pairs : List NamedTarget) → AllZip (Fits reading all labels) specifiers pairs → AllZip (Returns reading all labels) (map pair_of specifiers) pairs
+pub fits-returns : (reading : Reading) (all : List Declared) (labels : Labelling)
+    (specifiers : List Specifier) (pairs : List NamedTarget) →
+    AllZip (Fits reading all labels) specifiers pairs →
+    AllZip (Returns reading all labels) (map pair_of specifiers) pairs
 fits-returns reading all labels [] [] zip = tt
 fits-returns reading all labels [] (pair ∷ pairs) zip = absurd zip
 fits-returns reading all labels (it ∷ specifiers) [] zip = absurd zip
-fits-returns reading all labels (it ∷ specifiers) (pair ∷ pairs) zip = (record { named = zip.0.named; stands = zip.0.stands }, fits-returns reading all labels specifiers pairs zip.1)
+fits-returns reading all labels (it ∷ specifiers) (pair ∷ pairs) zip =
+    (record { named = zip.0.named; stands = zip.0.stands }, fits-returns reading all labels specifiers pairs zip.1)

@@ -29,49 +29,68 @@ list-cleared (h.ExportAll meta) = refl
 list-cleared (h.VarDecl kind meta) = refl
 list-cleared _ = refl
 
-first-begins : (tree : List Item) (place field : ℕ) (path : List Around) (head : Head) (rest : List Mark) → first_is_list (begin_marks {N = Meant} tree place field path head ++ rest) ≡ is_export_list head
+first-begins : (tree : List Item) (place field : ℕ) (path : List Around) (head : Head)
+    (rest : List Mark) →
+    first_is_list (begin_marks {N = Meant} tree place field path head ++ rest) ≡ is_export_list head
 first-begins tree place field path h.AssignPatProp rest = refl
 first-begins tree place field [] head rest = list-cleared head
 first-begins tree place field (node ∷ outer) head rest = list-cleared head
 
-first-ends : (tree : List Item) (path : List Around) (rest : List Mark) → first_is_list (end_marks {N = Meant} tree path ++ rest) ≡ false
+first-ends : (tree : List Item) (path : List Around) (rest : List Mark) →
+    first_is_list (end_marks {N = Meant} tree path ++ rest) ≡ false
 first-ends tree [] rest = refl
-first-ends tree (node ∷ outer) rest = by (is_shorthand_in_pattern node.head && has_default tree node.begins)
+first-ends tree (node ∷ outer) rest =
+    by (is_shorthand_in_pattern node.head && has_default tree node.begins)
   where
     by : (t : Bool) → first_is_list ((if t then Ends ∷ Ends ∷ [] else Ends ∷ []) ++ rest) ≡ false
     by true = refl
     by false = refl
 
-first-name : (field : ℕ) (path : List Around) (x : Text) (meant : Meant) (rest : List Mark) → first_is_list (name_marks field path x meant ++ rest) ≡ false
+first-name : (field : ℕ) (path : List Around) (x : Text) (meant : Meant) (rest : List Mark) →
+    first_is_list (name_marks field path x meant ++ rest) ≡ false
 first-name field [] x meant rest = refl
 first-name field (node ∷ outer) x meant rest = by (is_object node.head)
   where
-    by : (t : Bool) → first_is_list ((if t then Begins field h.KeyValueProp ∷ ((if bytes_eq x (codes "__proto__") then computed_key x else word_key x) ++ Name 1 meant ∷ Ends ∷ []) else Name field meant ∷ []) ++ rest) ≡ false
+    by : (t : Bool) →
+        first_is_list
+            ((if t then Begins field h.KeyValueProp ∷ ((if bytes_eq x (codes "__proto__") then computed_key x else word_key x) ++ Name 1 meant ∷ Ends ∷ []) else Name field meant ∷ []) ++ rest)
+            ≡
+            false
     by true = refl
     by false = refl
 
-first-replaced : (field : ℕ) (by : Replacement) (rest : List Mark) → first_is_list (replacement_marks field by ++ rest) ≡ false
+first-replaced : (field : ℕ) (by : Replacement) (rest : List Mark) →
+    first_is_list (replacement_marks field by ++ rest) ≡ false
 first-replaced field (ByName l) rest = refl
 first-replaced field (ByCall l) rest = refl
 
 -- where a meaning begins with a list of exports, the elements do
-pub list-meant : {sense : Sense} {inner : List Denoted} {es : List Element} {marks : List Mark} → Means sense inner es marks → first_is_list marks ≡ true → begins_list es ≡ true
+pub list-meant : {sense : Sense} {inner : List Denoted} {es : List Element} {marks : List Mark} →
+    Means sense inner es marks → first_is_list marks ≡ true → begins_list es ≡ true
 list-meant m.finished e = e
-list-meant (m.replaced {field} {marks} by is rest) e = absurd (false≢true (sym (first-replaced field by marks) ∙ e))
-list-meant {sense} (m.begun {place} {field} {head} {marks} is rest) e = sym (first-begins sense.view.tree place field (path_at sense.view.tree place) head marks) ∙ e
-list-meant {sense} (m.ended {place} {marks} rest) e = absurd (false≢true (sym (first-ends sense.view.tree (path_at sense.view.tree place) marks) ∙ e))
+list-meant (m.replaced {field} {marks} by is rest) e =
+    absurd (false≢true (sym (first-replaced field by marks) ∙ e))
+list-meant {sense} (m.begun {place} {field} {head} {marks} is rest) e =
+    sym (first-begins sense.view.tree place field (path_at sense.view.tree place) head marks) ∙ e
+list-meant {sense} (m.ended {place} {marks} rest) e =
+    absurd (false≢true (sym (first-ends sense.view.tree (path_at sense.view.tree place) marks) ∙ e))
 list-meant (m.empty rest) e = absurd (false≢true e)
-list-meant {sense} (m.named {place} {field} {sym = x} {marks} d meant is means rest) e = absurd (false≢true (sym (first-name field (path_at sense.view.tree place) x meant marks) ∙ e))
+list-meant {sense} (m.named {place} {field} {sym = x} {marks} d meant is means rest) e =
+    absurd (false≢true (sym (first-name field (path_at sense.view.tree place) x meant marks) ∙ e))
 list-meant (m.word rest) e = absurd (false≢true e)
 list-meant (m.adds_begin {head} rest) e = sym (list-cleared head) ∙ e
 list-meant (m.adds_end rest) e = absurd (false≢true e)
 list-meant (m.adds_name meant means rest) e = absurd (false≢true e)
 
 -- and in a bundle the other way round
-pub list-means : (tree : List Item) (reading : Reading) (labels : Labelling) {inner : List Denoted} {es : List Element} {marks : List Mark} → Means (bundle_sense tree reading labels) inner es marks → begins_list es ≡ true → first_is_list marks ≡ true
+pub list-means : (tree : List Item) (reading : Reading) (labels : Labelling) {inner : List Denoted}
+    {es : List Element} {marks : List Mark} →
+    Means (bundle_sense tree reading labels) inner es marks → begins_list es ≡ true →
+    first_is_list marks ≡ true
 list-means tree reading labels m.finished e = e
 list-means tree reading labels (m.replaced by is rest) e = absurd is
-list-means tree reading labels (m.begun {place} {field} {head} {marks} is rest) e = first-begins tree place field (path_at tree place) head marks ∙ e
+list-means tree reading labels (m.begun {place} {field} {head} {marks} is rest) e =
+    first-begins tree place field (path_at tree place) head marks ∙ e
 list-means tree reading labels (m.ended rest) e = absurd (false≢true e)
 list-means tree reading labels (m.empty rest) e = absurd (false≢true e)
 list-means tree reading labels (m.named d meant is means rest) e = absurd (false≢true e)
@@ -81,7 +100,8 @@ list-means tree reading labels (m.adds_end rest) e = absurd (false≢true e)
 list-means tree reading labels (m.adds_name meant means rest) e = absurd (false≢true e)
 
 -- elements of an item
-pub begins-item : (start : ℕ) (items : List Item) → begins_list (taken_from start items) ≡ begins_with is_export_list items
+pub begins-item : (start : ℕ) (items : List Item) →
+    begins_list (taken_from start items) ≡ begins_with is_export_list items
 begins-item start [] = refl
 begins-item start (h.Open field head ∷ rest) = refl
 begins-item start (h.Ident field x ctxt role ∷ rest) = refl
@@ -89,7 +109,8 @@ begins-item start (h.Hole field ∷ rest) = refl
 begins-item start (h.Close ∷ rest) = refl
 
 -- nothing means nothing
-pub nothing-meant : {sense : Sense} {inner : List Denoted} {es : List Element} {marks : List Mark} → Means sense inner es marks → es ≡ [] → marks ≡ []
+pub nothing-meant : {sense : Sense} {inner : List Denoted} {es : List Element} {marks : List Mark} →
+    Means sense inner es marks → es ≡ [] → marks ≡ []
 nothing-meant m.finished e = refl
 nothing-meant (m.replaced by is rest) e = absurd cc
 nothing-meant (m.begun is rest) e = absurd cc
@@ -101,7 +122,8 @@ nothing-meant (m.adds_begin rest) e = absurd cc
 nothing-meant (m.adds_end rest) e = absurd cc
 nothing-meant (m.adds_name meant means rest) e = absurd cc
 
-pub front-begins : (front rest : List Element) → (front ≡ [] → ⊥) → begins_list (front ++ rest) ≡ true → begins_list front ≡ true
+pub front-begins : (front rest : List Element) → (front ≡ [] → ⊥) →
+    begins_list (front ++ rest) ≡ true → begins_list front ≡ true
 front-begins [] rest some e = absurd (some refl)
 front-begins (taken place (h.Open field head) ∷ front) rest some e = e
 front-begins (taken place (h.Ident field x ctxt role) ∷ front) rest some e = e

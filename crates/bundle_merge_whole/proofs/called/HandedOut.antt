@@ -26,24 +26,41 @@ use Rattle.bundle_merge_whole.proofs.called.Filed.{IsListless, listless-tree}
 
 -- in no reached module an exported declaration is a list of exports
 abbrev pub AreListless : Program → Type 0
-AreListless p = (m : ℕ) → IsReached p m → Every (λ (top : TopItem). IsListless top.items) (top_items (tree_of p m))
+AreListless p =
+    (m : ℕ) → IsReached p m → Every (λ (top : TopItem). IsListless top.items) (top_items (tree_of p m))
 
-cleaned : (b : Bool) (tree : List Item) → CanBeCalled (if b then BySymbol else ByContext) tree → tree ≡ (if b then cleared tree else tidied tree) → wrapped tree ≡ (if b then cleared (wrapped tree) else tidied (wrapped tree))
+cleaned : (b : Bool) (tree : List Item) → CanBeCalled (if b then BySymbol else ByContext) tree →
+    tree ≡ (if b then cleared tree else tidied tree) →
+    wrapped tree ≡ (if b then cleared (wrapped tree) else tidied (wrapped tree))
 cleaned true tree can is = wrapped-cleared _ tree can is
 cleaned false tree can is = wrapped-tidied _ tree can is
 
-clean : (settings : Settings) (tree : List Item) → CanBeCalled (reading_of settings) tree → IsClean settings tree → IsClean settings (wrapped tree)
+clean : (settings : Settings) (tree : List Item) → CanBeCalled (reading_of settings) tree →
+    IsClean settings tree → IsClean settings (wrapped tree)
 clean settings tree can is = cleaned settings.renames tree can is
 
-not_doubled_in : (b : Bool) (tree : List Item) → CanBeCalled (if b then BySymbol else ByContext) tree → (b ≡ true → first_doubled Es tree ≡ None) → b ≡ true → first_doubled Es (wrapped tree) ≡ None
+not_doubled_in : (b : Bool) (tree : List Item) →
+    CanBeCalled (if b then BySymbol else ByContext) tree →
+    (b ≡ true → first_doubled Es tree ≡ None) → b ≡ true → first_doubled Es (wrapped tree) ≡ None
 not_doubled_in true tree can is e = wrapped-undoubled tree can (is e)
 not_doubled_in false tree can is e = absurd cc
 
-undoubled : (settings : Settings) (tree : List Item) → CanBeCalled (reading_of settings) tree → (settings.renames ≡ true → first_doubled Es tree ≡ None) → settings.renames ≡ true → first_doubled Es (wrapped tree) ≡ None
+undoubled : (settings : Settings) (tree : List Item) → CanBeCalled (reading_of settings) tree →
+    (settings.renames ≡ true → first_doubled Es tree ≡ None) → settings.renames ≡ true →
+    first_doubled Es (wrapped tree) ≡ None
 undoubled settings tree can is e = not_doubled_in settings.renames tree can is e
 
--- HANDED OUT: the call of what is a bundle of an entry but for its form
-pub wrapped-bundle : (parties : Parties) (settings : Settings) (kept : Kept) (entry : Entry) (p : Program) → IsProgramOf kept settings entry p → AcceptsProgram p parties → AreListless p → form_of settings ≡ AsCall → (tree : List Item) → CanBeCalled (reading_of settings) tree → IsClean settings tree → (settings.renames ≡ true → first_doubled Es tree ≡ None) → IsBundle p parties.hooks AsModule (reading_of settings) tree → (merged : List Item) → IsMerged keyword_free local_context p parties.hooks merged → IsNamedAs p.settings.renames merged tree → IsWholeModule tree → IsBundleOf parties settings kept (record { kind = Named entry.name; id = p.entry; tree = wrapped tree }) entry
+-- the call of what is a bundle of an entry but for its form
+pub wrapped-bundle : (parties : Parties) (settings : Settings) (kept : Kept) (entry : Entry)
+    (p : Program) →
+    IsProgramOf kept settings entry p → AcceptsProgram p parties → AreListless p →
+    form_of settings ≡ AsCall → (tree : List Item) → CanBeCalled (reading_of settings) tree →
+    IsClean settings tree → (settings.renames ≡ true → first_doubled Es tree ≡ None) →
+    IsBundle p parties.hooks AsModule (reading_of settings) tree → (merged : List Item) →
+    IsMerged keyword_free local_context p parties.hooks merged →
+    IsNamedAs p.settings.renames merged tree → IsWholeModule tree →
+    IsBundleOf parties settings kept
+        (record { kind = Named entry.name; id = p.entry; tree = wrapped tree }) entry
 wrapped-bundle parties settings kept entry p its accepted listless form tree can is_clean not_doubled bundle merged is_merged named whole = record {
   its_kind = refl;
   p = p;

@@ -16,13 +16,18 @@ use Rattle.bundle_merge_whole.specs.called.Moved.{moved_scope, moved_scopes, mov
 
 -- Lists.
 
-pub any-map : {A B : Type 0} (p : B → Bool) (q : A → Bool) (f : A → B) (P : A → Type 0) → ((x : A) → P x → p (f x) ≡ q x) → {xs : List A} → Every P xs → list_any p (map f xs) ≡ list_any q xs
+pub any-map : {A B : Type 0} (p : B → Bool) (q : A → Bool) (f : A → B) (P : A → Type 0) →
+    ((x : A) → P x → p (f x) ≡ q x) → {xs : List A} → Every P xs →
+    list_any p (map f xs) ≡ list_any q xs
 any-map p q f P same none = refl
-any-map p q f P same (more {x} {xs} here later) = ap₂ (λ (a : Bool) (b : Bool). a || b) (same x here) (any-map p q f P same later)
+any-map p q f P same (more {x} {xs} here later) =
+    ap₂ (λ (a : Bool) (b : Bool). a || b) (same x here) (any-map p q f P same later)
 
-pub any-none : {A B : Type 0} (p : B → Bool) (f : A → B) (P : A → Type 0) → ((x : A) → P x → p (f x) ≡ false) → {xs : List A} → Every P xs → list_any p (map f xs) ≡ false
+pub any-none : {A B : Type 0} (p : B → Bool) (f : A → B) (P : A → Type 0) →
+    ((x : A) → P x → p (f x) ≡ false) → {xs : List A} → Every P xs → list_any p (map f xs) ≡ false
 any-none p f P same none = refl
-any-none p f P same (more {x} {xs} here later) = ap₂ (λ (a : Bool) (b : Bool). a || b) (same x here) (any-none p f P same later)
+any-none p f P same (more {x} {xs} here later) =
+    ap₂ (λ (a : Bool) (b : Bool). a || b) (same x here) (any-none p f P same later)
 
 -- What takes a declaration.
 
@@ -38,7 +43,8 @@ block-at FunctionBody a b = refl
 block-at StaticBody a b = refl
 block-at _ a b = refl
 
-parameters-at : (kind : ScopeKind) (a b : ℕ) → is_parameters (Inner kind a) ≡ is_parameters (Inner kind b)
+parameters-at : (kind : ScopeKind) (a b : ℕ) →
+    is_parameters (Inner kind a) ≡ is_parameters (Inner kind b)
 parameters-at Parameters a b = refl
 parameters-at ArrowParameters a b = refl
 parameters-at _ a b = refl
@@ -51,11 +57,13 @@ catch-at : (kind : ScopeKind) (a b : ℕ) → is_catch (Inner kind a) ≡ is_cat
 catch-at Catch a b = refl
 catch-at _ a b = refl
 
-function_name-at : (kind : ScopeKind) (a b : ℕ) → is_function_name (Inner kind a) ≡ is_function_name (Inner kind b)
+function_name-at : (kind : ScopeKind) (a b : ℕ) →
+    is_function_name (Inner kind a) ≡ is_function_name (Inner kind b)
 function_name-at FunctionName a b = refl
 function_name-at _ a b = refl
 
-class_name-at : (kind : ScopeKind) (a b : ℕ) → is_class_name (Inner kind a) ≡ is_class_name (Inner kind b)
+class_name-at : (kind : ScopeKind) (a b : ℕ) →
+    is_class_name (Inner kind a) ≡ is_class_name (Inner kind b)
 class_name-at ClassName a b = refl
 class_name-at _ a b = refl
 
@@ -63,7 +71,8 @@ function-at : (kind : ScopeKind) (a b : ℕ) → is_function (Inner kind a) ≡ 
 function-at Parameters a b = refl
 function-at _ a b = refl
 
-pub takes-at : (way : Way) (kind : ScopeKind) (a b : ℕ) → takes way (Inner kind a) ≡ takes way (Inner kind b)
+pub takes-at : (way : Way) (kind : ScopeKind) (a b : ℕ) →
+    takes way (Inner kind a) ≡ takes way (Inner kind b)
 takes-at ByImport kind a b = refl
 takes-at ByVar kind a b = body-at kind a b
 takes-at ByLet kind a b = block-at kind a b
@@ -78,7 +87,9 @@ takes-at ByFunctionName kind a b = function_name-at kind a b
 takes-at ByClassName kind a b = class_name-at kind a b
 takes-at ByWrapper kind a b = refl
 
-pub from_taker-moved : (way : Way) {scopes : List Scope} → AreFair scopes → is_module_way way ≡ false → is_some (nearest (from_taker way scopes)) ≡ true → from_taker way (moved_scopes scopes) ≡ moved_scopes (from_taker way scopes)
+pub from_taker-moved : (way : Way) {scopes : List Scope} → AreFair scopes →
+    is_module_way way ≡ false → is_some (nearest (from_taker way scopes)) ≡ true →
+    from_taker way (moved_scopes scopes) ≡ moved_scopes (from_taker way scopes)
 from_taker-moved ByImport top is_inner taken = absurd (false≢true (sym is_inner))
 from_taker-moved ByVar top is_inner taken = refl
 from_taker-moved ByLet top is_inner taken = refl
@@ -96,27 +107,41 @@ from_taker-moved way (inner {kind} {begins} {outer} positive fair) is_inner take
     ap (λ t. cond t (Inner kind (begins + 6) ∷ moved_scopes outer) (from_taker way (moved_scopes outer))) (takes-at way kind (begins + 6) begins)
     ∙ by (takes way (Inner kind begins)) taken (λ further. from_taker-moved way fair is_inner further)
   where
-    by : (t : Bool) → is_some (nearest (cond t (Inner kind begins ∷ outer) (from_taker way outer))) ≡ true → (is_some (nearest (from_taker way outer)) ≡ true → from_taker way (moved_scopes outer) ≡ moved_scopes (from_taker way outer)) → cond t (Inner kind (begins + 6) ∷ moved_scopes outer) (from_taker way (moved_scopes outer)) ≡ moved_scopes (cond t (Inner kind begins ∷ outer) (from_taker way outer))
+    by : (t : Bool) →
+        is_some (nearest (cond t (Inner kind begins ∷ outer) (from_taker way outer))) ≡ true →
+        (is_some (nearest (from_taker way outer)) ≡ true → from_taker way (moved_scopes outer) ≡ moved_scopes (from_taker way outer))
+            →
+        cond t (Inner kind (begins + 6) ∷ moved_scopes outer) (from_taker way (moved_scopes outer))
+            ≡
+            moved_scopes (cond t (Inner kind begins ∷ outer) (from_taker way outer))
     by true is rest = refl
     by false is rest = rest is
 
-pub from_taker-fair : (way : Way) {scopes : List Scope} → AreFair scopes → is_some (nearest (from_taker way scopes)) ≡ true → AreFair (from_taker way scopes)
+pub from_taker-fair : (way : Way) {scopes : List Scope} → AreFair scopes →
+    is_some (nearest (from_taker way scopes)) ≡ true → AreFair (from_taker way scopes)
 from_taker-fair way top taken = by (takes way Top) taken
   where
-    by : (t : Bool) → is_some (nearest (cond t (Top ∷ []) [])) ≡ true → AreFair (cond t (Top ∷ []) [])
+    by : (t : Bool) → is_some (nearest (cond t (Top ∷ []) [])) ≡ true →
+        AreFair (cond t (Top ∷ []) [])
     by true is = top
     by false is = absurd (false≢true is)
-from_taker-fair way (inner {kind} {begins} {outer} positive fair) taken = by (takes way (Inner kind begins)) taken (λ further. from_taker-fair way fair further)
+from_taker-fair way (inner {kind} {begins} {outer} positive fair) taken =
+    by (takes way (Inner kind begins)) taken (λ further. from_taker-fair way fair further)
   where
-    by : (t : Bool) → is_some (nearest (cond t (Inner kind begins ∷ outer) (from_taker way outer))) ≡ true → (is_some (nearest (from_taker way outer)) ≡ true → AreFair (from_taker way outer)) → AreFair (cond t (Inner kind begins ∷ outer) (from_taker way outer))
+    by : (t : Bool) →
+        is_some (nearest (cond t (Inner kind begins ∷ outer) (from_taker way outer))) ≡ true →
+        (is_some (nearest (from_taker way outer)) ≡ true → AreFair (from_taker way outer)) →
+        AreFair (cond t (Inner kind begins ∷ outer) (from_taker way outer))
     by true is rest = inner positive fair
     by false is rest = rest is
 
-pub nearest-moved : {scopes : List Scope} → AreFair scopes → nearest (moved_scopes scopes) ≡ option_map moved_scope (nearest scopes)
+pub nearest-moved : {scopes : List Scope} → AreFair scopes →
+    nearest (moved_scopes scopes) ≡ option_map moved_scope (nearest scopes)
 nearest-moved top = refl
 nearest-moved (inner positive fair) = refl
 
-first-moved : {scopes : List Scope} → AreFair scopes → unwrap_or (nearest (moved_scopes scopes)) Top ≡ moved_scope (unwrap_or (nearest scopes) Top)
+first-moved : {scopes : List Scope} → AreFair scopes →
+    unwrap_or (nearest (moved_scopes scopes)) Top ≡ moved_scope (unwrap_or (nearest scopes) Top)
 first-moved top = refl
 first-moved (inner positive fair) = refl
 
@@ -125,7 +150,9 @@ first-fair top = tt
 first-fair (inner positive fair) = positive
 
 pub taker-moved : (d : Declared) → IsSeated d → taker (moved_declared d) ≡ moved_scope (taker d)
-taker-moved d seated = ap (λ l. unwrap_or (nearest l) Top) (from_taker-moved d.by seated.fair seated.way seated.taken) ∙ first-moved (from_taker-fair d.by seated.fair seated.taken)
+taker-moved d seated =
+    ap (λ l. unwrap_or (nearest l) Top) (from_taker-moved d.by seated.fair seated.way seated.taken)
+    ∙ first-moved (from_taker-fair d.by seated.fair seated.taken)
 
 pub taker-fair : (d : Declared) → IsSeated d → IsFair (taker d)
 taker-fair d seated = first-fair (from_taker-fair d.by seated.fair seated.taken)
@@ -133,16 +160,23 @@ taker-fair d seated = first-fair (from_taker-fair d.by seated.fair seated.taken)
 -- Scopes that are the same.
 
 eqb-both : (a b c d : ℕ) → (a ≡ b → c ≡ d) → (c ≡ d → a ≡ b) → (c == d) ≡ (a == b)
-eqb-both a b c d on back = same_from_decides (c == d) (a == b) (Decides-eqb c d) (λ e. on ((Decides-eqb a b).0 e), λ e. (Decides-eqb a b).1 (back e))
+eqb-both a b c d on back =
+    same_from_decides (c == d) (a == b) (Decides-eqb c d)
+    (λ e. on ((Decides-eqb a b).0 e), λ e. (Decides-eqb a b).1 (back e))
 
-pub same-moved : (s t : Scope) → IsFair s → IsFair t → same_scope (moved_scope s) (moved_scope t) ≡ same_scope s t
+pub same-moved : (s t : Scope) → IsFair s → IsFair t →
+    same_scope (moved_scope s) (moved_scope t) ≡ same_scope s t
 same-moved Wrapper t fair its = absurd fair
 same-moved Top Wrapper fair its = absurd its
 same-moved (Inner kind begins) Wrapper fair its = absurd its
 same-moved Top Top fair its = refl
-same-moved Top (Inner other at) fair its = eqb-both 1 (at + 2) 8 (at + 6 + 2) (λ e. omega arith) (λ e. omega arith)
-same-moved (Inner kind begins) Top fair its = eqb-both (begins + 2) 1 (begins + 6 + 2) 8 (λ e. omega arith) (λ e. omega arith)
-same-moved (Inner kind begins) (Inner other at) fair its = eqb-both (begins + 2) (at + 2) (begins + 6 + 2) (at + 6 + 2) (λ e. omega arith) (λ e. omega arith)
+same-moved Top (Inner other at) fair its =
+    eqb-both 1 (at + 2) 8 (at + 6 + 2) (λ e. omega arith) (λ e. omega arith)
+same-moved (Inner kind begins) Top fair its =
+    eqb-both (begins + 2) 1 (begins + 6 + 2) 8 (λ e. omega arith) (λ e. omega arith)
+same-moved (Inner kind begins) (Inner other at) fair its =
+    eqb-both (begins + 2) (at + 2) (begins + 6 + 2) (at + 6 + 2) (λ e. omega arith)
+    (λ e. omega arith)
 
 -- a scope that is moved is none of those around the function's body
 pub differs : (a b : ℕ) → (a ≡ b → ⊥) → (a == b) ≡ false
@@ -163,11 +197,13 @@ outer-differs Wrapper _ fair outer = absurd fair
 outer-differs Top _ fair at_parameters = refl
 outer-differs Top _ fair at_name = refl
 outer-differs Top _ fair at_top = refl
-outer-differs (Inner kind begins) _ fair at_parameters = differs (begins + 6 + 2) 7 (λ e. omega arith)
+outer-differs (Inner kind begins) _ fair at_parameters =
+    differs (begins + 6 + 2) 7 (λ e. omega arith)
 outer-differs (Inner kind begins) _ fair at_name = differs (begins + 6 + 2) 6 (λ e. omega arith)
 outer-differs (Inner kind begins) _ fair at_top = differs (begins + 6 + 2) 1 (λ e. omega arith)
 
-pub parameters-differ : (s : Scope) → IsFair s → same_scope (Inner Parameters 5) (moved_scope s) ≡ false
+pub parameters-differ : (s : Scope) → IsFair s →
+    same_scope (Inner Parameters 5) (moved_scope s) ≡ false
 parameters-differ Wrapper fair = absurd fair
 parameters-differ Top fair = refl
 parameters-differ (Inner kind begins) fair = differs 7 (begins + 6 + 2) (λ e. omega arith)
@@ -189,7 +225,8 @@ function-moved (Inner kind begins) = function-at kind (begins + 6) begins
 
 -- The scope to which a name belongs.
 
-is_parameter-moved : (scope : Scope) → IsFair scope → (name : Name) (d : Declared) → IsSeated d → is_parameter (moved_scope scope) name (moved_declared d) ≡ is_parameter scope name d
+is_parameter-moved : (scope : Scope) → IsFair scope → (name : Name) (d : Declared) → IsSeated d →
+    is_parameter (moved_scope scope) name (moved_declared d) ≡ is_parameter scope name d
 is_parameter-moved scope fair name d seated =
     ap (λ (t : Scope). (is_parameters t || is_wrapper t) && same_scope t (moved_scope scope) && names_agree d.name name) (taker-moved d seated)
     ∙ ap₂ (λ (a : Bool) (b : Bool). (a || b) && same_scope (moved_scope (taker d)) (moved_scope scope) && names_agree d.name name) (parameters-moved (taker d)) (wrapper-moved (taker d))
@@ -204,8 +241,11 @@ and_false a b c e = ap (λ t. a && t && c) e ∙ by a c
     by false true = refl
     by false false = refl
 
-is_parameter-outer : (scope : Scope) → IsOuter scope → (name : Name) (d : Declared) → IsSeated d → is_parameter scope name (moved_declared d) ≡ false
-is_parameter-outer scope outer name d seated = and_false _ _ _ (ap (λ (t : Scope). same_scope t scope) (taker-moved d seated) ∙ outer-differs (taker d) scope (taker-fair d seated) outer)
+is_parameter-outer : (scope : Scope) → IsOuter scope → (name : Name) (d : Declared) → IsSeated d →
+    is_parameter scope name (moved_declared d) ≡ false
+is_parameter-outer scope outer name d seated =
+    and_false _ _ _
+    (ap (λ (t : Scope). same_scope t scope) (taker-moved d seated) ∙ outer-differs (taker d) scope (taker-fair d seated) outer)
 
 -- beside parameters
 pub data MaybeFair : Option Scope → Type 0 where
@@ -215,39 +255,59 @@ pub data MaybeFair : Option Scope → Type 0 where
 moved_beside : List Scope → Option Scope
 moved_beside scopes = parameters_of (moved_scopes scopes)
 
-beside-moved : {all : List Declared} → Every IsSeated all → (d : Declared) → IsSeated d → {beside : Option Scope} → MaybeFair beside → home_beside (map moved_declared all) (moved_declared d) (option_map moved_scope beside) ≡ moved_scope (home_beside all d beside)
+beside-moved : {all : List Declared} → Every IsSeated all → (d : Declared) → IsSeated d →
+    {beside : Option Scope} → MaybeFair beside →
+    home_beside (map moved_declared all) (moved_declared d) (option_map moved_scope beside) ≡
+        moved_scope (home_beside all d beside)
 beside-moved seats d seated no_scope = taker-moved d seated
 beside-moved {all} seats d seated (some_scope {s} fair) =
     ap₂ (λ (t : Bool) (x : Scope). cond t (moved_scope s) x) (any-map (is_parameter (moved_scope s) d.name) (is_parameter s d.name) moved_declared IsSeated (is_parameter-moved s fair d.name) seats) (taker-moved d seated)
     ∙ by (list_any (is_parameter s d.name) all)
   where
-    by : (t : Bool) → cond t (moved_scope s) (moved_scope (taker d)) ≡ moved_scope (cond t s (taker d))
+    by : (t : Bool) →
+        cond t (moved_scope s) (moved_scope (taker d)) ≡ moved_scope (cond t s (taker d))
     by true = refl
     by false = refl
 
 -- the top has no parameters, and neither has the function
-beside-outer : {all : List Declared} → Every IsSeated all → (d : Declared) → IsSeated d → home_beside (map moved_declared all) (moved_declared d) (Some (Inner Parameters 5)) ≡ moved_scope (taker d)
-beside-outer seats d seated = ap₂ (λ (t : Bool) (x : Scope). cond t (Inner Parameters 5) x) (any-none (is_parameter (Inner Parameters 5) d.name) moved_declared IsSeated (is_parameter-outer (Inner Parameters 5) at_parameters d.name) seats) (taker-moved d seated)
+beside-outer : {all : List Declared} → Every IsSeated all → (d : Declared) → IsSeated d →
+    home_beside (map moved_declared all) (moved_declared d) (Some (Inner Parameters 5)) ≡
+        moved_scope (taker d)
+beside-outer seats d seated =
+    ap₂ (λ (t : Bool) (x : Scope). cond t (Inner Parameters 5) x)
+    (any-none (is_parameter (Inner Parameters 5) d.name) moved_declared IsSeated (is_parameter-outer (Inner Parameters 5) at_parameters d.name) seats)
+    (taker-moved d seated)
 
 pub nearest-fair : {scopes : List Scope} → AreFair scopes → MaybeFair (nearest scopes)
 nearest-fair top = some_scope tt
 nearest-fair (inner positive fair) = some_scope positive
 
-beside-taken : {all : List Declared} → Every IsSeated all → (d : Declared) → IsSeated d → {scopes : List Scope} → AreFair scopes → home_beside (map moved_declared all) (moved_declared d) (parameters_of (moved_scopes scopes)) ≡ moved_scope (home_beside all d (parameters_of scopes))
+beside-taken : {all : List Declared} → Every IsSeated all → (d : Declared) → IsSeated d →
+    {scopes : List Scope} → AreFair scopes →
+    home_beside (map moved_declared all) (moved_declared d) (parameters_of (moved_scopes scopes)) ≡
+        moved_scope (home_beside all d (parameters_of scopes))
 beside-taken seats d seated top = beside-outer seats d seated
-beside-taken {all} seats d seated (inner {kind = FunctionBody} positive fair) = ap (home_beside (map moved_declared all) (moved_declared d)) (nearest-moved fair) ∙ beside-moved seats d seated (nearest-fair fair)
+beside-taken {all} seats d seated (inner {kind = FunctionBody} positive fair) =
+    ap (home_beside (map moved_declared all) (moved_declared d)) (nearest-moved fair)
+    ∙ beside-moved seats d seated (nearest-fair fair)
 beside-taken seats d seated (inner positive fair) = beside-moved seats d seated no_scope
 
-pub home-moved : {all : List Declared} → Every IsSeated all → (d : Declared) → IsSeated d → home_of (map moved_declared all) (moved_declared d) ≡ moved_scope (home_of all d)
+pub home-moved : {all : List Declared} → Every IsSeated all → (d : Declared) → IsSeated d →
+    home_of (map moved_declared all) (moved_declared d) ≡ moved_scope (home_of all d)
 home-moved {all} seats d seated =
     ap₂ (λ (h : Scope) (t : Scope). cond (joins_parameter d.by) h t) (ap (λ l. home_beside (map moved_declared all) (moved_declared d) (parameters_of l)) (from_taker-moved d.by seated.fair seated.way seated.taken) ∙ beside-taken seats d seated (from_taker-fair d.by seated.fair seated.taken)) (taker-moved d seated)
     ∙ by (joins_parameter d.by)
   where
-    by : (t : Bool) → cond t (moved_scope (home_beside all d (parameters_of (from_taker d.by d.scopes)))) (moved_scope (taker d)) ≡ moved_scope (cond t (home_beside all d (parameters_of (from_taker d.by d.scopes))) (taker d))
+    by : (t : Bool) →
+        cond t (moved_scope (home_beside all d (parameters_of (from_taker d.by d.scopes))))
+            (moved_scope (taker d)) ≡
+            moved_scope
+                (cond t (home_beside all d (parameters_of (from_taker d.by d.scopes))) (taker d))
     by true = refl
     by false = refl
 
-beside-fair : (all : List Declared) (d : Declared) → IsSeated d → {beside : Option Scope} → MaybeFair beside → IsFair (home_beside all d beside)
+beside-fair : (all : List Declared) (d : Declared) → IsSeated d → {beside : Option Scope} →
+    MaybeFair beside → IsFair (home_beside all d beside)
 beside-fair all d seated no_scope = taker-fair d seated
 beside-fair all d seated (some_scope {s} fair) = by (list_any (is_parameter s d.name) all)
   where
@@ -263,81 +323,140 @@ parameters-fair (inner positive fair) = no_scope
 pub home-fair : (all : List Declared) (d : Declared) → IsSeated d → IsFair (home_of all d)
 home-fair all d seated = by (joins_parameter d.by)
   where
-    by : (t : Bool) → IsFair (cond t (home_beside all d (parameters_of (from_taker d.by d.scopes))) (taker d))
-    by true = beside-fair all d seated (parameters-fair (from_taker-fair d.by seated.fair seated.taken))
+    by : (t : Bool) →
+        IsFair (cond t (home_beside all d (parameters_of (from_taker d.by d.scopes))) (taker d))
+    by true =
+        beside-fair all d seated (parameters-fair (from_taker-fair d.by seated.fair seated.taken))
     by false = taker-fair d seated
 
 -- What a scope binds.
 
-is_declared_in-moved : {all : List Declared} → Every IsSeated all → (s : Scope) → IsFair s → (name : Name) (d : Declared) → IsSeated d → is_declared_in (map moved_declared all) (moved_scope s) name (moved_declared d) ≡ is_declared_in all s name d
+is_declared_in-moved : {all : List Declared} → Every IsSeated all → (s : Scope) → IsFair s →
+    (name : Name) (d : Declared) → IsSeated d →
+    is_declared_in (map moved_declared all) (moved_scope s) name (moved_declared d) ≡
+        is_declared_in all s name d
 is_declared_in-moved {all} seats s fair name d seated =
     ap (λ (t : Scope). same_scope t (moved_scope s) && names_agree d.name name) (home-moved seats d seated)
     ∙ ap (λ (t : Bool). t && names_agree d.name name) (same-moved (home_of all d) s (home-fair all d seated) fair)
 
-is_declared_in-outer : {all : List Declared} → Every IsSeated all → (s : Scope) → IsOuter s → (name : Name) (d : Declared) → IsSeated d → is_declared_in (map moved_declared all) s name (moved_declared d) ≡ false
+is_declared_in-outer : {all : List Declared} → Every IsSeated all → (s : Scope) → IsOuter s →
+    (name : Name) (d : Declared) → IsSeated d →
+    is_declared_in (map moved_declared all) s name (moved_declared d) ≡ false
 is_declared_in-outer {all} seats s outer name d seated =
     ap (λ (t : Scope). same_scope t s && names_agree d.name name) (home-moved seats d seated)
     ∙ ap (λ (t : Bool). t && names_agree d.name name) (outer-differs (home_of all d) s (home-fair all d seated) outer)
 
-declares-moved : {all : List Declared} → Every IsSeated all → (s : Scope) → IsFair s → (name : Name) → declares (map moved_declared all) (moved_scope s) name ≡ declares all s name
-declares-moved {all} seats s fair name = any-map (is_declared_in (map moved_declared all) (moved_scope s) name) (is_declared_in all s name) moved_declared IsSeated (is_declared_in-moved seats s fair name) seats
+declares-moved : {all : List Declared} → Every IsSeated all → (s : Scope) → IsFair s →
+    (name : Name) → declares (map moved_declared all) (moved_scope s) name ≡ declares all s name
+declares-moved {all} seats s fair name =
+    any-map (is_declared_in (map moved_declared all) (moved_scope s) name)
+    (is_declared_in all s name) moved_declared IsSeated (is_declared_in-moved seats s fair name)
+    seats
 
-pub declares-outer : {all : List Declared} → Every IsSeated all → (s : Scope) → IsOuter s → (name : Name) → declares (map moved_declared all) s name ≡ false
-declares-outer {all} seats s outer name = any-none (is_declared_in (map moved_declared all) s name) moved_declared IsSeated (is_declared_in-outer seats s outer name) seats
+pub declares-outer : {all : List Declared} → Every IsSeated all → (s : Scope) → IsOuter s →
+    (name : Name) → declares (map moved_declared all) s name ≡ false
+declares-outer {all} seats s outer name =
+    any-none (is_declared_in (map moved_declared all) s name) moved_declared IsSeated
+    (is_declared_in-outer seats s outer name) seats
 
-pub written-moved : {all : List Declared} → Every IsSeated all → (s : Scope) → IsFair s → (name : Name) → is_written_in (map moved_declared all) (moved_scope s) name ≡ is_written_in all s name
-written-moved {all} seats s fair name = any-map (λ d. has_identifier d && is_declared_in (map moved_declared all) (moved_scope s) name d) (λ d. has_identifier d && is_declared_in all s name d) moved_declared IsSeated (λ d seated. ap (λ t. has_identifier d && t) (is_declared_in-moved seats s fair name d seated)) seats
+pub written-moved : {all : List Declared} → Every IsSeated all → (s : Scope) → IsFair s →
+    (name : Name) →
+    is_written_in (map moved_declared all) (moved_scope s) name ≡ is_written_in all s name
+written-moved {all} seats s fair name =
+    any-map
+    (λ d. has_identifier d && is_declared_in (map moved_declared all) (moved_scope s) name d)
+    (λ d. has_identifier d && is_declared_in all s name d) moved_declared IsSeated
+    (λ d seated. ap (λ t. has_identifier d && t) (is_declared_in-moved seats s fair name d seated))
+    seats
 
-pub written-outer : {all : List Declared} → Every IsSeated all → (s : Scope) → IsOuter s → (name : Name) → is_written_in (map moved_declared all) s name ≡ false
-written-outer {all} seats s outer name = any-none (λ d. has_identifier d && is_declared_in (map moved_declared all) s name d) moved_declared IsSeated (λ d seated. ap (λ t. has_identifier d && t) (is_declared_in-outer seats s outer name d seated) ∙ and_no (has_identifier d)) seats
+pub written-outer : {all : List Declared} → Every IsSeated all → (s : Scope) → IsOuter s →
+    (name : Name) → is_written_in (map moved_declared all) s name ≡ false
+written-outer {all} seats s outer name =
+    any-none (λ d. has_identifier d && is_declared_in (map moved_declared all) s name d)
+    moved_declared IsSeated
+    (λ d seated. ap (λ t. has_identifier d && t) (is_declared_in-outer seats s outer name d seated) ∙ and_no (has_identifier d))
+    seats
   where
     and_no : (t : Bool) → (t && false) ≡ false
     and_no true = refl
     and_no false = refl
 
-pub binds-moved : {all : List Declared} → Every IsSeated all → (s : Scope) → IsFair s → (name : Name) → binds (map moved_declared all) (moved_scope s) name ≡ binds all s name
+pub binds-moved : {all : List Declared} → Every IsSeated all → (s : Scope) → IsFair s →
+    (name : Name) → binds (map moved_declared all) (moved_scope s) name ≡ binds all s name
 binds-moved {all} seats s fair name =
     ap₂ (λ (a : Bool) (b : Bool). a || (is_arguments name.sym && (is_function (moved_scope s) && not b))) (declares-moved seats s fair name) (declares-moved seats s fair (record { sym = codes "arguments"; ctxt = None }))
     ∙ ap (λ t. declares all s name || (is_arguments name.sym && (t && not (declares all s (record { sym = codes "arguments"; ctxt = None }))))) (function-moved s)
 
-pub implied-moved : {all : List Declared} → Every IsSeated all → (s : Scope) → IsFair s → (name : Name) → is_implied_in (map moved_declared all) (moved_scope s) name ≡ is_implied_in all s name
+pub implied-moved : {all : List Declared} → Every IsSeated all → (s : Scope) → IsFair s →
+    (name : Name) →
+    is_implied_in (map moved_declared all) (moved_scope s) name ≡ is_implied_in all s name
 implied-moved {all} seats s fair name =
     ap₂ (λ (a : Bool) (b : Bool). (a && not b) || (is_arguments name.sym && is_function (moved_scope s))) (declares-moved seats s fair (without_context name)) (written-moved seats s fair (without_context name))
     ∙ ap (λ t. (declares all s (without_context name) && not (is_written_in all s (without_context name))) || (is_arguments name.sym && t)) (function-moved s)
 
 -- the scopes around the body bind nothing but, in the function's own, `arguments`
-binds-outer : {all : List Declared} → Every IsSeated all → (s : Scope) → IsOuter s → (name : Name) → is_arguments name.sym ≡ false → binds (map moved_declared all) s name ≡ false
-binds-outer {all} seats s outer name other = ap₂ (λ (a : Bool) (b : Bool). a || (b && has_implicit_arguments (map moved_declared all) s)) (declares-outer seats s outer name) other
+binds-outer : {all : List Declared} → Every IsSeated all → (s : Scope) → IsOuter s → (name : Name) →
+    is_arguments name.sym ≡ false → binds (map moved_declared all) s name ≡ false
+binds-outer {all} seats s outer name other =
+    ap₂ (λ (a : Bool) (b : Bool). a || (b && has_implicit_arguments (map moved_declared all) s))
+    (declares-outer seats s outer name) other
 
-implied-outer : {all : List Declared} → Every IsSeated all → (s : Scope) → IsOuter s → (name : Name) → is_arguments name.sym ≡ false → is_implied_in (map moved_declared all) s name ≡ false
-implied-outer {all} seats s outer name other = ap₂ (λ (a : Bool) (b : Bool). (a && not (is_written_in (map moved_declared all) s (without_context name))) || (b && is_function s)) (declares-outer seats s outer (without_context name)) other
+implied-outer : {all : List Declared} → Every IsSeated all → (s : Scope) → IsOuter s →
+    (name : Name) → is_arguments name.sym ≡ false →
+    is_implied_in (map moved_declared all) s name ≡ false
+implied-outer {all} seats s outer name other =
+    ap₂
+    (λ (a : Bool) (b : Bool). (a && not (is_written_in (map moved_declared all) s (without_context name))) || (b && is_function s))
+    (declares-outer seats s outer (without_context name)) other
 
 -- The nearest scope that binds a name.
 
-pub find-there : (p q : Scope → Bool) → ((s : Scope) → IsFair s → p (moved_scope s) ≡ q s) → {scopes : List Scope} → AreFair scopes → (s : Scope) → find q scopes ≡ Some s → find p (moved_scopes scopes) ≡ Some (moved_scope s)
-find-there p q same top s e = ap (λ (t : Bool). cond t (Some (Inner FunctionBody 6)) (cond (p (Inner Parameters 5)) (Some (Inner Parameters 5)) (cond (p (Inner FunctionName 4)) (Some (Inner FunctionName 4)) (cond (p Top) (Some Top) None)))) (same Top tt) ∙ by (q Top) e
+pub find-there : (p q : Scope → Bool) → ((s : Scope) → IsFair s → p (moved_scope s) ≡ q s) →
+    {scopes : List Scope} → AreFair scopes → (s : Scope) → find q scopes ≡ Some s →
+    find p (moved_scopes scopes) ≡ Some (moved_scope s)
+find-there p q same top s e =
+    ap
+        (λ (t : Bool). cond t (Some (Inner FunctionBody 6)) (cond (p (Inner Parameters 5)) (Some (Inner Parameters 5)) (cond (p (Inner FunctionName 4)) (Some (Inner FunctionName 4)) (cond (p Top) (Some Top) None))))
+        (same Top tt) ∙ by (q Top) e
   where
-    by : (t : Bool) → ◌≡◌ {A = Option Scope} (cond t (Some Top) None) (Some s) → cond t (Some (Inner FunctionBody 6)) (cond (p (Inner Parameters 5)) (Some (Inner Parameters 5)) (cond (p (Inner FunctionName 4)) (Some (Inner FunctionName 4)) (cond (p Top) (Some Top) None))) ≡ Some (moved_scope s)
+    by : (t : Bool) → ◌≡◌ {A = Option Scope} (cond t (Some Top) None) (Some s) →
+        cond t (Some (Inner FunctionBody 6))
+            (cond (p (Inner Parameters 5)) (Some (Inner Parameters 5)) (cond (p (Inner FunctionName 4)) (Some (Inner FunctionName 4)) (cond (p Top) (Some Top) None)))
+            ≡
+            Some (moved_scope s)
     by true is = ap (option_map moved_scope) is
     by false is = absurd (none-some s is)
-find-there p q same (inner {kind} {begins} {outer} positive fair) s e = ap (λ (t : Bool). cond t (Some (Inner kind (begins + 6))) (find p (moved_scopes outer))) (same (Inner kind begins) positive) ∙ by (q (Inner kind begins)) e (λ further. find-there p q same fair s further)
+find-there p q same (inner {kind} {begins} {outer} positive fair) s e =
+    ap (λ (t : Bool). cond t (Some (Inner kind (begins + 6))) (find p (moved_scopes outer)))
+        (same (Inner kind begins) positive)
+    ∙ by (q (Inner kind begins)) e (λ further. find-there p q same fair s further)
   where
-    by : (t : Bool) → cond t (Some (Inner kind begins)) (find q outer) ≡ Some s → (find q outer ≡ Some s → find p (moved_scopes outer) ≡ Some (moved_scope s)) → cond t (Some (Inner kind (begins + 6))) (find p (moved_scopes outer)) ≡ Some (moved_scope s)
+    by : (t : Bool) → cond t (Some (Inner kind begins)) (find q outer) ≡ Some s →
+        (find q outer ≡ Some s → find p (moved_scopes outer) ≡ Some (moved_scope s)) →
+        cond t (Some (Inner kind (begins + 6))) (find p (moved_scopes outer)) ≡ Some (moved_scope s)
     by true is rest = ap (option_map moved_scope) is
     by false is rest = rest is
 
-find-nowhere : (p q : Scope → Bool) → ((s : Scope) → IsFair s → p (moved_scope s) ≡ q s) → ((s : Scope) → IsOuter s → p s ≡ false) → {scopes : List Scope} → AreFair scopes → find q scopes ≡ None → find p (moved_scopes scopes) ≡ None
+find-nowhere : (p q : Scope → Bool) → ((s : Scope) → IsFair s → p (moved_scope s) ≡ q s) →
+    ((s : Scope) → IsOuter s → p s ≡ false) → {scopes : List Scope} → AreFair scopes →
+    find q scopes ≡ None → find p (moved_scopes scopes) ≡ None
 find-nowhere p q same outside top e =
     ap₂ (λ (t : Bool) (u : Bool). cond t (Some (Inner FunctionBody 6)) (cond u (Some (Inner Parameters 5)) (cond (p (Inner FunctionName 4)) (Some (Inner FunctionName 4)) (cond (p Top) (Some Top) None)))) (same Top tt) (outside (Inner Parameters 5) at_parameters)
     ∙ ap₂ (λ (t : Bool) (u : Bool). cond (q Top) (Some (Inner FunctionBody 6)) (cond t (Some (Inner FunctionName 4)) (cond u (Some Top) None))) (outside (Inner FunctionName 4) at_name) (outside Top at_top)
     ∙ by (q Top) e
   where
-    by : (t : Bool) → ◌≡◌ {A = Option Scope} (cond t (Some Top) None) None → ◌≡◌ {A = Option Scope} (cond t (Some (Inner FunctionBody 6)) None) None
+    by : (t : Bool) → ◌≡◌ {A = Option Scope} (cond t (Some Top) None) None →
+        ◌≡◌ {A = Option Scope} (cond t (Some (Inner FunctionBody 6)) None) None
     by true is = absurd (none-some Top (sym is))
     by false is = refl
-find-nowhere p q same outside (inner {kind} {begins} {outer} positive fair) e = ap (λ (t : Bool). cond t (Some (Inner kind (begins + 6))) (find p (moved_scopes outer))) (same (Inner kind begins) positive) ∙ by (q (Inner kind begins)) e (λ further. find-nowhere p q same outside fair further)
+find-nowhere p q same outside (inner {kind} {begins} {outer} positive fair) e =
+    ap (λ (t : Bool). cond t (Some (Inner kind (begins + 6))) (find p (moved_scopes outer)))
+        (same (Inner kind begins) positive)
+    ∙ by (q (Inner kind begins)) e (λ further. find-nowhere p q same outside fair further)
   where
-    by : (t : Bool) → cond t (Some (Inner kind begins)) (find q outer) ≡ None → (find q outer ≡ None → find p (moved_scopes outer) ≡ None) → cond t (Some (Inner kind (begins + 6))) (find p (moved_scopes outer)) ≡ None
+    by : (t : Bool) → cond t (Some (Inner kind begins)) (find q outer) ≡ None →
+        (find q outer ≡ None → find p (moved_scopes outer) ≡ None) →
+        cond t (Some (Inner kind (begins + 6))) (find p (moved_scopes outer)) ≡ None
     by true is rest = absurd (none-some (Inner kind begins) (sym is))
     by false is rest = rest is
 
@@ -351,13 +470,20 @@ not_arguments x apart = by (is_arguments x) (bytes_eq-Decides x (codes "argument
     by true is = absurd (apart (ap Global (is.0 refl)))
     by false is = refl
 
-by_symbol-moved : {all : List Declared} → Every IsSeated all → {scopes : List Scope} → AreFair scopes → (name : Name) → (denoted_by_symbol all scopes name ≡ Global (codes "arguments") → ⊥) → denoted_by_symbol (map moved_declared all) (moved_scopes scopes) name ≡ moved_denoted (denoted_by_symbol all scopes name)
-by_symbol-moved {all} seats {scopes} fair name apart = by (find (λ scope. binds all scope name) scopes) refl
+by_symbol-moved : {all : List Declared} → Every IsSeated all → {scopes : List Scope} →
+    AreFair scopes → (name : Name) →
+    (denoted_by_symbol all scopes name ≡ Global (codes "arguments") → ⊥) →
+    denoted_by_symbol (map moved_declared all) (moved_scopes scopes) name ≡
+        moved_denoted (denoted_by_symbol all scopes name)
+by_symbol-moved {all} seats {scopes} fair name apart =
+    by (find (λ scope. binds all scope name) scopes) refl
   where
     new : Scope → Bool
     new scope = binds (map moved_declared all) scope name
 
-    by : (o : Option Scope) → find (λ scope. binds all scope name) scopes ≡ o → denoted_by_symbol (map moved_declared all) (moved_scopes scopes) name ≡ moved_denoted (denoted_by_symbol all scopes name)
+    by : (o : Option Scope) → find (λ scope. binds all scope name) scopes ≡ o →
+        denoted_by_symbol (map moved_declared all) (moved_scopes scopes) name ≡
+            moved_denoted (denoted_by_symbol all scopes name)
     by None e =
         let other : is_arguments name.sym ≡ false = not_arguments name.sym (λ is. apart (ap (bound_in name) e ∙ is)) in
         ap (bound_in name) (find-nowhere (λ scope. binds (map moved_declared all) scope name) (λ scope. binds all scope name) (λ s f. binds-moved seats s f name) (λ s o. binds-outer seats s o name other) fair e)
@@ -366,13 +492,24 @@ by_symbol-moved {all} seats {scopes} fair name apart = by (find (λ scope. binds
         ap (bound_in name) (find-there (λ scope. binds (map moved_declared all) scope name) (λ scope. binds all scope name) (λ s f. binds-moved seats s f name) fair s e)
         ∙ sym (ap (λ o. moved_denoted (bound_in name o)) e)
 
-implied_at-moved : {all : List Declared} → Every IsSeated all → {scopes : List Scope} → AreFair scopes → (name : Name) → (implied all scopes name ≡ Global (codes "arguments") → ⊥) → implied (map moved_declared all) (moved_scopes scopes) name ≡ moved_denoted (implied all scopes name)
+implied_at-moved : {all : List Declared} → Every IsSeated all → {scopes : List Scope} →
+    AreFair scopes → (name : Name) → (implied all scopes name ≡ Global (codes "arguments") → ⊥) →
+    implied (map moved_declared all) (moved_scopes scopes) name ≡
+        moved_denoted (implied all scopes name)
 implied_at-moved {all} seats {scopes} fair name apart = unresolved (is_unresolved name.ctxt) refl
   where
     found : Option Scope → Denoted
     found o = bound_in (without_context name) o
 
-    resolved : (implied all scopes name ≡ bound_in (without_context name) (find (λ scope. is_implied_in all scope name) scopes)) → (o : Option Scope) → find (λ scope. is_implied_in all scope name) scopes ≡ o → bound_in (without_context name) (find (λ scope. is_implied_in (map moved_declared all) scope name) (moved_scopes scopes)) ≡ moved_denoted (bound_in (without_context name) (find (λ scope. is_implied_in all scope name) scopes))
+    resolved :
+        (implied all scopes name ≡ bound_in (without_context name) (find (λ scope. is_implied_in all scope name) scopes))
+        →
+        (o : Option Scope) → find (λ scope. is_implied_in all scope name) scopes ≡ o →
+        bound_in (without_context name)
+            (find (λ scope. is_implied_in (map moved_declared all) scope name) (moved_scopes scopes))
+            ≡
+            moved_denoted
+                (bound_in (without_context name) (find (λ scope. is_implied_in all scope name) scopes))
     resolved is None e =
         let other : is_arguments name.sym ≡ false = not_arguments name.sym (λ global. apart (is ∙ ap (bound_in (without_context name)) e ∙ global)) in
         ap (bound_in (without_context name)) (find-nowhere (λ scope. is_implied_in (map moved_declared all) scope name) (λ scope. is_implied_in all scope name) (λ s f. implied-moved seats s f name) (λ s o. implied-outer seats s o name other) fair e)
@@ -381,17 +518,30 @@ implied_at-moved {all} seats {scopes} fair name apart = unresolved (is_unresolve
         ap (bound_in (without_context name)) (find-there (λ scope. is_implied_in (map moved_declared all) scope name) (λ scope. is_implied_in all scope name) (λ s f. implied-moved seats s f name) fair s e)
         ∙ sym (ap (λ o. moved_denoted (bound_in (without_context name) o)) e)
 
-    unresolved : (t : Bool) → is_unresolved name.ctxt ≡ t → implied (map moved_declared all) (moved_scopes scopes) name ≡ moved_denoted (implied all scopes name)
-    unresolved true e = ap (λ t. cond t (Global name.sym) (bound_in (without_context name) (find (λ scope. is_implied_in (map moved_declared all) scope name) (moved_scopes scopes)))) e ∙ sym (ap (λ t. moved_denoted (cond t (Global name.sym) (bound_in (without_context name) (find (λ scope. is_implied_in all scope name) scopes)))) e)
+    unresolved : (t : Bool) → is_unresolved name.ctxt ≡ t →
+        implied (map moved_declared all) (moved_scopes scopes) name ≡
+            moved_denoted (implied all scopes name)
+    unresolved true e =
+        ap
+            (λ t. cond t (Global name.sym) (bound_in (without_context name) (find (λ scope. is_implied_in (map moved_declared all) scope name) (moved_scopes scopes))))
+            e ∙ sym
+            (ap (λ t. moved_denoted (cond t (Global name.sym) (bound_in (without_context name) (find (λ scope. is_implied_in all scope name) scopes)))) e)
     unresolved false e =
         ap (λ t. cond t (Global name.sym) (bound_in (without_context name) (find (λ scope. is_implied_in (map moved_declared all) scope name) (moved_scopes scopes)))) e
         ∙ resolved (ap (λ t. cond t (Global name.sym) (bound_in (without_context name) (find (λ scope. is_implied_in all scope name) scopes))) e) (find (λ scope. is_implied_in all scope name) scopes) refl
         ∙ sym (ap (λ t. moved_denoted (cond t (Global name.sym) (bound_in (without_context name) (find (λ scope. is_implied_in all scope name) scopes)))) e)
 
-by_context-moved : {all : List Declared} → Every IsSeated all → {scopes : List Scope} → AreFair scopes → (name : Name) → (denoted_by_context all scopes name ≡ Global (codes "arguments") → ⊥) → denoted_by_context (map moved_declared all) (moved_scopes scopes) name ≡ moved_denoted (denoted_by_context all scopes name)
-by_context-moved {all} seats {scopes} fair name apart = by (find (λ scope. is_written_in all scope name) scopes) refl
+by_context-moved : {all : List Declared} → Every IsSeated all → {scopes : List Scope} →
+    AreFair scopes → (name : Name) →
+    (denoted_by_context all scopes name ≡ Global (codes "arguments") → ⊥) →
+    denoted_by_context (map moved_declared all) (moved_scopes scopes) name ≡
+        moved_denoted (denoted_by_context all scopes name)
+by_context-moved {all} seats {scopes} fair name apart =
+    by (find (λ scope. is_written_in all scope name) scopes) refl
   where
-    by : (o : Option Scope) → find (λ scope. is_written_in all scope name) scopes ≡ o → denoted_by_context (map moved_declared all) (moved_scopes scopes) name ≡ moved_denoted (denoted_by_context all scopes name)
+    by : (o : Option Scope) → find (λ scope. is_written_in all scope name) scopes ≡ o →
+        denoted_by_context (map moved_declared all) (moved_scopes scopes) name ≡
+            moved_denoted (denoted_by_context all scopes name)
     by None e =
         ap (written_or_implied (map moved_declared all) (moved_scopes scopes) name) (find-nowhere (λ scope. is_written_in (map moved_declared all) scope name) (λ scope. is_written_in all scope name) (λ s f. written-moved seats s f name) (λ s o. written-outer seats s o name) fair e)
         ∙ implied_at-moved seats fair name (λ is. apart (ap (written_or_implied all scopes name) e ∙ is))
@@ -401,6 +551,10 @@ by_context-moved {all} seats {scopes} fair name apart = by (find (λ scope. is_w
         ∙ sym (ap (λ o. moved_denoted (written_or_implied all scopes name o)) e)
 
 -- what a name denotes, but for a free `arguments`
-pub denoted_in-moved : (reading : Reading) {all : List Declared} → Every IsSeated all → {scopes : List Scope} → AreFair scopes → (name : Name) → (denoted_in reading all scopes name ≡ Global (codes "arguments") → ⊥) → denoted_in reading (map moved_declared all) (moved_scopes scopes) name ≡ moved_denoted (denoted_in reading all scopes name)
+pub denoted_in-moved : (reading : Reading) {all : List Declared} → Every IsSeated all →
+    {scopes : List Scope} → AreFair scopes → (name : Name) →
+    (denoted_in reading all scopes name ≡ Global (codes "arguments") → ⊥) →
+    denoted_in reading (map moved_declared all) (moved_scopes scopes) name ≡
+        moved_denoted (denoted_in reading all scopes name)
 denoted_in-moved BySymbol seats fair name apart = by_symbol-moved seats fair name apart
 denoted_in-moved ByContext seats fair name apart = by_context-moved seats fair name apart

@@ -19,38 +19,56 @@ use Rattle.bundle_merge_whole.proofs.called.Trees.{module-item, call-item, Shows
 
 -- Nodes around places.
 
-path_to-moved : {is_async : Bool} {depth : ℕ} {old new : List Around} → IsMoved is_async depth old new → (x : Item) → IsMoved is_async depth (path_to old x) (path_to new x)
+path_to-moved : {is_async : Bool} {depth : ℕ} {old new : List Around} →
+    IsMoved is_async depth old new → (x : Item) →
+    IsMoved is_async depth (path_to old x) (path_to new x)
 path_to-moved moved (h.Open field head) = in_field-moved moved field
 path_to-moved moved (h.Ident field x ctxt role) = in_field-moved moved field
 path_to-moved moved (h.Hole field) = in_field-moved moved field
 path_to-moved moved h.Close = moved
 
-pub paths-alike : {is_async : Bool} {stmts after its : List Item} {k : ℕ} (s : Shows is_async stmts after its k) → IsMoved is_async s.here.depth (path_at (module_with stmts after) (suc k)) (path_at (call_with is_async stmts its) (suc k + 6))
-paths-alike {is_async} s = subst (λ x. x) (λ i. IsMoved is_async s.here.depth (path_to_option (sym s.old_spot i).path (sym s.old_item i)) (path_to_option (sym s.new_spot i).path (sym s.new_item i))) (path_to-moved s.here.spots.path s.here.x)
+pub paths-alike : {is_async : Bool} {stmts after its : List Item} {k : ℕ}
+    (s : Shows is_async stmts after its k) →
+    IsMoved is_async s.here.depth (path_at (module_with stmts after) (suc k))
+        (path_at (call_with is_async stmts its) (suc k + 6))
+paths-alike {is_async} s =
+    subst (λ x. x)
+    (λ i. IsMoved is_async s.here.depth (path_to_option (sym s.old_spot i).path (sym s.old_item i)) (path_to_option (sym s.new_spot i).path (sym s.new_item i)))
+    (path_to-moved s.here.spots.path s.here.x)
 
-in_field-roots : {P : Head → ℕ → Type 0} {depth : ℕ} {path : List Around} → Roots P depth path → (field : ℕ) → Roots P depth (in_field field path)
+in_field-roots : {P : Head → ℕ → Type 0} {depth : ℕ} {path : List Around} → Roots P depth path →
+    (field : ℕ) → Roots P depth (in_field field path)
 in_field-roots (rooted its) field = rooted field
 in_field-roots (deeper node here outer) field = deeper (record node { field = field }) here outer
 
-outer-roots : {P : Head → ℕ → Type 0} {depth : ℕ} {path : List Around} → Roots P (suc depth) path → Roots P depth (outer_path path)
+outer-roots : {P : Head → ℕ → Type 0} {depth : ℕ} {path : List Around} → Roots P (suc depth) path →
+    Roots P depth (outer_path path)
 outer-roots (deeper node here outer) = outer
 
-path_to-roots : {P : Head → ℕ → Type 0} {depth : ℕ} {path : List Around} → Roots P depth path → (x : Item) → Roots P depth (path_to path x)
+path_to-roots : {P : Head → ℕ → Type 0} {depth : ℕ} {path : List Around} → Roots P depth path →
+    (x : Item) → Roots P depth (path_to path x)
 path_to-roots roots (h.Open field head) = in_field-roots roots field
 path_to-roots roots (h.Ident field x ctxt role) = in_field-roots roots field
 path_to-roots roots (h.Hole field) = in_field-roots roots field
 path_to-roots roots h.Close = roots
 
-drop-next : {A : Type 0} (xs : List A) (b : ℕ) (x : A) (rest : List A) → drop b xs ≡ x ∷ rest → drop (suc b) xs ≡ rest
+drop-next : {A : Type 0} (xs : List A) (b : ℕ) (x : A) (rest : List A) → drop b xs ≡ x ∷ rest →
+    drop (suc b) xs ≡ rest
 drop-next [] zero x rest e = cc
 drop-next [] (suc b) x rest e = cc
 drop-next (y ∷ xs) zero x rest e = cc
 drop-next (y ∷ xs) (suc b) x rest e = drop-next xs b x rest e
 
 -- what holds where each node begins holds of the nodes around each place
-roots-at : {P : Head → ℕ → Type 0} (stmts : List Item) → ((j depth field : ℕ) (head : Head) (rest : List Item) → drop j stmts ≡ h.Open field head ∷ rest → AreStatements depth (h.Open field head ∷ rest) → P head (suc j)) → {depth : ℕ} {items : List Item} → AreStatements depth items → (j : ℕ) → drop j stmts ≡ items → {s : Spot} → s.place ≡ suc j → Roots P depth s.path → (k : ℕ) → k < length items → (its : ℕ) × Roots P its (fold past s (take k items)).path × AreStatements its (drop k items)
+roots-at : {P : Head → ℕ → Type 0} (stmts : List Item) →
+    ((j depth field : ℕ) (head : Head) (rest : List Item) → drop j stmts ≡ h.Open field head ∷ rest → AreStatements depth (h.Open field head ∷ rest) → P head (suc j))
+        →
+    {depth : ℕ} {items : List Item} → AreStatements depth items → (j : ℕ) → drop j stmts ≡ items →
+    {s : Spot} → s.place ≡ suc j → Roots P depth s.path → (k : ℕ) → k < length items →
+    (its : ℕ) × Roots P its (fold past s (take k items)).path × AreStatements its (drop k items)
 roots-at stmts holds over j e at roots k l = absurd (omega arith)
-roots-at stmts holds (begun plain name inner) j e at roots zero l = (_, roots, begun plain name inner)
+roots-at stmts holds (begun plain name inner) j e at roots zero l =
+    (_, roots, begun plain name inner)
 roots-at stmts holds (ended inner) j e at roots zero l = (_, roots, ended inner)
 roots-at stmts holds (named inner) j e at roots zero l = (_, roots, named inner)
 roots-at stmts holds (empty inner) j e at roots zero l = (_, roots, empty inner)
@@ -72,7 +90,8 @@ roots-at stmts holds (empty {field} {rest} inner) j e {s} at roots (suc k) l =
 
 -- whether a shorthand has a default is the same
 abbrev pub SameDefault : Bool → List Item → List Item → List Item → Head → ℕ → Type 0
-SameDefault is_async stmts after its head begins = is_shorthand_in_pattern head ≡ true → has_default (call_with is_async stmts its) (begins + 6) ≡ has_default (module_with stmts after) begins
+SameDefault is_async stmts after its head begins =
+    is_shorthand_in_pattern head ≡ true → has_default (call_with is_async stmts its) (begins + 6) ≡ has_default (module_with stmts after) begins
 
 further : {depth : ℕ} {items : List Item} → AreStatements (suc depth) items → 0 < length items
 further (begun plain name inner) = omega arith
@@ -80,41 +99,70 @@ further (ended inner) = omega arith
 further (named inner) = omega arith
 further (empty inner) = omega arith
 
-four : {depth outer its ctxt : ℕ} {head : Head} {sym : List ℕ} {role : Role} {more : List Item} → AreStatements (suc depth) (h.Open outer head ∷ h.Ident its sym ctxt role ∷ h.Close ∷ more) → 0 < length more
+four : {depth outer its ctxt : ℕ} {head : Head} {sym : List ℕ} {role : Role} {more : List Item} →
+    AreStatements (suc depth) (h.Open outer head ∷ h.Ident its sym ctxt role ∷ h.Close ∷ more) →
+    0 < length more
 four (begun plain name (named (ended inner))) = further inner
 
 -- four more elements follow in the statements
-named-within : (stmts : List Item) (j depth field : ℕ) (rest : List Item) → drop j stmts ≡ h.Open field h.AssignPatProp ∷ rest → AreStatements depth (h.Open field h.AssignPatProp ∷ rest) → j + 4 < length stmts
+named-within : (stmts : List Item) (j depth field : ℕ) (rest : List Item) →
+    drop j stmts ≡ h.Open field h.AssignPatProp ∷ rest →
+    AreStatements depth (h.Open field h.AssignPatProp ∷ rest) → j + 4 < length stmts
 named-within stmts j depth field rest e (begun plain name inner) =
     let l : 0 < length name.more = four (subst (AreStatements (suc depth)) name.is inner) in
     let n : length rest ≡ suc (suc (suc (length name.more))) = ap length name.is in
     let m : length (drop j stmts) ≡ suc (length rest) = ap length e in
     omega (arith, length-drop j stmts, m, n, l)
 
-items-same : (is_async : Bool) (stmts after its : List Item) (j n : ℕ) → j + n < length stmts → slice_get (call_with is_async stmts its) (suc j + 6 + n) ≡ slice_get (module_with stmts after) (suc j + n)
+items-same : (is_async : Bool) (stmts after its : List Item) (j n : ℕ) → j + n < length stmts →
+    slice_get (call_with is_async stmts its) (suc j + 6 + n) ≡
+        slice_get (module_with stmts after) (suc j + n)
 items-same is_async stmts after its j n l =
     let new : suc j + 6 + n ≡ suc (j + n) + 6 = omega arith in
     let old : suc (j + n) ≡ suc j + n = omega arith in
     ap (slice_get (call_with is_async stmts its)) new ∙ call-item is_async stmts its (j + n) l ∙ sym (module-item stmts after (j + n) l) ∙ ap (slice_get (module_with stmts after)) old
 
-default-same : (is_async : Bool) (stmts after its : List Item) (j depth field : ℕ) (head : Head) (rest : List Item) → drop j stmts ≡ h.Open field head ∷ rest → AreStatements depth (h.Open field head ∷ rest) → SameDefault is_async stmts after its head (suc j)
-default-same is_async stmts after its j depth field h.AssignPatProp rest e statements is = ap (λ x. not (ends_at x)) (items-same is_async stmts after its j 4 (named-within stmts j depth field rest e statements))
+default-same : (is_async : Bool) (stmts after its : List Item) (j depth field : ℕ) (head : Head)
+    (rest : List Item) →
+    drop j stmts ≡ h.Open field head ∷ rest → AreStatements depth (h.Open field head ∷ rest) →
+    SameDefault is_async stmts after its head (suc j)
+default-same is_async stmts after its j depth field h.AssignPatProp rest e statements is =
+    ap (λ x. not (ends_at x))
+    (items-same is_async stmts after its j 4 (named-within stmts j depth field rest e statements))
 default-same is_async stmts after its j depth field _ rest e statements is = absurd (false≢true is)
 
 -- Marks.
 
-pub other-head : {N : Type 0} (tree : List Item) (place field : ℕ) (node : Around) (outer : List Around) (head : Head) → is_shorthand_in_pattern head ≡ false → begin_marks {N = N} tree place field (node ∷ outer) head ≡ Begins (if is_shorthand_in_pattern node.head && (node.field == 0) then (if has_default tree node.begins then 0 else 1) else field) (cleared_head head) ∷ []
+pub other-head : {N : Type 0} (tree : List Item) (place field : ℕ) (node : Around)
+    (outer : List Around) (head : Head) →
+    is_shorthand_in_pattern head ≡ false →
+    begin_marks {N = N} tree place field (node ∷ outer) head ≡
+        Begins
+            (if is_shorthand_in_pattern node.head && (node.field == 0) then (if has_default tree node.begins then 0 else 1) else field)
+            (cleared_head head) ∷ []
 other-head tree place field node outer h.AssignPatProp is = absurd (false≢true (sym is))
 other-head tree place field node outer _ is = refl
 
-key-moved : (a b : Bool) (field : ℕ) (node : Around) → (is_shorthand_in_pattern node.head ≡ true → a ≡ b) → (if is_shorthand_in_pattern node.head && (node.field == 0) then (if a then 0 else 1) else field) ≡ (if is_shorthand_in_pattern node.head && (node.field == 0) then (if b then 0 else 1) else field)
+key-moved : (a b : Bool) (field : ℕ) (node : Around) →
+    (is_shorthand_in_pattern node.head ≡ true → a ≡ b) →
+    (if is_shorthand_in_pattern node.head && (node.field == 0) then (if a then 0 else 1) else field)
+        ≡
+        (if is_shorthand_in_pattern node.head && (node.field == 0) then (if b then 0 else 1) else field)
 key-moved a b field node same = by (is_shorthand_in_pattern node.head) same
   where
-    by : (t : Bool) → (t ≡ true → a ≡ b) → (if t && (node.field == 0) then (if a then 0 else 1) else field) ≡ (if t && (node.field == 0) then (if b then 0 else 1) else field)
+    by : (t : Bool) → (t ≡ true → a ≡ b) →
+        (if t && (node.field == 0) then (if a then 0 else 1) else field) ≡
+            (if t && (node.field == 0) then (if b then 0 else 1) else field)
     by true same = ap (λ u. if (node.field == 0) then (if u then 0 else 1) else field) (same refl)
     by false same = refl
 
-other_marks-moved : {N : Type 0} (is_async : Bool) (stmts after its : List Item) (place field : ℕ) {depth : ℕ} {old new : List Around} → IsMoved is_async depth old new → {other : ℕ} → Roots (SameDefault is_async stmts after its) other old → (head : Head) → is_shorthand_in_pattern head ≡ false → begin_marks {N = N} (call_with is_async stmts its) (place + 6) field new head ≡ begin_marks {N = N} (module_with stmts after) place field old head
+other_marks-moved : {N : Type 0} (is_async : Bool) (stmts after its : List Item) (place field : ℕ)
+    {depth : ℕ} {old new : List Around} →
+    IsMoved is_async depth old new → {other : ℕ} →
+    Roots (SameDefault is_async stmts after its) other old → (head : Head) →
+    is_shorthand_in_pattern head ≡ false →
+    begin_marks {N = N} (call_with is_async stmts its) (place + 6) field new head ≡
+        begin_marks {N = N} (module_with stmts after) place field old head
 other_marks-moved {N} is_async stmts after its place field (outside at) roots head is =
     other-head {N = N} (call_with is_async stmts its) (place + 6) field (around h.BlockStmt 6 at) (outer_path (called_path is_async at)) head is ∙ sym (other-head {N = N} (module_with stmts after) place field (around h.Module 0 at) [] head is)
 other_marks-moved is_async stmts after its place field (within node known moved) (rooted _) head is = elim moved [ ]
@@ -123,31 +171,58 @@ other_marks-moved {N} is_async stmts after its place field (within {old} {new} n
     ∙ ap (λ n. Begins n (cleared_head head) ∷ []) (key-moved (has_default (call_with is_async stmts its) (node.begins + 6)) (has_default (module_with stmts after) node.begins) field node here)
     ∙ sym (other-head {N = N} (module_with stmts after) place field node old head is)
 
-pub begin_marks-moved : {N : Type 0} (is_async : Bool) (stmts after its : List Item) (place field : ℕ) {depth : ℕ} {old new : List Around} → IsMoved is_async depth old new → {other : ℕ} → Roots (SameDefault is_async stmts after its) other old → (head : Head) → (is_shorthand_in_pattern head ≡ true → (slice_get (call_with is_async stmts its) (place + 6 + 2) ≡ slice_get (module_with stmts after) (place + 2)) × (has_default (call_with is_async stmts its) (place + 6) ≡ has_default (module_with stmts after) place)) → begin_marks {N = N} (call_with is_async stmts its) (place + 6) field new head ≡ begin_marks {N = N} (module_with stmts after) place field old head
-begin_marks-moved is_async stmts after its place field moved roots h.AssignPatProp own = ap₂ (λ (x : Option Item) (t : Bool). Begins field h.KeyValuePatProp ∷ (word_key (symbol_of x) ++ (if t then Begins 1 h.AssignPat ∷ [] else []))) (own refl).0 (own refl).1
-begin_marks-moved is_async stmts after its place field moved roots head own = other_marks-moved is_async stmts after its place field moved roots head refl
+pub begin_marks-moved : {N : Type 0} (is_async : Bool) (stmts after its : List Item)
+    (place field : ℕ) {depth : ℕ} {old new : List Around} →
+    IsMoved is_async depth old new → {other : ℕ} →
+    Roots (SameDefault is_async stmts after its) other old → (head : Head) →
+    (is_shorthand_in_pattern head ≡ true → (slice_get (call_with is_async stmts its) (place + 6 + 2) ≡ slice_get (module_with stmts after) (place + 2)) × (has_default (call_with is_async stmts its) (place + 6) ≡ has_default (module_with stmts after) place))
+        →
+    begin_marks {N = N} (call_with is_async stmts its) (place + 6) field new head ≡
+        begin_marks {N = N} (module_with stmts after) place field old head
+begin_marks-moved is_async stmts after its place field moved roots h.AssignPatProp own =
+    ap₂
+    (λ (x : Option Item) (t : Bool). Begins field h.KeyValuePatProp ∷ (word_key (symbol_of x) ++ (if t then Begins 1 h.AssignPat ∷ [] else [])))
+    (own refl).0 (own refl).1
+begin_marks-moved is_async stmts after its place field moved roots head own =
+    other_marks-moved is_async stmts after its place field moved roots head refl
 
-pub end_marks-moved : {N : Type 0} (is_async : Bool) (stmts after its : List Item) {depth : ℕ} {old new : List Around} → IsMoved is_async depth old new → {other : ℕ} → Roots (SameDefault is_async stmts after its) other old → end_marks {N = N} (call_with is_async stmts its) new ≡ end_marks {N = N} (module_with stmts after) old
+pub end_marks-moved : {N : Type 0} (is_async : Bool) (stmts after its : List Item) {depth : ℕ}
+    {old new : List Around} →
+    IsMoved is_async depth old new → {other : ℕ} →
+    Roots (SameDefault is_async stmts after its) other old →
+    end_marks {N = N} (call_with is_async stmts its) new ≡
+        end_marks {N = N} (module_with stmts after) old
 end_marks-moved is_async stmts after its (outside field) roots = refl
 end_marks-moved is_async stmts after its (within node known moved) (rooted _) = elim moved [ ]
-end_marks-moved {N} is_async stmts after its (within node known moved) (deeper _ here outer) = by (is_shorthand_in_pattern node.head) here
+end_marks-moved {N} is_async stmts after its (within node known moved) (deeper _ here outer) =
+    by (is_shorthand_in_pattern node.head) here
   where
-    by : (t : Bool) → (t ≡ true → has_default (call_with is_async stmts its) (node.begins + 6) ≡ has_default (module_with stmts after) node.begins) → ◌≡◌ {A = List (MarkOf N)} (if t && has_default (call_with is_async stmts its) (node.begins + 6) then Ends ∷ Ends ∷ [] else Ends ∷ []) (if t && has_default (module_with stmts after) node.begins then Ends ∷ Ends ∷ [] else Ends ∷ [])
+    by : (t : Bool) →
+        (t ≡ true → has_default (call_with is_async stmts its) (node.begins + 6) ≡ has_default (module_with stmts after) node.begins)
+            →
+        ◌≡◌ {A = List (MarkOf N)}
+            (if t && has_default (call_with is_async stmts its) (node.begins + 6) then Ends ∷ Ends ∷ [] else Ends ∷ [])
+            (if t && has_default (module_with stmts after) node.begins then Ends ∷ Ends ∷ [] else Ends ∷ [])
     by true same = ap (λ (u : Bool). if u then Ends ∷ Ends ∷ [] else Ends ∷ []) (same refl)
     by false same = refl
 
-pub name_marks-moved : {N : Type 0} {is_async : Bool} {depth : ℕ} {old new : List Around} → IsMoved is_async depth old new → (field : ℕ) (x : Text) (meant : N) → name_marks field new x meant ≡ name_marks field old x meant
+pub name_marks-moved : {N : Type 0} {is_async : Bool} {depth : ℕ} {old new : List Around} →
+    IsMoved is_async depth old new → (field : ℕ) (x : Text) (meant : N) →
+    name_marks field new x meant ≡ name_marks field old x meant
 name_marks-moved (outside at) field x meant = refl
 name_marks-moved (within node known moved) field x meant = refl
 
 -- what a statement's element has around it
 pub record Stands (is_async : Bool) (stmts after its : List Item) (k : ℕ) : Type 0 where
   pub shows : Shows is_async stmts after its k
-  pub path : IsMoved is_async shows.here.depth (path_at (module_with stmts after) (suc k)) (path_at (call_with is_async stmts its) (suc k + 6))
+  pub path : IsMoved is_async shows.here.depth (path_at (module_with stmts after) (suc k))
+      (path_at (call_with is_async stmts its) (suc k + 6))
   pub depth : ℕ
-  pub roots : Roots (SameDefault is_async stmts after its) depth (path_at (module_with stmts after) (suc k))
+  pub roots : Roots (SameDefault is_async stmts after its) depth
+      (path_at (module_with stmts after) (suc k))
 
-pub stands : (is_async : Bool) {stmts : List Item} → AreStatements zero stmts → (after its : List Item) (k : ℕ) → k < length stmts → Stands is_async stmts after its k
+pub stands : (is_async : Bool) {stmts : List Item} → AreStatements zero stmts →
+    (after its : List Item) (k : ℕ) → k < length stmts → Stands is_async stmts after its k
 stands is_async {stmts} statements after its k l =
     let s = shows is_async statements after its k l in
     let r = roots-at {P = SameDefault is_async stmts after its} stmts (default-same is_async stmts after its) statements zero refl {s = module_start} refl (rooted 0) k l in
@@ -159,6 +234,12 @@ stands is_async {stmts} statements after its k l =
     }
 
 -- a shorthand of a pattern in the statements, with its name and its default
-pub own-shorthand : (is_async : Bool) (stmts after its : List Item) (j depth field : ℕ) (head : Head) (rest : List Item) → drop j stmts ≡ h.Open field head ∷ rest → AreStatements depth (h.Open field head ∷ rest) → is_shorthand_in_pattern head ≡ true → (slice_get (call_with is_async stmts its) (suc j + 6 + 2) ≡ slice_get (module_with stmts after) (suc j + 2)) × (has_default (call_with is_async stmts its) (suc j + 6) ≡ has_default (module_with stmts after) (suc j))
+pub own-shorthand : (is_async : Bool) (stmts after its : List Item) (j depth field : ℕ)
+    (head : Head) (rest : List Item) →
+    drop j stmts ≡ h.Open field head ∷ rest → AreStatements depth (h.Open field head ∷ rest) →
+    is_shorthand_in_pattern head ≡ true →
+    (slice_get (call_with is_async stmts its) (suc j + 6 + 2) ≡ slice_get (module_with stmts after) (suc j + 2))
+        ×
+        (has_default (call_with is_async stmts its) (suc j + 6) ≡ has_default (module_with stmts after) (suc j))
 own-shorthand is_async stmts after its j depth field h.AssignPatProp rest e statements is = let l : j + 4 < length stmts = named-within stmts j depth field rest e statements in (items-same is_async stmts after its j 2 (omega arith), ap (λ x. not (ends_at x)) (items-same is_async stmts after its j 4 l))
 own-shorthand is_async stmts after its j depth field _ rest e statements is = absurd (false≢true is)

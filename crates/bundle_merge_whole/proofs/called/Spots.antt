@@ -27,37 +27,49 @@ pub record IsAt (list : List Item) (j : ℕ) (s : Spot) (items : List Item) : Ty
   pub left : drop j list ≡ items
   pub spot : spot_before list j ≡ s
 
-drop-next : {A : Type 0} (xs : List A) (b : ℕ) (x : A) (rest : List A) → drop b xs ≡ x ∷ rest → drop (suc b) xs ≡ rest
+drop-next : {A : Type 0} (xs : List A) (b : ℕ) (x : A) (rest : List A) → drop b xs ≡ x ∷ rest →
+    drop (suc b) xs ≡ rest
 drop-next [] zero x rest e = cc
 drop-next [] (suc b) x rest e = cc
 drop-next (y ∷ xs) zero x rest e = cc
 drop-next (y ∷ xs) (suc b) x rest e = drop-next xs b x rest e
 
-get-there : {A : Type 0} (xs : List A) (b : ℕ) (x : A) (rest : List A) → drop b xs ≡ x ∷ rest → slice_get xs b ≡ Some x
+get-there : {A : Type 0} (xs : List A) (b : ℕ) (x : A) (rest : List A) → drop b xs ≡ x ∷ rest →
+    slice_get xs b ≡ Some x
 get-there [] zero x rest e = absurd cc
 get-there [] (suc b) x rest e = absurd cc
 get-there (y ∷ xs) zero x rest e = cc
 get-there (y ∷ xs) (suc b) x rest e = get-there xs b x rest e
 
-take-next : {A : Type 0} (xs : List A) (b : ℕ) (x : A) (rest : List A) → drop b xs ≡ x ∷ rest → take (suc b) xs ≡ take b xs ++ x ∷ []
+take-next : {A : Type 0} (xs : List A) (b : ℕ) (x : A) (rest : List A) → drop b xs ≡ x ∷ rest →
+    take (suc b) xs ≡ take b xs ++ x ∷ []
 take-next [] zero x rest e = absurd cc
 take-next [] (suc b) x rest e = absurd cc
 take-next (y ∷ xs) zero x rest e = let is : y ≡ x = cc in ap (λ z. z ∷ []) is
 take-next (y ∷ xs) (suc b) x rest e = ap (λ l. y ∷ l) (take-next xs b x rest e)
 
-pub at-next : {list : List Item} {j : ℕ} {s : Spot} {x : Item} {rest : List Item} → IsAt list j s (x ∷ rest) → IsAt list (suc j) (past s x) rest
+pub at-next : {list : List Item} {j : ℕ} {s : Spot} {x : Item} {rest : List Item} →
+    IsAt list j s (x ∷ rest) → IsAt list (suc j) (past s x) rest
 at-next {list} {j} {s} {x} {rest} at = record {
   left = drop-next list j x rest at.left;
   spot = ap (fold past start) (take-next list j x rest at.left) ∙ fold-append past start (take j list) (x ∷ []) ∙ ap (λ t. past t x) at.spot;
 }
 
-pub at-path : {list : List Item} {j : ℕ} {s : Spot} {x : Item} {rest : List Item} → IsAt list j s (x ∷ rest) → path_at list j ≡ path_to s.path x
-at-path {list} {j} {s} {x} {rest} at = ap₂ (λ (t : Spot) (o : Option Item). path_to_option t.path o) at.spot (get-there list j x rest at.left)
+pub at-path : {list : List Item} {j : ℕ} {s : Spot} {x : Item} {rest : List Item} →
+    IsAt list j s (x ∷ rest) → path_at list j ≡ path_to s.path x
+at-path {list} {j} {s} {x} {rest} at =
+    ap₂ (λ (t : Spot) (o : Option Item). path_to_option t.path o) at.spot
+    (get-there list j x rest at.left)
 
-pub at-occurrence : {list : List Item} {j : ℕ} {s : Spot} {x : Item} {rest : List Item} → IsAt list j s (x ∷ rest) → occurrence_at list j ≡ occurrence_of s x
-at-occurrence {list} {j} {s} {x} {rest} at = ap₂ (λ (t : Spot) (o : Option Item). Rattle.std.specs.Prelude.option_and_then (occurrence_of t) o) at.spot (get-there list j x rest at.left)
+pub at-occurrence : {list : List Item} {j : ℕ} {s : Spot} {x : Item} {rest : List Item} →
+    IsAt list j s (x ∷ rest) → occurrence_at list j ≡ occurrence_of s x
+at-occurrence {list} {j} {s} {x} {rest} at =
+    ap₂
+    (λ (t : Spot) (o : Option Item). Rattle.std.specs.Prelude.option_and_then (occurrence_of t) o)
+    at.spot (get-there list j x rest at.left)
 
-pub at-list : {list : List Item} {j : ℕ} {s : Spot} {items others : List Item} → items ≡ others → IsAt list j s items → IsAt list j s others
+pub at-list : {list : List Item} {j : ℕ} {s : Spot} {items others : List Item} → items ≡ others →
+    IsAt list j s items → IsAt list j s others
 at-list e at = record { left = at.left ∙ e; spot = at.spot }
 
 -- behind the statements
@@ -69,10 +81,13 @@ take-whole : {A : Type 0} (xs ys : List A) → take (length xs) (xs ++ ys) ≡ x
 take-whole [] ys = refl
 take-whole (x ∷ xs) ys = ap (λ l. x ∷ l) (take-whole xs ys)
 
-pub module-behind : (stmts after : List Item) → IsAt (module_with stmts after) (suc (length stmts)) (fold past module_start stmts) after
+pub module-behind : (stmts after : List Item) →
+    IsAt (module_with stmts after) (suc (length stmts)) (fold past module_start stmts) after
 module-behind stmts after = record { left = drop-past stmts after; spot = ap (fold past module_start) (take-whole stmts after) }
 
-pub call-behind : (is_async : Bool) (stmts its : List Item) → IsAt (call_with is_async stmts its) (suc (length stmts) + 6) (fold past (call_start is_async) stmts) its
+pub call-behind : (is_async : Bool) (stmts its : List Item) →
+    IsAt (call_with is_async stmts its) (suc (length stmts) + 6)
+        (fold past (call_start is_async) stmts) its
 call-behind is_async stmts its =
     let n : suc (length stmts) + 6 ≡ suc (suc (suc (suc (suc (suc (suc (length stmts))))))) = omega arith in
     record {
@@ -82,25 +97,64 @@ call-behind is_async stmts its =
 
 -- Marks of plain nodes.
 
-begin-plain : (tree : List Item) (place field : ℕ) (path : List Around) (node : Around) (outer : List Around) → path ≡ node ∷ outer → is_shorthand_in_pattern node.head ≡ false → (head : Head) → is_shorthand_in_pattern head ≡ false → begin_marks {N = Meant} tree place field path head ≡ Begins field (cleared_head head) ∷ []
+begin-plain : (tree : List Item) (place field : ℕ) (path : List Around) (node : Around)
+    (outer : List Around) →
+    path ≡ node ∷ outer → is_shorthand_in_pattern node.head ≡ false → (head : Head) →
+    is_shorthand_in_pattern head ≡ false →
+    begin_marks {N = Meant} tree place field path head ≡ Begins field (cleared_head head) ∷ []
 begin-plain tree place field path node outer e plain head own =
     ap (λ p. begin_marks {N = Meant} tree place field p head) e ∙ other-head {N = Meant} tree place field node outer head own ∙ ap (λ t. Begins (if t && (node.field == 0) then (if has_default tree node.begins then 0 else 1) else field) (cleared_head head) ∷ []) plain
 
-end-plain : (tree : List Item) (path : List Around) (node : Around) (outer : List Around) → path ≡ node ∷ outer → is_shorthand_in_pattern node.head ≡ false → end_marks {N = Meant} tree path ≡ Ends ∷ []
-end-plain tree path node outer e plain = ap (end_marks {N = Meant} tree) e ∙ ap (λ t. if t && has_default tree node.begins then Ends ∷ Ends ∷ [] else Ends ∷ []) plain
+end-plain : (tree : List Item) (path : List Around) (node : Around) (outer : List Around) →
+    path ≡ node ∷ outer → is_shorthand_in_pattern node.head ≡ false →
+    end_marks {N = Meant} tree path ≡ Ends ∷ []
+end-plain tree path node outer e plain =
+    ap (end_marks {N = Meant} tree) e
+    ∙ ap (λ t. if t && has_default tree node.begins then Ends ∷ Ends ∷ [] else Ends ∷ []) plain
 
-name-plain : (field : ℕ) (path : List Around) (node : Around) (outer : List Around) → path ≡ node ∷ outer → is_object node.head ≡ false → (x : Text) (meant : Meant) → name_marks field path x meant ≡ Name field meant ∷ []
-name-plain field path node outer e plain x meant = ap (λ p. name_marks field p x meant) e ∙ ap (λ t. if t then Begins field h.KeyValueProp ∷ (Rattle.bundle_rules.specs.Marks.object_key x ++ Name 1 meant ∷ Ends ∷ []) else Name field meant ∷ []) plain
+name-plain : (field : ℕ) (path : List Around) (node : Around) (outer : List Around) →
+    path ≡ node ∷ outer → is_object node.head ≡ false → (x : Text) (meant : Meant) →
+    name_marks field path x meant ≡ Name field meant ∷ []
+name-plain field path node outer e plain x meant =
+    ap (λ p. name_marks field p x meant) e ∙ ap
+        (λ t. if t then Begins field h.KeyValueProp ∷ (Rattle.bundle_rules.specs.Marks.object_key x ++ Name 1 meant ∷ Ends ∷ []) else Name field meant ∷ [])
+        plain
 
 -- Meanings, from the front.
 
-pub mean-open : (tree : List Item) (reading : Reading) (labels : Labelling) {inner : List Denoted} (j field : ℕ) (head : Head) (node : Around) (outer : List Around) → path_at tree j ≡ node ∷ outer → is_shorthand_in_pattern node.head ≡ false → is_shorthand_in_pattern head ≡ false → {es : List Element} {marks : List Mark} → Means (bundle_sense tree reading labels) inner es marks → Means (bundle_sense tree reading labels) inner (taken j (h.Open field head) ∷ es) (Begins field (cleared_head head) ∷ marks)
-mean-open tree reading labels {inner} j field head node outer e plain own {es} {marks} rest = subst (λ front. Means (bundle_sense tree reading labels) inner (taken j (h.Open field head) ∷ es) (front ++ marks)) (begin-plain tree j field (path_at tree j) node outer e plain head own) (m.begun (λ by none. none) rest)
+pub mean-open : (tree : List Item) (reading : Reading) (labels : Labelling) {inner : List Denoted}
+    (j field : ℕ) (head : Head) (node : Around) (outer : List Around) →
+    path_at tree j ≡ node ∷ outer → is_shorthand_in_pattern node.head ≡ false →
+    is_shorthand_in_pattern head ≡ false → {es : List Element} {marks : List Mark} →
+    Means (bundle_sense tree reading labels) inner es marks →
+    Means (bundle_sense tree reading labels) inner (taken j (h.Open field head) ∷ es)
+        (Begins field (cleared_head head) ∷ marks)
+mean-open tree reading labels {inner} j field head node outer e plain own {es} {marks} rest =
+    subst
+    (λ front. Means (bundle_sense tree reading labels) inner (taken j (h.Open field head) ∷ es) (front ++ marks))
+    (begin-plain tree j field (path_at tree j) node outer e plain head own)
+    (m.begun (λ by none. none) rest)
 
-pub mean-close : (tree : List Item) (reading : Reading) (labels : Labelling) {inner : List Denoted} (j : ℕ) (node : Around) (outer : List Around) → path_at tree j ≡ node ∷ outer → is_shorthand_in_pattern node.head ≡ false → {es : List Element} {marks : List Mark} → Means (bundle_sense tree reading labels) inner es marks → Means (bundle_sense tree reading labels) inner (taken j h.Close ∷ es) (Ends ∷ marks)
-mean-close tree reading labels {inner} j node outer e plain {es} {marks} rest = subst (λ front. Means (bundle_sense tree reading labels) inner (taken j h.Close ∷ es) (front ++ marks)) (end-plain tree (path_at tree j) node outer e plain) (m.ended rest)
+pub mean-close : (tree : List Item) (reading : Reading) (labels : Labelling) {inner : List Denoted}
+    (j : ℕ) (node : Around) (outer : List Around) →
+    path_at tree j ≡ node ∷ outer → is_shorthand_in_pattern node.head ≡ false →
+    {es : List Element} {marks : List Mark} →
+    Means (bundle_sense tree reading labels) inner es marks →
+    Means (bundle_sense tree reading labels) inner (taken j h.Close ∷ es) (Ends ∷ marks)
+mean-close tree reading labels {inner} j node outer e plain {es} {marks} rest =
+    subst
+    (λ front. Means (bundle_sense tree reading labels) inner (taken j h.Close ∷ es) (front ++ marks))
+    (end-plain tree (path_at tree j) node outer e plain) (m.ended rest)
 
-pub mean-name : (tree : List Item) (reading : Reading) (labels : Labelling) {inner : List Denoted} (j field : ℕ) (x : Text) (ctxt : ℕ) (role : Role) (node : Around) (outer : List Around) → path_at tree j ≡ node ∷ outer → is_object node.head ≡ false → (d : Denoted) (meant : Meant) → denoted_at reading Es tree j ≡ Some d → NameMeans (bundle_sense tree reading labels) inner d meant → {es : List Element} {marks : List Mark} → Means (bundle_sense tree reading labels) inner es marks → Means (bundle_sense tree reading labels) inner (taken j (h.Ident field x ctxt role) ∷ es) (Name field meant ∷ marks)
+pub mean-name : (tree : List Item) (reading : Reading) (labels : Labelling) {inner : List Denoted}
+    (j field : ℕ) (x : Text) (ctxt : ℕ) (role : Role) (node : Around) (outer : List Around) →
+    path_at tree j ≡ node ∷ outer → is_object node.head ≡ false → (d : Denoted) (meant : Meant) →
+    denoted_at reading Es tree j ≡ Some d →
+    NameMeans (bundle_sense tree reading labels) inner d meant →
+    {es : List Element} {marks : List Mark} →
+    Means (bundle_sense tree reading labels) inner es marks →
+    Means (bundle_sense tree reading labels) inner (taken j (h.Ident field x ctxt role) ∷ es)
+        (Name field meant ∷ marks)
 mean-name tree reading labels {inner} j field x ctxt role node outer e plain d meant is means {es} {marks} rest = subst (λ front. Means (bundle_sense tree reading labels) inner (taken j (h.Ident field x ctxt role) ∷ es) (front ++ marks)) (name-plain field (path_at tree j) node outer e plain x meant) (m.named d meant is means rest)
 
 -- Meanings, taken apart.
@@ -111,11 +165,21 @@ pub record Taken (tree : List Item) (reading : Reading) (labels : Labelling) (in
   pub is : marks ≡ mark ∷ others
   pub means : Means (bundle_sense tree reading labels) inner es others
 
-pub un-open : (tree : List Item) (reading : Reading) (labels : Labelling) {inner : List Denoted} (j field : ℕ) (head : Head) (node : Around) (outer : List Around) → path_at tree j ≡ node ∷ outer → is_shorthand_in_pattern node.head ≡ false → is_shorthand_in_pattern head ≡ false → {es : List Element} {marks : List Mark} → Means (bundle_sense tree reading labels) inner (taken j (h.Open field head) ∷ es) marks → Taken tree reading labels inner es (Begins field (cleared_head head)) marks
+pub un-open : (tree : List Item) (reading : Reading) (labels : Labelling) {inner : List Denoted}
+    (j field : ℕ) (head : Head) (node : Around) (outer : List Around) →
+    path_at tree j ≡ node ∷ outer → is_shorthand_in_pattern node.head ≡ false →
+    is_shorthand_in_pattern head ≡ false → {es : List Element} {marks : List Mark} →
+    Means (bundle_sense tree reading labels) inner (taken j (h.Open field head) ∷ es) marks →
+    Taken tree reading labels inner es (Begins field (cleared_head head)) marks
 un-open tree reading labels j field head node outer e plain own (m.replaced by is rest) = absurd is
 un-open tree reading labels j field head node outer e plain own (m.begun {marks} is rest) = record { others = marks; is = ap (λ l. l ++ marks) (begin-plain tree j field (path_at tree j) node outer e plain head own); means = rest }
 
-pub un-close : (tree : List Item) (reading : Reading) (labels : Labelling) {inner : List Denoted} (j : ℕ) (node : Around) (outer : List Around) → path_at tree j ≡ node ∷ outer → is_shorthand_in_pattern node.head ≡ false → {es : List Element} {marks : List Mark} → Means (bundle_sense tree reading labels) inner (taken j h.Close ∷ es) marks → Taken tree reading labels inner es Ends marks
+pub un-close : (tree : List Item) (reading : Reading) (labels : Labelling) {inner : List Denoted}
+    (j : ℕ) (node : Around) (outer : List Around) →
+    path_at tree j ≡ node ∷ outer → is_shorthand_in_pattern node.head ≡ false →
+    {es : List Element} {marks : List Mark} →
+    Means (bundle_sense tree reading labels) inner (taken j h.Close ∷ es) marks →
+    Taken tree reading labels inner es Ends marks
 un-close tree reading labels j node outer e plain (m.ended {marks} rest) = record { others = marks; is = ap (λ l. l ++ marks) (end-plain tree (path_at tree j) node outer e plain); means = rest }
 
 pub record Named (tree : List Item) (reading : Reading) (labels : Labelling) (inner : List Denoted) (j field : ℕ) (es : List Element) (marks : List Mark) : Type 0 where
@@ -125,7 +189,13 @@ pub record Named (tree : List Item) (reading : Reading) (labels : Labelling) (in
   pub means_it : NameMeans (bundle_sense tree reading labels) inner d meant
   pub taken : Taken tree reading labels inner es (Name field meant) marks
 
-pub un-name : (tree : List Item) (reading : Reading) (labels : Labelling) {inner : List Denoted} (j field : ℕ) (x : Text) (ctxt : ℕ) (node : Around) (outer : List Around) → path_at tree j ≡ node ∷ outer → is_object node.head ≡ false → {es : List Element} {marks : List Mark} → Means (bundle_sense tree reading labels) inner (taken j (h.Ident field x ctxt r.Reference) ∷ es) marks → Named tree reading labels inner j field es marks
+pub un-name : (tree : List Item) (reading : Reading) (labels : Labelling) {inner : List Denoted}
+    (j field : ℕ) (x : Text) (ctxt : ℕ) (node : Around) (outer : List Around) →
+    path_at tree j ≡ node ∷ outer → is_object node.head ≡ false →
+    {es : List Element} {marks : List Mark} →
+    Means (bundle_sense tree reading labels) inner (taken j (h.Ident field x ctxt r.Reference) ∷ es)
+        marks →
+    Named tree reading labels inner j field es marks
 un-name tree reading labels j field x ctxt node outer e plain (m.named {marks} d meant is means rest) = record {
   d = d;
   meant = meant;
@@ -134,12 +204,22 @@ un-name tree reading labels j field x ctxt node outer e plain (m.named {marks} d
   taken = record { others = marks; is = ap (λ l. l ++ marks) (name-plain field (path_at tree j) node outer e plain x meant); means = rest };
 }
 
-pub un-word : (tree : List Item) (reading : Reading) (labels : Labelling) {inner : List Denoted} (j field : ℕ) (x : Text) (ctxt : ℕ) → occurrence_at tree j ≡ None → {es : List Element} {marks : List Mark} → Means (bundle_sense tree reading labels) inner (taken j (h.Ident field x ctxt r.Word) ∷ es) marks → Taken tree reading labels inner es (Word field x) marks
-un-word tree reading labels j field x ctxt none_there (m.named {marks} d meant is means rest) = absurd (none-some d (sym (ap (option_map (denoted_of reading Es (declared reading Es tree))) none_there) ∙ is))
+pub un-word : (tree : List Item) (reading : Reading) (labels : Labelling) {inner : List Denoted}
+    (j field : ℕ) (x : Text) (ctxt : ℕ) →
+    occurrence_at tree j ≡ None → {es : List Element} {marks : List Mark} →
+    Means (bundle_sense tree reading labels) inner (taken j (h.Ident field x ctxt r.Word) ∷ es)
+        marks →
+    Taken tree reading labels inner es (Word field x) marks
+un-word tree reading labels j field x ctxt none_there (m.named {marks} d meant is means rest) =
+    absurd
+    (none-some d (sym (ap (option_map (denoted_of reading Es (declared reading Es tree))) none_there) ∙ is))
 un-word tree reading labels j field x ctxt none_there (m.word {marks} rest) = record { others = marks; is = refl; means = rest }
 
 -- the marks that are there
-pub meant-next : {tree : List Item} {reading : Reading} {labels : Labelling} {inner : List Denoted} {es : List Element} {mark first : Mark} {marks : List Mark} → Taken tree reading labels inner es mark (first ∷ marks) → (first ≡ mark) × Means (bundle_sense tree reading labels) inner es marks
+pub meant-next : {tree : List Item} {reading : Reading} {labels : Labelling} {inner : List Denoted}
+    {es : List Element} {mark first : Mark} {marks : List Mark} →
+    Taken tree reading labels inner es mark (first ∷ marks) →
+    (first ≡ mark) × Means (bundle_sense tree reading labels) inner es marks
 meant-next {tree} {reading} {labels} {inner} {es} {mark} {first} {marks} t =
     let is : first ∷ marks ≡ mark ∷ t.others = t.is in
     let same : first ≡ mark = cc in

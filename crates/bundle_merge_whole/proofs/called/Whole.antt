@@ -42,12 +42,14 @@ use Rattle.bundle_merge_whole.proofs.called.LaidOut.{IsOther, due-on, due-back, 
 
 -- Labels.
 
-moved-injective : (d other : Denoted) → is_fair d ≡ true → is_fair other ≡ true → moved_denoted d ≡ moved_denoted other → d ≡ other
+moved-injective : (d other : Denoted) → is_fair d ≡ true → is_fair other ≡ true →
+    moved_denoted d ≡ moved_denoted other → d ≡ other
 moved-injective (Global x) other fair its e = absurd (false≢true fair)
 moved-injective (Bound s name) (Global x) fair its e = absurd (false≢true its)
 moved-injective (Bound Wrapper name) (Bound t other) fair its e = absurd (false≢true fair)
 moved-injective (Bound Top name) (Bound Wrapper other) fair its e = absurd (false≢true its)
-moved-injective (Bound (Inner kind begins) name) (Bound Wrapper other) fair its e = absurd (false≢true its)
+moved-injective (Bound (Inner kind begins) name) (Bound Wrapper other) fair its e =
+    absurd (false≢true its)
 moved-injective (Bound Top name) (Bound Top other) fair its e = cc
 moved-injective (Bound Top name) (Bound (Inner k at) other) fair its e =
     let l : 0 < at = (Decides-ltb 0 at).0 its in
@@ -71,7 +73,8 @@ record Origin (labels : Labelling) (d : Denoted) (l : Label) : Type 0 where
   fair : is_fair old ≡ true
   is : moved_denoted old ≡ d
 
-origin : (labels : Labelling) (d : Denoted) (l : Label) → Contains (moved_labels labels) (d, l) → Origin labels d l
+origin : (labels : Labelling) (d : Denoted) (l : Label) → Contains (moved_labels labels) (d, l) →
+    Origin labels d l
 origin labels d l there =
     let mapped = contains-mapped moved_label (filter (λ (pair : Denoted × Label). is_fair pair.0) labels) (d, l) there in
     let filtered = contains-filtered (λ (pair : Denoted × Label). is_fair pair.0) labels mapped.0 mapped.1 in
@@ -98,20 +101,23 @@ labels-one labels one = record {
 
 -- Items in their places.
 
-drop-next : {A : Type 0} (xs : List A) (n : ℕ) (x : A) (rest : List A) → drop n xs ≡ x ∷ rest → drop (suc n) xs ≡ rest
+drop-next : {A : Type 0} (xs : List A) (n : ℕ) (x : A) (rest : List A) → drop n xs ≡ x ∷ rest →
+    drop (suc n) xs ≡ rest
 drop-next [] zero x rest e = cc
 drop-next [] (suc n) x rest e = cc
 drop-next (y ∷ xs) zero x rest e = cc
 drop-next (y ∷ xs) (suc n) x rest e = drop-next xs n x rest e
 
-drop-past : {A : Type 0} (all : List A) (n : ℕ) (xs ys : List A) → drop n all ≡ xs ++ ys → drop (n + length xs) all ≡ ys
+drop-past : {A : Type 0} (all : List A) (n : ℕ) (xs ys : List A) → drop n all ≡ xs ++ ys →
+    drop (n + length xs) all ≡ ys
 drop-past {A = A} all n [] ys e = let m : n + length {A = A} [] ≡ n = omega arith in ap (λ k. drop k all) m ∙ e
 drop-past all n (x ∷ xs) ys e =
     let further = drop-past all (suc n) xs ys (drop-next all n x (xs ++ ys) e) in
     let m : n + length (x ∷ xs) ≡ suc n + length xs = omega arith in
     ap (λ k. drop k all) m ∙ further
 
-placed-segments : (stmts : List Item) (j : ℕ) (lists : List (List Item)) (rest : List Item) → drop j stmts ≡ flat lists ++ rest → Every (IsSegment stmts) (placed (suc j) lists)
+placed-segments : (stmts : List Item) (j : ℕ) (lists : List (List Item)) (rest : List Item) →
+    drop j stmts ≡ flat lists ++ rest → Every (IsSegment stmts) (placed (suc j) lists)
 placed-segments stmts j [] rest e = none
 placed-segments stmts j (xs ∷ lists) rest e =
     let n : suc (j + length xs) ≡ suc j + length xs = omega arith in
@@ -125,11 +131,14 @@ segment-place {stmts} item s = record {
   elements = subst (λ k. Every (IsPlaced stmts) (taken_from k item.items)) (sym s.start) (placed-elements stmts s.at item.items s.rest s.is);
 }
 
-placed-lists : (start : ℕ) (lists : List (List Item)) → Every IsNoList lists → Every (λ (item : TopItem). IsNoList item.items) (placed start lists)
+placed-lists : (start : ℕ) (lists : List (List Item)) → Every IsNoList lists →
+    Every (λ (item : TopItem). IsNoList item.items) (placed start lists)
 placed-lists start [] none = none
-placed-lists start (xs ∷ lists) (more here later) = more here (placed-lists (start + length xs) lists later)
+placed-lists start (xs ∷ lists) (more here later) =
+    more here (placed-lists (start + length xs) lists later)
 
-pair-up : {A : Type 0} {P Q R : A → Type 0} → ((x : A) → P x → Q x → R x) → {xs : List A} → Every P xs → Every Q xs → Every R xs
+pair-up : {A : Type 0} {P Q R : A → Type 0} → ((x : A) → P x → Q x → R x) → {xs : List A} →
+    Every P xs → Every Q xs → Every R xs
 pair-up join none none = none
 pair-up join (more {x} a others) (more b its) = more (join x a b) (pair-up join others its)
 
@@ -138,7 +147,8 @@ record IsStatement (stmts : List Item) (item : TopItem) : Type 0 where
   segment : IsSegment stmts item
   no_list : IsNoList item.items
 
-statement-items : {stmts : List Item} → AreStatements zero stmts → Every (IsStatement stmts) (placed 1 (side_by_side zero stmts))
+statement-items : {stmts : List Item} → AreStatements zero stmts →
+    Every (IsStatement stmts) (placed 1 (side_by_side zero stmts))
 statement-items {stmts} statements =
     pair-up (λ item segment no_list. record { segment = segment; no_list = no_list })
     (placed-segments stmts 0 (side_by_side zero stmts) [] (sym (append-nil (flat (side_by_side zero stmts)) ∙ sides-flat statements)))
@@ -146,7 +156,8 @@ statement-items {stmts} statements =
 
 -- Lists zipped.
 
-zip-join : {A B : Type 0} (R : A → B → Type 0) (xs ys : List A) (zs ws : List B) → AllZip R xs zs → AllZip R ys ws → AllZip R (xs ++ ys) (zs ++ ws)
+zip-join : {A B : Type 0} (R : A → B → Type 0) (xs ys : List A) (zs ws : List B) → AllZip R xs zs →
+    AllZip R ys ws → AllZip R (xs ++ ys) (zs ++ ws)
 zip-join R [] ys [] ws zip more_zip = more_zip
 zip-join R [] ys (z ∷ zs) ws zip more_zip = absurd zip
 zip-join R (x ∷ xs) ys [] ws zip more_zip = absurd zip
@@ -160,14 +171,16 @@ record Split {A B : Type 0} (R : A → B → Type 0) (xs ys : List A) (all : Lis
   zip : AllZip R xs first
   rest : AllZip R ys second
 
-zip-split : {A B : Type 0} (R : A → B → Type 0) (xs ys : List A) (all : List B) → AllZip R (xs ++ ys) all → Split R xs ys all
+zip-split : {A B : Type 0} (R : A → B → Type 0) (xs ys : List A) (all : List B) →
+    AllZip R (xs ++ ys) all → Split R xs ys all
 zip-split R [] ys all zip = record { first = []; second = all; is = refl; zip = tt; rest = zip }
 zip-split R (x ∷ xs) ys [] zip = absurd zip
 zip-split R (x ∷ xs) ys (z ∷ all) zip =
     let r = zip-split R xs ys all zip.1 in
     record { first = z ∷ r.first; second = r.second; is = ap (λ l. z ∷ l) r.is; zip = (zip.0, r.zip); rest = r.rest }
 
-zip-length : {A B : Type 0} (R : A → B → Type 0) (xs : List A) (ys : List B) → AllZip R xs ys → length xs ≡ length ys
+zip-length : {A B : Type 0} (R : A → B → Type 0) (xs : List A) (ys : List B) → AllZip R xs ys →
+    length xs ≡ length ys
 zip-length R [] [] zip = refl
 zip-length R [] (y ∷ ys) zip = absurd zip
 zip-length R (x ∷ xs) [] zip = absurd zip
@@ -183,20 +196,26 @@ contains-one : {A : Type 0} (y x : A) → Contains (y ∷ []) x → x ≡ y
 contains-one y x (zero, l, e) = sym e
 contains-one y x (suc i, l, e) = absurd (omega arith)
 
-zip-with : {A B : Type 0} (R : A → B → Type 0) (P : B → Type 0) (xs : List A) (ys : List B) → ((y : B) → Contains ys y → P y) → AllZip R xs ys → AllZip (λ x y. R x y × P y) xs ys
+zip-with : {A B : Type 0} (R : A → B → Type 0) (P : B → Type 0) (xs : List A) (ys : List B) →
+    ((y : B) → Contains ys y → P y) → AllZip R xs ys → AllZip (λ x y. R x y × P y) xs ys
 zip-with R P [] [] each zip = tt
 zip-with R P [] (y ∷ ys) each zip = absurd zip
 zip-with R P (x ∷ xs) [] each zip = absurd zip
-zip-with R P (x ∷ xs) (y ∷ ys) each zip = ((zip.0, each y (contains-first y ys)), zip-with R P xs ys (λ z there. each z (contains-later y ys z there)) zip.1)
+zip-with R P (x ∷ xs) (y ∷ ys) each zip =
+    ((zip.0, each y (contains-first y ys)), zip-with R P xs ys (λ z there. each z (contains-later y ys z there)) zip.1)
 
 -- what stands beside what
-zip-every : {A B : Type 0} (R : A → B → Type 0) {Q : A → Type 0} (P : B → Type 0) → ((x : A) (y : B) → Q x → R x y → P y) → {xs : List A} → Every Q xs → (ys : List B) → AllZip R xs ys → Every P ys
+zip-every : {A B : Type 0} (R : A → B → Type 0) {Q : A → Type 0} (P : B → Type 0) →
+    ((x : A) (y : B) → Q x → R x y → P y) → {xs : List A} → Every Q xs → (ys : List B) →
+    AllZip R xs ys → Every P ys
 zip-every R P on none [] zip = none
 zip-every R P on none (y ∷ ys) zip = absurd zip
 zip-every R P on (more here later) [] zip = absurd zip
-zip-every R P on (more {x} here later) (y ∷ ys) zip = more (on x y here zip.0) (zip-every R P on later ys zip.1)
+zip-every R P on (more {x} here later) (y ∷ ys) zip =
+    more (on x y here zip.0) (zip-every R P on later ys zip.1)
 
-every-there : {A : Type 0} {P : A → Type 0} {xs : List A} → Every P xs → (x : A) → Contains xs x → P x
+every-there : {A : Type 0} {P : A → Type 0} {xs : List A} → Every P xs → (x : A) → Contains xs x →
+    P x
 every-there none x (i, l, e) = absurd (omega arith)
 every-there {P = P} (more {x = y} here later) x (zero, l, e) = subst P e here
 every-there (more here later) x (suc i, l, e) = every-there later x (i, omega arith, e)
@@ -217,7 +236,8 @@ cause-cases (b.HoldsNamespace d) = inr (λ e. absurd cc)
 cause-cases (b.Stars s) = inr (λ e. absurd cc)
 
 -- an item that is no list of exports stands for something else
-realised-other : {p : Program} {hooks : Hooks} {b0 : Labelled} {item : TopItem} {cause : Cause} → IsNoList item.items → Realises p hooks AsModule b0 item cause → IsOther cause
+realised-other : {p : Program} {hooks : Hooks} {b0 : Labelled} {item : TopItem} {cause : Cause} →
+    IsNoList item.items → Realises p hooks AsModule b0 item cause → IsOther cause
 realised-other no_list (b.own statement there same) = λ e. absurd cc
 realised-other no_list (b.imports_names names are means) = λ e. absurd cc
 realised-other no_list (b.imports_whole means) = λ e. absurd cc
@@ -225,10 +245,13 @@ realised-other no_list (b.imports_nothing means) = λ e. absurd cc
 realised-other no_list (b.helps means) = λ e. absurd cc
 realised-other no_list (b.defines load) = λ e. absurd cc
 realised-other no_list (b.loads whole names are wholly means) = λ e. absurd cc
-realised-other no_list (b.holds_meta properties marks held fair properties_mean means) = λ e. absurd cc
+realised-other no_list (b.holds_meta properties marks held fair properties_mean means) =
+    λ e. absurd cc
 realised-other no_list (b.holds_namespace pairs are means) = λ e. absurd cc
 realised-other no_list (b.stars means) = λ e. absurd cc
-realised-other {item} no_list (b.exports pairs form are means) = absurd (false≢true (sym no_list ∙ sym (begins-item item.start item.items) ∙ list-meant means refl))
+realised-other {item} no_list (b.exports pairs form are means) =
+    absurd
+    (false≢true (sym no_list ∙ sym (begins-item item.start item.items) ∙ list-meant means refl))
 realised-other no_list (b.returns pairs form are means) = absurd cc
 
 -- what an item that is a list of exports stands for
@@ -238,12 +261,14 @@ record ListRead (p : Program) (bundle : Labelled) (item : TopItem) (cause : Caus
   linked : AreLinked p p.entry pairs
   means : ItemMeans bundle item (export_list pairs)
 
-every-at : {A : Type 0} {P : A → Type 0} {xs : List A} → Every P xs → (k : ℕ) (x : A) → slice_get xs k ≡ Some x → P x
+every-at : {A : Type 0} {P : A → Type 0} {xs : List A} → Every P xs → (k : ℕ) (x : A) →
+    slice_get xs k ≡ Some x → P x
 every-at none k x e = absurd (none-some x e)
 every-at {P = P} (more {x = y} here later) zero x e = subst P (same_Some y x e) here
 every-at (more here later) (suc k) x e = every-at later k x e
 
-load-no-list : (taker c : ℕ) (whole : Bool) (names : List Text) → first_is_list (load_statement taker c whole names) ≡ false
+load-no-list : (taker c : ℕ) (whole : Bool) (names : List Text) →
+    first_is_list (load_statement taker c whole names) ≡ false
 load-no-list taker c false [] = refl
 load-no-list taker c false (x ∷ names) = refl
 load-no-list taker c true [] = refl
@@ -252,20 +277,31 @@ load-no-list taker c true (x ∷ names) = refl
 due-own : {p : Program} {form : Form} {n k : ℕ} → IsDue p form (b.Own n k) → IsReached p n
 due-own (b.own reached es l) = reached
 
-list-read : {p : Program} {hooks : Hooks} (reading : Reading) (stmts after : List Item) (labels : Labelling) → StatesNoExports p → {item : TopItem} {cause : Cause} → IsDue p AsModule cause → begins_list (elements_of item) ≡ true → Realises p hooks AsModule (old_bundle reading stmts after labels) item cause → ListRead p (old_bundle reading stmts after labels) item cause
+list-read : {p : Program} {hooks : Hooks} (reading : Reading) (stmts after : List Item)
+    (labels : Labelling) →
+    StatesNoExports p → {item : TopItem} {cause : Cause} → IsDue p AsModule cause →
+    begins_list (elements_of item) ≡ true →
+    Realises p hooks AsModule (old_bundle reading stmts after labels) item cause →
+    ListRead p (old_bundle reading stmts after labels) item cause
 list-read reading stmts after labels filed due is (b.own {m = n} {k} statement there same) =
     absurd (false≢true (sym (every-at (filed n (due-own due)) k statement there) ∙ list-meant same.1.means (list-means (module_with stmts after) reading labels same.2 is)))
-list-read reading stmts after labels filed due is (b.imports_names names are means) = absurd (false≢true (list-means (module_with stmts after) reading labels means is))
-list-read reading stmts after labels filed due is (b.imports_whole means) = absurd (false≢true (list-means (module_with stmts after) reading labels means is))
-list-read reading stmts after labels filed due is (b.imports_nothing means) = absurd (false≢true (list-means (module_with stmts after) reading labels means is))
-list-read reading stmts after labels filed due is (b.helps means) = absurd (false≢true (list-means (module_with stmts after) reading labels means is))
+list-read reading stmts after labels filed due is (b.imports_names names are means) =
+    absurd (false≢true (list-means (module_with stmts after) reading labels means is))
+list-read reading stmts after labels filed due is (b.imports_whole means) =
+    absurd (false≢true (list-means (module_with stmts after) reading labels means is))
+list-read reading stmts after labels filed due is (b.imports_nothing means) =
+    absurd (false≢true (list-means (module_with stmts after) reading labels means is))
+list-read reading stmts after labels filed due is (b.helps means) =
+    absurd (false≢true (list-means (module_with stmts after) reading labels means is))
 list-read reading stmts after labels filed {item} due is (b.defines {c} load) =
     let first : begins_list load.front ≡ true = front-begins load.front (taken_from (item.start + length load.front) load.inside ++ load.back) (λ e. let none_there : load_front c ≡ [] = nothing-meant load.front_means e in absurd cc) (sym (ap begins_list load.is) ∙ is) in
     absurd (false≢true (list-means (module_with stmts after) reading labels load.front_means first))
 list-read reading stmts after labels filed due is (b.loads {m = n} {c} whole names are wholly means) = absurd (false≢true (sym (load-no-list n c whole names) ∙ list-means (module_with stmts after) reading labels means is))
 list-read reading stmts after labels filed due is (b.holds_meta properties marks held fair properties_mean means) = absurd (false≢true (list-means (module_with stmts after) reading labels means is))
-list-read reading stmts after labels filed due is (b.holds_namespace pairs are means) = absurd (false≢true (list-means (module_with stmts after) reading labels means is))
-list-read reading stmts after labels filed due is (b.stars means) = absurd (false≢true (list-means (module_with stmts after) reading labels means is))
+list-read reading stmts after labels filed due is (b.holds_namespace pairs are means) =
+    absurd (false≢true (list-means (module_with stmts after) reading labels means is))
+list-read reading stmts after labels filed due is (b.stars means) =
+    absurd (false≢true (list-means (module_with stmts after) reading labels means is))
 list-read reading stmts after labels filed due is (b.exports pairs form are means) = record { is = refl; pairs = pairs; linked = are; means = means }
 list-read reading stmts after labels filed due is (b.returns pairs form are means) = absurd cc
 
@@ -284,18 +320,28 @@ its_of rs = returned_object rs ++ function_back
 abbrev pub is_async_of : List Item → List (Text × Ident) → Bool
 is_async_of stmts rs = awaits_outside (stmts ++ returned_object rs)
 
-call-is : (stmts : List Item) (rs : List (Text × Ident)) → function_front (is_async_of stmts rs) ++ ((stmts ++ returned_object rs) ++ function_back) ≡ call_with (is_async_of stmts rs) stmts (its_of rs)
-call-is stmts rs = ap (λ l. function_front (is_async_of stmts rs) ++ l) (append_assoc stmts (returned_object rs) function_back)
+call-is : (stmts : List Item) (rs : List (Text × Ident)) →
+    function_front (is_async_of stmts rs) ++ ((stmts ++ returned_object rs) ++ function_back) ≡
+        call_with (is_async_of stmts rs) stmts (its_of rs)
+call-is stmts rs =
+    ap (λ l. function_front (is_async_of stmts rs) ++ l)
+    (append_assoc stmts (returned_object rs) function_back)
 
-new-body : {stmts : List Item} → AreStatements zero stmts → (rs : List (Text × Ident)) → placed 7 (side_by_side zero (stmts ++ returned_object rs)) ≡ new_items stmts rs
+new-body : {stmts : List Item} → AreStatements zero stmts → (rs : List (Text × Ident)) →
+    placed 7 (side_by_side zero (stmts ++ returned_object rs)) ≡ new_items stmts rs
 new-body {stmts} statements rs =
     let n : 7 + length (flat (side_by_side zero stmts)) ≡ suc (length stmts) + 6 = omega (arith, ap length (sides-flat statements)) in
     ap (placed 7) (body-sides statements rs)
     ∙ placed-append 7 (side_by_side zero stmts) (returned_object rs ∷ [])
     ∙ ap₂ (λ (l : List TopItem) (k : ℕ). l ++ record { start = k; items = returned_object rs } ∷ []) (placed-moved 1 (side_by_side zero stmts)) n
 
-has-body : {stmts : List Item} → AreStatements zero stmts → (rs : List (Text × Ident)) → HasBody AsCall (call_with (is_async_of stmts rs) stmts (its_of rs)) (Inner FunctionBody 6) (new_items stmts rs)
-has-body {stmts} statements rs = subst (λ x. x) (λ i. HasBody AsCall (call-is stmts rs i) (Inner FunctionBody 6) (new-body statements rs i)) (of_function (stmts ++ returned_object rs) (body-whole statements rs))
+has-body : {stmts : List Item} → AreStatements zero stmts → (rs : List (Text × Ident)) →
+    HasBody AsCall (call_with (is_async_of stmts rs) stmts (its_of rs)) (Inner FunctionBody 6)
+        (new_items stmts rs)
+has-body {stmts} statements rs =
+    subst (λ x. x)
+    (λ i. HasBody AsCall (call-is stmts rs i) (Inner FunctionBody 6) (new-body statements rs i))
+    (of_function (stmts ++ returned_object rs) (body-whole statements rs))
 
 -- what there is of the bundle as a module, and of the object that is returned
 record Given (p : Program) (hooks : Hooks) (reading : Reading) (stmts after : List Item) (pairing : Pairing) (rs : List (Text × Ident)) : Type 0 where
@@ -308,38 +354,55 @@ record Given (p : Program) (hooks : Hooks) (reading : Reading) (stmts after : Li
   plan : List Cause
   old_plan : List Cause
   plan_is : pairing.plan ≡ plan ++ old_plan
-  zip : AllZip (Realises p hooks AsModule (old_bundle reading stmts after pairing.labels)) (placed 1 (side_by_side zero stmts)) plan
+  zip : AllZip (Realises p hooks AsModule (old_bundle reading stmts after pairing.labels))
+      (placed 1 (side_by_side zero stmts)) plan
   only_exports : Every (λ cause. cause ≡ Exports) old_plan
-  last : Realises p hooks AsCall (new_bundle reading (is_async_of stmts rs) stmts (its_of rs) pairing.labels) (last_item stmts rs) Exports
+  last : Realises p hooks AsCall
+      (new_bundle reading (is_async_of stmts rs) stmts (its_of rs) pairing.labels)
+      (last_item stmts rs) Exports
   back : List Cause
   back_is : plan ++ Exports ∷ [] ≡ laid_out.front ++ (laid_out.middle ++ back)
   behind_it : Chosen (IsDue p AsCall) (map Stars (externals p laid_out.list) ++ Exports ∷ []) back
 
-new_pairing : (stmts : List Item) (old : Pairing) (plan : List Cause) (rs : List (Text × Ident)) → Pairing
+new_pairing : (stmts : List Item) (old : Pairing) (plan : List Cause) (rs : List (Text × Ident)) →
+    Pairing
 new_pairing stmts old plan rs = record { labels = moved_labels old.labels; top = Inner FunctionBody 6; body = new_items stmts rs; plan = plan ++ Exports ∷ [] }
 
-given-other : {p : Program} {hooks : Hooks} {reading : Reading} {stmts after : List Item} {pairing : Pairing} {rs : List (Text × Ident)} (g : Given p hooks reading stmts after pairing rs) → Every IsOther g.plan
-given-other {p} {hooks} {reading} {stmts} {after} {pairing} g = zip-every (Realises p hooks AsModule (old_bundle reading stmts after pairing.labels)) IsOther (λ item cause is realised. realised-other is.no_list realised) (statement-items g.scene.twins.statements) g.plan g.zip
+given-other : {p : Program} {hooks : Hooks} {reading : Reading} {stmts after : List Item}
+    {pairing : Pairing} {rs : List (Text × Ident)}
+    (g : Given p hooks reading stmts after pairing rs) →
+    Every IsOther g.plan
+given-other {p} {hooks} {reading} {stmts} {after} {pairing} g =
+    zip-every (Realises p hooks AsModule (old_bundle reading stmts after pairing.labels)) IsOther
+    (λ item cause is realised. realised-other is.no_list realised)
+    (statement-items g.scene.twins.statements) g.plan g.zip
 
 -- the last cause is at the end
-last-at : (plan : List Cause) → Every IsOther plan → (i : ℕ) → slice_get (plan ++ Exports ∷ []) i ≡ Some Exports → i ≡ length plan
+last-at : (plan : List Cause) → Every IsOther plan → (i : ℕ) →
+    slice_get (plan ++ Exports ∷ []) i ≡ Some Exports → i ≡ length plan
 last-at [] none zero e = refl
 last-at [] none (suc i) e = absurd (none-some Exports e)
 last-at (cause ∷ plan) (more here others) zero e = absurd (here (same_Some cause Exports e))
 last-at (cause ∷ plan) (more here others) (suc i) e = ap suc (last-at plan others i e)
 
-other-at : (plan : List Cause) (i : ℕ) (cause : Cause) → IsOther cause → slice_get (plan ++ Exports ∷ []) i ≡ Some cause → slice_get plan i ≡ Some cause
+other-at : (plan : List Cause) (i : ℕ) (cause : Cause) → IsOther cause →
+    slice_get (plan ++ Exports ∷ []) i ≡ Some cause → slice_get plan i ≡ Some cause
 other-at [] zero cause other e = absurd (other (sym (same_Some Exports cause e)))
 other-at [] (suc i) cause other e = absurd (none-some cause e)
 other-at (x ∷ plan) zero cause other e = e
 other-at (x ∷ plan) (suc i) cause other e = other-at plan i cause other e
 
-get-left : (xs ys : List Cause) (i : ℕ) (cause : Cause) → slice_get xs i ≡ Some cause → slice_get (xs ++ ys) i ≡ Some cause
+get-left : (xs ys : List Cause) (i : ℕ) (cause : Cause) → slice_get xs i ≡ Some cause →
+    slice_get (xs ++ ys) i ≡ Some cause
 get-left [] ys i cause e = absurd (none-some cause e)
 get-left (x ∷ xs) ys zero cause e = e
 get-left (x ∷ xs) ys (suc i) cause e = get-left xs ys i cause e
 
-finish-paired : {p : Program} {hooks : Hooks} {reading : Reading} {stmts after : List Item} {pairing : Pairing} {rs : List (Text × Ident)} (g : Given p hooks reading stmts after pairing rs) → IsPaired p hooks AsCall reading (call_with (is_async_of stmts rs) stmts (its_of rs)) (record { labels = moved_labels pairing.labels; top = Inner FunctionBody 6; body = new_items stmts rs; plan = g.plan ++ Exports ∷ [] })
+finish-paired : {p : Program} {hooks : Hooks} {reading : Reading} {stmts after : List Item}
+    {pairing : Pairing} {rs : List (Text × Ident)}
+    (g : Given p hooks reading stmts after pairing rs) →
+    IsPaired p hooks AsCall reading (call_with (is_async_of stmts rs) stmts (its_of rs))
+        (record { labels = moved_labels pairing.labels; top = Inner FunctionBody 6; body = new_items stmts rs; plan = g.plan ++ Exports ∷ [] })
 finish-paired {p} {hooks} {reading} {stmts} {after} {pairing} {rs} g = record {
   labels = labels-one pairing.labels g.paired.labels;
   body = has-body g.scene.twins.statements rs;
@@ -352,12 +415,18 @@ finish-paired {p} {hooks} {reading} {stmts} {after} {pairing} {rs} g = record {
     old = Realises p hooks AsModule (old_bundle reading stmts after pairing.labels)
 
     new : TopItem → Cause → Type 0
-    new = Realises p hooks AsCall (new_bundle reading (is_async_of stmts rs) stmts (its_of rs) pairing.labels)
+    new =
+        Realises p hooks AsCall
+        (new_bundle reading (is_async_of stmts rs) stmts (its_of rs) pairing.labels)
 
     in_old : (cause : Cause) → Contains g.plan cause → Contains pairing.plan cause
-    in_old cause there = subst (λ l. Contains l cause) (sym g.plan_is) (Contains-append_left g.plan g.old_plan cause there)
+    in_old cause there =
+        subst (λ l. Contains l cause) (sym g.plan_is)
+        (Contains-append_left g.plan g.old_plan cause there)
 
-    realised : AllZip (Realises p hooks AsCall (new_bundle reading (is_async_of stmts rs) stmts (its_of rs) pairing.labels)) (map moved_item (placed 1 (side_by_side zero stmts))) g.plan
+    realised : AllZip
+        (Realises p hooks AsCall (new_bundle reading (is_async_of stmts rs) stmts (its_of rs) pairing.labels))
+        (map moved_item (placed 1 (side_by_side zero stmts))) g.plan
     realised =
         zip-map (λ item cause. Realises p hooks AsModule (old_bundle reading stmts after pairing.labels) item cause × IsDue p AsModule cause) (Realises p hooks AsCall (new_bundle reading (is_async_of stmts rs) stmts (its_of rs) pairing.labels)) moved_item
         (λ item cause is both. realised-moved g.scene hooks pairing.labels (segment-place item is.segment) is.no_list both.1 both.0)
@@ -379,19 +448,27 @@ finish-paired {p} {hooks} {reading} {stmts} {after} {pairing} {rs} g = record {
       ]
     ]
 
-    in_plan : (i : ℕ) (cause : Cause) → IsOther cause → slice_get (g.plan ++ Exports ∷ []) i ≡ Some cause → slice_get pairing.plan i ≡ Some cause
-    in_plan i cause other e = ap (λ l. slice_get l i) g.plan_is ∙ get-left g.plan g.old_plan i cause (other-at g.plan i cause other e)
+    in_plan : (i : ℕ) (cause : Cause) → IsOther cause →
+        slice_get (g.plan ++ Exports ∷ []) i ≡ Some cause → slice_get pairing.plan i ≡ Some cause
+    in_plan i cause other e =
+        ap (λ l. slice_get l i) g.plan_is
+        ∙ get-left g.plan g.old_plan i cause (other-at g.plan i cause other e)
 
-    once : (i j : ℕ) (cause : Cause) → slice_get (g.plan ++ Exports ∷ []) i ≡ Some cause → slice_get (g.plan ++ Exports ∷ []) j ≡ Some cause → i ≡ j
+    once : (i j : ℕ) (cause : Cause) → slice_get (g.plan ++ Exports ∷ []) i ≡ Some cause →
+        slice_get (g.plan ++ Exports ∷ []) j ≡ Some cause → i ≡ j
     once i j cause first second = elim (cause-cases cause) [
       | inl is ↦ last-at g.plan (given-other g) i (first ∙ ap Some is) ∙ sym (last-at g.plan (given-other g) j (second ∙ ap Some is))
       | inr other ↦ g.paired.once i j cause (in_plan i cause other first) (in_plan j cause other second)
     ]
 
-every-segment : {stmts : List Item} → AreStatements zero stmts → Every (IsSegment stmts) (placed 1 (side_by_side zero stmts))
+every-segment : {stmts : List Item} → AreStatements zero stmts →
+    Every (IsSegment stmts) (placed 1 (side_by_side zero stmts))
 every-segment statements = every-map (λ item is. is.segment) (statement-items statements)
 
-finish : {p : Program} {hooks : Hooks} {reading : Reading} {stmts after : List Item} {pairing : Pairing} {rs : List (Text × Ident)} (g : Given p hooks reading stmts after pairing rs) → IsBundle p hooks AsCall reading (call_with (is_async_of stmts rs) stmts (its_of rs))
+finish : {p : Program} {hooks : Hooks} {reading : Reading} {stmts after : List Item}
+    {pairing : Pairing} {rs : List (Text × Ident)}
+    (g : Given p hooks reading stmts after pairing rs) →
+    IsBundle p hooks AsCall reading (call_with (is_async_of stmts rs) stmts (its_of rs))
 finish {p} {hooks} {reading} {stmts} {after} {pairing} {rs} g = record {
   pairing = record { labels = moved_labels pairing.labels; top = Inner FunctionBody 6; body = new_items stmts rs; plan = g.plan ++ Exports ∷ [] };
   paired = finish-paired g;
@@ -411,7 +488,8 @@ finish {p} {hooks} {reading} {stmts} {after} {pairing} {rs} g = record {
   };
 }
   where
-    like : AreLike stmts pairing (record { labels = moved_labels pairing.labels; top = Inner FunctionBody 6; body = new_items stmts rs; plan = g.plan ++ Exports ∷ [] })
+    like : AreLike stmts pairing
+        (record { labels = moved_labels pairing.labels; top = Inner FunctionBody 6; body = new_items stmts rs; plan = g.plan ++ Exports ∷ [] })
     like = record {
       top = g.top;
       new_top = refl;
@@ -438,20 +516,29 @@ record Behind (is_async : Bool) (s t : Spot) : Type 0 where
   old : s.path ≡ around h.Module 0 field ∷ []
   new : t.path ≡ called_path is_async field
 
-spots-behind : {is_async : Bool} {stmts : List Item} → AreStatements zero stmts → Behind is_async (fold past module_start stmts) (fold past (call_start is_async) stmts)
+spots-behind : {is_async : Bool} {stmts : List Item} → AreStatements zero stmts →
+    Behind is_async (fold past module_start stmts) (fold past (call_start is_async) stmts)
 spots-behind {is_async} {stmts} statements = by (behind statements (start-moved is_async)).path
   where
-    paths : {old new : List _} → IsMoved is_async zero old new → (field : ℕ) × (old ≡ around h.Module 0 field ∷ []) × (new ≡ called_path is_async field)
+    paths : {old new : List _} → IsMoved is_async zero old new →
+        (field : ℕ) × (old ≡ around h.Module 0 field ∷ []) × (new ≡ called_path is_async field)
     paths (outside field) = (field, refl, refl)
 
-    by : IsMoved is_async zero (fold past module_start stmts).path (fold past (call_start is_async) stmts).path → Behind is_async (fold past module_start stmts) (fold past (call_start is_async) stmts)
+    by : IsMoved is_async zero (fold past module_start stmts).path
+        (fold past (call_start is_async) stmts).path →
+        Behind is_async (fold past module_start stmts) (fold past (call_start is_async) stmts)
     by moved = let r = paths moved in record { field = r.0; old = r.1; new = r.2 }
 
-at-spot : {list : List Item} {j : ℕ} {s : Spot} {items : List Item} (path : List _) → s.path ≡ path → IsAt list j s items → IsAt list j (record { place = s.place; path = path }) items
+at-spot : {list : List Item} {j : ℕ} {s : Spot} {items : List Item} (path : List _) →
+    s.path ≡ path → IsAt list j s items →
+    IsAt list j (record { place = s.place; path = path }) items
 at-spot {s} path e at = record { left = at.left; spot = at.spot ∙ ap (λ p. record { place = s.place; path = p }) e }
 
 -- a statement list's own twins
-pub twins-of : {reading : Reading} {stmts back : List Item} → AreStatements zero stmts → IsBack back → Every IsTaken (declared reading Es (module_with stmts (back ++ h.Close ∷ []))) → (rs : List (Text × Ident)) → AreTwins reading (is_async_of stmts rs) stmts (back ++ h.Close ∷ []) (its_of rs)
+pub twins-of : {reading : Reading} {stmts back : List Item} → AreStatements zero stmts →
+    IsBack back → Every IsTaken (declared reading Es (module_with stmts (back ++ h.Close ∷ []))) →
+    (rs : List (Text × Ident)) →
+    AreTwins reading (is_async_of stmts rs) stmts (back ++ h.Close ∷ []) (its_of rs)
 twins-of {reading} {stmts} statements ends taken rs = record {
   statements = statements;
   taken = taken;
@@ -459,7 +546,13 @@ twins-of {reading} {stmts} statements ends taken rs = record {
   none_its = nothing-declared reading (fold past (call_start (is_async_of stmts rs)) stmts) (object-bindless rs);
 }
 
-returned : {p : Program} {hooks : Hooks} {reading : Reading} {stmts after : List Item} (rs : List (Text × Ident)) → AreTwins reading (is_async_of stmts rs) stmts after (its_of rs) → (labels : Labelling) (pairs : List NamedTarget) → AreLinked p p.entry pairs → AllZip (Returns reading (declared reading Es (module_with stmts after)) labels) rs pairs → Realises p hooks AsCall (new_bundle reading (is_async_of stmts rs) stmts (its_of rs) labels) (last_item stmts rs) Exports
+returned : {p : Program} {hooks : Hooks} {reading : Reading} {stmts after : List Item}
+    (rs : List (Text × Ident)) →
+    AreTwins reading (is_async_of stmts rs) stmts after (its_of rs) →
+    (labels : Labelling) (pairs : List NamedTarget) → AreLinked p p.entry pairs →
+    AllZip (Returns reading (declared reading Es (module_with stmts after)) labels) rs pairs →
+    Realises p hooks AsCall (new_bundle reading (is_async_of stmts rs) stmts (its_of rs) labels)
+        (last_item stmts rs) Exports
 returned {p} {hooks} {reading} {stmts} {after} rs twins labels pairs linked zip =
     let spots = spots-behind {is_async = is_async_of stmts rs} twins.statements in
     let past_body : 6 < suc (length stmts) + 6 = omega arith in
@@ -467,7 +560,14 @@ returned {p} {hooks} {reading} {stmts} {after} rs twins labels pairs linked zip 
 
 -- A module without a list of exports.
 
-no-exports-bundle : {p : Program} {hooks : Hooks} (reading : Reading) (stmts : List Item) → form_of p.settings ≡ AsCall → IsFaultlessProgram p → StatesNoExports p → AreStatements zero stmts → Every IsTaken (declared reading Es (module_with stmts (h.Close ∷ []))) → (pairing : Pairing) → pairing.top ≡ Top → pairing.body ≡ top_items (module_with stmts (h.Close ∷ [])) → IsPaired p hooks AsModule reading (module_with stmts (h.Close ∷ [])) pairing → IsLaidOut p AsModule reading (module_with stmts (h.Close ∷ [])) pairing → IsBundle p hooks AsCall reading (call_with (is_async_of stmts []) stmts (its_of []))
+no-exports-bundle : {p : Program} {hooks : Hooks} (reading : Reading) (stmts : List Item) →
+    form_of p.settings ≡ AsCall → IsFaultlessProgram p → StatesNoExports p →
+    AreStatements zero stmts →
+    Every IsTaken (declared reading Es (module_with stmts (h.Close ∷ []))) → (pairing : Pairing) →
+    pairing.top ≡ Top → pairing.body ≡ top_items (module_with stmts (h.Close ∷ [])) →
+    IsPaired p hooks AsModule reading (module_with stmts (h.Close ∷ [])) pairing →
+    IsLaidOut p AsModule reading (module_with stmts (h.Close ∷ [])) pairing →
+    IsBundle p hooks AsCall reading (call_with (is_async_of stmts []) stmts (its_of []))
 no-exports-bundle {p} {hooks} reading stmts form faultless filed statements taken pairing top body paired laid_out = finish {rs = []} (record {
   scene = record { twins = twins; form = form; faultless = faultless; filed = filed };
   paired = paired;
@@ -493,16 +593,26 @@ no-exports-bundle {p} {hooks} reading stmts form faultless filed statements take
     twins = twins-of statements nothing taken []
 
     items_are : top_items (module_with stmts (h.Close ∷ [])) ≡ placed 1 (side_by_side zero stmts)
-    items_are = ap (placed 1) (sides-append statements (h.Close ∷ []) ∙ append-nil (side_by_side zero stmts))
+    items_are =
+        ap (placed 1)
+        (sides-append statements (h.Close ∷ []) ∙ append-nil (side_by_side zero stmts))
 
     body_is : pairing.body ≡ placed 1 (side_by_side zero stmts) ++ []
     body_is = body ∙ items_are ∙ sym (append-nil (placed 1 (side_by_side zero stmts)))
 
-    zip : AllZip (Realises p hooks AsModule (old_bundle reading stmts (h.Close ∷ []) pairing.labels)) (placed 1 (side_by_side zero stmts)) pairing.plan
-    zip = subst (λ l. AllZip (Realises p hooks AsModule (old_bundle reading stmts (h.Close ∷ []) pairing.labels)) l pairing.plan) (body ∙ items_are) paired.realised
+    zip : AllZip
+        (Realises p hooks AsModule (old_bundle reading stmts (h.Close ∷ []) pairing.labels))
+        (placed 1 (side_by_side zero stmts)) pairing.plan
+    zip =
+        subst
+        (λ l. AllZip (Realises p hooks AsModule (old_bundle reading stmts (h.Close ∷ []) pairing.labels)) l pairing.plan)
+        (body ∙ items_are) paired.realised
 
     no_exports : IsDue p AsModule Exports → ⊥
-    no_exports due = every-there (zip-every (Realises p hooks AsModule (old_bundle reading stmts (h.Close ∷ []) pairing.labels)) IsOther (λ item cause is realised. realised-other is.no_list realised) (statement-items statements) pairing.plan zip) Exports ((paired.due Exports).1 due) refl
+    no_exports due =
+        every-there
+        (zip-every (Realises p hooks AsModule (old_bundle reading stmts (h.Close ∷ []) pairing.labels)) IsOther (λ item cause is realised. realised-other is.no_list realised) (statement-items statements) pairing.plan zip)
+        Exports ((paired.due Exports).1 due) refl
 
 -- A module with a list of exports.
 
@@ -510,14 +620,28 @@ no-exports-bundle {p} {hooks} reading stmts form faultless filed statements take
 record Exported (p : Program) (hooks : Hooks) (reading : Reading) (stmts : List Item) (meta : ExportMetadata) (specifiers : List Specifier) : Type 0 where
   pairs : List NamedTarget
   listed : exported_pairs (export_items meta specifiers) ≡ map pair_of specifiers
-  is_bundle : IsBundle p hooks AsCall reading (call_with (is_async_of stmts (map pair_of specifiers)) stmts (its_of (map pair_of specifiers)))
+  is_bundle : IsBundle p hooks AsCall reading
+      (call_with (is_async_of stmts (map pair_of specifiers)) stmts (its_of (map pair_of specifiers)))
 
-one-more : {A B : Type 0} (R : A → B → Type 0) (x : A) (ys : List B) → AllZip R (x ∷ []) ys → (y : B) × (ys ≡ y ∷ []) × R x y
+one-more : {A B : Type 0} (R : A → B → Type 0) (x : A) (ys : List B) → AllZip R (x ∷ []) ys →
+    (y : B) × (ys ≡ y ∷ []) × R x y
 one-more R x [] zip = absurd zip
 one-more R x (y ∷ []) zip = (y, refl, zip.0)
 one-more R x (y ∷ z ∷ ys) zip = absurd zip.1
 
-exports-bundle : {p : Program} {hooks : Hooks} (reading : Reading) (stmts : List Item) (meta : ExportMetadata) (specifiers : List Specifier) → form_of p.settings ≡ AsCall → IsFaultlessProgram p → StatesNoExports p → AreStatements zero stmts → Every IsTaken (declared reading Es (module_with stmts (export_items meta specifiers ++ h.Close ∷ []))) → (pairing : Pairing) → pairing.top ≡ Top → pairing.body ≡ top_items (module_with stmts (export_items meta specifiers ++ h.Close ∷ [])) → IsPaired p hooks AsModule reading (module_with stmts (export_items meta specifiers ++ h.Close ∷ [])) pairing → IsLaidOut p AsModule reading (module_with stmts (export_items meta specifiers ++ h.Close ∷ [])) pairing → Exported p hooks reading stmts meta specifiers
+exports-bundle : {p : Program} {hooks : Hooks} (reading : Reading) (stmts : List Item)
+    (meta : ExportMetadata) (specifiers : List Specifier) →
+    form_of p.settings ≡ AsCall → IsFaultlessProgram p → StatesNoExports p →
+    AreStatements zero stmts →
+    Every IsTaken
+        (declared reading Es (module_with stmts (export_items meta specifiers ++ h.Close ∷ []))) →
+    (pairing : Pairing) → pairing.top ≡ Top →
+    pairing.body ≡ top_items (module_with stmts (export_items meta specifiers ++ h.Close ∷ [])) →
+    IsPaired p hooks AsModule reading
+        (module_with stmts (export_items meta specifiers ++ h.Close ∷ [])) pairing →
+    IsLaidOut p AsModule reading (module_with stmts (export_items meta specifiers ++ h.Close ∷ []))
+        pairing →
+    Exported p hooks reading stmts meta specifiers
 exports-bundle {p} {hooks} reading stmts meta specifiers form faultless filed statements taken pairing top body paired laid_out = record {
   pairs = read.pairs;
   listed = pairs-listed reading (declared reading Es tree) pairing.labels meta specifiers read.pairs fits read.linked.ascending;
@@ -550,51 +674,97 @@ exports-bundle {p} {hooks} reading stmts meta specifiers form faultless filed st
     list_item = record { start = suc (length stmts); items = export_items meta specifiers }
 
     old : TopItem → Cause → Type 0
-    old = Realises p hooks AsModule (old_bundle reading stmts (export_items meta specifiers ++ h.Close ∷ []) pairing.labels)
+    old =
+        Realises p hooks AsModule
+        (old_bundle reading stmts (export_items meta specifiers ++ h.Close ∷ []) pairing.labels)
 
-    twins : AreTwins reading (is_async_of stmts (map pair_of specifiers)) stmts (export_items meta specifiers ++ h.Close ∷ []) (its_of (map pair_of specifiers))
+    twins : AreTwins reading (is_async_of stmts (map pair_of specifiers)) stmts
+        (export_items meta specifiers ++ h.Close ∷ []) (its_of (map pair_of specifiers))
     twins = twins-of statements (exports meta specifiers) taken (map pair_of specifiers)
 
-    items_are : top_items (module_with stmts (export_items meta specifiers ++ h.Close ∷ [])) ≡ placed 1 (side_by_side zero stmts) ++ record { start = suc (length stmts); items = export_items meta specifiers } ∷ []
+    items_are : top_items (module_with stmts (export_items meta specifiers ++ h.Close ∷ [])) ≡
+        placed 1 (side_by_side zero stmts) ++ record
+        { start = suc (length stmts); items = export_items meta specifiers } ∷ []
     items_are =
         let n : 1 + length (flat (side_by_side zero stmts)) ≡ suc (length stmts) = omega (arith, ap length (sides-flat statements)) in
         ap (placed 1) (sides-append statements (export_items meta specifiers ++ h.Close ∷ []) ∙ ap (λ l. side_by_side zero stmts ++ l) (list-alone meta specifiers (h.Close ∷ [])))
         ∙ placed-append 1 (side_by_side zero stmts) (export_items meta specifiers ∷ [])
         ∙ ap (λ k. placed 1 (side_by_side zero stmts) ++ record { start = k; items = export_items meta specifiers } ∷ []) n
 
-    body_is : pairing.body ≡ placed 1 (side_by_side zero stmts) ++ record { start = suc (length stmts); items = export_items meta specifiers } ∷ []
+    body_is : pairing.body ≡ placed 1 (side_by_side zero stmts) ++ record
+        { start = suc (length stmts); items = export_items meta specifiers } ∷ []
     body_is = body ∙ items_are
 
-    split : Split (Realises p hooks AsModule (old_bundle reading stmts (export_items meta specifiers ++ h.Close ∷ []) pairing.labels)) (placed 1 (side_by_side zero stmts)) (record { start = suc (length stmts); items = export_items meta specifiers } ∷ []) pairing.plan
-    split = zip-split (Realises p hooks AsModule (old_bundle reading stmts (export_items meta specifiers ++ h.Close ∷ []) pairing.labels)) (placed 1 (side_by_side zero stmts)) (record { start = suc (length stmts); items = export_items meta specifiers } ∷ []) pairing.plan (subst (λ l. AllZip (Realises p hooks AsModule (old_bundle reading stmts (export_items meta specifiers ++ h.Close ∷ []) pairing.labels)) l pairing.plan) body_is paired.realised)
+    split : Split
+        (Realises p hooks AsModule (old_bundle reading stmts (export_items meta specifiers ++ h.Close ∷ []) pairing.labels))
+        (placed 1 (side_by_side zero stmts))
+        (record { start = suc (length stmts); items = export_items meta specifiers } ∷ [])
+        pairing.plan
+    split =
+        zip-split
+        (Realises p hooks AsModule (old_bundle reading stmts (export_items meta specifiers ++ h.Close ∷ []) pairing.labels))
+        (placed 1 (side_by_side zero stmts))
+        (record { start = suc (length stmts); items = export_items meta specifiers } ∷ [])
+        pairing.plan
+        (subst (λ l. AllZip (Realises p hooks AsModule (old_bundle reading stmts (export_items meta specifiers ++ h.Close ∷ []) pairing.labels)) l pairing.plan) body_is paired.realised)
 
-    end : (cause : Cause) × (split.second ≡ cause ∷ []) × Realises p hooks AsModule (old_bundle reading stmts (export_items meta specifiers ++ h.Close ∷ []) pairing.labels) (record { start = suc (length stmts); items = export_items meta specifiers }) cause
-    end = one-more (Realises p hooks AsModule (old_bundle reading stmts (export_items meta specifiers ++ h.Close ∷ []) pairing.labels)) (record { start = suc (length stmts); items = export_items meta specifiers }) split.second split.rest
+    end : (cause : Cause) × (split.second ≡ cause ∷ []) × Realises p hooks AsModule
+        (old_bundle reading stmts (export_items meta specifiers ++ h.Close ∷ []) pairing.labels)
+        (record { start = suc (length stmts); items = export_items meta specifiers }) cause
+    end =
+        one-more
+        (Realises p hooks AsModule (old_bundle reading stmts (export_items meta specifiers ++ h.Close ∷ []) pairing.labels))
+        (record { start = suc (length stmts); items = export_items meta specifiers }) split.second
+        split.rest
 
     in_plan : Contains pairing.plan end.0
-    in_plan = subst (λ l. Contains l end.0) (sym split.is) (Contains-append_right split.first split.second end.0 (subst (λ l. Contains l end.0) (sym end.1) (contains-first end.0 [])))
+    in_plan =
+        subst (λ l. Contains l end.0) (sym split.is)
+        (Contains-append_right split.first split.second end.0 (subst (λ l. Contains l end.0) (sym end.1) (contains-first end.0 [])))
 
-    read : ListRead p (old_bundle reading stmts (export_items meta specifiers ++ h.Close ∷ []) pairing.labels) (record { start = suc (length stmts); items = export_items meta specifiers }) end.0
-    read = list-read reading stmts (export_items meta specifiers ++ h.Close ∷ []) pairing.labels filed ((paired.due end.0).0 in_plan) refl end.2
+    read : ListRead p
+        (old_bundle reading stmts (export_items meta specifiers ++ h.Close ∷ []) pairing.labels)
+        (record { start = suc (length stmts); items = export_items meta specifiers }) end.0
+    read =
+        list-read reading stmts (export_items meta specifiers ++ h.Close ∷ []) pairing.labels filed
+        ((paired.due end.0).0 in_plan) refl end.2
 
     exports_due : IsDue p AsModule Exports
     exports_due = subst (IsDue p AsModule) read.is ((paired.due end.0).0 in_plan)
 
-    spots : Behind (is_async_of stmts (map pair_of specifiers)) (fold past module_start stmts) (fold past (call_start (is_async_of stmts (map pair_of specifiers))) stmts)
+    spots : Behind (is_async_of stmts (map pair_of specifiers)) (fold past module_start stmts)
+        (fold past (call_start (is_async_of stmts (map pair_of specifiers))) stmts)
     spots = spots-behind statements
 
-    fits : AllZip (Fits reading (declared reading Es (module_with stmts (export_items meta specifiers ++ h.Close ∷ []))) pairing.labels) specifiers read.pairs
-    fits = exports-read (module_with stmts (export_items meta specifiers ++ h.Close ∷ [])) reading pairing.labels meta spots.field specifiers read.pairs (h.Close ∷ []) (suc (length stmts)) (fold past module_start stmts).place (at-spot (around h.Module 0 spots.field ∷ []) spots.old (module-behind stmts (export_items meta specifiers ++ h.Close ∷ []))) read.means
+    fits : AllZip
+        (Fits reading (declared reading Es (module_with stmts (export_items meta specifiers ++ h.Close ∷ []))) pairing.labels)
+        specifiers read.pairs
+    fits =
+        exports-read (module_with stmts (export_items meta specifiers ++ h.Close ∷ [])) reading
+        pairing.labels meta spots.field specifiers read.pairs (h.Close ∷ []) (suc (length stmts))
+        (fold past module_start stmts).place
+        (at-spot (around h.Module 0 spots.field ∷ []) spots.old (module-behind stmts (export_items meta specifiers ++ h.Close ∷ [])))
+        read.means
 
 -- The whole.
 
-module-body : {tree : List Item} {top : Scope} {body : List TopItem} → HasBody AsModule tree top body → (top ≡ Top) × (body ≡ top_items tree)
+module-body : {tree : List Item} {top : Scope} {body : List TopItem} →
+    HasBody AsModule tree top body → (top ≡ Top) × (body ≡ top_items tree)
 module-body of_module = (refl, refl)
 
-pub wrapped-is : (tree : List Item) (stmts : List Item) (rs : List (Text × Ident)) → function_body (parts tree) ≡ stmts ++ returned_object rs → wrapped tree ≡ call_with (is_async_of stmts rs) stmts (its_of rs)
-wrapped-is tree stmts rs e = ap (λ l. function_front (awaits_outside l) ++ (l ++ function_back)) e ∙ call-is stmts rs
+pub wrapped-is : (tree : List Item) (stmts : List Item) (rs : List (Text × Ident)) →
+    function_body (parts tree) ≡ stmts ++ returned_object rs →
+    wrapped tree ≡ call_with (is_async_of stmts rs) stmts (its_of rs)
+wrapped-is tree stmts rs e =
+    ap (λ l. function_front (awaits_outside l) ++ (l ++ function_back)) e ∙ call-is stmts rs
 
-wrapping : {p : Program} {hooks : Hooks} (reading : Reading) (stmts : List Item) {back : List Item} → IsBack back → form_of p.settings ≡ AsCall → IsFaultlessProgram p → StatesNoExports p → AreStatements zero stmts → Every IsTaken (declared reading Es (module_with stmts (back ++ h.Close ∷ []))) → IsBundle p hooks AsModule reading (module_with stmts (back ++ h.Close ∷ [])) → IsBundle p hooks AsCall reading (wrapped (module_with stmts (back ++ h.Close ∷ [])))
+wrapping : {p : Program} {hooks : Hooks} (reading : Reading) (stmts : List Item) {back : List Item}
+    →
+    IsBack back → form_of p.settings ≡ AsCall → IsFaultlessProgram p → StatesNoExports p →
+    AreStatements zero stmts →
+    Every IsTaken (declared reading Es (module_with stmts (back ++ h.Close ∷ []))) →
+    IsBundle p hooks AsModule reading (module_with stmts (back ++ h.Close ∷ [])) →
+    IsBundle p hooks AsCall reading (wrapped (module_with stmts (back ++ h.Close ∷ [])))
 wrapping {p} {hooks} reading stmts nothing form faultless filed statements taken bundle =
     let body = module-body bundle.paired.body in
     subst (IsBundle p hooks AsCall reading) (sym (wrapped-is (module_with stmts (h.Close ∷ [])) stmts [] (body-plain statements)))
@@ -605,8 +775,13 @@ wrapping {p} {hooks} reading stmts (exports meta specifiers) form faultless file
     subst (IsBundle p hooks AsCall reading) (sym (wrapped-is (module_with stmts (export_items meta specifiers ++ h.Close ∷ [])) stmts (map pair_of specifiers) (body-exports statements meta specifiers ∙ ap (λ l. stmts ++ returned_object l) r.listed)))
     r.is_bundle
 
--- THE WHOLE: one function's call of a bundle is a bundle, where that form is asked for and the program has no fault; each reached module has a file, and the bundle is a module that can be called
-pub wrapping-keeps : (p : Program) (hooks : Hooks) (reading : Reading) (tree : List Item) → form_of p.settings ≡ AsCall → IsFaultlessProgram p → StatesNoExports p → CanBeCalled reading tree → IsBundle p hooks AsModule reading tree → IsBundle p hooks AsCall reading (wrapped tree)
+-- one function's call of a bundle is a bundle, where that form is asked for and the
+-- program has no fault; each reached module has a file, and the bundle is a module that can be
+-- called
+pub wrapping-keeps : (p : Program) (hooks : Hooks) (reading : Reading) (tree : List Item) →
+    form_of p.settings ≡ AsCall → IsFaultlessProgram p → StatesNoExports p →
+    CanBeCalled reading tree → IsBundle p hooks AsModule reading tree →
+    IsBundle p hooks AsCall reading (wrapped tree)
 wrapping-keeps p hooks reading tree form faultless filed can bundle =
     subst (λ t. IsBundle p hooks AsCall reading (wrapped t)) (sym can.is)
     (wrapping reading can.stmts can.ends form faultless filed can.statements (subst (λ t. Every IsTaken (declared reading Es t)) can.is can.taken) (subst (IsBundle p hooks AsModule reading) can.is bundle))

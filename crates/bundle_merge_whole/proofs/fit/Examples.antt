@@ -13,18 +13,27 @@ use Rattle.bundle_scope_renamed.proofs.fit.Defaults.{are_plain}
 
 -- `use(x);`
 call : List Item
-call = h.Open 0 h.ExprStmt ∷ h.Open 0 h.CallExpr ∷ h.Ident 0 (codes "use") 0 r.Reference ∷ h.Open 1 (h.ExprOrSpread false) ∷ h.Ident 1 (codes "x") 0 r.Reference ∷ h.Close ∷ h.Close ∷ h.Close ∷ []
+call =
+    h.Open 0 h.ExprStmt ∷ h.Open 0 h.CallExpr ∷ h.Ident 0 (codes "use") 0 r.Reference ∷ h.Open 1
+    (h.ExprOrSpread false) ∷ h.Ident 1 (codes "x") 0 r.Reference ∷ h.Close ∷ h.Close ∷ h.Close ∷ []
 
-argument : AreEach AnArgument 1 (h.Open 1 (h.ExprOrSpread false) ∷ h.Ident 1 (codes "x") 0 r.Reference ∷ h.Close ∷ [])
-argument = next (in_node 1 (h.ExprOrSpread false) refl (last (alone 1 (codes "x") 0 r.Reference refl))) ended
+argument : AreEach AnArgument 1
+    (h.Open 1 (h.ExprOrSpread false) ∷ h.Ident 1 (codes "x") 0 r.Reference ∷ h.Close ∷ [])
+argument =
+    next (in_node 1 (h.ExprOrSpread false) refl (last (alone 1 (codes "x") 0 r.Reference refl)))
+    ended
 
 call_fits : IsFit AStmt 0 call
 unfolding call
-call_fits = in_node 0 h.ExprStmt refl (last (in_node 0 h.CallExpr refl (one (alone 0 (codes "use") 0 r.Reference refl) (last_each argument))))
+call_fits =
+    in_node 0 h.ExprStmt refl
+    (last (in_node 0 h.CallExpr refl (one (alone 0 (codes "use") 0 r.Reference refl) (last_each argument))))
 
 -- a getter with a block as its key
 getter : List Item
-getter = h.Open 0 h.GetterProp ∷ h.Open 0 h.BlockStmt ∷ h.Close ∷ h.Open 1 h.BlockStmt ∷ h.Close ∷ h.Close ∷ []
+getter =
+    h.Open 0 h.GetterProp ∷ h.Open 0 h.BlockStmt ∷ h.Close ∷ h.Open 1 h.BlockStmt ∷ h.Close ∷
+    h.Close ∷ []
 
 no_getter : IsFit AProperty 0 getter → ⊥
 unfolding getter

@@ -1,5 +1,5 @@
--- What is so of lists that are fit: they are listings of whole nodes, with plain defaults and keys and with ways, and in
--- none of their items an exported declaration is a list of exports.
+-- What is so of lists that are fit: they are listings of whole nodes, with plain defaults and keys
+-- and with ways, and in none of their items an exported declaration is a list of exports.
 use Rattle.std.proofs.Common.{◌≡◌, ℕ, suc, true, List, [], ◌∷◌, ◌++◌, Some, append_assoc, append-nil, refl, sym, ap, ◌∙◌, subst, length, ◌+◌}
 use Rattle.std.specs.List.{AllByRecursion}
 use Rattle.std.proofs.lemmas.Bool.{and_from}
@@ -48,13 +48,15 @@ fit_nodes fit = listed_nodes (fit_listed fit)
 pub fit_whole : {list : List Slot} {items : List Item} → AreFit list items → gw.Whole items
 fit_whole no_more = gw.nothing
 fit_whole (over e fit) = fit_whole fit
-fit_whole (a_name {number = n} {x = x} {ctxt = c} {role = role} it fit) = gw.joined (gw.name n x c role) (fit_whole fit)
+fit_whole (a_name {number = n} {x = x} {ctxt = c} {role = role} it fit) =
+    gw.joined (gw.name n x c role) (fit_whole fit)
 fit_whole (a_hole {number = n} fit) = gw.joined (gw.hole n) (fit_whole fit)
 fit_whole (a_node {number = n} {head = hd} {inside = ins} {rest = rest} it in_it fit) =
     subst gw.Whole (ap (λ l. h.Open n hd ∷ l) (append_assoc ins (h.Close ∷ []) rest))
     (gw.joined (gw.inner n hd (fit_whole in_it)) (fit_whole fit))
 
-opens : {list : List Slot} {items : List Item} → AreFit list items → (depth : ℕ) (rest : List Item) → open_behind depth (items ++ rest) ≡ open_behind depth rest
+opens : {list : List Slot} {items : List Item} → AreFit list items →
+    (depth : ℕ) (rest : List Item) → open_behind depth (items ++ rest) ≡ open_behind depth rest
 opens no_more depth rest = refl
 opens (over e fit) depth rest = opens fit depth rest
 opens (a_name it fit) depth rest = opens fit depth rest
@@ -64,7 +66,8 @@ opens (a_node {inside = ins} {rest = behind} it in_it fit) depth rest =
     ∙ (opens in_it (suc depth) (h.Close ∷ (behind ++ rest)) ∙ opens fit depth rest)
 
 pub fit_is_whole : {list : List Slot} {items : List Item} → AreFit list items → IsWhole items
-fit_is_whole {items = items} fit = subst (λ l. open_behind 0 l ≡ Some 0) (append-nil items) (opens fit 0 [])
+fit_is_whole {items = items} fit =
+    subst (λ l. open_behind 0 l ≡ Some 0) (append-nil items) (opens fit 0 [])
 
 -- A node alone.
 
@@ -87,17 +90,23 @@ module _ {sort : Sort} {field : ℕ} {items : List Item} (it : IsFit sort field 
   pub one_ways : declares sort [] ≡ true → HasWays items
   one_ways ok = has_ways (last it) (and_from (declares sort []) true ok refl)
 
-  pub one_in : (parent : Head) → is_own sort ≡ true → seats parent field sort ≡ true → AreIn parent items
-  one_in parent own ok = are_in (last it) parent (and_from (is_own sort) true own refl) (and_from (seats parent field sort) true ok refl)
+  pub one_in : (parent : Head) → is_own sort ≡ true → seats parent field sort ≡ true →
+      AreIn parent items
+  one_in parent own ok =
+      are_in (last it) parent (and_from (is_own sort) true own refl)
+      (and_from (seats parent field sort) true ok refl)
 
   pub one_listless : IsListless items
   one_listless = is_listless it
 
 -- The items of a module.
 
-every_listless : (n : ℕ) (list : List (List Item)) → AllByRecursion (IsFit AnItem 0) list → Every (λ (top : TopItem). IsListless top.items) (placed n list)
+every_listless : (n : ℕ) (list : List (List Item)) → AllByRecursion (IsFit AnItem 0) list →
+    Every (λ (top : TopItem). IsListless top.items) (placed n list)
 every_listless n [] fits = none
-every_listless n (items ∷ others) fits = more (is_listless fits.0) (every_listless (n + length items) others fits.1)
+every_listless n (items ∷ others) fits =
+    more (is_listless fits.0) (every_listless (n + length items) others fits.1)
 
-pub module_listless : {field : ℕ} (tree : List Item) → IsFit AModule field tree → Every (λ (top : TopItem). IsListless top.items) (top_items tree)
+pub module_listless : {field : ℕ} (tree : List Item) → IsFit AModule field tree →
+    Every (λ (top : TopItem). IsListless top.items) (top_items tree)
 module_listless tree it = every_listless 1 (parts tree) (items_of_module it)

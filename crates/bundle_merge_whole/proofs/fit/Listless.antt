@@ -23,16 +23,22 @@ of_default : (head : Head) → takes head ADefault ≡ true → is_export_list h
 of_default (h.NamedExport meta) is = absurd (false≢true is)
 of_default _ is = refl
 
-begins_none : (sort : Sort) → ((head : Head) → takes head sort ≡ true → is_export_list head ≡ false) → {items : List Item} → AreFit (slot 0 One sort ∷ []) items → begins_with is_export_list items ≡ false
+begins_none : (sort : Sort) →
+    ((head : Head) → takes head sort ≡ true → is_export_list head ≡ false) → {items : List Item} →
+    AreFit (slot 0 One sort ∷ []) items → begins_with is_export_list items ≡ false
 begins_none sort heads (over e fit) = absurd (true≢false e)
 begins_none sort heads (a_name it fit) = refl
 begins_none sort heads (a_node {head = hd} it in_it fit) = heads hd it
 
-listless : (n : ℕ) (head : Head) (names : Role) {items : List Item} → AreFit (slots head names) items → IsListless (h.Open n head ∷ (items ++ h.Close ∷ []))
-listless n h.ExportDecl names {items = items} fit = ap (begins_with is_export_list) (last_off items h.Close) ∙ begins_none ADecl decl_head fit
-listless n h.ExportDefaultDecl names {items = items} fit = ap (begins_with is_export_list) (last_off items h.Close) ∙ begins_none ADefault of_default fit
+listless : (n : ℕ) (head : Head) (names : Role) {items : List Item} →
+    AreFit (slots head names) items → IsListless (h.Open n head ∷ (items ++ h.Close ∷ []))
+listless n h.ExportDecl names {items = items} fit =
+    ap (begins_with is_export_list) (last_off items h.Close) ∙ begins_none ADecl decl_head fit
+listless n h.ExportDefaultDecl names {items = items} fit =
+    ap (begins_with is_export_list) (last_off items h.Close) ∙ begins_none ADefault of_default fit
 listless n _ names fit = tt
 
-pub is_listless : {sort : Sort} {field : ℕ} {items : List Item} → IsFit sort field items → IsListless items
+pub is_listless : {sort : Sort} {field : ℕ} {items : List Item} → IsFit sort field items →
+    IsListless items
 is_listless (name it) = tt
 is_listless (node {sort = k} {field = n} {head = hd} it in_it) = listless n hd (names_in k) in_it

@@ -1,4 +1,5 @@
--- What is so of a program whose modules' trees are fit, and of a module that is put together of items that are fit.
+-- What is so of a program whose modules' trees are fit, and of a module that is put together of
+-- items that are fit.
 use Rattle.std.proofs.Common.{◌≡◌, ℕ, List, [], ◌∷◌, refl}
 use Rattle.std.specs.List.{AllByRecursion}
 use Rattle.bundle_tree_piece.specs.Item as h
@@ -41,7 +42,8 @@ module _ (items : List (List Item)) (fits : AllByRecursion (IsFit AnItem 0) item
   pub joined_fit : IsFit AModule 0 (joined items)
   joined_fit = in_node 0 h.Module refl (last_each (each items fits))
     where
-      each : (items : List (List Item)) → AllByRecursion (IsFit AnItem 0) items → AreEach AnItem 0 (flat items)
+      each : (items : List (List Item)) → AllByRecursion (IsFit AnItem 0) items →
+          AreEach AnItem 0 (flat items)
       each [] fits = ended
       each (item ∷ rest) fits = next fits.0 (each rest fits.1)
 

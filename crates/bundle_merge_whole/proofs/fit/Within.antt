@@ -20,7 +20,9 @@ is_plain_key _ = false
 
 -- parameters stand in functions, and a plain key in the key of a setter
 abbrev pub seats : Head → ℕ → Sort → Bool
-seats parent number sort = (not (takes_parameter sort) || has_parameters parent) && (not (is_setter_key parent number) || is_plain_key sort)
+seats parent number sort =
+    (not (takes_parameter sort) || has_parameters parent) &&
+    (not (is_setter_key parent number) || is_plain_key sort)
 
 seated_slots : (head : Head) (names : Role) → each_slot (seats head) (slots head names) ≡ true
 seated_slots h.Module names = refl
@@ -36,29 +38,41 @@ key_is : (sort : Sort) → is_plain_key sort ≡ true → sort ≡ AKey
 key_is AKey e = refl
 key_is _ e = absurd (false≢true e)
 
-parameters : (parent : Head) (n : ℕ) (sort : Sort) → takes_parameter sort ≡ true → seats parent n sort ≡ true → has_parameters parent ≡ true
-parameters parent n sort is ok = either (takes_parameter sort) (has_parameters parent) is (and_parts (not (takes_parameter sort) || has_parameters parent) (not (is_setter_key parent n) || is_plain_key sort) ok).0
+parameters : (parent : Head) (n : ℕ) (sort : Sort) → takes_parameter sort ≡ true →
+    seats parent n sort ≡ true → has_parameters parent ≡ true
+parameters parent n sort is ok =
+    either (takes_parameter sort) (has_parameters parent) is
+    (and_parts (not (takes_parameter sort) || has_parameters parent) (not (is_setter_key parent n) || is_plain_key sort) ok).0
 
 -- what stands in no key does not stand in that of a setter
-apart : (test : Sort → Bool) → test AKey ≡ false → (b : Bool) (sort : Sort) → test sort ≡ true → (not b || is_plain_key sort) ≡ true → not b ≡ true
+apart : (test : Sort → Bool) → test AKey ≡ false → (b : Bool) (sort : Sort) → test sort ≡ true →
+    (not b || is_plain_key sort) ≡ true → not b ≡ true
 apart test none false sort is ok = refl
-apart test none true sort is ok = absurd (false≢true (sym none ∙ (sym (ap test (key_is sort ok)) ∙ is)))
+apart test none true sort is ok =
+    absurd (false≢true (sym none ∙ (sym (ap test (key_is sort ok)) ∙ is)))
 
-no_setter : (test : Sort → Bool) → test AKey ≡ false → (parent : Head) (n : ℕ) (sort : Sort) → test sort ≡ true → seats parent n sort ≡ true → not (is_setter_key parent n) ≡ true
-no_setter test none parent n sort is ok = apart test none (is_setter_key parent n) sort is (and_parts (not (takes_parameter sort) || has_parameters parent) (not (is_setter_key parent n) || is_plain_key sort) ok).1
+no_setter : (test : Sort → Bool) → test AKey ≡ false → (parent : Head) (n : ℕ) (sort : Sort) →
+    test sort ≡ true → seats parent n sort ≡ true → not (is_setter_key parent n) ≡ true
+no_setter test none parent n sort is ok =
+    apart test none (is_setter_key parent n) sort is
+    (and_parts (not (takes_parameter sort) || has_parameters parent) (not (is_setter_key parent n) || is_plain_key sort) ok).1
 
-holds : (parent : Head) (n : ℕ) (head : Head) (sort : Sort) → takes head sort ≡ true → seats parent n sort ≡ true → may_hold parent n head ≡ true
+holds : (parent : Head) (n : ℕ) (head : Head) (sort : Sort) → takes head sort ≡ true →
+    seats parent n sort ≡ true → may_hold parent n head ≡ true
 holds parent n h.Param sort is ok = parameters parent n sort is ok
 holds parent n h.BindingIdent sort is ok = no_setter (takes h.BindingIdent) refl parent n sort is ok
 holds parent n h.ArrayPat sort is ok = no_setter (takes h.ArrayPat) refl parent n sort is ok
 holds parent n h.ObjectPat sort is ok = no_setter (takes h.ObjectPat) refl parent n sort is ok
 holds parent n h.RestPat sort is ok = no_setter (takes h.RestPat) refl parent n sort is ok
 holds parent n h.AssignPat sort is ok = no_setter (takes h.AssignPat) refl parent n sort is ok
-holds parent n h.KeyValuePatProp sort is ok = no_setter (takes h.KeyValuePatProp) refl parent n sort is ok
-holds parent n h.AssignPatProp sort is ok = no_setter (takes h.AssignPatProp) refl parent n sort is ok
+holds parent n h.KeyValuePatProp sort is ok =
+    no_setter (takes h.KeyValuePatProp) refl parent n sort is ok
+holds parent n h.AssignPatProp sort is ok =
+    no_setter (takes h.AssignPatProp) refl parent n sort is ok
 holds parent n _ sort is ok = refl
 
-names_it : (parent : Head) (n : ℕ) (role : Role) (sort : Sort) → takes_name role sort ≡ true → seats parent n sort ≡ true → may_name parent n role ≡ true
+names_it : (parent : Head) (n : ℕ) (role : Role) (sort : Sort) → takes_name role sort ≡ true →
+    seats parent n sort ≡ true → may_name parent n role ≡ true
 names_it parent n r.Binding sort is ok = no_setter (takes_name r.Binding) refl parent n sort is ok
 names_it parent n r.Reference sort is ok = refl
 names_it parent n r.Word sort is ok = refl
@@ -79,7 +93,8 @@ no_node _ names is = false≢true is
 nothing_left : {items : List Item} → AreFit [] items → items ≡ []
 nothing_left no_more = refl
 
-is_name : (names : Role) {items : List Item} → AreFit (slot 0 One (AnIdent names) ∷ []) items → IsName items
+is_name : (names : Role) {items : List Item} → AreFit (slot 0 One (AnIdent names) ∷ []) items →
+    IsName items
 is_name names (over e fit) = absurd (true≢false e)
 is_name names (a_name {x = x} {ctxt = t} {role = role} it fit) = record { inner = 0; sym = x; ctxt = t; role = role; is = ap (λ l. h.Ident 0 x t role ∷ l) (nothing_left fit) }
 is_name names (a_node {head = hd} it in_it fit) = absurd (no_node hd names it)
@@ -89,22 +104,31 @@ no_lone r.Binding names is = false≢true is
 no_lone r.Reference names is = false≢true is
 no_lone r.Word names is = false≢true is
 
-named_so : (head : Head) (names : Role) → takes head (ABindingIdent names) ≡ true → {inside : List Item} → AreFit (slots head (names_in (ABindingIdent names))) inside → (more : List Item) → BeginsNamed (h.Open 0 head ∷ (inside ++ h.Close ∷ more))
+named_so : (head : Head) (names : Role) → takes head (ABindingIdent names) ≡ true →
+    {inside : List Item} → AreFit (slots head (names_in (ABindingIdent names))) inside →
+    (more : List Item) → BeginsNamed (h.Open 0 head ∷ (inside ++ h.Close ∷ more))
 named_so h.BindingIdent names is fit more = let n = is_name names fit in record { outer = 0; inner = n.inner; sym = n.sym; ctxt = n.ctxt; role = n.role; more = more; is = ap (λ l. h.Open 0 h.BindingIdent ∷ (l ++ h.Close ∷ more)) n.is }
 named_so _ names is fit more = absurd (false≢true is)
 
-begins_named : (names : Role) (after : List Slot) {items : List Item} → AreFit (slot 0 One (ABindingIdent names) ∷ after) items → BeginsNamed items
+begins_named : (names : Role) (after : List Slot) {items : List Item} →
+    AreFit (slot 0 One (ABindingIdent names) ∷ after) items → BeginsNamed items
 begins_named names after (over e fit) = absurd (true≢false e)
 begins_named names after (a_name {role = role} it fit) = absurd (no_lone role names it)
-begins_named names after (a_node {head = hd} {rest = rest} it in_it fit) = named_so hd names it in_it rest
+begins_named names after (a_node {head = hd} {rest = rest} it in_it fit) =
+    named_so hd names it in_it rest
 
-has_name : (head : Head) (names : Role) {items : List Item} → AreFit (slots head names) items → HasName head items
+has_name : (head : Head) (names : Role) {items : List Item} → AreFit (slots head names) items →
+    HasName head items
 has_name h.AssignPatProp names fit = begins_named names (slot 1 Optional AnExpr ∷ []) fit
 has_name _ names fit = tt
 
-pub are_in : {list : List Slot} {items : List Item} → AreFit list items → (parent : Head) → each_slot (λ number sort. is_own sort) list ≡ true → each_slot (seats parent) list ≡ true → AreIn parent items
+pub are_in : {list : List Slot} {items : List Item} → AreFit list items → (parent : Head) →
+    each_slot (λ number sort. is_own sort) list ≡ true → each_slot (seats parent) list ≡ true →
+    AreIn parent items
 are_in no_more parent own ok = w.no_more
-are_in (over {number = n} {sort = k} {more = more} e fit) parent own ok = are_in fit parent (and_parts (is_own k) (each_slot (λ number sort. is_own sort) more) own).1 (and_parts (seats parent n k) (each_slot (seats parent) more) ok).1
+are_in (over {number = n} {sort = k} {more = more} e fit) parent own ok =
+    are_in fit parent (and_parts (is_own k) (each_slot (λ number sort. is_own sort) more) own).1
+    (and_parts (seats parent n k) (each_slot (seats parent) more) ok).1
 are_in (a_name {number = n} {count = c} {sort = k} {more = more} {role = role} it fit) parent own ok = w.a_name (names_it parent n role k it (and_parts (seats parent n k) (each_slot (seats parent) more) ok).0) (are_in fit parent (after_slot (λ number sort. is_own sort) n c k more own) (after_slot (seats parent) n c k more ok))
 are_in (a_hole fit) parent own ok = w.a_hole (are_in fit parent own ok)
 are_in (a_node {number = n} {count = c} {sort = k} {more = more} {head = hd} it in_it fit) parent own ok =

@@ -1,4 +1,5 @@
--- A module of statements, with or without a list of its own names behind them, can be the call of one function.
+-- A module of statements, with or without a list of its own names behind them, can be the call of
+-- one function.
 use Rattle.std.proofs.Common.{List, [], ◌∷◌, ◌++◌, Some, None, ◌≡◌, append-nil, refl, sym, ap, ◌∙◌, subst, option_map, string_bytes, Option}
 use Rattle.std.specs.List.{AllByRecursion, flat_map}
 use Rattle.std.specs.declared.vec.Vec.{Vec}
@@ -40,7 +41,8 @@ exported_of None = None
 exported_of (Some (n.Ident it)) = Some (word (string_bytes it.sym) it.ctxt)
 exported_of (Some (n.Str it)) = Some (text (string_bytes it.value) (option_map string_bytes it.raw))
 
-exported_items : (it : Option ModuleExportName) → option_items (module_export_name_items r.Word 1) it ≡ name_items (exported_of it)
+exported_items : (it : Option ModuleExportName) →
+    option_items (module_export_name_items r.Word 1) it ≡ name_items (exported_of it)
 unfolding exported_of
 exported_items None = refl
 exported_items (Some (n.Ident it)) = refl
@@ -51,18 +53,39 @@ specifiers_of [] locals = []
 specifiers_of (e.ExportNamedSpecifier (n.Ident local) exported ∷ rest) locals = record { sym = string_bytes local.sym; ctxt = local.ctxt; name = exported_of exported } ∷ specifiers_of rest locals.1
 specifiers_of (_ ∷ rest) locals = absurd locals.0
 
-specifiers_same : (list : List ExportSpecifier) (locals : AllByRecursion IsLocal list) → flat_map (export_specifier_items r.Reference 0) list ≡ flat_map specifier_items (specifiers_of list locals)
+specifiers_same : (list : List ExportSpecifier) (locals : AllByRecursion IsLocal list) →
+    flat_map (export_specifier_items r.Reference 0) list ≡
+        flat_map specifier_items (specifiers_of list locals)
 unfolding specifiers_of
 specifiers_same [] locals = refl
-specifiers_same (e.ExportNamedSpecifier (n.Ident local) exported ∷ rest) locals = ap (λ l. (h.Open 0 h.ExportNamedSpecifier ∷ h.Ident 0 (string_bytes local.sym) local.ctxt r.Reference ∷ (l ++ h.Close ∷ [])) ++ flat_map (export_specifier_items r.Reference 0) rest) (exported_items exported) ∙ ap (λ l. (h.Open 0 h.ExportNamedSpecifier ∷ h.Ident 0 (string_bytes local.sym) local.ctxt r.Reference ∷ (name_items (exported_of exported) ++ h.Close ∷ [])) ++ l) (specifiers_same rest locals.1)
+specifiers_same (e.ExportNamedSpecifier (n.Ident local) exported ∷ rest) locals =
+    ap
+        (λ l. (h.Open 0 h.ExportNamedSpecifier ∷ h.Ident 0 (string_bytes local.sym) local.ctxt r.Reference ∷ (l ++ h.Close ∷ [])) ++ flat_map (export_specifier_items r.Reference 0) rest)
+        (exported_items exported) ∙ ap
+        (λ l. (h.Open 0 h.ExportNamedSpecifier ∷ h.Ident 0 (string_bytes local.sym) local.ctxt r.Reference ∷ (name_items (exported_of exported) ++ h.Close ∷ [])) ++ l)
+        (specifiers_same rest locals.1)
 specifiers_same (_ ∷ rest) locals = absurd locals.0
 
-pub is_back : (specifiers : Vec ExportSpecifier Global) (meta : ExportMetadata) → AllByRecursion IsLocal specifiers.items → IsBack (module_decl_items 0 (d.NamedExport specifiers None meta))
-is_back specifiers meta locals = subst IsBack (ap (λ l. h.Open 0 (h.NamedExport meta) ∷ (l ++ h.Close ∷ [])) (sym (specifiers_same specifiers.items locals) ∙ sym (append-nil _))) (exports meta (specifiers_of specifiers.items locals))
+pub is_back : (specifiers : Vec ExportSpecifier Global) (meta : ExportMetadata) →
+    AllByRecursion IsLocal specifiers.items →
+    IsBack (module_decl_items 0 (d.NamedExport specifiers None meta))
+is_back specifiers meta locals =
+    subst IsBack
+    (ap (λ l. h.Open 0 (h.NamedExport meta) ∷ (l ++ h.Close ∷ [])) (sym (specifiers_same specifiers.items locals) ∙ sym (append-nil _)))
+    (exports meta (specifiers_of specifiers.items locals))
 
 -- a module of statements, and of statements with a list of its own names behind them, can be called
-pub statements_called : (reading : Reading) (list : List Stmt) → CanBeCalled reading (module_with (flat_map (stmt_items 0) list) (h.Close ∷ []))
-statements_called reading list = can-be-called reading (flat_map (stmt_items 0) list) [] (stmts_in_module list) nothing
+pub statements_called : (reading : Reading) (list : List Stmt) →
+    CanBeCalled reading (module_with (flat_map (stmt_items 0) list) (h.Close ∷ []))
+statements_called reading list =
+    can-be-called reading (flat_map (stmt_items 0) list) [] (stmts_in_module list) nothing
 
-pub exporting_called : (reading : Reading) (list : List Stmt) (specifiers : Vec ExportSpecifier Global) (meta : ExportMetadata) → AllByRecursion IsLocal specifiers.items → CanBeCalled reading (module_with (flat_map (stmt_items 0) list) (module_decl_items 0 (d.NamedExport specifiers None meta) ++ h.Close ∷ []))
-exporting_called reading list specifiers meta locals = can-be-called reading (flat_map (stmt_items 0) list) (module_decl_items 0 (d.NamedExport specifiers None meta)) (stmts_in_module list) (is_back specifiers meta locals)
+pub exporting_called : (reading : Reading) (list : List Stmt)
+    (specifiers : Vec ExportSpecifier Global) (meta : ExportMetadata) →
+    AllByRecursion IsLocal specifiers.items →
+    CanBeCalled reading
+        (module_with (flat_map (stmt_items 0) list) (module_decl_items 0 (d.NamedExport specifiers None meta) ++ h.Close ∷ []))
+exporting_called reading list specifiers meta locals =
+    can-be-called reading (flat_map (stmt_items 0) list)
+    (module_decl_items 0 (d.NamedExport specifiers None meta)) (stmts_in_module list)
+    (is_back specifiers meta locals)

@@ -48,7 +48,8 @@ module_keyless it = one_keyless (module_fit 0 it)
 pub module_ways : (it : Module) → HasWays (module_items 0 it)
 module_ways it = one_ways (module_fit 0 it) refl
 
-pub module_listless : (it : Module) → Every (λ (top : TopItem). IsListless top.items) (top_items (module_items 0 it))
+pub module_listless : (it : Module) →
+    Every (λ (top : TopItem). IsListless top.items) (top_items (module_items 0 it))
 module_listless it = fit.module_listless (module_items 0 it) (module_fit 0 it)
 
 -- a module as it is kept
@@ -92,7 +93,8 @@ class_own field it = one_own (class_fit field it) refl
 pub property_own : (field : ℕ) (it : KeyValueProp Expr) → AreOwn (key_value_prop_items field it)
 property_own field it = one_own (key_value_prop_fit field it) refl
 
-pub stmt_in : (parent : Head) (field : ℕ) → seats parent field AStmt ≡ true → (it : Stmt) → AreIn parent (stmt_items field it)
+pub stmt_in : (parent : Head) (field : ℕ) → seats parent field AStmt ≡ true → (it : Stmt) →
+    AreIn parent (stmt_items field it)
 stmt_in parent field ok it = one_in (stmt_fit field it) parent refl ok
 
 pub stmt_in_module : (field : ℕ) (it : Stmt) → AreIn h.Module (stmt_items field it)
@@ -101,13 +103,16 @@ stmt_in_module field it = stmt_in h.Module field refl it
 pub stmt_in_block : (field : ℕ) (it : Stmt) → AreIn h.BlockStmt (stmt_items field it)
 stmt_in_block field it = stmt_in h.BlockStmt field refl it
 
-pub decl_in : (parent : Head) (field : ℕ) → seats parent field ADecl ≡ true → (it : Decl) → AreIn parent (decl_items field it)
+pub decl_in : (parent : Head) (field : ℕ) → seats parent field ADecl ≡ true → (it : Decl) →
+    AreIn parent (decl_items field it)
 decl_in parent field ok it = one_in (decl_fit field it) parent refl ok
 
-pub expr_in : (parent : Head) (field : ℕ) → seats parent field AnExpr ≡ true → (it : Expr) → AreIn parent (expr_items field it)
+pub expr_in : (parent : Head) (field : ℕ) → seats parent field AnExpr ≡ true → (it : Expr) →
+    AreIn parent (expr_items field it)
 expr_in parent field ok it = one_in (expr_fit field it) parent refl ok
 
-pub property_listing : (field : ℕ) (it : KeyValueProp Expr) → IsListing (key_value_prop_items field it)
+pub property_listing : (field : ℕ) (it : KeyValueProp Expr) →
+    IsListing (key_value_prop_items field it)
 property_listing field it = one_listing (key_value_prop_fit field it)
 
 pub property_plain : (field : ℕ) (it : KeyValueProp Expr) → ArePlain (key_value_prop_items field it)
@@ -123,9 +128,13 @@ pub of-tree-fit : (loaded : Loaded) → IsOfTree loaded → IsFitModule loaded
 of-tree-fit loaded its = subst (IsFit AModule 0) (sym its.1) (module_fit 0 its.0)
 
 -- a loader that hands in trees
-pub hands-in-fit : (answers : Answers) → ((file : Name) (loaded : Loaded) → answers.may_load file loaded → IsOfTree loaded) → HandsInFit answers
+pub hands-in-fit : (answers : Answers) →
+    ((file : Name) (loaded : Loaded) → answers.may_load file loaded → IsOfTree loaded) →
+    HandsInFit answers
 hands-in-fit answers trees file loaded may = of-tree-fit loaded (trees file loaded may)
 
 -- the tree of a program, where it is kept of a module
-pub kept-tree-fit : (p : Program) (m : ℕ) (loaded : Loaded) → module_of p m ≡ Some loaded → (it : Module) → loaded.items ≡ cleared (module_items 0 it) → IsFit AModule 0 (tree_of p m)
-kept-tree-fit p m loaded there it is = tree-fit p m loaded there (subst (IsFit AModule 0) (sym is) (kept_fit it))
+pub kept-tree-fit : (p : Program) (m : ℕ) (loaded : Loaded) → module_of p m ≡ Some loaded →
+    (it : Module) → loaded.items ≡ cleared (module_items 0 it) → IsFit AModule 0 (tree_of p m)
+kept-tree-fit p m loaded there it is =
+    tree-fit p m loaded there (subst (IsFit AModule 0) (sym is) (kept_fit it))

@@ -26,12 +26,17 @@ pub record IsInner (node : Around) : Type 0 where
   pub begins : 0 < node.begins
   pub head : is_module_head node.head ≡ false
 
--- `IsMoved is_async depth old new`: the nodes around a place of the module, `depth` of them in it, and around the same place in the function
+-- `IsMoved is_async depth old new`: the nodes around a place of the module, `depth` of them in it,
+-- and around the same place in the function
 pub data IsMoved (is_async : Bool) : ℕ → List Around → List Around → Type 0 where
-  outside : (field : ℕ) → IsMoved is_async zero (around h.Module 0 field ∷ []) (called_path is_async field)
-  within : {depth : ℕ} {old new : List Around} (node : Around) → IsInner node → IsMoved is_async depth old new → IsMoved is_async (suc depth) (node ∷ old) (moved_around node ∷ new)
+  outside : (field : ℕ) →
+      IsMoved is_async zero (around h.Module 0 field ∷ []) (called_path is_async field)
+  within : {depth : ℕ} {old new : List Around} (node : Around) → IsInner node →
+      IsMoved is_async depth old new →
+      IsMoved is_async (suc depth) (node ∷ old) (moved_around node ∷ new)
 
--- a spot of the module, with `depth` nodes of statements around it, and the same spot in the function
+-- a spot of the module, with `depth` nodes of statements around it, and the same spot in the
+-- function
 pub record IsMovedSpot (is_async : Bool) (depth : ℕ) (s t : Spot) : Type 0 where
   pub at : t.place ≡ s.place + 6
   pub positive : 0 < s.place
@@ -48,7 +53,8 @@ module_start = record { place = 1; path = around h.Module 0 0 ∷ [] }
 abbrev pub call_start : Bool → Spot
 call_start is_async = record { place = 7; path = called_path is_async 0 }
 
--- a module and a call with the same statements: what follows them declares nothing, and some scope takes each declaration
+-- a module and a call with the same statements: what follows them declares nothing, and some scope
+-- takes each declaration
 pub record AreTwins (reading : Reading) (is_async : Bool) (stmts after its : List Item) : Type 0 where
   pub statements : AreStatements zero stmts
   pub taken : Every IsTaken (declared reading Es (module_with stmts after))
@@ -58,4 +64,5 @@ pub record AreTwins (reading : Reading) (is_async : Bool) (stmts after its : Lis
 -- what is written on the nodes of a path that lie in statements
 pub data Roots (P : Head → ℕ → Type 0) : ℕ → List Around → Type 0 where
   rooted : (field : ℕ) → Roots P zero (around h.Module 0 field ∷ [])
-  deeper : {depth : ℕ} {path : List Around} (node : Around) → P node.head node.begins → Roots P depth path → Roots P (suc depth) (node ∷ path)
+  deeper : {depth : ℕ} {path : List Around} (node : Around) → P node.head node.begins →
+      Roots P depth path → Roots P (suc depth) (node ∷ path)

@@ -15,7 +15,8 @@ moved_scope (Inner kind begins) = Inner kind (begins + 6)
 abbrev pub moved_scopes : List Scope → List Scope
 moved_scopes [] = []
 moved_scopes (Wrapper ∷ outer) = Wrapper ∷ moved_scopes outer
-moved_scopes (Top ∷ outer) = Inner FunctionBody 6 ∷ Inner Parameters 5 ∷ Inner FunctionName 4 ∷ Top ∷ []
+moved_scopes (Top ∷ outer) =
+    Inner FunctionBody 6 ∷ Inner Parameters 5 ∷ Inner FunctionName 4 ∷ Top ∷ []
 moved_scopes (Inner kind begins ∷ outer) = Inner kind (begins + 6) ∷ moved_scopes outer
 
 -- what a name denotes in the body that denoted this at the top
@@ -37,7 +38,8 @@ is_module_way _ = false
 -- scopes around a place of a module: none begins where the module does
 pub data AreFair : List Scope → Type 0 where
   top : AreFair (Top ∷ [])
-  inner : {kind : ScopeKind} {begins : ℕ} {outer : List Scope} → 0 < begins → AreFair outer → AreFair (Inner kind begins ∷ outer)
+  inner : {kind : ScopeKind} {begins : ℕ} {outer : List Scope} → 0 < begins → AreFair outer →
+      AreFair (Inner kind begins ∷ outer)
 
 -- a scope of a module
 abbrev pub IsFair : Scope → Type 0
@@ -51,7 +53,8 @@ pub record IsSeated (d : Declared) : Type 0 where
   pub way : is_module_way d.by ≡ false
   pub taken : is_some (nearest (from_taker d.by d.scopes)) ≡ true
 
--- what a name denotes in the module and in the function: an `arguments` that nothing binds may be the function's own
+-- what a name denotes in the module and in the function: an `arguments` that nothing binds may be
+-- the function's own
 pub data AreMet : Denoted → Denoted → Type 0 where
   followed : (d : Denoted) → AreMet d (moved_denoted d)
   astray : (name : Name) → AreMet (Global (codes "arguments")) (Bound (Inner Parameters 5) name)

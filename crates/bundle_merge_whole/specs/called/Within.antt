@@ -1,5 +1,5 @@
--- A condition on each node of statements, by its own head and that of the node around it, by which a module of them can
--- be called.
+-- A condition on each node of statements, by its own head and that of the node around it, by which
+-- a module of them can be called.
 use Rattle.std.specs.Prelude.{◌≡◌, ℕ, Bool, true, false, cond, not, ◌==◌, List, [], ◌∷◌, ◌++◌}
 use Rattle.bundle_tree_piece.specs.declared.piece.Role.{Role}
 use Rattle.bundle_tree_piece.specs.declared.piece.Role.TheVariants as r
@@ -19,7 +19,8 @@ has_parameters (h.Function is_generator is_async) = true
 has_parameters h.Constructor = true
 has_parameters _ = false
 
--- whether such a node may hold, in this field, a node with the other head: parameters stand in functions, and no pattern in the key of a setter
+-- whether such a node may hold, in this field, a node with the other head: parameters stand in
+-- functions, and no pattern in the key of a setter
 abbrev pub may_hold : Head → ℕ → Head → Bool
 may_hold parent field h.Param = has_parameters parent
 may_hold parent field head = cond (is_pattern head) (not (is_setter_key parent field)) true
@@ -32,6 +33,12 @@ may_name parent field _ = true
 -- `AreIn parent items`: whole nodes of statements, which stand in such a node
 pub data AreIn : Head → List Item → Type 0 where
   no_more : {parent : Head} → AreIn parent []
-  a_name : {parent : Head} {field ctxt : ℕ} {x : List ℕ} {role : Role} {rest : List Item} → may_name parent field role ≡ true → AreIn parent rest → AreIn parent (h.Ident field x ctxt role ∷ rest)
-  a_hole : {parent : Head} {field : ℕ} {rest : List Item} → AreIn parent rest → AreIn parent (h.Hole field ∷ rest)
-  a_node : {parent : Head} {field : ℕ} {head : Head} {inside rest : List Item} → is_module_head head ≡ false → may_hold parent field head ≡ true → HasName head inside → AreIn head inside → AreIn parent rest → AreIn parent (h.Open field head ∷ (inside ++ h.Close ∷ rest))
+  a_name : {parent : Head} {field ctxt : ℕ} {x : List ℕ} {role : Role} {rest : List Item} →
+      may_name parent field role ≡ true → AreIn parent rest →
+      AreIn parent (h.Ident field x ctxt role ∷ rest)
+  a_hole : {parent : Head} {field : ℕ} {rest : List Item} → AreIn parent rest →
+      AreIn parent (h.Hole field ∷ rest)
+  a_node : {parent : Head} {field : ℕ} {head : Head} {inside rest : List Item} →
+      is_module_head head ≡ false → may_hold parent field head ≡ true → HasName head inside →
+      AreIn head inside → AreIn parent rest →
+      AreIn parent (h.Open field head ∷ (inside ++ h.Close ∷ rest))

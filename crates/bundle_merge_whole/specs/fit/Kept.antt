@@ -17,7 +17,8 @@ KeepsFit kept = AllByRecursion (λ (entry : Name × Loaded). IsFitModule entry.1
 
 -- what a loader may hand in is fit
 abbrev pub HandsInFit : Answers → Type 0
-HandsInFit answers = (file : Name) (loaded : Loaded) → answers.may_load file loaded → IsFitModule loaded
+HandsInFit answers =
+    (file : Name) (loaded : Loaded) → answers.may_load file loaded → IsFitModule loaded
 
 -- of each module of the program that is reached there is a tree
 abbrev pub HasTrees : Program → Type 0
