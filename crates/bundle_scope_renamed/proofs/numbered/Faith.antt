@@ -2,7 +2,7 @@
 use Rattle.std.proofs.Common.{◌≡◌, ◌<◌, ◌≤◌, ℕ, zero, suc, ◌==◌, nat_le, Bool, true, false, ◌||◌, ◌&&◌, cond, not, List, [], ◌∷◌, ◌++◌, Option, Some, None, option_map, unwrap_or, map, length, refl, ap, ap₂, sym, ◌∙◌, subst, arith, eqb-true, eq-eqb, bytes_eq, codes, string_bytes}
 use Rattle.std.specs.Prelude.{slice_get, option_and_then, MatchBool}
 use Rattle.std.specs.List.{list_any, AllZip}
-use Rattle.std.proofs.lemmas.Bool.{false≢true, and_from, and_parts, false_from_ne_true, le-leb}
+use Rattle.std.proofs.lemmas.Bool.{and_right, false≢true, and_from, and_parts, false_from_ne_true, le-leb}
 use Rattle.std.proofs.lemmas.Option.{none-some, same_Some, slice_get-map, slice_get_within}
 use Rattle.std.proofs.lemmas.List.{length-map}
 use Rattle.std.proofs.lemmas.Slice.Eq.{bytes_eq-Decides}
@@ -291,6 +291,31 @@ module _ (items : List Item) (only : HasNamesOnly items) (table : Denotations) (
       stays o at (AsBefore a free) is = sym-of _ _ a
       stays o at (Under a free written none) is = absurd (false≢true (sym is ∙ written))
       stays o at (Fresh c k a free written some low none is_k is_c) is = absurd (false≢true (sym is ∙ written))
+
+  -- a binding takes its context anew: with its new symbol its own is that of another
+  abbrev pub IsAnew : Occurrence → Type 0
+  IsAnew o = (not (bytes_eq o.sym (call o.sym o.ctxt).0) && has_ident os (call o.sym o.ctxt).0 o.ctxt) ≡ true
+
+  record Anew (o : Occurrence) (at : IsIn os o) : Type 0 where
+    c : ℕ
+    b : ℕ
+    context : (call o.sym o.ctxt).1 ≡ c
+    is_b : (entry-of o at).0.binding ≡ Some b
+    is_c : context_of names b ≡ Some c
+
+  anew : (o : Occurrence) (at : IsIn os o) → IsAnew o → How o (entry-of o at).0 → Anew o at
+  anew o at is (AsBefore a free) = absurd (false≢true (sym (ap (λ v. not v && has_ident os o.sym o.ctxt) ((bytes_eq-Decides o.sym o.sym).1 refl)) ∙ ap (λ (i : Ident). not (bytes_eq o.sym i.0) && has_ident os i.0 o.ctxt) (sym a) ∙ is))
+  anew o at is (Under a free written none) = absurd (false≢true (sym (and_right (not (bytes_eq o.sym (codes "__" ++ o.sym))) (has_ident os (codes "__" ++ o.sym) o.ctxt) (sym (names-os (codes "__" ++ o.sym) o.ctxt start items) ∙ none)) ∙ ap (λ (i : Ident). not (bytes_eq o.sym i.0) && has_ident os i.0 o.ctxt) (sym a) ∙ is))
+  anew o at is (Fresh c b a free written some low none is_b is_c) = record { c = c; b = b; context = (sym-of _ _ a).1; is_b = is_b; is_c = is_c }
+
+  -- contexts that are taken anew tell apart what they are taken for
+  pub apart : (o p : Occurrence) → IsIn os o → IsIn os p → IsAnew o → IsAnew p → (call o.sym o.ctxt).1 ≡ (call p.sym p.ctxt).1 → (o.sym ≡ p.sym) × (o.ctxt ≡ p.ctxt)
+  apart o p at there one two ctxts =
+      let x = anew o at one (how o at) in
+      let y = anew p there two (how p there) in
+      let same_c : x.c ≡ y.c = sym x.context ∙ ctxts ∙ y.context in
+      let same_b : x.b ≡ y.b = contexts.apart x.b y.b y.c (x.is_c ∙ ap (λ z. Some z) same_c) y.is_c in
+      same-ident o p at there (denoted-one y.b (denoted_of ByContext Es all o) (denoted_of ByContext Es all p) (subst (λ z. IsDenoted S B z (denoted_of ByContext Es all o)) (x.is_b ∙ ap (λ z. Some z) same_b) (entry-of o at).2.0.1) (subst (λ z. IsDenoted S B z (denoted_of ByContext Es all p)) y.is_b (entry-of p there).2.0.1))
 
   -- What the rule for keywords says of each occurrence.
 
