@@ -13,7 +13,6 @@ mod given;
 mod merge;
 mod module;
 mod names;
-mod order;
 mod outside;
 mod part;
 

@@ -5,12 +5,12 @@ use crate::error::MergeError;
 use crate::given::names_of;
 use crate::module::{add_module, add_stmt};
 use crate::names::Names;
-use crate::order::sort;
 use crate::outside::{add_external, add_helper};
 use crate::part::BundleParts;
 use bundle_link_targets::Target;
 use bundle_merge_injected::{Pair, export_list, export_star, namespace_object};
-use bundle_order_sort::Block;
+use bundle_order::sorted_numbers;
+use bundle_order_sort::{Block, arrange};
 use bundle_tree_ast::{ExportMetadata, Module};
 use std::alloc::{AllocError, Global};
 
@@ -102,6 +102,12 @@ fn put_block<'a>(
         sort(alloc, its, &owners)?;
     }
     Ok(())
+}
+
+// Puts items into the order in which they are to stand, where each is of the module that is told, or free.
+fn sort(alloc: Global, items: &mut Module, owners: &[Option<usize>]) -> Result<(), AllocError> {
+    let order = sorted_numbers(alloc, &items.body, owners)?;
+    arrange(alloc, &mut items.body, &order)
 }
 
 // Adds the items of the modules of a block.
