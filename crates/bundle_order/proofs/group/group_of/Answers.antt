@@ -16,12 +16,12 @@ loop-number-preserved c = λ same.
     let all = c.args.lists.now in
     let owners = c.args.owners.now in
     let n = c.loop-number.number in
-    let item = c.loop-number-item.result in
+    let item = c.index-lists-number.result in
     let before = map listed (take n all) in
     let less : n < length owners = omega (arith, same, c.loop-number-test.true) in
     let lists : before ++ map item_of c.deref.result.now ∷ [] ≡ map listed (take (n + 1) all) =
     ap (λ (l : List Piece). before ++ map item_of l ∷ []) c.deref.ensures.value
-    ∙ (ap (λ (v : Vec Piece Global). before ++ listed v ∷ []) c.loop-number-item.is
+    ∙ (ap (λ (v : Vec Piece Global). before ++ listed v ∷ []) c.index-lists-number.is
     ∙ (sym (map-append listed (take n all) (get_or all n item ∷ []))
     ∙ ap (λ (l : List (Vec Piece Global)). map listed l) (sym (take_more all n item c.loop-number-test.true)))) in
     let owned : take n owners ++ c.owner_at.result ∷ [] ≡ take (n + 1) owners =
