@@ -13,10 +13,10 @@ use crate::read::{Read, read_module};
 use bundle_link::link::Linker;
 use bundle_link_targets::Linking;
 use bundle_merge_items::{
-    Block, BundleParts, Contexts as Numbers, MergeError, Merged, Part, merge_modules, order_items,
+    BundleParts, Contexts as Numbers, MergeError, Merged, Part, merge_modules,
 };
 use bundle_merge_modules::Modules;
-use bundle_order_sort::plan_of;
+use bundle_order_sort::{Block, plan_of};
 use bundle_scope::scope::Contexts;
 use bundle_tree_ast::Module;
 use bundle_tree_names::{Error, FileName, ModuleId};
@@ -81,7 +81,7 @@ fn joined_of<'a>(
 {
     let reads = read_all(alloc, linker, places, copies)?;
     match merged_of(alloc, linker, &reads, contexts.next()) {
-        Ok(merged) => ordered(alloc, &merged, contexts),
+        Ok(merged) => with_next(merged, contexts),
         Err(MergeError::OutOfMemory) => Err(Error::OutOfMemory),
         Err(MergeError::ContextsUsedUp { .. }) => Err(lack_of_contexts(contexts.file())?),
     }
@@ -111,23 +111,10 @@ fn merged_of<'a, 'x>(
     linker: &Linker<'a>,
     reads: &[Read<'x>],
     next: u32,
-) -> Result<Merged<'x>, MergeError> {
-    let blocks = blocks_of(alloc, linker)?;
-    let linking = linking_of(alloc, linker, reads)?;
-    merged_by(alloc, reads, &linking, &blocks, next)
-}
-
-// The blocks of the modules on the list, by the places of these.
-fn blocks_of<'a>(alloc: Global, linker: &Linker<'a>) -> Result<Vec<Block>, AllocError> {
+) -> Result<Merged, MergeError> {
     let plan = plan_of(alloc, linker.graph(), linker.entry(), linker.list())?;
-    let mut blocks = Vec::new(alloc);
-    for block in &plan.blocks {
-        blocks.push(Block {
-            modules: block.places.to_vec(alloc)?,
-            is_sorted: block.is_cycle,
-        })?;
-    }
-    Ok(blocks)
+    let linking = linking_of(alloc, linker, reads)?;
+    merged_by(alloc, reads, &linking, &plan.blocks, next)
 }
 
 // What the names of these modules stand for.
@@ -143,16 +130,18 @@ fn linking_of<'a, 'x>(
     linker.linking_of(&modules)
 }
 
+// The same, where this is what their names stand for, and these are their blocks.
 fn merged_by<'x>(
     alloc: Global,
     reads: &[Read<'x>],
     linking: &Linking<'x>,
     blocks: &[Block],
     next: u32,
-) -> Result<Merged<'x>, MergeError> {
+) -> Result<Merged, MergeError> {
     let parts = parts_of(alloc, reads)?;
     let bundle = BundleParts {
         parts: &parts,
+        answers: &[],
         linking,
         blocks,
         contexts: Numbers::from_next(next),
@@ -168,23 +157,15 @@ fn parts_of<'t, 'x>(alloc: Global, reads: &'t [Read<'x>]) -> Result<Vec<Part<'t,
     Ok(parts)
 }
 
-// The module of what was merged, in its order, and the next context.
-fn ordered<'x>(
-    alloc: Global,
-    merged: &Merged<'x>,
-    contexts: &Contexts,
-) -> Result<(Module, u32), Error>
+// The module of what was merged, and the next context.
+fn with_next(merged: Merged, contexts: &Contexts) -> Result<(Module, u32), Error>
     ensures given { IfOk result (λ made. contexts.now.next ≤ made.1) }
     ensures refused { IfErr result (IsLack contexts.now.file) }
 {
     match merged.contexts.next() {
-        Some(next) => Ok((module_of(alloc, merged)?, next.max(contexts.next()))),
+        Some(next) => Ok((merged.module, next.max(contexts.next()))),
         None => Err(lack_of_contexts(contexts.file())?),
     }
-}
-
-fn module_of<'x>(alloc: Global, merged: &Merged<'x>) -> Result<Module, AllocError> {
-    order_items(alloc, merged)?.module(alloc, merged, &[])
 }
 
 // That the contexts of a file do not suffice.

@@ -10,7 +10,7 @@ use bundle_link::link::{Linker, TransformedModule};
 use bundle_link_reached::leads_of;
 use bundle_link_tables::Tables;
 use bundle_link_targets::LinkModule;
-use bundle_merge_items::{Meta, Part};
+use bundle_merge_items::Part;
 use bundle_scope_denote::{Denotations, ModuleKind, Reading, denotations};
 use bundle_tree_ast::{Module, ModuleItem};
 use bundle_tree_leaf::MetaPropKind;
@@ -53,10 +53,6 @@ impl<'x> Read<'x> {
 
     /// The module as one that is merged.
     pub(crate) fn part<'t>(&'t self) -> Part<'t, 'x> {
-        let meta = match self.own.written {
-            Some(name) => Some(Meta::Written(name)),
-            None => None,
-        };
         Part {
             items: self.own.items,
             pieces: &self.own.pieces,
@@ -64,7 +60,7 @@ impl<'x> Read<'x> {
             tables: &self.tables,
             leads: &self.leads,
             local: self.local,
-            meta,
+            written: self.own.written,
         }
     }
 }

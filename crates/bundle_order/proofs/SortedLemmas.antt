@@ -53,6 +53,18 @@ drawn items (p ∷ places) within =
 group-same : (lists : List (List Item)) (owners : List (Option ℕ)) (xs : List ModuleItem) → map list_of xs ≡ lists → group_placed lists owners ≡ group_of_items (flat lists) owners
 group-same lists owners xs e = subst (λ (l : List (List Item)). group_placed l owners ≡ group_of_items (flat l) owners) e (ap (λ (l : List (List Item)). group_of ByContext Top (tree_of_items (flat (map list_of xs))) (placed 1 l) owners) (sym (whole xs)))
 
+-- ---- items with their modules, in a good order of what they need
+pub IsGoodOrder-items : (items : List ModuleItem) (owners : List (Option ℕ)) (needs : List SortItem)
+    (numbers : List ℕ) →
+    AreFound (group_placed (map (module_item_items 0) items) owners) (map dependencies_of needs) →
+    map owner_of needs ≡ owners →
+    AreTogether owners →
+    i.IsGoodOrder needs numbers →
+    IsGoodOrder (group_of_items (flat (map (module_item_items 0) items)) owners) numbers
+IsGoodOrder-items items owners needs numbers found owned together good =
+    subst (λ (g : Group). IsGoodOrder g numbers) (group-same (map list_of items) owners items refl)
+    (IsGoodOrder-of_group (group_placed (map list_of items) owners) needs found owned together numbers good)
+
 -- ---- what stands at a place
 point : (lists : List (List Item)) (places : List Place) (n : ℕ) → n < length places → ((p : ℕ) → Contains (map at_of places) p → p < length lists) → option_map first_of (slice_get (map (numbered_at lists) places) n) ≡ slice_get lists (get_or (map at_of places) n 0)
 point lists [] n l within = absurd (omega (arith, l))

@@ -5,11 +5,15 @@ ghost use Rattle.std.specs.List.{flat_map};
 ghost use Rattle.bundle_tree_ast.specs.declared.module.ModuleItem.{ModuleItem};
 ghost use Rattle.bundle_tree_piece.specs.Item.{Item, item_of};
 ghost use Rattle.bundle_tree_listed.specs.Tree.{module_item_items};
+ghost use Rattle.bundle_rules.specs.Order.{IsGoodOrder};
+ghost use Rattle.bundle_rules.specs.Sorting.{flat, group_of_items};
 ghost use Rattle.bundle_order.specs.Numbering.{IsOwnOrder, IsSortedBy, owners_of};
+ghost use Rattle.bundle_order.specs.Owned.{AreTogether};
 
-use crate::group::group_at;
+use crate::group::{group_at, group_of, lists_of};
 use crate::number::{ats_of, places_by, places_of};
 use bundle_order_sort::sort_items;
+use bundle_tree_ast::ModuleItem;
 use bundle_tree_piece::Piece;
 use std::alloc::{AllocError, Global};
 
@@ -33,6 +37,26 @@ pub fn sorted_places<'a>(
     let needs = group.dependencies(alloc)?;
     let numbers = sort_items(alloc, &needs)?;
     let order = places_by(alloc, &places, &numbers)?;
+    Ok(order)
+}
+
+/// The numbers of items in the order in which they are to stand, where each is of the module that is told, or free. The
+/// caller sees to it that the items of a module stand together. Refused only where memory runs out.
+pub fn sorted_numbers(
+    alloc: Global,
+    items: &[ModuleItem],
+    owners: &[Option<usize>],
+) -> Result<Vec<usize>, AllocError>
+    ensures { IfOk result (λ order.
+        length owners.now ≡ length items.now →
+        AreTogether owners.now →
+        IsGoodOrder (group_of_items (flat (map (module_item_items 0) items.now)) owners.now)
+        order.items) }
+{
+    let lists = lists_of(alloc, items)?;
+    let group = group_of(alloc, &lists, owners)?;
+    let needs = group.dependencies(alloc)?;
+    let order = sort_items(alloc, &needs)?;
     Ok(order)
 }
 

@@ -1,6 +1,6 @@
 //! Items that are to stand in one order: their list as that of a module, and where each stands in it.
 
-ghost use Rattle.std.specs.Prelude.{◌≡◌, ℕ, ◌+◌, ◌<◌, ◌++◌, ◌∷◌, [], All, IfOk, List, OnOk, Option, length, map, slice_range};
+ghost use Rattle.std.specs.Prelude.{◌≡◌, ℕ, ◌+◌, ◌<◌, ◌++◌, ◌∷◌, [], All, IfOk, List, OnOk, Option, length, map, slice_get, slice_range, unwrap_or};
 ghost use Rattle.bundle_tree_piece.specs.Item.{Item, item_of};
 ghost use Rattle.bundle_tree_listed.specs.Tree.{module_item_items};
 ghost use Rattle.bundle_order_needs.specs.Found.{AreFound};
@@ -97,6 +97,30 @@ pub(crate) fn group_at<'a>(
         group.add(&lists[place.at], place.owner)?;
     }
     Ok(group)
+}
+
+/// The items with these lists, each of the module that is told, or free.
+pub(crate) fn group_of<'a>(
+    alloc: Global,
+    lists: &[Vec<Piece<'a>>],
+    owners: &[Option<usize>],
+) -> Result<Group<'a>, AllocError>
+    ensures { IfOk result (λ group.
+        length owners.now ≡ length lists.now →
+        IsGroup group (map (λ v. map item_of v.items) lists.now) owners.now) }
+{
+    let mut group = Group::new(alloc)?;
+    for (number, list) in lists.iter().enumerate() {
+        group.add(list, owner_at(owners, number))?;
+    }
+    Ok(group)
+}
+
+// The module of the item with this number. Where none is told, it is free.
+fn owner_at(owners: &[Option<usize>], number: usize) -> Option<usize>
+    ensures { result ≡ unwrap_or (slice_get owners.now number) None }
+{
+    owners.get(number).copied().unwrap_or(None)
 }
 
 /// The list of each of these items.

@@ -8,5 +8,5 @@ mod number;
 pub mod sort;
 mod sorting;
 
-pub use block::{own_places, sorted_places};
+pub use block::{own_places, sorted_numbers, sorted_places};
 pub use bundle_order_graph::graph;

@@ -44,17 +44,6 @@ on_list p list i m is_list at =
       ]
     ]
 
--- so a program without a fault has no first one
-pub none_first : (p : Program) (fault : Fault) → IsFaultlessProgram p → IsFirstProgramFault p fault → ⊥
-none_first p fault faultless its =
-    faultless its.m its.stage its.place its.file fault (on_list p its.list its.i its.m its.is_list its.stands.listed) its.there
-
--- A refusal that tells of no fault is for memory.
-pub merging_none : (unlinked : Unlinked) → IfSome (fault_of (error_of unlinked)) (λ fault. ⊥) → MayBeMerging unlinked
-merging_none u.OutOfMemory none = tt
-merging_none (u.ContextsUsedUp file) none = tt
-merging_none _ none = absurd none
-
 -- What the hook answers.
 
 module _ (may_give : Name → Bool → List (KeyValueProp Expr) → Type 0) (may_fail : Name → Bool → Type 0) (p : Program) where

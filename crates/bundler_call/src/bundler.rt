@@ -6,7 +6,7 @@ ghost use Rattle.bundle_tree_names.specs.FileName.{name_of};
 ghost use Rattle.bundle_rules.specs.Faults.{DoubledEntry, fault_of};
 ghost use Rattle.bundle_rules.specs.Entries.{Settings};
 ghost use Rattle.bundle_rules.specs.Judging.{Completes, Grows, NumbersEach};
-ghost use Rattle.bundle_rules.specs.Kept.{nothing_kept, Stays};
+ghost use Rattle.bundle_rules.specs.Kept.{nothing_kept, Kept, Stays};
 ghost use Rattle.bundler_call.specs.Bundler.{config_of, files_of, hook_of, kept_by, loader_of, parties_held, resolver_of, settings_held, HasNumber};
 ghost use Rattle.bundler_call.specs.Judged.{Ends, AreApart, IsBundledFor, IsFaultOfList, IsRefusedBy};
 ghost use Rattle.bundler_call.specs.Kept.{entry_of, kept_of, settings_of};
@@ -14,6 +14,7 @@ ghost use Rattle.bundler_call.specs.Library.{IsToldOf, MovesOn};
 ghost use Rattle.bundler_call.specs.Linking.{answered_by, IsLoaded, IsNumberedOn, IsReadOf, IsRefusalOfEntries};
 ghost use Rattle.bundler_call.specs.Loading.{files_on, AreMet, AreNumbered, AreSound};
 ghost use Rattle.bundler_call.specs.Refusal.{IsRefusedLoading};
+ghost use Rattle.bundler_call.specs.declared.load.LoadList.{LoadList};
 
 use crate::bundle::{Bundle, BundleKind};
 use crate::library::Library;
@@ -197,33 +198,28 @@ fn linked_bundles<L: Load + Drop, R: Resolve + Drop>(
         (settings_of config.now) (kept_of library.now.kept) (map entry_of entries.items) unlinked) }
 {
     let program = program_on(library, alloc, list, config)?;
-    bundles_of(alloc, library, list, &program, config, hook, entries, ids)
+    bundles_of(alloc, &program, config, hook, entries, ids)
 }
 
 // The same, given what the files say.
-fn bundles_of<'x, L: Load + Drop, R: Resolve + Drop>(
+fn bundles_of<'x>(
     alloc: Global,
-    library: &Library<L, R>,
-    list: &LoadList,
     program: &Program<'x>,
     config: &Config,
     hook: &dyn Hook,
     entries: Vec<(String, FileName)>,
     ids: Vec<ModuleId>,
 ) -> Result<Vec<Bundle>, Unlinked>
-    requires { AreSound (kept_of library.now.kept) (files_on list.now) }
-    ensures bundles { IfOk result (λ bundles.
-        IsReadOf (settings_of config.now) (kept_of library.now.kept) list.now program.now →
-        AllZip (IsNumberedOn (kept_of library.now.kept) list.now) entries.items ids.items →
-        AllZip
-        (IsBundledFor (answered_by (may_give hook.now) (may_fail_hook hook.now))
-        (settings_of config.now) (kept_of library.now.kept))
-        entries.items bundles.items) }
-    ensures refused { IfErr result (λ unlinked.
-        IsReadOf (settings_of config.now) (kept_of library.now.kept) list.now program.now →
-        AllZip (IsNumberedOn (kept_of library.now.kept) list.now) entries.items ids.items →
+    ensures bundles { IfOk result (λ bundles. (kept : Kept) (list : LoadList) →
+        IsReadOf (settings_of config.now) kept list program.now →
+        AllZip (IsNumberedOn kept list) entries.items ids.items →
+        AllZip (IsBundledFor (answered_by (may_give hook.now) (may_fail_hook hook.now))
+        (settings_of config.now) kept) entries.items bundles.items) }
+    ensures refused { IfErr result (λ unlinked. (kept : Kept) (list : LoadList) →
+        IsReadOf (settings_of config.now) kept list program.now →
+        AllZip (IsNumberedOn kept list) entries.items ids.items →
         IsRefusalOfEntries (answered_by (may_give hook.now) (may_fail_hook hook.now))
-        (settings_of config.now) (kept_of library.now.kept) (map entry_of entries.items) unlinked) }
+        (settings_of config.now) kept (map entry_of entries.items) unlinked) }
 {
     let mut bundles = Vec::new(alloc);
     for (entry, id) in entries.into_iter().zip(ids) {
@@ -233,7 +229,7 @@ fn bundles_of<'x, L: Load + Drop, R: Resolve + Drop>(
             config,
             entry: &file,
         };
-        let module = module_on(alloc, library, list, &call, hook, id)?;
+        let module = module_on(alloc, &call, hook, id)?;
         let kind = BundleKind::Named { name };
         bundles.push(Bundle { kind, id, module })?;
     }

@@ -29,24 +29,12 @@ pub struct Answer {
     properties: Vec<KeyValueProp>,
 }
 
-/// The module of an entry that has no fault, of whose modules none asked the hook.
+/// The module of an entry that has no fault, where this is what the hook answered.
 pub fn module_of<'p, 'x>(
     alloc: Global,
     call: &Call<'p, 'x>,
     linked: &Linked<'x>,
-) -> Result<Module, Unlinked>
-    ensures { IfErr result MayBeMerging }
-{
-    let none = Vec::new(alloc);
-    made(alloc, call, linked, none.as_slice())
-}
-
-/// The module of an entry that has no fault, with what the hook answered, which is lent as long as what was read.
-pub fn module_with_answers<'p, 'x>(
-    alloc: Global,
-    call: &Call<'p, 'x>,
-    linked: &Linked<'x>,
-    answers: &'x [Answer],
+    answers: &[Answer],
 ) -> Result<Module, Unlinked>
     ensures { IfErr result MayBeMerging }
 {

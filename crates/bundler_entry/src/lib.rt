@@ -2,7 +2,6 @@
 //! answers, and the module that stands for all of them.
 #![tactic(auto)]
 
-mod blocks;
 mod call;
 mod entry;
 mod fault;
@@ -14,7 +13,7 @@ mod source;
 mod unlinked;
 
 pub use call::Call;
-pub use entry::{Answer, ask_all, module_of, module_with_answers};
+pub use entry::{Answer, ask_all, module_of};
 pub use linked::{Linked, linked_entry};
 pub use source::{Program, Source, program_of, source_of};
 pub use unlinked::Unlinked;

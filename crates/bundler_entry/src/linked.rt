@@ -8,7 +8,6 @@ ghost use Rattle.bundle_link_reached.specs.Judged.{says};
 ghost use Rattle.bundler_entry.specs.Linked.{AreLists, AreParts, HasPlaces, IsCallOf, IsLinkedEntry, IsPartAt, IsReachedIn, TellsFileAt, ids_of};
 ghost use Rattle.bundler_entry.specs.Unlinked.{error_of};
 
-use crate::blocks::blocks_of;
 use crate::call::{Call, file_at};
 use crate::fault::{doubled_refusal, link_refusal};
 use crate::source::Source;
@@ -16,17 +15,18 @@ use crate::unlinked::Unlinked;
 use bundle_link::link::setting_of;
 use bundle_link_reached::{Reached, Told, judged, reached_from};
 use bundle_link_targets::{LinkModule, Linking};
-use bundle_merge_items::Block;
+use bundle_order_sort::{Plan, plan_of};
 use bundle_tree_names::ModuleId;
 use bundle_tree_names::file_name::FileName;
 use bundle_tree_piece::Piece;
 use std::alloc::{AllocError, Global};
 
-/// The modules that an entry reaches, what their names are linked to, and the blocks of those that reach each other.
+/// The modules that an entry reaches, what their names are linked to, and the blocks of those that reach each other,
+/// whose places are those of the modules on the list.
 pub struct Linked<'x> {
     pub(crate) reached: Reached,
     pub(crate) linking: Linking<'x>,
-    pub(crate) blocks: Vec<Block>,
+    pub(crate) plan: Plan,
 }
 
 // By hand, so that who lets go of one only calls this.
@@ -35,7 +35,7 @@ impl<'x> Drop for Linked<'x> {
         let Linked {
             reached: _reached,
             linking: _linking,
-            blocks: _blocks,
+            plan: _plan,
         } = self;
     }
 }
@@ -56,11 +56,11 @@ pub fn linked_entry<'p, 'x>(
     let files = &call.program.files;
     let reached = reached_from(alloc, files, entry)?;
     let linking = linking_of(alloc, call, &reached)?;
-    let blocks = blocks_of(alloc, &files.graph, entry, &reached.list)?;
+    let plan = plan_of(alloc, &files.graph, entry, &reached.list)?;
     Ok(Linked {
         reached,
         linking,
-        blocks,
+        plan,
     })
 }
 

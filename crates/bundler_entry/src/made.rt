@@ -11,7 +11,7 @@ use crate::unlinked::Unlinked;
 use bundle_link_reached::Reached;
 use bundle_link_targets::Linking;
 use bundle_merge_items::{
-    Answered, BundleParts, Contexts, MergeError, Merged, Meta, Part, local_context, merge_modules,
+    Answered, BundleParts, Contexts, MergeError, Merged, Part, local_context, merge_modules,
 };
 use bundle_scope_denote::{Denotations, ModuleKind, Reading, denotations};
 use bundle_tree_ast::Module;
@@ -40,51 +40,63 @@ fn read_common_js<'p, 'x>(
     Ok(kinds)
 }
 
-/// The module that all modules make.
-pub fn made<'t, 'p: 't, 'x>(
+/// The module that all modules make, where this is what the hook answered, by their numbers.
+pub fn made<'p, 'x, 'h>(
     alloc: Global,
     call: &Call<'p, 'x>,
-    linked: &'t Linked<'x>,
-    metas: &'t [Option<ReadMeta<'x>>],
+    linked: &Linked<'x>,
+    metas: &[Option<ReadMeta<'h>>],
 ) -> Result<Module, Unlinked>
     ensures { IfErr result MayBeMerging }
 {
     let (reached, linking) = (&linked.reached, &linked.linking);
     let kinds = read_common_js(alloc, call, reached, linking)?;
     let merged = merged_of(alloc, call, linked, kinds.as_slice(), metas)?;
-    Ok(finished(alloc, &merged, call.config)?)
+    finished(alloc, &merged.module, call.config)
 }
 
 // The items that all modules make, where these are the names of the CommonJS ones.
-fn merged_of<'t, 'p: 't, 'x>(
+fn merged_of<'t, 'p: 't, 'x, 'h>(
     alloc: Global,
     call: &Call<'p, 'x>,
     linked: &'t Linked<'x>,
     kinds: &'t [Option<Denotations<'x>>],
-    metas: &'t [Option<ReadMeta<'x>>],
-) -> Result<Merged<'x>, Unlinked>
+    metas: &'t [Option<ReadMeta<'h>>],
+) -> Result<Merged, Unlinked>
     ensures { IfErr result MayBeMerging }
 {
-    let reached = &linked.reached;
-    let mut parts = Vec::new(alloc);
-    for (module, leads) in reached.leads.iter().enumerate() {
-        if let Some(part) = part_of(call, reached, module, leads, kinds, metas) {
-            parts.push(part)?;
-        }
-    }
+    let parts = parts_of(alloc, call, &linked.reached, kinds)?;
+    let answers = answers_of(alloc, metas)?;
     let bundle = BundleParts {
         parts: parts.as_slice(),
+        answers: answers.as_slice(),
         linking: &linked.linking,
-        blocks: linked.blocks.as_slice(),
+        blocks: linked.plan.blocks.as_slice(),
         contexts: Contexts::above(call.program.count),
     };
     match merge_modules(alloc, &bundle) {
         Ok(merged) => Ok(merged),
         Err(MergeError::OutOfMemory) => Err(Unlinked::OutOfMemory),
         Err(MergeError::ContextsUsedUp { module }) => {
-            Err(contexts_refusal(call, reached, module)?)
+            Err(contexts_refusal(call, &linked.reached, module)?)
         }
     }
+}
+
+// The modules as they are merged.
+fn parts_of<'t, 'p: 't, 'x>(
+    alloc: Global,
+    call: &Call<'p, 'x>,
+    reached: &'t Reached,
+    kinds: &'t [Option<Denotations<'x>>],
+) -> Result<Vec<Part<'t, 'x>>, AllocError> {
+    let mut parts = Vec::new(alloc);
+    for (module, leads) in reached.leads.iter().enumerate() {
+        if let Some(part) = part_of(call, reached, module, leads, kinds) {
+            parts.push(part)?;
+        }
+    }
+    Ok(parts)
 }
 
 // A module as it is merged with others.
@@ -94,7 +106,6 @@ fn part_of<'t, 'p: 't, 'x>(
     module: usize,
     leads: &'t IndexMap<String, usize>,
     kinds: &'t [Option<Denotations<'x>>],
-    metas: &'t [Option<ReadMeta<'x>>],
 ) -> Option<Part<'t, 'x>> {
     let source = source_at(call, reached, module)?;
     let (_, id) = file_at(call, reached, module)?;
@@ -109,19 +120,30 @@ fn part_of<'t, 'p: 't, 'x>(
         tables: &source.tables,
         leads,
         local: local_context(id.as_u32()),
-        meta: meta_at(metas, module),
+        written: None,
     })
 }
 
-// What `import.meta` holds in a module, if something does.
-fn meta_at<'t, 'x>(metas: &'t [Option<ReadMeta<'x>>], module: usize) -> Option<Meta<'t, 'x>> {
-    match metas.get(module) {
-        Some(Some(meta)) => Some(Meta::Answered(Answered {
+// What the hook answered, as it is merged.
+fn answers_of<'t, 'h>(
+    alloc: Global,
+    metas: &'t [Option<ReadMeta<'h>>],
+) -> Result<Vec<Option<Answered<'t, 'h>>>, AllocError> {
+    let mut answers = Vec::new(alloc);
+    for meta in metas {
+        answers.push(answer_of(meta))?;
+    }
+    Ok(answers)
+}
+
+fn answer_of<'t, 'h>(meta: &'t Option<ReadMeta<'h>>) -> Option<Answered<'t, 'h>> {
+    match meta {
+        Some(meta) => Some(Answered {
             properties: meta.properties,
             pieces: meta.pieces.as_slice(),
             denotations: &meta.names,
-        })),
-        _ => None,
+        }),
+        None => None,
     }
 }
 

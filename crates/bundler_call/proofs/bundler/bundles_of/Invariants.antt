@@ -1,8 +1,10 @@
 -- The bundles so far are those of the entries that were passed; and what is left is counted.
 use Rattle.std.proofs.Common.{◌≡◌, length}
 use Rattle.std.specs.List.{AllZip}
-use Rattle.bundler_call.specs.Kept.{kept_of, settings_of}
+use Rattle.bundle_rules.specs.Kept.{Kept}
+use Rattle.bundler_call.specs.Kept.{settings_of}
 use Rattle.bundler_call.specs.Linking.{answered_by, IsNumberedOn, IsReadOf}
+use Rattle.bundler_call.specs.declared.load.LoadList.{LoadList}
 use Rattle.bundler_call.proofs.Bundling.{AreMadeSoFar}
 use Rattle.bundler_call.proofs.bundler.bundles_of.Given as goal
 
@@ -10,5 +12,5 @@ abbrev pub invariant-loop-entry : goal.invariant-loop-entry
 invariant-loop-entry g l =
     (length l.entry-iterator.a.rest.items ≡ l.entry-iterator.a.rest.len)
     × (length l.entry-iterator.b.rest.items ≡ l.entry-iterator.b.rest.len)
-    × (IsReadOf (settings_of l.config) (kept_of l.library.kept) l.list l.program → AllZip (IsNumberedOn (kept_of l.library.kept) l.list) l.fn.entries.items l.fn.ids.items
-    → AreMadeSoFar (answered_by ((goal.Hook-dyn g l.hook.now).may_give l.hook.now.1) ((goal.Hook-dyn g l.hook.now).may_fail_hook l.hook.now.1)) (settings_of l.config) (kept_of l.library.kept) l.list l.fn.entries.items l.entry-iterator.a.rest.items l.entry-iterator.b.rest.items l.bundles.items)
+    × ((kept : Kept) (list : LoadList) → IsReadOf (settings_of l.config) kept list l.program → AllZip (IsNumberedOn kept list) l.fn.entries.items l.fn.ids.items
+    → AreMadeSoFar (answered_by ((goal.Hook-dyn g l.hook.now).may_give l.hook.now.1) ((goal.Hook-dyn g l.hook.now).may_fail_hook l.hook.now.1)) (settings_of l.config) kept list l.fn.entries.items l.entry-iterator.a.rest.items l.entry-iterator.b.rest.items l.bundles.items)

@@ -7,9 +7,9 @@ returns-in_err-linking-clause-refused c =
     let q = err_from_is_err_and c.from_residual-in_err-linking.result c.from_residual-in_err-linking.ensures.1 in
     rw (q.1, q.2) (λ p w. c.in_err-linking.ensures.refused p c.args.entry w (c.in_ok-reached.ensures p w.program.files w.begins w.there))
 
-pub returns-in_err-blocks-clause-refused : goal.returns-in_err-blocks-clause-refused
-returns-in_err-blocks-clause-refused c =
-    let q = err_from_is_err_and c.from_residual-in_err-blocks.result c.from_residual-in_err-blocks.ensures.1 in
+pub returns-in_err-plan-clause-refused : goal.returns-in_err-plan-clause-refused
+returns-in_err-plan-clause-refused c =
+    let q = err_from_is_err_and c.from_residual-in_err-plan.result c.from_residual-in_err-plan.ensures.1 in
     rw (q.1, q.2) (λ p w. tt)
 
 pub returns-clause-linked : goal.returns-clause-linked

@@ -1,0 +1,81 @@
+//! What comes in: the modules of a bundle as they were read, what linking tells of them, and what the hook answered.
+
+use crate::context::Contexts;
+use bundle_link_tables::Tables;
+use bundle_link_targets::Linking;
+use bundle_order_sort::Block;
+use bundle_scope_denote::Denotations;
+use bundle_tree_ast::{KeyValueProp, ModuleItem};
+use bundle_tree_piece::Piece;
+use bundle_tree_places::Name;
+use indexmap::IndexMap;
+
+/// A module of a bundle, as it was read. The modules of a bundle are numbered by their places in its list, the entry
+/// last.
+#[derive(Clone, Copy)]
+pub struct Part<'t, 'a> {
+    /// Its items; in front of its own may be the statement that holds its `import.meta`.
+    pub items: &'a [ModuleItem],
+    /// Its list, and what each occurrence in it denotes by its symbol, read as the kind of module that it is.
+    pub pieces: &'t [Piece<'a>],
+    pub denotations: &'t Denotations<'a>,
+    pub tables: &'t Tables<'a>,
+    /// The modules to which its requests lead, by their texts.
+    pub leads: &'t IndexMap<String, usize>,
+    /// The context of the names of its top.
+    pub local: u32,
+    /// The name that the first of its items declares, where that is a statement which holds its `import.meta` already
+    /// and stands in no list.
+    pub written: Option<Name<'a>>,
+}
+
+impl<'t, 'a> Part<'t, 'a> {
+    /// The statement that holds its `import.meta`, if it is there already.
+    pub(crate) fn written_items(&self) -> &'a [ModuleItem] {
+        match self.written {
+            Some(_) => self.items.get(..1).unwrap_or(&[]),
+            None => &[],
+        }
+    }
+
+    /// The items that are its own.
+    pub(crate) fn own_items(&self) -> &'a [ModuleItem] {
+        match self.written {
+            Some(_) => self.items.get(1..).unwrap_or(&[]),
+            None => self.items,
+        }
+    }
+}
+
+/// The properties of an `import.meta`, with the list of a module of one statement, an object that has them, and what
+/// its occurrences denote.
+#[derive(Clone, Copy)]
+pub struct Answered<'t, 'h> {
+    pub properties: &'h [KeyValueProp],
+    pub pieces: &'t [Piece<'h>],
+    pub denotations: &'t Denotations<'h>,
+}
+
+/// What a bundle is made of: its modules in the order of its list, the entry last; what the hook answered for them, if
+/// something, by their numbers; what their names are linked to; the blocks in their order, whose places are numbers of
+/// modules; and the contexts that are free.
+#[derive(Clone, Copy)]
+pub struct BundleParts<'t, 'a, 'h> {
+    pub parts: &'t [Part<'t, 'a>],
+    pub answers: &'t [Option<Answered<'t, 'h>>],
+    pub linking: &'t Linking<'a>,
+    pub blocks: &'t [Block],
+    pub contexts: Contexts,
+}
+
+impl<'t, 'a, 'h> BundleParts<'t, 'a, 'h> {
+    /// Whether some module is CommonJS.
+    pub(crate) fn has_common_js(&self) -> bool {
+        (0..self.parts.len()).any(|module| self.linking.is_common_js(module))
+    }
+
+    /// What the hook answered for a module, if something.
+    pub(crate) fn answer(&self, module: usize) -> Option<Answered<'t, 'h>> {
+        self.answers.get(module).copied().unwrap_or(None)
+    }
+}

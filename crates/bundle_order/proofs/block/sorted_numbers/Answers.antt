@@ -1,0 +1,28 @@
+-- The order is good for what the items need, and so for the items.
+use Rattle.std.proofs.Common.{◌≡◌, ◌∙◌, Vec, Global, List, length, map, ap, subst, arith}
+use Rattle.bundle_tree_ast.specs.declared.module.ModuleItem.{ModuleItem}
+use Rattle.bundle_tree_piece.specs.declared.piece.Piece.{Piece}
+use Rattle.bundle_tree_piece.specs.Item.{Item, item_of}
+use Rattle.bundle_tree_listed.specs.Tree.{module_item_items}
+use Rattle.bundle_order_sort.specs.declared.SortItem.{SortItem}
+use Rattle.bundle_order_sort.specs.Items.{IsGoodOrder}
+use Rattle.bundle_order.specs.Grouped.{IsGroup}
+use Rattle.bundle_order.proofs.SortedLemmas.{IsGoodOrder-items}
+use Rattle.bundle_order.proofs.block.sorted_numbers.Goals as goal
+
+abbrev listed : Vec Piece Global → List Item
+listed v = map item_of v.items
+
+pub returns : goal.returns
+returns c = λ long together.
+    let items = c.args.items.now in
+    let trees = map (module_item_items 0) items in
+    let owners = c.args.owners.now in
+    let needs = c.in_ok-needs.needs.items in
+    let order = c.in_ok-order.order.items in
+    let lists = c.deref.result.now in
+    let same : map listed lists ≡ trees = ap (λ (l : List (Vec Piece Global)). map listed l) c.deref.ensures.value ∙ c.in_ok-lists.ensures.lists in
+    let count : length owners ≡ length lists = omega (arith, long, ap length c.deref.ensures.value, c.in_ok-lists.ensures.len) in
+    let group = subst (λ (l : List (List Item)). IsGroup c.in_ok-group.group l owners) same (c.in_ok-group.ensures count) in
+    IsGoodOrder-items items owners needs order (c.in_ok-needs.ensures.found trees owners group) (c.in_ok-needs.ensures.owned trees owners group) together
+    (subst (λ (l : List SortItem). IsGoodOrder l order) c.deref-2.ensures.value c.in_ok-order.ensures)
