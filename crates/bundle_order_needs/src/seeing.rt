@@ -14,7 +14,7 @@ ghost use Rattle.bundle_order_needs.specs.Cut.{seen_by, top_in};
 ghost use Rattle.bundle_order_needs.specs.Numbered.{numbered_mention};
 ghost use Rattle.bundle_order_needs.specs.Told.{no_told};
 ghost use Rattle.bundle_order_needs.specs.declared.told.Told as the_told;
-ghost use Rattle.bundle_order_needs.specs.Seconds.{AreSeconds};
+ghost use Rattle.bundle_tree_places.specs.Seconds.{AreSeconds};
 ghost use Rattle.bundle_order_needs.specs.Open.{AreOpen, IsOpen, IsSpot, no_value_at};
 
 use crate::Seen;

@@ -9,17 +9,17 @@ ghost use Rattle.bundle_order_needs.specs.Cut.{cut_items, seen_of_item};
 ghost use Rattle.bundle_order_needs.specs.Numbered.{numbered_row};
 ghost use Rattle.bundle_order_needs.specs.Told.{no_told, told_at};
 ghost use Rattle.bundle_order_needs.specs.declared.told.Told as the_told;
-ghost use Rattle.bundle_order_needs.specs.Seconds.{AreSeconds};
+ghost use Rattle.bundle_tree_places.specs.Seconds.{AreSeconds};
 ghost use Rattle.bundle_order_needs.specs.Open.{AreOpen};
 
 use crate::Seen;
 use crate::needs::ItemRange;
-use crate::seconds::seconds_of;
 use crate::seeing::{frame_at, seen_here};
 use crate::spot::Frame;
 use crate::told::{Told, told_places};
 use bundle_scope_denote::Denotations;
 use bundle_tree_piece::Piece;
+use bundle_tree_places::seconds::seconds_of;
 use std::alloc::{AllocError, Global};
 
 /// Those of a list, whose top bindings are those of the scope `top`, item by item.

@@ -7,7 +7,7 @@ use Rattle.bundle_rules.specs.Places.{Spot, path_past, occurrence_of, occurrence
 use Rattle.bundle_rules.proofs.PlacesLemmas.{spot_before-next}
 use Rattle.bundle_order_needs.specs.declared.seen.Seen.{Seen}
 use Rattle.bundle_order_needs.specs.declared.spot.Frame.{Frame}
-use Rattle.bundle_order_needs.specs.Seconds.{AreSeconds}
+use Rattle.bundle_tree_places.specs.Seconds.{AreSeconds}
 use Rattle.bundle_order_needs.specs.Told.{no_told}
 use Rattle.bundle_order_needs.specs.Open.{AreOpen}
 use Rattle.bundle_order_needs.specs.Cut.{seen_among, seen_by}
