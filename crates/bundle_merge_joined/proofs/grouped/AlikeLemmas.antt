@@ -12,7 +12,7 @@ use Rattle.bundle_merge_joined.specs.grouped.Alike.{DenoteOne, Share, OwnersAlik
 
 -- ---- two lists in turn, the other way round
 module _ {X Y : Type 0} (R : X → Y → Type 0) where
-  pub zip-flip : (xs : List X) (ys : List Y) (S : Y → X → Type 0) →
+  zip-flip : (xs : List X) (ys : List Y) (S : Y → X → Type 0) →
       ((x : X) (y : Y) → R x y → S y x) → AllZip R xs ys → AllZip S ys xs
   zip-flip [] [] S turns z = tt
   zip-flip [] (v ∷ ys) S turns z = absurd z
@@ -243,8 +243,8 @@ module _ (g h : Group) (alike : GroupsAlike g h) where
 module _ (g h : Group) (alike : GroupsAlike g h) where
   pub SetsUp-alike : (t b c : ℕ) → StandsFor g h b c → SetsUp g t b ↔ SetsUp h t c
   SetsUp-alike t b c r =
-      (sets_up-to g h alike b c r t, sets_up-to h g (alike-sym g h alike) c b
-          (stands-sym g h b c r) t)
+      (sets_up-to g h alike b c r t,
+          sets_up-to h g (alike-sym g h alike) c b (stands-sym g h b c r) t)
 
   pub Depends-alike : (s t : ℕ) → Depends g s t ↔ Depends h s t
   Depends-alike s t = (depends-to g h alike s t, depends-to h g (alike-sym g h alike) s t)

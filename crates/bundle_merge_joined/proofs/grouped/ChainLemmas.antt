@@ -46,8 +46,8 @@ pub finished-good_order : (f : ℕ) (inside free_inside named : List Item) →
     AllZip (AtOne (node f h.Module inside) (node f h.Module free_inside)) merged frees →
     AllZip (AtOne (node f h.Module free_inside) named) frees nameds →
     (owners its_owners : List (Option ℕ)) → OwnersAlike owners its_owners → (order : List ℕ) →
-    IsGoodOrder (group_of_items all owners) order ↔ IsGoodOrder
-        (group_of BySymbol Top named nameds its_owners) order
+    IsGoodOrder (group_of_items all owners) order
+        ↔ IsGoodOrder (group_of BySymbol Top named nameds its_owners) order
 finished-good_order f inside free_inside named is all whole merged frees nameds stand free name
     owners its_owners of_one order =
     let first = merged-good_order all (node f h.Module inside) whole is.resolved is.ways is.own

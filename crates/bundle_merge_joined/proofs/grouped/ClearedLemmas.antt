@@ -54,8 +54,8 @@ nothing-map [] = refl
 nothing-map (node ∷ more) = refl
 
 pub nothing_at : (items : List Item) (place : ℕ) →
-    is_nothing (in_field 1 (node_at (cleared items) place)) ≡ is_nothing
-        (in_field 1 (node_at items place))
+    is_nothing (in_field 1 (node_at (cleared items) place))
+        ≡ is_nothing (in_field 1 (node_at items place))
 nothing_at items place =
     ap (λ l. is_nothing (in_field 1 l)) (node_at-cleared items place)
     ∙ (ap is_nothing (in_field-cleared 1 (node_at items place))
@@ -97,20 +97,20 @@ initialiser-cleared head field =
 is_assigned-cleared : (path : List Around) → is_assigned (cleared_path path) ≡ is_assigned path
 is_assigned-cleared [] = refl
 is_assigned-cleared (node ∷ outer) =
-    λ i. assigns-cleared node.head node.field
-        i || (passes-cleared node.head node.field i && is_assigned-cleared outer i)
+    λ i. assigns-cleared node.head node.field i
+        || (passes-cleared node.head node.field i && is_assigned-cleared outer i)
 
 ends_chain-cleared : (path : List Around) → ends_chain (cleared_path path) ≡ ends_chain path
 ends_chain-cleared [] = refl
 ends_chain-cleared (node ∷ outer) =
-    λ i. ((step-cleared node.head node.field i || parenthesis-cleared node.head i) &&
-        ends_chain-cleared outer i) || is_assigned-cleared (node ∷ outer) i
+    λ i. ((step-cleared node.head node.field i || parenthesis-cleared node.head i)
+        && ends_chain-cleared outer i) || is_assigned-cleared (node ∷ outer) i
 
 roots_chain-cleared : (path : List Around) → roots_chain (cleared_path path) ≡ roots_chain path
 roots_chain-cleared [] = refl
 roots_chain-cleared (node ∷ outer) =
-    λ i. (step-cleared node.head node.field i && ends_chain-cleared outer i) ||
-        (parenthesis-cleared node.head i && roots_chain-cleared outer i)
+    λ i. (step-cleared node.head node.field i && ends_chain-cleared outer i)
+        || (parenthesis-cleared node.head i && roots_chain-cleared outer i)
 
 is_in_argument-cleared : (path : List Around) →
     is_in_argument (cleared_path path) ≡ is_in_argument path
@@ -126,21 +126,21 @@ initialiser_path-cleared (node ∷ outer) =
 
 later-cleared : (path : List Around) → runs_later (cleared_path path) ≡ runs_later path
 later-cleared path =
-    λ i. list_any is_parameters (scopes_around-cleared Es path i) || initialiser_path-cleared path
-        i
+    λ i. list_any is_parameters (scopes_around-cleared Es path i)
+        || initialiser_path-cleared path i
 
 -- nodes that begin at the same places of two lists, with the same words and with a second field
 -- alike
-module _ (items its : List Item)
-    (property : (place : ℕ) → property_of (node_at its place) ≡ property_of (node_at items place))
-    (nothing : (place : ℕ) → is_nothing (in_field 1 (node_at its place)) ≡ is_nothing
-    (in_field 1 (node_at items place))) where
+module _ (items its : List Item) (property : (place : ℕ) → property_of (node_at its place)
+    ≡ property_of (node_at items place)) (nothing : (place : ℕ) →
+    is_nothing (in_field 1 (node_at its place)) ≡ is_nothing (in_field 1 (node_at items place)))
+    where
   has_no_value-cleared : (path : List Around) →
       has_no_value its (cleared_path path) ≡ has_no_value items path
   has_no_value-cleared [] = refl
   has_no_value-cleared (node ∷ outer) =
-      λ i. (declarator-cleared node.head i && nothing node.begins i) ||
-          (not (declarator-cleared node.head i) && has_no_value-cleared outer i)
+      λ i. (declarator-cleared node.head i && nothing node.begins i)
+          || (not (declarator-cleared node.head i) && has_no_value-cleared outer i)
 
   prototype_read-cleared : (path : List Around) →
       is_prototype_read its (cleared_path path) ≡ is_prototype_read items path
@@ -153,9 +153,9 @@ module _ (items its : List Item)
       is_in_assign_of its_test its (cleared_path path) ≡ is_in_assign_of test items path
   in_assign-cleared test its_test same [] = refl
   in_assign-cleared test its_test same (node ∷ outer) =
-      λ i. (((call_head-cleared node.head i && (node.field == 1)) && is_text (codes "assign")
-          (property (node.begins + 1) i)) && same (node.begins + 2) i) || in_assign-cleared test
-          its_test same outer i
+      λ i. (((call_head-cleared node.head i && (node.field == 1))
+          && is_text (codes "assign") (property (node.begins + 1) i)) && same (node.begins + 2) i)
+          || in_assign-cleared test its_test same outer i
 
   -- an identifier with this role and the path with nothing noted
   pub flags-noted : (test its_test : ℕ → Bool) → ((place : ℕ) → its_test place ≡ test place) →
@@ -169,8 +169,8 @@ module _ (items its : List Item)
     chain = sym (ap roots_chain path ∙ roots_chain-cleared o.path);
     prototype =
         sym (ap (λ (q : List Around). is_prototype_read its q && is_in_assign_of its_test its q)
-            path ∙ (λ i. prototype_read-cleared o.path i && in_assign-cleared test its_test same
-            o.path i));
+            path ∙ (λ i. prototype_read-cleared o.path i
+            && in_assign-cleared test its_test same o.path i));
     valueless =
         sym (ap (λ (q : List Around). is_binding p.role && has_no_value its q) path
             ∙ (λ i. is_binding (role i) && has_no_value-cleared o.path i));
@@ -196,8 +196,8 @@ placed-cleared : (start : ℕ) (nodes : List (List Item)) →
     placed start (map cleared nodes) ≡ map cleared_top (placed start nodes)
 placed-cleared start [] = refl
 placed-cleared start (node ∷ more) =
-    λ i. record { start = start; items = cleared node } ∷
-        (ap (λ n. placed (start + n) (map cleared more)) (length-cleared node)
+    λ i. record { start = start; items = cleared node }
+        ∷ (ap (λ n. placed (start + n) (map cleared more)) (length-cleared node)
         ∙ placed-cleared (start + length node) more) i
 
 pub top_items-cleared : (tree : List Item) →
@@ -281,8 +281,8 @@ module _ (tree : List Item) (items its : List TopItem)
 
   -- by symbol, an order is good exactly if it is when contexts and notes are cleared
   pub cleared-good_order : (owners : List (Option ℕ)) (order : List ℕ) →
-      IsGoodOrder (group_of BySymbol Top tree items owners) order ↔ IsGoodOrder
-          (group_of BySymbol Top (cleared tree) its owners) order
+      IsGoodOrder (group_of BySymbol Top tree items owners) order
+          ↔ IsGoodOrder (group_of BySymbol Top (cleared tree) its owners) order
   cleared-good_order owners order =
       good_order-corresponds BySymbol Top tree items BySymbol Top (cleared tree) its owners owners
           (owners-refl owners) cleared-correspond order

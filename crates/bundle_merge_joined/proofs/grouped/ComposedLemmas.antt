@@ -127,22 +127,22 @@ module _ (f : ℕ) {inside made : List Item} {rest : List Change} (named : List 
   alike-mid = record {
     len = keeps.alike.len ∙ ap length same-denotations;
     same =
-        λ i j. subst (λ (ds : List Denoted).
-            (slice_get (denotations ByContext Es whole) i ≡ slice_get
-            (denotations ByContext Es whole) j) ↔ (slice_get ds i ≡ slice_get ds j))
+        λ i j. subst (λ (ds : List Denoted). (slice_get (denotations ByContext Es whole) i
+            ≡ slice_get (denotations ByContext Es whole) j) ↔ (slice_get ds i ≡ slice_get ds j))
             same-denotations (keeps.alike.same i j);
     globals =
-        λ i x. subst (λ (ds : List Denoted).
-            (slice_get (denotations ByContext Es whole) i ≡ Some (Global x)) ↔
-            (slice_get ds i ≡ Some (Global x))) same-denotations (keeps.alike.globals i x);
+        λ i x. subst (λ (ds : List Denoted). (slice_get (denotations ByContext Es whole) i
+            ≡ Some (Global x)) ↔ (slice_get ds i ≡ Some (Global x))) same-denotations
+            (keeps.alike.globals i x);
   }
 
   pub named-good_order : (items its : List TopItem) → AllZip (AtOne whole named) items its →
       (owners : List (Option ℕ)) (order : List ℕ) →
-      IsGoodOrder (group_of ByContext Top whole items owners) order ↔ IsGoodOrder
-          (group_of BySymbol Top named its owners) order
+      IsGoodOrder (group_of ByContext Top whole items owners) order
+          ↔ IsGoodOrder (group_of BySymbol Top named its owners) order
   named-good_order items its zip owners order =
-      let all : AllBetween whole mid named items its = all-between whole mid named
+      let all : AllBetween whole mid named items its =
+          all-between whole mid named
           (between whole mid named (module-paired f f edits) same-cleared) items its zip in
       let first = renamed-good_order ByContext BySymbol f edits alike-mid ways objects
           (record { unbound = λ n o e d. refl }) items all.ones all.edited owners owners
@@ -164,8 +164,8 @@ pub merged-good_order : (all whole : List Item) → Whole all → IsResolved Es 
     BindsOwn whole → (its : List TopItem) →
     AllZip (StandsInBoth (node 0 h.Module all) whole) (top_items (node 0 h.Module all)) its →
     (owners its_owners : List (Option ℕ)) → OwnersAlike owners its_owners → (order : List ℕ) →
-    IsGoodOrder (group_of_items all owners) order ↔ IsGoodOrder
-        (group_of ByContext Top whole its its_owners) order
+    IsGoodOrder (group_of_items all owners) order
+        ↔ IsGoodOrder (group_of ByContext Top whole its its_owners) order
 merged-good_order all whole nodes resolved ways own its zip owners its_owners of_one order =
     let told : IsTold whole = resolved-told whole resolved ways own in
     placed-good_order (node 0 h.Module all) whole (told-alone 0 all whole nodes its zip told) told

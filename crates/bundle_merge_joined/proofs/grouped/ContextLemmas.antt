@@ -98,8 +98,8 @@ any-declared reading f (x ∷ items) spot n o d e is t =
     by (get-cases (occurrence_of spot x) (occurrences_from (past spot x) items) n o e)
         (λ m later. any-declared reading f items (past spot x) m o d later is t)
   where
-    by : (occurrence_of spot x ≡ Some o) ⊎
-            ((m : ℕ) × (slice_get (occurrences_from (past spot x) items) m ≡ Some o)) →
+    by : (occurrence_of spot x ≡ Some o)
+            ⊎ ((m : ℕ) × (slice_get (occurrences_from (past spot x) items) m ≡ Some o)) →
         ((m : ℕ) → slice_get (occurrences_from (past spot x) items) m ≡ Some o →
             list_any f (declared_from reading Es (past spot x) items) ≡ true) →
         list_any f (declared_from reading Es spot (x ∷ items)) ≡ true
@@ -275,8 +275,8 @@ module _ (tree : List Item) where
   -- what is declared where it stands
   own-denotes : (o : Occurrence) (way : Way) → is_binding o.role ≡ true →
       way_of o.path ≡ Some way →
-      denoted_of ByContext Es all o ≡ Bound (home_of all (declares_so ByContext o way))
-          (name_of ByContext o.sym o.ctxt)
+      denoted_of ByContext Es all o
+          ≡ Bound (home_of all (declares_so ByContext o way)) (name_of ByContext o.sym o.ctxt)
   own-denotes o way binds is =
       ap (own_or_found all
           (denoted_in ByContext all (scopes_around Es o.path) (name_of ByContext o.sym o.ctxt)))
@@ -284,8 +284,8 @@ module _ (tree : List Item) where
 
   -- what is referred to
   referred : (o : Occurrence) → is_binding o.role ≡ false →
-      denoted_of ByContext Es all o ≡ written_or_implied all (scopes_around Es o.path)
-          (name_of ByContext o.sym o.ctxt)
+      denoted_of ByContext Es all o
+          ≡ written_or_implied all (scopes_around Es o.path) (name_of ByContext o.sym o.ctxt)
           (find (λ scope. is_written_in all scope (name_of ByContext o.sym o.ctxt))
           (scopes_around Es o.path))
   referred o refers =
@@ -320,9 +320,8 @@ module _ (tree : List Item) where
         let its : IsTopBinding w.name = apart.apart w.at m w.name p w.there there w.binds (w.same.0
             ∙ same.0, w.same.1 ∙ same.1) top in
         let ways_same : its.way ≡ w.way = same_Some its.way w.way (sym its.is ∙ w.is) in
-        let home : same_scope (home_of all (declares_so ByContext w.name its.way))
-            (Inner kind b) ≡ true =
-            ap (λ (y : Way). same_scope (home_of all (declares_so ByContext w.name y))
+        let home : same_scope (home_of all (declares_so ByContext w.name its.way)) (Inner kind b)
+            ≡ true = ap (λ (y : Way). same_scope (home_of all (declares_so ByContext w.name y))
             (Inner kind b)) ways_same ∙ w.home in
         let order : 1 ≡ b + 2 =
             eqb-true 1 (b + 2)
@@ -368,16 +367,16 @@ module _ (tree : List Item) where
     ident-of o p scope e = (ap denoted_symbol e, same_Some o.ctxt p.ctxt (ap context_in e))
 
     implied-not : (o p : Occurrence) (scopes : List Scope) →
-        implied all scopes (name_of ByContext o.sym o.ctxt) ≡ Bound Top
-            (name_of ByContext p.sym p.ctxt) →
+        implied all scopes (name_of ByContext o.sym o.ctxt)
+            ≡ Bound Top (name_of ByContext p.sym p.ctxt) →
         ⊥
     implied-not o p scopes e =
         by (is_unresolved (Some o.ctxt))
             (find (λ scope. is_implied_in all scope (name_of ByContext o.sym o.ctxt)) scopes) e
       where
         by : (b : Bool) (s : Option Scope) →
-            cond b (Global o.sym) (bound_in (without_context (name_of ByContext o.sym o.ctxt)) s) ≡
-                Bound Top (name_of ByContext p.sym p.ctxt) →
+            cond b (Global o.sym) (bound_in (without_context (name_of ByContext o.sym o.ctxt)) s)
+                ≡ Bound Top (name_of ByContext p.sym p.ctxt) →
             ⊥
         by true s e = cc
         by false None e = cc
@@ -390,8 +389,8 @@ module _ (tree : List Item) where
     tells-from n o p here top e = by (is_binding o.role) refl
       where
         found : (s : Option Scope) →
-            written_or_implied all (scopes_around Es o.path) (name_of ByContext o.sym o.ctxt)
-                s ≡ Bound Top (name_of ByContext p.sym p.ctxt) →
+            written_or_implied all (scopes_around Es o.path) (name_of ByContext o.sym o.ctxt) s
+                ≡ Bound Top (name_of ByContext p.sym p.ctxt) →
             SameIdent o p
         found None f = absurd (implied-not o p (scopes_around Es o.path) f)
         found (Some scope) f = ident-of o p scope f
@@ -430,8 +429,9 @@ module _ (tree : List Item) where
 
     -- an identifier is the global `Object` by its symbol and context alone
     pub object-told : (n : ℕ) (o : Occurrence) → slice_get (occurrences tree) n ≡ Some o →
-        (is_global_named (codes "Object") (Some (denoted_of ByContext Es all o)) && is_of_nothing
-            ByContext (Some o)) ≡ (bytes_eq (codes "Object") o.sym && (o.ctxt == 1))
+        (is_global_named (codes "Object") (Some (denoted_of ByContext Es all o))
+            && is_of_nothing ByContext (Some o))
+            ≡ (bytes_eq (codes "Object") o.sym && (o.ctxt == 1))
     object-told n o here = by (o.ctxt == 1) refl
       where
         and-none : (b : Bool) → (b && false) ≡ false
@@ -439,8 +439,8 @@ module _ (tree : List Item) where
         and-none false = refl
 
         by : (b : Bool) → (o.ctxt == 1) ≡ b →
-            (is_global_named (codes "Object") (Some (denoted_of ByContext Es all o)) && b) ≡
-                (bytes_eq (codes "Object") o.sym && b)
+            (is_global_named (codes "Object") (Some (denoted_of ByContext Es all o)) && b)
+                ≡ (bytes_eq (codes "Object") o.sym && b)
         by true one =
             ap (λ (d : Denoted). is_global_named (codes "Object") (Some d) && true)
                 (unbound-denotes n o here (eqb-true o.ctxt 1 one))

@@ -104,8 +104,8 @@ back-found : (xs : List Item) (s : Spot) (i : ℕ) (q : Occurrence) →
     slice_get (occurrences_from s xs) i ≡ Some q →
     (o : Occurrence) × (slice_get (occurrences xs) i ≡ Some o) × Found s.place s xs i o
 back-found xs s i q under e =
-    let within : i < length (occurrences_from s xs) = slice_get_within (occurrences_from s xs) i q
-        e in
+    let within : i < length (occurrences_from s xs) =
+        slice_get_within (occurrences_from s xs) i q e in
     let o = get-some (occurrences xs) i
         (subst (λ n. i < n) (roles-count s xs ∙ sym (roles-count start xs)) within) in
     (o.0, o.1, found-behind s.place xs start s i o.0
@@ -178,8 +178,8 @@ pub record Twin (its_tree : List Item) (q : Occurrence) : Type 0 where
   pub role : q.role ≡ name.role
   pub way : way_of q.path ≡ way_of name.path
   pub top : (w : Way) →
-      is_top_first (from_taker w (scopes_around Es q.path)) ≡ is_top_first
-          (from_taker w (scopes_around Es name.path))
+      is_top_first (from_taker w (scopes_around Es q.path))
+          ≡ is_top_first (from_taker w (scopes_around Es name.path))
 
 module _ (f : ℕ) (inside its_tree : List Item) (whole : Whole inside) (its : List TopItem)
     (zip : AllZip (StandsInBoth (node f h.Module inside) its_tree)
@@ -216,8 +216,8 @@ module _ (f : ℕ) (inside its_tree : List Item) (whole : Whole inside) (its : L
 
   top-from : (q : Occurrence) (t : Twin its_tree q) → IsTopBinding t.name → IsTopBinding q
   top-from q t top =
-      record { binds = ap is_binding t.role ∙ top.binds; way = top.way; is = t.way ∙ top.is;
-          top = t.top top.way ∙ top.top }
+      record { binds = ap is_binding t.role ∙ top.binds; way = top.way; is = t.way
+          ∙ top.is; top = t.top top.way ∙ top.top }
 
   -- the items of a block alone are told apart where the whole bundle's names are
   pub told-alone : IsTold tree
@@ -246,12 +246,12 @@ resolved-told tree resolved ways own = record {
       let at_o : occurrence_at tree o.place ≡ Some o = occurrences-at tree n o here in
       let at_p : occurrence_at tree p.place ≡ Some p = occurrences-at tree m p there in
       let denotes : (q : Occurrence) → occurrence_at tree q.place ≡ Some q →
-          denoted_at ByContext Es tree q.place ≡ Some
-          (denoted_of ByContext Es (declared ByContext Es tree) q) =
-          λ q e. ap (λ (x : Option Occurrence).
-          option_map (denoted_of ByContext Es (declared ByContext Es tree)) x) e in
-      let equal : denoted_of ByContext Es (declared ByContext Es tree) o ≡ denoted_of ByContext Es
-          (declared ByContext Es tree) p =
+          denoted_at ByContext Es tree q.place
+          ≡ Some (denoted_of ByContext Es (declared ByContext Es tree) q) =
+          λ q e. ap (λ (x : Option Occurrence). option_map
+          (denoted_of ByContext Es (declared ByContext Es tree)) x) e in
+      let equal : denoted_of ByContext Es (declared ByContext Es tree) o
+          ≡ denoted_of ByContext Es (declared ByContext Es tree) p =
       same_Some (denoted_of ByContext Es (declared ByContext Es tree) o)
           (denoted_of ByContext Es (declared ByContext Es tree) p) (sym (denotes o at_o)
           ∙ ((resolved.same o.place p.place o p at_o at_p).0 same ∙ denotes p at_p)) in

@@ -20,8 +20,8 @@ use Rattle.bundle_merge_joined.proofs.grouped.WholeLemmas.{Whole, nothing, hole,
 
 -- ---- what is edited is whole, before and after
 whole-key : (is_proto : Bool) (x : Text) →
-    Whole (if is_proto then h.Open 0 h.ComputedPropName ∷ h.Open 0
-        (h.Str x None) ∷ h.Close ∷ h.Close ∷ [] else plain_key x)
+    Whole (if is_proto then h.Open 0 h.ComputedPropName ∷ h.Open 0 (h.Str x None) ∷ h.Close
+        ∷ h.Close ∷ [] else plain_key x)
 whole-key true x = inner 0 h.ComputedPropName (inner 0 (h.Str x None) nothing)
 whole-key false x = inner 0 (h.IdentName x) nothing
 
@@ -241,8 +241,8 @@ word-alike field edits = first-word _ _ (seconds field h.MemberExpr edits)
 
 pub empty-alike : (field : ℕ) {changes rest : List Change} {inside made : List Item} →
     Edits Anywhere changes inside made rest →
-    is_nothing (n.in_field 1 (node field h.VarDeclarator inside)) ≡ is_nothing
-        (n.in_field 1 (node field h.VarDeclarator made))
+    is_nothing (n.in_field 1 (node field h.VarDeclarator inside))
+        ≡ is_nothing (n.in_field 1 (node field h.VarDeclarator made))
 empty-alike field edits = none-alike _ _ (seconds field h.VarDeclarator edits)
 
 -- ---- how edited elements begin
@@ -394,15 +394,17 @@ module _ (before after : List Item) (test_before test_after : ℕ → Bool) wher
             {inside made : List Item} →
         Edits Anywhere changes inside made rest →
         Here sb sa (inside ++ h.Close ∷ xb) (made ++ h.Close ∷ xa) →
-        (is_text (codes "assign") (property_of (node_at before sb.place)) && test_before
-            (sb.place + 1)) ≡ (is_text (codes "assign") (property_of (node_at after sa.place)) &&
-            test_after (sa.place + 1))
+        (is_text (codes "assign") (property_of (node_at before sb.place))
+            && test_before (sb.place + 1))
+            ≡ (is_text (codes "assign") (property_of (node_at after sa.place))
+            && test_after (sa.place + 1))
     callee sb sa xb xa edits at = by (begin edits so) at
       where
         neither : property_of (node_at before sb.place) ≡ None →
             property_of (node_at after sa.place) ≡ None →
-            (is_text (codes "assign") (property_of (node_at before sb.place)) && test_before
-                (sb.place + 1)) ≡ (is_text (codes "assign") (property_of (node_at after sa.place))
+            (is_text (codes "assign") (property_of (node_at before sb.place))
+                && test_before (sb.place + 1))
+                ≡ (is_text (codes "assign") (property_of (node_at after sa.place))
                 && test_after (sa.place + 1))
         neither e e' =
             ap (λ t. is_text (codes "assign") t && test_before (sb.place + 1)) e
@@ -410,8 +412,9 @@ module _ (before after : List Item) (test_before test_after : ℕ → Bool) wher
 
         by : {rb ra : List Item} → Begin rb ra →
             Here sb sa (rb ++ h.Close ∷ xb) (ra ++ h.Close ∷ xa) →
-            (is_text (codes "assign") (property_of (node_at before sb.place)) && test_before
-                (sb.place + 1)) ≡ (is_text (codes "assign") (property_of (node_at after sa.place))
+            (is_text (codes "assign") (property_of (node_at before sb.place))
+                && test_before (sb.place + 1))
+                ≡ (is_text (codes "assign") (property_of (node_at after sa.place))
                 && test_after (sa.place + 1))
         by empty at =
             neither (no-word before sb.place h.Close xb at.here refl)
@@ -431,14 +434,14 @@ module _ (before after : List Item) (test_before test_after : ℕ → Bool) wher
             let two : tail' ++ h.Close ∷ xa ≡ made ++ h.Close ∷ (more' ++ h.Close ∷ xa) =
                 ap (λ (l : List Item). l ++ h.Close ∷ xa) e'
                 ∙ append_assoc made (h.Close ∷ more') (h.Close ∷ xa) in
-            let here : drop sb.place before ≡ h.Open f
-                h.MemberExpr ∷ (inside ++ h.Close ∷ (more ++ h.Close ∷ xb)) = at.here
+            let here : drop sb.place before ≡ h.Open f h.MemberExpr
+                ∷ (inside ++ h.Close ∷ (more ++ h.Close ∷ xb)) = at.here
                 ∙ ap (λ (l : List Item). h.Open f h.MemberExpr ∷ l) one in
-            let its : drop sa.place after ≡ h.Open f'
-                h.MemberExpr ∷ (made ++ h.Close ∷ (more' ++ h.Close ∷ xa)) = at.its
+            let its : drop sa.place after ≡ h.Open f' h.MemberExpr
+                ∷ (made ++ h.Close ∷ (more' ++ h.Close ∷ xa)) = at.its
                 ∙ ap (λ (l : List Item). h.Open f' h.MemberExpr ∷ l) two in
-            let word : property_of (node_at before sb.place) ≡ property_of (node_at after sa.place)
-                =
+            let word : property_of (node_at before sb.place)
+                ≡ property_of (node_at after sa.place) =
             ap property_of (node_at-is before sb.place f h.MemberExpr (whole-before edits)
                 (more ++ h.Close ∷ xb) here)
             ∙ (word-moved f f' edits
@@ -451,13 +454,12 @@ module _ (before after : List Item) (test_before test_after : ℕ → Bool) wher
               here = drop-next sb.place before (h.Open f h.MemberExpr) _ here;
               its = drop-next sa.place after (h.Open f' h.MemberExpr) _ its;
               tests =
-                  subst (λ (l : List Item).
-                      AllZip (λ (o p : Occurrence). test_before o.place ≡ test_after p.place)
-                      (occurrences_from (past sb (h.Open f h.MemberExpr)) l)
+                  subst (λ (l : List Item). AllZip (λ (o p : Occurrence). test_before o.place
+                      ≡ test_after p.place) (occurrences_from (past sb (h.Open f h.MemberExpr)) l)
                       (occurrences_from (past sa (h.Open f' h.MemberExpr))
                       (made ++ h.Close ∷ (more' ++ h.Close ∷ xa)))) one
-              (subst (λ (l : List Item).
-                  AllZip (λ (o p : Occurrence). test_before o.place ≡ test_after p.place)
+              (subst (λ (l : List Item). AllZip (λ (o p : Occurrence). test_before o.place
+                  ≡ test_after p.place)
                   (occurrences_from (past sb (h.Open f h.MemberExpr)) (tail ++ h.Close ∷ xb))
                   (occurrences_from (past sa (h.Open f' h.MemberExpr)) l)) two at.tests);
             } in

@@ -43,14 +43,14 @@ either-parameters true kind b e = refl
 either-parameters false kind b e = ap (λ x. x || false) e
 
 same-parameters : (c : Bool) (b a : ℕ) →
-    list_any is_parameters (scope_at b (cond c None (Some Parameters))) ≡ list_any is_parameters
-        (scope_at a (cond c None (Some Parameters)))
+    list_any is_parameters (scope_at b (cond c None (Some Parameters)))
+        ≡ list_any is_parameters (scope_at a (cond c None (Some Parameters)))
 same-parameters true b a = refl
 same-parameters false b a = refl
 
 pub makes-parameters : (head : Head) (b a field : ℕ) (p q : List Around) →
-    list_any is_parameters (scope_at b (kind_of_scope head field p)) ≡ list_any is_parameters
-        (scope_at a (kind_of_scope head field q))
+    list_any is_parameters (scope_at b (kind_of_scope head field p))
+        ≡ list_any is_parameters (scope_at a (kind_of_scope head field q))
 makes-parameters h.BlockStmt b a field p q =
     ap (λ x. x || false) (block-parameters p b) ∙ sym (ap (λ x. x || false) (block-parameters q a))
 makes-parameters h.GetterProp b a field p q = same-parameters (field == 0) b a
@@ -81,8 +81,8 @@ module _ (before after : List Item) (test_before test_after : ℕ → Bool) wher
   pub ends-alike : {p q : List Around} → Alike p q → ends_chain p ≡ ends_chain q
   ends-alike outside = refl
   ends-alike (same head b a field {p = p} {q = q} node outer) =
-      ap (λ x. ((is_chain_step head field || is_parenthesis head) && x) || is_assigned
-          (around head b field ∷ p)) (ends-alike outer)
+      ap (λ x. ((is_chain_step head field || is_parenthesis head) && x)
+          || is_assigned (around head b field ∷ p)) (ends-alike outer)
       ∙ ap (λ x. ((is_chain_step head field || is_parenthesis head) && ends_chain q) || x)
           (assigned-alike (same head b a field node outer))
   ends-alike (pair b a field word outer) = refl
@@ -142,8 +142,8 @@ module _ (before after : List Item) (test_before test_after : ℕ → Bool) wher
   empty-alike (same head b a field {p = p} {q = q} node outer) =
       ap (λ x. x || (not (is_declarator head) && has_no_value before p))
           (and-agree (is_declarator head) _ _ node.empty)
-      ∙ ap (λ x. (is_declarator head && is_nothing (in_field 1 (node_at after a))) ||
-          (not (is_declarator head) && x)) (empty-alike outer)
+      ∙ ap (λ x. (is_declarator head && is_nothing (in_field 1 (node_at after a)))
+          || (not (is_declarator head) && x)) (empty-alike outer)
   empty-alike (pair b a field word outer) = empty-alike outer
   empty-alike (key b a word outer) = empty-alike outer
   empty-alike (defaulted b a o field one two outer) = empty-alike outer
@@ -163,9 +163,9 @@ module _ (before after : List Item) (test_before test_after : ℕ → Bool) wher
           (is_text (codes "assign") (property_of (node_at before (b + 1)))) (test_before (b + 2))
           (is_text (codes "assign") (property_of (node_at after (a + 1)))) (test_after (a + 2))
           node.assign)
-      ∙ ap (λ x. (((is_call_head head && (field == 1)) && is_text (codes "assign")
-          (property_of (node_at after (a + 1)))) && test_after (a + 2)) || x)
-          (in_assign-alike outer)
+      ∙ ap (λ x. (((is_call_head head && (field == 1))
+          && is_text (codes "assign") (property_of (node_at after (a + 1)))) && test_after (a + 2))
+          || x) (in_assign-alike outer)
   in_assign-alike (pair b a field word outer) = in_assign-alike outer
   in_assign-alike (key b a word outer) = in_assign-alike outer
   in_assign-alike (defaulted b a o field one two outer) = in_assign-alike outer

@@ -158,8 +158,8 @@ takes-alike ByWrapper kind b a = refl
 
 from-alike : (way : Way) (o : Option ScopeKind) (b a : ℕ) (xs ys : List Scope) →
     is_top_first (from_taker way xs) ≡ is_top_first (from_taker way ys) →
-    is_top_first (from_taker way (scope_at b o ++ xs)) ≡ is_top_first
-        (from_taker way (scope_at a o ++ ys))
+    is_top_first (from_taker way (scope_at b o ++ xs))
+        ≡ is_top_first (from_taker way (scope_at a o ++ ys))
 from-alike way None b a xs ys e = e
 from-alike way (Some kind) b a xs ys e =
     ap (λ t. is_top_first (cond t (Inner kind b ∷ xs) (from_taker way xs)))
@@ -167,20 +167,19 @@ from-alike way (Some kind) b a xs ys e =
     ∙ by (takes way (Inner kind a))
   where
     by : (t : Bool) →
-        is_top_first (cond t (Inner kind b ∷ xs) (from_taker way xs)) ≡ is_top_first
-            (cond t (Inner kind a ∷ ys) (from_taker way ys))
+        is_top_first (cond t (Inner kind b ∷ xs) (from_taker way xs))
+            ≡ is_top_first (cond t (Inner kind a ∷ ys) (from_taker way ys))
     by true = refl
     by false = e
 
 pub top_first-alike : (way : Way) {p q : List Around} → FormAlike p q →
-    is_top_first (from_taker way (scopes_around Es p)) ≡ is_top_first
-        (from_taker way (scopes_around Es q))
+    is_top_first (from_taker way (scopes_around Es p))
+        ≡ is_top_first (from_taker way (scopes_around Es q))
 top_first-alike way outside = refl
 top_first-alike way (in_module b field) = refl
 top_first-alike way (same head b a field {p = p} {q = q} outer) =
-    ap (λ (o : Option ScopeKind).
-        is_top_first (from_taker way (scope_at b o ++ scopes_around Es p)))
-        (scope-alike head field outer)
+    ap (λ (o : Option ScopeKind). is_top_first
+        (from_taker way (scope_at b o ++ scopes_around Es p))) (scope-alike head field outer)
     ∙ from-alike way (kind_of_scope head field q) b a (scopes_around Es p) (scopes_around Es q)
         (top_first-alike way outer)
 top_first-alike way (pair b a field outer) = top_first-alike way outer
@@ -215,8 +214,8 @@ no_top : (all : List Declared) (scope : Scope) (d : Declared) →
     list_any (is_parameter scope d.name) all ≡ true → same_scope scope Top ≡ false
 no_top all scope d e =
     let found = any-true (is_parameter scope d.name) all e in
-    let p = and_parts ((is_parameters (taker found.0) || is_wrapper (taker found.0)) && same_scope
-        (taker found.0) scope) _ found.1 in
+    let p = and_parts ((is_parameters (taker found.0) || is_wrapper (taker found.0))
+        && same_scope (taker found.0) scope) _ found.1 in
     let q = and_parts (is_parameters (taker found.0) || is_wrapper (taker found.0))
         (same_scope (taker found.0) scope) p.0 in
     ne_eqb (scope_order scope) 1
@@ -238,8 +237,8 @@ beside-top way (node ∷ outer) scope e =
   where
     inner : (t : Bool) (kind : ScopeKind) (rest : List Scope) →
         (parameters_of rest ≡ Some scope → is_top_first rest ≡ false) →
-        parameters_of (cond t (Inner kind node.begins ∷ scopes_around Es outer) rest) ≡ Some scope
-            →
+        parameters_of (cond t (Inner kind node.begins ∷ scopes_around Es outer) rest)
+            ≡ Some scope →
         is_top_first (cond t (Inner kind node.begins ∷ scopes_around Es outer) rest) ≡ false
     inner true kind rest ih e = refl
     inner false kind rest ih e = ih e
@@ -247,8 +246,8 @@ beside-top way (node ∷ outer) scope e =
     by : (o : Option ScopeKind) →
         (parameters_of (from_taker way (scopes_around Es outer)) ≡ Some scope →
             is_top_first (from_taker way (scopes_around Es outer)) ≡ false) →
-        parameters_of (from_taker way (scope_at node.begins o ++ scopes_around Es outer)) ≡ Some
-            scope →
+        parameters_of (from_taker way (scope_at node.begins o ++ scopes_around Es outer))
+            ≡ Some scope →
         is_top_first (from_taker way (scope_at node.begins o ++ scopes_around Es outer)) ≡ false
     by None ih e = ih e
     by (Some kind) ih e =
@@ -286,8 +285,8 @@ home-top all d p e = by (joins_parameter d.by)
 -- what an identifier that declares denotes is of the top, by the nodes around it alone
 pub binding-top : (reading : Reading) (all : List Declared) (o : Occurrence) (way : Way) →
     is_binding o.role ≡ true → way_of o.path ≡ Some way →
-    is_of_scope Top (denoted_of reading Es all o) ≡ is_top_first
-        (from_taker way (scopes_around Es o.path))
+    is_of_scope Top (denoted_of reading Es all o)
+        ≡ is_top_first (from_taker way (scopes_around Es o.path))
 binding-top reading all o way binds is =
     let found : Denoted = denoted_in reading all (scopes_around Es o.path)
         (name_of reading o.sym o.ctxt) in

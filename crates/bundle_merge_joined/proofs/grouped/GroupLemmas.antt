@@ -85,27 +85,26 @@ module _ (reading : Reading) (top : Scope) (tree : List Item) (items : List TopI
       (
         λ one.
             let top_one = denote_one-to reading top tree items at_a.item at_b.item at_a.name
-                at_b.name (subst (λ (m : Mention).
-                DenoteOne m (mention_of reading tree tops at_b.item at_b.name)) at_a.is
+                at_b.name (subst (λ (m : Mention). DenoteOne m
+                (mention_of reading tree tops at_b.item at_b.name)) at_a.is
                 (subst (λ (m : Mention). DenoteOne a m) at_b.is one)) in
             let found = denote_one-from its_reading its_top its_tree its s i t j at_c.item
                 at_d.item at_c.name at_d.name at_c.stands at_d.stands (both.0 top_one) in
             subst (λ (m : Mention). DenoteOne m d) (sym at_c.is)
-                (subst (λ (m : Mention).
-                DenoteOne (mention_of its_reading its_tree its_tops at_c.item at_c.name) m)
-                (sym at_d.is) found),
+                (subst (λ (m : Mention). DenoteOne
+                (mention_of its_reading its_tree its_tops at_c.item at_c.name) m) (sym at_d.is)
+                found),
         λ one.
             let top_one = denote_one-to its_reading its_top its_tree its at_c.item at_d.item
                 at_c.name at_d.name
-                (subst (λ (m : Mention).
-                DenoteOne m (mention_of its_reading its_tree its_tops at_d.item at_d.name)) at_c.is
+                (subst (λ (m : Mention). DenoteOne m
+                (mention_of its_reading its_tree its_tops at_d.item at_d.name)) at_c.is
                 (subst (λ (m : Mention). DenoteOne c m) at_d.is one)) in
             let found = denote_one-from reading top tree items s i t j at_a.item at_b.item
                 at_a.name at_b.name at_a.stands at_b.stands (both.1 top_one) in
             subst (λ (m : Mention). DenoteOne m b) (sym at_a.is)
-                (subst (λ (m : Mention).
-                DenoteOne (mention_of reading tree tops at_a.item at_a.name) m) (sym at_b.is)
-                found),
+                (subst (λ (m : Mention). DenoteOne
+                (mention_of reading tree tops at_a.item at_a.name) m) (sym at_b.is) found),
       )
 
   pub group_of-alike : GroupsAlike (group_of reading top tree items owners)
@@ -113,8 +112,7 @@ module _ (reading : Reading) (top : Scope) (tree : List Item) (items : List TopI
   group_of-alike = record {
     owners = of_one;
     items = zip-map (ItemsAlike reading tree its_reading its_tree) (AllZip IsSameButTop) _ _
-    (λ item other zip.
-        zip-map (SameFlags item.items other.items (object_in reading tree item)
+    (λ item other zip. zip-map (SameFlags item.items other.items (object_in reading tree item)
         (object_in its_reading its_tree other)) IsSameButTop (mention_of reading tree tops item)
         (mention_of its_reading its_tree its_tops other) (flags item other)
         (occurrences item.items) (occurrences other.items) zip)
@@ -128,6 +126,6 @@ module _ (reading : Reading) (top : Scope) (tree : List Item) (items : List TopI
 
   -- an order of items is good exactly if it is of those that correspond
   pub good_order-corresponds : (order : List ℕ) →
-      IsGoodOrder (group_of reading top tree items owners) order ↔ IsGoodOrder
-          (group_of its_reading its_top its_tree its its_owners) order
+      IsGoodOrder (group_of reading top tree items owners) order
+          ↔ IsGoodOrder (group_of its_reading its_top its_tree its its_owners) order
   good_order-corresponds order = IsGoodOrder-alike _ _ group_of-alike order

@@ -24,8 +24,8 @@ use Rattle.bundle_merge_joined.proofs.joined.Lists.{get-left}
 use Rattle.bundle_merge_joined.proofs.joined.Paths.{other-spot}
 
 -- ---- owners: both are free, or of modules that stand for each other
-module _ (R : ℕ → ℕ → Type 0) (to : (a b c : ℕ) → R a b → R a c → b ≡ c)
-    (from : (a b c : ℕ) → R b a → R c a → b ≡ c) where
+module _ (R : ℕ → ℕ → Type 0) (to : (a b c : ℕ) → R a b → R a c → b ≡ c) (from : (a b c : ℕ) →
+    R b a → R c a → b ≡ c) where
   owner-at : (one two : List (Option ℕ)) → AllZip (AreBoth R) one two → (s : ℕ) (o : Option ℕ) →
       slice_get one s ≡ Some o → (p : Option ℕ) × (slice_get two s ≡ Some p) × AreBoth R o p
   owner-at one two zip s o e = zip-at (AreBoth R) one two s o zip e
@@ -64,16 +64,16 @@ module _ (R : ℕ → ℕ → Type 0) (to : (a b c : ℕ) → R a b → R a c �
           let n = module-to p.0 both.0 p.2 in
           let k = module-to q.0 both.0 q.2 in
           (n.0, p.1 ∙ ap (λ (o : Option ℕ). Some o) n.1, q.1
-              ∙ ap (λ (o : Option ℕ). Some o)
-              (k.1 ∙ ap (λ (x : ℕ). Some x) (to both.0 k.0 n.0 k.2 n.2))),
+              ∙ ap (λ (o : Option ℕ). Some o) (k.1
+              ∙ ap (λ (x : ℕ). Some x) (to both.0 k.0 n.0 k.2 n.2))),
       λ both.
           let p = owner-back one two zip s (Some both.0) both.1 in
           let q = owner-back one two zip t (Some both.0) both.2 in
           let n = module-back p.0 both.0 p.2 in
           let k = module-back q.0 both.0 q.2 in
           (n.0, p.1 ∙ ap (λ (o : Option ℕ). Some o) n.1, q.1
-              ∙ ap (λ (o : Option ℕ). Some o)
-              (k.1 ∙ ap (λ (x : ℕ). Some x) (from both.0 k.0 n.0 k.2 n.2))),
+              ∙ ap (λ (o : Option ℕ). Some o) (k.1
+              ∙ ap (λ (x : ℕ). Some x) (from both.0 k.0 n.0 k.2 n.2))),
     );
   }
 
@@ -129,19 +129,19 @@ module _ (move : Denoted → Denoted) (reading : Reading) (top its_top : Scope)
       let here = context-in tree x it.here.0 it.here.1 i o e in
       let there = context-in its_tree x' it.there.0 it.there.1 i o
           (ap (λ (l : List Item). slice_get (occurrences l) i) (sym it.same) ∙ e) in
-      let unbound : is_of_nothing reading (occurrence_at its_tree (x'.start + o.place)) ≡
-          is_of_nothing reading (occurrence_at tree (x.start + o.place)) =
+      let unbound : is_of_nothing reading (occurrence_at its_tree (x'.start + o.place))
+          ≡ is_of_nothing reading (occurrence_at tree (x.start + o.place)) =
       ap (is_of_nothing reading) there.1
       ∙ (nothing-same reading here.0 there.0 (there.2 ∙ sym here.2)
           ∙ ap (is_of_nothing reading) (sym here.1)) in
-      let denoted : is_global_named (codes "Object") (denoted_in reading its_tree x' o) ≡
-          is_global_named (codes "Object") (denoted_in reading tree x o) =
+      let denoted : is_global_named (codes "Object") (denoted_in reading its_tree x' o)
+          ≡ is_global_named (codes "Object") (denoted_in reading tree x o) =
           ap (λ (d : Option Denoted). is_global_named (codes "Object") d) (it.denotes i o e)
           ∙ global-moved (denoted_in reading tree x o)
           (λ d f. occurs s i x o d (record { item_there = at; there = e }) f) in
       sym (ap (λ b. b && is_of_nothing reading (occurrence_at its_tree (x'.start + o.place)))
-          denoted ∙ ap (λ b. is_global_named (codes "Object") (denoted_in reading tree x o) && b)
-          unbound)
+          denoted ∙ ap (λ b. is_global_named (codes "Object") (denoted_in reading tree x o)
+          && b) unbound)
       ∙ ap (λ (q : Occurrence). is_object_at reading its_tree (x'.start + q.place)) is
 
   item-moved : (s : ℕ) (x x' : TopItem) → slice_get items s ≡ Some x →
@@ -179,18 +179,18 @@ module _ (move : Denoted → Denoted) (reading : Reading) (top its_top : Scope)
         λ k u u' e e'. let found = zip-at (IsMoved move reading tree its_tree) items its k u zip
             e in subst (λ (z : TopItem). IsMoved move reading tree its_tree u z)
             (same_Some found.0 u' (sym found.1 ∙ e')) found.2 in
-        let one : IsMoved move reading tree its_tree x x' = moved_at s x x' at_o.item_there
-            at_o'.item_there in
-        let two : IsMoved move reading tree its_tree y y' = moved_at t y y' at_p.item_there
-            at_p'.item_there in
+        let one : IsMoved move reading tree its_tree x x' =
+            moved_at s x x' at_o.item_there at_o'.item_there in
+        let two : IsMoved move reading tree its_tree y y' =
+            moved_at t y y' at_p.item_there at_p'.item_there in
         let o_is : o ≡ o' = same-name x.items x'.items one.same i o o' at_o.there at_o'.there in
         let p_is : p ≡ p' = same-name y.items y'.items two.same j p p' at_p.there at_p'.there in
-        let to_o : denoted_in reading its_tree x' o' ≡ option_map move
-            (denoted_in reading tree x o) =
+        let to_o : denoted_in reading its_tree x' o'
+            ≡ option_map move (denoted_in reading tree x o) =
             ap (λ (q : Occurrence). denoted_in reading its_tree x' q) (sym o_is)
             ∙ one.denotes i o at_o.there in
-        let to_p : denoted_in reading its_tree y' p' ≡ option_map move
-            (denoted_in reading tree y p) =
+        let to_p : denoted_in reading its_tree y' p'
+            ≡ option_map move (denoted_in reading tree y p) =
             ap (λ (q : Occurrence). denoted_in reading its_tree y' q) (sym p_is)
             ∙ two.denotes j p at_p.there in
         (
@@ -229,8 +229,8 @@ module _ (move : Denoted → Denoted) (reading : Reading) (top its_top : Scope)
   -- MOVED: an order is good exactly if it is where what names denote is moved
   pub moved-good_order : (owners its_owners : List (Option ℕ)) → OwnersAlike owners its_owners →
       (order : List ℕ) →
-      IsGoodOrder (group_of reading top tree items owners) order ↔ IsGoodOrder
-          (group_of reading its_top its_tree its its_owners) order
+      IsGoodOrder (group_of reading top tree items owners) order
+          ↔ IsGoodOrder (group_of reading its_top its_tree its its_owners) order
   moved-good_order owners its_owners of_one order =
       good_order-corresponds reading top tree items reading its_top its_tree its owners its_owners
           of_one moved-correspond order

@@ -44,8 +44,8 @@ property-of field _ edits = refl
 
 empty-of : (field : ℕ) (head : Head) {changes rest : List Change} {inside made : List Item} →
     Edits (around_in head inside) changes inside made rest → is_declarator head ≡ true →
-    is_nothing (n.in_field 1 (node field head inside)) ≡ is_nothing
-        (n.in_field 1 (node field head made))
+    is_nothing (n.in_field 1 (node field head inside))
+        ≡ is_nothing (n.in_field 1 (node field head made))
 empty-of field h.VarDeclarator edits e = empty-alike field edits
 empty-of field _ edits e = absurd (false≢true e)
 
@@ -114,13 +114,13 @@ module _ (before after : List Item) (test_before test_after : ℕ → Bool)
       is_call_head head ≡ true →
       calls_assign before test_before sb.place ≡ calls_assign after test_after sa.place
   assign-of sb sa field h.CallExpr {inside = inside} {made = made} pb pa edits at e =
-      ap (λ k. is_text (codes "assign") (property_of (node_at before (sb.place + 1))) &&
-          test_before k) (let same : sb.place + 2 ≡ sb.place + 1 + 1 = omega arith in same)
+      ap (λ k. is_text (codes "assign") (property_of (node_at before (sb.place + 1)))
+          && test_before k) (let same : sb.place + 2 ≡ sb.place + 1 + 1 = omega arith in same)
       ∙ (callee before after test_before test_after of_before of_after
           (past sb (h.Open field h.CallExpr)) (past sa (h.Open field h.CallExpr)) pb pa edits
           (at-opened sb sa field field h.CallExpr h.CallExpr inside made pb pa at)
-      ∙ ap (λ k. is_text (codes "assign") (property_of (node_at after (sa.place + 1))) &&
-          test_after k) (let same : sa.place + 1 + 1 ≡ sa.place + 2 = omega arith in same))
+      ∙ ap (λ k. is_text (codes "assign") (property_of (node_at after (sa.place + 1)))
+          && test_after k) (let same : sa.place + 1 + 1 ≡ sa.place + 2 = omega arith in same))
   assign-of sb sa field _ pb pa edits at e = absurd (false≢true e)
 
   node-alike : (sb sa : Spot) (field : ℕ) (head : Head) {changes rest : List Change}
@@ -129,14 +129,13 @@ module _ (before after : List Item) (test_before test_after : ℕ → Bool)
       At sb sa (node field head inside ++ pb) (node field head made ++ pa) →
       NodeAlike before after test_before test_after head sb.place sa.place
   node-alike sb sa field head {inside = inside} {made = made} pb pa edits at =
-      let one : node_at before sb.place ≡ node field head inside = node_at-is before sb.place field
-          head (whole-before edits) pb
-          (at.here ∙ ap (λ (l : List Item). h.Open field head ∷ l)
-          (append_assoc inside (h.Close ∷ []) pb)) in
-      let two : node_at after sa.place ≡ node field head made = node_at-is after sa.place field
-          head (whole-after edits) pa
-          (at.its ∙ ap (λ (l : List Item). h.Open field head ∷ l)
-          (append_assoc made (h.Close ∷ []) pa)) in
+      let one : node_at before sb.place ≡ node field head inside =
+          node_at-is before sb.place field head (whole-before edits) pb (at.here
+          ∙ ap (λ (l : List Item). h.Open field head ∷ l) (append_assoc inside (h.Close ∷ []) pb))
+          in
+      let two : node_at after sa.place ≡ node field head made =
+          node_at-is after sa.place field head (whole-after edits) pa (at.its
+          ∙ ap (λ (l : List Item). h.Open field head ∷ l) (append_assoc made (h.Close ∷ []) pa)) in
       record {
         word = ap property_of one ∙ (property-of field head edits ∙ ap property_of (sym two));
         empty =
@@ -209,8 +208,8 @@ module _ (before after : List Item) (test_before test_after : ℕ → Bool)
   name-and-word : (sb sa : Spot) (change : Option Change) (field : ℕ) (x y : Text) (ctxt : ℕ)
           (role : Role) →
       is_occurrence role ≡ true → Paths sb sa →
-      Names sb sa (h.Ident field x ctxt role ∷ [])
-          (renamed change field x ctxt role ∷ h.Ident 1 y 0 r.Word ∷ [])
+      Names sb sa (h.Ident field x ctxt role ∷ []) (renamed change field x ctxt role
+          ∷ h.Ident 1 y 0 r.Word ∷ [])
   name-and-word sb sa None field x y ctxt r.Binding occurs paths =
       (record { role = refl; path = paths field }, tt)
   name-and-word sb sa None field x y ctxt r.Reference occurs paths =
@@ -229,9 +228,8 @@ module _ (before after : List Item) (test_before test_after : ℕ → Bool)
       Path (in_field field sb.path) (around h.KeyValueProp sa.place 1 ∷ in_field field sa.path) →
       Names sb sa (h.Ident field x ctxt role ∷ [])
           (node field h.KeyValueProp
-          ((if proto then h.Open 0 h.ComputedPropName ∷ h.Open 0
-          (h.Str y None) ∷ h.Close ∷ h.Close ∷ [] else plain_key y) ++ renamed change 1 x ctxt
-          role ∷ []))
+          ((if proto then h.Open 0 h.ComputedPropName ∷ h.Open 0 (h.Str y None) ∷ h.Close ∷ h.Close
+          ∷ [] else plain_key y) ++ renamed change 1 x ctxt role ∷ []))
   name-paired sb sa true None field x y ctxt r.Binding occurs path =
       (record { role = refl; path = path }, tt)
   name-paired sb sa true None field x y ctxt r.Reference occurs path =
@@ -260,26 +258,24 @@ module _ (before after : List Item) (test_before test_after : ℕ → Bool)
           (ctxt : ℕ) (role : Role) →
       is_occurrence role ≡ true → InLiteral sb.path → Paths sb sa →
       Names sb sa (h.Ident field x ctxt role ∷ [])
-          (if b then node field h.KeyValueProp
-          (key_in_object x ++ renamed change 1 x ctxt role ∷ []) else renamed change field x ctxt
-          role ∷ [])
+          (if b then node field h.KeyValueProp (key_in_object x ++ renamed change 1 x ctxt role
+          ∷ []) else renamed change field x ctxt role ∷ [])
   name-in-object false sb sa change field x ctxt role occurs fits paths =
       one-name sb sa change field x ctxt role occurs paths
   name-in-object true sb sa change field x ctxt role occurs fits paths =
       let is : in_field field sb.path ≡ around h.ObjectLit fits.begins field ∷ fits.outer =
           sym (field-twice field 0 sb.path) ∙ ap (in_field field) fits.is in
       name-paired sb sa _ change field x x ctxt role occurs
-      (subst (λ (p : List Around).
-          Path p (around h.KeyValueProp sa.place 1 ∷ in_field field sa.path)) (sym is)
+      (subst (λ (p : List Around). Path p (around h.KeyValueProp sa.place 1
+          ∷ in_field field sa.path)) (sym is)
       (pair fits.begins sa.place field fits.no_word
           (subst (λ (p : List Around). Path p (in_field field sa.path)) is (paths field))))
 
   name-in-specifier : (b : Bool) (sb sa : Spot) (change : Option Change) (field : ℕ) (x : Text)
           (ctxt : ℕ) (role : Role) →
       is_occurrence role ≡ true → Paths sb sa →
-      Names sb sa (h.Ident field x ctxt role ∷ [])
-          (if b then renamed change field x ctxt role ∷ h.Ident 1 x 0 r.Word ∷ [] else renamed
-          change field x ctxt role ∷ [])
+      Names sb sa (h.Ident field x ctxt role ∷ []) (if b then renamed change field x ctxt role
+          ∷ h.Ident 1 x 0 r.Word ∷ [] else renamed change field x ctxt role ∷ [])
   name-in-specifier true sb sa change field x ctxt role occurs paths =
       name-and-word sb sa change field x x ctxt role occurs paths
   name-in-specifier false sb sa change field x ctxt role occurs paths =
@@ -364,12 +360,12 @@ module _ (before after : List Item) (test_before test_after : ℕ → Bool)
           (d made pb pa : List Item) →
       is_occurrence role ≡ true → Default d made →
       At sb sa (node field h.AssignPatProp (node 0 h.BindingIdent (h.Ident 0 x c role ∷ []) ++ d)
-          ++ pb) (node field h.AssignPatProp
-          (node 0 h.BindingIdent (h.Ident 0 y c' role ∷ []) ++ made) ++ pa) →
+          ++ pb) (node field h.AssignPatProp (node 0 h.BindingIdent (h.Ident 0 y c' role ∷ [])
+          ++ made) ++ pa) →
       Paths sb sa →
-      Names sb sa (node field h.AssignPatProp
-          (node 0 h.BindingIdent (h.Ident 0 x c role ∷ []) ++ d))
-          (node field h.AssignPatProp (node 0 h.BindingIdent (h.Ident 0 y c' role ∷ []) ++ made))
+      Names sb sa (node field h.AssignPatProp (node 0 h.BindingIdent (h.Ident 0 x c role ∷ [])
+          ++ d)) (node field h.AssignPatProp (node 0 h.BindingIdent (h.Ident 0 y c' role ∷ [])
+          ++ made))
   short-stays sb sa field x y c c' r.Word d made pb pa occurs ih at paths =
       absurd (false≢true occurs)
   short-stays sb sa field x y c c' r.Binding d made pb pa occurs ih at paths =
@@ -419,9 +415,8 @@ module _ (before after : List Item) (test_before test_after : ℕ → Bool)
           ++ pb) (node field h.KeyValuePatProp
           (plain_key z ++ node 1 h.BindingIdent (h.Ident 0 y c' role ∷ [])) ++ pa) →
       Paths sb sa →
-      Names sb sa (node field h.AssignPatProp
-          (node 0 h.BindingIdent (h.Ident 0 x c role ∷ []) ++ []))
-          (node field h.KeyValuePatProp
+      Names sb sa (node field h.AssignPatProp (node 0 h.BindingIdent (h.Ident 0 x c role ∷ [])
+          ++ [])) (node field h.KeyValuePatProp
           (plain_key z ++ node 1 h.BindingIdent (h.Ident 0 y c' role ∷ [])))
   short-pair sb sa field x y z c c' r.Word pb pa occurs at paths = absurd (false≢true occurs)
   short-pair sb sa field x y z c c' r.Binding pb pa occurs at paths =
@@ -445,14 +440,13 @@ module _ (before after : List Item) (test_before test_after : ℕ → Bool)
       is_occurrence role ≡ true → Default d made →
       At sb sa (node field h.AssignPatProp (node 0 h.BindingIdent (h.Ident 0 x c role ∷ []) ++ d)
           ++ pb) (node field h.KeyValuePatProp
-          (plain_key z ++ node 1 h.AssignPat
-          (node 0 h.BindingIdent (h.Ident 0 y c' role ∷ []) ++ made)) ++ pa) →
+          (plain_key z ++ node 1 h.AssignPat (node 0 h.BindingIdent (h.Ident 0 y c' role ∷ [])
+          ++ made)) ++ pa) →
       Paths sb sa →
-      Names sb sa (node field h.AssignPatProp
-          (node 0 h.BindingIdent (h.Ident 0 x c role ∷ []) ++ d))
-          (node field h.KeyValuePatProp
-          (plain_key z ++ node 1 h.AssignPat
-          (node 0 h.BindingIdent (h.Ident 0 y c' role ∷ []) ++ made)))
+      Names sb sa (node field h.AssignPatProp (node 0 h.BindingIdent (h.Ident 0 x c role ∷ [])
+          ++ d)) (node field h.KeyValuePatProp
+          (plain_key z ++ node 1 h.AssignPat (node 0 h.BindingIdent (h.Ident 0 y c' role ∷ [])
+          ++ made)))
   short-default sb sa field x y z c c' r.Word d made pb pa occurs ih at paths =
       absurd (false≢true occurs)
   short-default sb sa field x y z c c' r.Binding d made pb pa occurs ih at paths =
@@ -460,27 +454,26 @@ module _ (before after : List Item) (test_before test_after : ℕ → Bool)
       let seven : Spot = past_spelled sa field z (h.Ident 0 y c' r.Binding) in
       let four_dropped : drop four.place before ≡ (d ++ h.Close ∷ []) ++ pb =
           drop-four before sb.place _ _ _ _ _ at.here in
-      let three_dropped : drop (sa.place + 1 + 1 + 1) after ≡ h.Open 1 h.AssignPat ∷ h.Open 0
-          h.BindingIdent ∷ h.Ident 0 y c'
-          r.Binding ∷ h.Close ∷ (((made ++ h.Close ∷ []) ++ h.Close ∷ []) ++ pa) =
+      let three_dropped : drop (sa.place + 1 + 1 + 1) after ≡ h.Open 1 h.AssignPat
+          ∷ h.Open 0 h.BindingIdent ∷ h.Ident 0 y c' r.Binding ∷ h.Close
+          ∷ (((made ++ h.Close ∷ []) ++ h.Close ∷ []) ++ pa) =
           drop-three after sa.place _ _ _ _ at.its in
       let name : NodeAlike before after test_before test_after h.BindingIdent (sb.place + 1)
           (sa.place + 1 + 1 + 1 + 1) = binding-alike (sb.place + 1) (sa.place + 1 + 1 + 1 + 1) 0 0
           _ _ (drop-next sb.place before _ _ at.here)
           (drop-next (sa.place + 1 + 1 + 1) after _ _ three_dropped) in
       let around : (m : ℕ) → Path (around h.AssignPatProp sb.place m ∷ in_field field sb.path)
-          (around h.AssignPat (sa.place + 1 + 1 + 1) m ∷ around h.KeyValuePatProp sa.place
-          1 ∷ in_field field sa.path) =
+          (around h.AssignPat (sa.place + 1 + 1 + 1) m ∷ around h.KeyValuePatProp sa.place 1
+          ∷ in_field field sa.path) =
       λ m. defaulted sb.place (sa.place + 1 + 1 + 1) sa.place m
           (no-word before sb.place _ _ at.here refl)
           (no-word after (sa.place + 1 + 1 + 1) _ _ three_dropped refl) (paths field) in
       subst (λ (l : List Item). AllZip (NameAlike before after test_before test_after)
           (occurrences_from sb
           (node field h.AssignPatProp (node 0 h.BindingIdent (h.Ident 0 x c r.Binding ∷ []) ++ d)))
-          (occurrences_from sa
-          (h.Open field h.KeyValuePatProp ∷ h.Open 0 (h.IdentName z) ∷ h.Close ∷ h.Open 1
-          h.AssignPat ∷ h.Open 0 h.BindingIdent ∷ h.Ident 0 y c' r.Binding ∷ h.Close ∷ l)))
-          (sym (append_assoc made (h.Close ∷ []) (h.Close ∷ [])))
+          (occurrences_from sa (h.Open field h.KeyValuePatProp ∷ h.Open 0 (h.IdentName z) ∷ h.Close
+          ∷ h.Open 1 h.AssignPat ∷ h.Open 0 h.BindingIdent ∷ h.Ident 0 y c' r.Binding ∷ h.Close
+          ∷ l))) (sym (append_assoc made (h.Close ∷ []) (h.Close ∷ [])))
       (names-then four seven _ _ d made (h.Close ∷ h.Close ∷ [])
       (record { role = refl; path = same h.BindingIdent (sb.place + 1) (sa.place + 1 + 1 + 1 + 1) 0
           name (around 0) })
@@ -497,28 +490,26 @@ module _ (before after : List Item) (test_before test_after : ℕ → Bool)
       let seven : Spot = past_spelled sa field z (h.Ident 0 y c' r.Reference) in
       let four_dropped : drop four.place before ≡ (d ++ h.Close ∷ []) ++ pb =
           drop-four before sb.place _ _ _ _ _ at.here in
-      let three_dropped : drop (sa.place + 1 + 1 + 1) after ≡ h.Open 1 h.AssignPat ∷ h.Open 0
-          h.BindingIdent ∷ h.Ident 0 y c'
-          r.Reference ∷ h.Close ∷ (((made ++ h.Close ∷ []) ++ h.Close ∷ []) ++ pa) =
+      let three_dropped : drop (sa.place + 1 + 1 + 1) after ≡ h.Open 1 h.AssignPat
+          ∷ h.Open 0 h.BindingIdent ∷ h.Ident 0 y c' r.Reference ∷ h.Close
+          ∷ (((made ++ h.Close ∷ []) ++ h.Close ∷ []) ++ pa) =
           drop-three after sa.place _ _ _ _ at.its in
       let name : NodeAlike before after test_before test_after h.BindingIdent (sb.place + 1)
           (sa.place + 1 + 1 + 1 + 1) = binding-alike (sb.place + 1) (sa.place + 1 + 1 + 1 + 1) 0 0
           _ _ (drop-next sb.place before _ _ at.here)
           (drop-next (sa.place + 1 + 1 + 1) after _ _ three_dropped) in
       let around : (m : ℕ) → Path (around h.AssignPatProp sb.place m ∷ in_field field sb.path)
-          (around h.AssignPat (sa.place + 1 + 1 + 1) m ∷ around h.KeyValuePatProp sa.place
-          1 ∷ in_field field sa.path) =
+          (around h.AssignPat (sa.place + 1 + 1 + 1) m ∷ around h.KeyValuePatProp sa.place 1
+          ∷ in_field field sa.path) =
       λ m. defaulted sb.place (sa.place + 1 + 1 + 1) sa.place m
           (no-word before sb.place _ _ at.here refl)
           (no-word after (sa.place + 1 + 1 + 1) _ _ three_dropped refl) (paths field) in
       subst (λ (l : List Item). AllZip (NameAlike before after test_before test_after)
           (occurrences_from sb
-          (node field h.AssignPatProp
-          (node 0 h.BindingIdent (h.Ident 0 x c r.Reference ∷ []) ++ d)))
-          (occurrences_from sa
-          (h.Open field h.KeyValuePatProp ∷ h.Open 0 (h.IdentName z) ∷ h.Close ∷ h.Open 1
-          h.AssignPat ∷ h.Open 0 h.BindingIdent ∷ h.Ident 0 y c' r.Reference ∷ h.Close ∷ l)))
-          (sym (append_assoc made (h.Close ∷ []) (h.Close ∷ [])))
+          (node field h.AssignPatProp (node 0 h.BindingIdent (h.Ident 0 x c r.Reference ∷ [])
+          ++ d))) (occurrences_from sa (h.Open field h.KeyValuePatProp ∷ h.Open 0 (h.IdentName z)
+          ∷ h.Close ∷ h.Open 1 h.AssignPat ∷ h.Open 0 h.BindingIdent ∷ h.Ident 0 y c' r.Reference
+          ∷ h.Close ∷ l))) (sym (append_assoc made (h.Close ∷ []) (h.Close ∷ [])))
       (names-then four seven _ _ d made (h.Close ∷ h.Close ∷ [])
       (record { role = refl; path = same h.BindingIdent (sb.place + 1) (sa.place + 1 + 1 + 1 + 1) 0
           name (around 0) })

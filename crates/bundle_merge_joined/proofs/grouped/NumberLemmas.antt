@@ -136,24 +136,25 @@ pub listed-in : (tree : List Item) (item : TopItem) → IsDirect tree item →
 listed-in tree item direct i o e =
     let s : Spot = fold past start (take item.start tree) in
     let first = filled item.items i o e in
-    let len : length (take item.start tree) ≡ item.start = length-before item.start tree first.0
-        (first.1 ++ direct.rest) (direct.is ∙ ap (λ (l : List Item). l ++ direct.rest) first.2) in
+    let len : length (take item.start tree) ≡ item.start =
+        length-before item.start tree first.0 (first.1 ++ direct.rest) (direct.is
+        ∙ ap (λ (l : List Item). l ++ direct.rest) first.2) in
     let place : s.place ≡ item.start = fold-place start (take item.start tree)
         ∙ (ap (λ n. 0 + n) len ∙ (let same : 0 + item.start ≡ item.start = omega arith in same)) in
     let f : Found item.start s item.items i o = found-behind item.start item.items start s i o
         (place ∙ (let same : item.start ≡ item.start + 0 = omega arith in same))
         (λ m. direct.under m) e in
-    let whole : occurrences tree ≡ occurrences_from start
-        (take item.start tree) ++ (occurrences_from s item.items ++ occurrences_from
-        (fold past s item.items) direct.rest) =
+    let whole : occurrences tree ≡ occurrences_from start (take item.start tree)
+        ++ (occurrences_from s item.items ++ occurrences_from (fold past s item.items) direct.rest)
+        =
     ap (λ (l : List Item). occurrences l) (sym (take-append-drop item.start tree))
     ∙ (occurrences-append start (take item.start tree) (drop item.start tree)
     ∙ ap (λ l. occurrences_from start (take item.start tree) ++ l)
         (ap (occurrences_from s) direct.is ∙ occurrences-append s item.items direct.rest)) in
     let there : slice_get (occurrences tree) (count_before tree item.start + i) ≡ Some f.name =
     ap (λ l. slice_get l (count_before tree item.start + i)) whole
-    ∙ (get-behind (occurrences_from start (take item.start tree))
-        (occurrences_from s item.items ++ occurrences_from (fold past s item.items) direct.rest) i
+    ∙ (get-behind (occurrences_from start (take item.start tree)) (occurrences_from s item.items
+        ++ occurrences_from (fold past s item.items) direct.rest) i
     ∙ get-left (occurrences_from s item.items)
         (occurrences_from (fold past s item.items) direct.rest) i f.name f.there) in
     record {
@@ -171,23 +172,22 @@ listed-in tree item direct i o e =
 -- what it denotes
 pub denotes-listed : (reading : Reading) (tree : List Item) (item : TopItem) (i : ℕ)
         (o : Occurrence) (it : Listed tree item i o) →
-    denoted_in reading tree item o ≡ Some
-        (denoted_of reading Es (declared reading Es tree) it.name)
+    denoted_in reading tree item o
+        ≡ Some (denoted_of reading Es (declared reading Es tree) it.name)
 denotes-listed reading tree item i o it =
     ap (λ (p : Option Occurrence). option_map (denoted_of reading Es (declared reading Es tree)) p)
         it.at
 
 pub object-listed : (reading : Reading) (tree : List Item) (item : TopItem) (i : ℕ)
         (o : Occurrence) (it : Listed tree item i o) →
-    is_object_at reading tree
-        (item.start + o.place) ≡
-        (is_global_named (codes "Object")
-        (Some (denoted_of reading Es (declared reading Es tree) it.name)) && is_of_nothing reading
-        (Some it.name))
+    is_object_at reading tree (item.start + o.place)
+        ≡ (is_global_named (codes "Object")
+        (Some (denoted_of reading Es (declared reading Es tree) it.name))
+        && is_of_nothing reading (Some it.name))
 object-listed reading tree item i o it =
     ap (λ (p : Option Occurrence). is_global_named (codes "Object")
-        (option_map (denoted_of reading Es (declared reading Es tree)) p) && is_of_nothing reading
-        p) it.at
+        (option_map (denoted_of reading Es (declared reading Es tree)) p)
+        && is_of_nothing reading p) it.at
 
 pub as-listed : (reading : Reading) (tree : List Item) (n : ℕ) (name : Occurrence) →
     slice_get (occurrences tree) n ≡ Some name →

@@ -48,8 +48,8 @@ each-one {changes = changes} {rest = rest} {one = one} {two = two} edits e e' =
         (subst (λ l. EditsEach changes (one ∷ []) l rest) (sym e') (more edits none))
 
 side-renamed : (change : Option Change) (field : ℕ) (x : Text) (ctxt : ℕ) (role : Role) →
-    side_by_side zero (renamed change field x ctxt role ∷ []) ≡
-        (renamed change field x ctxt role ∷ []) ∷ []
+    side_by_side zero (renamed change field x ctxt role ∷ [])
+        ≡ (renamed change field x ctxt role ∷ []) ∷ []
 side-renamed None field x ctxt role = refl
 side-renamed (Some change) field x ctxt role = refl
 
@@ -58,8 +58,8 @@ side-short : (b : Bool) (change : Option Change) (field : ℕ) (x : Text) (ctxt 
     Whole made →
     side_by_side zero (if b then node field h.KeyValuePatProp
         (plain_key x ++ pattern_in_its_place change x ctxt role made) else node field
-        h.AssignPatProp (binding change 0 x ctxt role ++ made)) ≡
-        (if b then node field h.KeyValuePatProp
+        h.AssignPatProp (binding change 0 x ctxt role ++ made))
+        ≡ (if b then node field h.KeyValuePatProp
         (plain_key x ++ pattern_in_its_place change x ctxt role made) else node field
         h.AssignPatProp (binding change 0 x ctxt role ++ made)) ∷ []
 side-short true change field x ctxt role made whole =

@@ -60,16 +60,16 @@ no_object : (reading : Reading) (tree : List Item) (place : ℕ) → occurrence_
     is_object_at reading tree place ≡ false
 no_object reading tree place e =
     ap (λ (o : Option Occurrence). is_global_named (codes "Object")
-        (option_map (denoted_of reading Es (declared reading Es tree)) o) && is_of_nothing reading
-        o) e
+        (option_map (denoted_of reading Es (declared reading Es tree)) o)
+        && is_of_nothing reading o) e
 
 pub of_names : (reading : Reading) (tree : List Item) (item : TopItem) → IsPlaced tree item →
     OfNames item.items (object_in reading tree item)
 of_names reading tree item placed = record {
   none = λ place x rest e unnamed.
-      let at : slice_get tree (item.start + place) ≡ Some x = drop-get (item.start + place) tree x
-          (rest ++ placed.rest) (drop-more item.start place tree item.items placed.rest x rest
-          placed.is e) in
+      let at : slice_get tree (item.start + place) ≡ Some x =
+          drop-get (item.start + place) tree x (rest ++ placed.rest)
+          (drop-more item.start place tree item.items placed.rest x rest placed.is e) in
       no_object reading tree (item.start + place)
           (ap (option_and_then (occurrence_of (spot_before tree (item.start + place)))) at
           ∙ no_occurrence (spot_before tree (item.start + place)) x unnamed);
@@ -121,8 +121,8 @@ module _ (item : List Item) (test_before test_after : ℕ → Bool)
       property_of (node_at w place) ≡ None
   last-word zero [] e = refl
   last-word zero (h.Open field head ∷ w) e =
-      ap (λ (l : List Item).
-          property_of (first_or_nothing (side_by_side zero (h.Open field head ∷ l)))) e
+      ap (λ (l : List Item). property_of
+          (first_or_nothing (side_by_side zero (h.Open field head ∷ l)))) e
       ∙ either-none (is_member head)
   last-word zero (h.Ident field x ctxt role ∷ w) e = refl
   last-word zero (h.Hole field ∷ w) e = refl
@@ -131,20 +131,23 @@ module _ (item : List Item) (test_before test_after : ℕ → Bool)
   last-word (suc place) (y ∷ w) e = last-word place w e
 
   calls-agree : (begins : ℕ) →
-      (is_text (codes "assign") (property_of (node_at item (begins + 1))) && test_before
-          (begins + 2)) ≡ (is_text (codes "assign") (property_of (node_at item (begins + 1))) &&
-          test_after (begins + 2))
+      (is_text (codes "assign") (property_of (node_at item (begins + 1)))
+          && test_before (begins + 2))
+          ≡ (is_text (codes "assign") (property_of (node_at item (begins + 1)))
+          && test_after (begins + 2))
   calls-agree begins = by (drop (begins + 2) item) refl
     where
       by : (l : List Item) → drop (begins + 2) item ≡ l →
-          (is_text (codes "assign") (property_of (node_at item (begins + 1))) && test_before
-              (begins + 2)) ≡ (is_text (codes "assign") (property_of (node_at item (begins + 1)))
+          (is_text (codes "assign") (property_of (node_at item (begins + 1)))
+              && test_before (begins + 2))
+              ≡ (is_text (codes "assign") (property_of (node_at item (begins + 1)))
               && test_after (begins + 2))
       by (x ∷ rest) e =
           ap (λ b. is_text (codes "assign") (property_of (node_at item (begins + 1))) && b)
               (tests-at (begins + 2) x rest e)
       by [] e =
-          let none : property_of (node_at item (begins + 1)) ≡ None = last-word (begins + 1) item
+          let none : property_of (node_at item (begins + 1)) ≡ None =
+              last-word (begins + 1) item
               (ap (λ n. drop n item) (let same : suc (begins + 1) ≡ begins + 2 = omega arith in
               same) ∙ e) in
           ap (λ t. is_text (codes "assign") t && test_before (begins + 2)) none
@@ -164,9 +167,9 @@ module _ (item : List Item) (test_before test_after : ℕ → Bool)
           (three (is_call_head node.head) (node.field == 1)
           (is_text (codes "assign") (property_of (node_at item (node.begins + 1))))
           (test_before (node.begins + 2)) (test_after (node.begins + 2)) (calls-agree node.begins))
-      ∙ ap (λ b. (((is_call_head node.head && (node.field == 1)) && is_text (codes "assign")
-          (property_of (node_at item (node.begins + 1)))) && test_after (node.begins + 2)) || b)
-          (in_assign-agree outer)
+      ∙ ap (λ b. (((is_call_head node.head && (node.field == 1))
+          && is_text (codes "assign") (property_of (node_at item (node.begins + 1))))
+          && test_after (node.begins + 2)) || b) (in_assign-agree outer)
 
   same-flags : (o : Occurrence) → SameFlags item item test_before test_after o o
   same-flags o = record {
@@ -253,29 +256,30 @@ roles-renamed (Some change) f g x ctxt r.Binding = refl
 roles-renamed (Some change) f g x ctxt r.Reference = refl
 
 roles-key : (proto : Bool) (x : Text) (rest : List Item) →
-    roles ((if proto then h.Open 0 h.ComputedPropName ∷ h.Open 0
-        (h.Str x None) ∷ h.Close ∷ h.Close ∷ [] else plain_key x) ++ rest) ≡ roles rest
+    roles ((if proto then h.Open 0 h.ComputedPropName ∷ h.Open 0 (h.Str x None) ∷ h.Close ∷ h.Close
+        ∷ [] else plain_key x) ++ rest) ≡ roles rest
 unfolding roles
 roles-key true x rest = refl
 roles-key false x rest = refl
 
 roles-object : (b : Bool) (change : Option Change) (field : ℕ) (x : Text) (ctxt : ℕ) (role : Role)
         →
-    roles (h.Ident field x ctxt role ∷ []) ≡ roles
-        (if b then node field h.KeyValueProp (key_in_object x ++ renamed change 1 x ctxt role ∷ [])
-        else renamed change field x ctxt role ∷ [])
+    roles (h.Ident field x ctxt role ∷ [])
+        ≡ roles (if b then node field h.KeyValueProp
+        (key_in_object x ++ renamed change 1 x ctxt role ∷ []) else renamed change field x ctxt
+        role ∷ [])
 roles-object true change field x ctxt role =
     roles-renamed change field 1 x ctxt role
     ∙ (sym (roles-key _ x (renamed change 1 x ctxt role ∷ []))
-        ∙ sym (roles-node field h.KeyValueProp
-        (key_in_object x ++ renamed change 1 x ctxt role ∷ [])))
+        ∙ sym (roles-node field h.KeyValueProp (key_in_object x ++ renamed change 1 x ctxt role
+        ∷ [])))
 roles-object false change field x ctxt role = roles-renamed change field field x ctxt role
 
 roles-specifier : (b : Bool) (change : Option Change) (field : ℕ) (x : Text) (ctxt : ℕ)
         (role : Role) →
-    roles (h.Ident field x ctxt role ∷ []) ≡ roles
-        (if b then renamed change field x ctxt role ∷ h.Ident 1 x 0 r.Word ∷ [] else renamed change
-        field x ctxt role ∷ [])
+    roles (h.Ident field x ctxt role ∷ [])
+        ≡ roles (if b then renamed change field x ctxt role ∷ h.Ident 1 x 0 r.Word
+        ∷ [] else renamed change field x ctxt role ∷ [])
 unfolding roles
 roles-specifier true change field x ctxt role =
     roles-renamed change field field x ctxt role
@@ -318,8 +322,8 @@ roles-pattern change x ctxt role d (one ∷ more) e =
 roles-short : (b : Bool) (change : Option Change) (field : ℕ) (x : Text) (ctxt : ℕ) (role : Role)
         (d made : List Item) →
     roles d ≡ roles made →
-    roles (node field h.AssignPatProp (binding None 0 x ctxt role ++ d)) ≡ roles
-        (if b then node field h.KeyValuePatProp
+    roles (node field h.AssignPatProp (binding None 0 x ctxt role ++ d))
+        ≡ roles (if b then node field h.KeyValuePatProp
         (plain_key x ++ pattern_in_its_place change x ctxt role made) else node field
         h.AssignPatProp (binding change 0 x ctxt role ++ made))
 roles-short true change field x ctxt role d made e =
@@ -369,12 +373,11 @@ names-edited {before = before} {after = after} test_before test_after of_before 
       here = sym (append-nil before);
       its = sym (append-nil after);
       tests =
-          subst (λ (l : List Item).
-              AllZip (λ (o p : Occurrence). test_before o.place ≡ test_after p.place)
-              (occurrences l) (occurrences (after ++ []))) (sym (append-nil before))
-      (subst (λ (l : List Item).
-          AllZip (λ (o p : Occurrence). test_before o.place ≡ test_after p.place)
-          (occurrences before) (occurrences l)) (sym (append-nil after))
+          subst (λ (l : List Item). AllZip (λ (o p : Occurrence). test_before o.place
+              ≡ test_after p.place) (occurrences l) (occurrences (after ++ [])))
+              (sym (append-nil before))
+      (subst (λ (l : List Item). AllZip (λ (o p : Occurrence). test_before o.place
+          ≡ test_after p.place) (occurrences before) (occurrences l)) (sym (append-nil after))
       (zip-from (λ (o p : Occurrence). test_before o.place ≡ test_after p.place)
           (occurrences before) (occurrences after) (roles-count start before
           ∙ (ap length (roles-edited edits) ∙ sym (roles-count start after))) tests));

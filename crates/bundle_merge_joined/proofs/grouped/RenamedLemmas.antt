@@ -89,35 +89,35 @@ module _ (reading its_reading : Reading) (tree its_tree : List Item)
           ap (slice_get (occurrences its_tree)) (sym same) ∙ there.there in
       let d : Denoted = denoted_of reading Es (declared reading Es tree) here.name in
       let d' : Denoted = denoted_of its_reading Es (declared its_reading Es its_tree) there.name in
-      let as_d : denoted_as reading Es tree n ≡ Some d = as-listed reading tree n here.name
-          here.there in
-      let as_d' : denoted_as its_reading Es its_tree n ≡ Some d' = as-listed its_reading its_tree n
-          there.name at_n in
-      let to : (is_global_named (codes "Object") (Some d) && is_of_nothing reading
-          (Some here.name)) ≡ true →
-          (is_global_named (codes "Object") (Some d') && is_of_nothing its_reading
-          (Some there.name)) ≡ true =
+      let as_d : denoted_as reading Es tree n ≡ Some d =
+          as-listed reading tree n here.name here.there in
+      let as_d' : denoted_as its_reading Es its_tree n ≡ Some d' =
+          as-listed its_reading its_tree n there.name at_n in
+      let to : (is_global_named (codes "Object") (Some d)
+          && is_of_nothing reading (Some here.name)) ≡ true →
+          (is_global_named (codes "Object") (Some d')
+          && is_of_nothing its_reading (Some there.name)) ≡ true =
       λ t.
           let is : d ≡ Global (codes "Object") =
               global-is d (and_parts (is_global_named (codes "Object") (Some d))
               (is_of_nothing reading (Some here.name)) t).0 in
-          let its_is : d' ≡ Global (codes "Object") = same_Some d' (Global (codes "Object"))
-              (sym as_d' ∙ (denote.globals n (codes "Object")).0
-              (as_d ∙ ap (λ (x : Denoted). Some x) is)) in
+          let its_is : d' ≡ Global (codes "Object") =
+              same_Some d' (Global (codes "Object")) (sym as_d'
+              ∙ (denote.globals n (codes "Object")).0 (as_d ∙ ap (λ (x : Denoted). Some x) is)) in
           and_from (is_global_named (codes "Object") (Some d'))
               (is_of_nothing its_reading (Some there.name)) (global-from d' its_is)
               (its_objects.unbound n there.name at_n its_is) in
-      let from : (is_global_named (codes "Object") (Some d') && is_of_nothing its_reading
-          (Some there.name)) ≡ true →
-          (is_global_named (codes "Object") (Some d) && is_of_nothing reading (Some here.name)) ≡
-          true =
+      let from : (is_global_named (codes "Object") (Some d')
+          && is_of_nothing its_reading (Some there.name)) ≡ true →
+          (is_global_named (codes "Object") (Some d) && is_of_nothing reading (Some here.name))
+          ≡ true =
       λ t.
           let its_is : d' ≡ Global (codes "Object") =
               global-is d' (and_parts (is_global_named (codes "Object") (Some d'))
               (is_of_nothing its_reading (Some there.name)) t).0 in
           let is : d ≡ Global (codes "Object") = same_Some d (Global (codes "Object")) (sym as_d
-              ∙ (denote.globals n (codes "Object")).1
-              (as_d' ∙ ap (λ (x : Denoted). Some x) its_is)) in
+              ∙ (denote.globals n (codes "Object")).1 (as_d'
+              ∙ ap (λ (x : Denoted). Some x) its_is)) in
           and_from (is_global_named (codes "Object") (Some d))
               (is_of_nothing reading (Some here.name)) (global-from d is)
               (objects.unbound n here.name here.there is) in
@@ -165,16 +165,17 @@ module _ (reading its_reading : Reading) (tree its_tree : List Item)
             o_there.name in
         let e_p : Denoted = denoted_of its_reading Es (declared its_reading Es its_tree)
             p_there.name in
-        let as_o : denoted_as reading Es tree n ≡ Some d_o = as-listed reading tree n o_here.name
-            o_here.there in
-        let as_p : denoted_as reading Es tree m ≡ Some d_p = as-listed reading tree m p_here.name
-            p_here.there in
+        let as_o : denoted_as reading Es tree n ≡ Some d_o =
+            as-listed reading tree n o_here.name o_here.there in
+        let as_p : denoted_as reading Es tree m ≡ Some d_p =
+            as-listed reading tree m p_here.name p_here.there in
         let its_o : denoted_as its_reading Es its_tree n ≡ Some e_o =
             as-listed its_reading its_tree n o_there.name o_at_n in
         let its_p : denoted_as its_reading Es its_tree m ≡ Some e_p =
             as-listed its_reading its_tree m p_there.name p_at_m in
-        let top : is_of_scope Top d_p ≡ is_of_scope Top e_p = tops.top m p_here.name p_there.name
-            p_here.there p_at_m (ap is_binding p_here.role ∙ binds) in
+        let top : is_of_scope Top d_p ≡ is_of_scope Top e_p =
+            tops.top m p_here.name p_there.name p_here.there p_at_m (ap is_binding p_here.role
+            ∙ binds) in
         (
           λ both.
               let first : d_o ≡ both.one =
@@ -235,8 +236,8 @@ pub renamed-good_order : (reading its_reading : Reading) (f : ℕ) {changes rest
     HasObjects its_reading (node f h.Module made) → (items its : List TopItem) →
     AllZip (AtOne (node f h.Module inside) (node f h.Module made)) items its →
     (owners its_owners : List (Option ℕ)) → OwnersAlike owners its_owners → (order : List ℕ) →
-    IsGoodOrder (group_of reading Top (node f h.Module inside) items owners) order ↔ IsGoodOrder
-        (group_of its_reading Top (node f h.Module made) its its_owners) order
+    IsGoodOrder (group_of reading Top (node f h.Module inside) items owners) order
+        ↔ IsGoodOrder (group_of its_reading Top (node f h.Module made) its its_owners) order
 renamed-good_order reading its_reading f {inside = inside} {made = made} edits denote ways objects
     its_objects items its chosen owners its_owners of_one order =
     good_order-corresponds reading Top (node f h.Module inside) items its_reading Top

@@ -56,8 +56,9 @@ module _ (tree its_tree : List Item) (told : IsTold tree) (its_told : IsTold its
   item-stands x x' both =
       subst (λ (l : List Item). IsPlaced its_tree (record { start = x'.start; items = l }) →
           ObjectsAlike ByContext tree ByContext its_tree x
-          (record { start = x'.start; items = l }) → ItemsAlike ByContext tree ByContext its_tree x
-          (record { start = x'.start; items = l })) both.same
+          (record { start = x'.start; items = l }) →
+          ItemsAlike ByContext tree ByContext its_tree x (record { start = x'.start; items = l }))
+          both.same
       (λ placed objects. moved-alike ByContext tree ByContext its_tree x.start x'.start x.items
           (record { rest = both.here.rest; is = both.here.is }) placed objects)
       (record { rest = both.there.rest; is = both.there.is }) (objects-stand x x' both)
@@ -106,8 +107,8 @@ module _ (tree its_tree : List Item) (told : IsTold tree) (its_told : IsTold its
           sym (way-alike (form-under p_there.path))
           ∙ (ap (λ (q : Occurrence). way_of q.path) (sym p_is)
           ∙ way-alike (form-under p_here.path)) in
-      let firsts : is_top_first (from_taker way.0 (scopes_around Es p_there.name.path)) ≡
-          is_top_first (from_taker way.0 (scopes_around Es p_here.name.path)) =
+      let firsts : is_top_first (from_taker way.0 (scopes_around Es p_there.name.path))
+          ≡ is_top_first (from_taker way.0 (scopes_around Es p_here.name.path)) =
       sym (top_first-alike way.0 (form-under p_there.path))
       ∙ (ap (λ (q : Occurrence). is_top_first (from_taker way.0 (scopes_around Es q.path)))
           (sym p_is) ∙ top_first-alike way.0 (form-under p_here.path)) in
@@ -115,8 +116,9 @@ module _ (tree its_tree : List Item) (told : IsTold tree) (its_told : IsTold its
           record { binds = ap is_binding (p_there.role
           ∙ sym (ap (λ (q : Occurrence). q.role) p_is)) ∙ binds; way = way.0; is = paths
           ∙ way.1; top = firsts ∙ top_here.top } in
-      let ident : SameIdent o_here.name p_here.name = tells-from tree told.tops told.ways
-          (count_before tree x.start + i) o_here.name p_here.name o_here.there top_here equal in
+      let ident : SameIdent o_here.name p_here.name =
+          tells-from tree told.tops told.ways (count_before tree x.start + i) o_here.name
+          p_here.name o_here.there top_here equal in
       let its_ident : SameIdent o_there.name p_there.name = (
         o_there.sym
         ∙ (ap (λ (q : Occurrence). q.sym) (sym o_is)
@@ -128,9 +130,10 @@ module _ (tree its_tree : List Item) (told : IsTold tree) (its_told : IsTold its
             ∙ (ident.1 ∙ (p_here.ctxt
             ∙ (ap (λ (q : Occurrence). q.ctxt) p_is ∙ sym p_there.ctxt))))),
       ) in
-      let its_equal : e_o ≡ e_p = tells-to its_tree its_told.tops its_told.ways
-          (count_before its_tree x'.start + i) (count_before its_tree y'.start + j) o_there.name
-          p_there.name o_there.there p_there.there top_there its_ident in
+      let its_equal : e_o ≡ e_p =
+          tells-to its_tree its_told.tops its_told.ways (count_before its_tree x'.start + i)
+          (count_before its_tree y'.start + j) o_there.name p_there.name o_there.there
+          p_there.there top_there its_ident in
       record {
         one = e_o;
         two = e_p;
@@ -175,8 +178,8 @@ module _ (tree its_tree : List Item) (told : IsTold tree) (its_told : IsTold its
   -- apart by symbol and context
   pub placed-good_order : (owners its_owners : List (Option ℕ)) → OwnersAlike owners its_owners →
       (order : List ℕ) →
-      IsGoodOrder (group_of ByContext Top tree items owners) order ↔ IsGoodOrder
-          (group_of ByContext Top its_tree its its_owners) order
+      IsGoodOrder (group_of ByContext Top tree items owners) order
+          ↔ IsGoodOrder (group_of ByContext Top its_tree its its_owners) order
   placed-good_order owners its_owners of_one order =
       good_order-corresponds ByContext Top tree items ByContext Top its_tree its owners its_owners
           of_one placed-correspond order

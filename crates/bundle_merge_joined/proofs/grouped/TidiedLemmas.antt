@@ -54,8 +54,8 @@ property-tidied items place =
         ∙ property_at items place)
 
 nothing-tidied : (items : List Item) (place : ℕ) →
-    is_nothing (n.in_field 1 (node_at (tidied items) place)) ≡ is_nothing
-        (n.in_field 1 (node_at items place))
+    is_nothing (n.in_field 1 (node_at (tidied items) place))
+        ≡ is_nothing (n.in_field 1 (node_at items place))
 nothing-tidied items place =
     sym (nothing_at (tidied items) place)
     ∙ (ap (λ (l : List Item). is_nothing (n.in_field 1 (node_at l place))) (cleared-tidied items)
@@ -83,8 +83,8 @@ past-tidied spot (h.Hole field) = refl
 past-tidied spot h.Close = past-cleared spot h.Close
 
 occurrence-tidied : (spot : Spot) (x : Item) →
-    occurrence_of (cleared_spot spot) (tidy_item x) ≡ option_map tidy_occurrence
-        (occurrence_of spot x)
+    occurrence_of (cleared_spot spot) (tidy_item x)
+        ≡ option_map tidy_occurrence (occurrence_of spot x)
 occurrence-tidied spot (h.Open field head) = refl
 occurrence-tidied spot (h.Ident field x ctxt r.Word) = refl
 occurrence-tidied spot (h.Ident field x ctxt r.Binding) =
@@ -97,14 +97,15 @@ occurrence-tidied spot (h.Hole field) = refl
 occurrence-tidied spot h.Close = refl
 
 from-tidied : (spot : Spot) (items : List Item) →
-    occurrences_from (cleared_spot spot) (tidied items) ≡ map tidy_occurrence
-        (occurrences_from spot items)
+    occurrences_from (cleared_spot spot) (tidied items)
+        ≡ map tidy_occurrence (occurrences_from spot items)
 from-tidied spot [] = refl
 from-tidied spot (x ∷ items) =
     (λ i. cons_option (occurrence-tidied spot x i)
         (occurrences_from (past-tidied spot x i) (tidied items)))
     ∙ (ap (cons_option (option_map tidy_occurrence (occurrence_of spot x)))
-        (from-tidied (past spot x) items) ∙ cons_option-map tidy_occurrence (occurrence_of spot x)
+        (from-tidied (past spot x) items)
+        ∙ cons_option-map tidy_occurrence (occurrence_of spot x)
         (occurrences_from (past spot x) items))
 
 occurrences-tidied : (items : List Item) →
@@ -129,8 +130,8 @@ behind-tidied spot (x ∷ items) =
     (λ i. fold past (past-tidied spot x i) (tidied items)) ∙ behind-tidied (past spot x) items
 
 option-tidied : (spot : Spot) (x : Option Item) →
-    option_and_then (occurrence_of (cleared_spot spot)) (option_map tidy_item x) ≡ option_map
-        tidy_occurrence (option_and_then (occurrence_of spot) x)
+    option_and_then (occurrence_of (cleared_spot spot)) (option_map tidy_item x)
+        ≡ option_map tidy_occurrence (option_and_then (occurrence_of spot) x)
 option-tidied spot None = refl
 option-tidied spot (Some x) = occurrence-tidied spot x
 
@@ -191,8 +192,8 @@ declaration-tidied o =
         (way-noted o.path i)) None
 
 option-declares : (o : Option Occurrence) →
-    option_and_then (declaration_of ByContext Es) (option_map tidy_occurrence o) ≡ option_and_then
-        (declaration_of ByContext Es) o
+    option_and_then (declaration_of ByContext Es) (option_map tidy_occurrence o)
+        ≡ option_and_then (declaration_of ByContext Es) o
 option-declares None = refl
 option-declares (Some o) = declaration-tidied o
 
@@ -245,8 +246,8 @@ nameless-tidied (h.Hole field) rest = refl
 nameless-tidied h.Close rest = refl
 
 declared-tidied : (spot : Spot) (items : List Item) →
-    declared_from ByContext Es (cleared_spot spot) (tidied items) ≡ declared_from ByContext Es spot
-        items
+    declared_from ByContext Es (cleared_spot spot) (tidied items)
+        ≡ declared_from ByContext Es spot items
 declared-tidied spot [] = refl
 declared-tidied spot (x ∷ items) =
     (λ i. cons_option (cond (nameless-tidied x items i) (Some (nameless_default Es spot.place))
@@ -265,8 +266,8 @@ denoted_of-tidied all o =
         (name_of ByContext o.sym o.ctxt)) (declaration-tidied o i)
 
 option-denotes : (all : List Declared) (o : Option Occurrence) →
-    option_map (denoted_of ByContext Es all) (option_map tidy_occurrence o) ≡ option_map
-        (denoted_of ByContext Es all) o
+    option_map (denoted_of ByContext Es all) (option_map tidy_occurrence o)
+        ≡ option_map (denoted_of ByContext Es all) o
 option-denotes all None = refl
 option-denotes all (Some o) = ap (λ (d : Denoted). Some d) (denoted_of-tidied all o)
 
@@ -285,8 +286,8 @@ nothing-bound (Some o) = refl
 object-tidied : (tree : List Item) (place : ℕ) →
     is_object_at ByContext (tidied tree) place ≡ is_object_at ByContext tree place
 object-tidied tree place =
-    λ i. is_global_named (codes "Object") (denoted-tidied tree place i) &&
-        (ap (is_of_nothing ByContext) (at-tidied tree place)
+    λ i. is_global_named (codes "Object") (denoted-tidied tree place i)
+        && (ap (is_of_nothing ByContext) (at-tidied tree place)
         ∙ nothing-bound (occurrence_at tree place)) i
 
 -- ---- items
@@ -345,8 +346,8 @@ placed-tidied : (start : ℕ) (nodes : List (List Item)) →
     placed start (map tidied nodes) ≡ map tidied_top (placed start nodes)
 placed-tidied from [] = refl
 placed-tidied from (node ∷ more) =
-    λ i. record { start = from; items = tidied node } ∷
-        (ap (λ k. placed (from + k) (map tidied more)) (length-tidied node)
+    λ i. record { start = from; items = tidied node }
+        ∷ (ap (λ k. placed (from + k) (map tidied more)) (length-tidied node)
         ∙ placed-tidied (from + length node) more) i
 
 at_one-tidied : (tree : List Item) (item its : TopItem) → AtOne tree (tidied tree) item its →
@@ -361,8 +362,9 @@ at_one-tidied tree item its one =
 item-tidied : (tree : List Item) (item : TopItem) →
     ItemsAlike ByContext tree ByContext (tidied tree) item (tidied_top item)
 item-tidied tree item =
-    let R : Occurrence → Occurrence → Type 0 = SameFlags item.items (tidied item.items)
-        (object_in ByContext tree item) (object_in ByContext (tidied tree) (tidied_top item)) in
+    let R : Occurrence → Occurrence →
+        Type 0 = SameFlags item.items (tidied item.items) (object_in ByContext tree item)
+        (object_in ByContext (tidied tree) (tidied_top item)) in
     subst (λ l. AllZip R (occurrences item.items) l) (sym (occurrences-tidied item.items))
     (zip-same R tidy_occurrence
         (λ o. flags-noted item.items (tidied item.items) (property-tidied item.items)
@@ -416,8 +418,8 @@ module _ (tree : List Item) (items its : List TopItem)
 
   -- TIDIED: an order is good exactly if it is when notes are taken off
   pub tidied-good_order : (owners : List (Option ℕ)) (order : List ℕ) →
-      IsGoodOrder (group_of ByContext Top tree items owners) order ↔ IsGoodOrder
-          (group_of ByContext Top (tidied tree) its owners) order
+      IsGoodOrder (group_of ByContext Top tree items owners) order
+          ↔ IsGoodOrder (group_of ByContext Top (tidied tree) its owners) order
   tidied-good_order owners order =
       good_order-corresponds ByContext Top tree items ByContext Top (tidied tree) its owners owners
           (owners-refl owners) tidied-correspond order

@@ -45,12 +45,12 @@ same-agree (Bound scope name) (Bound other its) (Bound third one) t =
     let p = and_parts (same_scope scope other && bytes_eq name.sym its.sym)
         (same_context name.ctxt its.ctxt) t in
     let q = and_parts (same_scope scope other) (bytes_eq name.sym its.sym) p.0 in
-    ap (λ n. ((n == scope_order third) && bytes_eq name.sym one.sym) && same_context name.ctxt
-        one.ctxt) (eqb-true (scope_order scope) (scope_order other) q.0)
-    ∙ (ap (λ (s : List ℕ). (same_scope other third && bytes_eq s one.sym) && same_context name.ctxt
-        one.ctxt) ((bytes_eq-Decides name.sym its.sym).0 q.1)
-    ∙ ap (λ (c : Option ℕ). (same_scope other third && bytes_eq its.sym one.sym) && same_context c
-        one.ctxt) (same_context-is name.ctxt its.ctxt p.1))
+    ap (λ n. ((n == scope_order third) && bytes_eq name.sym one.sym)
+        && same_context name.ctxt one.ctxt) (eqb-true (scope_order scope) (scope_order other) q.0)
+    ∙ (ap (λ (s : List ℕ). (same_scope other third && bytes_eq s one.sym)
+        && same_context name.ctxt one.ctxt) ((bytes_eq-Decides name.sym its.sym).0 q.1)
+    ∙ ap (λ (c : Option ℕ). (same_scope other third && bytes_eq its.sym one.sym)
+        && same_context c one.ctxt) (same_context-is name.ctxt its.ctxt p.1))
 same-agree (Bound scope name) (Bound other its) (Global z) t = refl
 same-agree (Bound scope name) (Global y) x t = absurd (false≢true t)
 same-agree (Global w) (Bound other its) x t = absurd (false≢true t)
@@ -195,8 +195,8 @@ position-there p xs x has t =
     elim (cases_lt (position_or_len p xs) (length xs)) [
       | inl l ↦ (position_or_len p xs, ap (λ b. cond b (Some (position_or_len p xs)) None)
           (lt-ltb (position_or_len p xs) (length xs) l))
-      | inr g ↦ absurd (true≢false
-          (sym t ∙ (ap p (sym (get_or_from_slice_get xs at.0 x x at.1))
+      | inr g ↦ absurd (true≢false (sym t
+          ∙ (ap p (sym (get_or_from_slice_get xs at.0 x x at.1))
           ∙ fails_before_first p xs at.0 x (let inside = slice_get_within xs at.0 x at.1 in
           omega (arith, inside, g)))))
     ]

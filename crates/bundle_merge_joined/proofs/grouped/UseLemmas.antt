@@ -33,8 +33,8 @@ objects-from_globals tree globals = record {
   unbound = λ n o e d.
       let at : occurrence_at tree o.place ≡ Some o = occurrences-at tree n o e in
       eq-eqb o.ctxt 1 (globals o.place o (codes "Object") at
-          (ap (λ (p : Option Occurrence).
-          option_map (denoted_of ByContext Es (declared ByContext Es tree)) p) at
+          (ap (λ (p : Option Occurrence). option_map
+          (denoted_of ByContext Es (declared ByContext Es tree)) p) at
           ∙ ap (λ (x : Denoted). Some x) d));
 }
 
@@ -146,7 +146,7 @@ function-moves = record { tops = tops; same = same; object = object }
     same (Global x) e inside its_inside top = absurd (false≢true top)
 
     object : (d : Denoted) → BeginsInside d →
-        is_global_named (codes "Object") (Some (into_function d)) ≡ is_global_named
-            (codes "Object") (Some d)
+        is_global_named (codes "Object") (Some (into_function d))
+            ≡ is_global_named (codes "Object") (Some d)
     object (Bound scope name) inside = refl
     object (Global x) inside = refl

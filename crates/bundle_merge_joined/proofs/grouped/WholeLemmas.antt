@@ -58,8 +58,8 @@ deeper (joined {xs = xs} {ys = ys} one two) depth rest =
 -- one node before others
 pub beside-node : (field : ℕ) (head : Head) {inside : List Item} → Whole inside →
     (rest : List Item) →
-    side_by_side zero (h.Open field head ∷ (inside ++ h.Close ∷ rest)) ≡ node field head
-        inside ∷ side_by_side zero rest
+    side_by_side zero (h.Open field head ∷ (inside ++ h.Close ∷ rest)) ≡ node field head inside
+        ∷ side_by_side zero rest
 beside-node field head {inside = inside} whole rest =
     ap (put_first (h.Open field head)) (deeper whole zero (h.Close ∷ rest))
     ∙ ap (put_first (h.Open field head))

@@ -135,8 +135,9 @@ module _ (R : ℕ → ℕ → Type 0) (one : IsOneToOne R) where
       DeclaredAlike R d e → is_parameter t name e ≡ is_parameter s name d
   parameter-alike x name d e a =
       let taken = taker-alike d e a in
-      λ i. (test-alike is_parameters is_parameters-relocated taken i || test-alike is_wrapper
-          is_wrapper-relocated taken i) && same-alike taken x i && names_agree (a.name i) name
+      λ i. (test-alike is_parameters is_parameters-relocated taken i
+          || test-alike is_wrapper is_wrapper-relocated taken i) && same-alike taken x i
+          && names_agree (a.name i) name
 
   module _ (ds es : List Declared) (z : AllZip (DeclaredAlike R) ds es) where
     beside-alike : (d e : Declared) → DeclaredAlike R d e → (s t : Option Scope) →
@@ -183,24 +184,25 @@ module _ (R : ℕ → ℕ → Type 0) (one : IsOneToOne R) where
     binds-alike : {s t : Scope} → ScopesAlike R s t → (name : Name) →
         binds es t name ≡ binds ds s name
     binds-alike x name =
-        λ i. declares-alike x name
-            i || (is_arguments name.sym && (test-alike is_function is_function-relocated x i && not
-            (declares-alike x (record { sym = codes "arguments"; ctxt = None }) i)))
+        λ i. declares-alike x name i
+            || (is_arguments name.sym
+            && (test-alike is_function is_function-relocated x i
+            && not (declares-alike x (record { sym = codes "arguments"; ctxt = None }) i)))
 
     implied-alike : {s t : Scope} → ScopesAlike R s t → (name : Name) →
         is_implied_in es t name ≡ is_implied_in ds s name
     implied-alike x name =
-        λ i. (declares-alike x (without_context name) i && not
-            (written-alike x (without_context name) i)) || (is_arguments name.sym && test-alike
-            is_function is_function-relocated x i)
+        λ i. (declares-alike x (without_context name) i
+            && not (written-alike x (without_context name) i))
+            || (is_arguments name.sym && test-alike is_function is_function-relocated x i)
 
     -- inner names are the same
     pub inner_name-alike : (name : Name) → is_inner_name es name ≡ is_inner_name ds name
     inner_name-alike name =
         any-zipped (λ d. not (is_top (home_of ds d)) && names_agree d.name name)
             (λ e. not (is_top (home_of es e)) && names_agree e.name name)
-            (λ d e a. λ i. not (test-alike is_top is_top-relocated (home-alike d e a) i) &&
-            names_agree (a.name i) name) ds es z
+            (λ d e a. λ i. not (test-alike is_top is_top-relocated (home-alike d e a) i)
+            && names_agree (a.name i) name) ds es z
 
     found-alike : (p q : Scope → Bool) → ((s t : Scope) → ScopesAlike R s t → q t ≡ p s) →
         (ss ts : List Scope) → AllZip (ScopesAlike R) ss ts → BothAlike R (find p ss) (find q ts)

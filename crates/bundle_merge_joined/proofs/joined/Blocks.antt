@@ -138,16 +138,16 @@ pair item o false false k l unbound more = neither refl refl
 -- An identifier that binds, where something declares it.
 from-view : (item : List Item) (o : Occurrence) {d : Denoted} → Viewed item o d →
     is_written d ≡ true →
-    (scope : Scope) × (d ≡ Bound scope (its_name o)) × (is_written_in (own_declared item) scope
-        (its_name o) ≡ true)
+    (scope : Scope) × (d ≡ Bound scope (its_name o))
+        × (is_written_in (own_declared item) scope (its_name o) ≡ true)
 from-view item o (written scope at is) e = (scope, refl, is)
 from-view item o (implicit scope at other fun) e = absurd (false≢true e)
 from-view item o unbound e = absurd (false≢true e)
 
 own-written : (item : List Item) → IsNamed item → (o : Occurrence) → IsListedIn item o →
     is_binding o.role ≡ true → (way_of o.path ≡ None → ⊥) →
-    (scope : Scope) × (own_denoted item o ≡ Bound scope (its_name o)) ×
-        (is_written_in (own_declared item) scope (its_name o) ≡ true)
+    (scope : Scope) × (own_denoted item o ≡ Bound scope (its_name o))
+        × (is_written_in (own_declared item) scope (its_name o) ≡ true)
 own-written item named o listed binds some =
     from-view item o (viewed item named o listed)
         (ap (λ b. is_written
@@ -251,14 +251,14 @@ assign-same test other item same (node ∷ outer) =
     ap (λ b. b || is_in_assign_of test item outer)
         (by_text (property_of (node_at item (node.begins + 1))) refl
         (is_call_head node.head && node.field == 1))
-    ∙ ap (λ b. (is_call_head node.head && node.field == 1 && is_text (codes "assign")
-        (property_of (node_at item (node.begins + 1))) && other (node.begins + 2)) || b)
-        (assign-same test other item same outer)
+    ∙ ap (λ b. (is_call_head node.head && node.field == 1
+        && is_text (codes "assign") (property_of (node_at item (node.begins + 1)))
+        && other (node.begins + 2)) || b) (assign-same test other item same outer)
   where
     by_text : (x : Option (List ℕ)) → property_of (node_at item (node.begins + 1)) ≡ x →
         (front : Bool) →
-        (front && is_text (codes "assign") x && test (node.begins + 2)) ≡
-            (front && is_text (codes "assign") x && other (node.begins + 2))
+        (front && is_text (codes "assign") x && test (node.begins + 2))
+            ≡ (front && is_text (codes "assign") x && other (node.begins + 2))
     by_text None e true = refl
     by_text None e false = refl
     by_text (Some y) e front =
@@ -277,11 +277,12 @@ object_told items m item (Some u) =
 
 object-at : (items : List (List Item)) → AllOf IsWhole items → AllOf IsNamed items →
     (top : TopItem) → (placed : IsPlaced items top) → (p : ℕ) → p < length top.items →
-    is_object_at ByContext (joined items) (top.start + p) ≡ object_told items placed.m top.items
-        (occurrence_at (tree_of_items top.items) (suc p))
+    is_object_at ByContext (joined items) (top.start + p)
+        ≡ object_told items placed.m top.items (occurrence_at (tree_of_items top.items) (suc p))
 object-at items whole named top placed p lt =
     ap (is_object_at ByContext (joined items)) place
-    ∙ ap (λ d. is_global_named (codes "Object") d && is_of_nothing ByContext
+    ∙ ap (λ d. is_global_named (codes "Object") d
+        && is_of_nothing ByContext
         (occurrence_at (joined items) (suc (offset items placed.m + p))))
         (denoted-joined items whole named placed.m top.items placed.there p lt)
     ∙ ap (λ o. is_global_named (codes "Object")
@@ -294,19 +295,19 @@ object-at items whole named top placed p lt =
     place = let start = placed.start in omega (arith, start)
 
     by_occurrence : (o : Option Occurrence) →
-        (is_global_named (codes "Object") (option_map (in_whole items placed.m top.items) o) &&
-            is_of_nothing ByContext (option_map (moved_occurrence (offset items placed.m)) o)) ≡
-            object_told items placed.m top.items o
+        (is_global_named (codes "Object") (option_map (in_whole items placed.m top.items) o)
+            && is_of_nothing ByContext (option_map (moved_occurrence (offset items placed.m)) o))
+            ≡ object_told items placed.m top.items o
     by_occurrence None = refl
     by_occurrence (Some u) = refl
 
 -- it is the same in two wholes, if in both or in neither some item declares it
 object-same : (items others : List (List Item)) (m n : ℕ) (item : List Item) → IsNamed item →
-    is_top_name others (name_of ByContext (codes "Object") 1) ≡ is_top_name items
-        (name_of ByContext (codes "Object") 1) →
+    is_top_name others (name_of ByContext (codes "Object") 1)
+        ≡ is_top_name items (name_of ByContext (codes "Object") 1) →
     (p : ℕ) →
-    object_told items m item (occurrence_at (tree_of_items item) p) ≡ object_told others n item
-        (occurrence_at (tree_of_items item) p)
+    object_told items m item (occurrence_at (tree_of_items item) p)
+        ≡ object_told others n item (occurrence_at (tree_of_items item) p)
 object-same items others m n item named object p =
     by_occurrence (occurrence_at (tree_of_items item) p) refl
   where
@@ -351,8 +352,8 @@ object-same items others m n item named object p =
                 (Some (cond t (Bound Top (its_name u)) (Global u.sym)))) same
 
     by_context : (u : Occurrence) → IsListedIn item u → (b : Bool) → (u.ctxt == 1) ≡ b →
-        (is_global_named (codes "Object") (Some (in_whole items m item u)) && b) ≡
-            (is_global_named (codes "Object") (Some (in_whole others n item u)) && b)
+        (is_global_named (codes "Object") (Some (in_whole items m item u)) && b)
+            ≡ (is_global_named (codes "Object") (Some (in_whole others n item u)) && b)
     by_context u listed true one = ap (λ g. g && true) (by_view u (viewed item named u listed) one)
     by_context u listed false one =
         fails (is_global_named (codes "Object") (Some (in_whole items m item u)))
@@ -398,15 +399,15 @@ mention-found tree tops owners s i x e =
         (occurrences item.items)) tops) s) refl e
   where
     by_item : (mentions : Option (List Mention)) →
-        slice_get (map (λ item.
-            map (mention_of ByContext tree (mentioned ByContext Top tree tops) item)
+        slice_get (map (λ item. map
+            (mention_of ByContext tree (mentioned ByContext Top tree tops) item)
             (occurrences item.items)) tops) s ≡ mentions →
         option_and_then (λ (m : List Mention). slice_get m i) mentions ≡ Some x →
         MentionOf tree tops s i x
     by_item None at is = absurd (none-some x is)
     by_item (Some mentions) at is =
-        let it = get-map (λ item.
-            map (mention_of ByContext tree (mentioned ByContext Top tree tops) item)
+        let it = get-map (λ item. map
+            (mention_of ByContext tree (mentioned ByContext Top tree tops) item)
             (occurrences item.items)) tops s mentions at in
         let o = get-map (mention_of ByContext tree (mentioned ByContext Top tree tops) it.0)
             (occurrences it.0.items) i x (ap (λ m. slice_get m i) (sym it.2) ∙ is) in
@@ -415,8 +416,8 @@ mention-found tree tops owners s i x e =
 mention-there : (tree : List Item) (tops : List TopItem) (owners : List (Option ℕ)) (s i : ℕ)
         (top : TopItem) (o : Occurrence) →
     slice_get tops s ≡ Some top → slice_get (occurrences top.items) i ≡ Some o →
-    mention_at (group_of ByContext Top tree tops owners) s i ≡ Some
-        (mention_of ByContext tree (mentioned ByContext Top tree tops) top o)
+    mention_at (group_of ByContext Top tree tops owners) s i
+        ≡ Some (mention_of ByContext tree (mentioned ByContext Top tree tops) top o)
 mention-there tree tops owners s i top o at there =
     ap (option_and_then (λ (m : List Mention). slice_get m i))
         (map-get (λ item. map (mention_of ByContext tree (mentioned ByContext Top tree tops) item)
@@ -428,8 +429,8 @@ mention-there tree tops owners s i top o at there =
 number-is : (tree : List Item) (tops : List TopItem) (top : TopItem) (o : Occurrence) (d : Denoted)
         →
     denoted_in ByContext tree top o ≡ Some d →
-    (mention_of ByContext tree (mentioned ByContext Top tree tops) top o).top ≡ position
-        (same_denoted d) (mentioned ByContext Top tree tops)
+    (mention_of ByContext tree (mentioned ByContext Top tree tops) top o).top
+        ≡ position (same_denoted d) (mentioned ByContext Top tree tops)
 number-is tree tops top o d e =
     ap (option_and_then (λ d. position (same_denoted d) (mentioned ByContext Top tree tops))) e
 
@@ -441,9 +442,9 @@ name_in (Global x) = record { sym = x; ctxt = None }
 -- told apart by the whole alone
 top-told_by : (item : List Item) (o : Occurrence) (name : Name) (t : Bool) (k : ℕ) {d : Denoted} →
     Viewed item o d → denoted_in_whole t k (its_name o) d ≡ Bound Top name →
-    (its_name o ≡ name) ×
-        (((is_written d ≡ false) × (t ≡ true)) ⊎ (is_written_in (own_declared item) Top
-        name ≡ true))
+    (its_name o ≡ name)
+        × (((is_written d ≡ false) × (t ≡ true))
+        ⊎ (is_written_in (own_declared item) Top name ≡ true))
 top-told_by item o name t k (written Wrapper at is) e = absurd at
 top-told_by item o name t k (written Top at is) e =
     let same = ap name_in e in
@@ -478,8 +479,8 @@ module _ (items others : List (List Item)) (whole : AllOf IsWhole items)
   -- the numbers of one binding
   abbrev pub Corresponds : ℕ → ℕ → Type 0
   Corresponds b c =
-      (d : Denoted) × (position (same_denoted d) ms ≡ Some b) ×
-          (position (same_denoted d) ns ≡ Some c)
+      (d : Denoted) × (position (same_denoted d) ms ≡ Some b)
+          × (position (same_denoted d) ns ≡ Some c)
 
   abbrev twin : ℕ → TopItem → TopItem
   twin n top = record { start = n; items = top.items }
@@ -518,8 +519,8 @@ module _ (items others : List (List Item)) (whole : AllOf IsWhole items)
     its_named : IsNamed top.items
     its_named = all-at IsNamed others its_place.m top.items other_named its_place.there
 
-    its_denoted : denoted_in ByContext (joined others) top o ≡ Some
-            (in_whole others its_place.m top.items its_home.u)
+    its_denoted : denoted_in ByContext (joined others) top o
+            ≡ Some (in_whole others its_place.m top.items its_home.u)
     its_denoted = denotes-in others other_whole other_named top its_place o its_home
 
     its_binding : is_binding its_home.u.role ≡ true
@@ -532,23 +533,23 @@ module _ (items others : List (List Item)) (whole : AllOf IsWhole items)
         by_kind told.1 (let back = beside its tops (sym picked.same) t top at in
             binds_own t (twin back.0 top) back.1 its_home.u its_listed its_binding)
       where
-        told : (its_name its_home.u ≡ name) ×
-                (((is_written (own_denoted top.items its_home.u) ≡ false) ×
-                (is_top_name others (its_name its_home.u) ≡ true)) ⊎
-                (is_written_in (own_declared top.items) Top name ≡ true))
+        told : (its_name its_home.u ≡ name)
+                × (((is_written (own_denoted top.items its_home.u) ≡ false)
+                × (is_top_name others (its_name its_home.u) ≡ true))
+                ⊎ (is_written_in (own_declared top.items) Top name ≡ true))
         told =
             top-told_by top.items its_home.u name (is_top_name others (its_name its_home.u))
                 (offset others its_place.m) (viewed top.items its_named its_home.u its_listed)
             (position-one ns (all-top (joined others) its)
                 (in_whole others its_place.m top.items its_home.u) (Bound Top name) c
             (sym (number-is (joined others) its top o
-                (in_whole others its_place.m top.items its_home.u) its_denoted) ∙ its_number)
-                number)
+                (in_whole others its_place.m top.items its_home.u) its_denoted)
+                ∙ its_number) number)
 
-        by_way : (is_written (own_denoted top.items its_home.u) ≡ false) ×
-                (is_top_name others (its_name its_home.u) ≡ true) →
-            (way_of its_home.u.path ≡ None → ⊥) ⊎
-                (is_top_name others (its_name its_home.u) ≡ true →
+        by_way : (is_written (own_denoted top.items its_home.u) ≡ false)
+                × (is_top_name others (its_name its_home.u) ≡ true) →
+            (way_of its_home.u.path ≡ None → ⊥)
+                ⊎ (is_top_name others (its_name its_home.u) ≡ true →
                 is_top_name items (its_name its_home.u) ≡ true) →
             ⊥
         by_way is (inl some) =
@@ -557,11 +558,11 @@ module _ (items others : List (List Item)) (whole : AllOf IsWhole items)
         by_way is (inr own) =
             false≢true (sym none ∙ ap (is_top_name items) (sym told.0) ∙ own is.1)
 
-        by_kind : ((is_written (own_denoted top.items its_home.u) ≡ false) ×
-                (is_top_name others (its_name its_home.u) ≡ true)) ⊎
-                (is_written_in (own_declared top.items) Top name ≡ true) →
-            (way_of its_home.u.path ≡ None → ⊥) ⊎
-                (is_top_name others (its_name its_home.u) ≡ true →
+        by_kind : ((is_written (own_denoted top.items its_home.u) ≡ false)
+                × (is_top_name others (its_name its_home.u) ≡ true))
+                ⊎ (is_written_in (own_declared top.items) Top name ≡ true) →
+            (way_of its_home.u.path ≡ None → ⊥)
+                ⊎ (is_top_name others (its_name its_home.u) ≡ true →
                 is_top_name items (its_name its_home.u) ≡ true) →
             ⊥
         by_kind (inl is) way = by_way is way
@@ -579,8 +580,8 @@ module _ (items others : List (List Item)) (whole : AllOf IsWhole items)
 
   -- two mentions of one identifier
   module _ (s i : ℕ) (top : TopItem) (n : ℕ) (o : Occurrence) (at : slice_get tops s ≡ Some top)
-      (its_at : slice_get its s ≡ Some (twin n top))
-      (there : slice_get (occurrences top.items) i ≡ Some o) where
+      (its_at : slice_get its s ≡ Some (twin n top)) (there : slice_get (occurrences top.items) i
+      ≡ Some o) where
     placed : IsPlaced items top
     placed = all-at (IsPlaced items) tops s top picked.placed at
 
@@ -687,12 +688,12 @@ module _ (items others : List (List Item)) (whole : AllOf IsWhole items)
             (mention_of ByContext (joined items) ms (twin other.0 it.top) it.o)) (sym it.is)
             (alike s i (twin other.0 it.top) it.top.start it.o other.1 it.at it.there));
     one =
-        λ b c d x y. same_Some c d
-            (sym x.2 ∙ ap (λ e. position (same_denoted e) ns)
+        λ b c d x y. same_Some c d (sym x.2
+            ∙ ap (λ e. position (same_denoted e) ns)
             (position-one ms (all-top (joined items) tops) x.0 y.0 b x.1 y.1) ∙ y.2);
     other_one =
-        λ b c d x y. same_Some c d
-            (sym x.1 ∙ ap (λ e. position (same_denoted e) ms)
+        λ b c d x y. same_Some c d (sym x.1
+            ∙ ap (λ e. position (same_denoted e) ms)
             (position-one ns (all-top (joined others) its) x.0 y.0 b x.2 y.2) ∙ y.1);
   }
 

@@ -35,8 +35,8 @@ kind_of_scope-moved k h.ClassExpr field outer =
 kind_of_scope-moved k _ field outer = refl
 
 scope_at-moved : (k begins : ℕ) (kind : Option ScopeKind) (rest : List Scope) →
-    scope_at (moved k begins) kind ++ map (moved_scope k) rest ≡ map (moved_scope k)
-        (scope_at begins kind ++ rest)
+    scope_at (moved k begins) kind ++ map (moved_scope k) rest
+        ≡ map (moved_scope k) (scope_at begins kind ++ rest)
 scope_at-moved k begins None rest = refl
 scope_at-moved k begins (Some kind) rest = refl
 
@@ -50,8 +50,8 @@ pub scopes_around-moved : (k : ℕ) (kind : ModuleKind) (path : List Around) →
     scopes_around kind (moved_path k path) ≡ map (moved_scope k) (scopes_around kind path)
 scopes_around-moved k kind [] = outermost-moved k kind
 scopes_around-moved k kind (node ∷ outer) =
-    (λ i. scope_at (moved k node.begins) (kind_of_scope-moved k node.head node.field outer i) ++
-        scopes_around-moved k kind outer i)
+    (λ i. scope_at (moved k node.begins) (kind_of_scope-moved k node.head node.field outer i)
+        ++ scopes_around-moved k kind outer i)
     ∙ scope_at-moved k node.begins (kind_of_scope node.head node.field outer)
         (scopes_around kind outer)
 
@@ -93,8 +93,8 @@ way_of-moved k (node ∷ outer) =
 
 -- what an identifier declares
 pub declaration-moved : (k : ℕ) (o : Occurrence) →
-    declaration_of ByContext Es (moved_occurrence k o) ≡ option_map (moved_declared k)
-        (declaration_of ByContext Es o)
+    declaration_of ByContext Es (moved_occurrence k o)
+        ≡ option_map (moved_declared k) (declaration_of ByContext Es o)
 declaration-moved k o =
     (λ i. cond (is_binding o.role)
         (declared_by (o.place + k) (name_of ByContext o.sym o.ctxt)
@@ -103,8 +103,8 @@ declaration-moved k o =
   where
     by_role : (b : Bool) (way : Option Way) →
         cond b (declared_by (o.place + k) (name_of ByContext o.sym o.ctxt)
-            (map (moved_scope k) (scopes_around Es o.path)) way) None ≡ option_map
-            (moved_declared k)
+            (map (moved_scope k) (scopes_around Es o.path)) way) None
+            ≡ option_map (moved_declared k)
             (cond b (declared_by o.place (name_of ByContext o.sym o.ctxt) (scopes_around Es o.path)
             way) None)
     by_role true None = refl
@@ -135,8 +135,8 @@ declared-named s (x ∷ xs) named =
     ∙ by_occurrence (occurrence_of s x) (occurrences_from (past s x) xs)
   where
     by_occurrence : (o : Option Occurrence) (os : List Occurrence) →
-        cons_option (option_and_then (declaration_of ByContext Es) o)
-            (declared_by_names os) ≡ declared_by_names (cons_option o os)
+        cons_option (option_and_then (declaration_of ByContext Es) o) (declared_by_names os)
+            ≡ declared_by_names (cons_option o os)
     by_occurrence None os = refl
     by_occurrence (Some o) os = refl
 
@@ -222,9 +222,9 @@ default-moved k a b m = λ i. nameless_default Es (m.place i)
 -- what the elements of an item declare, in front of others
 moved-declarations : (k depth : ℕ) (xs ys : List Item) (a b : Spot) → AreMoved k a b →
     open_behind depth xs ≡ Some 0 →
-    declared_from ByContext Es b (xs ++ ys) ≡ map (moved_declared k)
-        (declared_from ByContext Es a (xs ++ h.Close ∷ [])) ++ declared_from ByContext Es
-        (fold past b xs) ys
+    declared_from ByContext Es b (xs ++ ys)
+        ≡ map (moved_declared k) (declared_from ByContext Es a (xs ++ h.Close ∷ []))
+        ++ declared_from ByContext Es (fold past b xs) ys
 moved-declarations k depth [] ys a b m e = refl
 moved-declarations k depth (x ∷ xs) ys a b m e =
     let next = rest-open x xs depth 0 e in
@@ -246,8 +246,8 @@ moved-declarations k depth (x ∷ xs) ys a b m e =
   where
     first : (t : Bool) (o : Option Occurrence) →
         cond t (Some (nameless_default Es b.place))
-            (option_and_then (declaration_of ByContext Es) (occurrence_of b x)) ≡ option_map
-            (moved_declared k)
+            (option_and_then (declaration_of ByContext Es) (occurrence_of b x))
+            ≡ option_map (moved_declared k)
             (cond t (Some (nameless_default Es a.place))
             (option_and_then (declaration_of ByContext Es) (occurrence_of a x)))
     first true o = ap Some (default-moved k a b m)
@@ -256,22 +256,22 @@ moved-declarations k depth (x ∷ xs) ys a b m e =
         ∙ by_occurrence (occurrence_of a x)
       where
         by_occurrence : (o : Option Occurrence) →
-            option_and_then (declaration_of ByContext Es) (option_map (moved_occurrence k) o) ≡
-                option_map (moved_declared k) (option_and_then (declaration_of ByContext Es) o)
+            option_and_then (declaration_of ByContext Es) (option_map (moved_occurrence k) o)
+                ≡ option_map (moved_declared k) (option_and_then (declaration_of ByContext Es) o)
         by_occurrence None = refl
         by_occurrence (Some o) = declaration-moved k o
 
     joins : (o : Option Declared) (xs ys : List Declared) →
-        cons_option (option_map (moved_declared k) o) (map (moved_declared k) xs ++ ys) ≡ map
-            (moved_declared k) (cons_option o xs) ++ ys
+        cons_option (option_map (moved_declared k) o) (map (moved_declared k) xs ++ ys)
+            ≡ map (moved_declared k) (cons_option o xs) ++ ys
     joins None xs ys = refl
     joins (Some d) xs ys = refl
 
 -- DECLARATIONS: those of the whole are those of the items in turn, each moved.
 all-declarations : (k : ℕ) (s : Spot) → IsAt k s → (items : List (List Item)) →
     AllOf IsWhole items →
-    declared_from ByContext Es s (flat items ++ h.Close ∷ []) ≡ each_moved moved_declared
-        own_declared k items
+    declared_from ByContext Es s (flat items ++ h.Close ∷ [])
+        ≡ each_moved moved_declared own_declared k items
 all-declarations k s at [] whole = refl
 all-declarations k s at (item ∷ more) whole =
     ap (declared_from ByContext Es s) (append_assoc item (flat more) (h.Close ∷ []))

@@ -46,13 +46,13 @@ pub nothing-implied : (all : List Declared) → AllOf HasIdentifier all →
     (scope : Scope) (name : Name) →
     is_implied_in all scope name ≡ (is_arguments name.sym && is_function scope)
 nothing-implied all each scope name =
-    ap (λ b. (declares all scope (without_context name) && not b) ||
-        (is_arguments name.sym && is_function scope)) same
+    ap (λ b. (declares all scope (without_context name) && not b)
+        || (is_arguments name.sym && is_function scope)) same
     ∙ never (declares all scope (without_context name))
         (is_arguments name.sym && is_function scope)
   where
-    same : is_written_in all scope (without_context name) ≡ declares all scope
-            (without_context name)
+    same : is_written_in all scope (without_context name)
+            ≡ declares all scope (without_context name)
     same =
         any-same HasIdentifier (is_declared_in all scope (without_context name))
             (λ d. has_identifier d && is_declared_in all scope (without_context name) d)
@@ -117,8 +117,8 @@ module _ (before after : List (List Item)) (item : List Item)
 
   pub in_after : AllOf (IsDeclaredIn (1 + length item + further) last) declared_after
   in_after =
-      subst (λ n. AllOf (IsDeclaredIn n last) declared_after)
-          (let n : 1 + (further + length item) ≡ 1 + length item + further = omega arith in
+      subst (λ n. AllOf (IsDeclaredIn n last) declared_after) (let n : 1 + (further + length item)
+          ≡ 1 + length item + further = omega arith in
           n) (each-in (further + length item) last after (omega arith))
 
   -- what all declare
@@ -127,8 +127,10 @@ module _ (before after : List (List Item)) (item : List Item)
   all-is =
       declared-joined items whole
       ∙ each-append moved_declared own_declared before (item ∷ after) 0
-      ∙ ap (λ k. declared_before ++ (map (moved_declared k) own ++ each_moved moved_declared
-          own_declared (k + length item) after)) (let n : 0 + further ≡ further = omega arith in n)
+      ∙ ap (λ k. declared_before
+          ++ (map (moved_declared k) own
+          ++ each_moved moved_declared own_declared (k + length item) after))
+          (let n : 0 + further ≡ further = omega arith in n)
 
   -- HOMES: the scope to which a name of the item belongs
   pub home-joined : (d : Declared) → IsDeclaredIn 1 (1 + length item) d →
@@ -162,28 +164,30 @@ at_top items name d = has_identifier d && is_declared_in (own_declared (flat ite
 tops : (items before after : List (List Item)) → before ++ after ≡ items → AllOf IsWhole items →
     (name : Name) →
     list_any (λ d. has_identifier d && is_declared_in (own_declared (flat items)) Top name d)
-        (each_moved moved_declared own_declared (length (flat before)) after) ≡ list_any
-        (λ item. is_written_in (own_declared item) Top name) after
+        (each_moved moved_declared own_declared (length (flat before)) after)
+        ≡ list_any (λ item. is_written_in (own_declared item) Top name) after
 tops items before [] e whole name = refl
 tops items before (item ∷ more) e whole name =
     any-append (at_top items name)
         (map (moved_declared (length (flat before))) (own_declared item))
         (each_moved moved_declared own_declared (length (flat before) + length item) more)
-    ∙ ap (λ b. b || list_any (at_top items name)
-        (each_moved moved_declared own_declared (length (flat before) + length item) more)) first
-    ∙ ap (λ k. is_written_in (own_declared item) Top name || list_any (at_top items name)
-        (each_moved moved_declared own_declared k more)) further_more
+    ∙ ap (λ b. b || list_any (at_top items name) (each_moved moved_declared own_declared
+        (length (flat before) + length item) more)) first
+    ∙ ap (λ k. is_written_in (own_declared item) Top name
+        || list_any (at_top items name) (each_moved moved_declared own_declared k more))
+        further_more
     ∙ ap (λ b. is_written_in (own_declared item) Top name || b)
         (tops items (before ++ item ∷ []) more (append_assoc before (item ∷ []) more ∙ e) whole
         name)
   where
     first : list_any (at_top items name)
-            (map (moved_declared (length (flat before))) (own_declared item)) ≡ is_written_in
-            (own_declared item) Top name
+            (map (moved_declared (length (flat before))) (own_declared item))
+            ≡ is_written_in (own_declared item) Top name
     first =
-        subst (λ its. list_any (λ d. has_identifier d && is_declared_in (own_declared (flat its))
-            Top name d) (map (moved_declared (length (flat before))) (own_declared item)) ≡
-            is_written_in (own_declared item) Top name) e
+        subst (λ its. list_any
+            (λ d. has_identifier d && is_declared_in (own_declared (flat its)) Top name d)
+            (map (moved_declared (length (flat before))) (own_declared item))
+            ≡ is_written_in (own_declared item) Top name) e
             (top-joined before more item (subst (AllOf IsWhole) (sym e) whole) name)
 
     further_more : length (flat before) + length item ≡ length (flat (before ++ item ∷ []))
@@ -197,8 +201,9 @@ tops items before (item ∷ more) e whole name =
 pub top-written : (items : List (List Item)) → AllOf IsWhole items → (name : Name) →
     is_written_in (own_declared (flat items)) Top name ≡ is_top_name items name
 top-written items whole name =
-    ap (λ ds. list_any (λ d. has_identifier d && is_declared_in (own_declared (flat items)) Top
-        name d) ds) (declared-joined items whole)
+    ap (λ ds. list_any
+        (λ d. has_identifier d && is_declared_in (own_declared (flat items)) Top name d) ds)
+        (declared-joined items whole)
     ∙ tops items [] items refl whole name
 
 -- Scopes that are found.
@@ -209,8 +214,8 @@ found_in_whole is_top_name k None = cond is_top_name (Some Top) None
 found_in_whole is_top_name k (Some scope) = Some (moved_scope k scope)
 
 found-chain : (k high : ℕ) (p q : Scope → Bool) →
-    ((scope : Scope) → IsIn 1 high scope → is_top scope ≡ false → q (moved_scope k scope) ≡ p
-        scope) →
+    ((scope : Scope) → IsIn 1 high scope → is_top scope ≡ false →
+        q (moved_scope k scope) ≡ p scope) →
     (p Top ≡ true → q Top ≡ true) → (scopes : List Scope) → IsChain high scopes →
     find q (map (moved_scope k) scopes) ≡ found_in_whole (q Top) k (find p scopes)
 found-chain k high p q same top [] chain = absurd chain
@@ -229,16 +234,16 @@ found-chain k high p q same top (Inner kind begins ∷ outer) chain =
   where
     by_first : (b : Bool) →
         find q (map (moved_scope k) outer) ≡ found_in_whole (q Top) k (find p outer) →
-        cond b (Some (moved_scope k (Inner kind begins))) (find q (map (moved_scope k) outer)) ≡
-            found_in_whole (q Top) k (cond b (Some (Inner kind begins)) (find p outer))
+        cond b (Some (moved_scope k (Inner kind begins))) (find q (map (moved_scope k) outer))
+            ≡ found_in_whole (q Top) k (cond b (Some (Inner kind begins)) (find p outer))
     by_first true ih = refl
     by_first false ih = ih
 
 -- what is implied
 implied-whole : (k : ℕ) (all own : List Declared) (scopes : List Scope) (sym : List ℕ) (ctxt : ℕ) →
     IsPlain all (name_of ByContext sym ctxt) → IsPlain own (name_of ByContext sym ctxt) →
-    implied all (map (moved_scope k) scopes) (name_of ByContext sym ctxt) ≡ moved_denoted k
-        (implied own scopes (name_of ByContext sym ctxt))
+    implied all (map (moved_scope k) scopes) (name_of ByContext sym ctxt)
+        ≡ moved_denoted k (implied own scopes (name_of ByContext sym ctxt))
 implied-whole k all own scopes sym ctxt safe own_safe =
     ap (λ found. cond (is_unresolved (Some ctxt)) (Global sym)
         (bound_in (without_context (name_of ByContext sym ctxt)) found)) found
@@ -246,7 +251,8 @@ implied-whole k all own scopes sym ctxt safe own_safe =
         (find (λ scope. is_implied_in own scope (name_of ByContext sym ctxt)) scopes)
   where
     found : find (λ scope. is_implied_in all scope (name_of ByContext sym ctxt))
-            (map (moved_scope k) scopes) ≡ option_map (moved_scope k)
+            (map (moved_scope k) scopes)
+            ≡ option_map (moved_scope k)
             (find (λ scope. is_implied_in own scope (name_of ByContext sym ctxt)) scopes)
     found =
         find-map (λ scope. is_implied_in own scope (name_of ByContext sym ctxt))
@@ -258,8 +264,9 @@ implied-whole k all own scopes sym ctxt safe own_safe =
     by_cases : (b : Bool) (o : Option Scope) →
         cond b (Global sym)
             (bound_in (without_context (name_of ByContext sym ctxt))
-            (option_map (moved_scope k) o)) ≡ moved_denoted k
-            (cond b (Global sym) (bound_in (without_context (name_of ByContext sym ctxt)) o))
+            (option_map (moved_scope k) o))
+            ≡ moved_denoted k (cond b (Global sym)
+            (bound_in (without_context (name_of ByContext sym ctxt)) o))
     by_cases true o = refl
     by_cases false None = refl
     by_cases false (Some scope) = refl
@@ -313,8 +320,8 @@ module _ (before after : List (List Item)) (item : List Item)
   top-more e =
       on-top
       ∙ any-append (λ one. is_written_in (own_declared one) Top name) before (item ∷ after)
-      ∙ ap (λ b. list_any (λ one. is_written_in (own_declared one) Top name)
-          before || (b || list_any (λ one. is_written_in (own_declared one) Top name) after)) e
+      ∙ ap (λ b. list_any (λ one. is_written_in (own_declared one) Top name) before
+          || (b || list_any (λ one. is_written_in (own_declared one) Top name) after)) e
       ∙ or_true (list_any (λ one. is_written_in (own_declared one) Top name) before)
     where
       or_true : (b : Bool) → (b || true) ≡ true
@@ -322,7 +329,8 @@ module _ (before after : List (List Item)) (item : List Item)
       or_true false = refl
 
   found-whole : find (λ scope. is_written_in whole_declared scope name)
-          (map (moved_scope k) around) ≡ found_in_whole (is_written_in whole_declared Top name) k
+          (map (moved_scope k) around)
+          ≡ found_in_whole (is_written_in whole_declared Top name) k
           (find (λ scope. is_written_in item_declared scope name) around)
   found-whole =
       found-chain k (1 + length item) (λ scope. is_written_in item_declared scope name)
@@ -330,8 +338,8 @@ module _ (before after : List (List Item)) (item : List Item)
           (λ scope at inner. written-joined before after item whole scope name at inner) top-more
           around (chain-of (1 + length item) o.path within)
 
-  reference-joined : denoted_by_context whole_declared (map (moved_scope k) around)
-          name ≡ denoted_in_whole on_top k name (denoted_by_context item_declared around name)
+  reference-joined : denoted_by_context whole_declared (map (moved_scope k) around) name
+          ≡ denoted_in_whole on_top k name (denoted_by_context item_declared around name)
   reference-joined =
       ap (written_or_implied whole_declared (map (moved_scope k) around) name) (found-whole
           ∙ ap (λ b. found_in_whole b k
@@ -340,15 +348,16 @@ module _ (before after : List (List Item)) (item : List Item)
     where
       by_top : (b : Bool) →
           written_or_implied whole_declared (map (moved_scope k) around) name
-              (cond b (Some Top) None) ≡ cond (not false && b) (Bound Top name)
+              (cond b (Some Top) None)
+              ≡ cond (not false && b) (Bound Top name)
               (moved_denoted k (implied item_declared around name))
       by_top true = refl
       by_top false = implied-whole k whole_declared item_declared around o.sym o.ctxt safe own_safe
 
       by_found : (found : Option Scope) →
           written_or_implied whole_declared (map (moved_scope k) around) name
-              (found_in_whole on_top k found) ≡ denoted_in_whole on_top k name
-              (written_or_implied item_declared around name found)
+              (found_in_whole on_top k found)
+              ≡ denoted_in_whole on_top k name (written_or_implied item_declared around name found)
       by_found None =
           by_top on_top
           ∙ ap (λ b. cond (not b && on_top) (Bound Top name)
@@ -357,9 +366,8 @@ module _ (before after : List (List Item)) (item : List Item)
       by_found (Some scope) = refl
 
   -- DENOTES: what an occurrence of an item denotes in the whole.
-  pub denotes-plain : denoted_of ByContext Es whole_declared
-          (moved_occurrence k o) ≡ denoted_in_whole on_top k name
-          (denoted_of ByContext Es item_declared o)
+  pub denotes-plain : denoted_of ByContext Es whole_declared (moved_occurrence k o)
+          ≡ denoted_in_whole on_top k name (denoted_of ByContext Es item_declared o)
   denotes-plain =
       ap (λ scopes. own_or_found whole_declared (denoted_by_context whole_declared scopes name)
           (declaration_of ByContext Es (moved_occurrence k o))) (scopes_around-moved k Es o.path)
@@ -371,8 +379,8 @@ module _ (before after : List (List Item)) (item : List Item)
       by_role : (b : Bool) (way : Option Way) →
           own_or_found whole_declared
               (denoted_by_context whole_declared (map (moved_scope k) around) name)
-              (option_map (moved_declared k) (cond b (declared_by o.place name around way) None)) ≡
-              denoted_in_whole on_top k name
+              (option_map (moved_declared k) (cond b (declared_by o.place name around way) None))
+              ≡ denoted_in_whole on_top k name
               (own_or_found item_declared (denoted_by_context item_declared around name)
               (cond b (declared_by o.place name around way) None))
       by_role false way = reference-joined
@@ -387,8 +395,8 @@ pub denotes-joined : (before after : List (List Item)) (item : List Item) →
     AllOf IsWhole (before ++ item ∷ after) → AllOf IsNamed (before ++ item ∷ after) →
     (o : Occurrence) → IsOccurrenceIn 1 (1 + length item) o →
     denoted_of ByContext Es (own_declared (flat (before ++ item ∷ after)))
-        (moved_occurrence (length (flat before)) o) ≡ denoted_in_whole
-        (is_top_name (before ++ item ∷ after) (name_of ByContext o.sym o.ctxt))
+        (moved_occurrence (length (flat before)) o)
+        ≡ denoted_in_whole (is_top_name (before ++ item ∷ after) (name_of ByContext o.sym o.ctxt))
         (length (flat before)) (name_of ByContext o.sym o.ctxt)
         (denoted_of ByContext Es (own_declared item) o)
 denotes-joined before after item whole named o within =

@@ -62,15 +62,15 @@ abbrev named_arguments : List Item
 named_arguments = declares_in 0 v.Var (codes "arguments") 5
 
 -- by itself the name denotes the function's own `arguments`
-inner_by_itself : denotations ByContext Es (tree_of_items calls) ≡ Bound Top
-        (with (codes "f") 2) ∷ Bound (Inner Parameters 3) (plain (codes "arguments")) ∷ []
+inner_by_itself : denotations ByContext Es (tree_of_items calls) ≡ Bound Top (with (codes "f") 2)
+        ∷ Bound (Inner Parameters 3) (plain (codes "arguments")) ∷ []
 inner_by_itself = refl
 
 -- and in the whole the other item's: so a note that it is an inner one needs that no item declares
 -- it at its top
-top_in_the_whole : denotations ByContext Es (joined (calls ∷ named_arguments ∷ [])) ≡ Bound Top
-        (with (codes "f") 2) ∷ Bound Top (with (codes "arguments") 5) ∷ Bound Top
-        (with (codes "arguments") 5) ∷ []
+top_in_the_whole : denotations ByContext Es (joined (calls ∷ named_arguments ∷ []))
+        ≡ Bound Top (with (codes "f") 2) ∷ Bound Top (with (codes "arguments") 5)
+        ∷ Bound Top (with (codes "arguments") 5) ∷ []
 top_in_the_whole = refl
 
 -- `x#2; x#3;`, whose names other items declare
@@ -84,9 +84,9 @@ not_by_itself resolved =
 
 -- though in the whole they are told apart
 apart_in_the_whole : denotations ByContext Es
-        (joined (two_names ∷ declares_in 0 v.Let (codes "x") 2 ∷ declares_in 0 v.Let (codes "x")
-        3 ∷ [])) ≡ Bound Top (with (codes "x") 2) ∷ Bound Top (with (codes "x") 3) ∷ Bound Top
-        (with (codes "x") 2) ∷ Bound Top (with (codes "x") 3) ∷ []
+        (joined (two_names ∷ declares_in 0 v.Let (codes "x") 2 ∷ declares_in 0 v.Let (codes "x") 3
+        ∷ [])) ≡ Bound Top (with (codes "x") 2) ∷ Bound Top (with (codes "x") 3)
+        ∷ Bound Top (with (codes "x") 2) ∷ Bound Top (with (codes "x") 3) ∷ []
 apart_in_the_whole = refl
 
 -- An identifier that binds where nothing declares it, with a name that another block declares: it
@@ -100,15 +100,15 @@ abbrev top_and_declares : Group → List (List (Option ℕ × Bool))
 top_and_declares g = map (map (λ (m : Mention). (m.top, m.declares))) g.items
 
 stray_alone : top_and_declares (group_of ByContext Top (joined (stray ∷ reads (codes "x") 5 ∷ []))
-        (placed 1 (stray ∷ reads (codes "x") 5 ∷ [])) []) ≡ ((None, true) ∷ []) ∷
-        ((None, false) ∷ []) ∷ []
+        (placed 1 (stray ∷ reads (codes "x") 5 ∷ [])) []) ≡ ((None, true) ∷ [])
+        ∷ ((None, false) ∷ []) ∷ []
 stray_alone = refl
 
 stray_in_the_whole : top_and_declares
         (group_of ByContext Top
         (joined (stray ∷ reads (codes "x") 5 ∷ declares_in 0 v.Let (codes "x") 5 ∷ []))
-        (placed 1 (stray ∷ reads (codes "x") 5 ∷ [])) []) ≡ ((Some 0, true) ∷ []) ∷
-        ((Some 0, false) ∷ []) ∷ []
+        (placed 1 (stray ∷ reads (codes "x") 5 ∷ [])) []) ≡ ((Some 0, true) ∷ [])
+        ∷ ((Some 0, false) ∷ []) ∷ []
 stray_in_the_whole = refl
 
 -- What is asked of items is no contradiction: `x#2;` and `let x#2;` are told apart, so the whole
@@ -150,8 +150,8 @@ told_apart = record {
       λ m item o at listed denotes not_top.
           absurd (true≢false (sym (outer_at m item o at listed).1 ∙ not_top));
   others =
-      λ m n item other a b ne at there listed its_listed is same.
-          true≢false (sym is ∙ (outer_at m item a at listed).0);
+      λ m n item other a b ne at there listed its_listed is same. true≢false (sym is
+          ∙ (outer_at m item a at listed).0);
   own_arguments =
       λ m item o at listed not_top denotes.
           absurd (true≢false (sym (outer_at m item o at listed).1 ∙ not_top));

@@ -118,13 +118,13 @@ other-parameter low high other last sides scope at name d is =
 parameter-moved : (k : ℕ) (scope : Scope) (name : Name) (d : Declared) →
     is_parameter (moved_scope k scope) name (moved_declared k d) ≡ is_parameter scope name d
 parameter-moved k scope name d =
-    ap (λ t. (is_parameters t || is_wrapper t) && same_scope t (moved_scope k scope) && names_agree
-        d.name name) (taker-moved k d)
-    ∙ ap (λ b. (b || is_wrapper (moved_scope k (taker d))) && same_scope (moved_scope k (taker d))
-        (moved_scope k scope) && names_agree d.name name)
+    ap (λ t. (is_parameters t || is_wrapper t) && same_scope t (moved_scope k scope)
+        && names_agree d.name name) (taker-moved k d)
+    ∙ ap (λ b. (b || is_wrapper (moved_scope k (taker d)))
+        && same_scope (moved_scope k (taker d)) (moved_scope k scope) && names_agree d.name name)
         (is_parameters-relocated (moved k) (taker d))
-    ∙ ap (λ b. (is_parameters (taker d) || b) && same_scope (moved_scope k (taker d))
-        (moved_scope k scope) && names_agree d.name name)
+    ∙ ap (λ b. (is_parameters (taker d) || b)
+        && same_scope (moved_scope k (taker d)) (moved_scope k scope) && names_agree d.name name)
         (is_wrapper-relocated (moved k) (taker d))
     ∙ ap (λ b. (is_parameters (taker d) || is_wrapper (taker d)) && b && names_agree d.name name)
         (same-moved k (taker d) scope)
@@ -159,8 +159,8 @@ module _ (before own after : List Declared) (k n last : ℕ)
       or_false false = refl
 
   any-parameter : (scope : Scope) (name : Name) → IsIn 1 (1 + n) scope →
-      list_any (is_parameter (moved_scope k scope) name) all_of ≡ list_any
-          (is_parameter scope name) own
+      list_any (is_parameter (moved_scope k scope) name) all_of
+          ≡ list_any (is_parameter scope name) own
   any-parameter scope name at =
       any-own (is_parameter scope name) (is_parameter (moved_scope k scope) name)
       (λ d is. other-parameter (1 + k) (1 + n + k) 1 (1 + k) (inr (omega arith))
@@ -182,8 +182,8 @@ module _ (before own after : List Declared) (k n last : ℕ)
       ∙ by_joins (joins_parameter d.by)
     where
       by_beside : (beside : Option Scope) → HasIn (IsIn 1 (1 + n)) beside →
-          home_beside all_of (moved_declared k d) (option_map (moved_scope k) beside) ≡ moved_scope
-              k (home_beside own d beside)
+          home_beside all_of (moved_declared k d) (option_map (moved_scope k) beside)
+              ≡ moved_scope k (home_beside own d beside)
       by_beside None has = taker-moved k d
       by_beside (Some scope) has =
           ap (λ b. cond b (moved_scope k scope) (taker (moved_declared k d)))
@@ -191,16 +191,17 @@ module _ (before own after : List Declared) (k n last : ℕ)
           ∙ by_found (list_any (is_parameter scope d.name) own)
         where
           by_found : (b : Bool) →
-              cond b (moved_scope k scope) (taker (moved_declared k d)) ≡ moved_scope k
-                  (cond b scope (taker d))
+              cond b (moved_scope k scope) (taker (moved_declared k d))
+                  ≡ moved_scope k (cond b scope (taker d))
           by_found true = refl
           by_found false = taker-moved k d
 
       by_joins : (b : Bool) →
           cond b (home_beside all_of (moved_declared k d)
               (option_map (moved_scope k) (parameters_of (from_taker d.by d.scopes))))
-              (taker (moved_declared k d)) ≡ moved_scope k
-              (cond b (home_beside own d (parameters_of (from_taker d.by d.scopes))) (taker d))
+              (taker (moved_declared k d))
+              ≡ moved_scope k (cond b
+              (home_beside own d (parameters_of (from_taker d.by d.scopes))) (taker d))
       by_joins true =
           by_beside (parameters_of (from_taker d.by d.scopes))
               (parameters-in (IsIn 1 (1 + n)) (from_taker d.by d.scopes)
@@ -220,9 +221,9 @@ module _ (before own after : List Declared) (k n last : ℕ)
       (λ d is. outside d (apart (1 + n + k) last (1 + k) (1 + n + k) (inr (omega arith))
           (home_of all_of d) (moved_scope k scope) (home-in (IsIn (1 + n + k) last) tt all_of d is)
           (in-moved k (1 + n) scope at) (is_top-relocated (moved k) scope ∙ inner)))
-      (λ d is. ap (λ home. has_identifier
-          d && (same_scope home (moved_scope k scope) && names_agree d.name name))
-          (home-moved d is) ∙ ap (λ b. has_identifier d && (b && names_agree d.name name))
+      (λ d is. ap (λ home. has_identifier d
+          && (same_scope home (moved_scope k scope) && names_agree d.name name)) (home-moved d is)
+          ∙ ap (λ b. has_identifier d && (b && names_agree d.name name))
           (same-moved k (home_of own d) scope))
     where
       fails : (x y : Bool) → (x && (false && y)) ≡ false
@@ -230,8 +231,8 @@ module _ (before own after : List Declared) (k n last : ℕ)
       fails false y = refl
 
       outside : (d : Declared) → same_scope (home_of all_of d) (moved_scope k scope) ≡ false →
-          (has_identifier d && (same_scope (home_of all_of d) (moved_scope k scope) && names_agree
-              d.name name)) ≡ false
+          (has_identifier d && (same_scope (home_of all_of d) (moved_scope k scope)
+              && names_agree d.name name)) ≡ false
       outside d e =
           ap (λ b. has_identifier d && (b && names_agree d.name name)) e
           ∙ fails (has_identifier d) (names_agree d.name name)

@@ -51,11 +51,11 @@ pub record IsOfItem (items : List (List Item)) (a : Occurrence) : Type 0 where
   pub is : a ≡ moved_occurrence (offset items m) o
 
 found-in : (k : ℕ) (items : List (List Item)) (i : ℕ) (a : Occurrence) →
-    slice_get (each_moved moved_occurrence (λ item. occurrences (tree_of_items item)) k items)
-        i ≡ Some a →
-    (m : ℕ) × (item : List Item) × (slice_get items m ≡ Some item) × (j : ℕ) × (o : Occurrence) ×
-        (slice_get (occurrences (tree_of_items item)) j ≡ Some o) ×
-        (a ≡ moved_occurrence (k + offset items m) o)
+    slice_get (each_moved moved_occurrence (λ item. occurrences (tree_of_items item)) k items) i
+        ≡ Some a →
+    (m : ℕ) × (item : List Item) × (slice_get items m ≡ Some item) × (j : ℕ) × (o : Occurrence)
+        × (slice_get (occurrences (tree_of_items item)) j ≡ Some o)
+        × (a ≡ moved_occurrence (k + offset items m) o)
 found-in k [] i a e = absurd (none-some a e)
 found-in k (item ∷ more) i a e =
     by_side (get-append (map (moved_occurrence k) (occurrences (tree_of_items item)))
@@ -67,13 +67,13 @@ found-in k (item ∷ more) i a e =
             (each_moved moved_occurrence (λ i. occurrences (tree_of_items i)) (k + length item)
             more) j ≡ Some a))
         → ((j : ℕ) → slice_get (each_moved moved_occurrence (λ i. occurrences (tree_of_items i))
-            (k + length item) more) j ≡ Some a →
-            (m : ℕ) × (one : List Item) × (slice_get more m ≡ Some one) × (j : ℕ) ×
-            (o : Occurrence) × (slice_get (occurrences (tree_of_items one)) j ≡ Some o) ×
-            (a ≡ moved_occurrence (k + length item + offset more m) o))
-        → (m : ℕ) × (one : List Item) × (slice_get (item ∷ more) m ≡ Some one) × (j : ℕ) ×
-            (o : Occurrence) × (slice_get (occurrences (tree_of_items one)) j ≡ Some o) ×
-            (a ≡ moved_occurrence (k + offset (item ∷ more) m) o)
+            (k + length item) more) j ≡ Some a → (m : ℕ) × (one : List Item)
+            × (slice_get more m ≡ Some one) × (j : ℕ) × (o : Occurrence)
+            × (slice_get (occurrences (tree_of_items one)) j ≡ Some o)
+            × (a ≡ moved_occurrence (k + length item + offset more m) o))
+        → (m : ℕ) × (one : List Item) × (slice_get (item ∷ more) m ≡ Some one) × (j : ℕ)
+            × (o : Occurrence) × (slice_get (occurrences (tree_of_items one)) j ≡ Some o)
+            × (a ≡ moved_occurrence (k + offset (item ∷ more) m) o)
     by_side (inl here) ih =
         let found = get-map (moved_occurrence k) (occurrences (tree_of_items item)) i a here in
         let n : k ≡ k + 0 = omega arith in

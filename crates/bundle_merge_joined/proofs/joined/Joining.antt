@@ -135,12 +135,14 @@ module _ (item : List Item) (resolved : IsResolved Es (tree_of_items item)) wher
 -- what stands at a place of an item
 pub occurrence-placed : (items : List (List Item)) → AllOf IsWhole items →
     (m : ℕ) (item : List Item) → slice_get items m ≡ Some item → (p : ℕ) → p < length item →
-    occurrence_at (joined items) (suc (offset items m + p)) ≡ option_map
-        (moved_occurrence (offset items m)) (occurrence_at (tree_of_items item) (suc p))
+    occurrence_at (joined items) (suc (offset items m + p))
+        ≡ option_map (moved_occurrence (offset items m))
+        (occurrence_at (tree_of_items item) (suc p))
 occurrence-placed items whole m item at p lt =
     let e = split-at items m item at in
-    subst (λ its. occurrence_at (joined its) (suc (offset items m + p)) ≡ option_map
-        (moved_occurrence (offset items m)) (occurrence_at (tree_of_items item) (suc p))) e
+    subst (λ its. occurrence_at (joined its) (suc (offset items m + p))
+        ≡ option_map (moved_occurrence (offset items m))
+        (occurrence_at (tree_of_items item) (suc p))) e
     (occurrence_at-joined (take m items) (drop (suc m) items) item
         (all-front IsWhole (take m items) (item ∷ drop (suc m) items)
         (subst (AllOf IsWhole) (sym e) whole)) p lt)
@@ -148,9 +150,9 @@ occurrence-placed items whole m item at p lt =
 -- PLACES: what stands at a place of an item denotes in the whole.
 pub denoted-joined : (items : List (List Item)) → AllOf IsWhole items → AllOf IsNamed items →
     (m : ℕ) (item : List Item) → slice_get items m ≡ Some item → (p : ℕ) → p < length item →
-    denoted_at ByContext Es (joined items) (suc (offset items m + p)) ≡ option_map
-        (λ o. denoted_in_whole (is_top_name items (its_name o)) (offset items m) (its_name o)
-        (own_denoted item o)) (occurrence_at (tree_of_items item) (suc p))
+    denoted_at ByContext Es (joined items) (suc (offset items m + p))
+        ≡ option_map (λ o. denoted_in_whole (is_top_name items (its_name o)) (offset items m)
+        (its_name o) (own_denoted item o)) (occurrence_at (tree_of_items item) (suc p))
 denoted-joined items whole named m item at p lt =
     ap (option_map (denoted_of ByContext Es (own_declared (flat items))))
         (occurrence-placed items whole m item at p lt)
@@ -158,9 +160,9 @@ denoted-joined items whole named m item at p lt =
   where
     by_occurrence : (o : Option Occurrence) → occurrence_at (tree_of_items item) (suc p) ≡ o →
         option_map (denoted_of ByContext Es (own_declared (flat items)))
-            (option_map (moved_occurrence (offset items m)) o) ≡ option_map
-            (λ o. denoted_in_whole (is_top_name items (its_name o)) (offset items m) (its_name o)
-            (own_denoted item o)) o
+            (option_map (moved_occurrence (offset items m)) o)
+            ≡ option_map (λ o. denoted_in_whole (is_top_name items (its_name o)) (offset items m)
+            (its_name o) (own_denoted item o)) o
     by_occurrence None there = refl
     by_occurrence (Some o) there =
         ap Some (denotes-at items whole named m item at o
@@ -185,18 +187,19 @@ in-turn items before (item ∷ more) e whole named =
         (map (moved_occurrence (length (flat before))) (occurrences (tree_of_items item)))
         (each_moved moved_occurrence (λ i. occurrences (tree_of_items i))
         (length (flat before) + length item) more)
-    ∙ ap (λ front. front ++ map (denoted_of ByContext Es (own_declared (flat items)))
+    ∙ ap (λ front. front
+        ++ map (denoted_of ByContext Es (own_declared (flat items)))
         (each_moved moved_occurrence (λ i. occurrences (tree_of_items i))
         (length (flat before) + length item) more)) first
     ∙ ap (λ rest. map (λ o. denoted_in_whole (is_top_name items (its_name o))
         (length (flat before)) (its_name o) (own_denoted item o))
-        (occurrences (tree_of_items item)) ++ rest)
-        (rest (in-turn items (before ++ item ∷ []) more (append_assoc before (item ∷ []) more ∙ e)
-        whole named))
+        (occurrences (tree_of_items item))
+        ++ rest) (rest (in-turn items (before ++ item ∷ []) more
+        (append_assoc before (item ∷ []) more ∙ e) whole named))
   where
     first : map (denoted_of ByContext Es (own_declared (flat items)))
-            (map (moved_occurrence (length (flat before))) (occurrences (tree_of_items item))) ≡
-            map (λ o. denoted_in_whole (is_top_name items (its_name o)) (length (flat before))
+            (map (moved_occurrence (length (flat before))) (occurrences (tree_of_items item)))
+            ≡ map (λ o. denoted_in_whole (is_top_name items (its_name o)) (length (flat before))
             (its_name o) (own_denoted item o)) (occurrences (tree_of_items item))
     first =
         map-twice (IsOccurrenceIn 1 (1 + length item)) (moved_occurrence (length (flat before)))
@@ -205,8 +208,8 @@ in-turn items before (item ∷ more) e whole named =
             (its_name o) (own_denoted item o))
         (λ o within. subst
             (λ its. denoted_of ByContext Es (own_declared (flat its))
-            (moved_occurrence (length (flat before)) o) ≡ denoted_in_whole
-            (is_top_name its (its_name o)) (length (flat before)) (its_name o)
+            (moved_occurrence (length (flat before)) o)
+            ≡ denoted_in_whole (is_top_name its (its_name o)) (length (flat before)) (its_name o)
             (own_denoted item o)) e
         (denotes-joined before more item (subst (AllOf IsWhole) (sym e) whole)
             (subst (AllOf IsNamed) (sym e) named) o within))
@@ -220,16 +223,16 @@ in-turn items before (item ∷ more) e whole named =
 
     rest : map (denoted_of ByContext Es (own_declared (flat items)))
             (each_moved moved_occurrence (λ i. occurrences (tree_of_items i))
-            (length (flat (before ++ item ∷ []))) more) ≡ denoted_in_turn items
-            (length (flat (before ++ item ∷ []))) more →
+            (length (flat (before ++ item ∷ []))) more)
+            ≡ denoted_in_turn items (length (flat (before ++ item ∷ []))) more →
         map (denoted_of ByContext Es (own_declared (flat items)))
             (each_moved moved_occurrence (λ i. occurrences (tree_of_items i))
-            (length (flat before) + length item) more) ≡ denoted_in_turn items
-            (length (flat before) + length item) more
+            (length (flat before) + length item) more)
+            ≡ denoted_in_turn items (length (flat before) + length item) more
     rest ih =
         subst (λ k. map (denoted_of ByContext Es (own_declared (flat items)))
-            (each_moved moved_occurrence (λ i. occurrences (tree_of_items i)) k more) ≡
-            denoted_in_turn items k more) further ih
+            (each_moved moved_occurrence (λ i. occurrences (tree_of_items i)) k more)
+            ≡ denoted_in_turn items k more) further ih
 
 pub denotations-joined : (items : List (List Item)) → AllOf IsWhole items → AllOf IsNamed items →
     denotations ByContext Es (joined items) ≡ denoted_in_turn items 0 items

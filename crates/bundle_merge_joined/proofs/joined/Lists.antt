@@ -118,16 +118,15 @@ map-get f xs i x e = slice_get-map f xs i ∙ ap (option_map f) e
 -- what is told of items that stand before others, and of those
 pub each-append : {A : Type 0} (move : ℕ → A → A) (tell : List Item → List A)
         (before more : List (List Item)) (k : ℕ) →
-    each_moved move tell k (before ++ more) ≡ each_moved move tell k before ++ each_moved move tell
-        (k + length (flat before)) more
+    each_moved move tell k (before ++ more) ≡ each_moved move tell k before
+        ++ each_moved move tell (k + length (flat before)) more
 each-append move tell [] more k =
     let n : k ≡ k + 0 = omega arith in ap (λ k. each_moved move tell k more) n
 each-append move tell (item ∷ before) more k =
     ap (λ rest. map (move k) (tell item) ++ rest)
         (each-append move tell before more (k + length item))
-    ∙ ap (λ n. map (move k)
-        (tell item) ++ (each_moved move tell (k + length item) before ++ each_moved move tell n
-        more)) further
+    ∙ ap (λ n. map (move k) (tell item)
+        ++ (each_moved move tell (k + length item) before ++ each_moved move tell n more)) further
     ∙ sym (append_assoc (map (move k) (tell item)) (each_moved move tell (k + length item) before)
         (each_moved move tell (k + length (item ++ flat before)) more))
   where

@@ -62,8 +62,8 @@ filter-moved k p q same (x ∷ xs) =
     by_first : (b : Bool) →
         filter q (map (moved_denoted k) xs) ≡ map (moved_denoted k) (filter p xs) →
         cond b (moved_denoted k x ∷ filter q (map (moved_denoted k) xs))
-            (filter q (map (moved_denoted k) xs)) ≡ map (moved_denoted k)
-            (cond b (x ∷ filter p xs) (filter p xs))
+            (filter q (map (moved_denoted k) xs))
+            ≡ map (moved_denoted k) (cond b (x ∷ filter p xs) (filter p xs))
     by_first true ih = ap (λ rest. moved_denoted k x ∷ rest) ih
     by_first false ih = ih
 
@@ -71,8 +71,8 @@ once-moved : (k : ℕ) (xs : List Denoted) →
     each_denoted_once (map (moved_denoted k) xs) ≡ map (moved_denoted k) (each_denoted_once xs)
 once-moved k [] = refl
 once-moved k (x ∷ xs) =
-    ap (λ rest. moved_denoted k x ∷ filter (λ other. not (same_denoted (moved_denoted k x) other))
-        rest) (once-moved k xs)
+    ap (λ rest. moved_denoted k x
+        ∷ filter (λ other. not (same_denoted (moved_denoted k x) other)) rest) (once-moved k xs)
     ∙ ap (λ rest. moved_denoted k x ∷ rest)
         (filter-moved k (λ other. not (same_denoted x other))
         (λ other. not (same_denoted (moved_denoted k x) other))
@@ -86,8 +86,8 @@ prefix-moved k p q same (x ∷ xs) =
     ∙ ap (λ n. cond (p x) (1 + n) 0) (prefix-moved k p q same xs)
 
 pub position-moved : (k : ℕ) (d : Denoted) (xs : List Denoted) →
-    position (same_denoted (moved_denoted k d)) (map (moved_denoted k) xs) ≡ position
-        (same_denoted d) xs
+    position (same_denoted (moved_denoted k d)) (map (moved_denoted k) xs)
+        ≡ position (same_denoted d) xs
 position-moved k d xs =
     ap (λ n. cond (nat_lt n (length (map (moved_denoted k) xs))) (Some n) None)
         (prefix-moved k (λ x. not (same_denoted d x))
@@ -133,8 +133,8 @@ in_whole_of items m item o =
 -- where it is known what stands at the places of an item
 module _ (from : ℕ) (items : List (List Item)) (m : ℕ) (item : List Item)
     (low : from ≤ suc (offset items m)) (told : (p : ℕ) → p < length item →
-    denoted_at ByContext Es (joined items) (suc (offset items m + p)) ≡ option_map
-    (in_whole_of items m item) (occurrence_at (tree_of_items item) (suc p)))
+    denoted_at ByContext Es (joined items) (suc (offset items m + p))
+    ≡ option_map (in_whole_of items m item) (occurrence_at (tree_of_items item) (suc p)))
     (views : (o : Occurrence) → IsListedIn item o → Viewed item o (own_denoted item o))
     (unless : (o : Occurrence) → IsListedIn item o → is_inner (own_denoted item o) ≡ true →
     is_written (own_denoted item o) ≡ false → is_top_name items (its_name o) ≡ false) where
@@ -152,8 +152,8 @@ module _ (from : ℕ) (items : List (List Item)) (m : ℕ) (item : List Item)
 
   from-place : (before after : List Item) → before ++ after ≡ item →
       filter (is_inside from)
-          (filter_map (denoted (view_of_all items)) (taken_from (suc (k + length before)) after)) ≡
-          map (moved_denoted k)
+          (filter_map (denoted (view_of_all items)) (taken_from (suc (k + length before)) after))
+          ≡ map (moved_denoted k)
           (filter (is_inside 1)
           (filter_map (denoted (view_of item)) (taken_from (suc (length before)) after)))
   from-place before [] e = refl
@@ -191,14 +191,16 @@ module _ (from : ℕ) (items : List (List Item)) (m : ℕ) (item : List Item)
           occurrence_at (tree_of_items item) (suc (length before)) ≡ o →
           filter (is_inside from)
               (filter_map (denoted (view_of_all items))
-              (taken_from (suc (k + length (before ++ x ∷ []))) after)) ≡ map (moved_denoted k)
+              (taken_from (suc (k + length (before ++ x ∷ []))) after))
+              ≡ map (moved_denoted k)
               (filter (is_inside 1)
               (filter_map (denoted (view_of item))
               (taken_from (suc (length (before ++ x ∷ []))) after))) →
           filter (is_inside from)
               (cons_option (option_map in_whole o)
               (filter_map (denoted (view_of_all items))
-              (taken_from (suc (k + length (before ++ x ∷ []))) after))) ≡ map (moved_denoted k)
+              (taken_from (suc (k + length (before ++ x ∷ []))) after)))
+              ≡ map (moved_denoted k)
               (filter (is_inside 1)
               (cons_option (option_map (own_denoted item) o)
               (filter_map (denoted (view_of item))
@@ -211,30 +213,34 @@ module _ (from : ℕ) (items : List (List Item)) (m : ℕ) (item : List Item)
           by_inside : InsideAlike from k (own_denoted item o) (in_whole o) →
               filter (is_inside from)
                   (in_whole o ∷ filter_map (denoted (view_of_all items))
-                  (taken_from (suc (k + length (before ++ x ∷ []))) after)) ≡ map (moved_denoted k)
+                  (taken_from (suc (k + length (before ++ x ∷ []))) after))
+                  ≡ map (moved_denoted k)
                   (filter (is_inside 1)
-                  (own_denoted item o ∷ filter_map (denoted (view_of item))
+                  (own_denoted item o
+                  ∷ filter_map (denoted (view_of item))
                   (taken_from (suc (length (before ++ x ∷ []))) after)))
           by_inside (both_inside one two same) =
-              ap (λ b. cond b (in_whole o ∷ filter (is_inside from)
+              ap (λ b. cond b (in_whole o
+                  ∷ filter (is_inside from)
                   (filter_map (denoted (view_of_all items))
                   (taken_from (suc (k + length (before ++ x ∷ []))) after)))
                   (filter (is_inside from)
                   (filter_map (denoted (view_of_all items))
                   (taken_from (suc (k + length (before ++ x ∷ []))) after)))) two
-              ∙ ap (λ d. d ∷ filter (is_inside from)
-                  (filter_map (denoted (view_of_all items))
+              ∙ ap (λ d. d ∷ filter (is_inside from) (filter_map (denoted (view_of_all items))
                   (taken_from (suc (k + length (before ++ x ∷ []))) after))) same
               ∙ ap (λ rest. moved_denoted k (own_denoted item o) ∷ rest) ih
               ∙ sym (ap (λ b. map (moved_denoted k)
-                  (cond b (own_denoted item o ∷ filter (is_inside 1)
+                  (cond b (own_denoted item o
+                  ∷ filter (is_inside 1)
                   (filter_map (denoted (view_of item))
                   (taken_from (suc (length (before ++ x ∷ []))) after)))
                   (filter (is_inside 1)
                   (filter_map (denoted (view_of item))
                   (taken_from (suc (length (before ++ x ∷ []))) after))))) one)
           by_inside (both_outside one two) =
-              ap (λ b. cond b (in_whole o ∷ filter (is_inside from)
+              ap (λ b. cond b (in_whole o
+                  ∷ filter (is_inside from)
                   (filter_map (denoted (view_of_all items))
                   (taken_from (suc (k + length (before ++ x ∷ []))) after)))
                   (filter (is_inside from)
@@ -242,7 +248,8 @@ module _ (from : ℕ) (items : List (List Item)) (m : ℕ) (item : List Item)
                   (taken_from (suc (k + length (before ++ x ∷ []))) after)))) two
               ∙ ih
               ∙ sym (ap (λ b. map (moved_denoted k)
-                  (cond b (own_denoted item o ∷ filter (is_inside 1)
+                  (cond b (own_denoted item o
+                  ∷ filter (is_inside 1)
                   (filter_map (denoted (view_of item))
                   (taken_from (suc (length (before ++ x ∷ []))) after)))
                   (filter (is_inside 1)
@@ -265,8 +272,8 @@ module _ (from : ℕ) (items : List (List Item)) (m : ℕ) (item : List Item)
   -- what an inner name of the item is numbered as
   pub inner-position : (o : Occurrence) → IsListedIn item o →
       is_inner (own_denoted item o) ≡ true →
-      position (same_denoted (in_whole o)) (inner_in_whole from items m item) ≡ position
-          (same_denoted (own_denoted item o)) (inner_alone item)
+      position (same_denoted (in_whole o)) (inner_in_whole from items m item)
+          ≡ position (same_denoted (own_denoted item o)) (inner_alone item)
   inner-position o listed is =
       ap (λ d. position (same_denoted d) (inner_in_whole from items m item))
           (inner-told (is_top_name items (its_name o)) k (its_name o) (own_denoted item o)
@@ -289,9 +296,9 @@ module _ (from : ℕ) (items : List (List Item)) (m : ℕ) (item : List Item)
       no-inside : (start : ℕ) (x : Denoted) → same_denoted (Bound Top name) x ≡ true →
           is_inside start x ≡ true → ⊥
       no-inside start (Bound (Inner kind begins) its) same within_it =
-          false≢true (sym (ap
-              (λ b. b && bytes_eq name.sym its.sym && same_context name.ctxt its.ctxt)
-              (ne_eqb 1 (begins + 2) (λ e. omega (arith, e)))) ∙ same)
+          false≢true (sym (ap (λ b. b && bytes_eq name.sym its.sym
+              && same_context name.ctxt its.ctxt) (ne_eqb 1 (begins + 2) (λ e. omega (arith, e))))
+              ∙ same)
       no-inside start (Bound Top its) same within_it = false≢true within_it
       no-inside start (Bound Wrapper its) same within_it = false≢true within_it
       no-inside start (Global y) same within_it = false≢true same

@@ -81,9 +81,8 @@ declared-listed_from s (x ∷ xs) i o d p at is passes =
 
     by_default : (b : Bool) → is_nameless_default x xs ≡ b →
         ((k : ℕ) (o : Occurrence) (d : Declared) (p : Declared → Bool) →
-            slice_get (occurrences_from (past s x) xs) k ≡ Some o → declaration_of ByContext Es
-            o ≡ Some d → p d ≡ true → list_any p (declared_from ByContext Es (past s x) xs) ≡ true)
-            →
+            slice_get (occurrences_from (past s x) xs) k ≡ Some o → declaration_of ByContext Es o
+            ≡ Some d → p d ≡ true → list_any p (declared_from ByContext Es (past s x) xs) ≡ true) →
         list_any p (declared_from ByContext Es s (x ∷ xs)) ≡ true
     by_default false e ih =
         ap (λ b. list_any p
@@ -94,9 +93,9 @@ declared-listed_from s (x ∷ xs) i o d p at is passes =
     by_default true e ih =
         later (cond (is_nameless_default x xs) (Some (nameless_default Es s.place))
             (option_and_then (declaration_of ByContext Es) (occurrence_of s x)))
-            (ih i o d p (ap (λ first.
-            slice_get (cons_option first (occurrences_from (past s x) xs)) i)
-            (sym (default-opens x xs e)) ∙ at) is passes)
+            (ih i o d p (ap (λ first. slice_get
+            (cons_option first (occurrences_from (past s x) xs)) i) (sym (default-opens x xs e))
+            ∙ at) is passes)
 
 declared-listed : (item : List Item) (o : Occurrence) → IsListedIn item o → (d : Declared) →
     declaration_of ByContext Es o ≡ Some d → (p : Declared → Bool) → p d ≡ true →
@@ -166,8 +165,8 @@ module _ (item : List Item) (o : Occurrence) (listed : IsListedIn item o)
       by_declared (declaration_of ByContext Es o) refl (is_binding o.role) (way_of o.path) refl
     where
       own_home : (way : Way) →
-          declaration_of ByContext Es o ≡ Some
-              (record { place = o.place; name = its_name o; by = way;
+          declaration_of ByContext Es o
+              ≡ Some (record { place = o.place; name = its_name o; by = way;
               scopes = scopes_around Es o.path }) →
           Viewed item o (Bound
               (home_of (own_declared item)
@@ -235,8 +234,8 @@ inner-declared all kind begins name e = weaker all e
         not-top (Inner which other) same = refl
 
     weaker : (ds : List Declared) →
-        list_any (λ d. has_identifier d && is_declared_in all (Inner kind begins) name d) ds ≡ true
-            →
+        list_any (λ d. has_identifier d && is_declared_in all (Inner kind begins) name d) ds
+            ≡ true →
         list_any (λ d. not (is_top (home_of all d)) && names_agree d.name name) ds ≡ true
     weaker [] is = absurd (false≢true is)
     weaker (d ∷ ds) is =
@@ -247,9 +246,9 @@ inner-declared all kind begins name e = weaker all e
             (has_identifier d && is_declared_in all (Inner kind begins) name d) ≡ b →
             (b || list_any (λ d. has_identifier d && is_declared_in all (Inner kind begins) name d)
                 ds) ≡ true →
-            (list_any (λ d. has_identifier d && is_declared_in all (Inner kind begins) name d)
-                ds ≡ true → list_any (λ d. not (is_top (home_of all d)) && names_agree d.name name)
-                ds ≡ true) →
+            (list_any (λ d. has_identifier d && is_declared_in all (Inner kind begins) name d) ds
+                ≡ true → list_any (λ d. not (is_top (home_of all d)) && names_agree d.name name) ds
+                ≡ true) →
             list_any (λ d. not (is_top (home_of all d)) && names_agree d.name name) (d ∷ ds) ≡ true
         by_first true first any ih =
             or_left (not (is_top (home_of all d)) && names_agree d.name name) _ (at d first)
@@ -272,8 +271,8 @@ pub top-told : (item : List Item) (o : Occurrence) (k : ℕ) {d : Denoted} → V
 top-told item o k (written Wrapper at is) not_inner = absurd at
 top-told item o k (written Top at is) not_inner = refl
 top-told item o k (written (Inner kind begins) at is) not_inner =
-    absurd (false≢true (sym not_inner ∙ inner-declared (own_declared item) kind begins (its_name o)
-        is))
+    absurd (false≢true (sym not_inner
+        ∙ inner-declared (own_declared item) kind begins (its_name o) is))
 top-told item o k (implicit scope at other fun) not_inner = refl
 top-told item o k unbound not_inner = refl
 
@@ -284,8 +283,8 @@ pub free-own : (item : List Item) (o : Occurrence) {d : Denoted} → Viewed item
 free-own item o (written Wrapper at is) one not_inner not_top = absurd at
 free-own item o (written Top at is) one not_inner not_top = absurd (false≢true (sym not_top ∙ is))
 free-own item o (written (Inner kind begins) at is) one not_inner not_top =
-    absurd (false≢true (sym not_inner ∙ inner-declared (own_declared item) kind begins (its_name o)
-        is))
+    absurd (false≢true (sym not_inner
+        ∙ inner-declared (own_declared item) kind begins (its_name o) is))
 free-own item o (implicit scope at other fun) one not_inner not_top =
     absurd (false≢true (sym other ∙ eq-eqb o.ctxt 1 one))
 free-own item o unbound one not_inner not_top = refl
@@ -321,14 +320,15 @@ own-top (x ∷ items) (suc m) item name at e =
 pub denotes-at : (items : List (List Item)) → AllOf IsWhole items → AllOf IsNamed items →
     (m : ℕ) (item : List Item) → slice_get items m ≡ Some item → (o : Occurrence) →
     IsListedIn item o →
-    denoted_of ByContext Es (own_declared (flat items)) (moved_occurrence (offset items m) o) ≡
-        denoted_in_whole (is_top_name items (its_name o)) (offset items m) (its_name o)
+    denoted_of ByContext Es (own_declared (flat items)) (moved_occurrence (offset items m) o)
+        ≡ denoted_in_whole (is_top_name items (its_name o)) (offset items m) (its_name o)
         (own_denoted item o)
 denotes-at items whole named m item at o listed =
     let e = split-at items m item at in
     subst (λ its. denoted_of ByContext Es (own_declared (flat its))
-        (moved_occurrence (offset items m) o) ≡ denoted_in_whole (is_top_name its (its_name o))
-        (offset items m) (its_name o) (own_denoted item o)) e
+        (moved_occurrence (offset items m) o)
+        ≡ denoted_in_whole (is_top_name its (its_name o)) (offset items m) (its_name o)
+        (own_denoted item o)) e
     (denotes-joined (take m items) (drop (suc m) items) item (subst (AllOf IsWhole) (sym e) whole)
         (subst (AllOf IsNamed) (sym e) named) o (within item o listed))
 
@@ -336,8 +336,8 @@ denotes-at items whole named m item at o listed =
 pub note-told : (items : List (List Item)) → AllOf IsWhole items → AllOf IsNamed items →
     (m : ℕ) (item : List Item) → slice_get items m ≡ Some item → (o : Occurrence) →
     IsListedIn item o → (note : IsNoted items item o) →
-    denoted_of ByContext Es (own_declared (flat items)) (moved_occurrence (offset items m) o) ≡
-        noted_denoted (offset items m) note
+    denoted_of ByContext Es (own_declared (flat items)) (moved_occurrence (offset items m) o)
+        ≡ noted_denoted (offset items m) note
 note-told items whole named m item at o listed (inner is unless) =
     denotes-at items whole named m item at o listed
     ∙ inner-told (is_top_name items (its_name o)) (offset items m) (its_name o)

@@ -21,30 +21,29 @@ use Rattle.bundle_merge_joined.proofs.joined.Resolved.{resolved}
 -- an element of what is told of a list
 told-found : (f : Occurrence → Option Declared) (p : Declared → Bool) (os : List Occurrence) →
     list_any p (filter_map f os) ≡ true →
-    (i : ℕ) × (o : Occurrence) × (d : Declared) × (slice_get os i ≡ Some o) × (f o ≡ Some d) ×
-        (p d ≡ true)
+    (i : ℕ) × (o : Occurrence) × (d : Declared) × (slice_get os i ≡ Some o) × (f o ≡ Some d)
+        × (p d ≡ true)
 told-found f p [] e = absurd (false≢true e)
 told-found f p (x ∷ os) e = by_first (f x) refl e (told-found f p os)
   where
-    later : (i : ℕ) × (o : Occurrence) × (d : Declared) × (slice_get os i ≡ Some o) ×
-            (f o ≡ Some d) × (p d ≡ true) →
-        (i : ℕ) × (o : Occurrence) × (d : Declared) × (slice_get (x ∷ os) i ≡ Some o) ×
-            (f o ≡ Some d) × (p d ≡ true)
+    later : (i : ℕ) × (o : Occurrence) × (d : Declared) × (slice_get os i ≡ Some o)
+            × (f o ≡ Some d) × (p d ≡ true) →
+        (i : ℕ) × (o : Occurrence) × (d : Declared) × (slice_get (x ∷ os) i ≡ Some o)
+            × (f o ≡ Some d) × (p d ≡ true)
     later it = (suc it.0, it.1, it.2, it.3, it.4, it.5)
 
     by_first : (first : Option Declared) → f x ≡ first →
         list_any p (cons_option first (filter_map f os)) ≡ true →
-        (list_any p (filter_map f os) ≡ true →
-            (i : ℕ) × (o : Occurrence) × (d : Declared) × (slice_get os i ≡ Some o) ×
-            (f o ≡ Some d) × (p d ≡ true)) →
-        (i : ℕ) × (o : Occurrence) × (d : Declared) × (slice_get (x ∷ os) i ≡ Some o) ×
-            (f o ≡ Some d) × (p d ≡ true)
+        (list_any p (filter_map f os) ≡ true → (i : ℕ) × (o : Occurrence) × (d : Declared)
+            × (slice_get os i ≡ Some o) × (f o ≡ Some d) × (p d ≡ true)) →
+        (i : ℕ) × (o : Occurrence) × (d : Declared) × (slice_get (x ∷ os) i ≡ Some o)
+            × (f o ≡ Some d) × (p d ≡ true)
     by_first None is any ih = later (ih any)
     by_first (Some d) is any ih = by_test (p d) refl any
       where
         by_test : (b : Bool) → p d ≡ b → (b || list_any p (filter_map f os)) ≡ true →
-            (i : ℕ) × (o : Occurrence) × (d : Declared) × (slice_get (x ∷ os) i ≡ Some o) ×
-                (f o ≡ Some d) × (p d ≡ true)
+            (i : ℕ) × (o : Occurrence) × (d : Declared) × (slice_get (x ∷ os) i ≡ Some o)
+                × (f o ≡ Some d) × (p d ≡ true)
         by_test true passes any = (0, x, d, refl, is, passes)
         by_test false passes any = later (ih any)
 
@@ -93,8 +92,8 @@ module _ (item : List Item) (named : IsNamed item) where
       let it = told-found (declaration_of ByContext Es)
           (λ d. not (is_top (home_of (own_declared item) d)) && names_agree d.name name)
           (occurrences (tree_of_items item))
-          (ap (list_any (λ d. not (is_top (home_of (own_declared item) d)) && names_agree d.name
-          name)) (sym (declared-item item named)) ∙ e) in
+          (ap (list_any (λ d. not (is_top (home_of (own_declared item) d))
+          && names_agree d.name name)) (sym (declared-item item named)) ∙ e) in
       let parts = and_parts (not (is_top (home_of (own_declared item) it.2)))
           (names_agree it.2.name name) it.5 in
       let way = by-way it.1 it.2 it.4 in

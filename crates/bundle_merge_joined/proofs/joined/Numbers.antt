@@ -60,15 +60,16 @@ module _ (tree : List Item) (g : Occurrence → Denoted) (tell : ℕ → Option 
       by_occurrence (Some o) os = refl
 
 as-told : (item xs : List Item) (n : ℕ) →
-    filter_map (denoted (view_of item)) (taken_from n xs) ≡ told_from (tree_of_items item)
-        (own_denoted item) (λ p. denoted_at ByContext Es (tree_of_items item) p) (λ p. refl) n xs
+    filter_map (denoted (view_of item)) (taken_from n xs)
+        ≡ told_from (tree_of_items item) (own_denoted item)
+        (λ p. denoted_at ByContext Es (tree_of_items item) p) (λ p. refl) n xs
 as-told item [] n = refl
 as-told item (x ∷ xs) n =
     ap (cons_option (denoted_at ByContext Es (tree_of_items item) n)) (as-told item xs (suc n))
 
 pub told-in-turn : (item : List Item) →
-    filter_map (denoted (view_of item)) (taken_from 1 item) ≡ map (own_denoted item)
-        (occurrences (tree_of_items item))
+    filter_map (denoted (view_of item)) (taken_from 1 item)
+        ≡ map (own_denoted item) (occurrences (tree_of_items item))
 told-in-turn item =
     as-told item item 1
     ∙ in-turn (tree_of_items item) (own_denoted item)
@@ -166,8 +167,8 @@ filter-same p q g (o ∷ os) same =
         (filter-same p q g os (λ i x at. same (suc i) x at))
 
 pub inner-is : (item : List Item) → IsNamed item →
-    inner_alone item ≡ each_denoted_once
-        (filter is_inner (map (own_denoted item) (occurrences (tree_of_items item))))
+    inner_alone item ≡ each_denoted_once (filter is_inner
+        (map (own_denoted item) (occurrences (tree_of_items item))))
 inner-is item named =
     ap (λ ds. each_denoted_once (filter (is_inside 1) ds)) (told-in-turn item)
     ∙ ap each_denoted_once
@@ -227,8 +228,8 @@ pub same-number : (R : ℕ → ℕ → Type 0) → IsOneToOne R → (before afte
         (occurrences (tree_of_items after))) →
     KeepsInner R (own_denoted before) (own_denoted after) follows → (o u : Occurrence) →
     SeenAlike R Es o u →
-    position (same_denoted (own_denoted after u)) (inner_alone after) ≡ position
-        (same_denoted (own_denoted before o)) (inner_alone before)
+    position (same_denoted (own_denoted after u)) (inner_alone after)
+        ≡ position (same_denoted (own_denoted before o)) (inner_alone before)
 same-number R one before after named after_named follows keeps o u seen =
     ap (position (same_denoted (own_denoted after u))) (inner-is after after_named)
     ∙ position-zipped (DenotedAlike R) (same_denoted-alike R one) (own_denoted before o)

@@ -181,8 +181,8 @@ at-behind k s at item whole = record {
 
 -- the same identifier at another spot
 pub other-spot : (s t : Spot) (x : Item) (o : Occurrence) → occurrence_of s x ≡ Some o →
-    (u : Occurrence) × (occurrence_of t x ≡ Some u) × (u.sym ≡ o.sym) × (u.ctxt ≡ o.ctxt) ×
-        (u.role ≡ o.role)
+    (u : Occurrence) × (occurrence_of t x ≡ Some u) × (u.sym ≡ o.sym) × (u.ctxt ≡ o.ctxt)
+        × (u.role ≡ o.role)
 other-spot s t (h.Open field head) o e = absurd (none-some o e)
 other-spot s t (h.Ident field symbol ctxt r.Binding) o e =
     let same = same_Some _ o e in
@@ -208,8 +208,8 @@ item-occurrences item =
 
 all-occurrences : (k : ℕ) (s : Spot) → IsAt k s → (items : List (List Item)) →
     AllOf IsWhole items →
-    occurrences_from s (flat items) ≡ each_moved moved_occurrence
-        (λ item. occurrences (tree_of_items item)) k items
+    occurrences_from s (flat items)
+        ≡ each_moved moved_occurrence (λ item. occurrences (tree_of_items item)) k items
 all-occurrences k s at [] whole = refl
 all-occurrences k s at (item ∷ more) whole =
     occurrences-append s item (flat more)
@@ -224,8 +224,8 @@ pub first-at : IsAt 0 inside
 first-at = record { place = refl; below = (refl, refl) }
 
 pub occurrences-joined : (items : List (List Item)) → AllOf IsWhole items →
-    occurrences (joined items) ≡ each_moved moved_occurrence
-        (λ item. occurrences (tree_of_items item)) 0 items
+    occurrences (joined items)
+        ≡ each_moved moved_occurrence (λ item. occurrences (tree_of_items item)) 0 items
 occurrences-joined items whole =
     item-occurrences (flat items) ∙ all-occurrences 0 inside first-at items whole
 
@@ -233,8 +233,9 @@ occurrences-joined items whole =
 -- each moved.
 path-behind : (k : ℕ) (xs ys zs : List Item) (depth last : ℕ) (a b : Spot) → AreMoved k a b →
     IsBelow depth a.path → open_behind depth xs ≡ Some last → (p : ℕ) → p < length xs →
-    path_to_option (fold past b (take p (xs ++ ys))).path (slice_get (xs ++ ys) p) ≡ moved_path k
-        (path_to_option (fold past a (take p (xs ++ zs))).path (slice_get (xs ++ zs) p))
+    path_to_option (fold past b (take p (xs ++ ys))).path (slice_get (xs ++ ys) p)
+        ≡ moved_path k (path_to_option (fold past a (take p (xs ++ zs))).path
+        (slice_get (xs ++ zs) p))
 path-behind k [] ys zs depth last a b m below e p lt = absurd (omega (arith, lt))
 path-behind k (h.Open field head ∷ xs) ys zs depth last a b m below e zero lt = m.path field
 path-behind k (h.Ident field symbol ctxt role ∷ xs) ys zs depth last a b m below e zero lt =
@@ -262,8 +263,8 @@ path-behind k (h.Close ∷ xs) ys zs (suc depth) last a b m below e (suc p) lt =
 -- an occurrence in an item
 occurrence-behind : (k : ℕ) (xs ys zs : List Item) (a b : Spot) → AreMoved k a b → (p : ℕ) →
     p < length xs →
-    option_and_then (occurrence_of (fold past b (take p (xs ++ ys))))
-        (slice_get (xs ++ ys) p) ≡ option_map (moved_occurrence k)
+    option_and_then (occurrence_of (fold past b (take p (xs ++ ys)))) (slice_get (xs ++ ys) p)
+        ≡ option_map (moved_occurrence k)
         (option_and_then (occurrence_of (fold past a (take p (xs ++ zs))))
         (slice_get (xs ++ zs) p))
 occurrence-behind k [] ys zs a b m p lt = absurd (omega (arith, lt))
@@ -322,22 +323,22 @@ module _ (before after : List (List Item)) (item : List Item) (whole : AllOf IsW
       ∙ ap (λ rest. flat before ++ rest) (append_assoc item (flat after) (h.Close ∷ []))
 
   spot-is : (p : ℕ) →
-      spot_before (joined (before ++ item ∷ after)) (suc (further + p)) ≡ fold past
-          (fold past inside (flat before)) (take p (item ++ behind))
+      spot_before (joined (before ++ item ∷ after)) (suc (further + p))
+          ≡ fold past (fold past inside (flat before)) (take p (item ++ behind))
   spot-is p =
       ap (λ rest. fold past inside (take (further + p) rest)) inside-whole
       ∙ take-behind (flat before) (item ++ behind) p inside
 
   item-is : (p : ℕ) →
-      slice_get (joined (before ++ item ∷ after)) (suc (further + p)) ≡ slice_get (item ++ behind)
-          p
+      slice_get (joined (before ++ item ∷ after)) (suc (further + p))
+          ≡ slice_get (item ++ behind) p
   item-is p =
       ap (λ rest. slice_get rest (further + p)) inside-whole
       ∙ get-behind (flat before) (item ++ behind) p
 
   pub path_at-joined : IsWhole item → (p : ℕ) → p < length item →
-      path_at (joined (before ++ item ∷ after)) (suc (further + p)) ≡ moved_path further
-          (path_at (tree_of_items item) (suc p))
+      path_at (joined (before ++ item ∷ after)) (suc (further + p))
+          ≡ moved_path further (path_at (tree_of_items item) (suc p))
   path_at-joined balanced p lt =
       ap (λ (s : Spot). path_to_option s.path
           (slice_get (joined (before ++ item ∷ after)) (suc (further + p)))) (spot-is p)
@@ -348,8 +349,8 @@ module _ (before after : List (List Item)) (item : List Item) (whole : AllOf IsW
           (refl, refl) balanced p lt
 
   pub occurrence_at-joined : (p : ℕ) → p < length item →
-      occurrence_at (joined (before ++ item ∷ after)) (suc (further + p)) ≡ option_map
-          (moved_occurrence further) (occurrence_at (tree_of_items item) (suc p))
+      occurrence_at (joined (before ++ item ∷ after)) (suc (further + p))
+          ≡ option_map (moved_occurrence further) (occurrence_at (tree_of_items item) (suc p))
   occurrence_at-joined p lt =
       ap (λ s. option_and_then (occurrence_of s)
           (slice_get (joined (before ++ item ∷ after)) (suc (further + p)))) (spot-is p)

@@ -106,8 +106,8 @@ from_taker-relocated f way (scope ∷ outer) =
     by_first : (b : Bool) →
         from_taker way (map (relocated f) outer) ≡ map (relocated f) (from_taker way outer) →
         cond b (relocated f scope ∷ map (relocated f) outer)
-            (from_taker way (map (relocated f) outer)) ≡ map (relocated f)
-            (cond b (scope ∷ outer) (from_taker way outer))
+            (from_taker way (map (relocated f) outer))
+            ≡ map (relocated f) (cond b (scope ∷ outer) (from_taker way outer))
     by_first true ih = refl
     by_first false ih = ih
 

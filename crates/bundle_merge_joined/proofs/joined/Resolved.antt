@@ -31,8 +31,8 @@ pub record InnerOf (item : List Item) (o : Occurrence) (d : Denoted) : Type 0 wh
   pub below : begins < 1 + length item
   -- it is declared by an identifier, or implied by an `arguments` of another context than that of
   -- what nothing binds
-  pub by : (is_inner_name (own_declared item) (its_name o) ≡ true) ⊎
-          ((is_written d ≡ false) × ((o.ctxt == 1) ≡ false))
+  pub by : (is_inner_name (own_declared item) (its_name o) ≡ true)
+          ⊎ ((is_written d ≡ false) × ((o.ctxt == 1) ≡ false))
 
 pub inner-of : (item : List Item) (o : Occurrence) {d : Denoted} → Viewed item o d →
     is_inner d ≡ true → InnerOf item o d
@@ -176,13 +176,13 @@ module _ (items : List (List Item)) where
             items_same =
                 same_Some item other (sym at ∙ ap (slice_get items) (eqb-true m n e) ∙ there)
 
-            by_kind : (is_inner_name (own_declared item) (its_name a) ≡ true) ⊎
-                    ((is_written (own_denoted item a) ≡ false) × ((a.ctxt == 1) ≡ false)) →
+            by_kind : (is_inner_name (own_declared item) (its_name a) ≡ true)
+                    ⊎ ((is_written (own_denoted item a) ≡ false) × ((a.ctxt == 1) ≡ false)) →
                 ⊥
             by_kind (inl declared) =
-                false≢true (sym not_inner ∙ ap (λ i. is_inner_name (own_declared i) (its_name b))
-                    (sym items_same) ∙ ap (is_inner_name (own_declared item))
-                    (sym (same-name a b same)) ∙ declared)
+                false≢true (sym not_inner
+                    ∙ ap (λ i. is_inner_name (own_declared i) (its_name b)) (sym items_same)
+                    ∙ ap (is_inner_name (own_declared item)) (sym (same-name a b same)) ∙ declared)
             by_kind (inr implied) = implied_differs outer implied.0 implied.1 same
 
         differ : SameIdent a b → ⊥
@@ -193,23 +193,23 @@ module _ (items : List (List Item)) where
         slice_get items n ≡ Some other → (a b : Occurrence) → IsListedIn item a →
         IsListedIn other b → is_inner (own_denoted item a) ≡ true →
         is_inner (own_denoted other b) ≡ true →
-        SameIdent a b ↔ (moved_denoted (offset items m) (own_denoted item a) ≡ moved_denoted
-            (offset items n) (own_denoted other b))
+        SameIdent a b ↔ (moved_denoted (offset items m) (own_denoted item a)
+            ≡ moved_denoted (offset items n) (own_denoted other b))
     inner-inner m n item other at there a b listed its_listed is its = by_number (m == n) refl
       where
         of_one : (n : ℕ) → m ≡ n → (other : List Item) → item ≡ other → IsListedIn other b →
             is_inner (own_denoted other b) ≡ true →
-            SameIdent a b ↔ (moved_denoted (offset items m) (own_denoted item a) ≡ moved_denoted
-                (offset items n) (own_denoted other b))
+            SameIdent a b ↔ (moved_denoted (offset items m) (own_denoted item a)
+                ≡ moved_denoted (offset items n) (own_denoted other b))
         of_one n e =
             subst (λ n. (other : List Item) → item ≡ other → IsListedIn other b →
-                is_inner (own_denoted other b) ≡ true →
-                SameIdent a b ↔ (moved_denoted (offset items m)
-                (own_denoted item a) ≡ moved_denoted (offset items n) (own_denoted other b))) e
-            (λ other f. subst (λ other. IsListedIn other b →
-                is_inner (own_denoted other b) ≡ true →
-                SameIdent a b ↔ (moved_denoted (offset items m)
-                (own_denoted item a) ≡ moved_denoted (offset items m) (own_denoted other b))) f
+                is_inner (own_denoted other b) ≡ true → SameIdent a b
+                ↔ (moved_denoted (offset items m) (own_denoted item a)
+                ≡ moved_denoted (offset items n) (own_denoted other b))) e
+            (λ other f. subst (λ other. IsListedIn other b → is_inner (own_denoted other b)
+                ≡ true → SameIdent a b
+                ↔ (moved_denoted (offset items m) (own_denoted item a)
+                ≡ moved_denoted (offset items m) (own_denoted other b))) f
             (λ lists inners. let alike = (distinct.inside m item at).same a b listed lists is in
                 (λ same. ap (moved_denoted (offset items m)) (alike.0 same),
                 λ same. alike.1 (moved-back (offset items m) (own_denoted item a)
@@ -224,8 +224,8 @@ module _ (items : List (List Item)) where
                 its
 
         apart : m ≢ n →
-            moved_denoted (offset items m) (own_denoted item a) ≡ moved_denoted (offset items n)
-                (own_denoted other b) →
+            moved_denoted (offset items m) (own_denoted item a)
+                ≡ moved_denoted (offset items n) (own_denoted other b) →
             ⊥
         apart ne e =
             let positions : moved (offset items m) x.begins ≡ moved (offset items n) y.begins =
@@ -237,15 +237,15 @@ module _ (items : List (List Item)) where
                 ∙ moved-from (offset items n) y.begins y.above)
           where
             by_order : (m < n) ⊎ (n ≤ m) →
-                (offset items m + length item ≤ offset items n) ⊎
-                    (offset items n + length other ≤ offset items m)
+                (offset items m + length item ≤ offset items n)
+                    ⊎ (offset items n + length other ≤ offset items m)
             by_order (inl lt) = inl (offset-later items m n item other lt at there)
             by_order (inr le) =
                 inr (offset-later items n m other item (omega (arith, le, ne)) there at)
 
         by_number : (e : Bool) → (m == n) ≡ e →
-            SameIdent a b ↔ (moved_denoted (offset items m) (own_denoted item a) ≡ moved_denoted
-                (offset items n) (own_denoted other b))
+            SameIdent a b ↔ (moved_denoted (offset items m) (own_denoted item a)
+                ≡ moved_denoted (offset items n) (own_denoted other b))
         by_number true e =
             of_one n (eqb-true m n e) other
                 (same_Some item other (sym at ∙ ap (slice_get items) (eqb-true m n e) ∙ there))
@@ -278,8 +278,8 @@ module _ (items : List (List Item)) where
 
     -- what stands at a place of the whole
     at-place : (p : ℕ) (a : Occurrence) → occurrence_at (joined items) p ≡ Some a →
-        denoted_at ByContext Es (joined items) p ≡ Some
-            (denoted_of ByContext Es (own_declared (flat items)) a)
+        denoted_at ByContext Es (joined items) p
+            ≡ Some (denoted_of ByContext Es (own_declared (flat items)) a)
     at-place p a e = ap (option_map (denoted_of ByContext Es (own_declared (flat items)))) e
 
     told-of : (a : Occurrence) → (x : IsOfItem items a) →
@@ -290,16 +290,16 @@ module _ (items : List (List Item)) where
 
     both-alike : (p q : ℕ) (a b : Occurrence) → occurrence_at (joined items) p ≡ Some a →
         occurrence_at (joined items) q ≡ Some b → IsOfItem items a → IsOfItem items b →
-        SameIdent a b ↔ (denoted_at ByContext Es (joined items) p ≡ denoted_at ByContext Es
-            (joined items) q)
+        SameIdent a b ↔ (denoted_at ByContext Es (joined items) p
+            ≡ denoted_at ByContext Es (joined items) q)
     both-alike p q a b here there x y =
         (λ same. at-place p a here ∙ ap Some (it.0 (idents same)) ∙ sym (at-place q b there),
             λ same. back (it.1
             (same_Some _ _ (sym (at-place p a here) ∙ same ∙ at-place q b there))))
       where
-        it : SameIdent x.o
-                y.o ↔ (denoted_of ByContext Es (own_declared (flat items)) a ≡ denoted_of ByContext
-                Es (own_declared (flat items)) b)
+        it : SameIdent x.o y.o
+                ↔ (denoted_of ByContext Es (own_declared (flat items)) a
+                ≡ denoted_of ByContext Es (own_declared (flat items)) b)
         it =
             alike x.m y.m x.item y.item x.there y.there x.o y.o (x.j, x.at) (y.j, y.at)
                 (told-of a x) (told-of b y)

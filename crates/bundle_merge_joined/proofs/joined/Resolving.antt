@@ -73,8 +73,8 @@ same-known K x y (Global w) (Global z) known other is its e =
 
 module _ (kind : ModuleKind) (before after : List Item)
     (resolution : IsResolutionOf kind before after)
-    (same_places : map (λ (o : Occurrence). o.place) (occurrences after) ≡ map
-    (λ (o : Occurrence). o.place) (occurrences before)) where
+    (same_places : map (λ (o : Occurrence). o.place) (occurrences after)
+    ≡ map (λ (o : Occurrence). o.place) (occurrences before)) where
   -- what one occurrence denotes, afterwards and before
   pub record Beside (d s : Denoted) : Type 0 where
     pub i : ℕ
@@ -105,8 +105,8 @@ module _ (kind : ModuleKind) (before after : List Item)
       forward same =
           let one = known-by_symbol x.i s x.there in
           let two = known-by_symbol y.i t y.there in
-          let equal : s ≡ t = same-known (kind_in start before) one.0 two.0 s t one.1 two.1 one.2
-              two.2 same in
+          let equal : s ≡ t =
+              same-known (kind_in start before) one.0 two.0 s t one.1 two.1 one.2 two.2 same in
           let alike : d ≡ e =
               same_Some d e (sym x.here
               ∙ resolution.one x.i y.i (x.there ∙ ap Some equal ∙ sym y.there) ∙ y.here) in
@@ -204,8 +204,8 @@ module _ (kind : ModuleKind) (before after : List Item)
   -- NUMBERS: the numbers of the bindings inside are the same
   pub resolved-number : (from n : ℕ) (xs ys : List Item) → length xs ≡ length ys →
       (d s : Denoted) → Beside d s →
-      position (same_denoted s) (inner_bindings first_view from (taken_from n ys)) ≡ position
-          (same_denoted d) (inner_bindings resolved_view from (taken_from n xs))
+      position (same_denoted s) (inner_bindings first_view from (taken_from n ys))
+          ≡ position (same_denoted d) (inner_bindings resolved_view from (taken_from n xs))
   resolved-number from n xs ys len d s x =
       position-zipped Beside agree d s x (inner_bindings resolved_view from (taken_from n xs))
           (inner_bindings first_view from (taken_from n ys))

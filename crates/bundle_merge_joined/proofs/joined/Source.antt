@@ -64,8 +64,8 @@ kinds-from s (x ∷ xs) = by_default (is_nameless_default x xs) (kinds-from (pas
 pub plain-by-symbol : (item : List Item) (name : Name) →
     bytes_eq (codes "default") name.sym ≡ false → IsPlain (own_declared item) name
 plain-by-symbol item name other scope =
-    ap (λ b. (declares (own_declared item) scope (without_context name) && not b) ||
-        (is_arguments name.sym && is_function scope)) same
+    ap (λ b. (declares (own_declared item) scope (without_context name) && not b)
+        || (is_arguments name.sym && is_function scope)) same
     ∙ never (declares (own_declared item) scope (without_context name))
         (is_arguments name.sym && is_function scope)
   where
@@ -78,26 +78,26 @@ plain-by-symbol item name other scope =
     none d is = ap (λ x. bytes_eq x name.sym) is ∙ other
 
     at : (d : Declared) → IsNamedOrDefault d →
-        (has_identifier d && is_declared_in (own_declared item) scope (without_context name) d) ≡
-            is_declared_in (own_declared item) scope (without_context name) d
+        (has_identifier d && is_declared_in (own_declared item) scope (without_context name) d)
+            ≡ is_declared_in (own_declared item) scope (without_context name) d
     at d (inl is) =
         ap (λ b. b && is_declared_in (own_declared item) scope (without_context name) d) is
     at d (inr is) =
-        ap (λ b. has_identifier
-            d && (same_scope (home_of (own_declared item) d)
-            scope && (b && contexts_agree d.name.ctxt None))) (none d is)
+        ap (λ b. has_identifier d
+            && (same_scope (home_of (own_declared item) d) scope
+            && (b && contexts_agree d.name.ctxt None))) (none d is)
         ∙ fails (has_identifier d) (same_scope (home_of (own_declared item) d) scope)
             (contexts_agree d.name.ctxt None)
-        ∙ sym (ap (λ b. same_scope (home_of (own_declared item) d)
-            scope && (b && contexts_agree d.name.ctxt None)) (none d is))
+        ∙ sym (ap (λ b. same_scope (home_of (own_declared item) d) scope
+            && (b && contexts_agree d.name.ctxt None)) (none d is))
 
-    same : is_written_in (own_declared item) scope (without_context name) ≡ declares
-            (own_declared item) scope (without_context name)
+    same : is_written_in (own_declared item) scope (without_context name)
+            ≡ declares (own_declared item) scope (without_context name)
     same =
         any-same IsNamedOrDefault (is_declared_in (own_declared item) scope (without_context name))
-            (λ d. has_identifier d && is_declared_in (own_declared item) scope
-            (without_context name) d) at (own_declared item)
-            (kinds-from start (tree_of_items item))
+            (λ d. has_identifier d
+            && is_declared_in (own_declared item) scope (without_context name) d) at
+            (own_declared item) (kinds-from start (tree_of_items item))
 
     never : (a b : Bool) → ((a && not a) || b) ≡ b
     never true b = refl
@@ -121,8 +121,8 @@ module _ (items : List (List Item)) (whole : AllOf IsWhole items) where
   denotes-in_module m item o x =
       let e = split-at items m item x.there in
       subst (λ its. IsPlain (own_declared (flat its)) (its_name o) →
-          denoted_of ByContext Es (own_declared (flat its)) (moved_occurrence (offset items m) o) ≡
-          denoted_in_whole (is_top_name its (its_name o)) (offset items m) (its_name o)
+          denoted_of ByContext Es (own_declared (flat its)) (moved_occurrence (offset items m) o)
+          ≡ denoted_in_whole (is_top_name its (its_name o)) (offset items m) (its_name o)
           (own_denoted item o)) e
       (λ safe. denotes-plain (take m items) (drop (suc m) items) item
           (subst (AllOf IsWhole) (sym e) whole) o (within item o x.listed) safe
@@ -133,9 +133,9 @@ module _ (items : List (List Item)) (whole : AllOf IsWhole items) where
   pub denoted-in_module : (m : ℕ) (item : List Item) → slice_get items m ≡ Some item →
       ((o : Occurrence) → IsListedIn item o → bytes_eq (codes "default") o.sym ≡ false) → (p : ℕ) →
       p < length item →
-      denoted_at ByContext Es (joined items) (suc (offset items m + p)) ≡ option_map
-          (λ o. denoted_in_whole (is_top_name items (its_name o)) (offset items m) (its_name o)
-          (own_denoted item o)) (occurrence_at (tree_of_items item) (suc p))
+      denoted_at ByContext Es (joined items) (suc (offset items m + p))
+          ≡ option_map (λ o. denoted_in_whole (is_top_name items (its_name o)) (offset items m)
+          (its_name o) (own_denoted item o)) (occurrence_at (tree_of_items item) (suc p))
   denoted-in_module m item at no_default p lt =
       ap (option_map (denoted_of ByContext Es (own_declared (flat items))))
           (occurrence-placed items whole m item at p lt)
@@ -143,9 +143,9 @@ module _ (items : List (List Item)) (whole : AllOf IsWhole items) where
     where
       by_occurrence : (o : Option Occurrence) → occurrence_at (tree_of_items item) (suc p) ≡ o →
           option_map (denoted_of ByContext Es (own_declared (flat items)))
-              (option_map (moved_occurrence (offset items m)) o) ≡ option_map
-              (λ o. denoted_in_whole (is_top_name items (its_name o)) (offset items m) (its_name o)
-              (own_denoted item o)) o
+              (option_map (moved_occurrence (offset items m)) o)
+              ≡ option_map (λ o. denoted_in_whole (is_top_name items (its_name o)) (offset items m)
+              (its_name o) (own_denoted item o)) o
       by_occurrence None there = refl
       by_occurrence (Some o) there =
           let listed = occurrence_at-listed (tree_of_items item) (suc p) o there in
@@ -176,8 +176,8 @@ module _ (items : List (List Item)) (whole : AllOf IsWhole items) where
 
   pub inner-in_module : (m : ℕ) (item : List Item) (o : Occurrence) → OneOf m item o →
       is_inner (in_module m o) ≡ true →
-      (is_inner (own_denoted item o) ≡ true) × (in_module m o ≡ moved_denoted (offset items m)
-          (own_denoted item o))
+      (is_inner (own_denoted item o) ≡ true)
+          × (in_module m o ≡ moved_denoted (offset items m) (own_denoted item o))
   inner-in_module m item o x is =
       let e = denotes-in_module m item o x in
       let back = inner-back (is_top_name items (its_name o)) (offset items m) (its_name o)
@@ -236,8 +236,8 @@ module _ (items : List (List Item)) (whole : AllOf IsWhole items) where
         backward : own_denoted item a ≡ own_denoted item b → SameIdent a b
         backward same =
             let its : is_inner (own_denoted item b) ≡ true = ap is_inner (sym same) ∙ is in
-            (alike-in_module m m item item a b x y).1
-                (first ∙ ap (moved_denoted (offset items m)) same
+            (alike-in_module m m item item a b x y).1 (first
+                ∙ ap (moved_denoted (offset items m)) same
                 ∙ sym (inner-by_itself m item b y (unless m item b y its)))
 
     pub others-apart : (m n : ℕ) (item other : List Item) (a b : Occurrence) → m ≢ n →
@@ -256,8 +256,8 @@ module _ (items : List (List Item)) (whole : AllOf IsWhole items) where
         equal : in_module m a ≡ in_module n b
         equal = (alike-in_module m n item other a b x y).0 same
 
-        back : (is_inner (own_denoted other b) ≡ true) ×
-                (in_module n b ≡ moved_denoted (offset items n) (own_denoted other b))
+        back : (is_inner (own_denoted other b) ≡ true)
+                × (in_module n b ≡ moved_denoted (offset items n) (own_denoted other b))
         back =
             inner-in_module n other b y (ap is_inner (sym equal ∙ first)
                 ∙ inner-moved (offset items m) (own_denoted item a) is)
@@ -269,8 +269,8 @@ module _ (items : List (List Item)) (whole : AllOf IsWhole items) where
         two = inner-of other b (its-view n other b y) back.0
 
         by_order : (m < n) ⊎ (n ≤ m) →
-            (offset items m + length item ≤ offset items n) ⊎
-                (offset items n + length other ≤ offset items m)
+            (offset items m + length item ≤ offset items n)
+                ⊎ (offset items n + length other ≤ offset items m)
         by_order (inl lt) = inl (offset-later items m n item other lt x.there y.there)
         by_order (inr le) =
             inr (offset-later items n m other item (omega (arith, le, ne)) y.there x.there)

@@ -113,8 +113,8 @@ pub order-of-block : (block others : List (List Item)) → AllOf IsSingle block 
     AllOf IsWhole block → AllOf IsNamed block → AllOf (BindsOwn block others) block →
     AllOf IsWhole others → AllOf IsNamed others → (its : List TopItem) →
     AllOf (IsPlaced others) its → map (λ (top : TopItem). top.items) its ≡ block →
-    is_top_name others (name_of ByContext (codes "Object") 1) ≡ is_top_name block
-        (name_of ByContext (codes "Object") 1) →
+    is_top_name others (name_of ByContext (codes "Object") 1)
+        ≡ is_top_name block (name_of ByContext (codes "Object") 1) →
     (owners : List (Option ℕ)) (order : List ℕ) →
     IsGoodOrder (group_of_items (flat block) owners) order →
     IsGoodOrder (group_of ByContext Top (joined others) its owners) order

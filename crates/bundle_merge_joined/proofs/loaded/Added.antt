@@ -54,7 +54,7 @@ module _ (x : List ℕ) (c : ℕ) (es : List Declared) where
               ∙ sym (nothing-implied es each s name)) scopes)
 
       by_found : (o : Option Scope) →
-          written_or_implied (load_declared x c ∷ es) scopes name o ≡ written_or_implied es scopes
-              name o
+          written_or_implied (load_declared x c ∷ es) scopes name o
+              ≡ written_or_implied es scopes name o
       by_found None = implied-added
       by_found (Some s) = refl

@@ -125,8 +125,8 @@ module _ {L : Ident → Type 0} {xs ys : List Item} (t : Turned L zero xs ys) (g
           of_known o refl (known.called_known (o.sym, o.ctxt) calls).0
 
       by : (i : ℕ) →
-          slice_get (load_name load ∷ helper_name helper ∷ parameter_name 13 12 11
-              m ∷ parameter_name 18 17 16 e ∷ body_names ys) i ≡ Some o →
+          slice_get (load_name load ∷ helper_name helper ∷ parameter_name 13 12 11 m
+              ∷ parameter_name 18 17 16 e ∷ body_names ys) i ≡ Some o →
           ⊥
       by zero at = of_known (load_name load) (same_Some (load_name load) o at) known.load_known
       by (suc zero) at =

@@ -93,8 +93,8 @@ module _ (R : ℕ → ℕ → Type 0) (frame : IsFrame R) where
       (by (takes way (Inner kind a)) taken (λ further. taken-framed way framed own further))
     where
       by : (t : Bool) → is_some (nearest (cond t (Inner kind a ∷ ss) (from_taker way ss))) ≡ true →
-          (is_some (nearest (from_taker way ss)) ≡ true → Framed R (from_taker way ss)
-              (from_taker way ts)) →
+          (is_some (nearest (from_taker way ss)) ≡ true →
+              Framed R (from_taker way ss) (from_taker way ts)) →
           Framed R (cond t (Inner kind a ∷ ss) (from_taker way ss))
               (cond t (Inner kind b ∷ ts) (from_taker way ts))
       by true is rest = within r framed
@@ -160,8 +160,8 @@ module _ (R : ℕ → ℕ → Type 0) (frame : IsFrame R) where
       DeclaredBeside R d e → is_parameter t name e ≡ is_parameter s name d
   parameter-beside x name d e one =
       let taken = taker-beside one in
-      λ i. (parameters-beside taken i && same-beside taken x i) && names_agree (name-beside one i)
-          name
+      λ i. (parameters-beside taken i && same-beside taken x i)
+          && names_agree (name-beside one i) name
 
   module _ {ds es : List Declared} (all : AllBeside R ds es) where
     -- HOMES
@@ -197,10 +197,10 @@ module _ (R : ℕ → ℕ → Type 0) (frame : IsFrame R) where
     pub binds-beside : {s t : Scope} → Beside R s t → (name : Name) →
         binds es t name ≡ binds ds s name
     binds-beside x name =
-        λ i. declares-beside x name
-            i || (is_arguments
-            name.sym && (function-beside x i && not
-            (declares-beside x (record { sym = codes "arguments"; ctxt = None }) i)))
+        λ i. declares-beside x name i
+            || (is_arguments name.sym
+            && (function-beside x i
+            && not (declares-beside x (record { sym = codes "arguments"; ctxt = None }) i)))
 
     -- around the function nothing is bound
     pub declares-outer : (name : Name) →
@@ -216,8 +216,9 @@ module _ (R : ℕ → ℕ → Type 0) (frame : IsFrame R) where
         (binds es Top name ≡ false) × (binds es (Inner FunctionName 9) name ≡ false)
     binds-outer name =
         (ap₂ (λ (a : Bool) (b : Bool). a || b) (declares-outer name).0
-            (never (is_arguments name.sym)), ap₂ (λ (a : Bool) (b : Bool). a || b)
-            (declares-outer name).1 (never (is_arguments name.sym)))
+            (never (is_arguments name.sym)),
+            ap₂ (λ (a : Bool) (b : Bool). a || b) (declares-outer name).1
+            (never (is_arguments name.sym)))
       where
         never : (b : Bool) → (b && false) ≡ false
         never true = refl
@@ -237,9 +238,9 @@ module _ (R : ℕ → ℕ → Type 0) (frame : IsFrame R) where
         by false true = both wrapper
         by false false = neither
 
-        there : find (λ t. binds es t name)
-                (Inner FunctionBody 21 ∷ Inner Parameters 10 ∷ Inner FunctionName 9 ∷ Top ∷ []) ≡
-                cond (binds ds Top name) (Some (Inner FunctionBody 21))
+        there : find (λ t. binds es t name) (Inner FunctionBody 21 ∷ Inner Parameters 10
+                ∷ Inner FunctionName 9 ∷ Top ∷ [])
+                ≡ cond (binds ds Top name) (Some (Inner FunctionBody 21))
                 (cond (binds ds Wrapper name) (Some (Inner Parameters 10)) None)
         there =
             λ i. cond (binds-beside top name i) (Some (Inner FunctionBody 21))

@@ -65,19 +65,20 @@ module _ (reading : Reading) (kind : ModuleKind) where
 
   joins : (o : Option Occurrence) (os : List Occurrence) (ds : List Declared) →
       cons_option (option_and_then (declaration_of reading kind) o)
-          (declared_by_names reading kind os ++ ds) ≡ declared_by_names reading kind
-          (cons_option o os) ++ ds
+          (declared_by_names reading kind os ++ ds)
+          ≡ declared_by_names reading kind (cons_option o os) ++ ds
   joins None os ds = refl
   joins (Some o) os ds =
       cons-append (declaration_of reading kind o) (declared_by_names reading kind os) ds
 
   one-more : (s : Spot) (x : Item) (xs tail : List Item) →
       is_nameless_default x (xs ++ tail) ≡ false →
-      declared_from reading kind (past s x) (xs ++ tail) ≡ declared_by_names reading kind
-          (occurrences_from (past s x) xs) ++ declared_from reading kind (fold past (past s x) xs)
-          tail →
-      declared_from reading kind s ((x ∷ xs) ++ tail) ≡ declared_by_names reading kind
-          (occurrences_from s (x ∷ xs)) ++ declared_from reading kind (fold past s (x ∷ xs)) tail
+      declared_from reading kind (past s x) (xs ++ tail)
+          ≡ declared_by_names reading kind (occurrences_from (past s x) xs)
+          ++ declared_from reading kind (fold past (past s x) xs) tail →
+      declared_from reading kind s ((x ∷ xs) ++ tail)
+          ≡ declared_by_names reading kind (occurrences_from s (x ∷ xs))
+          ++ declared_from reading kind (fold past s (x ∷ xs)) tail
   one-more s x xs tail no_default ih =
       ap (λ b. cons_option
           (cond b (Some (nameless_default kind s.place))
@@ -88,8 +89,9 @@ module _ (reading : Reading) (kind : ModuleKind) where
           (declared_from reading kind (fold past (past s x) xs) tail))
 
   pub declared-own : (s : Spot) (xs tail : List Item) → AreOwn xs →
-      declared_from reading kind s (xs ++ tail) ≡ declared_by_names reading kind
-          (occurrences_from s xs) ++ declared_from reading kind (fold past s xs) tail
+      declared_from reading kind s (xs ++ tail)
+          ≡ declared_by_names reading kind (occurrences_from s xs)
+          ++ declared_from reading kind (fold past s xs) tail
   declared-own s [] tail own = refl
   declared-own s (h.Open field head ∷ xs) tail own =
       one-more s (h.Open field head) xs tail (not-default head field (xs ++ tail) own.0)
@@ -194,8 +196,8 @@ module _ (R : ℕ → ℕ → Type 0) (frame : IsFrame R) (g : Numbering) {ds es
     (all : AllBeside R ds es) (plainly : Each IsBySymbol es) where
   lift-kept : (o u : Occurrence) → StandsBeside R o u → KeepsName g ds o u →
       ((d : Declared) → declaration_of BySymbol Cjs o ≡ Some d → IsTaken d) →
-      declaration_of ByContext Es u ≡ option_map (lifted (moved_numbering frame.from g) es)
-          (declaration_of BySymbol Es u)
+      declaration_of ByContext Es u
+          ≡ option_map (lifted (moved_numbering frame.from g) es) (declaration_of BySymbol Es u)
   lift-kept o u stands keeps taken = go (is_binding o.role) refl (way_of o.path) refl
     where
       none_by : (b : Bool) → ◌≡◌ {A = Option Declared} (cond b None None) None
@@ -203,7 +205,8 @@ module _ (R : ℕ → ℕ → Type 0) (frame : IsFrame R) (g : Numbering) {ds es
       none_by false = refl
 
       go : (b : Bool) → is_binding o.role ≡ b → (w : Option Way) → way_of o.path ≡ w →
-          declaration_of ByContext Es u ≡ option_map (lifted (moved_numbering frame.from g) es)
+          declaration_of ByContext Es u
+              ≡ option_map (lifted (moved_numbering frame.from g) es)
               (declaration_of BySymbol Es u)
       go true role (Some way) is =
           let mine = declares-own R frame g all plainly o u stands keeps taken way role is in
@@ -238,8 +241,8 @@ module _ (R : ℕ → ℕ → Type 0) (frame : IsFrame R) (g : Numbering) {ds es
 
   pub lifts-follow : {L : Ident → Type 0} {os us : List Occurrence} → Follows L R g ds os us →
       AreTaken os →
-      declared_by_names ByContext Es us ≡ map (lifted (moved_numbering frame.from g) es)
-          (declared_by_names BySymbol Es us)
+      declared_by_names ByContext Es us
+          ≡ map (lifted (moved_numbering frame.from g) es) (declared_by_names BySymbol Es us)
   lifts-follow done taken = refl
   lifts-follow (kept {o = o} {u = u} {os = os} {us = us} stands keeps rest) taken =
       put-lift (lifted (moved_numbering frame.from g) es) (declaration_of BySymbol Es u)

@@ -46,57 +46,60 @@ abbrev name_statement : List ℕ → ℕ → List Item
 name_statement x c = h.Open 0 h.ExprStmt ∷ h.Ident 0 x c Reference ∷ h.Close ∷ []
 
 -- `arguments;` denotes the wrapper's in the module
-arguments_there : denotations BySymbol Cjs (tree_of_items (name_statement (codes "arguments") 0)) ≡
-        Bound Wrapper (plain (codes "arguments")) ∷ []
+arguments_there : denotations BySymbol Cjs (tree_of_items (name_statement (codes "arguments") 0))
+        ≡ Bound Wrapper (plain (codes "arguments")) ∷ []
 arguments_there = refl
 
 -- with the local context it denotes the function's in the item
 arguments_here : denotations ByContext Es
-        (tree_of_items (items_of (name_statement (codes "arguments") 7))) ≡ Bound Top
-        (with (codes "load") 9) ∷ Global (codes "helper") ∷ Bound (Inner Parameters 10)
-        (with (codes "module") 7) ∷ Bound (Inner Parameters 10) (with (codes "exports") 7) ∷ Bound
-        (Inner Parameters 10) (plain (codes "arguments")) ∷ []
+        (tree_of_items (items_of (name_statement (codes "arguments") 7)))
+        ≡ Bound Top (with (codes "load") 9) ∷ Global (codes "helper")
+        ∷ Bound (Inner Parameters 10) (with (codes "module") 7)
+        ∷ Bound (Inner Parameters 10) (with (codes "exports") 7)
+        ∷ Bound (Inner Parameters 10) (plain (codes "arguments")) ∷ []
 arguments_here = refl
 
 -- with the context of globals it would denote a global
 arguments_lost : denotations ByContext Es
-        (tree_of_items (items_of (name_statement (codes "arguments") 1))) ≡ Bound Top
-        (with (codes "load") 9) ∷ Global (codes "helper") ∷ Bound (Inner Parameters 10)
-        (with (codes "module") 7) ∷ Bound (Inner Parameters 10) (with (codes "exports") 7) ∷ Global
-        (codes "arguments") ∷ []
+        (tree_of_items (items_of (name_statement (codes "arguments") 1)))
+        ≡ Bound Top (with (codes "load") 9) ∷ Global (codes "helper")
+        ∷ Bound (Inner Parameters 10) (with (codes "module") 7)
+        ∷ Bound (Inner Parameters 10) (with (codes "exports") 7) ∷ Global (codes "arguments") ∷ []
 arguments_lost = refl
 
 -- `var x;` or `let x;`
 abbrev variable : VarDeclKind → List ℕ → ℕ → List Item
 variable kind x c =
-    h.Open 0 (h.VarDecl kind no_notes) ∷ h.Open 1 h.VarDeclarator ∷ h.Open 0
-        h.BindingIdent ∷ h.Ident 0 x c Binding ∷ h.Close ∷ h.Close ∷ h.Close ∷ []
+    h.Open 0 (h.VarDecl kind no_notes) ∷ h.Open 1 h.VarDeclarator ∷ h.Open 0 h.BindingIdent
+        ∷ h.Ident 0 x c Binding ∷ h.Close ∷ h.Close ∷ h.Close ∷ []
 
 -- `var exports;` is the parameter, in the module and in the item; `var other;` belongs to the top
 -- and to the body
 joins_there : denotations BySymbol Cjs
-        (tree_of_items (variable Var (codes "exports") 0 ++ variable Var (codes "other") 0)) ≡
-        Bound Wrapper (plain (codes "exports")) ∷ Bound Top (plain (codes "other")) ∷ []
+        (tree_of_items (variable Var (codes "exports") 0 ++ variable Var (codes "other") 0))
+        ≡ Bound Wrapper (plain (codes "exports")) ∷ Bound Top (plain (codes "other")) ∷ []
 joins_there = refl
 
 joins_here : denotations ByContext Es
-        (tree_of_items (items_of (variable Var (codes "exports") 7 ++ variable Var (codes "other")
-        7))) ≡ Bound Top (with (codes "load") 9) ∷ Global (codes "helper") ∷ Bound
-        (Inner Parameters 10) (with (codes "module") 7) ∷ Bound (Inner Parameters 10)
-        (with (codes "exports") 7) ∷ Bound (Inner Parameters 10) (with (codes "exports") 7) ∷ Bound
-        (Inner FunctionBody 21) (with (codes "other") 7) ∷ []
+        (tree_of_items (items_of (variable Var (codes "exports") 7
+        ++ variable Var (codes "other") 7))) ≡ Bound Top (with (codes "load") 9)
+        ∷ Global (codes "helper") ∷ Bound (Inner Parameters 10) (with (codes "module") 7)
+        ∷ Bound (Inner Parameters 10) (with (codes "exports") 7)
+        ∷ Bound (Inner Parameters 10) (with (codes "exports") 7)
+        ∷ Bound (Inner FunctionBody 21) (with (codes "other") 7) ∷ []
 joins_here = refl
 
 -- `let exports;` would be a second binding of one symbol and context; it is doubled
-let_doubled : first_doubled Cjs (tree_of_items (variable Let (codes "exports") 0)) ≡ Some
-        (record { place = 4; name = plain (codes "exports"); by = ByLet;
+let_doubled : first_doubled Cjs (tree_of_items (variable Let (codes "exports") 0))
+        ≡ Some (record { place = 4; name = plain (codes "exports"); by = ByLet;
         scopes = Top ∷ Wrapper ∷ [] })
 let_doubled = refl
 
 let_twice : denotations ByContext Es (tree_of_items (items_of (variable Let (codes "exports") 7)))
-        ≡ Bound Top (with (codes "load") 9) ∷ Global (codes "helper") ∷ Bound (Inner Parameters 10)
-        (with (codes "module") 7) ∷ Bound (Inner Parameters 10) (with (codes "exports") 7) ∷ Bound
-        (Inner FunctionBody 21) (with (codes "exports") 7) ∷ []
+        ≡ Bound Top (with (codes "load") 9) ∷ Global (codes "helper")
+        ∷ Bound (Inner Parameters 10) (with (codes "module") 7)
+        ∷ Bound (Inner Parameters 10) (with (codes "exports") 7)
+        ∷ Bound (Inner FunctionBody 21) (with (codes "exports") 7) ∷ []
 let_twice = refl
 
 -- What is asked can be met: `arguments;`.
@@ -183,14 +186,14 @@ calls_b i = i ≡ (codes "load", 10)
 
 abbrev call_there : List Item
 call_there =
-    h.Open 0 h.ExprStmt ∷ h.Open 0 h.CallExpr ∷ h.Ident 0 (codes "require") 0 Reference ∷ h.Open 1
-        (h.ExprOrSpread false) ∷ h.Open 0 (h.Str (codes "b") None) ∷ h.Close ∷ h.Close ∷ h.Close ∷
-        h.Close ∷ []
+    h.Open 0 h.ExprStmt ∷ h.Open 0 h.CallExpr ∷ h.Ident 0 (codes "require") 0 Reference
+        ∷ h.Open 1 (h.ExprOrSpread false) ∷ h.Open 0 (h.Str (codes "b") None) ∷ h.Close ∷ h.Close
+        ∷ h.Close ∷ h.Close ∷ []
 
 abbrev call_here : List Item
 call_here =
-    h.Open 0 h.ExprStmt ∷ h.Open 0 h.CallExpr ∷ h.Ident 0 (codes "load") 10
-        Reference ∷ h.Close ∷ h.Close ∷ []
+    h.Open 0 h.ExprStmt ∷ h.Open 0 h.CallExpr ∷ h.Ident 0 (codes "load") 10 Reference ∷ h.Close
+        ∷ h.Close ∷ []
 
 abbrev pieces : Pieced calls_b (name_statement (codes "exports") 0 ∷ call_there ∷ [])
         (name_statement (codes "exports") 7 ∷ call_here ∷ [])
@@ -278,8 +281,8 @@ both_loaded = record {
 -- the item, and one that declares `helper#8` and `load#10`
 abbrev whole : List (List Item)
 whole =
-    items_of (name_statement (codes "exports") 7 ++ call_here) ∷
-        (variable Var (codes "helper") 8 ++ variable Var (codes "load") 10) ∷ []
+    items_of (name_statement (codes "exports") 7 ++ call_here)
+        ∷ (variable Var (codes "helper") 8 ++ variable Var (codes "load") 10) ∷ []
 
 strange : (x : List ℕ) (c : ℕ) → names_agree (with (codes "exports") 7) (with x c) ≡ false →
     names_agree (with (codes "module") 7) (with x c) ≡ false →
@@ -321,9 +324,10 @@ both_known = record {
     never false = refl
 
     called : (name : Ident) → name ≡ (codes "load", 10) →
-        (is_top_name whole (with name.0 name.1) ≡ true) × IsStrange (together pieces) contexts
-            (codes "load", 9) (codes "helper", 8) (codes "module", 7) (codes "exports", 7)
-            both_loaded name.0 name.1 × (is_arguments name.0 ≡ false)
+        (is_top_name whole (with name.0 name.1) ≡ true)
+            × IsStrange (together pieces) contexts (codes "load", 9) (codes "helper", 8)
+            (codes "module", 7) (codes "exports", 7) both_loaded name.0 name.1
+            × (is_arguments name.0 ≡ false)
     called name is =
         (ap (λ (i : Ident). is_top_name whole (with i.0 i.1)) is,
         strange name.0 name.1

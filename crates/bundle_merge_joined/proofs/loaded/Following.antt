@@ -52,9 +52,8 @@ module _ (R : ℕ → ℕ → Type 0) (g : Numbering) (ds : List Declared) where
           (cons_option o (occurrences_from (past s (h.Ident field x ctxt role)) xs))
           (occurrences_from t (h.Ident field x its role ∷ ys)))
           (sym (taken-here s field x ctxt role is))
-      (subst (λ u. Follows L R g ds
-          (occurrence_here s field x ctxt role ∷ occurrences_from
-          (past s (h.Ident field x ctxt role)) xs)
+      (subst (λ u. Follows L R g ds (occurrence_here s field x ctxt role
+          ∷ occurrences_from (past s (h.Ident field x ctxt role)) xs)
           (cons_option u (occurrences_from (past t (h.Ident field x its role)) ys)))
           (sym (taken-here t field x its role is))
       (by_name has.0 (record { role = refl; way = way_of-beside R there;
@@ -67,10 +66,10 @@ module _ (R : ℕ → ℕ → Type 0) (g : Numbering) (ds : List Declared) where
               →
           Follows L R g ds (occurrences_from (past s (h.Ident field x ctxt role)) xs)
               (occurrences_from (past t (h.Ident field x its role)) ys) →
-          Follows L R g ds (occurrence_here s field x ctxt role ∷ occurrences_from
-              (past s (h.Ident field x ctxt role)) xs)
-              (occurrence_here t field x its role ∷ occurrences_from
-              (past t (h.Ident field x its role)) ys)
+          Follows L R g ds (occurrence_here s field x ctxt role
+              ∷ occurrences_from (past s (h.Ident field x ctxt role)) xs)
+              (occurrence_here t field x its role
+              ∷ occurrences_from (past t (h.Ident field x its role)) ys)
       by_name (inl fits) stands more = kept stands (record { symbol = refl; ctxt = fits.1 }) more
       by_name (inr calls) stands more = changed stands calls.0 calls.1 more
   follows-turned {L = L} (word {field = field} {ctxt = ctxt} {its = its} {x = x} rest) s t path
@@ -119,22 +118,19 @@ module _ (L : Ident → Type 0) (g : Numbering) (ds : List Declared) where
   fit-names (ended rest) s t fit = fit-names rest (past s h.Close) (past t h.Close) fit
   fit-names (named {field = field} {ctxt = ctxt} {its = its} {x = x} {role = role} {xs = xs}
       {ys = ys} is rest) s t fit =
-      let first : FitNames L g ds
-          (occurrence_here s field x ctxt role ∷ occurrences_from
-          (past s (h.Ident field x ctxt role)) xs)
+      let first : FitNames L g ds (occurrence_here s field x ctxt role
+          ∷ occurrences_from (past s (h.Ident field x ctxt role)) xs)
           (map ident_of (occurrences_from t (h.Ident field x its role ∷ ys))) =
       subst (λ o. FitNames L g ds
           (cons_option o (occurrences_from (past s (h.Ident field x ctxt role)) xs))
           (map ident_of (occurrences_from t (h.Ident field x its role ∷ ys))))
           (taken-here s field x ctxt role is) fit in
-      let both : FitNames L g ds
-          (occurrence_here s field x ctxt role ∷ occurrences_from
-          (past s (h.Ident field x ctxt role)) xs)
-          (map ident_of (occurrence_here t field x its role ∷ occurrences_from
-          (past t (h.Ident field x its role)) ys)) =
-      subst (λ o. FitNames L g ds
-          (occurrence_here s field x ctxt role ∷ occurrences_from
-          (past s (h.Ident field x ctxt role)) xs)
+      let both : FitNames L g ds (occurrence_here s field x ctxt role
+          ∷ occurrences_from (past s (h.Ident field x ctxt role)) xs)
+          (map ident_of (occurrence_here t field x its role
+          ∷ occurrences_from (past t (h.Ident field x its role)) ys)) =
+      subst (λ o. FitNames L g ds (occurrence_here s field x ctxt role
+          ∷ occurrences_from (past s (h.Ident field x ctxt role)) xs)
           (map ident_of (cons_option o (occurrences_from (past t (h.Ident field x its role)) ys))))
           (taken-here t field x its role is) first in
       (both.0, fit-names rest (past s (h.Ident field x ctxt role))

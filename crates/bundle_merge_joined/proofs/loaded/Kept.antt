@@ -85,8 +85,8 @@ module _ (R : ℕ → ℕ → Type 0) (frame : IsFrame R) (g : Numbering) where
     written-beside {s = s} {t = t} x name = go all
       where
         one : (d e : Declared) → DeclaredBeside R d e →
-            (is_identified e.by && (same_scope (home_of es e) t && bytes_eq e.name.sym name)) ≡
-                is_declared_in ds s (plain name) d
+            (is_identified e.by && (same_scope (home_of es e) t && bytes_eq e.name.sym name))
+                ≡ is_declared_in ds s (plain name) d
         one d e b =
             ap (λ i. i && (same_scope (home_of es e) t && bytes_eq e.name.sym name))
                 (identified-beside b)
@@ -97,9 +97,9 @@ module _ (R : ℕ → ℕ → Type 0) (frame : IsFrame R) (g : Numbering) where
                 (sym (names_agree-by_symbol d.name (plain name) refl)))
 
         go : {some its : List Declared} → AllBeside R some its →
-            list_any (λ (e : Declared). is_identified
-                e.by && (same_scope (home_of es e) t && bytes_eq e.name.sym name)) its ≡ list_any
-                (is_declared_in ds s (plain name)) some
+            list_any (λ (e : Declared). is_identified e.by
+                && (same_scope (home_of es e) t && bytes_eq e.name.sym name)) its
+                ≡ list_any (is_declared_in ds s (plain name)) some
         go none = refl
         go (more {d = d} {e = e} b rest) =
             ap₂ (λ (a : Bool) (c : Bool). a || c) (one d e b) (go rest)
@@ -110,11 +110,11 @@ module _ (R : ℕ → ℕ → Type 0) (frame : IsFrame R) (g : Numbering) where
       pub beside : DeclaredBeside R (there_declared o way) (here_declared u o.sym way)
       pub declares_there : declaration_of BySymbol Cjs o ≡ Some (there_declared o way)
       pub declares_plainly : declaration_of BySymbol Es u ≡ Some (here_declared u o.sym way)
-      pub declares_here : declaration_of ByContext Es u ≡ Some
-              (record { place = u.place; name = with u.sym u.ctxt; by = way;
+      pub declares_here : declaration_of ByContext Es u
+              ≡ Some (record { place = u.place; name = with u.sym u.ctxt; by = way;
               scopes = scopes_around Es u.path })
-      pub denotes_there : denoted_of BySymbol Cjs ds o ≡ Bound (home_of ds (there_declared o way))
-              (plain o.sym)
+      pub denotes_there : denoted_of BySymbol Cjs ds o
+              ≡ Bound (home_of ds (there_declared o way)) (plain o.sym)
       pub number : u.ctxt ≡ g (scope_order (home_of ds (there_declared o way))) o.sym
       pub lifts : record { place = u.place; name = with u.sym u.ctxt; by = way;
               scopes = scopes_around Es u.path } ≡ lifted f es (here_declared u o.sym way)
@@ -134,10 +134,10 @@ module _ (R : ℕ → ℕ → Type 0) (frame : IsFrame R) (g : Numbering) where
             of_body (record { name = refl; by = refl; scopes = stands.scopes; own = own;
             taken = taken (there_declared o way) there }) in
         let home = home-beside R frame all beside in
-        let denotes : denoted_of BySymbol Cjs ds o ≡ Bound (home_of ds (there_declared o way))
-            (plain o.sym) = ap
-            (own_or_found ds (denoted_by_symbol ds (scopes_around Cjs o.path) (plain o.sym))) there
-            in
+        let denotes : denoted_of BySymbol Cjs ds o
+            ≡ Bound (home_of ds (there_declared o way)) (plain o.sym) =
+            ap (own_or_found ds (denoted_by_symbol ds (scopes_around Cjs o.path) (plain o.sym)))
+            there in
         let number : u.ctxt ≡ g (scope_order (home_of ds (there_declared o way))) o.sym =
             keeps.ctxt ∙ ap (context_of g) denotes in
         let known : is_identified way ≡ true = own-identified way own in
@@ -198,17 +198,16 @@ module _ (R : ℕ → ℕ → Type 0) (frame : IsFrame R) (g : Numbering) where
           (other : Scope) → is_written es other x ≡ true →
           f (scope_order other) x ≡ f (scope_order t) x → scope_order other ≡ scope_order t
       apart-beside x {s = s} {t = t} b told other is numbers =
-          let it = list_any-found
-              (λ (e : Declared). is_identified
-              e.by && (same_scope (home_of es e) other && bytes_eq e.name.sym x)) es is in
+          let it = list_any-found (λ (e : Declared). is_identified e.by
+              && (same_scope (home_of es e) other && bytes_eq e.name.sym x)) es is in
           let parts = and_parts (is_identified it.1.by) _ it.3 in
           let rest = and_parts (same_scope (home_of es it.1) other) _ parts.1 in
           let its = partner all it.0 it.1 it.2 in
           let home = home-beside R frame all its.2 in
           let order : scope_order (home_of es it.1) ≡ scope_order other =
               same_order (home_of es it.1) other rest.0 in
-          let symbol : bytes_eq its.0.name.sym x ≡ true = ap (λ (n : Name). bytes_eq n.sym x)
-              (sym (name-beside its.2)) ∙ rest.1 in
+          let symbol : bytes_eq its.0.name.sym x ≡ true =
+              ap (λ (n : Name). bytes_eq n.sym x) (sym (name-beside its.2)) ∙ rest.1 in
           let declared : declares ds (home_of ds its.0) (plain x) ≡ true =
           list_any-here (is_declared_in ds (home_of ds its.0) (plain x)) ds it.0 its.0 its.1
               (and_from (same_scope (home_of ds its.0) (home_of ds its.0)) _
@@ -257,18 +256,17 @@ module _ (R : ℕ → ℕ → Type 0) (frame : IsFrame R) (g : Numbering) where
           refers : declaration_of BySymbol Cjs o ≡ None → declaration_of ByContext Es u ≡ None →
               DenotedBeside R g ds (denoted_of BySymbol Cjs ds o) (denoted_of ByContext Es here u)
           refers none_there none_here =
-              let there : denoted_of BySymbol Cjs ds o ≡ denoted_by_symbol ds
-                  (scopes_around Cjs o.path) (plain o.sym) =
+              let there : denoted_of BySymbol Cjs ds o
+                  ≡ denoted_by_symbol ds (scopes_around Cjs o.path) (plain o.sym) =
                   ap (own_or_found ds
                   (denoted_by_symbol ds (scopes_around Cjs o.path) (plain o.sym))) none_there in
-              let its : denoted_of ByContext Es here u ≡ denoted_by_context here
-                  (scopes_around Es u.path) (with u.sym u.ctxt) =
+              let its : denoted_of ByContext Es here u
+                  ≡ denoted_by_context here (scopes_around Es u.path) (with u.sym u.ctxt) =
                   ap (own_or_found here
                   (denoted_by_context here (scopes_around Es u.path) (with u.sym u.ctxt)))
                   none_here in
-              let named : denoted_by_context here (scopes_around Es u.path)
-                  (with u.sym u.ctxt) ≡ denoted_by_context here (scopes_around Es u.path)
-                  (with o.sym u.ctxt) =
+              let named : denoted_by_context here (scopes_around Es u.path) (with u.sym u.ctxt)
+                  ≡ denoted_by_context here (scopes_around Es u.path) (with o.sym u.ctxt) =
                   ap (λ x. denoted_by_context here (scopes_around Es u.path) (with x u.ctxt))
                   keeps.symbol in
               let bound : DenotedBeside R g ds
@@ -296,11 +294,11 @@ module _ (R : ℕ → ℕ → Type 0) (frame : IsFrame R) (g : Numbering) where
                   is in
               let home : Beside R (home_of ds d) (home_of es e) =
                   home-beside R frame all mine.beside in
-              let home_here : home_of here its ≡ home_of es e = home-added load_sym load_ctxt
-                  (lift_all f es) its
+              let home_here : home_of here its ≡ home_of es e =
+                  home-added load_sym load_ctxt (lift_all f es) its
                   ∙ (ap (home_of (lift_all f es)) mine.lifts ∙ home-lifted f es e refl) in
-              let denotes : denoted_of ByContext Es here u ≡ Bound (home_of here its)
-                  (with u.sym u.ctxt) =
+              let denotes : denoted_of ByContext Es here u
+                  ≡ Bound (home_of here its) (with u.sym u.ctxt) =
                   ap (own_or_found here
                   (denoted_by_context here (scopes_around Es u.path) (with u.sym u.ctxt)))
                   mine.declares_here in
@@ -340,6 +338,6 @@ module _ (R : ℕ → ℕ → Type 0) (frame : IsFrame R) (g : Numbering) where
           go false role w is =
               refers (ap (λ b. cond b
                   (declared_by o.place (plain o.sym) (scopes_around Cjs o.path) (way_of o.path))
-                  None) role) (ap (λ b.
-                  cond b (declared_by u.place (with u.sym u.ctxt) (scopes_around Es u.path)
+                  None) role) (ap (λ b. cond b
+                  (declared_by u.place (with u.sym u.ctxt) (scopes_around Es u.path)
                   (way_of u.path)) None) (ap is_binding stands.role ∙ role))

@@ -62,11 +62,11 @@ module _ {L : Ident → Type 0} {xs ys : List Item} (w : Turned L zero xs ys) (g
   abbrev item : List Item
   item = load_item load helper m e ys
 
-  pub occurrences-item : occurrences (tree_of_items item) ≡ load_name load ∷ helper_name
-          helper ∷ parameter_name 13 12 11 m ∷ parameter_name 18 17 16 e ∷ body_names ys
+  pub occurrences-item : occurrences (tree_of_items item) ≡ load_name load ∷ helper_name helper
+          ∷ parameter_name 13 12 11 m ∷ parameter_name 18 17 16 e ∷ body_names ys
   occurrences-item =
-      ap (λ os. load_name load ∷ helper_name helper ∷ parameter_name 13 12 11 m ∷ parameter_name 18
-          17 16 e ∷ os)
+      ap (λ os. load_name load ∷ helper_name helper ∷ parameter_name 13 12 11 m
+          ∷ parameter_name 18 17 16 e ∷ os)
       (ap (occurrences_from body_start) (append_assoc ys back_items (h.Close ∷ []))
           ∙ (occurrences-append body_start ys (back_items ++ h.Close ∷ [])
           ∙ append-nil (body_names ys)))
@@ -124,15 +124,15 @@ module _ {L : Ident → Type 0} {xs ys : List Item} (w : Turned L zero xs ys) (g
 
       found : is_inner_name (own_declared item) (with x c) ≡ true → ⊥
       found is =
-          let it = list_any-found (λ d. not (is_top (home_of (own_declared item) d)) && names_agree
-              d.name (with x c)) (own_declared item) is in
+          let it = list_any-found (λ d. not (is_top (home_of (own_declared item) d))
+              && names_agree d.name (with x c)) (own_declared item) is in
           let parts = and_parts (not (is_top (home_of (own_declared item) it.1))) _ it.3 in
           by it.0 it.1 (sym (ap (λ ds. slice_get ds it.0) (declared-body w load helper m e))
               ∙ it.2) parts.0 parts.1
         where
           by : (j : ℕ) (d : Declared) →
-              slice_get (load_declared load.0 load.1 ∷ parameter_named 13 m ∷ parameter_named 18
-                  e ∷ declared_by_names ByContext Es (body_names ys)) j ≡ Some d →
+              slice_get (load_declared load.0 load.1 ∷ parameter_named 13 m ∷ parameter_named 18 e
+                  ∷ declared_by_names ByContext Es (body_names ys)) j ≡ Some d →
               not (is_top (home_of (own_declared item) d)) ≡ true →
               names_agree d.name (with x c) ≡ true → ⊥
           by zero d at inside agrees =
@@ -190,8 +190,8 @@ module _ {L : Ident → Type 0} {xs ys : List Item} (w : Turned L zero xs ys) (g
     pub helper_strange : IsStrange helper.0 helper.1
     pub helper_other : is_arguments helper.0 ≡ false
     pub called_known : (name : Ident) → L name →
-        (is_top_name items (with name.0 name.1) ≡ true) × IsStrange name.0
-            name.1 × (is_arguments name.0 ≡ false)
+        (is_top_name items (with name.0 name.1) ≡ true) × IsStrange name.0 name.1
+            × (is_arguments name.0 ≡ false)
     pub own_names : (i : ℕ) (o : Occurrence) → slice_get (module_names xs) i ≡ Some o →
         is_top_name items (with o.sym
             (context_of g (denoted_of BySymbol Cjs (module_declared xs) o))) ≡ false
@@ -237,8 +237,8 @@ module _ {L : Ident → Type 0} {xs ys : List Item} (w : Turned L zero xs ys) (g
     all-noted o (i, at) = by i (sym (ap (λ os. slice_get os i) occurrences-item) ∙ at)
       where
         by : (i : ℕ) →
-            slice_get (load_name load ∷ helper_name helper ∷ parameter_name 13 12 11
-                m ∷ parameter_name 18 17 16 e ∷ body_names ys) i ≡ Some o →
+            slice_get (load_name load ∷ helper_name helper ∷ parameter_name 13 12 11 m
+                ∷ parameter_name 18 17 16 e ∷ body_names ys) i ≡ Some o →
             IsNoted items item o
         by zero at =
             subst (IsNoted items item) (same_Some (load_name load) o at)

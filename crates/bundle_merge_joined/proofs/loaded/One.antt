@@ -21,8 +21,8 @@ module _ (R : ℕ → ℕ → Type 0) (frame : IsFrame R) (g : Numbering) (ds : 
   pub context-same : (s u : Scope) (x : List ℕ) → scope_order s ≡ scope_order u →
       its_context s x ≡ its_context u x
   context-same s u x e =
-      λ i. cond (list_any (λ (d : Declared). (scope_order (home_of ds d) == e i) && names_agree
-          d.name (plain x)) ds) (Some (g (e i) x)) None
+      λ i. cond (list_any (λ (d : Declared). (scope_order (home_of ds d) == e i)
+          && names_agree d.name (plain x)) ds) (Some (g (e i) x)) None
 
   -- ONE TO ONE
   pub denoted-one : (a b x y : Denoted) → DenotedBeside R g ds a x → DenotedBeside R g ds b y →
@@ -37,16 +37,17 @@ module _ (R : ℕ → ℕ → Type 0) (frame : IsFrame R) (g : Numbering) (ds : 
           (sym (same-beside R frame first second))
     where
       by : (q : Bool) → same_scope s u ≡ q → (r : Bool) → bytes_eq m n ≡ r →
-          (same_scope s u && bytes_eq m n && true) ≡
-              (same_scope s u && bytes_eq m n && same_context (its_context s m) (its_context u n))
+          (same_scope s u && bytes_eq m n && true)
+              ≡ (same_scope s u && bytes_eq m n
+              && same_context (its_context s m) (its_context u n))
       by false e r name =
           ap (λ q. q && bytes_eq m n && true) e
           ∙ sym (ap (λ q. q && bytes_eq m n && same_context (its_context s m) (its_context u n)) e)
       by true e false name =
           ap (λ r. same_scope s u && r && true) name
           ∙ (none_of (same_scope s u) (same_context (its_context s m) (its_context u n))
-              ∙ sym (ap (λ r. same_scope s u && r && same_context (its_context s m)
-              (its_context u n)) name))
+              ∙ sym (ap (λ r. same_scope s u && r
+              && same_context (its_context s m) (its_context u n)) name))
         where
           none_of : (p q : Bool) → (p && false && true) ≡ (p && false && q)
           none_of true q = refl

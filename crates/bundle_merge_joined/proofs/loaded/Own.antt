@@ -45,12 +45,12 @@ no-imports (top ∷ tops) is =
     by (begins_with is_module_declaration top.items) refl is (λ none. no-imports tops none)
   where
     by : (b : Bool) → begins_with is_module_declaration top.items ≡ b →
-        (b || list_any (λ (top : TopItem). begins_with is_module_declaration top.items) tops) ≡
-            false →
+        (b || list_any (λ (top : TopItem). begins_with is_module_declaration top.items) tops)
+            ≡ false →
         (list_any (λ (top : TopItem). begins_with is_module_declaration top.items) tops ≡ false →
             flat_map (λ (top : TopItem). imports_of_item top.items) tops ≡ []) →
-        imports_of_item top.items ++ flat_map (λ (top : TopItem). imports_of_item top.items)
-            tops ≡ []
+        imports_of_item top.items ++ flat_map (λ (top : TopItem). imports_of_item top.items) tops
+            ≡ []
     by true e none rest = absurd (false≢true (sym none))
     by false e none rest =
         ap (λ its. its ++ flat_map (λ (top : TopItem). imports_of_item top.items) tops)
@@ -158,9 +158,9 @@ named-as p c all is d (Unbound x) n.unbound = unbound
 
 -- a statement of such a module states itself, and an empty one nothing
 pub stated-own : (start field : ℕ) (head : Head) (rest : List Item) → is_module_head head ≡ false →
-    (stated start (h.Open field head ∷ rest) ≡ []) ⊎
-        (stated start (h.Open field head ∷ rest) ≡ taken_from start (h.Open field head ∷ rest) ∷
-        [])
+    (stated start (h.Open field head ∷ rest) ≡ [])
+        ⊎ (stated start (h.Open field head ∷ rest) ≡ taken_from start (h.Open field head ∷ rest)
+        ∷ [])
 stated-own start field (h.ImportDecl meta) rest own = absurd (false≢true (sym own))
 stated-own start field (h.NamedExport meta) rest own = absurd (false≢true (sym own))
 stated-own start field (h.ExportAll meta) rest own = absurd (false≢true (sym own))

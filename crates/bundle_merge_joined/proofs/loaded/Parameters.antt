@@ -162,8 +162,8 @@ place-behind s (x ∷ xs) i o at =
     by (Some q) same (suc j) at rest = rest j at
 
 module _ {L : Ident → Type 0} {xs ys : List Item} (w : Turned L zero xs ys)
-    (taken : Each IsTaken (module_declared xs))
-    (undoubled : first_doubled Cjs (tree_of_items xs) ≡ None) where
+    (taken : Each IsTaken (module_declared xs)) (undoubled : first_doubled Cjs (tree_of_items xs)
+    ≡ None) where
   abbrev ds : List Declared
   ds = module_declared xs
 
@@ -196,12 +196,12 @@ module _ {L : Ident → Type 0} {xs ys : List Item} (w : Turned L zero xs ys)
           DeclaresOrNot Cjs o → IsOwnName d
       own o place is (DoesNot never) = absurd (none-some d (sym (never BySymbol o.ctxt) ∙ is))
       own o place is (Does way known its later) =
-          record { o = o; way = way; known = known; is = same_Some d (declaration_by_way Cjs o way)
-              (sym is ∙ its); place = place }
+          record { o = o; way = way; known = known;
+              is = same_Some d (declaration_by_way Cjs o way) (sym is ∙ its); place = place }
 
       by : (j : ℕ) →
-          slice_get (wrapper_parameter (codes "module") ∷ wrapper_parameter
-              (codes "exports") ∷ declared_by_names BySymbol Cjs (module_names xs)) j ≡ Some d →
+          slice_get (wrapper_parameter (codes "module") ∷ wrapper_parameter (codes "exports")
+              ∷ declared_by_names BySymbol Cjs (module_names xs)) j ≡ Some d →
           ((x : List ℕ) × IsParameterName x × (d ≡ wrapper_parameter x)) ⊎ IsOwnName d
       by zero at = inl (codes "module", inl refl, sym (same_Some _ d at))
       by (suc zero) at = inl (codes "exports", inr refl, sym (same_Some _ d at))
@@ -284,8 +284,8 @@ module _ {L : Ident → Type 0} {xs ys : List Item} (w : Turned L zero xs ys)
   -- what is listed
   listed-occurrence : (i : ℕ) (d : Denoted) →
       slice_get (denotations BySymbol Cjs (tree_of_items xs)) i ≡ Some d →
-      (o : Occurrence) × (slice_get (occurrences (tree_of_items xs)) i ≡ Some o) ×
-          (denoted_of BySymbol Cjs ds o ≡ d)
+      (o : Occurrence) × (slice_get (occurrences (tree_of_items xs)) i ≡ Some o)
+          × (denoted_of BySymbol Cjs ds o ≡ d)
   listed-occurrence i d at =
       by (slice_get (occurrences (tree_of_items xs)) i) refl
           (sym (slice_get-map (denoted_of BySymbol Cjs ds) (occurrences (tree_of_items xs)) i)
@@ -293,8 +293,8 @@ module _ {L : Ident → Type 0} {xs ys : List Item} (w : Turned L zero xs ys)
     where
       by : (p : Option Occurrence) → slice_get (occurrences (tree_of_items xs)) i ≡ p →
           option_map (denoted_of BySymbol Cjs ds) p ≡ Some d →
-          (o : Occurrence) × (slice_get (occurrences (tree_of_items xs)) i ≡ Some o) ×
-              (denoted_of BySymbol Cjs ds o ≡ d)
+          (o : Occurrence) × (slice_get (occurrences (tree_of_items xs)) i ≡ Some o)
+              × (denoted_of BySymbol Cjs ds o ≡ d)
       by None is same = absurd (none-some d same)
       by (Some o) is same = (o, is, same_Some (denoted_of BySymbol Cjs ds o) d same)
 
@@ -397,8 +397,8 @@ module _ {L : Ident → Type 0} {xs ys : List Item} (w : Turned L zero xs ys)
       IsParameterName name.sym
   joined name bare holds =
       let it = list_any-found (is_parameter Wrapper name) ds holds in
-      let whole = and_parts ((is_parameters (taker it.1) || is_wrapper (taker it.1)) && same_scope
-          (taker it.1) Wrapper) _ it.3 in
+      let whole = and_parts ((is_parameters (taker it.1) || is_wrapper (taker it.1))
+          && same_scope (taker it.1) Wrapper) _ it.3 in
       let parts = and_parts (is_parameters (taker it.1) || is_wrapper (taker it.1)) _ whole.0 in
       by it.0 it.1 it.2 parts.1 whole.1 (sources it.0 it.1 it.2)
     where
@@ -457,8 +457,8 @@ module _ {L : Ident → Type 0} {xs ys : List Item} (w : Turned L zero xs ys)
           go ts is (by_top takes_it) = joins (joins_parameter way) refl
             where
               its_home : cond (joins_parameter way)
-                      (cond (list_any (is_parameter Wrapper (plain o.sym)) ds) Wrapper Top)
-                      Top ≡ Wrapper
+                      (cond (list_any (is_parameter Wrapper (plain o.sym)) ds) Wrapper Top) Top
+                      ≡ Wrapper
               its_home =
                   sym ((λ k. cond (joins_parameter way)
                       (home_beside ds (declaration_by_way Cjs o way) (parameters_of (is k)))
@@ -481,8 +481,8 @@ module _ {L : Ident → Type 0} {xs ys : List Item} (w : Turned L zero xs ys)
                       ∙ its_home)
                 where
                   beside : (b : Bool) → list_any (is_parameter Wrapper (plain o.sym)) ds ≡ b →
-                      cond (list_any (is_parameter Wrapper (plain o.sym)) ds) Wrapper Top ≡ Wrapper
-                          →
+                      cond (list_any (is_parameter Wrapper (plain o.sym)) ds) Wrapper Top
+                          ≡ Wrapper →
                       IsParameterName o.sym
                   beside true its same = joined (plain o.sym) refl its
                   beside false its same =
@@ -498,10 +498,10 @@ module _ {L : Ident → Type 0} {xs ys : List Item} (w : Turned L zero xs ys)
               (denoted_in BySymbol ds (scopes_around Cjs o.path) (plain o.sym)))
               (never BySymbol o.ctxt)) ∙ is)
       by o here is (Does way known own later) =
-          let same : Bound (home_of ds (declaration_by_way Cjs o way)) (plain o.sym) ≡ Bound
-              Wrapper m = sym (ap
-              (own_or_found ds (denoted_in BySymbol ds (scopes_around Cjs o.path) (plain o.sym)))
-              own) ∙ is in
+          let same : Bound (home_of ds (declaration_by_way Cjs o way)) (plain o.sym)
+              ≡ Bound Wrapper m =
+              sym (ap (own_or_found ds
+              (denoted_in BySymbol ds (scopes_around Cjs o.path) (plain o.sym))) own) ∙ is in
           let symbol : o.sym ≡ m.sym = ap denoted_symbol same in
           top-free m.sym (subst IsParameterName symbol
               (own-name o way known own here (ap scope_in same)))

@@ -134,8 +134,8 @@ module _ {L : Ident → Type 0} {xs ys : List Item} (w : Turned L zero xs ys) (g
       by i (sym (ap (λ os. slice_get os i) (occurrences-item w g load helper m e its)) ∙ at)
     where
       by : (i : ℕ) →
-          slice_get (load_name load ∷ helper_name helper ∷ parameter_name 13 12 11
-              m ∷ parameter_name 18 17 16 e ∷ body_names ys) i ≡ Some a →
+          slice_get (load_name load ∷ helper_name helper ∷ parameter_name 13 12 11 m
+              ∷ parameter_name 18 17 16 e ∷ body_names ys) i ≡ Some a →
           Kind a
       by zero at =
           subst Kind (same_Some (load_name load) a at) (is_outside refl known.load_strange)
@@ -238,20 +238,23 @@ module _ {L : Ident → Type 0} {xs ys : List Item} (w : Turned L zero xs ys) (g
               ((subst (λ y. IsStrange w g load helper m e its y b.ctxt)) (sym same.0) strange))),
           λ same. absurd (false≢true (sym out ∙ (ap is_inner (sym same) ∙ is))))
       by a b (is_inside i) (is_inside j) is =
-          (λ same. let scopes : i.s ≡ j.s = same-origin (i.s) (j.s) a.sym b.sym (i.origin)
-              (j.origin) same.0 (sym (i.number) ∙ (same.1 ∙ j.number)) in
-          let there : i.t ≡ j.t = beside-one (turned-frame w)
-              (subst (λ z. Beside R z (i.t)) scopes (i.beside)) (j.beside) in
+          (λ same. let scopes : i.s
+              ≡ j.s = same-origin (i.s) (j.s) a.sym b.sym (i.origin) (j.origin) same.0
+              (sym (i.number) ∙ (same.1 ∙ j.number)) in
+          let there : i.t ≡ j.t =
+              beside-one (turned-frame w) (subst (λ z. Beside R z (i.t)) scopes (i.beside))
+              (j.beside) in
           i.denotes
           ∙ ((λ k. Bound (there k)
               (record { sym = same.0 k; ctxt = its_context (scopes k) (same.0 k) }))
               ∙ sym (j.denotes)),
-          λ same. let both : Bound (i.t) (record { sym = a.sym; ctxt = its_context (i.s) a.sym }) ≡
-              Bound (j.t) (record { sym = b.sym; ctxt = its_context (j.s) b.sym }) =
+          λ same. let both : Bound (i.t) (record { sym = a.sym; ctxt = its_context (i.s) a.sym })
+              ≡ Bound (j.t) (record { sym = b.sym; ctxt = its_context (j.s) b.sym }) =
               sym (i.denotes) ∙ (same ∙ j.denotes) in
           let there : i.t ≡ j.t = ap scope_in both in
           let symbol : a.sym ≡ b.sym = ap denoted_symbol both in
-          let order : scope_order (i.s) ≡ scope_order (j.s) = eqb-true (scope_order (i.s))
-              (scope_order (j.s)) (sym (same-beside R (turned-frame w) (i.beside) (j.beside))
+          let order : scope_order (i.s) ≡ scope_order (j.s) =
+              eqb-true (scope_order (i.s)) (scope_order (j.s))
+              (sym (same-beside R (turned-frame w) (i.beside) (j.beside))
               ∙ eq-eqb (scope_order (i.t)) (scope_order (j.t)) (ap scope_order there)) in
           (symbol, i.number ∙ ((λ k. g (order k) (symbol k)) ∙ sym (j.number))))

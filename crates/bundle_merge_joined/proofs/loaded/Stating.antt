@@ -230,8 +230,8 @@ module _ {L : Ident → Type 0} {xs ys : List Item} (w : Turned L zero xs ys) (g
 
     -- one by one: inside in one exactly if inside in the other
     pair-inside : (o u : Occurrence) (meant : Meant) → Stands o u → Tells o u meant →
-        (is_inside 0 (denoted_of BySymbol Cjs ds o) ≡ is_inside t.place (own_denoted item u)) ×
-            (is_inside 0 (denoted_of BySymbol Cjs ds o) ≡ true →
+        (is_inside 0 (denoted_of BySymbol Cjs ds o) ≡ is_inside t.place (own_denoted item u))
+            × (is_inside 0 (denoted_of BySymbol Cjs ds o) ≡ true →
             Becomes (denoted_of BySymbol Cjs ds o) (own_denoted item u))
     pair-inside o u meant stands (told_kept keeps named) =
         let beside = kept-pair o u stands keeps in (near o u stands.0 beside, λ is. beside)
@@ -245,8 +245,9 @@ module _ {L : Ident → Type 0} {xs ys : List Item} (w : Turned L zero xs ys) (g
         ((j : ℕ) (o : Occurrence) → slice_get os j ≡ Some o →
             (i : ℕ) × (slice_get (module_names xs) i ≡ Some o)) →
         AreTold table L c g ds inner0 os us meants →
-        AllZip (λ d v. (is_inside 0 d ≡ is_inside t.place v) × (is_inside 0 d ≡ true →
-            Becomes d v)) (map (denoted_of BySymbol Cjs ds) os) (map (own_denoted item) us)
+        AllZip (λ d v. (is_inside 0 d ≡ is_inside t.place v)
+            × (is_inside 0 d ≡ true → Becomes d v)) (map (denoted_of BySymbol Cjs ds) os)
+            (map (own_denoted item) us)
     all-inside done [] at told = tt
     all-inside done (meant ∷ meants) at told = absurd told
     all-inside (kept stands keeps rest) [] at told = absurd told
@@ -387,8 +388,9 @@ module _ {L : Ident → Type 0} {xs ys : List Item} (w : Turned L zero xs ys) (g
           (occurrences_from s x) (occurrences_from t y) meants →
       map denoted_symbol
           (each_denoted_once
-          (filter (is_inside t.place) (map (own_denoted item) (occurrences_from t y)))) ≡ map
-          denoted_symbol (each_denoted_once
+          (filter (is_inside t.place) (map (own_denoted item) (occurrences_from t y))))
+          ≡ map denoted_symbol
+          (each_denoted_once
           (filter (is_inside 0) (map (denoted_of BySymbol Cjs ds) (occurrences_from s x))))
   inner-symbols items known table c tabled meants told =
       let here : List Denoted = map (denoted_of BySymbol Cjs ds) (occurrences_from s x) in

@@ -38,12 +38,12 @@ taken-more way (node ∷ outer) taken =
     one false s is rest = rest is
 
     by : (k : Option ScopeKind) →
-        is_some (nearest (from_taker way (scope_at node.begins k ++ scopes_around Es outer))) ≡
-            true →
+        is_some (nearest (from_taker way (scope_at node.begins k ++ scopes_around Es outer)))
+            ≡ true →
         (is_some (nearest (from_taker way (scopes_around Es outer))) ≡ true →
             is_some (nearest (from_taker way (scopes_around Cjs outer))) ≡ true) →
-        is_some (nearest (from_taker way (scope_at node.begins k ++ scopes_around Cjs outer))) ≡
-            true
+        is_some (nearest (from_taker way (scope_at node.begins k ++ scopes_around Cjs outer)))
+            ≡ true
     by None is rest = rest is
     by (Some kind) is rest =
         one (takes way (Inner kind node.begins)) (Inner kind node.begins) is rest
@@ -56,8 +56,8 @@ taken-name o d taken is = by (is_binding o.role) refl (way_of o.path) refl
   where
     declares : (kind : ModuleKind) → is_binding o.role ≡ true → (w : Option Way) →
         way_of o.path ≡ w →
-        declaration_of BySymbol kind o ≡ declared_by o.place (plain o.sym)
-            (scopes_around kind o.path) w
+        declaration_of BySymbol kind o
+            ≡ declared_by o.place (plain o.sym) (scopes_around kind o.path) w
     declares kind role w at =
         ap (λ b. cond b (declared_by o.place (plain o.sym) (scopes_around kind o.path)
             (way_of o.path)) None) role
@@ -80,7 +80,7 @@ taken-name o d taken is = by (is_binding o.role) refl (way_of o.path) refl
 pub taken-by-es : (xs : List Item) → Each IsTaken (declared BySymbol Es (tree_of_items xs)) →
     Each IsTaken (module_declared xs)
 taken-by-es xs taken =
-    each-declared IsTaken (λ (o : Occurrence). (d : Declared) → declaration_of BySymbol Es o ≡ Some
-        d → IsTaken d) BySymbol Cjs (λ x. refl) (λ place. refl)
+    each-declared IsTaken (λ (o : Occurrence). (d : Declared) → declaration_of BySymbol Es o
+        ≡ Some d → IsTaken d) BySymbol Cjs (λ x. refl) (λ place. refl)
         (λ o d its is. taken-name o d its is) (tree_of_items xs)
     (each-occurrence IsTaken BySymbol Es (tree_of_items xs) taken)

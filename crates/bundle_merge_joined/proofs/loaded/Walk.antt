@@ -20,22 +20,22 @@ use Rattle.bundle_merge_joined.specs.loaded.Walk.{IsFine}
 -- what keeps its symbol is not spelled out
 stays-short : (around : Around) (change : Change) (field : ℕ) (x : Text) (ctxt : ℕ) (role : Role) →
     change.is_spelled_out ≡ false →
-    in_its_place around (Some change) field x ctxt role ≡ h.Ident field change.ident.0
-        change.ident.1 role ∷ []
+    in_its_place around (Some change) field x ctxt role
+        ≡ h.Ident field change.ident.0 change.ident.1 role ∷ []
 stays-short Anywhere change field x ctxt role short = refl
 stays-short InObject change field x ctxt role short =
     ap (λ b. if b then node field h.KeyValueProp
         (key_in_object x ++ h.Ident 1 change.ident.0 change.ident.1 role ∷ []) else h.Ident field
         change.ident.0 change.ident.1 role ∷ []) short
 stays-short InSpecifier change field x ctxt role short =
-    ap (λ b. if b then h.Ident field change.ident.0 change.ident.1 role ∷ h.Ident 1 x 0 r.Word ∷ []
-        else h.Ident field change.ident.0 change.ident.1 role ∷ []) short
+    ap (λ b. if b then h.Ident field change.ident.0 change.ident.1 role ∷ h.Ident 1 x 0 r.Word
+        ∷ [] else h.Ident field change.ident.0 change.ident.1 role ∷ []) short
 
 pattern-short : (change : Change) (field : ℕ) (x : Text) (ctxt : ℕ) (role : Role)
         (default : List Item) →
     change.is_spelled_out ≡ false →
-    shorthand_in_its_place (Some change) field x ctxt role default ≡ node field h.AssignPatProp
-        (binding (Some change) 0 x ctxt role ++ default)
+    shorthand_in_its_place (Some change) field x ctxt role default
+        ≡ node field h.AssignPatProp (binding (Some change) 0 x ctxt role ++ default)
 pattern-short change field x ctxt role default short =
     ap (λ b. if b then node field h.KeyValuePatProp
         (plain_key x ++ pattern_in_its_place (Some change) x ctxt role default) else node field
@@ -93,11 +93,11 @@ module _ (L : Ident → Type 0) where
       (declares (walk-turns one fine (suc depth) (h.Close ∷ xs) (h.Close ∷ ys) (ended v))))
   walk-turns (Kept field head first {inside = inside} {made = made} {more = more}
       {made_more = made_more} keeps one two) fine depth xs ys v =
-      turned-node field head (node first h.MemberExpr inside ++ more)
-          (node first h.MemberExpr made ++ made_more) xs ys fine.0
-      (subst (λ list. Turned L (suc depth) list
-          ((node first h.MemberExpr made ++ made_more) ++ h.Close ∷ ys))
-          (sym (append_assoc (node first h.MemberExpr inside) more (h.Close ∷ xs)))
+      turned-node field head (node first h.MemberExpr inside ++ more) (node first h.MemberExpr made
+          ++ made_more) xs ys fine.0
+      (subst (λ list. Turned L (suc depth) list ((node first h.MemberExpr made ++ made_more)
+          ++ h.Close ∷ ys)) (sym
+          (append_assoc (node first h.MemberExpr inside) more (h.Close ∷ xs)))
           (subst (Turned L (suc depth) (node first h.MemberExpr inside ++ (more ++ h.Close ∷ xs)))
           (sym (append_assoc (node first h.MemberExpr made) made_more (h.Close ∷ ys)))
       (turned-node first h.MemberExpr inside made (more ++ h.Close ∷ xs)
@@ -113,9 +113,9 @@ module _ (L : Ident → Type 0) where
       (turned-node field h.AssignPatProp (binding None 0 x ctxt role ++ default)
           (binding (Some (change_at x step)) 0 x ctxt role ++ made) xs ys refl
       (begun refl (subst
-          (λ y. Turned L (suc (suc depth))
-          (h.Ident 0 x ctxt role ∷ h.Close ∷ (default ++ h.Close ∷ xs))
-          (h.Ident 0 y step.ident.1 role ∷ h.Close ∷ (made ++ h.Close ∷ ys))) (sym fine.0.symbol)
+          (λ y. Turned L (suc (suc depth)) (h.Ident 0 x ctxt role ∷ h.Close
+          ∷ (default ++ h.Close ∷ xs)) (h.Ident 0 y step.ident.1 role ∷ h.Close
+          ∷ (made ++ h.Close ∷ ys))) (sym fine.0.symbol)
       (named is (ended (walk-turns one fine.1 (suc depth) (h.Close ∷ xs) (h.Close ∷ ys)
           (ended v)))))))
   walk-turns (OfReads field name inside is) fine depth xs ys v = absurd fine

@@ -43,8 +43,8 @@ picked {B = B} f (x ∷ xs) j y at = by (f x) refl j at (picked f xs)
   where
     by : (p : Option B) → f x ≡ p → (j : ℕ) →
         slice_get (cons_option p (filter_map f xs)) j ≡ Some y →
-        ((j : ℕ) (y : B) → slice_get (filter_map f xs) j ≡ Some y →
-            (i : ℕ) × (z : _) × (slice_get xs i ≡ Some z) × (f z ≡ Some y)) →
+        ((j : ℕ) (y : B) → slice_get (filter_map f xs) j ≡ Some y → (i : ℕ) × (z : _)
+            × (slice_get xs i ≡ Some z) × (f z ≡ Some y)) →
         (i : ℕ) × (z : _) × (slice_get (x ∷ xs) i ≡ Some z) × (f z ≡ Some y)
     by None is j at rest = let it = rest j y at in (suc it.0, it.1, it.2, it.3)
     by (Some z) is zero at rest = (zero, x, refl, is ∙ at)
@@ -77,8 +77,8 @@ names-plain os j d at =
             role) ∙ is))
 
 module _ {L : Ident → Type 0} {xs ys : List Item} (w : Turned L zero xs ys) where
-  pub declared-module : module_declared xs ≡ wrapper_parameter (codes "module") ∷ wrapper_parameter
-          (codes "exports") ∷ declared_by_names BySymbol Cjs (module_names xs)
+  pub declared-module : module_declared xs ≡ wrapper_parameter (codes "module")
+          ∷ wrapper_parameter (codes "exports") ∷ declared_by_names BySymbol Cjs (module_names xs)
   declared-module =
       ap (λ ds. wrapper_parameter (codes "module") ∷ wrapper_parameter (codes "exports") ∷ ds)
           (declared-own BySymbol Cjs module_start xs (h.Close ∷ []) (own-before w)
@@ -89,8 +89,9 @@ module _ {L : Ident → Type 0} {xs ys : List Item} (w : Turned L zero xs ys) wh
 
   -- what the item declares
   pub declared-body : (load helper m e : Ident) →
-      own_declared (load_item load helper m e ys) ≡ load_declared load.0 load.1 ∷ parameter_named
-          13 m ∷ parameter_named 18 e ∷ declared_by_names ByContext Es (body_names ys)
+      own_declared (load_item load helper m e ys) ≡ load_declared load.0 load.1
+          ∷ parameter_named 13 m ∷ parameter_named 18 e
+          ∷ declared_by_names ByContext Es (body_names ys)
   declared-body load helper m e =
       ap (λ ds. load_declared load.0 load.1 ∷ parameter_named 13 m ∷ parameter_named 18 e ∷ ds)
       (ap (declared_from ByContext Es body_start) (append_assoc ys back_items (h.Close ∷ []))
@@ -142,33 +143,33 @@ module _ {L : Ident → Type 0} {xs ys : List Item} (w : Turned L zero xs ys) wh
     pub declared-item : own_declared item ≡ item_declared (turned-frame w).from g load.0 load.1 es
     declared-item =
         declared-body load helper m e
-        ∙ (λ i. load_declared load.0 load.1 ∷ parameter_named 13
-            (its.its_module i) ∷ parameter_named 18 (its.its_exports i) ∷ lifts-follow R
-            (turned-frame w) g all-beside plainly follows takens i)
+        ∙ (λ i. load_declared load.0 load.1 ∷ parameter_named 13 (its.its_module i)
+            ∷ parameter_named 18 (its.its_exports i)
+            ∷ lifts-follow R (turned-frame w) g all-beside plainly follows takens i)
 
     -- where each declaration comes from
     sources : (j : ℕ) (d : Declared) → slice_get ds j ≡ Some d →
-        (d ≡ wrapper_parameter (codes "module")) ⊎
-            ((d ≡ wrapper_parameter (codes "exports")) ⊎
-            ((i : ℕ) × (q : Occurrence) × (slice_get (module_names xs) i ≡ Some q) ×
-            (declaration_of BySymbol Cjs q ≡ Some d)))
+        (d ≡ wrapper_parameter (codes "module"))
+            ⊎ ((d ≡ wrapper_parameter (codes "exports"))
+            ⊎ ((i : ℕ) × (q : Occurrence) × (slice_get (module_names xs) i ≡ Some q)
+            × (declaration_of BySymbol Cjs q ≡ Some d)))
     sources j d at = by j (sym (ap (λ list. slice_get list j) declared-module) ∙ at)
       where
         by : (j : ℕ) →
-            slice_get (wrapper_parameter (codes "module") ∷ wrapper_parameter
-                (codes "exports") ∷ declared_by_names BySymbol Cjs (module_names xs)) j ≡ Some d →
-            (d ≡ wrapper_parameter (codes "module")) ⊎
-                ((d ≡ wrapper_parameter (codes "exports")) ⊎
-                ((i : ℕ) × (q : Occurrence) × (slice_get (module_names xs) i ≡ Some q) ×
-                (declaration_of BySymbol Cjs q ≡ Some d)))
+            slice_get (wrapper_parameter (codes "module") ∷ wrapper_parameter (codes "exports")
+                ∷ declared_by_names BySymbol Cjs (module_names xs)) j ≡ Some d →
+            (d ≡ wrapper_parameter (codes "module"))
+                ⊎ ((d ≡ wrapper_parameter (codes "exports"))
+                ⊎ ((i : ℕ) × (q : Occurrence) × (slice_get (module_names xs) i ≡ Some q)
+                × (declaration_of BySymbol Cjs q ≡ Some d)))
         by zero at = inl (sym (same_Some _ d at))
         by (suc zero) at = inr (inl (sym (same_Some _ d at)))
         by (suc (suc j)) at =
             inr (inr (picked (declaration_of BySymbol Cjs) (module_names xs) j d at))
 
     denotes-listed : (i : ℕ) (o : Occurrence) → slice_get (module_names xs) i ≡ Some o →
-        slice_get (denotations BySymbol Cjs (tree_of_items xs)) i ≡ Some
-            (denoted_of BySymbol Cjs ds o)
+        slice_get (denotations BySymbol Cjs (tree_of_items xs)) i
+            ≡ Some (denoted_of BySymbol Cjs ds o)
     denotes-listed i o at =
         denotation-at Cjs (tree_of_items xs) i o (ap (λ os. slice_get os i) occurrences-module
             ∙ at)
@@ -177,8 +178,8 @@ module _ {L : Ident → Type 0} {xs ys : List Item} (w : Turned L zero xs ys) wh
         denoted_of BySymbol Cjs ds o ≡ Bound s (plain o.sym) → IsToldApart g ds s o.sym
     told i o at s is = record { own = its.apart.own i s (plain o.sym) listed; apart = apart }
       where
-        listed : slice_get (denotations BySymbol Cjs (tree_of_items xs)) i ≡ Some
-                (Bound s (plain o.sym))
+        listed : slice_get (denotations BySymbol Cjs (tree_of_items xs)) i
+                ≡ Some (Bound s (plain o.sym))
         listed = denotes-listed i o at ∙ ap Some is
 
         of_parameter : (x : List ℕ) → (x ≡ codes "module") ⊎ (x ≡ codes "exports") →
@@ -188,7 +189,8 @@ module _ {L : Ident → Type 0} {xs ys : List Item} (w : Turned L zero xs ys) wh
         of_parameter x which other home symbol numbers =
             let zero_is : 0 ≡ scope_order other = same_order Wrapper other home in
             let name : x ≡ o.sym = same_symbol x o.sym symbol in
-            let wrapped : s ≡ Wrapper = its.apart.parameters i s (plain o.sym) listed
+            let wrapped : s ≡ Wrapper =
+                its.apart.parameters i s (plain o.sym) listed
                 (subst (λ y. (y ≡ codes "module") ⊎ (y ≡ codes "exports")) name which)
                 (ap (λ n. g n o.sym) zero_is ∙ numbers) in
             sym zero_is ∙ sym (ap scope_order wrapped)
@@ -205,10 +207,10 @@ module _ {L : Ident → Type 0} {xs ys : List Item} (w : Turned L zero xs ys) wh
           where
             by : (d : Declared) → same_scope (home_of ds d) other ≡ true →
                 bytes_eq d.name.sym o.sym ≡ true →
-                (d ≡ wrapper_parameter (codes "module")) ⊎
-                    ((d ≡ wrapper_parameter (codes "exports")) ⊎
-                    ((j : ℕ) × (q : Occurrence) × (slice_get (module_names xs) j ≡ Some q) ×
-                    (declaration_of BySymbol Cjs q ≡ Some d))) →
+                (d ≡ wrapper_parameter (codes "module"))
+                    ⊎ ((d ≡ wrapper_parameter (codes "exports"))
+                    ⊎ ((j : ℕ) × (q : Occurrence) × (slice_get (module_names xs) j ≡ Some q)
+                    × (declaration_of BySymbol Cjs q ≡ Some d))) →
                 scope_order other ≡ scope_order s
             by d home symbol (inl same) =
                 of_parameter (codes "module") (inl refl) other
@@ -222,8 +224,8 @@ module _ {L : Ident → Type 0} {xs ys : List Item} (w : Turned L zero xs ys) wh
                 let order : scope_order (home_of ds d) ≡ scope_order other =
                     same_order (home_of ds d) other home in
                 let name : d.name.sym ≡ o.sym = same_symbol d.name.sym o.sym symbol in
-                let its_listed : slice_get (denotations BySymbol Cjs (tree_of_items xs)) j ≡ Some
-                    (Bound (home_of ds d) d.name) = denotes-listed j q there
+                let its_listed : slice_get (denotations BySymbol Cjs (tree_of_items xs)) j
+                    ≡ Some (Bound (home_of ds d) d.name) = denotes-listed j q there
                     ∙ ap (λ p. Some (own_or_found ds
                     (denoted_in BySymbol ds (scopes_around Cjs q.path)
                     (name_of BySymbol q.sym q.ctxt)) p)) is_own in

@@ -19,10 +19,10 @@ pub record SameFlags (before after : List Item) (test_before test_after : ℕ �
   pub assigned : is_assigned o.path ≡ is_assigned its.path
   pub argument : is_in_argument o.path ≡ is_in_argument its.path
   pub chain : roots_chain o.path ≡ roots_chain its.path
-  pub prototype : (is_prototype_read before o.path && is_in_assign_of test_before before o.path) ≡
-          (is_prototype_read after its.path && is_in_assign_of test_after after its.path)
-  pub valueless : (is_binding o.role && has_no_value before o.path) ≡
-          (is_binding its.role && has_no_value after its.path)
+  pub prototype : (is_prototype_read before o.path && is_in_assign_of test_before before o.path)
+          ≡ (is_prototype_read after its.path && is_in_assign_of test_after after its.path)
+  pub valueless : (is_binding o.role && has_no_value before o.path)
+          ≡ (is_binding its.role && has_no_value after its.path)
 
 -- whether the global `Object` stands at a place of an item
 abbrev pub object_in : Reading → List Item → TopItem → ℕ → Bool

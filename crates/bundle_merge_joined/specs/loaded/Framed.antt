@@ -21,8 +21,8 @@ pub data Beside (R : ℕ → ℕ → Type 0) : Scope → Scope → Type 0 where
 
 -- the scopes around a place of the module, and around that of the body
 pub data Framed (R : ℕ → ℕ → Type 0) : List Scope → List Scope → Type 0 where
-  outside : Framed R (Top ∷ Wrapper ∷ [])
-          (Inner FunctionBody 21 ∷ Inner Parameters 10 ∷ Inner FunctionName 9 ∷ Top ∷ [])
+  outside : Framed R (Top ∷ Wrapper ∷ []) (Inner FunctionBody 21 ∷ Inner Parameters 10
+          ∷ Inner FunctionName 9 ∷ Top ∷ [])
   within : {kind : ScopeKind} {a b : ℕ} {ss ts : List Scope} → R a b → Framed R ss ts →
       Framed R (Inner kind a ∷ ss) (Inner kind b ∷ ts)
 

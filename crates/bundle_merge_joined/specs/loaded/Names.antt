@@ -55,8 +55,8 @@ pub data NamedAs (c : ℕ) (inner : List Denoted) : Denoted → Meant → Type 0
   unbound : {x : Text} → NamedAs c inner (Global x) (Unbound x)
 
 -- the table tells what the module's own names stand for, and the names of load functions
-pub record AreTabled (table : Table) (c : ℕ) (g : Numbering) (xs : List Item)
-    (L : Ident → Type 0) : Type 0 where
+pub record AreTabled (table : Table) (c : ℕ) (g : Numbering) (xs : List Item) (L : Ident →
+    Type 0) : Type 0 where
   pub tops : (i : ℕ) (o : Occurrence) (x : Text) → slice_get (module_names xs) i ≡ Some o →
       denoted_of BySymbol Cjs (module_declared xs) o ≡ Bound Top (plain x) →
       Contains table ((x, g 1 x), Of (IsDeclared c x))

@@ -54,8 +54,8 @@ abbrev pub StatementsNoted : List (List Item) → Table → List Item → Spot �
     List (List Meant) → Type 0
 StatementsNoted items table item s [] [] = ⊤
 StatementsNoted items table item s (part ∷ parts) (meants ∷ more) =
-    StatementNoted items table item s part meants × StatementsNoted items table item
-        (fold past s part) parts more
+    StatementNoted items table item s part meants
+        × StatementsNoted items table item (fold past s part) parts more
 StatementsNoted items table item s _ _ = ⊥
 
 -- what the names in front stand for

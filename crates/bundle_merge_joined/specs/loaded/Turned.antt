@@ -29,8 +29,8 @@ pub data Turned (L : Ident → Type 0) : ℕ → List Item → List Item → Typ
   declares : {depth field : ℕ} {kind : VarDeclKind} {meta its : ExportMetadata} {xs ys : List Item}
           →
       Turned L (suc depth) xs ys →
-      Turned L depth (h.Open field (h.VarDecl kind meta) ∷ xs)
-          (h.Open field (h.VarDecl kind its) ∷ ys)
+      Turned L depth (h.Open field (h.VarDecl kind meta) ∷ xs) (h.Open field (h.VarDecl kind its)
+          ∷ ys)
   ended : {depth : ℕ} {xs ys : List Item} → Turned L depth xs ys →
       Turned L (suc depth) (h.Close ∷ xs) (h.Close ∷ ys)
   -- a name keeps its symbol
@@ -45,9 +45,10 @@ pub data Turned (L : Ident → Type 0) : ℕ → List Item → List Item → Typ
   called : {depth field callee ctxt outer inner : ℕ} {x : Text} {load : Ident} {value : Text}
           {raw : Option Text} {xs ys : List Item} →
       L load → Turned L depth xs ys →
-      Turned L depth (h.Open field h.CallExpr ∷ h.Ident callee x ctxt r.Reference ∷ h.Open outer
-          (h.ExprOrSpread false) ∷ h.Open inner (h.Str value raw) ∷ h.Close ∷ h.Close ∷ h.Close ∷
-          xs) (h.Open field h.CallExpr ∷ h.Ident 0 load.0 load.1 r.Reference ∷ h.Close ∷ ys)
+      Turned L depth (h.Open field h.CallExpr ∷ h.Ident callee x ctxt r.Reference
+          ∷ h.Open outer (h.ExprOrSpread false) ∷ h.Open inner (h.Str value raw) ∷ h.Close
+          ∷ h.Close ∷ h.Close ∷ xs) (h.Open field h.CallExpr ∷ h.Ident 0 load.0 load.1 r.Reference
+          ∷ h.Close ∷ ys)
   -- an empty statement
   skipped : {field : ℕ} {xs ys : List Item} → Turned L zero xs ys →
       Turned L zero (h.Open field h.EmptyStmt ∷ h.Close ∷ xs) ys
@@ -83,8 +84,8 @@ origin (skipped rest) from to b = origin rest (from + 2) to b
 abbrev pub FitsName : (L : Ident → Type 0) → Numbering → List Declared → Occurrence → Ident →
     Type 0
 FitsName L g ds o name =
-    ((name.0 ≡ o.sym) × (name.1 ≡ context_of g (denoted_of BySymbol Cjs ds o))) ⊎
-        ((is_binding o.role ≡ false) × L name)
+    ((name.0 ≡ o.sym) × (name.1 ≡ context_of g (denoted_of BySymbol Cjs ds o)))
+        ⊎ ((is_binding o.role ≡ false) × L name)
 
 -- so do these names in turn
 abbrev pub FitNames : (L : Ident → Type 0) → Numbering → List Declared → List Occurrence →
@@ -105,8 +106,8 @@ HasContexts g ds (declares {field = field} {kind = kind} {meta = meta} rest) s =
 HasContexts g ds (ended rest) s = HasContexts g ds rest (past s h.Close)
 HasContexts {L = L} g ds (named {field = field} {ctxt = ctxt} {its = its} {x = x} {role = role} is
     rest) s =
-    FitsName L g ds (occurrence_here s field x ctxt role) (x, its) × HasContexts g ds rest
-        (past s (h.Ident field x ctxt role))
+    FitsName L g ds (occurrence_here s field x ctxt role) (x, its)
+        × HasContexts g ds rest (past s (h.Ident field x ctxt role))
 HasContexts g ds (word {field = field} {ctxt = ctxt} {x = x} rest) s =
     HasContexts g ds rest (past s (h.Ident field x ctxt r.Word))
 HasContexts g ds (empty {field = field} rest) s = HasContexts g ds rest (past s (h.Hole field))

@@ -20,8 +20,8 @@ pub record IsLiteral (inside : List Item) : Type 0 where
   pub inner : ℕ
   pub value : Text
   pub raw : Option Text
-  pub is : inside ≡ h.Ident callee x ctxt r.Reference ∷ h.Open outer
-          (h.ExprOrSpread false) ∷ h.Open inner (h.Str value raw) ∷ h.Close ∷ h.Close ∷ []
+  pub is : inside ≡ h.Ident callee x ctxt r.Reference ∷ h.Open outer (h.ExprOrSpread false)
+          ∷ h.Open inner (h.Str value raw) ∷ h.Close ∷ h.Close ∷ []
 
 -- a step that keeps the symbol of its occurrence, so that nothing is spelled out
 pub record KeepsIt (step : Step) (x : Text) : Type 0 where
