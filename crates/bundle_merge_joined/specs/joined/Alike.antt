@@ -1,4 +1,5 @@
--- Two trees whose names are declared alike, though their scopes begin elsewhere, as in a statement that was rewritten.
+-- Two trees whose names are declared alike, though their scopes begin elsewhere, as in a statement
+-- that was rewritten.
 use Rattle.std.specs.Prelude.{◌≡◌, ℕ, false, List, [], ◌∷◌, Option, Some, None}
 use Rattle.std.specs.List.{AllZip}
 use Rattle.bundle_rules.specs.Places.{Occurrence, is_binding}
@@ -32,7 +33,8 @@ pub record DeclaredAlike (R : ℕ → ℕ → Type 0) (d e : Declared) : Type 0 
 
 -- what is denoted corresponds
 pub data DenotedAlike (R : ℕ → ℕ → Type 0) : Denoted → Denoted → Type 0 where
-  bindings : {s t : Scope} {name : Name} → ScopesAlike R s t → DenotedAlike R (Bound s name) (Bound t name)
+  bindings : {s t : Scope} {name : Name} → ScopesAlike R s t →
+      DenotedAlike R (Bound s name) (Bound t name)
   globals : {x : List ℕ} → DenotedAlike R (Global x) (Global x)
 
 -- an occurrence stands where another does; its name may be another
@@ -47,10 +49,16 @@ pub record SeenAlike (R : ℕ → ℕ → Type 0) (kind : ModuleKind) (o u : Occ
   pub symbol : u.sym ≡ o.sym
   pub ctxt : u.ctxt ≡ o.ctxt
 
--- the occurrences of a tree that was rewritten: some keep their names, some references have other ones, some were added or left out
-pub data Follows (R : ℕ → ℕ → Type 0) (kind : ModuleKind) : List Occurrence → List Occurrence → Type 0 where
+-- the occurrences of a tree that was rewritten: some keep their names, some references have other
+-- ones, some were added or left out
+pub data Follows (R : ℕ → ℕ → Type 0) (kind : ModuleKind) : List Occurrence → List Occurrence →
+    Type 0 where
   done : Follows R kind [] []
-  kept : {o u : Occurrence} {os us : List Occurrence} → SeenAlike R kind o u → Follows R kind os us → Follows R kind (o ∷ os) (u ∷ us)
-  changed : {o u : Occurrence} {os us : List Occurrence} → StandsAlike R kind o u → is_binding o.role ≡ false → Follows R kind os us → Follows R kind (o ∷ os) (u ∷ us)
-  added : {u : Occurrence} {os us : List Occurrence} → is_binding u.role ≡ false → Follows R kind os us → Follows R kind os (u ∷ us)
-  dropped : {o : Occurrence} {os us : List Occurrence} → is_binding o.role ≡ false → Follows R kind os us → Follows R kind (o ∷ os) us
+  kept : {o u : Occurrence} {os us : List Occurrence} → SeenAlike R kind o u →
+      Follows R kind os us → Follows R kind (o ∷ os) (u ∷ us)
+  changed : {o u : Occurrence} {os us : List Occurrence} → StandsAlike R kind o u →
+      is_binding o.role ≡ false → Follows R kind os us → Follows R kind (o ∷ os) (u ∷ us)
+  added : {u : Occurrence} {os us : List Occurrence} → is_binding u.role ≡ false →
+      Follows R kind os us → Follows R kind os (u ∷ us)
+  dropped : {o : Occurrence} {os us : List Occurrence} → is_binding o.role ≡ false →
+      Follows R kind os us → Follows R kind (o ∷ os) us
