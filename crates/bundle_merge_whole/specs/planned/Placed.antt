@@ -13,11 +13,18 @@ id_at list k = unwrap_or (slice_get list k) zero
 
 -- what is loaded, by the number of the module
 abbrev pub load_by : List ℕ → DecidedLoad → DecidedLoad
-load_by list load = record { «module» = id_at list load.«module»; names = load.names; whole = load.whole }
+load_by list load = record {
+  «module» = id_at list load.«module»;
+  names = load.names;
+  whole = load.whole
+}
 
 -- a block, by the numbers of its modules
 abbrev pub block_by : List ℕ → DecidedBlock → DecidedBlock
-block_by list block = record { modules = filter_map (slice_get list) block.modules; is_sorted = block.is_sorted }
+block_by list block = record {
+  modules = filter_map (slice_get list) block.modules;
+  is_sorted = block.is_sorted
+}
 
 -- what is found by places in a list, by the numbers of the modules
 abbrev pub renumbered : List ℕ → Decided → Decided
@@ -34,7 +41,8 @@ renumbered list f = record {
   blocks = map (block_by list) f.blocks;
 }
 
--- what is found of n modules is what the definitions say of a program in which their numbers are the places
+-- what is found of n modules is what the definitions say of a program in which their numbers are
+-- the places
 pub record AreFound (q : Program) (form : Form) (n : ℕ) (f : Decided) : Type 0 where
   pub modules : (k : ℕ) → k < n → IsModuleDecided q f k
   pub within : (k : ℕ) (load : DecidedLoad) → Contains (f.loads k) load → load.«module» < n
