@@ -1,4 +1,5 @@
--- In a tree with other names statements agree with what they agreed with, where each occurrence denotes what corresponds.
+-- In a tree with other names statements agree with what they agreed with, where each occurrence
+-- denotes what corresponds.
 use Rattle.std.proofs.Common.{◌≡◌, ◌≤◌, ◌⊎◌, inl, inr, ℕ, suc, ◌+◌, Bool, true, false, List, [], ◌∷◌, ◌++◌, filter, map, length, length-append, refl, ap, ap₂, sym, ◌∙◌, subst, arith}
 use Rattle.std.proofs.lemmas.List.{length-map, map-append}
 use Rattle.std.specs.Prelude.{Contains, fold, nat_le, position}
@@ -32,7 +33,8 @@ use Rattle.bundle_merge_whole.proofs.composed.Among.{denoted-of, OfScope, IsScop
 pub use Rattle.bundle_merge_whole.proofs.composed.ListFacts.{zip-length}
 
 -- Lists.
-same-parts : {A : Type 0} (xs ys others more : List A) → xs ++ ys ≡ others ++ more → length xs ≡ length others → (xs ≡ others) × (ys ≡ more)
+same-parts : {A : Type 0} (xs ys others more : List A) → xs ++ ys ≡ others ++ more →
+    length xs ≡ length others → (xs ≡ others) × (ys ≡ more)
 same-parts [] ys [] more e same = (refl, e)
 same-parts [] ys (o ∷ others) more e same = absurd (omega (arith, same))
 same-parts (x ∷ xs) ys [] more e same = absurd (omega (arith, same))
@@ -42,22 +44,29 @@ same-parts (x ∷ xs) ys (o ∷ others) more e same =
     let rest = same-parts xs ys others more later (omega (arith, same)) in
     (ap₂ (λ y l. y ∷ l) first rest.0, rest.1)
 
-pub zip-parts : {A B : Type 0} (R : A → B → Type 0) (xs ys : List A) (others more : List B) → length xs ≡ length others → AllZip R (xs ++ ys) (others ++ more) → AllZip R xs others × AllZip R ys more
+pub zip-parts : {A B : Type 0} (R : A → B → Type 0) (xs ys : List A) (others more : List B) →
+    length xs ≡ length others → AllZip R (xs ++ ys) (others ++ more) →
+    AllZip R xs others × AllZip R ys more
 zip-parts R [] ys [] more same all = (tt, all)
 zip-parts R [] ys (o ∷ others) more same all = absurd (omega (arith, same))
 zip-parts R (x ∷ xs) ys [] more same all = absurd (omega (arith, same))
-zip-parts R (x ∷ xs) ys (o ∷ others) more same all = let rest = zip-parts R xs ys others more (omega (arith, same)) all.1 in ((all.0, rest.0), rest.1)
+zip-parts R (x ∷ xs) ys (o ∷ others) more same all =
+    let rest = zip-parts R xs ys others more (omega (arith, same)) all.1 in
+        ((all.0, rest.0), rest.1)
 
 -- no name of these scopes is inside
 abbrev pub AreOutside : ℕ → List Scope → Type 0
-AreOutside low scopes = AllOf (λ scope. (name : Name) → is_inside low (Bound scope name) ≡ false) scopes
+AreOutside low scopes =
+    AllOf (λ scope. (name : Name) → is_inside low (Bound scope name) ≡ false) scopes
 
-scope-inside : (low : ℕ) (scope : Scope) → IsScopeFrom low scope → (name : Name) → is_inside low (Bound scope name) ≡ true
+scope-inside : (low : ℕ) (scope : Scope) → IsScopeFrom low scope → (name : Name) →
+    is_inside low (Bound scope name) ≡ true
 scope-inside low (Inner kind begins) le name = le-leb low begins le
 scope-inside low Top le name = absurd le
 scope-inside low Wrapper le name = absurd le
 
-outside-from : (low place : ℕ) → low ≤ place → (scope : Scope) → IsScopeBelow low scope → (name : Name) → is_inside place (Bound scope name) ≡ false
+outside-from : (low place : ℕ) → low ≤ place → (scope : Scope) → IsScopeBelow low scope →
+    (name : Name) → is_inside place (Bound scope name) ≡ false
 outside-from low place le (Inner kind begins) less name = by_test (nat_le place begins) refl
   where
     by_test : (c : Bool) → nat_le place begins ≡ c → c ≡ false
@@ -66,34 +75,43 @@ outside-from low place le (Inner kind begins) less name = by_test (nat_le place 
 outside-from low place le Top less name = refl
 outside-from low place le Wrapper less name = refl
 
-pub all-outside : (low place : ℕ) → low ≤ place → (scopes : List Scope) → AllOf (IsScopeBelow low) scopes → AreOutside place scopes
+pub all-outside : (low place : ℕ) → low ≤ place → (scopes : List Scope) →
+    AllOf (IsScopeBelow low) scopes → AreOutside place scopes
 all-outside low place le [] all = tt
-all-outside low place le (scope ∷ scopes) all = (outside-from low place le scope all.0, all-outside low place le scopes all.1)
+all-outside low place le (scope ∷ scopes) all =
+    (outside-from low place le scope all.0, all-outside low place le scopes all.1)
 
 pub same_field : (path : List Around) → (f : ℕ) × (path ≡ in_field f path)
 same_field [] = (0, refl)
 same_field (node ∷ outer) = (node.field, refl)
 
 -- names and occurrences are as many
-pub names-count : (xs : List Item) (s : Spot) → length (occurrences_from s xs) ≡ length (names_of xs)
+pub names-count : (xs : List Item) (s : Spot) →
+    length (occurrences_from s xs) ≡ length (names_of xs)
 names-count [] s = refl
 names-count (h.Open field head ∷ xs) s = names-count xs (past s (h.Open field head))
 names-count (h.Ident field x c r.Word ∷ xs) s = names-count xs (past s (h.Ident field x c r.Word))
-names-count (h.Ident field x c r.Binding ∷ xs) s = ap suc (names-count xs (past s (h.Ident field x c r.Binding)))
-names-count (h.Ident field x c r.Reference ∷ xs) s = ap suc (names-count xs (past s (h.Ident field x c r.Reference)))
+names-count (h.Ident field x c r.Binding ∷ xs) s =
+    ap suc (names-count xs (past s (h.Ident field x c r.Binding)))
+names-count (h.Ident field x c r.Reference ∷ xs) s =
+    ap suc (names-count xs (past s (h.Ident field x c r.Reference)))
 names-count (h.Hole field ∷ xs) s = names-count xs (past s (h.Hole field))
 names-count (h.Close ∷ xs) s = names-count xs (past s h.Close)
 
-pub names-append : (xs ys : List Item) → length (names_of (xs ++ ys)) ≡ length (names_of xs) + length (names_of ys)
+pub names-append : (xs ys : List Item) →
+    length (names_of (xs ++ ys)) ≡ length (names_of xs) + length (names_of ys)
 names-append [] ys = omega arith
 names-append (h.Open field head ∷ xs) ys = names-append xs ys
 names-append (h.Ident field x c r.Word ∷ xs) ys = names-append xs ys
-names-append (h.Ident field x c r.Binding ∷ xs) ys = let rest = names-append xs ys in omega (arith, rest)
-names-append (h.Ident field x c r.Reference ∷ xs) ys = let rest = names-append xs ys in omega (arith, rest)
+names-append (h.Ident field x c r.Binding ∷ xs) ys =
+    let rest = names-append xs ys in omega (arith, rest)
+names-append (h.Ident field x c r.Reference ∷ xs) ys =
+    let rest = names-append xs ys in omega (arith, rest)
 names-append (h.Hole field ∷ xs) ys = names-append xs ys
 names-append (h.Close ∷ xs) ys = names-append xs ys
 
-pub flat-names : (parts others : List (List Item)) → AllZip PartTurned parts others → length (names_of (flat parts)) ≡ length (names_of (flat others))
+pub flat-names : (parts others : List (List Item)) → AllZip PartTurned parts others →
+    length (names_of (flat parts)) ≡ length (names_of (flat others))
 flat-names [] [] turned = refl
 flat-names [] (other ∷ others) turned = absurd turned
 flat-names (part ∷ parts) [] turned = absurd turned
@@ -106,13 +124,16 @@ flat-names (part ∷ parts) (other ∷ others) turned =
     omega (arith, rest, first, a, c)
 
 -- in a module
-pub module-scopes : (path : List Around) (field : ℕ) → path ≡ in_field field module_path → scopes_around Es path ≡ Top ∷ []
+pub module-scopes : (path : List Around) (field : ℕ) → path ≡ in_field field module_path →
+    scopes_around Es path ≡ Top ∷ []
 module-scopes path field e = ap (scopes_around Es) e
 
-pub field-scopes : (path : List Around) (field f : ℕ) → path ≡ in_field field module_path → scopes_around Es (in_field f path) ≡ Top ∷ []
+pub field-scopes : (path : List Around) (field f : ℕ) → path ≡ in_field field module_path →
+    scopes_around Es (in_field f path) ≡ Top ∷ []
 field-scopes path field f e = ap (λ p. scopes_around Es (in_field f p)) e
 
-pub module-match : (s t : Spot) (field its : ℕ) → s.path ≡ in_field field module_path → t.path ≡ in_field its module_path → SpotsMatch s t
+pub module-match : (s t : Spot) (field its : ℕ) → s.path ≡ in_field field module_path →
+    t.path ≡ in_field its module_path → SpotsMatch s t
 module-match s t field its path_is its_is = record {
   same = λ f. field-scopes s.path field f path_is ∙ sym (module-scopes s.path field path_is);
   its_same = λ f. field-scopes t.path its f its_is ∙ sym (module-scopes t.path its its_is);
@@ -121,15 +142,18 @@ module-match s t field its path_is its_is = record {
   its_below = subst (AllOf (IsScopeBelow t.place)) (sym (module-scopes t.path its its_is)) (tt, tt);
 }
 
-pub contains-map : {A B : Type 0} (f : A → B) (xs : List A) (x : A) → Contains xs x → Contains (map f xs) (f x)
+pub contains-map : {A B : Type 0} (f : A → B) (xs : List A) (x : A) → Contains xs x →
+    Contains (map f xs) (f x)
 contains-map f [] x c = absurd (omega (arith, c.1))
 contains-map {A = A} f (y ∷ xs) x c = by_case (contains-map f xs x) ((Contains-cons y xs x).0 c)
   where
-    by_case : (Contains xs x → Contains (map f xs) (f x)) → (y ≡ x) ⊎ Contains xs x → Contains (map f (y ∷ xs)) (f x)
+    by_case : (Contains xs x → Contains (map f xs) (f x)) → (y ≡ x) ⊎ Contains xs x →
+        Contains (map f (y ∷ xs)) (f x)
     by_case ih (inl e) = (Contains-cons (f y) (map f xs) (f x)).1 (inl (ap f e))
     by_case ih (inr more) = (Contains-cons (f y) (map f xs) (f x)).1 (inr (ih more))
 
-module _ (reading other : Reading) (items others : List (List Item)) (b : Becoming reading (joined items) other (joined others)) (labels : Labelling) where
+module _ (reading other : Reading) (items others : List (List Item))
+    (b : Becoming reading (joined items) other (joined others)) (labels : Labelling) where
   abbrev here : View
   here = view_of reading items
 
@@ -149,41 +173,68 @@ module _ (reading other : Reading) (items others : List (List Item)) (b : Becomi
 
   -- inside in the one and in the other
   abbrev Aligned : ℕ → ℕ → Scope → Type 0
-  Aligned low high scope = (name its : Name) → is_inside low (Bound scope name) ≡ is_inside high (Bound (placed_scope b.move scope) its)
+  Aligned low high scope =
+      (name its : Name) → is_inside low (Bound scope name) ≡ is_inside high
+          (Bound (placed_scope b.move scope) its)
 
-  inner-aligned : (low high : ℕ) (scopes : List Scope) → AllOf (IsScopeFrom low) scopes → AllOf (IsScopeFrom high) (map (placed_scope b.move) scopes) → AllOf (Aligned low high) scopes
+  inner-aligned : (low high : ℕ) (scopes : List Scope) → AllOf (IsScopeFrom low) scopes →
+      AllOf (IsScopeFrom high) (map (placed_scope b.move) scopes) → AllOf (Aligned low high) scopes
   inner-aligned low high [] all its = tt
-  inner-aligned low high (scope ∷ scopes) all its = (λ name other. scope-inside low scope all.0 name ∙ sym (scope-inside high (placed_scope b.move scope) its.0 other), inner-aligned low high scopes all.1 its.1)
+  inner-aligned low high (scope ∷ scopes) all its =
+      (λ name other. scope-inside low scope all.0 name
+              ∙ sym (scope-inside high (placed_scope b.move scope) its.0 other),
+           inner-aligned low high scopes all.1 its.1)
 
-  outer-aligned : (low high : ℕ) (scopes : List Scope) → AreOutside low scopes → AreOutside high (map (placed_scope b.move) scopes) → AllOf (Aligned low high) scopes
+  outer-aligned : (low high : ℕ) (scopes : List Scope) → AreOutside low scopes →
+      AreOutside high (map (placed_scope b.move) scopes) → AllOf (Aligned low high) scopes
   outer-aligned low high [] all its = tt
-  outer-aligned low high (scope ∷ scopes) all its = (λ name other. all.0 name ∙ sym (its.0 other), outer-aligned low high scopes all.1 its.1)
+  outer-aligned low high (scope ∷ scopes) all its =
+      (λ name other. all.0 name ∙ sym (its.0 other), outer-aligned low high scopes all.1 its.1)
 
   abbrev IsAligned : ℕ → ℕ → Denoted → Type 0
   IsAligned low high d = is_inside low d ≡ is_inside high (b.becomes d)
 
-  of-aligned : (low high : ℕ) (d : Denoted) → OfScope (Aligned low high) (λ name its. refl) d → IsAligned low high d
+  of-aligned : (low high : ℕ) (d : Denoted) → OfScope (Aligned low high) (λ name its. refl) d →
+      IsAligned low high d
   of-aligned low high (Global x) its = ap (is_inside high) (sym (b.globals x))
-  of-aligned low high (Bound scope name) its = let bound = b.bindings scope name in its name bound.0 ∙ ap (is_inside high) (sym bound.1)
+  of-aligned low high (Bound scope name) its =
+      let bound = b.bindings scope name in its name bound.0 ∙ ap (is_inside high) (sym bound.1)
 
-  pub aligned : (low high : ℕ) (outer its : List Scope) → length outer ≡ length its → AreOutside low outer → AreOutside high its → (o p : Occurrence) → HasScopes low outer o → HasScopes high its p → StandsIn b.move o p → IsAligned low high (denoted_here here o)
+  pub aligned : (low high : ℕ) (outer its : List Scope) → length outer ≡ length its →
+      AreOutside low outer → AreOutside high its → (o p : Occurrence) → HasScopes low outer o →
+      HasScopes high its p → StandsIn b.move o p → IsAligned low high (denoted_here here o)
   aligned low high outer its same out its_out o p one two stands =
-      let whole : map (placed_scope b.move) one.inner ++ map (placed_scope b.move) outer ≡ two.inner ++ its = sym (map-append (placed_scope b.move) one.inner outer) ∙ ap (map (placed_scope b.move)) (sym one.is) ∙ sym stands ∙ two.is in
+      let whole : map (placed_scope b.move) one.inner ++ map (placed_scope b.move) outer ≡ two.inner
+          ++ its =
+          sym (map-append (placed_scope b.move) one.inner outer)
+              ∙ ap (map (placed_scope b.move)) (sym one.is)
+              ∙ sym stands
+              ∙ two.is in
       let lengths = ap length whole in
-      let first = length-append (map (placed_scope b.move) one.inner) (map (placed_scope b.move) outer) in
+      let first =
+          length-append (map (placed_scope b.move) one.inner) (map (placed_scope b.move) outer) in
       let second = length-append two.inner its in
       let mapped = length-map outer (placed_scope b.move) in
-      let parts = same-parts (map (placed_scope b.move) one.inner) (map (placed_scope b.move) outer) two.inner its whole (omega (arith, lengths, first, second, mapped, same)) in
+      let parts =
+          same-parts (map (placed_scope b.move) one.inner) (map (placed_scope b.move) outer)
+              two.inner its whole (omega (arith, lengths, first, second, mapped, same)) in
       of-aligned low high (denoted_here here o)
       (denoted-of (Aligned low high) (λ name other. refl) reading (declared reading Es (joined items)) o
       (subst (AllOf (Aligned low high)) (sym one.is) (all-append (Aligned low high) one.inner outer
-      (inner-aligned low high one.inner one.all (subst (AllOf (IsScopeFrom high)) (sym parts.0) two.all))
+      (inner-aligned low high one.inner one.all
+           (subst (AllOf (IsScopeFrom high)) (sym parts.0) two.all))
       (outer-aligned low high outer out (subst (AreOutside high) (sym parts.1) its_out)))))
 
   -- parts, by their names
-  split : (s t : Spot) (xs ys others more : List Item) → length (names_of xs) ≡ length (names_of others) → AllZip Corresponds (occurrences_from s (xs ++ ys)) (occurrences_from t (others ++ more)) → AllZip Corresponds (occurrences_from s xs) (occurrences_from t others) × AllZip Corresponds (occurrences_from (fold past s xs) ys) (occurrences_from (fold past t others) more)
+  split : (s t : Spot) (xs ys others more : List Item) →
+      length (names_of xs) ≡ length (names_of others) →
+      AllZip Corresponds (occurrences_from s (xs ++ ys)) (occurrences_from t (others ++ more)) →
+      AllZip Corresponds (occurrences_from s xs) (occurrences_from t others)
+      × AllZip Corresponds (occurrences_from (fold past s xs) ys)
+          (occurrences_from (fold past t others) more)
   split s t xs ys others more same all =
-      zip-parts Corresponds (occurrences_from s xs) (occurrences_from (fold past s xs) ys) (occurrences_from t others) (occurrences_from (fold past t others) more)
+      zip-parts Corresponds (occurrences_from s xs) (occurrences_from (fold past s xs) ys)
+          (occurrences_from t others) (occurrences_from (fold past t others) more)
       (names-count xs s ∙ same ∙ sym (names-count others t))
       (subst (λ os. AllZip Corresponds os (occurrences_from t others ++ occurrences_from (fold past t others) more)) (occurrences-append s xs ys)
       (subst (AllZip Corresponds (occurrences_from s (xs ++ ys))) (occurrences-append t others more) all))
@@ -196,22 +247,39 @@ module _ (reading other : Reading) (items others : List (List Item)) (b : Becomi
   pub turns-one : IsOneToOne Turns
   turns-one x y d e one two = b.same x y one.0 two.0 ∙ ap₂ same_denoted (sym one.1) (sym two.1)
 
-  label-turns : (l : Label) (d : Denoted) → Contains labels (d, l) → Contains its_labels (b.becomes d, l)
+  label-turns : (l : Label) (d : Denoted) → Contains labels (d, l) →
+      Contains its_labels (b.becomes d, l)
   label-turns l d c = by_list labels c
     where
-      by_list : (list : Labelling) → Contains list (d, l) → Contains (labels_of b.becomes list) (b.becomes d, l)
+      by_list : (list : Labelling) → Contains list (d, l) →
+          Contains (labels_of b.becomes list) (b.becomes d, l)
       by_list [] c = absurd (omega (arith, c.1))
       by_list (pair ∷ rest) c = by_case (by_list rest) ((Contains-cons pair rest (d, l)).0 c)
         where
-          by_case : (Contains rest (d, l) → Contains (labels_of b.becomes rest) (b.becomes d, l)) → (◌≡◌ {A = Denoted × Label} pair (d, l)) ⊎ Contains rest (d, l) → Contains (labels_of b.becomes (pair ∷ rest)) (b.becomes d, l)
-          by_case ih (inl e) = (Contains-cons (b.becomes pair.0, pair.1) (labels_of b.becomes rest) (b.becomes d, l)).1 (inl (λ i. (b.becomes (e i).0, (e i).1)))
-          by_case ih (inr more) = (Contains-cons (b.becomes pair.0, pair.1) (labels_of b.becomes rest) (b.becomes d, l)).1 (inr (ih more))
+          by_case : (Contains rest (d, l) → Contains (labels_of b.becomes rest) (b.becomes d, l)) →
+              (◌≡◌ {A = Denoted × Label} pair (d, l)) ⊎ Contains rest (d, l) →
+              Contains (labels_of b.becomes (pair ∷ rest)) (b.becomes d, l)
+          by_case ih (inl e) =
+              (Contains-cons (b.becomes pair.0, pair.1) (labels_of b.becomes rest) (b.becomes d, l)).1
+                  (inl (λ i. (b.becomes (e i).0, (e i).1)))
+          by_case ih (inr more) =
+              (Contains-cons (b.becomes pair.0, pair.1) (labels_of b.becomes rest) (b.becomes d, l)).1
+                  (inr (ih more))
 
-  bound-turns : (l : Label) (d e : Denoted) → e ≡ b.becomes d → IsBoundAs labels l d → IsBoundAs its_labels l e
+  bound-turns : (l : Label) (d e : Denoted) → e ≡ b.becomes d → IsBoundAs labels l d →
+      IsBoundAs its_labels l e
   bound-turns l d e is its =
       let bound = b.bindings its.scope its.name in
-      let same : b.becomes d ≡ Bound (placed_scope b.move its.scope) bound.0 = ap b.becomes its.is ∙ bound.1 in
-      record { scope = placed_scope b.move its.scope; name = bound.0; is = is ∙ same; labelled = subst (λ x. Contains its_labels (x, l)) bound.1 (label-turns l (Bound its.scope its.name) its.labelled) }
+      let same : b.becomes d ≡ Bound (placed_scope b.move its.scope) bound.0 =
+          ap b.becomes its.is ∙ bound.1 in
+      record {
+          scope = placed_scope b.move its.scope;
+          name = bound.0;
+          is = is ∙ same;
+          labelled =
+              subst (λ x. Contains its_labels (x, l)) bound.1
+                  (label-turns l (Bound its.scope its.name) its.labelled)
+      }
 
   module _ (low high : ℕ) (ds es : List Denoted) (all : AllZip (Renews Turns low high) ds es) where
     abbrev inner : List Denoted
@@ -220,116 +288,224 @@ module _ (reading other : Reading) (items others : List (List Item)) (b : Becomi
     abbrev its_inner : List Denoted
     its_inner = each_denoted_once (filter (is_inside high) es)
 
-    same_number : (d e : Denoted) → Renews Turns low high d e → position (same_denoted d) inner ≡ position (same_denoted e) its_inner
-    same_number d e its = numbers_agree (Renews Turns low high) (λ x y v w one two. turns-one x y v w one.0 two.0) (filter (is_inside low) ds) (filter (is_inside high) es) (both_filtered (Renews Turns low high) (is_inside low) (is_inside high) (λ x y one. one.1) ds es all) d e its
+    same_number : (d e : Denoted) → Renews Turns low high d e →
+        position (same_denoted d) inner ≡ position (same_denoted e) its_inner
+    same_number d e its =
+        numbers_agree (Renews Turns low high) (λ x y v w one two. turns-one x y v w one.0 two.0)
+            (filter (is_inside low) ds) (filter (is_inside high) es)
+            (both_filtered (Renews Turns low high) (is_inside low) (is_inside high)
+                 (λ x y one. one.1) ds es all) d e its
 
-    one_turns : (d e : Denoted) (meant : Meant) → Renews Turns low high d e → AgreesWith labels inner low d meant → AgreesWith its_labels its_inner high e meant
+    one_turns : (d e : Denoted) (meant : Meant) → Renews Turns low high d e →
+        AgreesWith labels inner low d meant → AgreesWith its_labels its_inner high e meant
     one_turns d e (Inside k) its agree = sym (same_number d e its) ∙ agree
     one_turns d e (Known l) its agree = (sym its.1 ∙ agree.0, bound-turns l d e its.0.1 agree.1)
     one_turns d e (Unbound x) its agree = its.0.1 ∙ ap b.becomes agree ∙ b.globals x
 
-    all_turn : (xs ys : List Denoted) (meants : List Meant) → AllZip (Renews Turns low high) xs ys → AllZip (AgreesWith labels inner low) xs meants → AllZip (AgreesWith its_labels its_inner high) ys meants
+    all_turn : (xs ys : List Denoted) (meants : List Meant) → AllZip (Renews Turns low high) xs ys →
+        AllZip (AgreesWith labels inner low) xs meants →
+        AllZip (AgreesWith its_labels its_inner high) ys meants
     all_turn [] [] [] its agree = tt
     all_turn [] [] (meant ∷ meants) its agree = absurd agree
     all_turn [] (y ∷ ys) meants its agree = absurd its
     all_turn (x ∷ xs) [] meants its agree = absurd its
     all_turn (x ∷ xs) (y ∷ ys) [] its agree = absurd agree
-    all_turn (x ∷ xs) (y ∷ ys) (meant ∷ meants) its agree = (one_turns x y meant its.0 agree.0, all_turn xs ys meants its.1 agree.1)
+    all_turn (x ∷ xs) (y ∷ ys) (meant ∷ meants) its agree =
+        (one_turns x y meant its.0 agree.0, all_turn xs ys meants its.1 agree.1)
 
-  pub renews : (low high : ℕ) (outer its : List Scope) → length outer ≡ length its → AreOutside low outer → AreOutside high its → (os ps : List Occurrence) → AllOf (HasScopes low outer) os → AllOf (HasScopes high its) ps → AllZip Corresponds os ps → AllZip (Renews Turns low high) (map (denoted_here here) os) (map (denoted_here there) ps)
+  pub renews : (low high : ℕ) (outer its : List Scope) → length outer ≡ length its →
+      AreOutside low outer → AreOutside high its → (os ps : List Occurrence) →
+      AllOf (HasScopes low outer) os → AllOf (HasScopes high its) ps → AllZip Corresponds os ps →
+      AllZip (Renews Turns low high) (map (denoted_here here) os) (map (denoted_here there) ps)
   renews low high outer its same out its_out [] [] one two all = tt
   renews low high outer its same out its_out [] (p ∷ ps) one two all = absurd all
   renews low high outer its same out its_out (o ∷ os) [] one two all = absurd all
   renews low high outer its same out its_out (o ∷ os) (p ∷ ps) one two all =
-      (((all.0.denoted, all.0.is), aligned low high outer its same out its_out o p one.0 two.0 all.0.scopes ∙ ap (is_inside high) (sym all.0.is)), renews low high outer its same out its_out os ps one.1 two.1 all.1)
+      (((all.0.denoted, all.0.is),
+               aligned low high outer its same out its_out o p one.0 two.0 all.0.scopes
+                  ∙ ap (is_inside high) (sym all.0.is)),
+           renews low high outer its same out its_out os ps one.1 two.1 all.1)
 
-  -- A STATEMENT
-  pub statement_turns : (base its_base s t : Spot) → SpotsMatch base its_base → (field its_field : ℕ) → s.path ≡ in_field field base.path → t.path ≡ in_field its_field its_base.path → base.place ≤ s.place → its_base.place ≤ t.place → (part renamed : List Item) → PartTurned part renamed → AllZip Corresponds (occurrences_from s part) (occurrences_from t renamed) → (told : Told) → AgreeInTurn labels s.place (denoted_from here s part) told.0 → AgreeInTurn its_labels t.place (denoted_from there t renamed) told.0
-  statement_turns base its_base s t match field its_field path_is its_is low high part renamed turned all told agree =
+  -- a statement agrees after it as before
+  pub statement_turns : (base its_base s t : Spot) → SpotsMatch base its_base →
+      (field its_field : ℕ) → s.path ≡ in_field field base.path →
+      t.path ≡ in_field its_field its_base.path → base.place ≤ s.place → its_base.place ≤ t.place →
+      (part renamed : List Item) → PartTurned part renamed →
+      AllZip Corresponds (occurrences_from s part) (occurrences_from t renamed) → (told : Told) →
+      AgreeInTurn labels s.place (denoted_from here s part) told.0 →
+      AgreeInTurn its_labels t.place (denoted_from there t renamed) told.0
+  statement_turns base its_base s t match field its_field path_is its_is low high part renamed
+      turned all told agree =
       let outer : List Scope = scopes_around Es base.path in
       let its : List Scope = scopes_around Es its_base.path in
-      let os = part-scopes s.place base.path outer match.same turned.nodes s (record { inner = []; field = field; path_is = path_is; all = tt; above = omega arith }) in
-      let ps = part-scopes t.place its_base.path its match.its_same turned.its_nodes t (record { inner = []; field = its_field; path_is = its_is; all = tt; above = omega arith }) in
-      let zip = renews s.place t.place outer its match.size (all-outside base.place s.place low outer match.below) (all-outside its_base.place t.place high its match.its_below) (occurrences_from s part) (occurrences_from t renamed) os ps all in
-      all_turn s.place t.place (denoted_from here s part) (denoted_from there t renamed) zip (denoted_from here s part) (denoted_from there t renamed) told.0 zip agree
+      let os =
+          part-scopes s.place base.path outer match.same turned.nodes s
+              (record {
+                   inner = [];
+                   field = field;
+                   path_is = path_is;
+                   all = tt;
+                   above = omega arith
+               }) in
+      let ps =
+          part-scopes t.place its_base.path its match.its_same turned.its_nodes t
+              (record {
+                   inner = [];
+                   field = its_field;
+                   path_is = its_is;
+                   all = tt;
+                   above = omega arith
+               }) in
+      let zip =
+          renews s.place t.place outer its match.size
+              (all-outside base.place s.place low outer match.below)
+              (all-outside its_base.place t.place high its match.its_below)
+              (occurrences_from s part) (occurrences_from t renamed) os ps all in
+      all_turn s.place t.place (denoted_from here s part) (denoted_from there t renamed) zip
+          (denoted_from here s part) (denoted_from there t renamed) told.0 zip agree
 
-  -- STATEMENTS, one after another
-  pub statements_turn : (base its_base s t : Spot) → SpotsMatch base its_base → (field its_field : ℕ) → s.path ≡ in_field field base.path → t.path ≡ in_field its_field its_base.path → base.place ≤ s.place → its_base.place ≤ t.place → (parts others : List (List Item)) → AllZip PartTurned parts others → AllZip Corresponds (occurrences_from s (flat parts)) (occurrences_from t (flat others)) → (tolds : List Told) → StatementsAgree here labels s parts tolds → StatementsAgree there its_labels t others tolds
+  -- so do statements, one after another
+  pub statements_turn : (base its_base s t : Spot) → SpotsMatch base its_base →
+      (field its_field : ℕ) → s.path ≡ in_field field base.path →
+      t.path ≡ in_field its_field its_base.path → base.place ≤ s.place → its_base.place ≤ t.place →
+      (parts others : List (List Item)) → AllZip PartTurned parts others →
+      AllZip Corresponds (occurrences_from s (flat parts)) (occurrences_from t (flat others)) →
+      (tolds : List Told) → StatementsAgree here labels s parts tolds →
+      StatementsAgree there its_labels t others tolds
   statements_turn base its_base s t match field its_field path_is its_is low high [] [] turned all [] agree = tt
   statements_turn base its_base s t match field its_field path_is its_is low high [] [] turned all (told ∷ tolds) agree = absurd agree
   statements_turn base its_base s t match field its_field path_is its_is low high [] (other ∷ others) turned all tolds agree = absurd turned
   statements_turn base its_base s t match field its_field path_is its_is low high (part ∷ parts) [] turned all tolds agree = absurd turned
   statements_turn base its_base s t match field its_field path_is its_is low high (part ∷ parts) (other ∷ others) turned all [] agree = absurd agree
-  statements_turn base its_base s t match field its_field path_is its_is low high (part ∷ parts) (other ∷ others) turned all (told ∷ tolds) agree =
+  statements_turn base its_base s t match field its_field path_is its_is low high (part ∷ parts)
+      (other ∷ others) turned all (told ∷ tolds) agree =
       let one : PartTurned part other = turned.0 in
       let both = split s t part (flat parts) other (flat others) one.names all in
       let behind = fold-path one.nodes s in
       let its_behind = fold-path one.its_nodes t in
       let place = fold-place s part in
       let its_place = fold-place t other in (
-        statement_turns base its_base s t match field its_field path_is its_is low high part other one both.0 told agree.0,
-        statements_turn base its_base (fold past s part) (fold past t other) match behind.0 its_behind.0 (behind.1 ∙ ap (in_field behind.0) path_is ∙ field-twice behind.0 field base.path) (its_behind.1 ∙ ap (in_field its_behind.0) its_is ∙ field-twice its_behind.0 its_field its_base.path) (omega (arith, low, place)) (omega (arith, high, its_place)) parts others turned.1 both.1 tolds agree.1,
+        statement_turns base its_base s t match field its_field path_is its_is low high part other
+            one both.0 told agree.0,
+        statements_turn base its_base (fold past s part) (fold past t other) match behind.0
+            its_behind.0
+            (behind.1 ∙ ap (in_field behind.0) path_is ∙ field-twice behind.0 field base.path)
+            (its_behind.1
+                 ∙ ap (in_field its_behind.0) its_is
+                 ∙ field-twice its_behind.0 its_field its_base.path) (omega (arith, low, place))
+            (omega (arith, high, its_place)) parts others turned.1 both.1 tolds agree.1,
       )
 
   -- names in front
-  fronts_turn : (os ps : List Occurrence) → AllZip Corresponds os ps → (names : List Label) → AllZip (StandsForLabel labels) (map (denoted_here here) os) names → AllZip (StandsForLabel its_labels) (map (denoted_here there) ps) names
+  fronts_turn : (os ps : List Occurrence) → AllZip Corresponds os ps → (names : List Label) →
+      AllZip (StandsForLabel labels) (map (denoted_here here) os) names →
+      AllZip (StandsForLabel its_labels) (map (denoted_here there) ps) names
   fronts_turn [] [] all [] agree = tt
   fronts_turn [] [] all (l ∷ names) agree = absurd agree
   fronts_turn [] (p ∷ ps) all names agree = absurd all
   fronts_turn (o ∷ os) [] all names agree = absurd all
   fronts_turn (o ∷ os) (p ∷ ps) all [] agree = absurd agree
-  fronts_turn (o ∷ os) (p ∷ ps) all (l ∷ names) agree = (bound-turns l (denoted_here here o) (denoted_here there p) all.0.is agree.0, fronts_turn os ps all.1 names agree.1)
+  fronts_turn (o ∷ os) (p ∷ ps) all (l ∷ names) agree =
+      (bound-turns l (denoted_here here o) (denoted_here there p) all.0.is agree.0,
+           fronts_turn os ps all.1 names agree.1)
 
-  -- AN ITEM
-  item_turns : (s t : Spot) (field its_field : ℕ) → s.path ≡ in_field field module_path → t.path ≡ in_field its_field module_path → {item renamed : List Item} {one other : Noted} → ItemTurned item one renamed other → AllZip Corresponds (occurrences_from s item) (occurrences_from t renamed) → ItemAgrees here labels s item one → ItemAgrees there its_labels t renamed other
-  item_turns s t field its_field path_is its_is {item = item} {renamed = renamed} (whole_turned {told = told} turned) all agree =
+  -- an item
+  item_turns : (s t : Spot) (field its_field : ℕ) → s.path ≡ in_field field module_path →
+      t.path ≡ in_field its_field module_path → {item renamed : List Item} {one other : Noted} →
+      ItemTurned item one renamed other →
+      AllZip Corresponds (occurrences_from s item) (occurrences_from t renamed) →
+      ItemAgrees here labels s item one → ItemAgrees there its_labels t renamed other
+  item_turns s t field its_field path_is its_is {item = item} {renamed = renamed}
+      (whole_turned {told = told} turned) all agree =
       let own = same_field s.path in
       let its = same_field t.path in
-      statement_turns s t s t (module-match s t field its_field path_is its_is) own.0 its.0 own.1 its.1 (omega arith) (omega arith) item renamed turned all told agree
-  item_turns s t field its_field path_is its_is {item = item} {renamed = renamed} (function_turned {front = front} {its_front = its_front} {names = names} {insides = insides} {its = its} {tolds = tolds} back its_back turned is its_made fronts parts) all agree =
-      let made = subst (λ (l : List Item). AllZip Corresponds (occurrences_from s (front ++ (flat insides ++ back))) (occurrences_from t l)) its_made (subst (λ (l : List Item). AllZip Corresponds (occurrences_from s l) (occurrences_from t renamed)) is all) in
-      let one = split s t front (flat insides ++ back) its_front (flat its ++ its_back) fronts.names made in
-      let two = split (fold past s front) (fold past t its_front) (flat insides) back (flat its) its_back (flat-names insides its parts) one.1 in
+      statement_turns s t s t (module-match s t field its_field path_is its_is) own.0 its.0 own.1
+          its.1 (omega arith) (omega arith) item renamed turned all told agree
+  item_turns s t field its_field path_is its_is {item = item} {renamed = renamed}
+      (function_turned {front = front} {its_front = its_front} {names = names} {insides = insides}
+           {its = its} {tolds = tolds} back its_back turned is its_made fronts parts) all agree =
+      let made =
+          subst
+              (λ (l : List Item). AllZip Corresponds
+                   (occurrences_from s (front ++ (flat insides ++ back))) (occurrences_from t l))
+              its_made
+              (subst
+                   (λ (l : List Item). AllZip Corresponds (occurrences_from s l)
+                        (occurrences_from t renamed)) is all) in
+      let one =
+          split s t front (flat insides ++ back) its_front (flat its ++ its_back) fronts.names
+              made in
+      let two =
+          split (fold past s front) (fold past t its_front) (flat insides) back (flat its) its_back
+              (flat-names insides its parts) one.1 in
       let own = same_field (fold past s front).path in
       let other = same_field (fold past t its_front).path in (
         fronts_turn (occurrences_from s front) (occurrences_from t its_front) one.0 names agree.0,
-        statements_turn (fold past s front) (fold past t its_front) (fold past s front) (fold past t its_front) (fronts.spots s t field its_field path_is its_is) own.0 other.0 own.1 other.1 (omega arith) (omega arith) insides its parts two.0 tolds agree.1,
+        statements_turn (fold past s front) (fold past t its_front) (fold past s front)
+            (fold past t its_front) (fronts.spots s t field its_field path_is its_is) own.0 other.0
+            own.1 other.1 (omega arith) (omega arith) insides its parts two.0 tolds agree.1,
       )
 
-  pub turned-nodes : {item renamed : List Item} {one other : Noted} → ItemTurned item one renamed other → PartTurned item renamed
+  pub turned-nodes : {item renamed : List Item} {one other : Noted} →
+      ItemTurned item one renamed other → PartTurned item renamed
   turned-nodes (whole_turned turned) = turned
   turned-nodes (function_turned back its_back turned is its_made fronts parts) = turned
 
-  -- ALL ITEMS
-  items_turn : (s t : Spot) (field its_field : ℕ) → s.path ≡ in_field field module_path → t.path ≡ in_field its_field module_path → (parts : List (List Item)) (noted : List Noted) (renamed : List (List Item)) (its : List Noted) → ItemsTurned parts noted renamed its → AllZip Corresponds (occurrences_from s (flat parts)) (occurrences_from t (flat renamed)) → ItemsAgree here labels s parts noted → ItemsAgree there its_labels t renamed its
+  -- all items
+  items_turn : (s t : Spot) (field its_field : ℕ) → s.path ≡ in_field field module_path →
+      t.path ≡ in_field its_field module_path →
+      (parts : List (List Item)) (noted : List Noted) (renamed : List (List Item))
+          (its : List Noted) → ItemsTurned parts noted renamed its →
+      AllZip Corresponds (occurrences_from s (flat parts)) (occurrences_from t (flat renamed)) →
+      ItemsAgree here labels s parts noted → ItemsAgree there its_labels t renamed its
   items_turn s t field its_field path_is its_is [] [] [] [] turned all agree = tt
-  items_turn s t field its_field path_is its_is [] [] [] (other ∷ its) turned all agree = absurd turned
-  items_turn s t field its_field path_is its_is [] [] (item ∷ renamed) its turned all agree = absurd turned
-  items_turn s t field its_field path_is its_is [] (one ∷ noted) renamed its turned all agree = absurd turned
-  items_turn s t field its_field path_is its_is (part ∷ parts) [] renamed its turned all agree = absurd turned
+  items_turn s t field its_field path_is its_is [] [] [] (other ∷ its) turned all agree =
+      absurd turned
+  items_turn s t field its_field path_is its_is [] [] (item ∷ renamed) its turned all agree =
+      absurd turned
+  items_turn s t field its_field path_is its_is [] (one ∷ noted) renamed its turned all agree =
+      absurd turned
+  items_turn s t field its_field path_is its_is (part ∷ parts) [] renamed its turned all agree =
+      absurd turned
   items_turn s t field its_field path_is its_is (part ∷ parts) (one ∷ noted) [] its turned all agree = absurd turned
   items_turn s t field its_field path_is its_is (part ∷ parts) (one ∷ noted) (item ∷ renamed) [] turned all agree = absurd turned
-  items_turn s t field its_field path_is its_is (part ∷ parts) (one ∷ noted) (item ∷ renamed) (other ∷ its) turned all agree =
+  items_turn s t field its_field path_is its_is (part ∷ parts) (one ∷ noted) (item ∷ renamed)
+      (other ∷ its) turned all agree =
       let nodes : PartTurned part item = turned-nodes turned.0 in
       let both = split s t part (flat parts) item (flat renamed) nodes.names all in
       let behind = fold-path nodes.nodes s in
       let its_behind = fold-path nodes.its_nodes t in (
         item_turns s t field its_field path_is its_is turned.0 both.0 agree.0,
-        items_turn (fold past s part) (fold past t item) behind.0 its_behind.0 (behind.1 ∙ ap (in_field behind.0) path_is ∙ field-twice behind.0 field module_path) (its_behind.1 ∙ ap (in_field its_behind.0) its_is ∙ field-twice its_behind.0 its_field module_path) parts noted renamed its turned.1 both.1 agree.1,
+        items_turn (fold past s part) (fold past t item) behind.0 its_behind.0
+            (behind.1 ∙ ap (in_field behind.0) path_is ∙ field-twice behind.0 field module_path)
+            (its_behind.1
+                 ∙ ap (in_field its_behind.0) its_is
+                 ∙ field-twice its_behind.0 its_field module_path) parts noted renamed its turned.1
+            both.1 agree.1,
       )
 
   -- what all occurrences denote
-  each-corresponds : (os ps : List Occurrence) → AllZip (StandsIn b.move) os ps → map (denoted_here there) ps ≡ map b.becomes (map (denoted_here here) os) → ((o : Occurrence) → Contains os o → Contains (denotations reading Es (joined items)) (denoted_here here o)) → AllZip Corresponds os ps
+  each-corresponds : (os ps : List Occurrence) → AllZip (StandsIn b.move) os ps →
+      map (denoted_here there) ps ≡ map b.becomes (map (denoted_here here) os) →
+      ((o : Occurrence) → Contains os o → Contains (denotations reading Es (joined items))
+           (denoted_here here o)) → AllZip Corresponds os ps
   each-corresponds [] [] stands are in_it = tt
   each-corresponds [] (p ∷ ps) stands are in_it = absurd stands
   each-corresponds (o ∷ os) [] stands are in_it = absurd stands
   each-corresponds (o ∷ os) (p ∷ ps) stands are in_it =
       let first : denoted_here there p ≡ b.becomes (denoted_here here o) = cc in
       let later : map (denoted_here there) ps ≡ map b.becomes (map (denoted_here here) os) = cc in
-      (record { scopes = stands.0; is = first; denoted = in_it o ((Contains-cons o os o).1 (inl refl)) }, each-corresponds os ps stands.1 later (λ x c. in_it x ((Contains-cons o os x).1 (inr c))))
+      (record {
+              scopes = stands.0;
+              is = first;
+              denoted = in_it o ((Contains-cons o os o).1 (inl refl))
+          },
+           each-corresponds os ps stands.1 later
+              (λ x c. in_it x ((Contains-cons o os x).1 (inr c))))
 
-  -- THE BUNDLE: where names change and denote what corresponds, they agree with what is told of them
-  pub bundle_turns : (noted its : List Noted) → ItemsTurned items noted others its → BundleAgrees reading labels items noted → BundleAgrees other its_labels others its
+  -- a bundle: where names change and denote what corresponds, they agree with what is told of them
+  pub bundle_turns : (noted its : List Noted) → ItemsTurned items noted others its →
+      BundleAgrees reading labels items noted → BundleAgrees other its_labels others its
   bundle_turns noted its turned agree =
       items_turn first_spot first_spot 0 0 refl refl items noted others its turned
       (subst (λ os. AllZip Corresponds os (occurrences_from first_spot (flat others))) (item-occurrences (flat items))

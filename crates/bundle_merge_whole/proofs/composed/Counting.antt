@@ -28,21 +28,27 @@ use Rattle.bundle_merge_whole.proofs.composed.Aligned.{names-append}
 
 -- Names.
 
-name-one : (field : ℕ) (x : Text) (c : ℕ) (role : Role) (rest : List Item) → is_occurrence role ≡ true → length (names_of (h.Ident field x c role ∷ rest)) ≡ suc (length (names_of rest))
+name-one : (field : ℕ) (x : Text) (c : ℕ) (role : Role) (rest : List Item) →
+    is_occurrence role ≡ true →
+    length (names_of (h.Ident field x c role ∷ rest)) ≡ suc (length (names_of rest))
 name-one field x c r.Word rest is = absurd (false≢true is)
 name-one field x c r.Binding rest is = refl
 name-one field x c r.Reference rest is = refl
 
-word-none : (field : ℕ) (x : Text) (c : ℕ) (role : Role) → is_occurrence role ≡ false → length (names_of (h.Ident field x c role ∷ [])) ≡ 0
+word-none : (field : ℕ) (x : Text) (c : ℕ) (role : Role) → is_occurrence role ≡ false →
+    length (names_of (h.Ident field x c role ∷ [])) ≡ 0
 word-none field x c r.Word is = refl
 word-none field x c r.Binding is = absurd (true≢false is)
 word-none field x c r.Reference is = absurd (true≢false is)
 
-node-names : (field : ℕ) (head : Head) (inside : List Item) → length (names_of (node field head inside)) ≡ length (names_of inside)
+node-names : (field : ℕ) (head : Head) (inside : List Item) →
+    length (names_of (node field head inside)) ≡ length (names_of inside)
 node-names field head inside = let both = names-append inside (h.Close ∷ []) in omega (arith, both)
 
 -- each name of what is marked has a note, where all stand for themselves alone
-pub marked-names : {around : Around} {notes rest : List Note} {items : List Item} {marks : List Mark} → Marked None around notes items marks rest → AreAlone notes → length (names_of items) + length rest ≡ length notes
+pub marked-names : {around : Around} {notes rest : List Note} {items : List Item}
+        {marks : List Mark} → Marked None around notes items marks rest → AreAlone notes →
+    length (names_of items) + length rest ≡ length notes
 marked-names d.Nothing its = omega arith
 marked-names (d.Joined {first = first} {second = second} one two) its =
     let a = marked-names one its in
@@ -50,9 +56,12 @@ marked-names (d.Joined {first = first} {second = second} one two) its =
     let both = names-append first second in
     omega (arith, a, b, both)
 marked-names (d.Hole field) its = omega arith
-marked-names (d.Word field x c role is) its = let none = word-none field x c role is in omega (arith, none)
-marked-names (d.Name around field x c role is) its = let one = name-one field x c role [] is in omega (arith, one)
-marked-names (d.Inside field head {inside = inside} stays one) its = let a = marked-names one its in let n = node-names field head inside in omega (arith, a, n)
+marked-names (d.Word field x c role is) its =
+    let none = word-none field x c role is in omega (arith, none)
+marked-names (d.Name around field x c role is) its =
+    let one = name-one field x c role [] is in omega (arith, one)
+marked-names (d.Inside field head {inside = inside} stays one) its =
+    let a = marked-names one its in let n = node-names field head inside in omega (arith, a, n)
 marked-names (d.Kept field head first {inside = inside} {more = more} keeps one two) its =
     let a = marked-names one its in
     let b = marked-names two (alone_left one its) in
@@ -74,8 +83,11 @@ length-alone : (meants : List Meant) → length (alone meants) ≡ length meants
 length-alone [] = refl
 length-alone (meant ∷ meants) = ap suc (length-alone meants)
 
-pub told-names : (item : List Item) (told : Told) → IsMarked item told → length (names_of item) ≡ length told.0
-told-names item told marked = let a = marked-names marked (alone_alone told.0) in let b = length-alone told.0 in omega (arith, a, b)
+pub told-names : (item : List Item) (told : Told) → IsMarked item told →
+    length (names_of item) ≡ length told.0
+told-names item told marked =
+    let a = marked-names marked (alone_alone told.0) in
+        let b = length-alone told.0 in omega (arith, a, b)
 
 -- Nodes.
 
@@ -107,34 +119,58 @@ marks_in (suc (suc depth)) (k.Ends ∷ rest) = marks_in (suc depth) rest
 -- so many nodes stand there, whatever follows
 pub record AreSoMany (n : ℕ) (items : List Item) : Type 0 where
   pub here : (more : List Item) → nodes_in 0 (items ++ more) ≡ n + nodes_in 0 more
-  pub within : (depth : ℕ) (more : List Item) → nodes_in (suc depth) (items ++ more) ≡ nodes_in (suc depth) more
+  pub within : (depth : ℕ) (more : List Item) →
+      nodes_in (suc depth) (items ++ more) ≡ nodes_in (suc depth) more
 
 pub record HaveSoMany (n : ℕ) (marks : List Mark) : Type 0 where
   pub here : (more : List Mark) → marks_in 0 (marks ++ more) ≡ n + marks_in 0 more
-  pub within : (depth : ℕ) (more : List Mark) → marks_in (suc depth) (marks ++ more) ≡ marks_in (suc depth) more
+  pub within : (depth : ℕ) (more : List Mark) →
+      marks_in (suc depth) (marks ++ more) ≡ marks_in (suc depth) more
 
-items-both : {n m : ℕ} (xs ys : List Item) → AreSoMany n xs → AreSoMany m ys → AreSoMany (n + m) (xs ++ ys)
+items-both : {n m : ℕ} (xs ys : List Item) → AreSoMany n xs → AreSoMany m ys →
+    AreSoMany (n + m) (xs ++ ys)
 items-both xs ys one two = record {
-  here = λ more. let a = one.here (ys ++ more) in let b = two.here more in let e = ap (nodes_in 0) (append_assoc xs ys more) in omega (arith, a, b, e);
-  within = λ depth more. ap (nodes_in (suc depth)) (append_assoc xs ys more) ∙ one.within depth (ys ++ more) ∙ two.within depth more;
+  here =
+      λ more. let a = one.here (ys ++ more) in let b = two.here more in let e = ap (nodes_in 0)
+          (append_assoc xs ys more) in omega (arith, a, b, e);
+  within =
+      λ depth more. ap (nodes_in (suc depth)) (append_assoc xs ys more)
+          ∙ one.within depth (ys ++ more)
+          ∙ two.within depth more;
 }
 
-marks-both : {n m : ℕ} (xs ys : List Mark) → HaveSoMany n xs → HaveSoMany m ys → HaveSoMany (n + m) (xs ++ ys)
+marks-both : {n m : ℕ} (xs ys : List Mark) → HaveSoMany n xs → HaveSoMany m ys →
+    HaveSoMany (n + m) (xs ++ ys)
 marks-both xs ys one two = record {
-  here = λ more. let a = one.here (ys ++ more) in let b = two.here more in let e = ap (marks_in 0) (append_assoc xs ys more) in omega (arith, a, b, e);
-  within = λ depth more. ap (marks_in (suc depth)) (append_assoc xs ys more) ∙ one.within depth (ys ++ more) ∙ two.within depth more;
+  here =
+      λ more. let a = one.here (ys ++ more) in let b = two.here more in let e = ap (marks_in 0)
+          (append_assoc xs ys more) in omega (arith, a, b, e);
+  within =
+      λ depth more. ap (marks_in (suc depth)) (append_assoc xs ys more)
+          ∙ one.within depth (ys ++ more)
+          ∙ two.within depth more;
 }
 
-pub item-node : {n : ℕ} (field : ℕ) (head : Head) (inside : List Item) → AreSoMany n inside → AreSoMany 1 (node field head inside)
+pub item-node : {n : ℕ} (field : ℕ) (head : Head) (inside : List Item) → AreSoMany n inside →
+    AreSoMany 1 (node field head inside)
 item-node field head inside one = record {
-  here = λ more. let e = ap (nodes_in 1) (append_assoc inside (h.Close ∷ []) more) ∙ one.within 0 (h.Close ∷ more) in omega (arith, e);
-  within = λ depth more. ap (nodes_in (suc (suc depth))) (append_assoc inside (h.Close ∷ []) more) ∙ one.within (suc depth) (h.Close ∷ more);
+  here =
+      λ more. let e = ap (nodes_in 1) (append_assoc inside (h.Close ∷ []) more)
+          ∙ one.within 0 (h.Close ∷ more) in omega (arith, e);
+  within =
+      λ depth more. ap (nodes_in (suc (suc depth))) (append_assoc inside (h.Close ∷ []) more)
+          ∙ one.within (suc depth) (h.Close ∷ more);
 }
 
-mark-node : {n : ℕ} (field : ℕ) (head : Head) (inside : List Mark) → HaveSoMany n inside → HaveSoMany 1 (k.Begins field head ∷ (inside ++ k.Ends ∷ []))
+mark-node : {n : ℕ} (field : ℕ) (head : Head) (inside : List Mark) → HaveSoMany n inside →
+    HaveSoMany 1 (k.Begins field head ∷ (inside ++ k.Ends ∷ []))
 mark-node field head inside one = record {
-  here = λ more. let e = ap (marks_in 1) (append_assoc inside (k.Ends ∷ []) more) ∙ one.within 0 (k.Ends ∷ more) in omega (arith, e);
-  within = λ depth more. ap (marks_in (suc (suc depth))) (append_assoc inside (k.Ends ∷ []) more) ∙ one.within (suc depth) (k.Ends ∷ more);
+  here =
+      λ more. let e = ap (marks_in 1) (append_assoc inside (k.Ends ∷ []) more)
+          ∙ one.within 0 (k.Ends ∷ more) in omega (arith, e);
+  within =
+      λ depth more. ap (marks_in (suc (suc depth))) (append_assoc inside (k.Ends ∷ []) more)
+          ∙ one.within (suc depth) (k.Ends ∷ more);
 }
 
 marks-none : HaveSoMany 0 []
@@ -159,18 +195,39 @@ word-one x = record { here = λ more. omega arith; within = λ depth more. refl 
 pattern-one : (field : ℕ) (meant : Meant) → HaveSoMany 1 (pattern_marks field meant)
 pattern-one field meant = record { here = λ more. omega arith; within = λ depth more. refl }
 
-name-mark : (around : Around) (field : ℕ) (x : Text) (meant : Meant) → HaveSoMany 1 (marks_there around field x meant)
+name-mark : (around : Around) (field : ℕ) (x : Text) (meant : Meant) →
+    HaveSoMany 1 (marks_there around field x meant)
 name-mark Anywhere field x meant = mark-name field meant
 name-mark InSpecifier field x meant = mark-name field meant
-name-mark InObject field x meant = subst (λ l. HaveSoMany 1 (k.Begins field h.KeyValueProp ∷ l)) (append_assoc (object_key x) (k.Name 1 meant ∷ []) (k.Ends ∷ [])) (mark-node field h.KeyValueProp (object_key x ++ k.Name 1 meant ∷ []) (marks-both (object_key x) (k.Name 1 meant ∷ []) (key-one (bytes_eq x (codes "__proto__")) x) (mark-name 1 meant)))
+name-mark InObject field x meant =
+    subst (λ l. HaveSoMany 1 (k.Begins field h.KeyValueProp ∷ l))
+        (append_assoc (object_key x) (k.Name 1 meant ∷ []) (k.Ends ∷ []))
+        (mark-node field h.KeyValueProp (object_key x ++ k.Name 1 meant ∷ [])
+             (marks-both (object_key x) (k.Name 1 meant ∷ [])
+                  (key-one (bytes_eq x (codes "__proto__")) x) (mark-name 1 meant)))
 
-short-marks : {n : ℕ} (field : ℕ) (x : Text) (meant : Meant) (default : List Item) (marks : List Mark) → HaveSoMany n marks → HaveSoMany 1 (shorthand_marks field x meant default marks)
-short-marks field x meant [] marks many = subst (λ l. HaveSoMany 1 (k.Begins field h.KeyValuePatProp ∷ l)) (append_assoc (word_key x) (pattern_marks 1 meant) (k.Ends ∷ [])) (mark-node field h.KeyValuePatProp (word_key x ++ pattern_marks 1 meant) (marks-both (word_key x) (pattern_marks 1 meant) (word-one x) (pattern-one 1 meant)))
+short-marks : {n : ℕ} (field : ℕ) (x : Text) (meant : Meant) (default : List Item)
+        (marks : List Mark) → HaveSoMany n marks →
+    HaveSoMany 1 (shorthand_marks field x meant default marks)
+short-marks field x meant [] marks many =
+    subst (λ l. HaveSoMany 1 (k.Begins field h.KeyValuePatProp ∷ l))
+        (append_assoc (word_key x) (pattern_marks 1 meant) (k.Ends ∷ []))
+        (mark-node field h.KeyValuePatProp (word_key x ++ pattern_marks 1 meant)
+             (marks-both (word_key x) (pattern_marks 1 meant) (word-one x) (pattern-one 1 meant)))
 short-marks field x meant (first ∷ more) marks many =
-    let inner : List Mark = k.Begins 1 h.AssignPat ∷ ((pattern_marks 0 meant ++ marks) ++ k.Ends ∷ []) in
-    let inner_is : inner ++ k.Ends ∷ [] ≡ k.Begins 1 h.AssignPat ∷ (pattern_marks 0 meant ++ (marks ++ k.Ends ∷ k.Ends ∷ [])) = ap (λ l. k.Begins 1 h.AssignPat ∷ l) (append_assoc (pattern_marks 0 meant ++ marks) (k.Ends ∷ []) (k.Ends ∷ []) ∙ append_assoc (pattern_marks 0 meant) marks (k.Ends ∷ k.Ends ∷ [])) in
-    subst (λ l. HaveSoMany 1 (k.Begins field h.KeyValuePatProp ∷ l)) (append_assoc (word_key x) inner (k.Ends ∷ []) ∙ ap (λ l. word_key x ++ l) inner_is)
-    (mark-node field h.KeyValuePatProp (word_key x ++ inner) (marks-both (word_key x) inner (word-one x) (mark-node 1 h.AssignPat (pattern_marks 0 meant ++ marks) (marks-both (pattern_marks 0 meant) marks (pattern-one 0 meant) many))))
+    let inner : List Mark =
+        k.Begins 1 h.AssignPat ∷ ((pattern_marks 0 meant ++ marks) ++ k.Ends ∷ []) in
+    let inner_is : inner ++ k.Ends ∷ [] ≡ k.Begins 1 h.AssignPat ∷
+        (pattern_marks 0 meant ++ (marks ++ k.Ends ∷ k.Ends ∷ [])) =
+        ap (λ l. k.Begins 1 h.AssignPat ∷ l)
+            (append_assoc (pattern_marks 0 meant ++ marks) (k.Ends ∷ []) (k.Ends ∷ [])
+                 ∙ append_assoc (pattern_marks 0 meant) marks (k.Ends ∷ k.Ends ∷ [])) in
+    subst (λ l. HaveSoMany 1 (k.Begins field h.KeyValuePatProp ∷ l))
+        (append_assoc (word_key x) inner (k.Ends ∷ []) ∙ ap (λ l. word_key x ++ l) inner_is)
+    (mark-node field h.KeyValuePatProp (word_key x ++ inner)
+         (marks-both (word_key x) inner (word-one x)
+              (mark-node 1 h.AssignPat (pattern_marks 0 meant ++ marks)
+                   (marks-both (pattern_marks 0 meant) marks (pattern-one 0 meant) many))))
 
 -- as many nodes as marks of nodes
 pub record Counted (items : List Item) (marks : List Mark) : Type 0 where
@@ -178,29 +235,64 @@ pub record Counted (items : List Item) (marks : List Mark) : Type 0 where
   pub items_are : AreSoMany n items
   pub marks_are : HaveSoMany n marks
 
-pub counted : {around : Around} {notes rest : List Note} {items : List Item} {marks : List Mark} → Marked None around notes items marks rest → AreAlone notes → Counted items marks
+pub counted : {around : Around} {notes rest : List Note} {items : List Item} {marks : List Mark} →
+    Marked None around notes items marks rest → AreAlone notes → Counted items marks
 counted d.Nothing its = record { n = 0; items_are = items-none; marks_are = marks-none }
 counted (d.Joined {first = first} {second = second} {marks = marks} {more = more} one two) its =
     let a = counted one its in
     let b = counted two (alone_left one its) in
-    record { n = a.n + b.n; items_are = items-both first second a.items_are b.items_are; marks_are = marks-both marks more a.marks_are b.marks_are }
-counted (d.Hole field) its = record { n = 1; items_are = record { here = λ more. omega arith; within = λ depth more. refl }; marks_are = record { here = λ more. omega arith; within = λ depth more. refl } }
-counted (d.Word field x c role is) its = record { n = 1; items_are = item-name field x c role; marks_are = record { here = λ more. omega arith; within = λ depth more. refl } }
-counted (d.Name around {note = note} field x c role is) its = record { n = 1; items_are = item-name field x c role; marks_are = name-mark around field x note.meant }
-counted (d.Inside field head {inside = inside} {marks = marks} stays one) its = let a = counted one its in record { n = 1; items_are = item-node field head inside a.items_are; marks_are = mark-node field _ marks a.marks_are }
-counted (d.Kept field head first {inside = inside} {more = more} {marks = marks} {more_marks = more_marks} keeps one two) its =
+    record {
+        n = a.n + b.n;
+        items_are = items-both first second a.items_are b.items_are;
+        marks_are = marks-both marks more a.marks_are b.marks_are
+    }
+counted (d.Hole field) its = record {
+  n = 1;
+  items_are = record { here = λ more. omega arith; within = λ depth more. refl };
+  marks_are = record { here = λ more. omega arith; within = λ depth more. refl }
+}
+counted (d.Word field x c role is) its = record {
+  n = 1;
+  items_are = item-name field x c role;
+  marks_are = record { here = λ more. omega arith; within = λ depth more. refl }
+}
+counted (d.Name around {note = note} field x c role is) its = record {
+  n = 1;
+  items_are = item-name field x c role;
+  marks_are = name-mark around field x note.meant
+}
+counted (d.Inside field head {inside = inside} {marks = marks} stays one) its =
+    let a = counted one its in
+        record {
+        n = 1;
+        items_are = item-node field head inside a.items_are;
+        marks_are = mark-node field _ marks a.marks_are
+    }
+counted
+    (d.Kept field head first {inside = inside} {more = more} {marks = marks}
+         {more_marks = more_marks} keeps one two) its =
     let a = counted one its in
     let b = counted two (alone_left one its) in
     record {
       n = 1;
-      items_are = item-node field head (node first h.MemberExpr inside ++ more) (items-both (node first h.MemberExpr inside) more (item-node first h.MemberExpr inside a.items_are) b.items_are);
-      marks_are = mark-node field _ (node_marks first h.MemberExpr marks ++ more_marks) (marks-both (node_marks first h.MemberExpr marks) more_marks (mark-node first _ marks a.marks_are) b.marks_are);
+      items_are =
+          item-node field head (node first h.MemberExpr inside ++ more)
+              (items-both (node first h.MemberExpr inside) more
+                   (item-node first h.MemberExpr inside a.items_are) b.items_are);
+      marks_are =
+          mark-node field _ (node_marks first h.MemberExpr marks ++ more_marks)
+              (marks-both (node_marks first h.MemberExpr marks) more_marks
+                   (mark-node first _ marks a.marks_are) b.marks_are);
     }
 counted (d.Shorthand {note = note} field x c role {default = default} {marks = marks} is one) its =
     let a = counted one its.1 in
     record {
       n = 1;
-      items_are = item-node field h.AssignPatProp (binding None 0 x c role ++ default) (items-both (binding None 0 x c role) default (item-node 0 h.BindingIdent (h.Ident 0 x c role ∷ []) (item-name 0 x c role)) a.items_are);
+      items_are =
+          item-node field h.AssignPatProp (binding None 0 x c role ++ default)
+              (items-both (binding None 0 x c role) default
+                   (item-node 0 h.BindingIdent (h.Ident 0 x c role ∷ []) (item-name 0 x c role))
+                   a.items_are);
       marks_are = short-marks field x note.meant default marks a.marks_are;
     }
 counted (d.OfReads field count inside is) its = let e = its.0 in absurd cc
@@ -208,7 +300,8 @@ counted (d.OfCall field inside is) its = let e = its.0 in absurd cc
 counted (d.OfMeta field meant is) its = absurd (none-some meant is)
 
 -- what has the same marks has as many nodes
-pub same-count : (item renamed : List Item) (told : Told) → IsMarked item told → IsMarked renamed told → nodes_in 0 item ≡ nodes_in 0 renamed
+pub same-count : (item renamed : List Item) (told : Told) → IsMarked item told →
+    IsMarked renamed told → nodes_in 0 item ≡ nodes_in 0 renamed
 same-count item renamed told one two =
     let a = counted one (alone_alone told.0) in
     let b = counted two (alone_alone told.0) in
@@ -225,29 +318,45 @@ pub nodes-whole : {xs : List Item} → AreNodes xs → IsWhole xs
 nodes-whole nodes.nothing = refl
 nodes-whole (nodes.name more) = nodes-whole more
 nodes-whole (nodes.hole more) = nodes-whole more
-nodes-whole (nodes.node {field = field} {head = head} {inside = inside} {rest = rest} in_it more) = whole-node field head inside rest (nodes-whole in_it) (nodes-whole more)
+nodes-whole (nodes.node {field = field} {head = head} {inside = inside} {rest = rest} in_it more) =
+    whole-node field head inside rest (nodes-whole in_it) (nodes-whole more)
 
 pub nodes-many : {xs : List Item} → AreNodes xs → (n : ℕ) × AreSoMany n xs
 nodes-many nodes.nothing = (0, items-none)
-nodes-many (nodes.name {field = field} {ctxt = c} {sym = x} {role = role} {rest = rest} more) = let b = nodes-many more in (1 + b.0, items-both (h.Ident field x c role ∷ []) rest (item-name field x c role) b.1)
-nodes-many (nodes.hole {field = field} {rest = rest} more) = let b = nodes-many more in (1 + b.0, items-both (h.Hole field ∷ []) rest (record { here = λ more. omega arith; within = λ depth more. refl }) b.1)
+nodes-many (nodes.name {field = field} {ctxt = c} {sym = x} {role = role} {rest = rest} more) =
+    let b = nodes-many more in
+        (1 + b.0, items-both (h.Ident field x c role ∷ []) rest (item-name field x c role) b.1)
+nodes-many (nodes.hole {field = field} {rest = rest} more) =
+    let b = nodes-many more in
+        (1 + b.0,
+         items-both (h.Hole field ∷ []) rest
+            (record { here = λ more. omega arith; within = λ depth more. refl }) b.1)
 nodes-many (nodes.node {field = field} {head = head} {inside = inside} {rest = rest} in_it more) =
     let a = nodes-many in_it in
     let b = nodes-many more in
-    (1 + b.0, subst (AreSoMany (1 + b.0)) (ap (λ l. h.Open field head ∷ l) (append_assoc inside (h.Close ∷ []) rest)) (items-both (node field head inside) rest (item-node field head inside a.1) b.1))
+    (1 + b.0,
+         subst (AreSoMany (1 + b.0))
+            (ap (λ l. h.Open field head ∷ l) (append_assoc inside (h.Close ∷ []) rest))
+            (items-both (node field head inside) rest (item-node field head inside a.1) b.1))
 
 none-left : {xs : List Item} → AreNodes xs → nodes_in 0 xs ≡ 0 → xs ≡ []
 none-left nodes.nothing e = refl
 none-left (nodes.name more) e = absurd (omega (arith, e))
 none-left (nodes.hole more) e = absurd (omega (arith, e))
-none-left (nodes.node {inside = inside} {rest = rest} in_it more) e = let a = (nodes-many in_it).1.within 0 (h.Close ∷ rest) in absurd (omega (arith, a, e))
+none-left (nodes.node {inside = inside} {rest = rest} in_it more) e =
+    let a = (nodes-many in_it).1.within 0 (h.Close ∷ rest) in absurd (omega (arith, a, e))
 
 -- whole nodes of which there is one
 pub one-single : {xs : List Item} → AreNodes xs → nodes_in 0 xs ≡ 1 → IsSingle xs
 one-single nodes.nothing e = absurd (omega (arith, e))
-one-single (nodes.name {field = field} {ctxt = c} {sym = x} {role = role} {rest = rest} more) e = let none = none-left more (omega (arith, e)) in subst (λ l. IsSingle (h.Ident field x c role ∷ l)) (sym none) (single-name field x c role)
-one-single (nodes.hole {field = field} {rest = rest} more) e = let none = none-left more (omega (arith, e)) in subst (λ l. IsSingle (h.Hole field ∷ l)) (sym none) (single-hole field)
+one-single (nodes.name {field = field} {ctxt = c} {sym = x} {role = role} {rest = rest} more) e =
+    let none = none-left more (omega (arith, e)) in
+        subst (λ l. IsSingle (h.Ident field x c role ∷ l)) (sym none) (single-name field x c role)
+one-single (nodes.hole {field = field} {rest = rest} more) e =
+    let none = none-left more (omega (arith, e)) in
+        subst (λ l. IsSingle (h.Hole field ∷ l)) (sym none) (single-hole field)
 one-single (nodes.node {field = field} {head = head} {inside = inside} {rest = rest} in_it more) e =
     let a = (nodes-many in_it).1.within 0 (h.Close ∷ rest) in
     let none = none-left more (omega (arith, a, e)) in
-    subst (λ l. IsSingle (h.Open field head ∷ (inside ++ h.Close ∷ l))) (sym none) (single-node field head inside (nodes-whole in_it))
+    subst (λ l. IsSingle (h.Open field head ∷ (inside ++ h.Close ∷ l))) (sym none)
+        (single-node field head inside (nodes-whole in_it))

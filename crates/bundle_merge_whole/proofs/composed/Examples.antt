@@ -1,5 +1,7 @@
--- Items that are noted by their identifiers: `const a#5;`, `{ let b#7; b#7; a#5; f#1; }`, the helper, and the function of a
--- CommonJS module `var load#2 = helper#3(function (module#9, exports#10) { exports#10; let c#11; })`.
+-- Items that are noted by their identifiers: `const a#5;`, `{ let b#7; b#7; a#5; f#1; }`, the
+-- helper, and the function of a
+-- CommonJS module `var load#2 = helper#3(function (module#9, exports#10) { exports#10; let c#11;
+-- })`.
 use Rattle.std.proofs.Common.{false, List, [], ◌∷◌, ◌++◌, codes, refl, arith}
 use Rattle.bundle_tree_leaf.specs.declared.kind.VarDeclKind.TheVariants.{Let, Const}
 use Rattle.bundle_tree_piece.specs.declared.piece.Role.TheVariants.{Binding, Reference}
@@ -14,7 +16,9 @@ use Rattle.bundle_merge_whole.specs.composed.Names.{Table, ItemNoted, labelled_t
 use Rattle.bundle_merge_whole.specs.composed.Functions.{function_front, function_items, function_names}
 
 abbrev a_constant : List Item
-a_constant = node 0 (h.VarDecl Const no_notes) (node 1 h.VarDeclarator (node 0 h.BindingIdent (h.Ident 0 (codes "a") 5 Binding ∷ [])))
+a_constant =
+    node 0 (h.VarDecl Const no_notes)
+        (node 1 h.VarDeclarator (node 0 h.BindingIdent (h.Ident 0 (codes "a") 5 Binding ∷ [])))
 
 abbrev a_block : List Item
 a_block =
@@ -22,42 +26,66 @@ a_block =
     ++ (node 0 h.ExprStmt (h.Ident 0 (codes "b") 7 Reference ∷ []) ++ (node 0 h.ExprStmt (h.Ident 0 (codes "a") 5 Reference ∷ []) ++ node 0 h.ExprStmt (h.Ident 0 (codes "f") 1 Reference ∷ []))))
 
 abbrev a_helper : List Item
-a_helper = node 0 h.FnDecl (h.Ident 0 (codes "helper") 3 Binding ∷ node 1 (h.Function false false) (node 1 h.BlockStmt []))
+a_helper =
+    node 0 h.FnDecl
+        (h.Ident 0 (codes "helper") 3 Binding ∷ node 1 (h.Function false false)
+             (node 1 h.BlockStmt []))
 
 abbrev its_first : List Item
 its_first = node 0 h.ExprStmt (h.Ident 0 (codes "exports") 10 Reference ∷ [])
 
 abbrev its_second : List Item
-its_second = node 0 (h.VarDecl Let no_notes) (node 1 h.VarDeclarator (node 0 h.BindingIdent (h.Ident 0 (codes "c") 11 Binding ∷ [])))
+its_second =
+    node 0 (h.VarDecl Let no_notes)
+        (node 1 h.VarDeclarator (node 0 h.BindingIdent (h.Ident 0 (codes "c") 11 Binding ∷ [])))
 
 abbrev a_function : List Item
-a_function = function_items no_notes (codes "load", 2) (codes "helper", 3) (codes "module", 9) (codes "exports", 10) (its_first ++ (its_second ++ []))
+a_function =
+    function_items no_notes (codes "load", 2) (codes "helper", 3) (codes "module", 9)
+        (codes "exports", 10) (its_first ++ (its_second ++ []))
 
 abbrev items : List (List Item)
 items = a_constant ∷ a_block ∷ a_helper ∷ a_function ∷ []
 
 abbrev table : Table
 table =
-    ((codes "a", 5), Of (Declared 0 (codes "a"))) ∷ ((codes "load", 2), Load 1) ∷ ((codes "helper", 3), Helper)
-    ∷ ((codes "module", 9), Parameter 1 (codes "module")) ∷ ((codes "exports", 10), Parameter 1 (codes "exports")) ∷ ((codes "c", 11), Of (Declared 1 (codes "c"))) ∷ []
+    ((codes "a", 5), Of (Declared 0 (codes "a"))) ∷ ((codes "load", 2), Load 1) ∷
+        ((codes "helper", 3), Helper)
+    ∷ ((codes "module", 9), Parameter 1 (codes "module")) ∷
+        ((codes "exports", 10), Parameter 1 (codes "exports")) ∷
+        ((codes "c", 11), Of (Declared 1 (codes "c"))) ∷ []
 
 -- the constant is a name of the top
-constant_noted : ItemNoted items table a_constant (AsWhole (Known (Of (Declared 0 (codes "a"))) ∷ [], []))
+constant_noted : ItemNoted items table a_constant
+        (AsWhole (Known (Of (Declared 0 (codes "a"))) ∷ [], []))
 constant_noted = (is_known refl (labelled_top refl refl (0, omega arith, refl)), tt)
 
 -- in the block there are an inner binding, a name of the top and a global
-block_noted : ItemNoted items table a_block (AsWhole (Inside 0 ∷ Inside 0 ∷ Known (Of (Declared 0 (codes "a"))) ∷ Unbound (codes "f") ∷ [], []))
+block_noted : ItemNoted items table a_block
+        (AsWhole
+             (Inside 0 ∷ Inside 0 ∷ Known (Of (Declared 0 (codes "a"))) ∷ Unbound (codes "f") ∷ [],
+                  []))
 block_noted = (
   is_one_inside refl (λ e. absurd cc) refl refl,
-  (is_one_inside refl (λ e. absurd cc) refl refl, (is_known refl (labelled_top refl refl (0, omega arith, refl)), (is_free refl refl refl, tt))),
+  (is_one_inside refl (λ e. absurd cc) refl refl,
+       (is_known refl (labelled_top refl refl (0, omega arith, refl)),
+           (is_free refl refl refl, tt))),
 )
 
--- in the function the names in front are of the top and inner ones; those of its statements that its body declares, and its parameters, are outside them
-function_noted : ItemNoted items table a_function (AsFunction (function_front no_notes (codes "load", 2) (codes "helper", 3) (codes "module", 9) (codes "exports", 10)) (function_names 1) (its_first ∷ its_second ∷ []) ((Known (Parameter 1 (codes "exports")) ∷ [], []) ∷ (Known (Of (Declared 1 (codes "c"))) ∷ [], []) ∷ []))
+-- in the function the names in front are of the top and inner ones; those of its statements that
+-- its body declares, and its parameters, are outside them
+function_noted : ItemNoted items table a_function
+        (AsFunction
+             (function_front no_notes (codes "load", 2) (codes "helper", 3) (codes "module", 9)
+                  (codes "exports", 10)) (function_names 1) (its_first ∷ its_second ∷ [])
+             ((Known (Parameter 1 (codes "exports")) ∷ [], []) ∷
+                  (Known (Of (Declared 1 (codes "c"))) ∷ [], []) ∷ []))
 function_noted = (
   (
     labelled_top refl refl (1, omega arith, refl),
-    (labelled_top refl refl (2, omega arith, refl), (labelled_inner refl (λ e. absurd cc) (3, omega arith, refl), (labelled_inner refl (λ e. absurd cc) (4, omega arith, refl), tt))),
+    (labelled_top refl refl (2, omega arith, refl),
+         (labelled_inner refl (λ e. absurd cc) (3, omega arith, refl),
+             (labelled_inner refl (λ e. absurd cc) (4, omega arith, refl), tt))),
   ),
   (
     (is_known refl (labelled_inner refl (λ e. absurd cc) (4, omega arith, refl)), tt),

@@ -1,4 +1,5 @@
--- A bundle's items have no default exports: so each declaration has an identifier, and no default is spelled out.
+-- A bundle's items have no default exports: so each declaration has an identifier, and no default
+-- is spelled out.
 use Rattle.std.proofs.Common.{◌≡◌, Bool, true, false, not, List, [], ◌∷◌, ◌++◌, refl, ◌∙◌}
 use Rattle.std.specs.List.{list_all}
 use Rattle.std.proofs.lemmas.Bool.{false≢true, and_parts, and_from}
@@ -25,10 +26,12 @@ begins_default x = false
 abbrev pub HasNoDefault : List Item → Type 0
 HasNoDefault items = list_all (λ x. not (begins_default x)) items ≡ true
 
-item-plain : (x : Item) (rest : List Item) → not (begins_default x) ≡ true → spells_default x rest ≡ false
+item-plain : (x : Item) (rest : List Item) → not (begins_default x) ≡ true →
+    spells_default x rest ≡ false
 item-plain (h.Open field head) rest e = by_head head e
   where
-    by_head : (head : Head) → not (is_default_export head) ≡ true → spells_default (h.Open field head) rest ≡ false
+    by_head : (head : Head) → not (is_default_export head) ≡ true →
+        spells_default (h.Open field head) rest ≡ false
     by_head h.ExportDefaultDecl e = absurd (false≢true e)
     by_head _ e = refl
 item-plain (h.Ident field x c role) rest e = refl
@@ -37,12 +40,18 @@ item-plain h.Close rest e = refl
 
 pub plain-of : (items : List Item) → HasNoDefault items → ArePlain items
 plain-of [] none = tt
-plain-of (x ∷ items) none = let both = and_parts (not (begins_default x)) (list_all (λ y. not (begins_default y)) items) none in (item-plain x items both.0, plain-of items both.1)
+plain-of (x ∷ items) none =
+    let both =
+            and_parts (not (begins_default x)) (list_all (λ y. not (begins_default y)) items)
+                none in
+        (item-plain x items both.0, plain-of items both.1)
 
-item-named : (x : Item) (rest : List Item) → not (begins_default x) ≡ true → is_nameless_default x rest ≡ false
+item-named : (x : Item) (rest : List Item) → not (begins_default x) ≡ true →
+    is_nameless_default x rest ≡ false
 item-named (h.Open field head) rest e = by_head head e
   where
-    by_head : (head : Head) → not (is_default_export head) ≡ true → is_nameless_default (h.Open field head) rest ≡ false
+    by_head : (head : Head) → not (is_default_export head) ≡ true →
+        is_nameless_default (h.Open field head) rest ≡ false
     by_head h.ExportDefaultDecl e = absurd (false≢true e)
     by_head h.ExportDefaultExpr e = absurd (false≢true e)
     by_head _ e = refl
@@ -52,10 +61,17 @@ item-named h.Close rest e = refl
 
 named-of : (items : List Item) → HasNoDefault items → AreNamed items
 named-of [] none = tt
-named-of (x ∷ items) none = let both = and_parts (not (begins_default x)) (list_all (λ y. not (begins_default y)) items) none in (item-named x items both.0, named-of items both.1)
+named-of (x ∷ items) none =
+    let both =
+            and_parts (not (begins_default x)) (list_all (λ y. not (begins_default y)) items)
+                none in
+        (item-named x items both.0, named-of items both.1)
 
 none-both : (xs ys : List Item) → HasNoDefault xs → HasNoDefault ys → HasNoDefault (xs ++ ys)
-none-both xs ys one two = list_all-append (λ x. not (begins_default x)) xs ys ∙ and_from (list_all (λ x. not (begins_default x)) xs) (list_all (λ x. not (begins_default x)) ys) one two
+none-both xs ys one two =
+    list_all-append (λ x. not (begins_default x)) xs ys
+        ∙ and_from (list_all (λ x. not (begins_default x)) xs)
+            (list_all (λ x. not (begins_default x)) ys) one two
 
 none-flat : (items : List (List Item)) → AllOf HasNoDefault items → HasNoDefault (flat items)
 none-flat [] none = refl
@@ -67,4 +83,5 @@ item-names item none = named-of (item ++ h.Close ∷ []) (none-both item (h.Clos
 
 -- and no default of a bundle is spelled out
 pub joined-plain : (items : List (List Item)) → AllOf HasNoDefault items → ArePlain (joined items)
-joined-plain items none = plain-of (joined items) (none-both (flat items) (h.Close ∷ []) (none-flat items none) refl)
+joined-plain items none =
+    plain-of (joined items) (none-both (flat items) (h.Close ∷ []) (none-flat items none) refl)

@@ -28,8 +28,13 @@ use Rattle.bundle_merge_whole.proofs.composed.Fronts.{blanks, skeleton, front-bl
 
 -- an item of which the same is told
 pub data Remade : Noted → List Item → Noted → Type 0 where
-  remade_whole : {item : List Item} {told : Told} → IsMarked item told → Remade (AsWhole told) item (AsWhole told)
-  remade_function : {item old front : List Item} {names : List Label} {olds insides : List (List Item)} {tolds : List Told} → item ≡ front ++ (flat insides ++ function_ends) → blanks front ≡ skeleton → AllZip IsMarked insides tolds → Remade (AsFunction old names olds tolds) item (AsFunction front names insides tolds)
+  remade_whole : {item : List Item} {told : Told} → IsMarked item told →
+      Remade (AsWhole told) item (AsWhole told)
+  remade_function : {item old front : List Item} {names : List Label}
+          {olds insides : List (List Item)} {tolds : List Told} →
+      item ≡ front ++ (flat insides ++ function_ends) → blanks front ≡ skeleton →
+      AllZip IsMarked insides tolds →
+      Remade (AsFunction old names olds tolds) item (AsFunction front names insides tolds)
 
 -- With changes.
 
@@ -46,10 +51,19 @@ record Two (its : List Change) (first second : List Ident) : Type 0 where
   one : AllZip KeepsText front first
   two : AllZip KeepsText back second
 
-two_of : (its : List Change) (first second : List Ident) → AllZip KeepsText its (first ++ second) → Two its first second
+two_of : (its : List Change) (first second : List Ident) → AllZip KeepsText its (first ++ second) →
+    Two its first second
 two_of its [] second all = record { front = []; back = its; is = refl; one = tt; two = all }
 two_of [] (x ∷ first) second all = absurd all
-two_of (change ∷ its) (x ∷ first) second all = let rest = two_of its first second all.1 in record { front = change ∷ rest.front; back = rest.back; is = ap (λ l. change ∷ l) rest.is; one = (all.0, rest.one); two = rest.two }
+two_of (change ∷ its) (x ∷ first) second all =
+    let rest = two_of its first second all.1 in
+        record {
+        front = change ∷ rest.front;
+        back = rest.back;
+        is = ap (λ l. change ∷ l) rest.is;
+        one = (all.0, rest.one);
+        two = rest.two
+    }
 
 -- a part
 record PartMade (part : List Item) (told : Told) (its left : List Change) : Type 0 where
@@ -58,31 +72,52 @@ record PartMade (part : List Item) (told : Told) (its left : List Change) : Type
   lone : HasNoLoneName made
   edits : Edits Anywhere (its ++ left) part made left
 
-part_made : (part : List Item) (told : Told) (its left : List Change) → IsMarked part told → HasNoLoneName part → AllZip KeepsText its (names_of part) → PartMade part told its left
+part_made : (part : List Item) (told : Told) (its left : List Change) → IsMarked part told →
+    HasNoLoneName part → AllZip KeepsText its (names_of part) → PartMade part told its left
 part_made part told its left marked lone cover =
-    let one = renamed_marks marked (alone_alone told.0) its left cover [] false [] (subst HasNoLoneName (sym (append-nil part)) lone) (λ is. absurd (true≢false is)) in
-    record { made = one.after; marked = one.marked; lone = lone-edited one.edits lone; edits = one.edits }
+    let one =
+        renamed_marks marked (alone_alone told.0) its left cover [] false []
+            (subst HasNoLoneName (sym (append-nil part)) lone) (λ is. absurd (true≢false is)) in
+    record {
+        made = one.after;
+        marked = one.marked;
+        lone = lone-edited one.edits lone;
+        edits = one.edits
+    }
 
-record PartsMade (parts : List (List Item)) (tolds : List Told) (its left : List Change) : Type 0 where
+record PartsMade (parts : List (List Item)) (tolds : List Told) (its left : List Change) : Type
+        0 where
   made : List (List Item)
   marked : AllZip IsMarked made tolds
   lone : AllOf HasNoLoneName made
   edits : Edits Anywhere (its ++ left) (flat parts) (flat made) left
 
-parts_made : (parts : List (List Item)) (tolds : List Told) (its left : List Change) → AllZip IsMarked parts tolds → AllOf HasNoLoneName parts → AllZip KeepsText its (names_of (flat parts)) → PartsMade parts tolds its left
-parts_made [] [] [] left marked lone cover = record { made = []; marked = tt; lone = tt; edits = c.Nothing }
+parts_made : (parts : List (List Item)) (tolds : List Told) (its left : List Change) →
+    AllZip IsMarked parts tolds → AllOf HasNoLoneName parts →
+    AllZip KeepsText its (names_of (flat parts)) → PartsMade parts tolds its left
+parts_made [] [] [] left marked lone cover = record {
+  made = [];
+  marked = tt;
+  lone = tt;
+  edits = c.Nothing
+}
 parts_made [] [] (change ∷ its) left marked lone cover = absurd cover
 parts_made [] (told ∷ tolds) its left marked lone cover = absurd marked
 parts_made (part ∷ parts) [] its left marked lone cover = absurd marked
 parts_made (part ∷ parts) (told ∷ tolds) its left marked lone cover =
-    let both = two_of its (names_of part) (names_of (flat parts)) (subst (AllZip KeepsText its) (names_of-append part (flat parts)) cover) in
+    let both =
+        two_of its (names_of part) (names_of (flat parts))
+            (subst (AllZip KeepsText its) (names_of-append part (flat parts)) cover) in
     let one = part_made part told both.front (both.back ++ left) marked.0 lone.0 both.one in
     let rest = parts_made parts tolds both.back left marked.1 lone.1 both.two in
     record {
       made = one.made ∷ rest.made;
       marked = (one.marked, rest.marked);
       lone = (one.lone, rest.lone);
-      edits = subst (λ l. Edits Anywhere l (part ++ flat parts) (one.made ++ flat rest.made) left) (sym (append_assoc both.front both.back left) ∙ ap (λ l. l ++ left) (sym both.is)) (c.Joined one.edits rest.edits);
+      edits =
+          subst (λ l. Edits Anywhere l (part ++ flat parts) (one.made ++ flat rest.made) left)
+              (sym (append_assoc both.front both.back left) ∙ ap (λ l. l ++ left) (sym both.is))
+              (c.Joined one.edits rest.edits);
     }
 
 -- an item
@@ -94,7 +129,11 @@ record ItemMade (item : List Item) (one : Noted) (its left : List Change) : Type
   lone : NoLone made other
   edits : Edits Anywhere (its ++ left) item made left
 
-function-edits : (meta : ExportMetadata) (load helper own its : Ident) (a b d e : Change) (changes left : List Change) (body made : List Item) → Edits Anywhere changes body made left → Edits Anywhere (a ∷ b ∷ d ∷ e ∷ changes) (function_items meta load helper own its body) (function_items meta a.ident b.ident d.ident e.ident made) left
+function-edits : (meta : ExportMetadata) (load helper own its : Ident) (a b d e : Change)
+        (changes left : List Change) (body made : List Item) →
+    Edits Anywhere changes body made left →
+    Edits Anywhere (a ∷ b ∷ d ∷ e ∷ changes) (function_items meta load helper own its body)
+        (function_items meta a.ident b.ident d.ident e.ident made) left
 function-edits meta load helper own its a b d e changes left body made edits =
     c.Inside 0 (h.VarDecl Var meta) refl (c.Inside 1 h.VarDeclarator refl (c.Joined (c.Inside 0 h.BindingIdent refl (c.Name Anywhere 0 load.0 load.1 Binding refl))
     (c.Inside 1 h.CallExpr refl (c.Joined (c.Name Anywhere 0 helper.0 helper.1 Reference refl) (c.Inside 1 (h.ExprOrSpread false) refl (c.Inside 1 h.FnExpr refl (c.Inside 1 (h.Function false false) refl
@@ -102,18 +141,33 @@ function-edits meta load helper own its a b d e changes left body made edits =
     (c.Joined (c.Inside 0 h.Param refl (c.Inside 0 h.BindingIdent refl (c.Name Anywhere 0 its.0 its.1 Binding refl)))
     (c.Inside 1 h.BlockStmt refl edits))))))))))
 
-function-names : (meta : ExportMetadata) (load helper own its : Ident) (body : List Item) → names_of (function_items meta load helper own its body) ≡ load ∷ helper ∷ own ∷ its ∷ names_of body
+function-names : (meta : ExportMetadata) (load helper own its : Ident) (body : List Item) →
+    names_of (function_items meta load helper own its body) ≡ load ∷ helper ∷ own ∷ its ∷ names_of
+        body
 function-names meta load helper own its body =
     ap names_of (function-parts meta load helper own its body)
-    ∙ ap (λ l. load ∷ helper ∷ own ∷ its ∷ l) (names_of-append body function_ends ∙ append-nil (names_of body))
+    ∙ ap (λ l. load ∷ helper ∷ own ∷ its ∷ l)
+        (names_of-append body function_ends ∙ append-nil (names_of body))
 
-item_made : (item : List Item) (one : Noted) (its left : List Change) → IsOfForm item one → NoLone item one → AllZip KeepsText its (names_of item) → ItemMade item one its left
+item_made : (item : List Item) (one : Noted) (its left : List Change) → IsOfForm item one →
+    NoLone item one → AllZip KeepsText its (names_of item) → ItemMade item one its left
 item_made item (AsWhole told) its left (whole_form marked) lone cover =
     let it = part_made item told its left marked lone cover in
-    record { made = it.made; other = AsWhole told; remade = remade_whole it.marked; form = whole_form it.marked; lone = it.lone; edits = it.edits }
+    record {
+        made = it.made;
+        other = AsWhole told;
+        remade = remade_whole it.marked;
+        form = whole_form it.marked;
+        lone = it.lone;
+        edits = it.edits
+    }
 item_made _ _ its left (function_form {c = k} {insides = insides} {tolds = tolds} meta load helper own exports marked) lone cover = by_changes its (subst (AllZip KeepsText its) (function-names meta load helper own exports (flat insides)) cover)
   where
-    by_changes : (its : List Change) → AllZip KeepsText its (load ∷ helper ∷ own ∷ exports ∷ names_of (flat insides)) → ItemMade (function_items meta load helper own exports (flat insides)) (AsFunction (function_front meta load helper own exports) (function_names k) insides tolds) its left
+    by_changes : (its : List Change) →
+        AllZip KeepsText its (load ∷ helper ∷ own ∷ exports ∷ names_of (flat insides)) →
+        ItemMade (function_items meta load helper own exports (flat insides))
+            (AsFunction (function_front meta load helper own exports) (function_names k) insides
+                 tolds) its left
     by_changes [] cover = absurd cover
     by_changes (a ∷ []) cover = absurd cover.1
     by_changes (a ∷ b ∷ []) cover = absurd cover.1.1
@@ -122,11 +176,17 @@ item_made _ _ its left (function_form {c = k} {insides = insides} {tolds = tolds
         let it = parts_made insides tolds changes left marked lone cover.1.1.1.1 in
         record {
           made = function_items meta a.ident b.ident d.ident e.ident (flat it.made);
-          other = AsFunction (function_front meta a.ident b.ident d.ident e.ident) (function_names k) it.made tolds;
-          remade = remade_function (function-parts meta a.ident b.ident d.ident e.ident (flat it.made)) (front-blank meta a.ident b.ident d.ident e.ident) it.marked;
+          other =
+              AsFunction (function_front meta a.ident b.ident d.ident e.ident) (function_names k)
+                  it.made tolds;
+          remade =
+              remade_function (function-parts meta a.ident b.ident d.ident e.ident (flat it.made))
+                  (front-blank meta a.ident b.ident d.ident e.ident) it.marked;
           form = function_form meta a.ident b.ident d.ident e.ident it.marked;
           lone = it.lone;
-          edits = function-edits meta load helper own exports a b d e (changes ++ left) left (flat insides) (flat it.made) it.edits;
+          edits =
+              function-edits meta load helper own exports a b d e (changes ++ left) left
+                  (flat insides) (flat it.made) it.edits;
         }
 
 -- all items
@@ -135,7 +195,8 @@ AllOfForm items noted = AllZip IsOfForm items noted
 
 abbrev pub AllRemade : List Noted → List (List Item) → List Noted → Type 0
 AllRemade [] [] [] = ⊤
-AllRemade (one ∷ noted) (item ∷ items) (other ∷ its) = Remade one item other × AllRemade noted items its
+AllRemade (one ∷ noted) (item ∷ items) (other ∷ its) =
+    Remade one item other × AllRemade noted items its
 AllRemade _ _ _ = ⊥
 
 record ItemsMade (items : List (List Item)) (noted : List Noted) (its : List Change) : Type 0 where
@@ -146,13 +207,24 @@ record ItemsMade (items : List (List Item)) (noted : List Noted) (its : List Cha
   lones : AllZip NoLone made others
   edits : Edits Anywhere its (flat items) (flat made) []
 
-items_made : (items : List (List Item)) (noted : List Noted) (its : List Change) → AllOfForm items noted → AllZip NoLone items noted → AllZip KeepsText its (names_of (flat items)) → ItemsMade items noted its
-items_made [] [] [] forms lone cover = record { made = []; others = []; remade = tt; forms = tt; lones = tt; edits = c.Nothing }
+items_made : (items : List (List Item)) (noted : List Noted) (its : List Change) →
+    AllOfForm items noted → AllZip NoLone items noted →
+    AllZip KeepsText its (names_of (flat items)) → ItemsMade items noted its
+items_made [] [] [] forms lone cover = record {
+  made = [];
+  others = [];
+  remade = tt;
+  forms = tt;
+  lones = tt;
+  edits = c.Nothing
+}
 items_made [] [] (change ∷ its) forms lone cover = absurd cover
 items_made [] (one ∷ noted) its forms lone cover = absurd forms
 items_made (item ∷ items) [] its forms lone cover = absurd forms
 items_made (item ∷ items) (one ∷ noted) its forms lone cover =
-    let both = two_of its (names_of item) (names_of (flat items)) (subst (AllZip KeepsText its) (names_of-append item (flat items)) cover) in
+    let both =
+        two_of its (names_of item) (names_of (flat items))
+            (subst (AllZip KeepsText its) (names_of-append item (flat items)) cover) in
     let first = item_made item one both.front both.back forms.0 lone.0 both.one in
     let rest = items_made items noted both.back forms.1 lone.1 both.two in
     record {
@@ -161,11 +233,14 @@ items_made (item ∷ items) (one ∷ noted) its forms lone cover =
       remade = (first.remade, rest.remade);
       forms = (first.form, rest.forms);
       lones = (first.lone, rest.lones);
-      edits = subst (λ l. Edits Anywhere l (item ++ flat items) (first.made ++ flat rest.made) []) (sym both.is) (c.Joined first.edits rest.edits);
+      edits =
+          subst (λ l. Edits Anywhere l (item ++ flat items) (first.made ++ flat rest.made) [])
+              (sym both.is) (c.Joined first.edits rest.edits);
     }
 
--- THE CHANGES: the module with these changes is of items of which the same is told
-pub record Renewed (items : List (List Item)) (noted : List Noted) (its : List Change) : Type 0 where
+-- the module with these changes is of items of which the same is told
+pub record Renewed (items : List (List Item)) (noted : List Noted) (its : List Change) : Type
+        0 where
   pub made : List (List Item)
   pub others : List Noted
   pub remade : AllRemade noted made others
@@ -174,7 +249,17 @@ pub record Renewed (items : List (List Item)) (noted : List Noted) (its : List C
   pub edits : Edits Anywhere its (flat items) (flat made) []
   pub is : rebuilt (joined items) its ≡ joined made
 
-pub renewed : (items : List (List Item)) (noted : List Noted) (its : List Change) → AllOfForm items noted → AllZip NoLone items noted → AllZip KeepsText its (names_of (flat items)) → Renewed items noted its
+pub renewed : (items : List (List Item)) (noted : List Noted) (its : List Change) →
+    AllOfForm items noted → AllZip NoLone items noted →
+    AllZip KeepsText its (names_of (flat items)) → Renewed items noted its
 renewed items noted its forms lone cover =
     let all = items_made items noted its forms lone cover in
-    record { made = all.made; others = all.others; remade = all.remade; forms = all.forms; lones = all.lones; edits = all.edits; is = sym (rebuilt_so (record { rest = []; by = c.Inside 0 h.Module refl all.edits })) }
+    record {
+        made = all.made;
+        others = all.others;
+        remade = all.remade;
+        forms = all.forms;
+        lones = all.lones;
+        edits = all.edits;
+        is = sym (rebuilt_so (record { rest = []; by = c.Inside 0 h.Module refl all.edits }))
+    }

@@ -30,14 +30,21 @@ pub record Unnoted (xs first second : List Item) : Type 0 where
   pub one : without_notes front ≡ first
   pub two : without_notes back ≡ second
 
-pub unnoted : (xs first second : List Item) → without_notes xs ≡ first ++ second → Unnoted xs first second
+pub unnoted : (xs first second : List Item) → without_notes xs ≡ first ++ second →
+    Unnoted xs first second
 unnoted xs [] second e = record { front = []; back = xs; is = refl; one = refl; two = e }
 unnoted [] (x ∷ first) second e = absurd cc
 unnoted (y ∷ xs) (x ∷ first) second e =
     let here : without_note y ≡ x = cc in
     let behind : without_notes xs ≡ first ++ second = cc in
     let rest = unnoted xs first second behind in
-    record { front = y ∷ rest.front; back = rest.back; is = ap (λ l. y ∷ l) rest.is; one = (λ i. here i ∷ rest.one i); two = rest.two }
+    record {
+        front = y ∷ rest.front;
+        back = rest.back;
+        is = ap (λ l. y ∷ l) rest.is;
+        one = (λ i. here i ∷ rest.one i);
+        two = rest.two
+    }
 
 close_is : (x : Item) → without_note x ≡ h.Close → x ≡ h.Close
 close_is (h.Open field head) e = absurd cc
@@ -50,7 +57,8 @@ none_is [] e = refl
 none_is (x ∷ xs) e = absurd cc
 
 -- so many ends
-ends_are : (xs rest : List Item) → ((ys : List Item) → without_notes ys ≡ rest → ys ≡ rest) → without_notes xs ≡ h.Close ∷ rest → xs ≡ h.Close ∷ rest
+ends_are : (xs rest : List Item) → ((ys : List Item) → without_notes ys ≡ rest → ys ≡ rest) →
+    without_notes xs ≡ h.Close ∷ rest → xs ≡ h.Close ∷ rest
 ends_are [] rest later e = absurd cc
 ends_are (x ∷ xs) rest later e =
     let here : without_note x ≡ h.Close = cc in
@@ -58,7 +66,14 @@ ends_are (x ∷ xs) rest later e =
     λ i. close_is x here i ∷ later xs behind i
 
 function-ends : (xs : List Item) → without_notes xs ≡ function_ends → xs ≡ function_ends
-function-ends xs e = ends_are xs _ (λ a f. ends_are a _ (λ b g. ends_are b _ (λ c k. ends_are c _ (λ d l. ends_are d _ (λ x m. ends_are x _ (λ y n. ends_are y _ (λ z o. none_is z o) n) m) l) k) g) f) e
+function-ends xs e =
+    ends_are xs _
+        (λ a f. ends_are a _
+             (λ b g. ends_are b _
+                  (λ c k. ends_are c _
+                       (λ d l. ends_are d _
+                            (λ x m. ends_are x _ (λ y n. ends_are y _ (λ z o. none_is z o) n) m) l)
+                       k) g) f) e
 
 -- marked parts
 pub record PartsUnnoted (xs : List Item) (tolds : List Told) : Type 0 where
@@ -66,34 +81,61 @@ pub record PartsUnnoted (xs : List Item) (tolds : List Told) : Type 0 where
   pub is : xs ≡ flat parts
   pub marked : AllZip IsMarked parts tolds
 
-parts_unnoted : (xs : List Item) (parts : List (List Item)) (tolds : List Told) → AllZip IsMarked parts tolds → without_notes xs ≡ flat parts → PartsUnnoted xs tolds
+parts_unnoted : (xs : List Item) (parts : List (List Item)) (tolds : List Told) →
+    AllZip IsMarked parts tolds → without_notes xs ≡ flat parts → PartsUnnoted xs tolds
 parts_unnoted xs [] [] marked e = record { parts = []; is = none_is xs e; marked = tt }
 parts_unnoted xs [] (told ∷ tolds) marked e = absurd marked
 parts_unnoted xs (part ∷ parts) [] marked e = absurd marked
 parts_unnoted xs (part ∷ parts) (told ∷ tolds) marked e =
     let both = unnoted xs part (flat parts) e in
     let rest = parts_unnoted both.back parts tolds marked.1 both.two in
-    record { parts = both.front ∷ rest.parts; is = both.is ∙ ap (λ l. both.front ++ l) rest.is; marked = (noted marked.0 (alone_alone told.0) both.front both.one, rest.marked) }
+    record {
+        parts = both.front ∷ rest.parts;
+        is = both.is ∙ ap (λ l. both.front ++ l) rest.is;
+        marked = (noted marked.0 (alone_alone told.0) both.front both.one, rest.marked)
+    }
 
 cleared-flat : (parts : List (List Item)) → cleared (flat parts) ≡ flat (map cleared parts)
 cleared-flat [] = refl
-cleared-flat (part ∷ parts) = cleared-append part (flat parts) ∙ ap (λ l. cleared part ++ l) (cleared-flat parts)
+cleared-flat (part ∷ parts) =
+    cleared-append part (flat parts) ∙ ap (λ l. cleared part ++ l) (cleared-flat parts)
 
--- AN ITEM: what is the same but for notes and contexts is told the same
+-- an item that is the same but for notes and contexts is told the same
 pub record RemadeAs (one : Noted) (xs : List Item) : Type 0 where
   pub other : Noted
   pub remade : Remade one xs other
 
-pub remade_unnoted : {one other : Noted} {item : List Item} → Remade one item other → (xs : List Item) → without_notes xs ≡ cleared item → RemadeAs one xs
-remade_unnoted (remade_whole {told = told} marked) xs e = record { other = AsWhole told; remade = remade_whole (noted (marked-cleared marked (alone_alone told.0)) (alone_alone told.0) xs e) }
-remade_unnoted (remade_function {item = item} {old = old} {front = front} {names = names} {olds = olds} {insides = insides} {tolds = tolds} is blank marked) xs e =
-    let whole : without_notes xs ≡ cleared front ++ (flat (map cleared insides) ++ function_ends) = e ∙ ap cleared is ∙ cleared-append front (flat insides ++ function_ends) ∙ ap (λ l. cleared front ++ l) (cleared-append (flat insides) function_ends ∙ ap (λ l. l ++ function_ends) (cleared-flat insides)) in
+pub remade_unnoted : {one other : Noted} {item : List Item} → Remade one item other →
+    (xs : List Item) → without_notes xs ≡ cleared item → RemadeAs one xs
+remade_unnoted (remade_whole {told = told} marked) xs e = record {
+  other = AsWhole told;
+  remade =
+      remade_whole (noted (marked-cleared marked (alone_alone told.0)) (alone_alone told.0) xs e)
+}
+remade_unnoted
+    (remade_function {item = item} {old = old} {front = front} {names = names} {olds = olds}
+         {insides = insides} {tolds = tolds} is blank marked) xs e =
+    let whole : without_notes xs ≡ cleared front ++ (flat (map cleared insides) ++ function_ends) =
+        e
+            ∙ ap cleared is
+            ∙ cleared-append front (flat insides ++ function_ends)
+            ∙ ap (λ l. cleared front ++ l)
+                (cleared-append (flat insides) function_ends
+                     ∙ ap (λ l. l ++ function_ends) (cleared-flat insides)) in
     let one = unnoted xs (cleared front) (flat (map cleared insides) ++ function_ends) whole in
     let two = unnoted one.back (flat (map cleared insides)) function_ends one.two in
-    let its = parts_unnoted two.front (map cleared insides) tolds (items-cleared insides tolds marked) two.one in
+    let its =
+        parts_unnoted two.front (map cleared insides) tolds (items-cleared insides tolds marked)
+            two.one in
     record {
       other = AsFunction one.front names its.parts tolds;
-      remade = remade_function (one.is ∙ ap (λ l. one.front ++ l) (two.is ∙ (λ i. its.is i ++ function-ends two.back two.two i))) (sym (blanks-notes one.front) ∙ ap blanks one.one ∙ blanks-cleared front ∙ blank) its.marked;
+      remade =
+          remade_function
+              (one.is
+                   ∙ ap (λ l. one.front ++ l)
+                       (two.is ∙ (λ i. its.is i ++ function-ends two.back two.two i)))
+              (sym (blanks-notes one.front) ∙ ap blanks one.one ∙ blanks-cleared front ∙ blank)
+              its.marked;
     }
 
 pub record AllRemadeAs (noted : List Noted) (xs : List Item) : Type 0 where
@@ -102,8 +144,15 @@ pub record AllRemadeAs (noted : List Noted) (xs : List Item) : Type 0 where
   pub is : xs ≡ flat items
   pub remade : AllRemade noted items others
 
-pub all_unnoted : (noted : List Noted) (items : List (List Item)) (others : List Noted) → AllRemade noted items others → (xs : List Item) → without_notes xs ≡ flat (map cleared items) → AllRemadeAs noted xs
-all_unnoted [] [] [] remade xs e = record { items = []; others = []; is = none_is xs e; remade = tt }
+pub all_unnoted : (noted : List Noted) (items : List (List Item)) (others : List Noted) →
+    AllRemade noted items others → (xs : List Item) → without_notes xs ≡ flat (map cleared items) →
+    AllRemadeAs noted xs
+all_unnoted [] [] [] remade xs e = record {
+  items = [];
+  others = [];
+  is = none_is xs e;
+  remade = tt
+}
 all_unnoted [] [] (other ∷ others) remade xs e = absurd remade
 all_unnoted [] (item ∷ items) others remade xs e = absurd remade
 all_unnoted (one ∷ noted) [] others remade xs e = absurd remade
@@ -112,7 +161,12 @@ all_unnoted (one ∷ noted) (item ∷ items) (other ∷ others) remade xs e =
     let both = unnoted xs (cleared item) (flat (map cleared items)) e in
     let first = remade_unnoted remade.0 both.front both.one in
     let rest = all_unnoted noted items others remade.1 both.back both.two in
-    record { items = both.front ∷ rest.items; others = first.other ∷ rest.others; is = both.is ∙ ap (λ l. both.front ++ l) rest.is; remade = (first.remade, rest.remade) }
+    record {
+        items = both.front ∷ rest.items;
+        others = first.other ∷ rest.others;
+        is = both.is ∙ ap (λ l. both.front ++ l) rest.is;
+        remade = (first.remade, rest.remade)
+    }
 
 -- a module
 module-head : (head : Head) → cleared_head head ≡ h.Module → head ≡ h.Module
@@ -131,32 +185,42 @@ module-begins (h.Ident field x c role) e = absurd cc
 module-begins (h.Hole field) e = absurd cc
 module-begins h.Close e = absurd cc
 
--- THE MODULE
+-- a module that is the same but for notes and contexts is of such items
 pub record ModuleRemade (noted : List Noted) (tree : List Item) : Type 0 where
   pub items : List (List Item)
   pub others : List Noted
   pub is : tree ≡ joined items
   pub remade : AllRemade noted items others
 
-pub module_unnoted : (noted : List Noted) (items : List (List Item)) (others : List Noted) → AllRemade noted items others → (tree : List Item) → without_notes tree ≡ cleared (joined items) → ModuleRemade noted tree
+pub module_unnoted : (noted : List Noted) (items : List (List Item)) (others : List Noted) →
+    AllRemade noted items others → (tree : List Item) →
+    without_notes tree ≡ cleared (joined items) → ModuleRemade noted tree
 module_unnoted noted items others remade [] e = absurd cc
 module_unnoted noted items others remade (x ∷ xs) e =
     let first : without_note x ≡ h.Open 0 h.Module = cc in
     let later : without_notes xs ≡ cleared (flat items ++ h.Close ∷ []) = cc in
-    let both = unnoted xs (flat (map cleared items)) (h.Close ∷ []) (later ∙ cleared-append (flat items) (h.Close ∷ []) ∙ ap (λ l. l ++ h.Close ∷ []) (cleared-flat items)) in
+    let both =
+        unnoted xs (flat (map cleared items)) (h.Close ∷ [])
+            (later
+                 ∙ cleared-append (flat items) (h.Close ∷ [])
+                 ∙ ap (λ l. l ++ h.Close ∷ []) (cleared-flat items)) in
     let all = all_unnoted noted items others remade both.front both.one in
     record {
       items = all.items;
       others = all.others;
-      is = λ i. module-begins x first i ∷ (both.is ∙ (λ j. all.is j ++ ends_are both.back [] none_is both.two j)) i;
+      is =
+          λ i. module-begins x first i ∷
+              (both.is ∙ (λ j. all.is j ++ ends_are both.back [] none_is both.two j)) i;
       remade = all.remade;
     }
 
 -- Nodes without names.
 
 -- what is no end and no beginning
-blank-open : (x : Item) (field : ℕ) (head : Head) → blank x ≡ h.Open field head → (its : Head) × (x ≡ h.Open field its)
-blank-open (h.Open f its) field head e = let same : f ≡ field = cc in (its, ap (λ n. h.Open n its) same)
+blank-open : (x : Item) (field : ℕ) (head : Head) → blank x ≡ h.Open field head →
+    (its : Head) × (x ≡ h.Open field its)
+blank-open (h.Open f its) field head e =
+    let same : f ≡ field = cc in (its, ap (λ n. h.Open n its) same)
 blank-open (h.Ident f x c r.Word) field head e = absurd cc
 blank-open (h.Ident f x c r.Binding) field head e = absurd cc
 blank-open (h.Ident f x c r.Reference) field head e = absurd cc
@@ -171,7 +235,9 @@ blank-close (h.Ident f x c r.Reference) e = absurd cc
 blank-close (h.Hole f) e = absurd cc
 blank-close h.Close e = refl
 
-blank-name : (x : Item) (field : ℕ) (y : Text) (c : ℕ) (role : Role) → blank x ≡ blank (h.Ident field y c role) → (rest : List Item) → AreNodes rest → AreNodes (x ∷ rest)
+blank-name : (x : Item) (field : ℕ) (y : Text) (c : ℕ) (role : Role) →
+    blank x ≡ blank (h.Ident field y c role) → (rest : List Item) → AreNodes rest →
+    AreNodes (x ∷ rest)
 blank-name (h.Open f its) field y c r.Word e rest more = absurd cc
 blank-name (h.Open f its) field y c r.Binding e rest more = absurd cc
 blank-name (h.Open f its) field y c r.Reference e rest more = absurd cc
@@ -181,7 +247,8 @@ blank-name h.Close field y c r.Word e rest more = absurd cc
 blank-name h.Close field y c r.Binding e rest more = absurd cc
 blank-name h.Close field y c r.Reference e rest more = absurd cc
 
-blank-hole : (x : Item) (field : ℕ) → blank x ≡ h.Hole field → (rest : List Item) → AreNodes rest → AreNodes (x ∷ rest)
+blank-hole : (x : Item) (field : ℕ) → blank x ≡ h.Hole field → (rest : List Item) → AreNodes rest →
+    AreNodes (x ∷ rest)
 blank-hole (h.Open f its) field e rest more = absurd cc
 blank-hole (h.Ident f x k role) field e rest more = nodes.name more
 blank-hole (h.Hole f) field e rest more = nodes.hole more
@@ -201,18 +268,26 @@ blanked (y ∷ xs) (x ∷ first) second e =
     let here : x ≡ blank y = cc in
     let behind : blanks xs ≡ first ++ second = cc in
     let rest = blanked xs first second behind in
-    record { front = y ∷ rest.front; back = rest.back; is = ap (λ l. y ∷ l) rest.is; one = (λ i. here i ∷ rest.one i); two = rest.two }
+    record {
+        front = y ∷ rest.front;
+        back = rest.back;
+        is = ap (λ l. y ∷ l) rest.is;
+        one = (λ i. here i ∷ rest.one i);
+        two = rest.two
+    }
 
 pub blanks-append : (xs ys : List Item) → blanks (xs ++ ys) ≡ blanks xs ++ blanks ys
 blanks-append [] ys = refl
 blanks-append (x ∷ xs) ys = ap (λ l. blank x ∷ l) (blanks-append xs ys)
 
--- NODES: whether elements are whole nodes does not depend on names
-pub nodes-blank : {xs : List Item} → AreNodes xs → (ys : List Item) → blanks xs ≡ blanks ys → AreNodes ys
+-- whether elements are whole nodes does not depend on names
+pub nodes-blank : {xs : List Item} → AreNodes xs → (ys : List Item) → blanks xs ≡ blanks ys →
+    AreNodes ys
 nodes-blank nodes.nothing [] e = nodes.nothing
 nodes-blank nodes.nothing (y ∷ ys) e = absurd cc
 nodes-blank (nodes.name more) [] e = absurd cc
-nodes-blank (nodes.name {field = field} {ctxt = c} {sym = x} {role = role} {rest = rest} more) (y ∷ ys) e =
+nodes-blank (nodes.name {field = field} {ctxt = c} {sym = x} {role = role} {rest = rest} more)
+    (y ∷ ys) e =
     let first : blank y ≡ blank (h.Ident field x c role) = cc in
     let later : blanks rest ≡ blanks ys = cc in
     blank-name y field x c role first ys (nodes-blank more ys later)
@@ -222,19 +297,26 @@ nodes-blank (nodes.hole {field = field} {rest = rest} more) (y ∷ ys) e =
     let later : blanks rest ≡ blanks ys = cc in
     blank-hole y field first ys (nodes-blank more ys later)
 nodes-blank (nodes.node in_it more) [] e = absurd cc
-nodes-blank (nodes.node {field = field} {head = head} {inside = inside} {rest = rest} in_it more) (y ∷ ys) e =
+nodes-blank (nodes.node {field = field} {head = head} {inside = inside} {rest = rest} in_it more)
+    (y ∷ ys) e =
     let first : blank y ≡ h.Open field (cleared_head head) = cc in
     let later : blanks ys ≡ blanks (inside ++ h.Close ∷ rest) = cc in
     let begun = blank-open y field (cleared_head head) first in
-    let both = blanked ys (blanks inside) (h.Close ∷ blanks rest) (later ∙ blanks-append inside (h.Close ∷ rest)) in
-    behind begun.0 begun.1 both.front both.back both.is both.two (nodes-blank in_it both.front both.one) (λ zs same. nodes-blank more zs same)
+    let both =
+        blanked ys (blanks inside) (h.Close ∷ blanks rest)
+            (later ∙ blanks-append inside (h.Close ∷ rest)) in
+    behind begun.0 begun.1 both.front both.back both.is both.two
+        (nodes-blank in_it both.front both.one) (λ zs same. nodes-blank more zs same)
   where
-    behind : (its : Head) → y ≡ h.Open field its → (front back : List Item) → ys ≡ front ++ back → blanks back ≡ h.Close ∷ blanks rest → AreNodes front → ((zs : List Item) → blanks rest ≡ blanks zs → AreNodes zs) → AreNodes (y ∷ ys)
+    behind : (its : Head) → y ≡ h.Open field its → (front back : List Item) → ys ≡ front ++ back →
+        blanks back ≡ h.Close ∷ blanks rest → AreNodes front →
+        ((zs : List Item) → blanks rest ≡ blanks zs → AreNodes zs) → AreNodes (y ∷ ys)
     behind its begins front [] is e in_front ih = absurd cc
     behind its begins front (z ∷ back) is e in_front ih =
         let close : blank z ≡ h.Close = cc in
         let last : blanks rest ≡ blanks back = cc in
-        let all : y ∷ ys ≡ h.Open field its ∷ (front ++ h.Close ∷ back) = λ i. begins i ∷ (is ∙ ap (λ l. front ++ l ∷ back) (blank-close z close)) i in
+        let all : y ∷ ys ≡ h.Open field its ∷ (front ++ h.Close ∷ back) =
+            λ i. begins i ∷ (is ∙ ap (λ l. front ++ l ∷ back) (blank-close z close)) i in
         subst AreNodes (sym all) (nodes.node in_front (ih back last))
 
 -- how many stand there does not depend on names either

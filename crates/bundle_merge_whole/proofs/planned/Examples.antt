@@ -10,10 +10,11 @@ use Rattle.bundle_rules.specs.Bundle.{AsModule, Own, Helps, Defines, Loads, exte
 use Rattle.bundle_rules.proofs.Trees.{imports, imports_bare, requires}
 use Rattle.bundle_rules.proofs.Programs.{main_js, loaded}
 use Rattle.bundle_rules.proofs.BundleExamples as e
+use Rattle.bundle_link_targets.specs.Taken as picks
 use Rattle.bundle_merge_whole.specs.planned.Decided as d
 use Rattle.bundle_merge_whole.specs.planned.Decided.{Decided, DecidedBlock, DecidedExternal, DecidedLoad, AreDecided, HandsOut, IsModuleDecided, IsBlockDecided, plan_of, taken_modules}
 use Rattle.bundle_merge_whole.proofs.planned.ListLemmas.{no_element}
-use Rattle.bundle_merge_whole.proofs.planned.ElementLemmas.{first_or_later}
+use Rattle.bundle_link_reached.proofs.ElementLemmas.{first_or_later}
 
 -- ---- `f(1);` alone
 abbrev alone : Decided
@@ -34,7 +35,8 @@ alone_plan : plan_of alone ([] ∷ []) ≡ Own 0 0 ∷ []
 alone_plan = refl
 
 no_exports : HandsOut (e.p e.as_module) AsModule → false ≡ true
-no_exports (d.exported {x} linked) = absurd (e.gives_nothing e.as_module 0 x linked.0 linked.1.origin refl linked.1.given)
+no_exports (d.exported {x} linked) =
+    absurd (e.gives_nothing e.as_module 0 x linked.0 linked.1.origin refl linked.1.given)
 
 module_zero : IsModuleDecided (e.p e.as_module) alone 0
 module_zero = record {
@@ -43,7 +45,8 @@ module_zero = record {
   taken = λ load c. absurd (no_element c);
   meta = refl;
   statements = refl;
-  object = (λ t. absurd (true≢false (sym t)), λ means. absurd (e.meant_nothing e.as_module _ means));
+  object =
+      (λ t. absurd (true≢false (sym t)), λ means. absurd (e.meant_nothing e.as_module _ means));
 }
 
 block_zero : IsBlockDecided (e.p e.as_module) (record { modules = 0 ∷ []; is_sorted = false })
@@ -55,15 +58,22 @@ block_zero = record {
 is_decided : AreDecided (e.p e.as_module) AsModule alone
 is_decided = record {
   list = listed (λ c. no_element c) finished finished;
-  modules = λ m c. elim (first_or_later 0 [] m c) [ inl same ↦ subst (IsModuleDecided (e.p e.as_module) alone) same module_zero | inr none ↦ absurd (no_element none) ];
+  modules =
+      λ m c. elim (first_or_later 0 [] m c)
+          [ inl same ↦ subst (IsModuleDecided (e.p e.as_module) alone) same module_zero | inr none ↦ absurd (no_element none) ];
   outside = tt;
-  starred = d.nothing;
+  starred = picks.nothing;
   exports = (λ t. absurd (true≢false (sym t)), no_exports);
-  blocks = g.BlocksOf.ends (itself, itself) (λ y c s. no_element c) (g.Members.kept (itself, itself) g.Members.nothing) g.BlocksOf.over;
-  kinds = λ block c. elim (first_or_later (record { modules = 0 ∷ []; is_sorted = false }) [] block c) [ inl same ↦ subst (IsBlockDecided (e.p e.as_module)) same block_zero | inr none ↦ absurd (no_element none) ];
+  blocks =
+      g.BlocksOf.ends (itself, itself) (λ y c s. no_element c)
+          (g.Members.kept (itself, itself) g.Members.nothing) g.BlocksOf.over;
+  kinds =
+      λ block c. elim (first_or_later (record { modules = 0 ∷ []; is_sorted = false }) [] block c)
+          [ inl same ↦ subst (IsBlockDecided (e.p e.as_module)) same block_zero | inr none ↦ absurd (no_element none) ];
 }
 
--- ---- `import './x'; import d from './y';` where both are the script 7, which requires itself and asks for an external
+-- ---- `import './x'; import d from './y';` where both are the script 7, which requires itself and
+-- asks for an external
 abbrev main : List Item
 main = imports_bare (codes "./x") ++ imports (codes "default") (codes "d") (codes "./y")
 
@@ -71,11 +81,18 @@ abbrev script : List Item
 script = requires (codes "./z") ++ requires (codes "ext")
 
 abbrev module_at : ℕ → Option Loaded
-module_at m = cond (m == 4) (Some (loaded main_js main)) (cond (m == 7) (Some (loaded main_js script)) None)
+module_at m =
+    cond (m == 4) (Some (loaded main_js main)) (cond (m == 7) (Some (loaded main_js script)) None)
 
 abbrev two : Program
 two = record {
-  settings = record { require = true; external = codes "ext" ∷ []; iife = false; renames = true; most_modules = 9 };
+  settings = record {
+    require = true;
+    external = codes "ext" ∷ [];
+    iife = false;
+    renames = true;
+    most_modules = 9
+  };
   entry = 4;
   count = 8;
   files = λ m. Some main_js;
@@ -90,7 +107,8 @@ one_request = refl
 one_load : taken_modules two 4 (λ c. c == 7) ≡ 7 ∷ []
 one_load = refl
 
--- the script requests itself, asks for nothing by declarations, and its external is none of the bundle's
+-- the script requests itself, asks for nothing by declarations, and its external is none of the
+-- bundle's
 its_request : requested two 7 ≡ 7 ∷ []
 its_request = refl
 
@@ -101,14 +119,18 @@ abbrev of_two : Decided
 of_two = record {
   list = 7 ∷ 4 ∷ [];
   is_common_js = λ m. m == 7;
-  loads = λ m. cond (m == 4) (record { «module» = 7; names = codes "default" ∷ []; whole = false } ∷ []) [];
+  loads =
+      λ m. cond (m == 4) (record { «module» = 7; names = codes "default" ∷ []; whole = false } ∷ [])
+          [];
   has_meta = λ m. false;
   statements = λ m. cond (m == 7) 2 0;
   is_object_meant = λ m. false;
   externals = [];
   stars = [];
   exports = false;
-  blocks = record { modules = 7 ∷ []; is_sorted = true } ∷ record { modules = 4 ∷ []; is_sorted = false } ∷ [];
+  blocks =
+      record { modules = 7 ∷ []; is_sorted = true } ∷ record { modules = 4 ∷ []; is_sorted = false }
+          ∷ [];
 }
 
 plan_of_two : plan_of of_two ((0 ∷ []) ∷ [] ∷ []) ≡ Helps ∷ Defines 7 ∷ Loads 4 7 ∷ []

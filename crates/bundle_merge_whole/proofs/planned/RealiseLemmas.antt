@@ -9,14 +9,23 @@ use Rattle.bundle_rules.specs.Bundle.{Hooks, Form, Labelled, ItemMeans, Realises
 use Rattle.bundle_merge_whole.specs.planned.Decided.{DecidedExternal, DecidedLoad, IsExternalDecided, IsLoadDecided}
 
 module _ (p : Program) (hooks : Hooks) (form : Form) (on : Labelled) (item : TopItem) where
-  pub names-realised : (e : DecidedExternal) (s : Text) → IsExternalDecided p e s → ItemMeans on item (import_names e.specifier e.names) → Realises p hooks form on item (ImportsNames e.specifier)
-  names-realised e s its means = subst (λ t. ItemMeans on item (import_names t e.names) → Realises p hooks form on item (ImportsNames t)) (sym its.same) (λ m. b.imports_names e.names its.names m) means
+  pub names-realised : (e : DecidedExternal) (s : Text) → IsExternalDecided p e s →
+      ItemMeans on item (import_names e.specifier e.names) →
+      Realises p hooks form on item (ImportsNames e.specifier)
+  names-realised e s its means =
+      subst
+          (λ t. ItemMeans on item (import_names t e.names) → Realises p hooks form on item
+               (ImportsNames t)) (sym its.same) (λ m. b.imports_names e.names its.names m) means
 
-  pub whole-realised : (e : DecidedExternal) → ItemMeans on item (import_whole e.specifier) → Realises p hooks form on item (ImportsWhole e.specifier)
+  pub whole-realised : (e : DecidedExternal) → ItemMeans on item (import_whole e.specifier) →
+      Realises p hooks form on item (ImportsWhole e.specifier)
   whole-realised e means = b.imports_whole means
 
-  pub bare-realised : (e : DecidedExternal) → ItemMeans on item (import_bare e.specifier) → Realises p hooks form on item (ImportsNothing e.specifier)
+  pub bare-realised : (e : DecidedExternal) → ItemMeans on item (import_bare e.specifier) →
+      Realises p hooks form on item (ImportsNothing e.specifier)
   bare-realised e means = b.imports_nothing means
 
-  pub load-realised : (m : ℕ) (load : DecidedLoad) → IsLoadDecided p m load → ItemMeans on item (load_statement m load.«module» load.whole load.names) → Realises p hooks form on item (Loads m load.«module»)
+  pub load-realised : (m : ℕ) (load : DecidedLoad) → IsLoadDecided p m load →
+      ItemMeans on item (load_statement m load.«module» load.whole load.names) →
+      Realises p hooks form on item (Loads m load.«module»)
   load-realised m load its means = b.loads load.whole load.names its.names its.whole means

@@ -18,33 +18,32 @@ use Rattle.bundle_rules.specs.Denotes.{Denoted}
 use Rattle.bundle_rules.specs.Statements.{Element}
 use Rattle.bundle_rules.specs.Bundle.{IsUsed, AsksCommonJs, externals}
 use Rattle.bundle_order_sort.proofs.OnceLemmas.{IsOnce, IsOnce-from_distinct}
-use Rattle.bundle_merge_whole.proofs.planned.ElementLemmas.{first_or_later, filter_back, filter_on, some_on, found}
-use Rattle.bundle_merge_whole.proofs.planned.AskedLemmas.{flat_back, flat_on, import_asks, entry_asks, star_asks}
+use Rattle.bundle_link_reached.proofs.ElementLemmas.{first_or_later, filter_back, filter_on, some_on, found}
+use Rattle.bundle_link_index.proofs.AskedLemmas.{flat_back, flat_on, entry_asks, star_asks}
+use Rattle.bundle_link_reached.proofs.AskedLemmas.{bound_asks, resolved_inside}
 use Rattle.bundle_merge_whole.proofs.planned.ListLemmas.{no_element, here, numbers-on, passes, texts-back, texts-on}
 
 -- ---- requests
--- what is a module is not external
-pub resolved_inside : (p : Program) (m d : ℕ) (s : Text) → resolves p m s ≡ Some d → is_external p s ≡ false
-resolved_inside p m d s is = by (is_external p s) refl is
-  where
-    by : (b : Bool) → is_external p s ≡ b → (if b then None else p.leads m s) ≡ Some d → is_external p s ≡ false
-    by true at is = absurd (none-some d is)
-    by false at is = at
-
 -- the module to which what a declaration asks for leads is requested
-pub declared_leads : (p : Program) (m d : ℕ) (s : Text) → Contains (declared_requests (tree_of p m)) s → resolves p m s ≡ Some d → Requests p m d
+pub declared_leads : (p : Program) (m d : ℕ) (s : Text) →
+    Contains (declared_requests (tree_of p m)) s → resolves p m s ≡ Some d → Requests p m d
 declared_leads p m d s there leads =
     numbers-on _ d (some_on (resolves p m) (requests_of p.settings (is_free (tree_of p m)) (tree_of p m)) s d
-    (texts-on _ s (Contains-append_left _ _ s (filter_on (λ s. not (has_text s p.settings.external)) (declared_requests (tree_of p m)) s there (ap not (resolved_inside p m d s leads)))))
+    (texts-on _ s
+         (Contains-append_left _ _ s
+              (filter_on (λ s. not (has_text s p.settings.external))
+                   (declared_requests (tree_of p m)) s there
+                   (ap not (resolved_inside p m d s leads)))))
     leads)
 
--- the specifier of the import that binds a name
-pub bound_asks : (tree : List Item) (y : Text) (entry : ImportEntry) → import_of (imports_of tree) y ≡ Some entry → Contains (declared_requests tree) entry.specifier
-bound_asks tree y entry is = import_asks tree entry (found (λ it. bytes_eq it.local y) (imports_of tree) entry is)
-
 -- ---- the list
-pub list-reached : (p : Program) (list : List ℕ) → IsList p list → (m : ℕ) → Contains list m ↔ IsReached p m
-list-reached p list is m = (forth, λ w. back w (elim (Contains-append_cases [] list p.entry (Lists-takes is p.entry (here p.entry []))) [ inl none ↦ absurd (no_element none) | inr c ↦ c ]))
+pub list-reached : (p : Program) (list : List ℕ) → IsList p list → (m : ℕ) →
+    Contains list m ↔ IsReached p m
+list-reached p list is m =
+    (forth,
+         λ w. back w
+            (elim (Contains-append_cases [] list p.entry (Lists-takes is p.entry (here p.entry [])))
+                 [ inl none ↦ absurd (no_element none) | inr c ↦ c ]))
   where
     forth : Contains list m → IsReached p m
     forth c = elim (Lists-sound is m c) [
@@ -57,31 +56,56 @@ list-reached p list is m = (forth, λ w. back w (elim (Contains-append_cases [] 
 
     back : {a : ℕ} → Reaches (Requests p) a m → Contains list a → Contains list m
     back itself c = c
-    back {a = a} (along {b} e w) c = back w (Lists-closed is (λ x y d f. absurd (no_element d)) a b c e)
+    back {a = a} (along {b} e w) c =
+        back w (Lists-closed is (λ x y d f. absurd (no_element d)) a b c e)
 
 pub list-once : (p : Program) (list : List ℕ) → IsList p list → IsOnce list
-list-once p list is = IsOnce-from_distinct list (Lists-apart is (record { once = IsDistinct-from_apart nat_eq [] (λ i j d h k. absurd (omega (arith, k))); other = λ x c d. no_element c })).once
+list-once p list is =
+    IsOnce-from_distinct list
+        (Lists-apart is (record { once = IsDistinct-from_apart nat_eq [] (λ i j d h k. absurd (omega (arith, k))); other = λ x c d. no_element c })).once
 
 -- ---- externals
-pub used-listed : (p : Program) (list : List ℕ) → IsList p list → (s : Text) → IsUsed p s → Contains (externals p list) s
+pub used-listed : (p : Program) (list : List ℕ) → IsList p list → (s : Text) → IsUsed p s →
+    Contains (externals p list) s
 used-listed p list is s used =
     texts-on _ s (filter_on (λ s. is_external p s) (flat_map (λ m. declared_requests (tree_of p m)) list) s
-    (flat_on (λ m. declared_requests (tree_of p m)) list used.«module» s ((list-reached p list is used.«module»).1 used.reached) used.asks)
+    (flat_on (λ m. declared_requests (tree_of p m)) list used.«module» s
+         ((list-reached p list is used.«module»).1 used.reached) used.asks)
     used.external)
 
-pub listed-used : (p : Program) (list : List ℕ) → IsList p list → (s : Text) → Contains (externals p list) s → IsUsed p s
+pub listed-used : (p : Program) (list : List ℕ) → IsList p list → (s : Text) →
+    Contains (externals p list) s → IsUsed p s
 listed-used p list is s c =
     let kept = texts-back _ s c in
-    let r = flat_back (λ m. declared_requests (tree_of p m)) list s (filter_back (λ s. is_external p s) (flat_map (λ m. declared_requests (tree_of p m)) list) s kept) in
-    record { «module» = r.0; reached = (list-reached p list is r.0).0 r.1; asks = r.2; external = passes (λ s. is_external p s) (flat_map (λ m. declared_requests (tree_of p m)) list) s kept }
+    let r =
+        flat_back (λ m. declared_requests (tree_of p m)) list s
+            (filter_back (λ s. is_external p s)
+                 (flat_map (λ m. declared_requests (tree_of p m)) list) s kept) in
+    record {
+        «module» = r.0;
+        reached = (list-reached p list is r.0).0 r.1;
+        asks = r.2;
+        external =
+            passes (λ s. is_external p s) (flat_map (λ m. declared_requests (tree_of p m)) list) s
+                kept
+    }
 
-pub star-used : (p : Program) {m : ℕ} {s : Text} → HasExternalStar p m s → IsReached p m → IsUsed p s
-star-used p (own {m} {s} there outside) reached = record { «module» = m; reached = reached; asks = star_asks (tree_of p m) s there; external = outside }
+pub star-used : (p : Program) {m : ℕ} {s : Text} → HasExternalStar p m s → IsReached p m →
+    IsUsed p s
+star-used p (own {m} {s} there outside) reached = record {
+  «module» = m;
+  reached = reached;
+  asks = star_asks (tree_of p m) s there;
+  external = outside
+}
 star-used p (through {m} {d} {r} {s} there leads more) reached =
-    star-used p more (Reaches-trans reached (along (declared_leads p m d r (star_asks (tree_of p m) r there) leads) itself))
+    star-used p more
+        (Reaches-trans reached
+             (along (declared_leads p m d r (star_asks (tree_of p m) r there) leads) itself))
 
 -- ---- targets
--- a namespace is that of a reached module, an external is asked for by one, and a CommonJS module is asked for by the one that takes of it
+-- a namespace is that of a reached module, an external is asked for by one, and a CommonJS module
+-- is asked for by the one that takes of it
 abbrev pub IsReachedTarget : Program → Target → Type 0
 IsReachedTarget p (Declared m x) = Unit {0}
 IsReachedTarget p (Namespace d) = IsReached p d
@@ -93,43 +117,68 @@ IsReachedLabel p (Of t) = IsReachedTarget p t
 IsReachedLabel p _ = Unit {0}
 
 module _ (p : Program) where
-  takes-reached : {m : ℕ} {s : Text} {its : Taken} {t : Target} → Takes p m s its t → IsReached p m → Contains (declared_requests (tree_of p m)) s → IsReachedTarget p t
-  takes-reached {m = m} (of_external outside) reached asks = record { «module» = m; reached = reached; asks = asks; external = outside }
-  takes-reached (of_common_js {s} {taken} {c} leads cjs) reached asks = (reached, record { specifier = s; asks = asks; resolved = leads; common_js = cjs })
-  takes-reached {m = m} (of_module {s} {d} it) reached asks = Reaches-trans reached (along (declared_leads p m d s asks it.resolved) itself)
+  takes-reached : {m : ℕ} {s : Text} {its : Taken} {t : Target} → Takes p m s its t →
+      IsReached p m → Contains (declared_requests (tree_of p m)) s → IsReachedTarget p t
+  takes-reached {m = m} (of_external outside) reached asks = record {
+    «module» = m;
+    reached = reached;
+    asks = asks;
+    external = outside
+  }
+  takes-reached (of_common_js {s} {taken} {c} leads cjs) reached asks =
+      (reached, record { specifier = s; asks = asks; resolved = leads; common_js = cjs })
+  takes-reached {m = m} (of_module {s} {d} it) reached asks =
+      Reaches-trans reached (along (declared_leads p m d s asks it.resolved) itself)
 
-  module-reached : {m d : ℕ} {s : Text} → IsModule p m s d → IsReached p m → Contains (declared_requests (tree_of p m)) s → IsReached p d
-  module-reached {m = m} {d = d} {s = s} it reached asks = Reaches-trans reached (along (declared_leads p m d s asks it.resolved) itself)
+  module-reached : {m d : ℕ} {s : Text} → IsModule p m s d → IsReached p m →
+      Contains (declared_requests (tree_of p m)) s → IsReached p d
+  module-reached {m = m} {d = d} {s = s} it reached asks =
+      Reaches-trans reached (along (declared_leads p m d s asks it.resolved) itself)
 
-  gives-reached : {m : ℕ} {x : Text} {t : Target} {origin : Option Origin} → Gives p m x t origin → IsReached p m → IsReachedTarget p t
+  gives-reached : {m : ℕ} {x : Text} {t : Target} {origin : Option Origin} → Gives p m x t origin →
+      IsReached p m → IsReachedTarget p t
   gives-reached (declaration there none) reached = tt
-  gives-reached (namespace_import {m} {x} {y} {t} entry there found takes) reached = takes-reached takes reached (bound_asks (tree_of p m) y entry found)
-  gives-reached (taken {m} {x} {s} {what} {t} there takes) reached = takes-reached takes reached (entry_asks (tree_of p m) x s what there)
-  gives-reached (given_on {m} {d} {x} {s} {y} {t} {origin} there its gives) reached = gives-reached gives (module-reached its reached (entry_asks (tree_of p m) x s (Named y) there))
-  gives-reached (starred {m} {d} {x} {s} {t} {origin} none other there its gives) reached = gives-reached gives (module-reached its reached (star_asks (tree_of p m) s there))
+  gives-reached (namespace_import {m} {x} {y} {t} entry there found takes) reached =
+      takes-reached takes reached (bound_asks (tree_of p m) y entry found)
+  gives-reached (taken {m} {x} {s} {what} {t} there takes) reached =
+      takes-reached takes reached (entry_asks (tree_of p m) x s what there)
+  gives-reached (given_on {m} {d} {x} {s} {y} {t} {origin} there its gives) reached =
+      gives-reached gives
+          (module-reached its reached (entry_asks (tree_of p m) x s (Named y) there))
+  gives-reached (starred {m} {d} {x} {s} {t} {origin} none other there its gives) reached =
+      gives-reached gives (module-reached its reached (star_asks (tree_of p m) s there))
 
-  pub linked-reached : {m : ℕ} {x : Text} {t : Target} → Linked p m x t → IsReached p m → IsReachedTarget p t
+  pub linked-reached : {m : ℕ} {x : Text} {t : Target} → Linked p m x t → IsReached p m →
+      IsReachedTarget p t
   linked-reached linked reached = gives-reached linked.given reached
 
-  stands-reached : {m : ℕ} {x : Text} {t : Target} → StandsFor p m x t → IsReached p m → IsReachedTarget p t
+  stands-reached : {m : ℕ} {x : Text} {t : Target} → StandsFor p m x t → IsReached p m →
+      IsReachedTarget p t
   stands-reached (declared there none) reached = tt
-  stands-reached {m = m} (imported {x} {y} {d} {t} entry found name its linked) reached = linked-reached linked (module-reached its reached (bound_asks (tree_of p m) x entry found))
-  stands-reached {m = m} (taken_whole {x} {t} entry found takes) reached = takes-reached takes reached (bound_asks (tree_of p m) x entry found)
+  stands-reached {m = m} (imported {x} {y} {d} {t} entry found name its linked) reached =
+      linked-reached linked (module-reached its reached (bound_asks (tree_of p m) x entry found))
+  stands-reached {m = m} (taken_whole {x} {t} entry found takes) reached =
+      takes-reached takes reached (bound_asks (tree_of p m) x entry found)
 
-  reads-reached : {m place : ℕ} {t : Target} → ReadsAs p m place t → IsReached p m → IsReachedTarget p t
+  reads-reached : {m place : ℕ} {t : Target} → ReadsAs p m place t → IsReached p m →
+      IsReachedTarget p t
   reads-reached (by_name denotes stands) reached = stands-reached stands reached
-  reads-reached (by_read {place} {d} {x} {t} word reads linked) reached = linked-reached linked (reads-reached reads reached)
+  reads-reached (by_read {place} {d} {x} {t} word reads linked) reached =
+      linked-reached linked (reads-reached reads reached)
 
-  replaced-reached : {m place : ℕ} {by : Replacement} → Replaced p m place by → IsReached p m → IsReachedLabel p (label_of by)
+  replaced-reached : {m place : ℕ} {by : Replacement} → Replaced p m place by → IsReached p m →
+      IsReachedLabel p (label_of by)
   replaced-reached (static_read word reads) reached = reads-reached reads reached
   replaced-reached (import_meta is) reached = tt
   replaced-reached (require_call call there at leads) reached = tt
 
-  owns-reached : {m : ℕ} {d : Denoted} {l : Label} → OwnName p m d l → IsReached p m → IsReachedLabel p l
+  owns-reached : {m : ℕ} {d : Denoted} {l : Label} → OwnName p m d l → IsReached p m →
+      IsReachedLabel p l
   owns-reached (at_top stands) reached = stands-reached stands reached
   owns-reached parameter reached = tt
 
-  says-reached : {m : ℕ} {e : Element} {l : Label} → SaysAt p m e l → IsReached p m → IsReachedLabel p l
+  says-reached : {m : ℕ} {e : Element} {l : Label} → SaysAt p m e l → IsReached p m →
+      IsReachedLabel p l
   says-reached (says_name kind denotes owns) reached = owns-reached owns reached
   says-reached (says_node replaced) reached = replaced-reached replaced reached
 
@@ -137,4 +186,5 @@ module _ (p : Program) where
   pub meant-reached : {l : Label} → IsMeant p l → IsReachedLabel p l
   meant-reached (by_statement reached stated there left says) = says-reached says reached
   meant-reached (by_export linked) = linked-reached linked itself
-  meant-reached (by_namespace {d} {x} {t} meant linked) = linked-reached linked (meant-reached meant)
+  meant-reached (by_namespace {d} {x} {t} meant linked) =
+      linked-reached linked (meant-reached meant)

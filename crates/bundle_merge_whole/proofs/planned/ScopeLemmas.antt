@@ -1,8 +1,11 @@
--- The scopes of a tree for which a context is taken, one each, are no more than its bindings; the first part is taken over from `bundle_contexts`.
+-- The scopes of a tree for which a context is taken, one each, are no more than its bindings. (That
+-- bindings that are
+-- denoted are no more than are counted is proved where trees are resolved too, but not handed on.)
 use Rattle.std.proofs.Common.{◌≡◌, ◌≤◌, ℕ, zero, suc, false, List, [], ◌∷◌, Some, length, map, refl, ap, sym, ◌∙◌, subst, arith}
 use Rattle.std.specs.Prelude.{slice_get}
 use Rattle.std.specs.List.{AllZip}
 use Rattle.std.proofs.lemmas.Option.{same_Some}
+use Rattle.std.proofs.lemmas.Slice.Zip.{AllZip-long}
 use Rattle.bundle_tree_piece.specs.Item.{Item}
 use Rattle.bundle_rules.specs.Scopes.{ModuleKind, Scope}
 use Rattle.bundle_rules.specs.Declarations.{BySymbol, Name}
@@ -30,15 +33,29 @@ record Denotes (kind : ModuleKind) (items : List Item) (table : Denotations) (b 
   pub denoted : slice_get (denotations BySymbol kind items) at ≡ Some (Bound scope name)
   pub is : IsBinding (map numbered table.scopes.items) table.bindings.items b scope name
 
-module _ (kind : ModuleKind) (items : List Item) (table : Denotations) (t : IsTable BySymbol kind items table) where
-  entry-denotes : (i b : ℕ) (entry : Entry) → slice_get table.occurrences.items i ≡ Some entry → entry.binding ≡ Some b → Denotes kind items table b
+module _ (kind : ModuleKind) (items : List Item) (table : Denotations)
+    (t : IsTable BySymbol kind items table) where
+  entry-denotes : (i b : ℕ) (entry : Entry) → slice_get table.occurrences.items i ≡ Some entry →
+      entry.binding ≡ Some b → Denotes kind items table b
   entry-denotes i b entry at is =
-      let found = AllZip-at (Tells (map numbered table.scopes.items) table.bindings.items) table.occurrences.items (denotations BySymbol kind items) i entry t.denotes at in
-      by_denoted found.0 found.1 (subst (λ k. IsDenoted (map numbered table.scopes.items) table.bindings.items k found.0) is found.2)
+      let found =
+          AllZip-at (Tells (map numbered table.scopes.items) table.bindings.items)
+              table.occurrences.items (denotations BySymbol kind items) i entry t.denotes at in
+      by_denoted found.0 found.1
+          (subst (λ k. IsDenoted (map numbered table.scopes.items) table.bindings.items k found.0)
+               is found.2)
     where
-      by_denoted : (d : Denoted) → slice_get (denotations BySymbol kind items) i ≡ Some d → IsDenoted (map numbered table.scopes.items) table.bindings.items (Some b) d → Denotes kind items table b
+      by_denoted : (d : Denoted) → slice_get (denotations BySymbol kind items) i ≡ Some d →
+          IsDenoted (map numbered table.scopes.items) table.bindings.items (Some b) d →
+          Denotes kind items table b
       by_denoted (Global x) there denoted = absurd denoted
-      by_denoted (Bound s m) there denoted = record { at = i; scope = s; name = m; denoted = there; is = denoted }
+      by_denoted (Bound s m) there denoted = record {
+        at = i;
+        scope = s;
+        name = m;
+        denoted = there;
+        is = denoted
+      }
 
 
   -- the key of a binding that is denoted
@@ -48,22 +65,37 @@ module _ (kind : ModuleKind) (items : List Item) (table : Denotations) (t : IsTa
   -- those that are denoted are no more than are counted
   count : (given : List ℕ) → AreDenoted table given → length given ≤ binding_count kind items
   unfolding HasKey
-  count given denoted = let fewer = pigeons HasKey one given (all_keys kind items) denoted.once beside in let len = all-length kind items in omega (arith, fewer, len)
+  count given denoted =
+      let fewer = pigeons HasKey one given (all_keys kind items) denoted.once beside in
+          let len = all-length kind items in omega (arith, fewer, len)
     where
       one : (a b : ℕ) (key : Key) → HasKey a key → HasKey b key → a ≡ b
       one a b key x y =
-          let keys : key_of x.0.scope x.0.name.sym ≡ key_of y.0.scope y.0.name.sym = sym x.1 ∙ y.1 in
-          let same = same-bound kind items table t x.0.scope y.0.scope x.0.name y.0.name (sound-at kind items table t x.0.at (Bound x.0.scope x.0.name) x.0.denoted) (sound-at kind items table t y.0.at (Bound y.0.scope y.0.name) y.0.denoted) (ap (λ (k : Key). k.0) keys) (ap (λ (k : Key). k.1) keys) in
-          t.one a b y.0.scope y.0.name (subst (λ m. IsBinding (map numbered table.scopes.items) table.bindings.items a y.0.scope m) same.1 (subst (λ s. IsBinding (map numbered table.scopes.items) table.bindings.items a s x.0.name) same.0 x.0.is)) y.0.is
+          let keys : key_of x.0.scope x.0.name.sym ≡ key_of y.0.scope y.0.name.sym =
+              sym x.1 ∙ y.1 in
+          let same =
+              same-bound kind items table t x.0.scope y.0.scope x.0.name y.0.name
+                  (sound-at kind items table t x.0.at (Bound x.0.scope x.0.name) x.0.denoted)
+                  (sound-at kind items table t y.0.at (Bound y.0.scope y.0.name) y.0.denoted)
+                  (ap (λ (k : Key). k.0) keys) (ap (λ (k : Key). k.1) keys) in
+          t.one a b y.0.scope y.0.name
+              (subst
+                   (λ m. IsBinding (map numbered table.scopes.items) table.bindings.items a
+                        y.0.scope m) same.1
+                   (subst
+                        (λ s. IsBinding (map numbered table.scopes.items) table.bindings.items a s
+                             x.0.name) same.0 x.0.is)) y.0.is
 
-      beside : (k b : ℕ) → slice_get given k ≡ Some b → (j : ℕ) × (key : Key) × (slice_get (all_keys kind items) j ≡ Some key) × HasKey b key
+      beside : (k b : ℕ) → slice_get given k ≡ Some b →
+          (j : ℕ) × (key : Key) × (slice_get (all_keys kind items) j ≡ Some key) × HasKey b key
       beside k b at =
           let entry = denoted.denoted k b at in
           let it = entry-denotes entry.0 b entry.1 entry.2 entry.3 in
           let listed = counted kind items it.at it.scope it.name it.denoted in
           (listed.0, key_of it.scope it.name.sym, listed.1, (it, refl))
 
-  -- a context is taken for each of these scopes: an occurrence denotes a binding of it, which is none of the top
+  -- a context is taken for each of these scopes: an occurrence denotes a binding of it, which is
+  -- none of the top
   pub record IsTaken (s b : ℕ) : Type 0 where
     pub binding : Binding
     pub at : slice_get table.bindings.items b ≡ Some binding
@@ -78,31 +110,38 @@ module _ (kind : ModuleKind) (items : List Item) (table : Denotations) (t : IsTa
     pub once : IsOnce scopes
     pub each : (k s : ℕ) → slice_get scopes k ≡ Some s → (b : ℕ) × IsTaken s b
 
-  bindings-of : (scopes : List ℕ) → ((k s : ℕ) → slice_get scopes k ≡ Some s → (b : ℕ) × IsTaken s b) → (given : List ℕ) × AllZip IsTaken scopes given
+  bindings-of : (scopes : List ℕ) →
+      ((k s : ℕ) → slice_get scopes k ≡ Some s → (b : ℕ) × IsTaken s b) →
+      (given : List ℕ) × AllZip IsTaken scopes given
   bindings-of [] each = ([], tt)
   bindings-of (s ∷ scopes) each =
       let first = each zero s refl in
       let rest = bindings-of scopes (λ k u e. each (suc k) u e) in
       (first.0 ∷ rest.0, (first.1, rest.1))
 
-  zip-length : (scopes given : List ℕ) → AllZip IsTaken scopes given → length scopes ≡ length given
-  zip-length [] [] z = refl
-  zip-length [] (b ∷ given) z = absurd z
-  zip-length (s ∷ scopes) [] z = absurd z
-  zip-length (s ∷ scopes) (b ∷ given) z = ap suc (zip-length scopes given z.1)
-
   same-scope : (s u b : ℕ) → IsTaken s b → IsTaken u b → s ≡ u
-  same-scope s u b x y = sym x.scope ∙ (ap (λ (it : Binding). it.scope) (same_Some x.binding y.binding (sym x.at ∙ y.at)) ∙ y.scope)
+  same-scope s u b x y =
+      sym x.scope
+          ∙ (ap (λ (it : Binding). it.scope) (same_Some x.binding y.binding (sym x.at ∙ y.at))
+              ∙ y.scope)
 
   -- the scopes are no more than the bindings
   pub scopes-below : (scopes : List ℕ) → AreTaken scopes → length scopes ≤ binding_count kind items
   scopes-below scopes taken =
       let chosen = bindings-of scopes taken.each in
-      let long = zip-length scopes chosen.0 chosen.1 in
-      let second = λ (k b : ℕ) (e : slice_get chosen.0 k ≡ Some b). AllZip-at_second IsTaken scopes chosen.0 k b chosen.1 e in
+      let long = AllZip-long IsTaken scopes chosen.0 chosen.1 in
+      let second =
+          λ (k b : ℕ) (e : slice_get chosen.0 k ≡ Some b). AllZip-at_second IsTaken scopes chosen.0
+              k b chosen.1 e in
       let fewer = count chosen.0 (record {
-        once = λ i j b e f. (let x = second i b e in let y = second j b f in taken.once i j x.0 x.1 (y.1 ∙ ap (λ (s : ℕ). Some s) (same-scope y.0 x.0 b y.2 x.2)));
-        denoted = λ k b e. (let x = second k b e in (x.2.place, x.2.entry, x.2.stands, x.2.denotes));
+        once =
+            λ i j b e f.
+                (let x = second i b e in
+                     let y = second j b f in
+                     taken.once i j x.0 x.1
+                     (y.1 ∙ ap (λ (s : ℕ). Some s) (same-scope y.0 x.0 b y.2 x.2)));
+        denoted =
+            λ k b e. (let x = second k b e in (x.2.place, x.2.entry, x.2.stands, x.2.denotes));
         inner = λ k b e. (let x = second k b e in x.2.inner);
       }) in
       omega (arith, fewer, long)

@@ -1,4 +1,5 @@
--- Where the body has the merged items in the order of all, the items of each block stand where the plan has their causes.
+-- Where the body has the merged items in the order of all, the items of each block stand where the
+-- plan has their causes.
 use Rattle.std.proofs.Common.{◌≡◌, ℕ, zero, suc, ◌+◌, ◌<◌, Bool, true, false, List, [], ◌∷◌, ◌++◌, Some, Contains, length, map, refl, sym, ap, ◌∙◌, subst, if◌then◌else◌, length-append, arith}
 use Rattle.std.specs.Prelude.{slice_get, unwrap_or}
 use Rattle.std.specs.List.{AllZip}
@@ -25,7 +26,9 @@ length-numbers i (suc n) = ap suc (length-numbers (suc i) n)
 numbers-at : (i n k : ℕ) → k < n → slice_get (numbers_from i n) k ≡ Some (i + k)
 numbers-at i zero k l = absurd (omega (arith, l))
 numbers-at i (suc n) zero l = let same : i ≡ i + 0 = omega arith in ap (λ m. Some m) same
-numbers-at i (suc n) (suc k) l = let same : suc i + k ≡ i + suc k = omega arith in numbers-at (suc i) n k (omega (arith, l)) ∙ ap (λ m. Some m) same
+numbers-at i (suc n) (suc k) l =
+    let same : suc i + k ≡ i + suc k = omega arith in numbers-at (suc i) n k (omega (arith, l))
+        ∙ ap (λ m. Some m) same
 
 numbers-place : (i n k m : ℕ) → slice_get (numbers_from i n) k ≡ Some m → (k < n) × (m ≡ i + k)
 numbers-place i n k m e =
@@ -38,36 +41,57 @@ whole-length : (count : ℕ) (order : List ℕ) → IsWholeOrder count order →
 whole-length count order its =
     let len = length-numbers zero count in
     let few = pigeons (λ (a b : ℕ). a ≡ b) (λ a b y e f. e ∙ sym f) order (numbers_from zero count)
-          (λ i j x e f. once-places order (once-from order (IsOnce-from_distinct order its.once)) i j x e f)
-          (λ i x e. (let l = (its.all x).1 (contains-get order i x e) in let zero_x : 0 + x ≡ x = omega arith in (x, x, numbers-at zero count x l ∙ ap (λ m. Some m) zero_x, refl))) in
+          (λ i j x e f. once-places order (once-from order (IsOnce-from_distinct order its.once)) i
+               j x e f)
+          (λ i x e.
+               (let l = (its.all x).1 (contains-get order i x e) in
+                    let zero_x : 0 + x ≡ x = omega arith in
+                    (x, x, numbers-at zero count x l ∙ ap (λ m. Some m) zero_x, refl))) in
     let many = pigeons (λ (a b : ℕ). a ≡ b) (λ a b y e f. e ∙ sym f) (numbers_from zero count) order
-          (λ i j x e f. (let a = (numbers-place zero count i x e).1 in let b = (numbers-place zero count j x f).1 in omega (arith, a, b)))
-          (λ i x e. (let r = numbers-place zero count i x e in let l : x < count = (let a = r.0 in let b = r.1 in omega (arith, a, b)) in let k = get-contains order x ((its.all x).0 l) in (k.0, x, k.1, refl))) in
+          (λ i j x e f.
+               (let a = (numbers-place zero count i x e).1 in
+                    let b = (numbers-place zero count j x f).1 in omega (arith, a, b)))
+          (λ i x e.
+               (let r = numbers-place zero count i x e in
+                    let l : x < count = (let a = r.0 in let b = r.1 in omega (arith, a, b)) in
+                    let k = get-contains order x ((its.all x).0 l) in (k.0, x, k.1, refl))) in
     omega (arith, len, few, many)
 
 -- ---- items
-map-at : {A B : Type 0} (f : A → B) (xs : List A) (k : ℕ) (y : B) → slice_get (map f xs) k ≡ Some y → (x : A) × (slice_get xs k ≡ Some x) × (f x ≡ y)
+map-at : {A B : Type 0} (f : A → B) (xs : List A) (k : ℕ) (y : B) →
+    slice_get (map f xs) k ≡ Some y → (x : A) × (slice_get xs k ≡ Some x) × (f x ≡ y)
 map-at f [] k y e = absurd (none-some y e)
 map-at f (x ∷ xs) zero y e = (x, refl, same_Some (f x) y e)
 map-at f (x ∷ xs) (suc k) y e = map-at f xs k y e
 
-at-map : {A B : Type 0} (f : A → B) (xs : List A) (k : ℕ) (x : A) → slice_get xs k ≡ Some x → slice_get (map f xs) k ≡ Some (f x)
+at-map : {A B : Type 0} (f : A → B) (xs : List A) (k : ℕ) (x : A) → slice_get xs k ≡ Some x →
+    slice_get (map f xs) k ≡ Some (f x)
 at-map f [] k x e = absurd (none-some x e)
 at-map f (a ∷ xs) zero x e = ap (λ y. Some (f y)) (same_Some a x e)
 at-map f (a ∷ xs) (suc k) x e = at-map f xs k x e
 
-module _ (body : List TopItem) (merged : List (List Item)) (whole : List ℕ) (are : AllZip (IsItem merged) whole body) where
+module _ (body : List TopItem) (merged : List (List Item)) (whole : List ℕ)
+    (are : AllZip (IsItem merged) whole body) where
   -- the items of a block, where these stand in their order between others
-  items-of : (before after : List ℕ) (first count : ℕ) (order : List ℕ) → whole ≡ before ++ (map (λ n. first + n) order ++ after) → IsWholeOrder count order → AreItemsOf body merged first count (block_items body (length before) order count)
+  items-of : (before after : List ℕ) (first count : ℕ) (order : List ℕ) →
+      whole ≡ before ++ (map (λ n. first + n) order ++ after) → IsWholeOrder count order →
+      AreItemsOf body merged first count (block_items body (length before) order count)
   items-of before after first count order is its = record {
-    long = length-mapped (λ n. item_at body (length before + index_of n order)) (numbers_from zero count) ∙ length-numbers zero count;
+    long =
+        length-mapped (λ n. item_at body (length before + index_of n order))
+                (numbers_from zero count)
+            ∙ length-numbers zero count;
     same = λ n top e. (stand n top e).0;
     there = λ n top e. (stand n top e).1;
   }
     where
-      stand : (n : ℕ) (top : TopItem) → slice_get (block_items body (length before) order count) n ≡ Some top → IsItem merged (first + n) top × Contains body top
+      stand : (n : ℕ) (top : TopItem) →
+          slice_get (block_items body (length before) order count) n ≡ Some top →
+          IsItem merged (first + n) top × Contains body top
       stand n top e =
-          let r = map-at (λ n. item_at body (length before + index_of n order)) (numbers_from zero count) n top e in
+          let r =
+              map-at (λ n. item_at body (length before + index_of n order))
+                  (numbers_from zero count) n top e in
           let place = numbers-place zero count n r.0 r.1 in
           let is_n : r.0 ≡ n = (let q = place.1 in omega (arith, q)) in
           let k = index_of n order in
@@ -77,22 +101,46 @@ module _ (body : List TopItem) (merged : List (List Item)) (whole : List ℕ) (a
               ∙ (get-behind before (map (λ n. first + n) order ++ after) k
               ∙ get-front (map (λ n. first + n) order) after k (first + n) (at-map (λ n. first + n) order k n there)) in
           let found = zip-get (IsItem merged) whole body are (length before + k) (first + n) at in
-          let here : item_at body (length before + k) ≡ found.0 = ap (λ o. unwrap_or o no_item) found.1 in
-          let top_is : found.0 ≡ top = sym here ∙ (ap (λ m. item_at body (length before + index_of m order)) (sym is_n) ∙ r.2) in
-          (subst (IsItem merged (first + n)) top_is found.2, subst (Contains body) top_is (contains-get body (length before + k) found.0 found.1))
+          let here : item_at body (length before + k) ≡ found.0 =
+              ap (λ o. unwrap_or o no_item) found.1 in
+          let top_is : found.0 ≡ top =
+              sym here
+                  ∙ (ap (λ m. item_at body (length before + index_of m order)) (sym is_n) ∙ r.2) in
+          (subst (IsItem merged (first + n)) top_is found.2,
+               subst (Contains body) top_is (contains-get body (length before + k) found.0 found.1))
 
-module _ (reading : Reading) (tree : List Item) (pairing : Pairing) (merged : List (List Item)) (d : Decided) (whole : List ℕ) (are : AllZip (IsItem merged) whole pairing.body) where
-  block-length : (first : ℕ) (block : DecidedBlock) (order : List ℕ) → (block.is_sorted ≡ true → IsBlockGood reading tree pairing.top pairing.body merged first (block_plan d block.modules) order) → (length (placed_plan d block order) ≡ length (block_plan d block.modules)) × (length (block_order d first block order) ≡ length (block_plan d block.modules))
+module _ (reading : Reading) (tree : List Item) (pairing : Pairing) (merged : List (List Item))
+    (d : Decided) (whole : List ℕ) (are : AllZip (IsItem merged) whole pairing.body) where
+  block-length : (first : ℕ) (block : DecidedBlock) (order : List ℕ) →
+      (block.is_sorted ≡ true → IsBlockGood reading tree pairing.top pairing.body merged first
+           (block_plan d block.modules) order) →
+      (length (placed_plan d block order) ≡ length (block_plan d block.modules))
+      × (length (block_order d first block order) ≡ length (block_plan d block.modules))
   block-length first block order good = by block.is_sorted refl
     where
-      by : (t : Bool) → block.is_sorted ≡ t → (length (if t then arranged (block_plan d block.modules) order else block_plan d block.modules) ≡ length (block_plan d block.modules)) × (length (if t then map (λ n. first + n) order else numbers_from first (length (block_plan d block.modules))) ≡ length (block_plan d block.modules))
+      by : (t : Bool) → block.is_sorted ≡ t →
+          (length
+               (if t then arranged (block_plan d block.modules) order else block_plan d
+                    block.modules) ≡ length (block_plan d block.modules))
+          × (length
+              (if t then map (λ n. first + n) order else numbers_from first
+                   (length (block_plan d block.modules))) ≡ length (block_plan d block.modules))
       by true e =
           let its = (good e).whole in
           let long = whole-length (length (block_plan d block.modules)) order its in
-          (sym (length-zip (ReadBy (block_plan d block.modules)) order (arranged (block_plan d block.modules) order) (arranged-reads (block_plan d block.modules) order (λ n c. (its.all n).1 c))) ∙ long, length-mapped (λ n. first + n) order ∙ long)
+          (sym
+                      (length-zip (ReadBy (block_plan d block.modules)) order
+                           (arranged (block_plan d block.modules) order)
+                           (arranged-reads (block_plan d block.modules) order
+                                (λ n c. (its.all n).1 c)))
+                  ∙ long,
+               length-mapped (λ n. first + n) order ∙ long)
       by false e = (refl, length-numbers first (length (block_plan d block.modules)))
 
-  blocks-ordered : (before after : List ℕ) (blocks : List DecidedBlock) (orders : List (List ℕ)) → whole ≡ before ++ (blocks_order d (length before) blocks orders ++ after) → AreBlocksGood reading tree pairing.top pairing.body merged d (length before) blocks orders → AreOrdered reading tree pairing d (length before) blocks orders
+  blocks-ordered : (before after : List ℕ) (blocks : List DecidedBlock) (orders : List (List ℕ)) →
+      whole ≡ before ++ (blocks_order d (length before) blocks orders ++ after) →
+      AreBlocksGood reading tree pairing.top pairing.body merged d (length before) blocks orders →
+      AreOrdered reading tree pairing d (length before) blocks orders
   blocks-ordered before after [] [] is good = tt
   blocks-ordered before after [] (order ∷ orders) is good = absurd good
   blocks-ordered before after (block ∷ blocks) [] is good = absurd good
@@ -103,22 +151,42 @@ module _ (reading : Reading) (tree : List Item) (pairing : Pairing) (merged : Li
       let rest = blocks_order d (first + length causes) blocks orders in
       let apart = is ∙ ap (λ (l : List ℕ). before ++ l) (append_assoc mine rest after) in
       let long = block-length first block order good.0 in
-      let further : length (before ++ mine) ≡ first + length causes = length-append before mine ∙ ap (λ k. first + k) long.1 in
-      let placed : first + length causes ≡ first + length (placed_plan d block order) = ap (λ k. first + k) (sym long.0) in
+      let further : length (before ++ mine) ≡ first + length causes =
+          length-append before mine ∙ ap (λ k. first + k) long.1 in
+      let placed : first + length causes ≡ first + length (placed_plan d block order) =
+          ap (λ k. first + k) (sym long.0) in
       let next : AreOrdered reading tree pairing d (length (before ++ mine)) blocks orders =
           blocks-ordered (before ++ mine) after blocks orders
-          (apart ∙ (sym (append_assoc before mine (rest ++ after)) ∙ ap (λ k. (before ++ mine) ++ (blocks_order d k blocks orders ++ after)) (sym further)))
-          (subst (λ k. AreBlocksGood reading tree pairing.top pairing.body merged d k blocks orders) (sym further) good.1) in
+          (apart
+               ∙ (sym (append_assoc before mine (rest ++ after))
+                   ∙ ap (λ k. (before ++ mine) ++ (blocks_order d k blocks orders ++ after))
+                       (sym further)))
+          (subst (λ k. AreBlocksGood reading tree pairing.top pairing.body merged d k blocks orders)
+               (sym further) good.1) in
       (
-        λ e. (good.0 e).good (block_items pairing.body first order (length causes)) (items-of pairing.body merged whole are before (rest ++ after) first (length causes) order (apart ∙ ap (λ (t : Bool). before ++ ((if t then map (λ n. first + n) order else numbers_from first (length causes)) ++ (rest ++ after))) e) (good.0 e).whole),
+        λ e. (good.0 e).good (block_items pairing.body first order (length causes))
+            (items-of pairing.body merged whole are before (rest ++ after) first (length causes)
+                 order
+                 (apart
+                      ∙ ap
+                          (λ (t : Bool). before ++
+                               ((if t then map (λ n. first + n) order else numbers_from first
+                                        (length causes)) ++ (rest ++ after))) e) (good.0 e).whole),
         subst (λ k. AreOrdered reading tree pairing d k blocks orders) (further ∙ placed) next,
       )
 
--- where the body has the merged items in the order of all, and each order is good for its block's items wherever they stand, each is good where they stand
-pub ordered-from : (reading : Reading) (tree : List Item) (pairing : Pairing) (merged : List (List Item)) (d : Decided) (orders : List (List ℕ)) → AllZip (IsItem merged) (whole_order d orders) pairing.body → AreBlocksGood reading tree pairing.top pairing.body merged d (length (front_plan d)) d.blocks orders → AreOrdered reading tree pairing d (length (front_plan d)) d.blocks orders
+-- where the body has the merged items in the order of all, and each order is good for its block's
+-- items wherever they stand, each is good where they stand
+pub ordered-from : (reading : Reading) (tree : List Item) (pairing : Pairing)
+        (merged : List (List Item)) (d : Decided) (orders : List (List ℕ)) →
+    AllZip (IsItem merged) (whole_order d orders) pairing.body →
+    AreBlocksGood reading tree pairing.top pairing.body merged d (length (front_plan d)) d.blocks
+        orders → AreOrdered reading tree pairing d (length (front_plan d)) d.blocks orders
 ordered-from reading tree pairing merged d orders are good =
     let front = numbers_from zero (length (front_plan d)) in
-    let back = numbers_from (length (front_plan d) + length (merged_blocks d d.blocks)) (length (back_plan d)) in
+    let back =
+        numbers_from (length (front_plan d) + length (merged_blocks d d.blocks))
+            (length (back_plan d)) in
     let len : length front ≡ length (front_plan d) = length-numbers zero (length (front_plan d)) in
     subst (λ k. AreOrdered reading tree pairing d k d.blocks orders) len
     (blocks-ordered reading tree pairing merged d (whole_order d orders) are front back d.blocks orders
@@ -126,8 +194,14 @@ ordered-from reading tree pairing merged d orders are good =
       (subst (λ k. AreBlocksGood reading tree pairing.top pairing.body merged d k d.blocks orders) (sym len) good))
 
 -- then the orders are of numbers of their blocks' items
-pub good-within : (reading : Reading) (tree : List Item) (top : Scope) (body : List TopItem) (merged : List (List Item)) (d : Decided) (first : ℕ) (blocks : List DecidedBlock) (orders : List (List ℕ)) → AreBlocksGood reading tree top body merged d first blocks orders → AreWithin d blocks orders
+pub good-within : (reading : Reading) (tree : List Item) (top : Scope) (body : List TopItem)
+        (merged : List (List Item)) (d : Decided) (first : ℕ) (blocks : List DecidedBlock)
+        (orders : List (List ℕ)) →
+    AreBlocksGood reading tree top body merged d first blocks orders → AreWithin d blocks orders
 good-within reading tree top body merged d first [] [] good = tt
 good-within reading tree top body merged d first [] (order ∷ orders) good = absurd good
 good-within reading tree top body merged d first (block ∷ blocks) [] good = absurd good
-good-within reading tree top body merged d first (block ∷ blocks) (order ∷ orders) good = (λ e n c. ((good.0 e).whole.all n).1 c, good-within reading tree top body merged d (first + length (block_plan d block.modules)) blocks orders good.1)
+good-within reading tree top body merged d first (block ∷ blocks) (order ∷ orders) good =
+    (λ e n c. ((good.0 e).whole.all n).1 c,
+         good-within reading tree top body merged d (first + length (block_plan d block.modules))
+            blocks orders good.1)

@@ -1,4 +1,5 @@
--- What the names of a bundle's items are told to mean, by their identifiers: by a table from identifiers to labels, and
+-- What the names of a bundle's items are told to mean, by their identifiers: by a table from
+-- identifiers to labels, and
 -- by each item by itself.
 use Rattle.std.specs.Prelude.{◌≡◌, ℕ, false, List, [], ◌∷◌, Option, Some, Contains, find, fold, map, option_map}
 use Rattle.std.specs.List.{AllZip, cons_option}
@@ -24,8 +25,14 @@ use Rattle.bundle_merge_whole.specs.composed.Noted.{Noted, AsWhole, AsFunction, 
 
 -- no identifier has two labels, and no label two identifiers
 pub record IsTable (table : Table) : Type 0 where
-  pub one_label : (i : Ident) (l other : Label) → Contains table (i, l) → Contains table (i, other) → l ≡ other
-  pub one_ident : (i other : Ident) (l : Label) → Contains table (i, l) → Contains table (other, l) → i ≡ other
+  pub one_label : (i : Ident) (l other : Label) →
+        Contains table (i, l) →
+        Contains table (i, other) →
+        l ≡ other
+  pub one_ident : (i other : Ident) (l : Label) →
+        Contains table (i, l) →
+        Contains table (other, l) →
+        i ≡ other
 
 -- what an occurrence denotes in a module, by symbol and context
 abbrev pub denoted_in_tree : List Item → Occurrence → Denoted
@@ -33,32 +40,49 @@ denoted_in_tree tree o = denoted_of ByContext Es (declared ByContext Es tree) o
 
 -- what an identifier denotes in a module: what its first occurrence does
 abbrev pub denoted_ident : List Item → Ident → Option Denoted
-denoted_ident tree i = option_map (denoted_in_tree tree) (find (λ o. ident_eq (ident_of o) i) (occurrences tree))
+denoted_ident tree i =
+    option_map (denoted_in_tree tree) (find (λ o. ident_eq (ident_of o) i) (occurrences tree))
 
 -- the labelling of a module by such a table, of the identifiers that stand in it
 abbrev pub labels_in : List Item → Table → Labelling
 labels_in tree [] = []
-labels_in tree (entry ∷ rest) = cons_option (option_map (λ d. (d, entry.1)) (denoted_ident tree entry.0)) (labels_in tree rest)
+labels_in tree (entry ∷ rest) =
+    cons_option (option_map (λ d. (d, entry.1)) (denoted_ident tree entry.0)) (labels_in tree rest)
 
 -- a statement in an item, at this spot of the item by itself, is noted by its identifiers
 abbrev pub StatementNoted : List (List Item) → Table → List Item → Spot → List Item → Told → Type 0
 StatementNoted items table item s part told = pieces.StatementNoted items table item s part told.0
 
 -- statements in an item, one after another
-abbrev pub StatementsNoted : List (List Item) → Table → List Item → Spot → List (List Item) → List Told → Type 0
+abbrev pub StatementsNoted : List (List Item) → Table → List Item → Spot → List (List Item) →
+    List Told → Type 0
 StatementsNoted items table item s parts tolds =
     pieces.StatementsNoted items table item s parts (map (λ (told : Told). told.0) tolds)
 
 -- an item is noted by its identifiers
 abbrev pub ItemNoted : List (List Item) → Table → List Item → Noted → Type 0
 ItemNoted items table item (AsWhole told) = StatementNoted items table item first_spot item told
-ItemNoted items table item (AsFunction front names insides tolds) = AllZip (IsLabelled items table item) (occurrences_from first_spot front) names × StatementsNoted items table item (fold past first_spot front) insides tolds
+ItemNoted items table item (AsFunction front names insides tolds) =
+    AllZip (IsLabelled items table item) (occurrences_from first_spot front) names × StatementsNoted
+        items table item (fold past first_spot front) insides tolds
 
--- the labels of declared names that are no keywords have the contexts of their modules, and stand for identifiers that declare them
+-- the labels of declared names that are no keywords have the contexts of their modules, and stand
+-- for identifiers that declare them
 pub record HasModuleContexts (local : ℕ → ℕ) (tree : List Item) (table : Table) : Type 0 where
-  pub contexts : (i : Ident) (m : ℕ) (x : Text) → Contains table (i, Of (IsDeclared m x)) → is_keyword x ≡ false → i.1 ≡ local m
-  pub declared : (i : Ident) (m : ℕ) (x : Text) → Contains table (i, Of (IsDeclared m x)) → is_keyword x ≡ false → (o : Occurrence) × (d : Declared) × Contains (occurrences tree) o × (ident_of o ≡ i) × (declaration_of ByContext Es o ≡ Some d)
+  pub contexts : (i : Ident) (m : ℕ) (x : Text) →
+        Contains table (i, Of (IsDeclared m x)) →
+        is_keyword x ≡ false →
+        i.1 ≡ local m
+  pub declared : (i : Ident) (m : ℕ) (x : Text) →
+        Contains table (i, Of (IsDeclared m x)) →
+        is_keyword x ≡ false →
+        (o : Occurrence)
+        × (d : Declared)
+        × Contains (occurrences tree) o
+        × (ident_of o ≡ i)
+        × (declaration_of ByContext Es o ≡ Some d)
 
 -- each identifier is called as its label, spelled so
 abbrev pub IsCalledAsLabels : (Text → Text) → Program → List ℕ → Table → Type 0
-IsCalledAsLabels spelled p list table = (i : Ident) (l : Label) → Contains table (i, l) → i.0 ≡ spelled (symbol_of_label p list l)
+IsCalledAsLabels spelled p list table =
+    (i : Ident) (l : Label) → Contains table (i, l) → i.0 ≡ spelled (symbol_of_label p list l)

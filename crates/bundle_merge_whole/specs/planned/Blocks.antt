@@ -5,7 +5,10 @@ use Rattle.bundle_merge_whole.specs.planned.Decided.{DecidedBlock}
 
 -- a block whose places are those of modules in a list
 abbrev pub block_read : List ℕ → Block → DecidedBlock
-block_read list block = record { modules = filter_map (slice_get list) block.places.items; is_sorted = block.is_cycle }
+block_read list block = record {
+  modules = filter_map (slice_get list) block.places.items;
+  is_sorted = block.is_cycle
+}
 
 -- the same, by the places
 abbrev pub block_of : Block → DecidedBlock

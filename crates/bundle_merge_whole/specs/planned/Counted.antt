@@ -27,7 +27,8 @@ abbrev pub load_count : DecidedLoad → ℕ
 load_count load = length load.names + count_if load.whole 1
 
 abbrev pub module_count : Decided → ℕ → ℕ
-module_count d m = if d.is_common_js m then 1 else count_if (d.has_meta m) 1 + sum_of load_count (d.loads m)
+module_count d m =
+    if d.is_common_js m then 1 else count_if (d.has_meta m) 1 + sum_of load_count (d.loads m)
 
 abbrev pub object_count : Decided → ℕ → ℕ
 object_count d m = count_if (d.is_object_meant m) 4
@@ -50,22 +51,30 @@ label_if true l = l ∷ []
 label_if false l = []
 
 abbrev pub external_labels : DecidedExternal → List Label
-external_labels e = map (λ x. Of (External e.specifier (Named x))) e.names ++ label_if e.whole (Of (External e.specifier Whole))
+external_labels e =
+    map (λ x. Of (External e.specifier (Named x))) e.names ++ label_if e.whole
+        (Of (External e.specifier Whole))
 
 abbrev pub load_labels : ℕ → DecidedLoad → List Label
-load_labels m load = map (λ x. Of (CommonJs m load.«module» (Named x))) load.names ++ label_if load.whole (Of (CommonJs m load.«module» Whole))
+load_labels m load =
+    map (λ x. Of (CommonJs m load.«module» (Named x))) load.names ++ label_if load.whole
+        (Of (CommonJs m load.«module» Whole))
 
 abbrev pub module_labels : Decided → ℕ → List Label
-module_labels d m = if d.is_common_js m then Load m ∷ [] else label_if (d.has_meta m) (Meta m) ++ flat_map (load_labels m) (d.loads m)
+module_labels d m =
+    if d.is_common_js m then Load m ∷ [] else label_if (d.has_meta m) (Meta m) ++ flat_map
+        (load_labels m) (d.loads m)
 
 abbrev pub object_labels : Decided → ℕ → List Label
 object_labels d m = label_if (d.is_object_meant m) (Of (Namespace m))
 
 abbrev pub block_labels : Decided → DecidedBlock → List Label
-block_labels d block = flat_map (module_labels d) block.modules ++ flat_map (object_labels d) block.modules
+block_labels d block =
+    flat_map (module_labels d) block.modules ++ flat_map (object_labels d) block.modules
 
 abbrev pub front_labels : Decided → List Label
-front_labels d = flat_map external_labels d.externals ++ label_if (list_any d.is_common_js d.list) Helper
+front_labels d =
+    flat_map external_labels d.externals ++ label_if (list_any d.is_common_js d.list) Helper
 
 -- the labels of what is injected
 abbrev pub injected_labels : Decided → List Label
@@ -80,4 +89,6 @@ answer_count (Some properties) = properties_count properties
 
 -- those of a module's tree and of what the hook answered for it
 abbrev pub tree_total : Program → (ℕ → Bool) → (ℕ → Option (List Item)) → ℕ → ℕ
-tree_total p is_common_js answers m = if is_common_js m then tree_count Cjs (tree_of p m) else tree_count Es (tree_of p m) + answer_count (answers m)
+tree_total p is_common_js answers m =
+    if is_common_js m then tree_count Cjs (tree_of p m) else tree_count Es (tree_of p m) +
+        answer_count (answers m)

@@ -11,11 +11,13 @@ use Rattle.bundle_rules.specs.Entries.{Named, Whole, declared_requests, has_impo
 use Rattle.bundle_rules.specs.Program.{Program, tree_of, resolves, requested, Requests, IsList, AreBlocks}
 use Rattle.bundle_rules.specs.Linking.{IsCommonJs, Namespace, CommonJs, IsLinked, HasExternalStar}
 use Rattle.bundle_rules.specs.Meaning.{Of, IsMeant}
+use Rattle.bundle_link_targets.specs.Taken.{Picks}
 use Rattle.bundle_rules.specs.Bundle.{Form, AsModule, AsCall, Cause, Own, ImportsNames, ImportsWhole, ImportsNothing, Helps, Defines, Loads, HoldsMeta, HoldsNamespace, Stars, Exports, AreNames, MeansName, MeansWhole, AsksCommonJs, Pairing, externals, owner_of}
 
 -- What is decided.
 
--- an external that is asked for, with what of it is meant: these names, ascending, and whether the whole is
+-- an external that is asked for, with what of it is meant: these names, ascending, and whether the
+-- whole is
 pub record DecidedExternal : Type 0 where
   pub specifier : Text
   pub names : List Text
@@ -32,7 +34,10 @@ pub record DecidedBlock : Type 0 where
   pub modules : List ℕ
   pub is_sorted : Bool
 
--- what is decided of the modules of a bundle: their list; of each whether it is CommonJS, what it loads, whether it has an `import.meta`, how many statements it has of its own, and whether its object is meant; the externals; those of them that are starred; whether something is exported or returned; and the blocks
+-- what is decided of the modules of a bundle: their list; of each whether it is CommonJS, what it
+-- loads, whether it has an `import.meta`, how many statements it has of its own, and whether its
+-- object is meant; the externals; those of them that are starred; whether something is exported or
+-- returned; and the blocks
 pub record Decided : Type 0 where
   pub list : List ℕ
   pub is_common_js : ℕ → Bool
@@ -64,7 +69,9 @@ names_plan (x ∷ rest) s = ImportsNames s ∷ []
 
 -- what imports an external
 abbrev pub external_plan : DecidedExternal → List Cause
-external_plan e = names_plan e.names e.specifier ++ (one_if e.whole (ImportsWhole e.specifier) ++ bare_plan e.names e.whole e.specifier)
+external_plan e =
+    names_plan e.names e.specifier ++
+        (one_if e.whole (ImportsWhole e.specifier) ++ bare_plan e.names e.whole e.specifier)
 
 -- the numbers from n on, so many
 abbrev pub numbers_from : ℕ → ℕ → List ℕ
@@ -73,7 +80,10 @@ numbers_from n (suc count) = n ∷ numbers_from (suc n) count
 
 -- what a module that is no CommonJS module makes
 abbrev pub es_plan : Decided → ℕ → List Cause
-es_plan d m = one_if (d.has_meta m) (HoldsMeta m) ++ (map (λ load. Loads m load.«module») (d.loads m) ++ map (Own m) (numbers_from zero (d.statements m)))
+es_plan d m =
+    one_if (d.has_meta m) (HoldsMeta m) ++
+        (map (λ load. Loads m load.«module») (d.loads m) ++ map (Own m)
+             (numbers_from zero (d.statements m)))
 
 -- what a module makes
 abbrev pub module_plan : Decided → ℕ → List Cause
@@ -101,13 +111,16 @@ arranged causes order = filter_map (slice_get causes) order
 
 -- a block, with the order that was found if it is sorted
 abbrev pub placed_plan : Decided → DecidedBlock → List ℕ → List Cause
-placed_plan d block order = if block.is_sorted then arranged (block_plan d block.modules) order else block_plan d block.modules
+placed_plan d block order =
+    if block.is_sorted then arranged (block_plan d block.modules) order else block_plan d
+        block.modules
 
 -- the blocks, with an order for each
 abbrev pub blocks_plan : Decided → List DecidedBlock → List (List ℕ) → List Cause
 blocks_plan d [] orders = []
 blocks_plan d (block ∷ blocks) [] = []
-blocks_plan d (block ∷ blocks) (order ∷ orders) = placed_plan d block order ++ blocks_plan d blocks orders
+blocks_plan d (block ∷ blocks) (order ∷ orders) =
+    placed_plan d block order ++ blocks_plan d blocks orders
 
 -- the plan of a bundle, with an order for each block
 abbrev pub plan_of : Decided → List (List ℕ) → List Cause
@@ -125,26 +138,34 @@ merged_plan d = front_plan d ++ (merged_blocks d d.blocks ++ back_plan d)
 
 -- the numbers of a block's items, of which the first is this
 abbrev pub block_order : Decided → ℕ → DecidedBlock → List ℕ → List ℕ
-block_order d first block order = if block.is_sorted then map (λ n. first + n) order else numbers_from first (length (block_plan d block.modules))
+block_order d first block order =
+    if block.is_sorted then map (λ n. first + n) order else numbers_from first
+        (length (block_plan d block.modules))
 
 -- the numbers of the items of blocks
 abbrev pub blocks_order : Decided → ℕ → List DecidedBlock → List (List ℕ) → List ℕ
 blocks_order d first [] orders = []
 blocks_order d first (block ∷ blocks) [] = []
-blocks_order d first (block ∷ blocks) (order ∷ orders) = block_order d first block order ++ blocks_order d (first + length (block_plan d block.modules)) blocks orders
+blocks_order d first (block ∷ blocks) (order ∷ orders) =
+    block_order d first block order ++ blocks_order d (first + length (block_plan d block.modules))
+        blocks orders
 
 -- the numbers of all items in the order in which they are to stand
 abbrev pub whole_order : Decided → List (List ℕ) → List ℕ
 whole_order d orders =
     let before = length (front_plan d) in
     let within = length (merged_blocks d d.blocks) in
-    numbers_from zero before ++ (blocks_order d before d.blocks orders ++ numbers_from (before + within) (length (back_plan d)))
+    numbers_from zero before ++
+        (blocks_order d before d.blocks orders ++ numbers_from (before + within)
+             (length (back_plan d)))
 
 -- the orders are of numbers of their blocks' items
 abbrev pub AreWithin : Decided → List DecidedBlock → List (List ℕ) → Type 0
 AreWithin d [] orders = Unit {0}
 AreWithin d (block ∷ blocks) [] = ⊥
-AreWithin d (block ∷ blocks) (order ∷ orders) = (block.is_sorted ≡ true → (n : ℕ) → Contains order n → n < length (block_plan d block.modules)) × AreWithin d blocks orders
+AreWithin d (block ∷ blocks) (order ∷ orders) =
+    (block.is_sorted ≡ true → (n : ℕ) → Contains order n → n < length (block_plan d block.modules))
+        × AreWithin d blocks orders
 
 -- Where the items of a block stand.
 
@@ -161,22 +182,30 @@ no_item = record { start = 0; items = [] }
 abbrev pub item_at : List TopItem → ℕ → TopItem
 item_at body place = unwrap_or (slice_get body place) no_item
 
--- the items of a block, as its causes are numbered, where they stand in this order from a place of the bundle on
+-- the items of a block, as its causes are numbered, where they stand in this order from a place of
+-- the bundle on
 abbrev pub block_items : List TopItem → ℕ → List ℕ → ℕ → List TopItem
-block_items body first order count = map (λ n. item_at body (first + index_of n order)) (numbers_from zero count)
+block_items body first order count =
+    map (λ n. item_at body (first + index_of n order)) (numbers_from zero count)
 
 -- the order that was found for a block is good for its items as they stand in the bundle
-abbrev pub IsBlockOrdered : Reading → List Item → Pairing → Decided → ℕ → DecidedBlock → List ℕ → Type 0
+abbrev pub IsBlockOrdered : Reading → List Item → Pairing → Decided → ℕ → DecidedBlock → List ℕ →
+    Type 0
 IsBlockOrdered reading tree pairing d first block order =
     let causes = block_plan d block.modules in
-    block.is_sorted ≡ true → IsGoodOrder (group_of reading pairing.top tree (block_items pairing.body first order (length causes)) (map owner_of causes)) order
+    block.is_sorted ≡ true → IsGoodOrder
+        (group_of reading pairing.top tree (block_items pairing.body first order (length causes))
+             (map owner_of causes)) order
 
 -- the same of each block, where the first of them begins at a place
-abbrev pub AreOrdered : Reading → List Item → Pairing → Decided → ℕ → List DecidedBlock → List (List ℕ) → Type 0
+abbrev pub AreOrdered : Reading → List Item → Pairing → Decided → ℕ → List DecidedBlock →
+    List (List ℕ) → Type 0
 AreOrdered reading tree pairing d first [] [] = Unit {0}
 AreOrdered reading tree pairing d first [] (order ∷ orders) = ⊥
 AreOrdered reading tree pairing d first (block ∷ blocks) [] = ⊥
-AreOrdered reading tree pairing d first (block ∷ blocks) (order ∷ orders) = IsBlockOrdered reading tree pairing d first block order × AreOrdered reading tree pairing d (first + length (placed_plan d block order)) blocks orders
+AreOrdered reading tree pairing d first (block ∷ blocks) (order ∷ orders) =
+    IsBlockOrdered reading tree pairing d first block order × AreOrdered reading tree pairing d
+        (first + length (placed_plan d block order)) blocks orders
 
 -- What is right of it.
 
@@ -191,25 +220,22 @@ pub record IsLoadDecided (p : Program) (m : ℕ) (load : DecidedLoad) : Type 0 w
   pub names : AreNames (λ x. IsMeant p (Of (CommonJs m load.«module» (Named x)))) load.names
   pub whole : IsTrue load.whole ↔ IsMeant p (Of (CommonJs m load.«module» Whole))
 
--- the CommonJS modules to which the declarations of a module lead, each once, where a test tells which modules are CommonJS
+-- the CommonJS modules to which the declarations of a module lead, each once, where a test tells
+-- which modules are CommonJS
 abbrev pub taken_modules : Program → ℕ → (ℕ → Bool) → List ℕ
-taken_modules p m test = numbers_once (filter test (filter_map (resolves p m) (declared_requests (tree_of p m))))
+taken_modules p m test =
+    numbers_once (filter test (filter_map (resolves p m) (declared_requests (tree_of p m))))
 
 -- something is exported, or the bundle is one function's call, which returns an object
 pub data HandsOut (p : Program) : Form → Type 0 where
   exported : {x : Text} → IsLinked p p.entry x → HandsOut p AsModule
   returned : HandsOut p AsCall
 
--- `Starred Has texts stars`: of the texts, those that `Has` holds of, in their order
-pub data Starred (Has : Text → Type 0) : List Text → List Text → Type 0 where
-  nothing : Starred Has [] []
-  kept : {x : Text} {xs ys : List Text} → Has x → Starred Has xs ys → Starred Has (x ∷ xs) (x ∷ ys)
-  left : {x : Text} {xs ys : List Text} → (Has x → ⊥) → Starred Has xs ys → Starred Has (x ∷ xs) ys
-
 -- what is decided of a listed module
 pub record IsModuleDecided (p : Program) (d : Decided) (m : ℕ) : Type 0 where
   pub common_js : IsTrue (d.is_common_js m) ↔ IsCommonJs p m
-  pub loads : (IsCommonJs p m → ⊥) → Members (AsksCommonJs p m) (requested p m) (map (λ load. load.«module») (d.loads m))
+  pub loads : (IsCommonJs p m → ⊥) →
+        Members (AsksCommonJs p m) (requested p m) (map (λ load. load.«module») (d.loads m))
   pub taken : (load : DecidedLoad) → Contains (d.loads m) load → IsLoadDecided p m load
   pub meta : d.has_meta m ≡ has_import_meta (tree_of p m)
   pub statements : d.statements m ≡ length (own_statements (tree_of p m))
@@ -225,7 +251,7 @@ pub record AreDecided (p : Program) (form : Form) (d : Decided) : Type 0 where
   pub list : IsList p d.list
   pub modules : (m : ℕ) → Contains d.list m → IsModuleDecided p d m
   pub outside : AllZip (IsExternalDecided p) d.externals (externals p d.list)
-  pub starred : Starred (HasExternalStar p p.entry) (externals p d.list) d.stars
+  pub starred : Picks (HasExternalStar p p.entry) (externals p d.list) d.stars
   pub exports : IsTrue d.exports ↔ HandsOut p form
   pub blocks : AreBlocks p d.list (map (λ block. block.modules) d.blocks)
   pub kinds : (block : DecidedBlock) → Contains d.blocks block → IsBlockDecided p block

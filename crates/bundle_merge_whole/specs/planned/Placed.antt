@@ -4,7 +4,8 @@ use Rattle.std.specs.List.{AllZip}
 use Rattle.bundle_rules.specs.Program.{Program}
 use Rattle.bundle_rules.specs.Linking.{HasExternalStar}
 use Rattle.bundle_rules.specs.Bundle.{Form, externals}
-use Rattle.bundle_merge_whole.specs.planned.Decided.{Decided, DecidedLoad, DecidedBlock, IsExternalDecided, IsModuleDecided, HandsOut, Starred, index_of, numbers_from}
+use Rattle.bundle_link_targets.specs.Taken.{Picks}
+use Rattle.bundle_merge_whole.specs.planned.Decided.{Decided, DecidedLoad, DecidedBlock, IsExternalDecided, IsModuleDecided, HandsOut, index_of, numbers_from}
 
 -- the module at a place of a list
 abbrev pub id_at : List ℕ → ℕ → ℕ
@@ -12,11 +13,18 @@ id_at list k = unwrap_or (slice_get list k) zero
 
 -- what is loaded, by the number of the module
 abbrev pub load_by : List ℕ → DecidedLoad → DecidedLoad
-load_by list load = record { «module» = id_at list load.«module»; names = load.names; whole = load.whole }
+load_by list load = record {
+  «module» = id_at list load.«module»;
+  names = load.names;
+  whole = load.whole
+}
 
 -- a block, by the numbers of its modules
 abbrev pub block_by : List ℕ → DecidedBlock → DecidedBlock
-block_by list block = record { modules = filter_map (slice_get list) block.modules; is_sorted = block.is_sorted }
+block_by list block = record {
+  modules = filter_map (slice_get list) block.modules;
+  is_sorted = block.is_sorted
+}
 
 -- what is found by places in a list, by the numbers of the modules
 abbrev pub renumbered : List ℕ → Decided → Decided
@@ -33,10 +41,11 @@ renumbered list f = record {
   blocks = map (block_by list) f.blocks;
 }
 
--- what is found of n modules is what the definitions say of a program in which their numbers are the places
+-- what is found of n modules is what the definitions say of a program in which their numbers are
+-- the places
 pub record AreFound (q : Program) (form : Form) (n : ℕ) (f : Decided) : Type 0 where
   pub modules : (k : ℕ) → k < n → IsModuleDecided q f k
   pub within : (k : ℕ) (load : DecidedLoad) → Contains (f.loads k) load → load.«module» < n
   pub outside : AllZip (IsExternalDecided q) f.externals (externals q (numbers_from zero n))
-  pub starred : Starred (HasExternalStar q q.entry) (externals q (numbers_from zero n)) f.stars
+  pub starred : Picks (HasExternalStar q q.entry) (externals q (numbers_from zero n)) f.stars
   pub exports : IsTrue f.exports ↔ HandsOut q form

@@ -1,4 +1,5 @@
--- The order of all items, told by the blocks that are sorted alone: where each begins, how many items it has, and its order.
+-- The order of all items, told by the blocks that are sorted alone: where each begins, how many
+-- items it has, and its order.
 use Rattle.std.specs.Prelude.{◌≡◌, ◌↔◌, ℕ, ◌+◌, ◌-◌, ◌<◌, nat_eq, slice_get, true, Some, Contains, List, [], ◌∷◌, ◌++◌, length, map, if◌then◌else◌}
 use Rattle.std.specs.List.{IsDistinct}
 use Rattle.bundle_tree_piece.specs.Item.{Item}
@@ -9,16 +10,21 @@ use Rattle.bundle_rules.specs.Order.{IsGoodOrder, group_of}
 use Rattle.bundle_rules.specs.Bundle.{Cause, owner_of}
 use Rattle.bundle_merge_whole.specs.planned.Decided.{Decided, DecidedBlock, block_plan, numbers_from}
 
--- a block that is sorted: the number of its first item, how many items it has, and the order that was found
+-- a block that is sorted: the number of its first item, how many items it has, and the order that
+-- was found
 pub record SortedItems : Type 0 where
   pub first : ℕ
   pub count : ℕ
   pub order : List ℕ
 
--- the numbers of the items from the next one on, of so many: those of sorted blocks in their orders, all others as they come
+-- the numbers of the items from the next one on, of so many: those of sorted blocks in their
+-- orders, all others as they come
 abbrev pub sorted_order : ℕ → ℕ → List SortedItems → List ℕ
 sorted_order next total [] = numbers_from next (total - next)
-sorted_order next total (block ∷ rest) = numbers_from next (block.first - next) ++ (map (λ n. block.first + n) block.order ++ sorted_order (block.first + block.count) total rest)
+sorted_order next total (block ∷ rest) =
+    numbers_from next (block.first - next) ++
+        (map (λ n. block.first + n) block.order ++ sorted_order (block.first + block.count) total
+             rest)
 
 -- the sorted ones of blocks, of which the first begins with this number
 abbrev pub sorted_of : Decided → ℕ → List DecidedBlock → List (List ℕ) → List SortedItems
@@ -26,7 +32,9 @@ sorted_of d first [] orders = []
 sorted_of d first (block ∷ blocks) [] = []
 sorted_of d first (block ∷ blocks) (order ∷ orders) =
     let rest = sorted_of d (first + length (block_plan d block.modules)) blocks orders in
-    if block.is_sorted then record { first = first; count = length (block_plan d block.modules); order = order } ∷ rest else rest
+    if block.is_sorted then
+        record { first = first; count = length (block_plan d block.modules); order = order } ∷ rest
+        else rest
 
 -- Items of a block, wherever they stand.
 
@@ -35,7 +43,8 @@ abbrev pub IsItem : List (List Item) → ℕ → TopItem → Type 0
 IsItem merged n top = slice_get merged n ≡ Some top.items
 
 -- items of a bundle that have, in turn, the contents of so many merged items from one on
-pub record AreItemsOf (body : List TopItem) (merged : List (List Item)) (first count : ℕ) (items : List TopItem) : Type 0 where
+pub record AreItemsOf (body : List TopItem) (merged : List (List Item)) (first count : ℕ)
+    (items : List TopItem) : Type 0 where
   pub long : length items ≡ count
   pub same : (n : ℕ) (top : TopItem) → slice_get items n ≡ Some top → IsItem merged (first + n) top
   pub there : (n : ℕ) (top : TopItem) → slice_get items n ≡ Some top → Contains body top
@@ -45,16 +54,23 @@ pub record IsWholeOrder (count : ℕ) (order : List ℕ) : Type 0 where
   pub all : (n : ℕ) → (n < count) ↔ Contains order n
   pub once : IsDistinct nat_eq order
 
--- the order of a block that is sorted is whole, and is good for its items wherever they stand in the bundle
-pub record IsBlockGood (reading : Reading) (tree : List Item) (top : Scope) (body : List TopItem) (merged : List (List Item)) (first : ℕ) (causes : List Cause) (order : List ℕ) : Type 0 where
+-- the order of a block that is sorted is whole, and is good for its items wherever they stand in
+-- the bundle
+pub record IsBlockGood (reading : Reading) (tree : List Item) (top : Scope) (body : List TopItem)
+    (merged : List (List Item)) (first : ℕ) (causes : List Cause) (order : List ℕ) : Type 0 where
   pub whole : IsWholeOrder (length causes) order
-  pub good : (items : List TopItem) → AreItemsOf body merged first (length causes) items → IsGoodOrder (group_of reading top tree items (map owner_of causes)) order
+  pub good : (items : List TopItem) →
+        AreItemsOf body merged first (length causes) items →
+        IsGoodOrder (group_of reading top tree items (map owner_of causes)) order
 
 -- the same of each block that is sorted, where the first merged item of the first block is this
-abbrev pub AreBlocksGood : Reading → List Item → Scope → List TopItem → List (List Item) → Decided → ℕ → List DecidedBlock → List (List ℕ) → Type 0
+abbrev pub AreBlocksGood : Reading → List Item → Scope → List TopItem → List (List Item) → Decided →
+    ℕ → List DecidedBlock → List (List ℕ) → Type 0
 AreBlocksGood reading tree top body merged d first [] [] = Unit {0}
 AreBlocksGood reading tree top body merged d first [] (order ∷ orders) = ⊥
 AreBlocksGood reading tree top body merged d first (block ∷ blocks) [] = ⊥
 AreBlocksGood reading tree top body merged d first (block ∷ blocks) (order ∷ orders) =
-    (block.is_sorted ≡ true → IsBlockGood reading tree top body merged first (block_plan d block.modules) order)
-    × AreBlocksGood reading tree top body merged d (first + length (block_plan d block.modules)) blocks orders
+    (block.is_sorted ≡ true → IsBlockGood reading tree top body merged first
+         (block_plan d block.modules) order)
+    × AreBlocksGood reading tree top body merged d (first + length (block_plan d block.modules))
+        blocks orders
