@@ -82,12 +82,12 @@ pub all-outside : (low place : ℕ) → low ≤ place → (scopes : List Scope) 
 all-outside low place le [] all = tt
 all-outside low place le (scope ∷ scopes) all = (outside-from low place le scope all.0, all-outside low place le scopes all.1)
 
-same_field : (path : List Around) → (f : ℕ) × (path ≡ in_field f path)
+pub same_field : (path : List Around) → (f : ℕ) × (path ≡ in_field f path)
 same_field [] = (0, refl)
 same_field (node ∷ outer) = (node.field, refl)
 
 -- names and occurrences are as many
-names-count : (xs : List Item) (s : Spot) → length (occurrences_from s xs) ≡ length (names_of xs)
+pub names-count : (xs : List Item) (s : Spot) → length (occurrences_from s xs) ≡ length (names_of xs)
 names-count [] s = refl
 names-count (h.Open field head ∷ xs) s = names-count xs (past s (h.Open field head))
 names-count (h.Ident field x c r.Word ∷ xs) s = names-count xs (past s (h.Ident field x c r.Word))
@@ -124,7 +124,7 @@ module-scopes path field e = ap (scopes_around Es) e
 field-scopes : (path : List Around) (field f : ℕ) → path ≡ in_field field module_path → scopes_around Es (in_field f path) ≡ Top ∷ []
 field-scopes path field f e = ap (λ p. scopes_around Es (in_field f p)) e
 
-module-match : (s t : Spot) (field its : ℕ) → s.path ≡ in_field field module_path → t.path ≡ in_field its module_path → SpotsMatch s t
+pub module-match : (s t : Spot) (field its : ℕ) → s.path ≡ in_field field module_path → t.path ≡ in_field its module_path → SpotsMatch s t
 module-match s t field its path_is its_is = record {
   same = λ f. field-scopes s.path field f path_is ∙ sym (module-scopes s.path field path_is);
   its_same = λ f. field-scopes t.path its f its_is ∙ sym (module-scopes t.path its its_is);

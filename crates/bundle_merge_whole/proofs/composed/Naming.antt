@@ -158,7 +158,7 @@ noted-again p hooks form {renamed = renamed} (as_function {c = c} {front = front
 
 -- All items.
 
-all-turned : (items : List (List Item)) (noted : List Noted) (renamed : List (List Item)) (others : List Noted) → AllOfForm items noted → AllRemade noted renamed others → ItemsTurned items noted renamed others
+pub all-turned : (items : List (List Item)) (noted : List Noted) (renamed : List (List Item)) (others : List Noted) → AllOfForm items noted → AllRemade noted renamed others → ItemsTurned items noted renamed others
 all-turned [] [] [] [] forms remade = tt
 all-turned [] [] [] (other ∷ others) forms remade = absurd remade
 all-turned [] [] (item ∷ renamed) others forms remade = absurd remade
@@ -243,13 +243,13 @@ not_false : (b : Bool) → not b ≡ false → b ≡ true
 not_false true e = refl
 not_false false e = absurd cc
 
-changes-keep : (olds news : List Ident) → length news ≡ length olds → AllZip KeepsText (changes_to olds news) olds
+pub changes-keep : (olds news : List Ident) → length news ≡ length olds → AllZip KeepsText (changes_to olds news) olds
 changes-keep [] [] same = tt
 changes-keep [] (new ∷ news) same = tt
 changes-keep (old ∷ olds) [] same = absurd (omega (arith, same))
 changes-keep (old ∷ olds) (new ∷ news) same = ((λ is. sym ((bytes_eq-Decides old.0 new.0).0 (not_false (bytes_eq old.0 new.0) is))), changes-keep olds news (omega (arith, same)))
 
-module-names : (items : List (List Item)) → idents (joined items) ≡ names_of (flat items)
+pub module-names : (items : List (List Item)) → idents (joined items) ≡ names_of (flat items)
 module-names items = idents-names (joined items) ∙ names_of-append (flat items) (h.Close ∷ []) ∙ append-nil (names_of (flat items))
 
 length-map : {A B : Type 0} (f : A → B) (xs : List A) → length (map f xs) ≡ length xs
@@ -314,6 +314,26 @@ still-noted p hooks plan reading other items noted labels after its forms count 
       agrees = agree;
       paired = subst (λ tree. IsPaired p hooks AsModule other tree (pairing_of (labels_of b.becomes labels) again.items plan)) (sym again.is) (is_paired p hooks other (labels_of b.becomes labels) again.items again.others plan bundle labels_stay agree);
     }
+
+-- its items, what is told of them, and its labels are those that became of the old ones
+module _ (p : Program) (hooks : Hooks) (plan : List Cause) (reading other : Reading) (items : List (List Item)) (noted : List Noted) (labels : Labelling) (made : List (List Item)) (others : List Noted)
+    (bundle : IsNotedBundle p hooks items noted plan) (forms : AllOfForm items noted) (count : AllZip OneNode items noted) (one : IsOneToOne labels)
+    (occur : AllOccur reading (joined items) labels) (agrees : BundleAgrees reading labels items noted)
+    (b : Becoming reading (joined items) other (joined made)) (remade : AllRemade noted made others) (listing : IsListing (joined made)) where
+  abbrev pub still : IsStillNoted p hooks plan other (joined made)
+  still = still-noted p hooks plan reading other items noted labels (joined made) bundle forms count one occur agrees b (record { items = made; others = others; is = refl; remade = remade }) listing
+
+  pub still-labels : still.labels ≡ labels_of b.becomes labels
+  unfolding still-noted
+  still-labels = ap (λ (c : Becoming reading (joined items) other (joined made)). labels_of c.becomes labels) (subst_refl (Becoming reading (joined items) other) b)
+
+  pub still-items : still.items ≡ made
+  unfolding still-noted
+  still-items = refl
+
+  pub still-told : still.noted ≡ others
+  unfolding still-noted
+  still-told = refl
 
 -- THE NAMES: a bundle by symbol and context, named by the naming rule, is a bundle by symbol
 pub named-bundle : (p : Program) (hooks : Hooks) (plan : List Cause) (items : List (List Item)) (noted : List Noted) (labels : Labelling) (named : List Item) → IsNotedBundle p hooks items noted plan → AllOfForm items noted → AllZip OneNode items noted → AllZip NoLone items noted → IsOneToOne labels → AllOccur ByContext (joined items) labels → BundleAgrees ByContext labels items noted → IsResolved Es (joined items) → HasNamesOnly (joined items) → ArePlain (joined items) → IsNamed (joined items) named → IsListing named → IsStillNoted p hooks plan BySymbol named

@@ -49,7 +49,7 @@ taken-length place [] = refl
 taken-length place (x ∷ xs) = ap suc (taken-length (suc place) xs)
 
 -- the nodes side by side
-beside-flat : (items : List (List Item)) → AllOf IsSingle items → side_by_side zero (flat items) ≡ items
+pub beside-flat : (items : List (List Item)) → AllOf IsSingle items → side_by_side zero (flat items) ≡ items
 beside-flat [] single = refl
 beside-flat (item ∷ more) single = single.0 (flat more) ∙ ap (λ rest. item ∷ rest) (beside-flat more single.1)
 
