@@ -53,9 +53,6 @@ p = plain main
 abbrev read : List Item
 read = member 1 (uses 0 ns) x
 
-abbrev in_argument : List Item
-in_argument = read
-
 abbrev in_call : List Item
 in_call = uses 0 used ++ node 1 (h.ExprOrSpread false) read
 
@@ -74,24 +71,30 @@ in_read = uses 0 ns ++ node 1 (h.IdentName x) []
 read_nodes : nested.AreNodes read
 read_nodes = nested.node {inside = in_read} {rest = []}
     (nested.name (nested.node {inside = []} {rest = []} nested.nothing refl nested.nothing))
-    (record { first = uses 0 ns; second = node 1 (h.IdentName x) []; them = refl; in_first = refl; in_second = refl })
+    (record
+        { first = uses 0 ns; second = node 1 (h.IdentName x) []; them = refl; in_first = refl; in_second = refl })
     nested.nothing
 
 call_nodes : nested.AreNodes in_call
 call_nodes = nested.name (nested.node {inside = read} {rest = []} read_nodes tt nested.nothing)
 
 import_nodes : nested.AreNodes in_import
-import_nodes = nested.node {inside = in_specifier} {rest = node 1 (h.Str (codes "./a") None) []} (nested.name nested.nothing) (record { sym = ns; ctxt = 0; rest = []; is = refl })
+import_nodes =
+    nested.node {inside = in_specifier} {rest = node 1 (h.Str (codes "./a") None) []}
+    (nested.name nested.nothing) (record { sym = ns; ctxt = 0; rest = []; is = refl })
     (nested.node {inside = []} {rest = []} nested.nothing tt nested.nothing)
 
-has_specifiers : (part : List Item) → Contains (side_by_side 0 in_import) part → begins_in 0 part ≡ true → begins_with nested.is_import_specifier part ≡ true
+has_specifiers : (part : List Item) → Contains (side_by_side 0 in_import) part →
+    begins_in 0 part ≡ true → begins_with nested.is_import_specifier part ≡ true
 has_specifiers part (zero, l, e) is = ap (begins_with nested.is_import_specifier) (sym e)
 has_specifiers part (suc zero, l, e) is = absurd (true≢false (sym is ∙ ap (begins_in 0) (sym e)))
 has_specifiers part (suc (suc i), l, e) is = absurd (omega (arith, l))
 
 main_nodes : nested.AreNodes main
 main_nodes = nested.node {inside = in_import} {rest = statement} import_nodes has_specifiers
-    (nested.node {inside = in_statement} {rest = []} (nested.node {inside = in_call} {rest = []} call_nodes tt nested.nothing) tt nested.nothing)
+    (nested.node {inside = in_statement} {rest = []}
+        (nested.node {inside = in_call} {rest = []} call_nodes tt nested.nothing) tt
+        nested.nothing)
 
 tree_nodes : nested.AreNodes (tree_of p 0)
 tree_nodes = nested.node {inside = main} {rest = []} main_nodes tt nested.nothing
@@ -101,11 +104,15 @@ tree_listed : listed.AreListed listed.Other (tree_of p 0)
 tree_listed =
     listed.node {inside = main} {rest = []} tt
     (listed.node {inside = in_import} {rest = statement} tt
-    (listed.node {inside = in_specifier} {rest = node 1 (h.Str (codes "./a") None) []} tt (listed.name tt listed.nothing) (listed.node {inside = []} {rest = []} tt listed.nothing listed.nothing))
+    (listed.node {inside = in_specifier} {rest = node 1 (h.Str (codes "./a") None) []} tt
+        (listed.name tt listed.nothing)
+        (listed.node {inside = []} {rest = []} tt listed.nothing listed.nothing))
     (listed.node {inside = in_statement} {rest = []} tt
     (listed.node {inside = in_call} {rest = []} tt
     (listed.name refl (listed.node {inside = read} {rest = []} tt
-    (listed.node {inside = in_read} {rest = []} tt (listed.name refl (listed.node {inside = []} {rest = []} tt listed.nothing listed.nothing)) listed.nothing)
+    (listed.node {inside = in_read} {rest = []} tt
+        (listed.name refl (listed.node {inside = []} {rest = []} tt listed.nothing listed.nothing))
+        listed.nothing)
     listed.nothing))
     listed.nothing)
     listed.nothing))
@@ -116,10 +123,15 @@ listing = is_listing tree_listed
 
 -- its marks, by its notes
 abbrev notes : List Note
-notes = record { meant = Unbound used; whole = Alone } ∷ record { meant = Known (Of (Declared 1 x)); whole = Reads 1 } ∷ []
+notes =
+    record { meant = Unbound used; whole = Alone } ∷ record
+    { meant = Known (Of (Declared 1 x)); whole = Reads 1 } ∷ []
 
 statement_marked : MarkedStated None (Unbound []) notes statement
-    (k.Begins 0 h.ExprStmt ∷ k.Begins 0 h.CallExpr ∷ k.Name 0 (Unbound used) ∷ k.Begins 1 (h.ExprOrSpread false) ∷ k.Name 1 (Known (Of (Declared 1 x))) ∷ k.Ends ∷ k.Ends ∷ k.Ends ∷ []) []
+    (k.Begins 0 h.ExprStmt ∷ k.Begins 0 h.CallExpr ∷ k.Name 0 (Unbound used)
+        ∷ k.Begins 1 (h.ExprOrSpread false) ∷ k.Name 1 (Known (Of (Declared 1 x))) ∷ k.Ends
+        ∷ k.Ends ∷ k.Ends ∷ [])
+        []
 statement_marked = Itself 0 h.ExprStmt in_statement refl (Inside 0 h.ExprStmt {inside = in_statement} refl (Inside 0 h.CallExpr {inside = in_call} refl (Joined {first = uses 0 used} {second = node 1 (h.ExprOrSpread false) read}
     (Name Anywhere 0 used 0 Reference refl)
     (Inside 1 (h.ExprOrSpread false) {inside = read} refl (OfReads 1 1 in_read refl)))))
@@ -130,19 +142,27 @@ no_word y e = cc
 
 -- no call of `use` is replaced
 no_calls : (begins : ℕ) (by : Replacement) → begins ≡ 9 → Replaced p 0 begins by → ⊥
-no_calls begins by here (static_read {x = y} word reads) = no_word y (subst (λ b. read_word (tree_of p 0) b ≡ Some y) here word)
-no_calls begins by here (import_meta is) = true≢false (sym (subst (λ b. is_meta_at (slice_get (tree_of p 0) b) ≡ true) here is))
+no_calls begins by here (static_read {x = y} word reads) =
+    no_word y (subst (λ b. read_word (tree_of p 0) b ≡ Some y) here word)
+no_calls begins by here (import_meta is) =
+    true≢false (sym (subst (λ b. is_meta_at (slice_get (tree_of p 0) b) ≡ true) here is))
 no_calls begins by here (require_call call (i, l, e) at resolved) = grind arith
 
-no_meta : (xs : List Item) → has_head is_import_meta xs ≡ false → (place field : ℕ) → slice_get xs place ≡ Some (h.Open field (h.MetaPropExpr ImportMeta)) → ⊥
+no_meta : (xs : List Item) → has_head is_import_meta xs ≡ false → (place field : ℕ) →
+    slice_get xs place ≡ Some (h.Open field (h.MetaPropExpr ImportMeta)) → ⊥
 no_meta [] none place field e = none-some _ e
 no_meta (h.Open f head ∷ xs) none zero field e =
     let same : h.Open f head ≡ h.Open field (h.MetaPropExpr ImportMeta) = same_Some _ _ e in
     let heads : head ≡ h.MetaPropExpr ImportMeta = cc in
-    true≢false (ap (λ b. elim b [ true ↦ true | false ↦ has_head is_import_meta xs ]) (sym (ap is_import_meta heads)) ∙ none)
-no_meta (h.Open f head ∷ xs) none (suc place) field e = by (is_import_meta head) none (λ none. no_meta xs none place field e)
+    true≢false
+        (ap (λ b. elim b [ true ↦ true | false ↦ has_head is_import_meta xs ])
+        (sym (ap is_import_meta heads))
+        ∙ none)
+no_meta (h.Open f head ∷ xs) none (suc place) field e =
+    by (is_import_meta head) none (λ none. no_meta xs none place field e)
   where
-    by : (b : Bool) → (elim b [ true ↦ true | false ↦ has_head is_import_meta xs ]) ≡ false → (has_head is_import_meta xs ≡ false → ⊥) → ⊥
+    by : (b : Bool) → (elim b [ true ↦ true | false ↦ has_head is_import_meta xs ])
+        ≡ false → (has_head is_import_meta xs ≡ false → ⊥) → ⊥
     by true none more = true≢false none
     by false none more = more none
 no_meta (h.Ident f y c role ∷ xs) none zero field e = cc
@@ -158,36 +178,68 @@ no_namespace d e = cc
 no_top : (y : Text) → Some (Global used) ≡ Some (Bound Top (plain_name y)) → ⊥
 no_top y e = cc
 
-module _ (one_stands : (y : Text) (t u : Target) → StandsFor p 0 y t → StandsFor p 0 y u → t ≡ u) where
+module _
+    (one_stands : (y : Text) (t u : Target) → StandsFor p 0 y t → StandsFor p 0 y u → t ≡ u) where
   abbrev inner : List Denoted
   inner = inner_bindings (own_view p 0 Es) 0 (taken_from 8 statement)
 
   replaces : ReplacesNotable (own_sense p 0 Es) None
-  replaces = replaces_notable p 0 Es None (λ meant e. absurd (none-some meant e)) (λ place field e. absurd (no_meta (tree_of p 0) refl place field e)) tree_nodes listing
+  replaces =
+      replaces_notable p 0 Es None (λ meant e. absurd (none-some meant e))
+      (λ place field e. absurd (no_meta (tree_of p 0) refl place field e)) tree_nodes listing
 
   ns_stands : StandsFor p 0 ns (Namespace 1)
   ns_stands = taken_whole _ refl (of_module (record { resolved = refl; es = es_plain main 1 }))
 
   ns_means : WordsMean p 0 ns (x ∷ []) 1 (Declared 1 x)
-  ns_means = record { named = Namespace 1; stands = ns_stands; reads = on (x_is_linked main) (done (λ d y rest u e words linked. no_namespace d e)) }
+  ns_means =
+      record
+      { named = Namespace 1; stands = ns_stands; reads = on (x_is_linked main) (done (λ d y rest u e words linked. no_namespace d e)) }
 
   abbrev o_use : Occurrence
-  o_use = record { place = 10; sym = used; ctxt = 0; role = Reference; path = path_at (tree_of p 0) 10 }
+  o_use =
+      record
+      { place = 10; sym = used; ctxt = 0; role = Reference; path = path_at (tree_of p 0) 10 }
 
   abbrev o_ns : Occurrence
-  o_ns = record { place = 13; sym = ns; ctxt = 0; role = Reference; path = path_at (tree_of p 0) 13 }
+  o_ns =
+      record { place = 13; sym = ns; ctxt = 0; role = Reference; path = path_at (tree_of p 0) 13 }
 
   use_agreed : Agrees (own_sense p 0 Es) inner o_use (Unbound used) Alone
-  use_agreed = inner_alone p 0 tree_nodes one_stands Es inner o_use (is_there p 0 tree_nodes 10 o_use refl).1 (λ y e. no_top y e) (λ begins by near is. no_calls begins by (omega (arith, near)) is) (Global used) (Unbound used) refl unbound
+  use_agreed =
+      inner_alone p 0 tree_nodes one_stands Es inner o_use
+      (is_there p 0 tree_nodes 10 o_use refl).1 (λ y e. no_top y e)
+      (λ begins by near is. no_calls begins by (omega (arith, near)) is) (Global used)
+      (Unbound used) refl unbound
 
   ns_agreed : Agrees (own_sense p 0 Es) inner o_ns (Known (Of (Declared 1 x))) (Reads 1)
-  ns_agreed = use_agrees p 0 tree_nodes one_stands Es o_ns (is_there p 0 tree_nodes 13 o_ns refl).1 ns refl 0 (Declared 1 x) ns_means
+  ns_agreed =
+      use_agrees p 0 tree_nodes one_stands Es o_ns (is_there p 0 tree_nodes 13 o_ns refl).1 ns refl
+      0 (Declared 1 x) ns_means
 
-  agreed : AgreeInTurn (own_sense p 0 Es) inner (occurrences_from (spot_before (tree_of p 0) 8) statement) notes
+  agreed : AgreeInTurn (own_sense p 0 Es) inner
+      (occurrences_from (spot_before (tree_of p 0) 8) statement) notes
   agreed = (use_agreed, (ns_agreed, tt))
 
   -- the statement `use(ns.x);` means `use(l);`
   pub use_means : OwnMeaning p 0 (taken_from 8 statement)
-      (k.Begins 0 h.ExprStmt ∷ k.Begins 0 h.CallExpr ∷ k.Name 0 (Unbound used) ∷ k.Begins 1 (h.ExprOrSpread false) ∷ k.Name 1 (Known (Of (Declared 1 x))) ∷ k.Ends ∷ k.Ends ∷ k.Ends ∷ [])
-  use_means = top_means p 0 Es (is_es (es_plain main 0)) None (Unbound []) listing replaces 0 main [] (plain_nodes main_nodes) refl
-      (record { start = 8; items = statement }) (1, lit< tt, refl) notes [] _ statement_marked (taken_from 8 statement) refl agreed (λ e. absurd (true≢false (sym e)))
+      (k.Begins 0 h.ExprStmt ∷ k.Begins 0 h.CallExpr ∷ k.Name 0 (Unbound used)
+          ∷ k.Begins 1 (h.ExprOrSpread false) ∷ k.Name 1 (Known (Of (Declared 1 x))) ∷ k.Ends
+          ∷ k.Ends ∷ k.Ends ∷ [])
+  use_means =
+      top_means p 0 Es (is_es (es_plain main 0)) None (Unbound []) listing replaces 0 main []
+      (plain_nodes main_nodes) refl
+      (record { start = 8; items = statement }) (1, lit< tt, refl) notes [] _ statement_marked
+          (taken_from 8 statement) refl agreed (λ e. absurd (true≢false (sym e)))
+
+-- `ns.x = 1` writes, and reads nothing
+written : read_word
+    (module_of
+    (node 0 h.ExprStmt
+    (node 0 (h.AssignExpr Assign) (member 1 (uses 0 ns) x ++ node 2 (h.Number (codes "1")) []))))
+    3 ≡ None
+written = refl
+
+-- a plain word with a read around it is no static read
+word_read : are_reads 1 (h.Ident 0 ns 0 Word ∷ node 1 (h.IdentName x) []) ≡ false
+word_read = refl

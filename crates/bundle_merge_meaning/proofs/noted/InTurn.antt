@@ -4,7 +4,7 @@ use Rattle.std.specs.Prelude.{Contains, fold, slice_get}
 use Rattle.std.specs.List.{cons_option}
 use Rattle.std.proofs.lemmas.Option.{none-some, same_Some}
 use Rattle.bundle_tree_piece.specs.Item as h
-use Rattle.bundle_tree_piece.specs.Item.{Item, Head}
+use Rattle.bundle_tree_piece.specs.Item.{Item}
 use Rattle.bundle_rules.specs.Places.{Spot, Occurrence, past, start, path_at, occurrence_of, occurrence_at, occurrences_from, occurrences}
 use Rattle.bundle_rules.specs.Denotes.{Denoted}
 use Rattle.bundle_rules.specs.Program.{Program, tree_of}
@@ -15,47 +15,76 @@ use Rattle.bundle_merge_meaning.specs.noted.Marked.{Note}
 use Rattle.bundle_merge_meaning.specs.noted.Agrees.{IsAt, Agrees, AgreeInTurn, StandsForCall}
 use Rattle.bundle_merge_meaning.proofs.noted.Spots.{at-past}
 use Rattle.bundle_merge_meaning.proofs.noted.Names.{occurrences_append}
-use Rattle.bundle_merge_meaning.proofs.noted.Denoted.{at-occurrence}
+use Rattle.bundle_merge_meaning.proofs.noted.Denoted.{occurrence_there}
 use Rattle.bundle_merge_meaning.proofs.noted.ListFacts.{first-there}
 use Rattle.bundle_merge_meaning.proofs.noted.Agreements.{IsThere, call_head, agrees_call}
 use Rattle.bundle_merge_meaning.proofs.noted.UsesAgree.{path_next}
 
 -- its note is there, and what is noted is so
-pub record HasNote (sense : Sense) (inner : List Denoted) (notes : List Note) (i : ℕ) (o : Occurrence) : Type 0 where
+pub record HasNote (sense : Sense) (inner : List Denoted) (notes : List Note) (i : ℕ) (o : Occurrence) : Type
+    0 where
   pub note : Note
   pub there : slice_get notes i ≡ Some note
   pub agrees : Agrees sense inner o note.meant note.whole
 
-pub in_turn : (sense : Sense) (inner : List Denoted) (os : List Occurrence) (notes : List Note) → ((i : ℕ) (o : Occurrence) → slice_get os i ≡ Some o → HasNote sense inner notes i o) → AgreeInTurn sense inner os notes
+pub in_turn : (sense : Sense) (inner : List Denoted) (os : List Occurrence) (notes : List Note) →
+    ((i : ℕ) (o : Occurrence) → slice_get os i ≡ Some o → HasNote sense inner notes i o) →
+    AgreeInTurn sense inner os notes
 in_turn sense inner [] notes each = tt
 in_turn sense inner (o ∷ os) [] each = let its = each 0 o refl in none-some its.note its.there
-in_turn sense inner (o ∷ os) (note ∷ notes) each = (first (each 0 o refl), in_turn sense inner os notes (λ i p e. let its = each (suc i) p e in record { note = its.note; there = its.there; agrees = its.agrees }))
+in_turn sense inner (o ∷ os) (note ∷ notes) each =
+    (first (each 0 o refl), in_turn sense inner os notes
+    (λ i p e.
+    let its = each (suc i) p e in
+    record { note = its.note; there = its.there; agrees = its.agrees }))
   where
     first : HasNote sense inner (note ∷ notes) 0 o → Agrees sense inner o note.meant note.whole
-    first its = let same = same_Some note its.note its.there in subst (λ (n : Note). Agrees sense inner o n.meant n.whole) (sym same) its.agrees
+    first its =
+        let same = same_Some note its.note its.there in
+        subst (λ (n : Note). Agrees sense inner o n.meant n.whole) (sym same) its.agrees
 
 -- an occurrence of a part stands in the tree
-pub occurrence_in : {tree : List Item} (items tail : List Item) (s : Spot) → IsAt tree s (items ++ tail) → (i : ℕ) (o : Occurrence) → slice_get (occurrences_from s items) i ≡ Some o → (place : ℕ) × (occurrence_at tree place ≡ Some o)
+pub occurrence_in : {tree : List Item} (items tail : List Item) (s : Spot) →
+    IsAt tree s (items ++ tail) → (i : ℕ) (o : Occurrence) →
+    slice_get (occurrences_from s items) i ≡ Some o →
+    (place : ℕ) × (occurrence_at tree place ≡ Some o)
 occurrence_in [] tail s at i o e = absurd (none-some o e)
-occurrence_in {tree = tree} (x ∷ items) tail s at i o e = by (occurrence_of s x) (at-occurrence x (items ++ tail) at) i e (occurrence_in items tail (past s x) (at-past x (items ++ tail) at))
+occurrence_in {tree = tree} (x ∷ items) tail s at i o e =
+    by (occurrence_of s x) (occurrence_there at) i e
+    (occurrence_in items tail (past s x) (at-past x (items ++ tail) at))
   where
-    by : (one : Option Occurrence) → occurrence_at tree s.place ≡ one → (i : ℕ) → slice_get (cons_option one (occurrences_from (past s x) items)) i ≡ Some o → ((i : ℕ) (p : Occurrence) → slice_get (occurrences_from (past s x) items) i ≡ Some p → (place : ℕ) × (occurrence_at tree place ≡ Some p)) → (place : ℕ) × (occurrence_at tree place ≡ Some o)
+    by : (one : Option Occurrence) → occurrence_at tree s.place ≡ one → (i : ℕ) →
+        slice_get (cons_option one (occurrences_from (past s x) items)) i ≡ Some o →
+        ((i : ℕ) (p : Occurrence) → slice_get (occurrences_from (past s x) items) i ≡ Some p →
+        (place : ℕ) × (occurrence_at tree place ≡ Some p)) →
+        (place : ℕ) × (occurrence_at tree place ≡ Some o)
     by None is i e more = more i o e
     by (Some p) is zero e more = (s.place, is ∙ e)
     by (Some p) is (suc i) e more = more i o e
 
 -- the occurrences of a tree: those before a part, those in it, those behind it
-pub section : {tree : List Item} (items tail : List Item) (s : Spot) (at : IsAt tree s (items ++ tail)) → occurrences tree ≡ occurrences_from start at.front ++ (occurrences_from s items ++ occurrences_from (fold past s items) tail)
+pub section : {tree : List Item} (items tail : List Item) (s : Spot)
+    (at : IsAt tree s (items ++ tail)) →
+    occurrences tree
+    ≡ occurrences_from start at.front
+    ++ (occurrences_from s items ++ occurrences_from (fold past s items) tail)
 section items tail s at =
     ap occurrences at.tree_is
     ∙ occurrences_append start at.front (items ++ tail)
-    ∙ ap (λ t. occurrences_from start at.front ++ occurrences_from t (items ++ tail)) (sym at.spot_is)
+    ∙ ap (λ t. occurrences_from start at.front ++ occurrences_from t (items ++ tail))
+        (sym at.spot_is)
     ∙ ap (λ l. occurrences_from start at.front ++ l) (occurrences_append s items tail)
 
 -- the name of a literal call that is replaced
-pub call_agrees : (pr : Program) (m : ℕ) (nodes : nested.AreNodes (tree_of pr m)) (kind : ModuleKind) (o : Occurrence) → IsThere pr m nodes o → (begins l : ℕ) → o.place ≡ suc begins → Replaced pr m begins (ByCall (Load l)) → StandsForCall (own_sense pr m kind) o (Known (Load l))
+pub call_agrees : (pr : Program) (m : ℕ) (nodes : nested.AreNodes (tree_of pr m))
+    (kind : ModuleKind) (o : Occurrence) → IsThere pr m nodes o → (begins l : ℕ) →
+    o.place ≡ suc begins → Replaced pr m begins (ByCall (Load l)) →
+    StandsForCall (own_sense pr m kind) o (Known (Load l))
 call_agrees pr m nodes kind o there begins l place is =
     let head = call_head pr m nodes is in
     let path = path_next (tree_of pr m) begins head.0 h.CallExpr head.1 in
-    agrees_call pr m nodes kind o there l (record { head = h.CallExpr; begins = begins; field = path.0 })
-    (subst (λ p. Contains p (record { head = h.CallExpr; begins = begins; field = path.0 })) (sym (ap (path_at (tree_of pr m)) place ∙ path.1)) (first-there _ _)) is
+    agrees_call pr m nodes kind o there l
+        (record { head = h.CallExpr; begins = begins; field = path.0 })
+    (subst (λ p. Contains p (record { head = h.CallExpr; begins = begins; field = path.0 }))
+        (sym (ap (path_at (tree_of pr m)) place ∙ path.1)) (first-there _ _))
+        is

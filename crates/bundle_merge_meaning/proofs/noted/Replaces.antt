@@ -1,5 +1,5 @@
 -- What is replaced in a module is what notes can tell of: static reads around a name, literal calls, `import.meta`.
-use Rattle.std.proofs.Common.{◌≡◌, inl, inr, ℕ, zero, suc, ◌+◌, ◌==◌, Bool, true, false, cond, not, ◌||◌, ◌&&◌, List, [], ◌∷◌, ◌++◌, append_assoc, append-nil, filter, take, drop, Option, Some, None, refl, sym, ap, ◌∙◌, subst, arith}
+use Rattle.std.proofs.Common.{◌≡◌, inl, inr, ℕ, zero, suc, ◌+◌, Bool, true, false, cond, not, ◌||◌, ◌&&◌, List, [], ◌∷◌, ◌++◌, append_assoc, append-nil, filter, take, drop, Option, Some, None, refl, sym, ap, ◌∙◌, subst, arith}
 use Rattle.std.specs.Prelude.{if◌then◌else◌, Contains, slice_get, option_map, option_and_then}
 use Rattle.std.proofs.lemmas.Bool.{false≢true, true≢false, or_right}
 use Rattle.std.proofs.lemmas.Option.{none-some, same_Some}
@@ -26,38 +26,44 @@ use Rattle.bundle_tree_places.proofs.ListLemmas.{drop_at}
 use Rattle.bundle_merge_meaning.specs.noted.Nodes as n
 use Rattle.bundle_merge_meaning.specs.noted.Nodes.{AreNodes}
 use Rattle.bundle_merge_meaning.specs.noted.Nested as nested
-use Rattle.bundle_merge_meaning.specs.noted.Nested.{HasParts, AreTwo}
+use Rattle.bundle_merge_meaning.specs.noted.Nested.{HasParts}
 use Rattle.bundle_merge_meaning.specs.noted.Marked.{behind_word, behind_reads, is_end, are_reads, keeps_first}
 use Rattle.bundle_merge_meaning.specs.noted.Agrees.{IsAt, IsListing, IsNotable, by_reads, by_call, by_meta, IsNotedNode, ReplacesNotable}
 use Rattle.bundle_merge_meaning.proofs.noted.Shapes.{IsReads, base, read, join, one_node, reads_nodes, in_other_field, IsLiteralCall, literal_call_of, call_is_literal}
+use Rattle.bundle_merge_meaning.proofs.noted.ListFacts.{drop-next}
 use Rattle.bundle_merge_meaning.proofs.noted.Names.{role_in_node, role_in_call}
 use Rattle.bundle_merge_meaning.proofs.noted.Tops.{beside_node}
 use Rattle.bundle_merge_meaning.proofs.noted.StaticReads.{NodeThere, node_there, beside_one, IsMemberOf, IsReadThere, read_there, get-drop}
 
 -- ---- reads by their elements
-drop-next : {A : Type 0} (xs : List A) (b : ℕ) (x : A) (rest : List A) → drop b xs ≡ x ∷ rest → drop (suc b) xs ≡ rest
-drop-next [] zero x rest e = cc
-drop-next [] (suc b) x rest e = cc
-drop-next (y ∷ xs) zero x rest e = cc
-drop-next (y ∷ xs) (suc b) x rest e = drop-next xs b x rest e
-
-reads_back : {count : ℕ} {xs : List Item} → IsReads count r.Reference xs → (rest : List Item) → behind_reads count (xs ++ rest) ≡ Some rest
+reads_back : {count : ℕ} {xs : List Item} → IsReads count r.Reference xs → (rest : List Item) →
+    behind_reads count (xs ++ rest) ≡ Some rest
 reads_back base rest = refl
 reads_back (read {count = count} {object = object} second word it) rest =
-    ap (λ l. behind_word (behind_reads count l)) (append_assoc object (h.Open second (h.IdentName word) ∷ h.Close ∷ h.Close ∷ []) rest)
+    ap (λ l. behind_word (behind_reads count l))
+        (append_assoc object (h.Open second (h.IdentName word) ∷ h.Close ∷ h.Close ∷ []) rest)
     ∙ ap behind_word (reads_back it (h.Open second (h.IdentName word) ∷ h.Close ∷ h.Close ∷ rest))
 
-pub are_reads_back : {count : ℕ} (field : ℕ) (inside : List Item) → IsReads count r.Reference (edits.node field h.MemberExpr inside) → are_reads count inside ≡ true
+pub are_reads_back : {count : ℕ} (field : ℕ) (inside : List Item) →
+    IsReads count r.Reference (edits.node field h.MemberExpr inside) →
+    are_reads count inside ≡ true
 are_reads_back {count = count} field inside it =
-    ap is_end (ap (behind_reads count) (sym (append-nil (edits.node 0 h.MemberExpr inside))) ∙ reads_back (in_other_field it field 0 inside refl) [])
+    ap is_end
+        (ap (behind_reads count) (sym (append-nil (edits.node 0 h.MemberExpr inside)))
+        ∙ reads_back (in_other_field it field 0 inside refl) [])
 
-reads_one : {count : ℕ} {role : Role} {xs : List Item} → IsReads count role xs → (rest : List Item) → side_by_side zero (xs ++ rest) ≡ xs ∷ side_by_side zero rest
+reads_one : {count : ℕ} {role : Role} {xs : List Item} → IsReads count role xs →
+    (rest : List Item) → side_by_side zero (xs ++ rest) ≡ xs ∷ side_by_side zero rest
 reads_one base rest = refl
 reads_one (read {field = field} {object = object} second word it) rest =
     let its_word : List Item = h.Open second (h.IdentName word) ∷ h.Close ∷ [] in
-    ap (λ l. side_by_side zero (h.Open field h.MemberExpr ∷ l)) (append_assoc object (h.Open second (h.IdentName word) ∷ h.Close ∷ h.Close ∷ []) rest ∙ sym (append_assoc object its_word (h.Close ∷ rest)))
-    ∙ beside_node field h.MemberExpr (join (reads_nodes it) (one_node second (h.IdentName word) n.nothing)) rest
-    ∙ ap (λ l. (h.Open field h.MemberExpr ∷ l) ∷ side_by_side zero rest) (append_assoc object its_word (h.Close ∷ []))
+    ap (λ l. side_by_side zero (h.Open field h.MemberExpr ∷ l))
+        (append_assoc object (h.Open second (h.IdentName word) ∷ h.Close ∷ h.Close ∷ []) rest
+        ∙ sym (append_assoc object its_word (h.Close ∷ rest)))
+    ∙ beside_node field h.MemberExpr
+        (join (reads_nodes it) (one_node second (h.IdentName word) n.nothing)) rest
+    ∙ ap (λ l. (h.Open field h.MemberExpr ∷ l) ∷ side_by_side zero rest)
+        (append_assoc object its_word (h.Close ∷ []))
 
 -- a read is a node
 pub record IsReadNode (count field : ℕ) (role : Role) (head : Head) (xs : List Item) : Type 0 where
@@ -75,32 +81,48 @@ pub record IsChain (tree : List Item) (place : ℕ) : Type 0 where
   pub reads : IsReads count role xs
   pub there : drop place tree ≡ xs ++ behind
 
-name_there : (tree : List Item) (place : ℕ) (d : Denoted) → denoted_at BySymbol Es tree place ≡ Some d → IsChain tree place
+name_there : (tree : List Item) (place : ℕ) (d : Denoted) →
+    denoted_at BySymbol Es tree place ≡ Some d → IsChain tree place
 name_there tree place d e = by (slice_get tree place) refl e
   where
-    by : (o : Option Item) → slice_get tree place ≡ o → option_map (denoted_of BySymbol Es (declared BySymbol Es tree)) (option_and_then (occurrence_of (spot_before tree place)) o) ≡ Some d → IsChain tree place
+    by : (o : Option Item) → slice_get tree place ≡ o →
+        option_map (denoted_of BySymbol Es (declared BySymbol Es tree))
+        (option_and_then (occurrence_of (spot_before tree place)) o) ≡ Some d → IsChain tree place
     by None at e = absurd (none-some d e)
     by (Some (h.Open field head)) at e = absurd (none-some d e)
     by (Some (h.Hole field)) at e = absurd (none-some d e)
     by (Some h.Close) at e = absurd (none-some d e)
-    by (Some (h.Ident field x ctxt role)) at e = record { count = 0; role = role; xs = h.Ident field x ctxt role ∷ []; behind = drop (suc place) tree; reads = base; there = drop_at tree place (h.Ident field x ctxt role) at }
+    by (Some (h.Ident field x ctxt role)) at e =
+        record
+        { count = 0; role = role; xs = h.Ident field x ctxt role ∷ []; behind = drop (suc place) tree; reads = base; there = drop_at tree place (h.Ident field x ctxt role) at }
 
-pub word_property : (tree : List Item) (place : ℕ) {x : Text} → read_word tree place ≡ Some x → ((is_written_to (path_at tree place) || is_optional_base (path_at tree place)) ≡ false) × (property_of (node_at tree place) ≡ Some x)
-word_property tree place {x = x} e = by (is_written_to (path_at tree place) || is_optional_base (path_at tree place)) refl e
+pub word_property : (tree : List Item) (place : ℕ) {x : Text} → read_word tree place ≡ Some x →
+    ((is_written_to (path_at tree place) || is_optional_base (path_at tree place)) ≡ false)
+    × (property_of (node_at tree place) ≡ Some x)
+word_property tree place {x = x} e =
+    by (is_written_to (path_at tree place) || is_optional_base (path_at tree place)) refl e
   where
-    by : (b : Bool) → (is_written_to (path_at tree place) || is_optional_base (path_at tree place)) ≡ b → (if b then None else property_of (node_at tree place)) ≡ Some x → ((is_written_to (path_at tree place) || is_optional_base (path_at tree place)) ≡ false) × (property_of (node_at tree place) ≡ Some x)
+    by : (b : Bool) →
+        (is_written_to (path_at tree place) || is_optional_base (path_at tree place)) ≡ b →
+        (if b then None else property_of (node_at tree place)) ≡ Some x →
+        ((is_written_to (path_at tree place) || is_optional_base (path_at tree place)) ≡ false)
+        × (property_of (node_at tree place) ≡ Some x)
     by true is e = absurd (none-some x e)
     by false is e = (is, e)
 
 -- one read around a chain
-chain_around : {tree : List Item} (place : ℕ) {x : Text} → IsReadThere tree place x → (its : IsChain tree (suc place)) → (more : IsChain tree place) × (more.count ≡ suc its.count)
+chain_around : {tree : List Item} (place : ℕ) {x : Text} → IsReadThere tree place x →
+    (its : IsChain tree (suc place)) → (more : IsChain tree place) × (more.count ≡ suc its.count)
 chain_around {tree = tree} place {x = x} here its = (record {
   count = suc its.count;
   role = its.role;
   xs = h.Open here.field h.MemberExpr ∷ (its.xs ++ word_end);
   behind = here.behind;
   reads = read member.field x its.reads;
-  there = here.there ∙ ap (λ l. h.Open here.field h.MemberExpr ∷ l) (inside_is ∙ sym (append_assoc its.xs word_end here.behind));
+  there =
+      here.there
+      ∙ ap (λ l. h.Open here.field h.MemberExpr ∷ l)
+      (inside_is ∙ sym (append_assoc its.xs word_end here.behind));
 }, refl)
   where
     member : IsMemberOf x here.inside
@@ -112,46 +134,80 @@ chain_around {tree = tree} place {x = x} here its = (record {
     word_end : List Item
     word_end = h.Open member.field (h.IdentName x) ∷ h.Close ∷ h.Close ∷ []
 
-    in_it : drop (suc place) tree ≡ member.object ++ (h.Open member.field (h.IdentName x) ∷ h.Close ∷ (h.Close ∷ here.behind))
+    in_it : drop (suc place) tree
+        ≡ member.object
+        ++ (h.Open member.field (h.IdentName x) ∷ h.Close ∷ (h.Close ∷ here.behind))
     in_it =
-        drop-next tree place (h.Open here.field h.MemberExpr) (here.inside ++ h.Close ∷ here.behind) here.there
+        drop-next tree place (h.Open here.field h.MemberExpr)
+            (here.inside ++ h.Close ∷ here.behind) here.there
         ∙ ap (λ l. l ++ h.Close ∷ here.behind) member.is
-        ∙ append_assoc member.object (h.Open member.field (h.IdentName x) ∷ h.Close ∷ []) (h.Close ∷ here.behind)
+        ∙ append_assoc member.object (h.Open member.field (h.IdentName x) ∷ h.Close ∷ [])
+            (h.Close ∷ here.behind)
 
     same : its.xs ≡ member.object
-    same = ap first_or_nothing (sym (reads_one its.reads its.behind) ∙ ap (side_by_side zero) (sym its.there ∙ in_it) ∙ beside_one member.one (h.Open member.field (h.IdentName x) ∷ h.Close ∷ (h.Close ∷ here.behind)))
+    same =
+        ap first_or_nothing
+        (sym (reads_one its.reads its.behind)
+        ∙ ap (side_by_side zero) (sym its.there ∙ in_it)
+        ∙ beside_one member.one
+        (h.Open member.field (h.IdentName x) ∷ h.Close ∷ (h.Close ∷ here.behind)))
 
-    inside_is : here.inside ++ h.Close ∷ here.behind ≡ its.xs ++ (h.Open member.field (h.IdentName x) ∷ h.Close ∷ h.Close ∷ here.behind)
+    inside_is : here.inside ++ h.Close ∷ here.behind
+        ≡ its.xs ++ (h.Open member.field (h.IdentName x) ∷ h.Close ∷ h.Close ∷ here.behind)
     inside_is =
         ap (λ l. l ++ h.Close ∷ here.behind) member.is
-        ∙ append_assoc member.object (h.Open member.field (h.IdentName x) ∷ h.Close ∷ []) (h.Close ∷ here.behind)
-        ∙ ap (λ l. l ++ (h.Open member.field (h.IdentName x) ∷ h.Close ∷ h.Close ∷ here.behind)) (sym same)
+        ∙ append_assoc member.object (h.Open member.field (h.IdentName x) ∷ h.Close ∷ [])
+            (h.Close ∷ here.behind)
+        ∙ ap (λ l. l ++ (h.Open member.field (h.IdentName x) ∷ h.Close ∷ h.Close ∷ here.behind))
+            (sym same)
 
 -- what reads as a target is a name with reads around it
-pub chain_of : {pr : Program} {m place : ℕ} {t : Target} → nested.AreNodes (tree_of pr m) → ReadsAs pr m place t → IsChain (tree_of pr m) place
-chain_of {pr = pr} {m = m} nodes (by_name {place = place} denotes stands) = name_there (tree_of pr m) place _ denotes
+pub chain_of : {pr : Program} {m place : ℕ} {t : Target} → nested.AreNodes (tree_of pr m) →
+    ReadsAs pr m place t → IsChain (tree_of pr m) place
+chain_of {pr = pr} {m = m} nodes (by_name {place = place} denotes stands) =
+    name_there (tree_of pr m) place _ denotes
 chain_of {pr = pr} {m = m} nodes (by_read {place = place} {x = x} is reads linked) =
     let word = word_property (tree_of pr m) place is in
     let more = chain_around place (read_there nodes place x word.1) (chain_of nodes reads) in
     more.0
 
 -- a chain that begins with a node
-pub read_node : (tree : List Item) (place : ℕ) {count : ℕ} {role : Role} {xs : List Item} (behind : List Item) → IsReads count role xs → drop place tree ≡ xs ++ behind → (field : ℕ) (head : Head) → slice_get tree place ≡ Some (h.Open field head) → IsReadNode count field role head xs
-read_node tree place behind (base {field = f} {ctxt = ctxt} {x = x} {role = role}) there field head e = absurd (no_name (sym (get-drop tree place ∙ ap (λ l. slice_get l 0) there) ∙ e))
+pub read_node : (tree : List Item) (place : ℕ) {count : ℕ} {role : Role} {xs : List Item}
+    (behind : List Item) → IsReads count role xs → drop place tree ≡ xs ++ behind →
+    (field : ℕ) (head : Head) → slice_get tree place ≡ Some (h.Open field head) →
+    IsReadNode count field role head xs
+read_node tree place behind (base {field = f} {ctxt = ctxt} {x = x} {role = role}) there field head
+    e =
+    absurd (no_name (sym (get-drop tree place ∙ ap (λ l. slice_get l 0) there) ∙ e))
   where
     no_name : Some (h.Ident f x ctxt role) ≡ Some (h.Open field head) → ⊥
     no_name e = cc
-read_node tree place {count = suc count} {role = role} behind (read {field = f} {object = object} second word it) there field head e =
-    let first : h.Open f h.MemberExpr ≡ h.Open field head = same_Some (h.Open f h.MemberExpr) (h.Open field head) (sym (get-drop tree place ∙ ap (λ l. slice_get l 0) there) ∙ e) in
+read_node tree place {count = suc count} {role = role} behind
+    (read {field = f} {object = object} second word it) there field head e =
+    let first : h.Open f h.MemberExpr ≡ h.Open field head =
+        same_Some (h.Open f h.MemberExpr) (h.Open field head)
+        (sym (get-drop tree place ∙ ap (λ l. slice_get l 0) there) ∙ e) in
     let its_head : head ≡ h.MemberExpr = cc in
     let its_field : f ≡ field = cc in
     let inside : List Item = object ++ h.Open second (h.IdentName word) ∷ h.Close ∷ [] in
     let is : h.Open f h.MemberExpr ∷ (object ++ h.Open second (h.IdentName word) ∷ h.Close ∷ h.Close ∷ []) ≡ edits.node field h.MemberExpr inside =
-        ap (λ n. h.Open n h.MemberExpr ∷ (object ++ h.Open second (h.IdentName word) ∷ h.Close ∷ h.Close ∷ [])) its_field ∙ ap (λ l. h.Open field h.MemberExpr ∷ l) (sym (append_assoc object (h.Open second (h.IdentName word) ∷ h.Close ∷ []) (h.Close ∷ []))) in
-    record { inside = inside; its_head = its_head; is = is; reads = subst (IsReads (suc count) role) is (read second word it) }
+        ap
+            (λ n.
+            h.Open n h.MemberExpr
+            ∷ (object ++ h.Open second (h.IdentName word) ∷ h.Close ∷ h.Close ∷ []))
+            its_field
+            ∙ ap (λ l. h.Open field h.MemberExpr ∷ l)
+            (sym
+            (append_assoc object (h.Open second (h.IdentName word) ∷ h.Close ∷ []) (h.Close ∷ [])))
+            in
+    record
+        { inside = inside; its_head = its_head; is = is; reads = subst (IsReads (suc count) role) is (read second word it) }
 
 -- where a read may be static, no node keeps it
-keeps_no_read : (tree : List Item) (place : ℕ) → (is_written_to (path_at tree place) || is_optional_base (path_at tree place)) ≡ false → (around : Around) (outer : List Around) → path_at tree place ≡ around ∷ outer → keeps_first around.head around.field ≡ true → ⊥
+keeps_no_read : (tree : List Item) (place : ℕ) →
+    (is_written_to (path_at tree place) || is_optional_base (path_at tree place)) ≡ false →
+    (around : Around) (outer : List Around) → path_at tree place ≡ around ∷ outer →
+    keeps_first around.head around.field ≡ true → ⊥
 keeps_no_read tree place free around outer path keeps = by around.head refl keeps
   where
     free_here : (is_written_to (around ∷ outer) || is_optional_base (around ∷ outer)) ≡ false
@@ -159,19 +215,32 @@ keeps_no_read tree place free around outer path keeps = by around.head refl keep
 
     by : (k : Head) → around.head ≡ k → keeps_first k around.field ≡ true → ⊥
     by (h.AssignExpr op) is keeps =
-        let written : writes around.head around.field ≡ true = ap (λ k. writes k around.field) is ∙ keeps in
-        true≢false (sym (ap (λ b. (b || (passes_writes around.head around.field && is_written_to outer)) || is_optional_base (around ∷ outer)) written) ∙ free_here)
+        let written : writes around.head around.field ≡ true =
+            ap (λ k. writes k around.field) is ∙ keeps in
+        true≢false
+            (sym
+            (ap
+            (λ b.
+            (b || (passes_writes around.head around.field && is_written_to outer))
+            || is_optional_base (around ∷ outer))
+            written)
+            ∙ free_here)
     by (h.OptChainExpr optional) is keeps =
         let base : is_optional_chain around.head ≡ true = ap is_optional_chain is in
-        true≢false (sym (or_right (is_written_to (around ∷ outer)) (is_optional_base (around ∷ outer)) base) ∙ free_here)
+        true≢false
+            (sym
+            (or_right (is_written_to (around ∷ outer)) (is_optional_base (around ∷ outer)) base)
+            ∙ free_here)
     by _ is keeps = false≢true keeps
 
 -- ---- literal calls
-after_is : (test : Item → Bool) (items : List Item) (y : Item) (ys : List Item) → after test items ≡ y ∷ ys → (x : Item) × (items ≡ x ∷ y ∷ ys) × (test x ≡ true)
+after_is : (test : Item → Bool) (items : List Item) (y : Item) (ys : List Item) →
+    after test items ≡ y ∷ ys → (x : Item) × (items ≡ x ∷ y ∷ ys) × (test x ≡ true)
 after_is test [] y ys e = cc
 after_is test (x ∷ rest) y ys e = by (test x) refl e
   where
-    by : (b : Bool) → test x ≡ b → (if b then rest else []) ≡ y ∷ ys → (z : Item) × (x ∷ rest ≡ z ∷ y ∷ ys) × (test z ≡ true)
+    by : (b : Bool) → test x ≡ b → (if b then rest else []) ≡ y ∷ ys →
+        (z : Item) × (x ∷ rest ≡ z ∷ y ∷ ys) × (test z ≡ true)
     by true is e = (x, ap (λ l. x ∷ l) e, is)
     by false is e = cc
 
@@ -179,19 +248,23 @@ is_call_is : (x : Item) → is_call x ≡ true → (field : ℕ) × (x ≡ h.Ope
 is_call_is (h.Open field h.CallExpr) e = (field, refl)
 is_call_is _ e = absurd (false≢true e)
 
-is_name_is : (x : Item) → is_require_name x ≡ true → (field : ℕ) × (y : Text) × (ctxt : ℕ) × (role : Role) × (x ≡ h.Ident field y ctxt role)
+is_name_is : (x : Item) → is_require_name x ≡ true →
+    (field : ℕ) × (y : Text) × (ctxt : ℕ) × (role : Role) × (x ≡ h.Ident field y ctxt role)
 is_name_is (h.Ident field y ctxt role) e = (field, y, ctxt, role, refl)
 is_name_is _ e = absurd (false≢true e)
 
-is_argument_is : (x : Item) → is_plain_argument x ≡ true → (field : ℕ) × (x ≡ h.Open field (h.ExprOrSpread false))
+is_argument_is : (x : Item) → is_plain_argument x ≡ true →
+    (field : ℕ) × (x ≡ h.Open field (h.ExprOrSpread false))
 is_argument_is (h.Open field (h.ExprOrSpread false)) e = (field, refl)
 is_argument_is _ e = absurd (false≢true e)
 
-is_string_is : (x : Item) (rest : List Item) (text : Text) → string_of (x ∷ rest) ≡ Some text → (field : ℕ) × (value : Text) × (raw : Option Text) × (x ≡ h.Open field (h.Str value raw))
+is_string_is : (x : Item) (rest : List Item) (text : Text) → string_of (x ∷ rest) ≡ Some text →
+    (field : ℕ) × (value : Text) × (raw : Option Text) × (x ≡ h.Open field (h.Str value raw))
 is_string_is (h.Open field (h.Str value raw)) rest text e = (field, value, raw, refl)
 is_string_is _ rest text e = absurd (none-some text e)
 
-three_ends : (rest : List Item) → ends 3 rest ≡ true → (behind : List Item) × (rest ≡ h.Close ∷ h.Close ∷ h.Close ∷ behind)
+three_ends : (rest : List Item) → ends 3 rest ≡ true →
+    (behind : List Item) × (rest ≡ h.Close ∷ h.Close ∷ h.Close ∷ behind)
 three_ends (h.Close ∷ h.Close ∷ h.Close ∷ behind) e = (behind, refl)
 three_ends _ e = absurd (false≢true e)
 
@@ -203,12 +276,17 @@ pub record IsCallThere (items : List Item) : Type 0 where
   pub role : Role
   pub literal : IsLiteralCall role inside
 
-pub required_there : (items : List Item) (text : Text) → required_at items ≡ Some text → IsCallThere items
-required_there items text e = only (after is_plain_argument (after is_require_name (after is_call items))) refl e
+pub required_there : (items : List Item) (text : Text) → required_at items ≡ Some text →
+    IsCallThere items
+required_there items text e =
+    only (after is_plain_argument (after is_require_name (after is_call items))) refl e
   where
-    string : (x : Item) (rest : List Item) → after is_plain_argument (after is_require_name (after is_call items)) ≡ x ∷ rest → ends 3 rest ≡ true → string_of (x ∷ rest) ≡ Some text → IsCallThere items
+    string : (x : Item) (rest : List Item) →
+        after is_plain_argument (after is_require_name (after is_call items)) ≡ x ∷ rest →
+        ends 3 rest ≡ true → string_of (x ∷ rest) ≡ Some text → IsCallThere items
     string x rest is closes text_is =
-        let third = after_is is_plain_argument (after is_require_name (after is_call items)) x rest is in
+        let third =
+            after_is is_plain_argument (after is_require_name (after is_call items)) x rest is in
         let second = after_is is_require_name (after is_call items) third.0 (x ∷ rest) third.1 in
         let first = after_is is_call items second.0 (third.0 ∷ x ∷ rest) second.1 in
         let call = is_call_is first.0 first.2 in
@@ -218,71 +296,123 @@ required_there items text e = only (after is_plain_argument (after is_require_na
         let its_ends = three_ends rest closes in
         record {
           field = call.0;
-          inside = h.Ident name.0 name.1 name.2 name.3 ∷ h.Open argument.0 (h.ExprOrSpread false) ∷ h.Open its_string.0 (h.Str its_string.1 its_string.2) ∷ h.Close ∷ h.Close ∷ [];
+          inside =
+              h.Ident name.0 name.1 name.2 name.3 ∷ h.Open argument.0 (h.ExprOrSpread false)
+              ∷ h.Open its_string.0 (h.Str its_string.1 its_string.2) ∷ h.Close ∷ h.Close ∷ [];
           behind = its_ends.0;
           is =
               first.1
               ∙ ap (λ y. y ∷ second.0 ∷ third.0 ∷ x ∷ rest) call.1
               ∙ ap (λ y. h.Open call.0 h.CallExpr ∷ y ∷ third.0 ∷ x ∷ rest) name.4
-              ∙ ap (λ y. h.Open call.0 h.CallExpr ∷ h.Ident name.0 name.1 name.2 name.3 ∷ y ∷ x ∷ rest) argument.1
-              ∙ ap (λ y. h.Open call.0 h.CallExpr ∷ h.Ident name.0 name.1 name.2 name.3 ∷ h.Open argument.0 (h.ExprOrSpread false) ∷ y ∷ rest) its_string.3
-              ∙ ap (λ l. h.Open call.0 h.CallExpr ∷ h.Ident name.0 name.1 name.2 name.3 ∷ h.Open argument.0 (h.ExprOrSpread false) ∷ h.Open its_string.0 (h.Str its_string.1 its_string.2) ∷ l) its_ends.1;
+              ∙ ap
+                  (λ y.
+                  h.Open call.0 h.CallExpr ∷ h.Ident name.0 name.1 name.2 name.3 ∷ y ∷ x ∷ rest)
+                  argument.1
+              ∙ ap
+                  (λ y.
+                  h.Open call.0 h.CallExpr ∷ h.Ident name.0 name.1 name.2 name.3
+                  ∷ h.Open argument.0 (h.ExprOrSpread false) ∷ y ∷ rest)
+                  its_string.3
+              ∙ ap
+                  (λ l.
+                  h.Open call.0 h.CallExpr ∷ h.Ident name.0 name.1 name.2 name.3
+                  ∷ h.Open argument.0 (h.ExprOrSpread false)
+                  ∷ h.Open its_string.0 (h.Str its_string.1 its_string.2) ∷ l)
+                  its_ends.1;
           role = name.3;
-          literal = literal_call_of name.0 name.1 name.2 name.3 (h.Open argument.0 (h.ExprOrSpread false) ∷ h.Open its_string.0 (h.Str its_string.1 its_string.2) ∷ h.Close ∷ h.Close ∷ []) refl;
+          literal =
+              literal_call_of name.0 name.1 name.2 name.3
+              (h.Open argument.0 (h.ExprOrSpread false)
+              ∷ h.Open its_string.0 (h.Str its_string.1 its_string.2) ∷ h.Close ∷ h.Close ∷ [])
+              refl;
         }
 
-    only : (l : List Item) → after is_plain_argument (after is_require_name (after is_call items)) ≡ l → only_argument l ≡ Some text → IsCallThere items
+    only : (l : List Item) →
+        after is_plain_argument (after is_require_name (after is_call items)) ≡ l →
+        only_argument l ≡ Some text → IsCallThere items
     only [] is e = absurd (none-some text e)
     only (x ∷ rest) is e = by (ends 3 rest) refl e
       where
-        by : (b : Bool) → ends 3 rest ≡ b → (if b then string_of (x ∷ rest) else None) ≡ Some text → IsCallThere items
+        by : (b : Bool) → ends 3 rest ≡ b →
+            (if b then string_of (x ∷ rest) else None) ≡ Some text → IsCallThere items
         by true closes e = string x rest is closes e
         by false closes e = absurd (none-some text e)
 
 -- a call of a list stands where it says
-call_there : (free : ℕ → Bool) (place : ℕ) (items : List Item) (call : RequireCall) → Contains (require_calls_from free place items) call → (k : ℕ) × (call.place ≡ place + k) × (required_at (drop k items) ≡ Some call.specifier)
+call_there : (free : ℕ → Bool) (place : ℕ) (items : List Item) (call : RequireCall) →
+    Contains (require_calls_from free place items) call →
+    (k : ℕ) × (call.place ≡ place + k) × (required_at (drop k items) ≡ Some call.specifier)
 call_there free place [] call c = let l = c.1 in absurd (omega (arith, l))
 call_there free place (x ∷ rest) call c = elim (Contains-append_cases (call_at free place (required_at (x ∷ rest))) (require_calls_from free (suc place) rest) call c) [
   | inl here ↦ first (required_at (x ∷ rest)) refl here
   | inr more ↦ let its = call_there free (suc place) rest call more in let e = its.1 in (suc its.0, omega (arith, e), its.2)
 ]
   where
-    found : (text : Text) → required_at (x ∷ rest) ≡ Some text → Contains (record { place = place; specifier = text } ∷ []) call → (k : ℕ) × (call.place ≡ place + k) × (required_at (drop k (x ∷ rest)) ≡ Some call.specifier)
-    found text is (zero, l, e) = (0, (let p : place ≡ call.place = ap (λ (it : RequireCall). it.place) e in omega (arith, p)), is ∙ ap (λ (it : RequireCall). Some it.specifier) e)
+    found : (text : Text) → required_at (x ∷ rest) ≡ Some text →
+        Contains (record { place = place; specifier = text } ∷ []) call →
+        (k : ℕ) × (call.place ≡ place + k)
+        × (required_at (drop k (x ∷ rest)) ≡ Some call.specifier)
+    found text is (zero, l, e) =
+        (0,
+        (let p : place ≡ call.place = ap (λ (it : RequireCall). it.place) e in omega (arith, p)),
+        is
+        ∙ ap (λ (it : RequireCall). Some it.specifier) e)
     found text is (suc i, l, e) = absurd (omega (arith, l))
 
-    first : (o : Option Text) → required_at (x ∷ rest) ≡ o → Contains (call_at free place o) call → (k : ℕ) × (call.place ≡ place + k) × (required_at (drop k (x ∷ rest)) ≡ Some call.specifier)
+    first : (o : Option Text) → required_at (x ∷ rest) ≡ o → Contains (call_at free place o) call →
+        (k : ℕ) × (call.place ≡ place + k)
+        × (required_at (drop k (x ∷ rest)) ≡ Some call.specifier)
     first None is c = let l = c.1 in absurd (omega (arith, l))
     first (Some text) is c = by (free (suc place)) c
       where
-        by : (b : Bool) → Contains (if b then record { place = place; specifier = text } ∷ [] else []) call → (k : ℕ) × (call.place ≡ place + k) × (required_at (drop k (x ∷ rest)) ≡ Some call.specifier)
+        by : (b : Bool) →
+            Contains (if b then record { place = place; specifier = text } ∷ [] else []) call →
+            (k : ℕ) × (call.place ≡ place + k)
+            × (required_at (drop k (x ∷ rest)) ≡ Some call.specifier)
         by true c = found text is c
         by false c = let l = c.1 in absurd (omega (arith, l))
 
-filter_back : {A : Type 0} (test : A → Bool) (xs : List A) (x : A) → Contains (filter test xs) x → Contains xs x
+filter_back : {A : Type 0} (test : A → Bool) (xs : List A) (x : A) → Contains (filter test xs) x →
+    Contains xs x
 filter_back test [] x c = c
 filter_back {A = A} test (y ∷ ys) x c = by (test y) c (filter_back test ys x)
   where
     later : Contains ys x → Contains (y ∷ ys) x
     later (i, l, e) = (suc i, omega (arith, l), e)
 
-    by : (b : Bool) → Contains (cond b (y ∷ filter test ys) (filter test ys)) x → (Contains (filter test ys) x → Contains ys x) → Contains (y ∷ ys) x
+    by : (b : Bool) → Contains (cond b (y ∷ filter test ys) (filter test ys)) x →
+        (Contains (filter test ys) x → Contains ys x) → Contains (y ∷ ys) x
     by true (zero, l, e) ih = (zero, omega arith, e)
     by true (suc i, l, e) ih = later (ih (i, omega (arith, l), e))
     by false c ih = later (ih c)
 
-pub linked_there : (settings : Settings) (free : ℕ → Bool) (tree : List Item) (call : RequireCall) → Contains (linked_calls settings free tree) call → required_at (drop call.place tree) ≡ Some call.specifier
+pub linked_there : (settings : Settings) (free : ℕ → Bool) (tree : List Item)
+    (call : RequireCall) → Contains (linked_calls settings free tree) call →
+    required_at (drop call.place tree) ≡ Some call.specifier
 linked_there settings free tree call c = by settings.require c
   where
-    there : Contains (require_calls_from free 0 tree) call → required_at (drop call.place tree) ≡ Some call.specifier
-    there c = let its = call_there free 0 tree call c in let e = its.1 in let same : call.place ≡ its.0 = omega (arith, e) in ap (λ k. required_at (drop k tree)) same ∙ its.2
+    there : Contains (require_calls_from free 0 tree) call →
+        required_at (drop call.place tree) ≡ Some call.specifier
+    there c =
+        let its = call_there free 0 tree call c in
+        let e = its.1 in
+        let same : call.place ≡ its.0 = omega (arith, e) in
+        ap (λ k. required_at (drop k tree)) same ∙ its.2
 
-    by : (b : Bool) → Contains (if b then filter (λ (it : RequireCall). not (has_text it.specifier settings.external)) (require_calls_from free 0 tree) else []) call → required_at (drop call.place tree) ≡ Some call.specifier
-    by true c = there (filter_back (λ (it : RequireCall). not (has_text it.specifier settings.external)) (require_calls_from free 0 tree) call c)
+    by : (b : Bool) →
+        Contains
+        (if b then filter (λ (it : RequireCall). not (has_text it.specifier settings.external))
+        (require_calls_from free 0 tree) else [])
+        call → required_at (drop call.place tree) ≡ Some call.specifier
+    by true c =
+        there
+        (filter_back (λ (it : RequireCall). not (has_text it.specifier settings.external))
+        (require_calls_from free 0 tree) call c)
     by false c = let l = c.1 in absurd (omega (arith, l))
 
 -- ---- `import.meta`
-meta_kind : (kind : _) → is_import_meta_kind kind ≡ true → h.MetaPropExpr kind ≡ h.MetaPropExpr p.ImportMeta
+meta_kind : (kind : _) → is_import_meta_kind kind ≡ true →
+    h.MetaPropExpr kind ≡ h.MetaPropExpr p.ImportMeta
 meta_kind p.ImportMeta e = refl
 meta_kind p.NewTarget e = absurd (false≢true e)
 
@@ -291,23 +421,44 @@ meta_head (h.MetaPropExpr kind) e = meta_kind kind e
 meta_head _ e = absurd (false≢true e)
 
 -- ---- the whole
-at_there : (tree : List Item) (place : ℕ) {rest : List Item} → drop place tree ≡ rest → IsAt tree (spot_before tree place) rest
-at_there tree place is = record { front = take place tree; tree_is = sym (take-append-drop place tree) ∙ ap (λ l. take place tree ++ l) is; spot_is = refl }
+at_there : (tree : List Item) (place : ℕ) {rest : List Item} → drop place tree ≡ rest →
+    IsAt tree (spot_before tree place) rest
+at_there tree place is =
+    record
+    { front = take place tree; tree_is = sym (take-append-drop place tree) ∙ ap (λ l. take place tree ++ l) is; spot_is = refl }
 
 -- what `import.meta` stands for in a module is known, if it stands there
 abbrev pub MetaIs : Program → ℕ → Option Meant → Type 0
-MetaIs pr m meta = (place field : ℕ) → slice_get (tree_of pr m) place ≡ Some (h.Open field (h.MetaPropExpr p.ImportMeta)) → meta ≡ Some (Known (Meta m))
+MetaIs pr m meta =
+    (place field : ℕ) →
+    slice_get (tree_of pr m) place ≡ Some (h.Open field (h.MetaPropExpr p.ImportMeta)) →
+    meta ≡ Some (Known (Meta m))
 
 same_head : {f g : ℕ} {a b : Head} → h.Open f a ≡ h.Open g b → a ≡ b
 same_head e = cc
 
-noted_node : (pr : Program) (m : ℕ) (meta : Option Meant) → nested.AreNodes (tree_of pr m) → IsListing (tree_of pr m) → MetaIs pr m meta → (place field : ℕ) (head : Head) {by : Replacement} → slice_get (tree_of pr m) place ≡ Some (h.Open field head) → Replaced pr m place by → IsNotedNode (tree_of pr m) meta place field head by
+noted_node : (pr : Program) (m : ℕ) (meta : Option Meant) → nested.AreNodes (tree_of pr m) →
+    IsListing (tree_of pr m) → MetaIs pr m meta →
+    (place field : ℕ) (head : Head) {by : Replacement} →
+    slice_get (tree_of pr m) place ≡ Some (h.Open field head) → Replaced pr m place by →
+    IsNotedNode (tree_of pr m) meta place field head by
 noted_node pr m meta nodes listing metas place field head there (static_read {x = x} {t = t} word reads) = record {
   inside = its.inside;
   behind = chain.behind;
-  there = chain.there ∙ ap (λ l. l ++ chain.behind) (its.is ∙ ap (λ k. edits.node field k its.inside) (sym its.its_head));
-  notable = subst (λ k. IsNotable meta k its.inside (ByName (Of t))) (sym its.its_head) (by_reads chain.count (are_reads_back field its.inside (subst (λ role. IsReads chain.count role (edits.node field h.MemberExpr its.inside)) refers its.reads)));
-  unkept = λ around outer is path keeps begins. keeps_no_read (tree_of pr m) place (word_property (tree_of pr m) place word).0 around outer path keeps;
+  there =
+      chain.there
+      ∙ ap (λ l. l ++ chain.behind)
+      (its.is ∙ ap (λ k. edits.node field k its.inside) (sym its.its_head));
+  notable =
+      subst (λ k. IsNotable meta k its.inside (ByName (Of t))) (sym its.its_head)
+      (by_reads chain.count
+      (are_reads_back field its.inside
+      (subst (λ role. IsReads chain.count role (edits.node field h.MemberExpr its.inside)) refers
+      its.reads)));
+  unkept =
+      λ around outer is path keeps begins.
+      keeps_no_read (tree_of pr m) place (word_property (tree_of pr m) place word).0 around outer
+      path keeps;
 }
   where
     chain : IsChain (tree_of pr m) place
@@ -317,12 +468,17 @@ noted_node pr m meta nodes listing metas place field head there (static_read {x 
     its = read_node (tree_of pr m) place chain.behind chain.reads chain.there field head there
 
     refers : chain.role ≡ r.Reference
-    refers = role_in_node listing its.reads field its.inside refl (spot_before (tree_of pr m) place) chain.behind (at_there (tree_of pr m) place (chain.there ∙ ap (λ l. l ++ chain.behind) its.is))
+    refers =
+        role_in_node listing its.reads field its.inside refl (spot_before (tree_of pr m) place)
+        chain.behind
+        (at_there (tree_of pr m) place (chain.there ∙ ap (λ l. l ++ chain.behind) its.is))
 noted_node pr m meta nodes listing metas place field head there (import_meta is) = record {
   inside = [];
   behind = node.behind;
   there = node.there ∙ ap (λ l. h.Open field head ∷ (l ++ h.Close ∷ node.behind)) empty;
-  notable = subst (λ k. IsNotable meta k [] (ByName (Meta m))) (sym same) (by_meta (metas place field (there ∙ ap (λ k. Some (h.Open field k)) same)));
+  notable =
+      subst (λ k. IsNotable meta k [] (ByName (Meta m))) (sym same)
+      (by_meta (metas place field (there ∙ ap (λ k. Some (h.Open field k)) same)));
   unkept = λ around outer member path keeps begins. not_member (sym same ∙ member);
 }
   where
@@ -341,21 +497,31 @@ noted_node pr m meta nodes listing metas place field head there (require_call {c
   inside = its.inside;
   behind = its.behind;
   there = items ∙ ap (λ y. y ∷ ((its.inside ++ h.Close ∷ []) ++ its.behind)) first;
-  notable = subst (λ k. IsNotable meta k its.inside (ByCall (Load c))) head_is (by_call (call_is_literal (subst (λ role. IsLiteralCall role its.inside) refers its.literal)));
+  notable =
+      subst (λ k. IsNotable meta k its.inside (ByCall (Load c))) head_is
+      (by_call
+      (call_is_literal (subst (λ role. IsLiteralCall role its.inside) refers its.literal)));
   unkept = λ around outer member path keeps begins. not_member (head_is ∙ member);
 }
   where
     its : IsCallThere (drop place (tree_of pr m))
-    its = required_there (drop place (tree_of pr m)) call.specifier (ap (λ n. required_at (drop n (tree_of pr m))) (sym at) ∙ linked_there pr.settings (is_free (tree_of pr m)) (tree_of pr m) call listed)
+    its =
+        required_there (drop place (tree_of pr m)) call.specifier
+        (ap (λ n. required_at (drop n (tree_of pr m))) (sym at)
+        ∙ linked_there pr.settings (is_free (tree_of pr m)) (tree_of pr m) call listed)
 
     items : drop place (tree_of pr m) ≡ edits.node its.field h.CallExpr its.inside ++ its.behind
     items = its.is
 
     refers : its.role ≡ r.Reference
-    refers = role_in_call listing its.field its.inside its.literal (spot_before (tree_of pr m) place) its.behind (at_there (tree_of pr m) place items)
+    refers =
+        role_in_call listing its.field its.inside its.literal (spot_before (tree_of pr m) place)
+        its.behind (at_there (tree_of pr m) place items)
 
     first : h.Open its.field h.CallExpr ≡ h.Open field head
-    first = same_Some (h.Open its.field h.CallExpr) (h.Open field head) (sym (get-drop (tree_of pr m) place ∙ ap (λ l. slice_get l 0) items) ∙ there)
+    first =
+        same_Some (h.Open its.field h.CallExpr) (h.Open field head)
+        (sym (get-drop (tree_of pr m) place ∙ ap (λ l. slice_get l 0) items) ∙ there)
 
     head_is : h.CallExpr ≡ head
     head_is = same_head first
@@ -364,8 +530,13 @@ noted_node pr m meta nodes listing metas place field head there (require_call {c
     not_member e = cc
 
 -- what is replaced in a module is what notes can tell of
-pub replaces_notable : (pr : Program) (m : ℕ) (kind : ModuleKind) (meta : Option Meant) → ((meant : Meant) → meta ≡ Some meant → meant ≡ Known (Meta m)) → MetaIs pr m meta → nested.AreNodes (tree_of pr m) → IsListing (tree_of pr m) → ReplacesNotable (own_sense pr m kind) meta
+pub replaces_notable : (pr : Program) (m : ℕ) (kind : ModuleKind) (meta : Option Meant) →
+    ((meant : Meant) → meta ≡ Some meant → meant ≡ Known (Meta m)) → MetaIs pr m meta →
+    nested.AreNodes (tree_of pr m) → IsListing (tree_of pr m) →
+    ReplacesNotable (own_sense pr m kind) meta
 replaces_notable pr m kind meta only metas nodes listing = record {
-  nodes = λ place field head by there clear is. noted_node pr m meta nodes listing metas place field head there is;
+  nodes =
+      λ place field head by there clear is.
+      noted_node pr m meta nodes listing metas place field head there is;
   metas = λ place field meant there is. (Meta m, only meant is, import_meta (ap is_meta_at there));
 }

@@ -4,7 +4,7 @@ use Rattle.std.specs.Prelude.{if◌then◌else◌, Contains, take, slice_get, op
 use Rattle.std.proofs.lemmas.Bool.{eqb-true, eq-eqb}
 use Rattle.std.proofs.lemmas.Option.{none-some, same_Some}
 use Rattle.std.proofs.lemmas.List.{length-take-le, take-append-drop}
-use Rattle.bundle_tree_places.proofs.ListLemmas.{drop_at}
+use Rattle.bundle_tree_places.proofs.ListLemmas.{drop_at, slice_get-drop}
 use Rattle.bundle_tree_piece.specs.declared.piece.Role.{Role}
 use Rattle.bundle_tree_piece.specs.Item as h
 use Rattle.bundle_tree_piece.specs.Item.{Item, Head}
@@ -20,16 +20,17 @@ use Rattle.bundle_rules.specs.Meaning.{Replacement, ByName, ByCall, Of, Load, Me
 use Rattle.bundle_merge_meaning.specs.noted.Nested as nested
 use Rattle.bundle_merge_meaning.specs.noted.Agrees.{IsAt, StandsAlone, StandsForReads}
 use Rattle.bundle_merge_meaning.specs.noted.Uses.{words_around, ReadsOn, done, on, WordsMean}
-use Rattle.bundle_merge_meaning.proofs.noted.ListFacts.{first-there, later-there, get-drop}
+use Rattle.bundle_merge_meaning.proofs.noted.ListFacts.{first-there, later-there}
 use Rattle.bundle_merge_meaning.proofs.noted.Spots.{around, fold-place, at-past, at-path}
 use Rattle.bundle_merge_meaning.proofs.noted.Shapes.{IsReads}
 use Rattle.bundle_merge_meaning.proofs.noted.NodePaths.{IsName}
-use Rattle.bundle_merge_meaning.proofs.noted.StaticReads.{read_there}
+use Rattle.bundle_merge_meaning.proofs.noted.StaticReads.{read_there, get-drop}
 use Rattle.bundle_merge_meaning.proofs.noted.Replaces.{word_property}
 use Rattle.bundle_merge_meaning.proofs.noted.Agreements.{name_is, member_before, Replaces, by_reads_of, by_call_of, IsThere, agrees_alone, agrees_reads}
 
 -- ---- the words around a place, one by one
-pub record WordsFrom (tree : List Item) (place : ℕ) (path : List Around) (x : Text) (words : List Text) : Type 0 where
+pub record WordsFrom (tree : List Item) (place : ℕ) (path : List Around) (x : Text) (words : List Text) : Type
+    0 where
   pub node : Around
   pub outer : List Around
   pub path_is : path ≡ node ∷ outer
@@ -37,18 +38,27 @@ pub record WordsFrom (tree : List Item) (place : ℕ) (path : List Around) (x : 
   pub word : read_word tree node.begins ≡ Some x
   pub rest : words ≡ words_around tree node.begins outer
 
-words_from : (tree : List Item) (place : ℕ) (path : List Around) (x : Text) (words : List Text) → words_around tree place path ≡ x ∷ words → WordsFrom tree place path x words
+words_from : (tree : List Item) (place : ℕ) (path : List Around) (x : Text) (words : List Text) →
+    words_around tree place path ≡ x ∷ words → WordsFrom tree place path x words
 words_from tree place [] x words e = cc
 words_from tree place (node ∷ outer) x words e = by (node.begins + 1 == place) refl e
   where
-    found : (o : Option Text) → read_word tree node.begins ≡ o → node.begins + 1 ≡ place → (elim o [ None ↦ [] | Some y ↦ y ∷ words_around tree node.begins outer ]) ≡ x ∷ words → WordsFrom tree place (node ∷ outer) x words
+    found : (o : Option Text) → read_word tree node.begins ≡ o → node.begins + 1
+        ≡ place → (elim o [ None ↦ [] | Some y ↦ y ∷ words_around tree node.begins outer ])
+        ≡ x ∷ words → WordsFrom tree place (node ∷ outer) x words
     found None is near e = cc
     found (Some y) is near e =
         let same : y ≡ x = cc in
         let more : words_around tree node.begins outer ≡ words = cc in
-        record { node = node; outer = outer; path_is = refl; near = near; word = is ∙ ap Some same; rest = sym more }
+        record
+            { node = node; outer = outer; path_is = refl; near = near; word = is ∙ ap Some same; rest = sym more }
 
-    by : (b : Bool) → (node.begins + 1 == place) ≡ b → (if b then (elim (read_word tree node.begins) [ None ↦ [] | Some y ↦ y ∷ words_around tree node.begins outer ]) else []) ≡ x ∷ words → WordsFrom tree place (node ∷ outer) x words
+    by : (b : Bool) → (node.begins + 1 == place)
+        ≡ b →
+        (if b then
+        (elim (read_word tree node.begins)
+        [ None ↦ [] | Some y ↦ y ∷ words_around tree node.begins outer ])
+        else []) ≡ x ∷ words → WordsFrom tree place (node ∷ outer) x words
     by true is e = found (read_word tree node.begins) refl (eqb-true (node.begins + 1) place is) e
     by false is e = cc
 
@@ -58,25 +68,37 @@ get-within [] b x e = absurd (none-some x e)
 get-within (y ∷ xs) zero x e = omega arith
 get-within (y ∷ xs) (suc b) x e = let l = get-within xs b x e in omega (arith, l)
 
-inner_field : (node : Around) (outer : List Around) (o : Option Item) → (g : ℕ) × (path_to_option (node ∷ outer) o ≡ around node.head node.begins g ∷ outer)
+inner_field : (node : Around) (outer : List Around) (o : Option Item) →
+    (g : ℕ) × (path_to_option (node ∷ outer) o ≡ around node.head node.begins g ∷ outer)
 inner_field node outer None = (node.field, refl)
 inner_field node outer (Some (h.Open field head)) = (field, refl)
 inner_field node outer (Some (h.Ident field x ctxt role)) = (field, refl)
 inner_field node outer (Some (h.Hole field)) = (field, refl)
 inner_field node outer (Some h.Close) = (node.field, refl)
 
-pub path_next : (tree : List Item) (b f : ℕ) (head : Head) → slice_get tree b ≡ Some (h.Open f head) → (g : ℕ) × (path_at tree (suc b) ≡ around head b g ∷ path_at tree b)
+pub path_next : (tree : List Item) (b f : ℕ) (head : Head) →
+    slice_get tree b ≡ Some (h.Open f head) →
+    (g : ℕ) × (path_at tree (suc b) ≡ around head b g ∷ path_at tree b)
 path_next tree b f head e =
-    (field.0, ap (path_at tree) next ∙ at-path behind ∙ field.1 ∙ ap (λ p. around head p field.0 ∷ in_field f spot.path) place ∙ ap (λ o. around head b field.0 ∷ path_to_option spot.path o) (sym e))
+    (field.0, ap (path_at tree) next
+        ∙ at-path behind
+        ∙ field.1
+        ∙ ap (λ p. around head p field.0 ∷ in_field f spot.path) place
+        ∙ ap (λ o. around head b field.0 ∷ path_to_option spot.path o) (sym e))
   where
     spot : Spot
     spot = spot_before tree b
 
     place : (spot_before tree b).place ≡ b
-    place = let n = fold-place start (take b tree) in let l = get-within tree b (h.Open f head) e in let k = length-take-le b tree (omega (arith, l)) in omega (arith, n, k)
+    place =
+        let n = fold-place start (take b tree) in
+        let l = get-within tree b (h.Open f head) e in
+        let k = length-take-le b tree (omega (arith, l)) in omega (arith, n, k)
 
     here : IsAt tree (spot_before tree b) (h.Open f head ∷ drop (suc b) tree)
-    here = record { front = take b tree; tree_is = sym (take-append-drop b tree) ∙ ap (λ l. take b tree ++ l) (drop_at tree b (h.Open f head) e); spot_is = refl }
+    here =
+        record
+        { front = take b tree; tree_is = sym (take-append-drop b tree) ∙ ap (λ l. take b tree ++ l) (drop_at tree b (h.Open f head) e); spot_is = refl }
 
     behind : IsAt tree (past (spot_before tree b) (h.Open f head)) (drop (suc b) tree)
     behind = at-past (h.Open f head) (drop (suc b) tree) here
@@ -84,18 +106,31 @@ path_next tree b f head e =
     next : suc b ≡ (spot_before tree b).place + 1
     next = let p = place in omega (arith, p)
 
-    field : (g : ℕ) × (path_to_option (around head (spot_before tree b).place 0 ∷ in_field f (spot_before tree b).path) (slice_get (drop (suc b) tree) 0) ≡ around head (spot_before tree b).place g ∷ in_field f (spot_before tree b).path)
-    field = inner_field (around head (spot_before tree b).place 0) (in_field f (spot_before tree b).path) (slice_get (drop (suc b) tree) 0)
+    field : (g : ℕ)
+        × (path_to_option
+        (around head (spot_before tree b).place 0 ∷ in_field f (spot_before tree b).path)
+        (slice_get (drop (suc b) tree) 0)
+        ≡ around head (spot_before tree b).place g ∷ in_field f (spot_before tree b).path)
+    field =
+        inner_field (around head (spot_before tree b).place 0)
+        (in_field f (spot_before tree b).path) (slice_get (drop (suc b) tree) 0)
 
 abbrev words_at : List Item → ℕ → List Text
 words_at tree place = words_around tree place (path_at tree place)
 
-words_next : (tree : List Item) (b f : ℕ) (head : Head) (x : Text) → slice_get tree b ≡ Some (h.Open f head) → read_word tree b ≡ Some x → words_at tree (suc b) ≡ x ∷ words_at tree b
+words_next : (tree : List Item) (b f : ℕ) (head : Head) (x : Text) →
+    slice_get tree b ≡ Some (h.Open f head) → read_word tree b ≡ Some x →
+    words_at tree (suc b) ≡ x ∷ words_at tree b
 words_next tree b f head x e word =
     let its = path_next tree b f head e in
     let near : b + 1 ≡ suc b = omega arith in
     ap (words_around tree (suc b)) its.1
-    ∙ ap (λ c. if c then (elim (read_word tree b) [ None ↦ [] | Some y ↦ y ∷ words_around tree b (path_at tree b) ]) else []) (eq-eqb (b + 1) (suc b) near)
+    ∙ ap
+        (λ c.
+        if c then
+        (elim (read_word tree b) [ None ↦ [] | Some y ↦ y ∷ words_around tree b (path_at tree b) ])
+        else [])
+        (eq-eqb (b + 1) (suc b) near)
     ∙ ap (λ o. elim o [ None ↦ [] | Some y ↦ y ∷ words_around tree b (path_at tree b) ]) word
 
 module _ (pr : Program) (m : ℕ) where
@@ -114,20 +149,29 @@ module _ (pr : Program) (m : ℕ) where
     no_read : {t : Target} → Outward place path zero t t
     far_out : {n : ℕ} {s t : Target} → IsFar place path (suc n) t → Outward place path (suc n) s t
 
-  pub outward : {s t : Target} {words : List Text} {n : ℕ} → ReadsOn pr s words n t → (place : ℕ) (path : List Around) → words ≡ words_around (tree_of pr m) place path → ReadsAs pr m place s → Outward place path n s t
+  pub outward : {s t : Target} {words : List Text} {n : ℕ} → ReadsOn pr s words n t →
+      (place : ℕ) (path : List Around) → words ≡ words_around (tree_of pr m) place path →
+      ReadsAs pr m place s → Outward place path n s t
   outward (done is) place path e reads = no_read
-  outward (on {d = d} {n = n} {x = x} {words = words} {t = t} {u = u} linked more) place path e reads =
+  outward (on {d = d} {n = n} {x = x} {words = words} {t = t} {u = u} linked more) place path e
+      reads =
       let from = words_from (tree_of pr m) place path x words (sym e) in
-      let its_reads = by_read from.word (subst (λ p. ReadsAs pr m p (Namespace d)) (next from.near) reads) linked in
+      let its_reads =
+          by_read from.word (subst (λ p. ReadsAs pr m p (Namespace d)) (next from.near) reads)
+          linked in
       step from its_reads (outward more from.node.begins from.outer from.rest its_reads)
     where
       next : {b : ℕ} → b + 1 ≡ place → place ≡ suc b
       next e = omega (arith, e)
 
-      step : (from : WordsFrom (tree_of pr m) place path x words) {k : ℕ} {s v : Target} → ReadsAs pr m from.node.begins s → Outward from.node.begins from.outer k s v → Outward place path (suc k) (Namespace d) v
+      step : (from : WordsFrom (tree_of pr m) place path x words) {k : ℕ} {s v : Target} →
+          ReadsAs pr m from.node.begins s → Outward from.node.begins from.outer k s v →
+          Outward place path (suc k) (Namespace d) v
       step from reads no_read = far_out (record {
         node = from.node;
-        there = subst (λ l. Contains l from.node) (sym from.path_is) (first-there from.node from.outer);
+        there =
+            subst (λ l. Contains l from.node) (sym from.path_is)
+            (first-there from.node from.outer);
         far = from.near;
         x = x;
         word = from.word;
@@ -135,7 +179,9 @@ module _ (pr : Program) (m : ℕ) where
       })
       step from reads (far_out {n = k} its) = far_out (record {
         node = its.node;
-        there = subst (λ l. Contains l its.node) (sym from.path_is) (later-there from.node from.outer its.node its.there);
+        there =
+            subst (λ l. Contains l its.node) (sym from.path_is)
+            (later-there from.node from.outer its.node its.there);
         far = let near = from.near in let far = its.far in omega (arith, near, far);
         x = its.x;
         word = its.word;
@@ -151,19 +197,31 @@ module _ (pr : Program) (m : ℕ) where
     reads : ReadsAs pr m (suc b) (Namespace d)
     linked : Linked pr d x v
 
-  read_at : {b : ℕ} {v : Target} → ReadsAs pr m b v → (f : ℕ) (head : Head) → slice_get (tree_of pr m) b ≡ Some (h.Open f head) → IsRead_at b v
-  read_at (by_read {d = d} {x = x} word reads linked) f head e = record { x = x; d = d; word = word; reads = reads; linked = linked }
-  read_at (by_name {place = b} denotes stands) f head e = absurd (none-some _ (sym (none) ∙ denotes))
+  read_at : {b : ℕ} {v : Target} → ReadsAs pr m b v → (f : ℕ) (head : Head) →
+      slice_get (tree_of pr m) b ≡ Some (h.Open f head) → IsRead_at b v
+  read_at (by_read {d = d} {x = x} word reads linked) f head e =
+      record { x = x; d = d; word = word; reads = reads; linked = linked }
+  read_at (by_name {place = b} denotes stands) f head e =
+      absurd (none-some _ (sym (none) ∙ denotes))
     where
       none : denoted_at BySymbol Es (tree_of pr m) b ≡ None
-      none = ap (λ o. option_map (denoted_of BySymbol Es (declared BySymbol Es (tree_of pr m))) (option_and_then (occurrence_of (spot_before (tree_of pr m) b)) o)) e
+      none =
+          ap
+          (λ o.
+          option_map (denoted_of BySymbol Es (declared BySymbol Es (tree_of pr m)))
+          (option_and_then (occurrence_of (spot_before (tree_of pr m) b)) o))
+          e
 
   -- member expressions one in the other
   abbrev pub AreMembers : ℕ → ℕ → Type 0
-  AreMembers begins more = (j : ℕ) → j < more → (f : ℕ) × (slice_get (tree_of pr m) (begins + j) ≡ Some (h.Open f h.MemberExpr))
+  AreMembers begins more =
+      (j : ℕ) → j < more →
+      (f : ℕ) × (slice_get (tree_of pr m) (begins + j) ≡ Some (h.Open f h.MemberExpr))
 
-  unrolled : (begins more : ℕ) → AreMembers begins more → (u : Target) → ReadsAs pr m begins u → (i : ℕ) → i ≤ more → (v : Target) × ReadsAs pr m (begins + i) v
-  unrolled begins more members u reads zero l = let e : begins ≡ begins + 0 = omega arith in (u, subst (λ b. ReadsAs pr m b u) e reads)
+  unrolled : (begins more : ℕ) → AreMembers begins more → (u : Target) → ReadsAs pr m begins u →
+      (i : ℕ) → i ≤ more → (v : Target) × ReadsAs pr m (begins + i) v
+  unrolled begins more members u reads zero l =
+      let e : begins ≡ begins + 0 = omega arith in (u, subst (λ b. ReadsAs pr m b u) e reads)
   unrolled begins more members u reads (suc i) l =
       let before = unrolled begins more members u reads i (omega (arith, l)) in
       let member = members i (omega (arith, l)) in
@@ -184,45 +242,73 @@ module _ (pr : Program) (m : ℕ) where
   cons_tail x y xs ys e = cc
 
   -- what reads as a target in two ways reads as one
-  same_read : {b : ℕ} {v w : Target} {d : ℕ} {x : Text} → ((other : Target) → ReadsAs pr m (suc b) other → other ≡ Namespace d) → (f : ℕ) (head : Head) → slice_get (tree_of pr m) b ≡ Some (h.Open f head) → read_word (tree_of pr m) b ≡ Some x → Linked pr d x v → ReadsAs pr m b w → w ≡ v
+  same_read : {b : ℕ} {v w : Target} {d : ℕ} {x : Text} →
+      ((other : Target) → ReadsAs pr m (suc b) other → other ≡ Namespace d) →
+      (f : ℕ) (head : Head) → slice_get (tree_of pr m) b ≡ Some (h.Open f head) →
+      read_word (tree_of pr m) b ≡ Some x → Linked pr d x v → ReadsAs pr m b w → w ≡ v
   same_read {b = b} {v = v} {w = w} {d = d} {x = x} only f head e word linked reads =
       let its = read_at reads f head e in
       let one : its.d ≡ d = same_module its.d d (only (Namespace its.d) its.reads) in
       let name : its.x ≡ x = same_word its.x x (sym its.word ∙ word) in
-      let other : Linked pr d x w = subst (λ y. Linked pr d y w) name (subst (λ k. Linked pr k its.x w) one its.linked) in
+      let other : Linked pr d x w =
+          subst (λ y. Linked pr d y w) name (subst (λ k. Linked pr k its.x w) one its.linked) in
       (linked.only w other.origin other.given).0
 
   -- no more reads are replaced than are found
-  pub longest : {s t : Target} {words : List Text} {n : ℕ} → ReadsOn pr s words n t → (place : ℕ) → words ≡ words_at (tree_of pr m) place → ((other : Target) → ReadsAs pr m place other → other ≡ s) → (begins more : ℕ) → begins + more ≡ place → AreMembers begins more → (u : Target) → ReadsAs pr m begins u → more ≤ n
+  pub longest : {s t : Target} {words : List Text} {n : ℕ} → ReadsOn pr s words n t → (place : ℕ) →
+      words ≡ words_at (tree_of pr m) place →
+      ((other : Target) → ReadsAs pr m place other → other ≡ s) → (begins more : ℕ) →
+      begins + more ≡ place → AreMembers begins more → (u : Target) → ReadsAs pr m begins u →
+      more ≤ n
   longest reads place e only begins zero far members u its = omega arith
   longest (done {t = s} {words = words} is) place e only begins (suc k) far members u its =
       let before = unrolled begins (suc k) members u its k (omega arith) in
       let member = members k (omega arith) in
       let r = read_at before.1 member.0 h.MemberExpr member.1 in
       let next : place ≡ suc (begins + k) = omega (arith, far) in
-      let words_are : words ≡ r.x ∷ words_at (tree_of pr m) (begins + k) = e ∙ ap (words_at (tree_of pr m)) next ∙ words_next (tree_of pr m) (begins + k) member.0 h.MemberExpr r.x member.1 r.word in
-      let namespace : s ≡ Namespace r.d = sym (only (Namespace r.d) (subst (λ p. ReadsAs pr m p (Namespace r.d)) (sym next) r.reads)) in
-      absurd (is r.d r.x (words_at (tree_of pr m) (begins + k)) before.0 namespace words_are r.linked)
-  longest (on {d = d} {n = n} {x = x} {words = words} {t = t} linked more) place e only begins (suc k) far members u its =
+      let words_are : words ≡ r.x ∷ words_at (tree_of pr m) (begins + k) =
+          e
+          ∙ ap (words_at (tree_of pr m)) next
+          ∙ words_next (tree_of pr m) (begins + k) member.0 h.MemberExpr r.x member.1 r.word in
+      let namespace : s ≡ Namespace r.d =
+          sym
+          (only (Namespace r.d)
+          (subst (λ p. ReadsAs pr m p (Namespace r.d)) (sym next) r.reads)) in
+      absurd
+          (is r.d r.x (words_at (tree_of pr m) (begins + k)) before.0 namespace words_are r.linked)
+  longest (on {d = d} {n = n} {x = x} {words = words} {t = t} linked more) place e only begins
+      (suc k) far members u its =
       let before = unrolled begins (suc k) members u its k (omega arith) in
       let member = members k (omega arith) in
       let r = read_at before.1 member.0 h.MemberExpr member.1 in
       let next : place ≡ suc (begins + k) = omega (arith, far) in
-      let words_are : x ∷ words ≡ r.x ∷ words_at (tree_of pr m) (begins + k) = e ∙ ap (words_at (tree_of pr m)) next ∙ words_next (tree_of pr m) (begins + k) member.0 h.MemberExpr r.x member.1 r.word in
-      let name : x ≡ r.x = cons_head x r.x words (words_at (tree_of pr m) (begins + k)) words_are in
-      let only_next : (other : Target) → ReadsAs pr m (suc (begins + k)) other → other ≡ Namespace d = subst (λ p. (other : Target) → ReadsAs pr m p other → other ≡ Namespace d) next only in
+      let words_are : x ∷ words ≡ r.x ∷ words_at (tree_of pr m) (begins + k) =
+          e
+          ∙ ap (words_at (tree_of pr m)) next
+          ∙ words_next (tree_of pr m) (begins + k) member.0 h.MemberExpr r.x member.1 r.word in
+      let name : x ≡ r.x =
+          cons_head x r.x words (words_at (tree_of pr m) (begins + k)) words_are in
+      let only_next : (other : Target) → ReadsAs pr m (suc (begins + k)) other →
+          other ≡ Namespace d =
+          subst (λ p. (other : Target) → ReadsAs pr m p other → other ≡ Namespace d) next only in
       let rest = longest more (begins + k) (cons_tail x r.x words (words_at (tree_of pr m) (begins + k)) words_are)
-          (λ other reads. same_read only_next member.0 h.MemberExpr member.1 (r.word ∙ ap Some (sym name)) linked reads)
+          (λ other reads.
+              same_read only_next member.0 h.MemberExpr member.1 (r.word ∙ ap Some (sym name))
+              linked reads)
           begins k refl (λ j l. members j (omega (arith, l))) u its in
       omega (arith, rest)
 
-  module _ (nodes : nested.AreNodes (tree_of pr m)) (one_stands : (x : Text) (t u : Target) → StandsFor pr m x t → StandsFor pr m x u → t ≡ u) where
+  module _ (nodes : nested.AreNodes (tree_of pr m))
+      (one_stands : (x : Text) (t u : Target) → StandsFor pr m x t → StandsFor pr m x u →
+      t ≡ u) where
     -- no read begins with a name
-    no_read_here : (o : Occurrence) → IsThere pr m nodes o → (x : Text) → read_word (tree_of pr m) o.place ≡ Some x → ⊥
+    no_read_here : (o : Occurrence) → IsThere pr m nodes o → (x : Text) →
+        read_word (tree_of pr m) o.place ≡ Some x → ⊥
     no_read_here o there x word =
         let its = read_there nodes o.place x (word_property (tree_of pr m) o.place word).1 in
-        let e : o.place ≡ o.place + 0 = omega arith in
-        no_open its.field h.MemberExpr (subst IsName (ap (slice_get (tree_of pr m)) e ∙ get-drop (tree_of pr m) o.place 0 ∙ ap (λ l. slice_get l 0) its.there) (name_is there.at))
+        no_open its.field h.MemberExpr
+            (subst IsName (get-drop (tree_of pr m) o.place ∙ ap (λ l. slice_get l 0) its.there)
+            (name_is there.at))
       where
         no_open : (f : ℕ) (head : Head) → IsName (Some (h.Open f head)) → ⊥
         no_open f head is = let e = is.4 in cc
@@ -231,53 +317,103 @@ module _ (pr : Program) (m : ℕ) where
     same_symbol x y e = let names : plain x ≡ plain y = cc in ap (λ (name : Name). name.sym) names
 
     -- a name reads as what it stands for, and as nothing else
-    name_only : (o : Occurrence) → IsThere pr m nodes o → (x : Text) → denoted_at BySymbol Es (tree_of pr m) o.place ≡ Some (Bound Top (plain x)) → (t : Target) → StandsFor pr m x t → (place : ℕ) → place ≡ o.place → (other : Target) → ReadsAs pr m place other → other ≡ t
+    name_only : (o : Occurrence) → IsThere pr m nodes o → (x : Text) →
+        denoted_at BySymbol Es (tree_of pr m) o.place ≡ Some (Bound Top (plain x)) → (t : Target) →
+        StandsFor pr m x t → (place : ℕ) → place ≡ o.place → (other : Target) →
+        ReadsAs pr m place other → other ≡ t
     name_only o there x denotes t stands _ e other (by_name {place = place} {x = y} its also) =
-        let name : y ≡ x = same_symbol y x (sym its ∙ ap (denoted_at BySymbol Es (tree_of pr m)) e ∙ denotes) in
+        let name : y ≡ x =
+            same_symbol y x (sym its ∙ ap (denoted_at BySymbol Es (tree_of pr m)) e ∙ denotes) in
         one_stands x other t (subst (λ z. StandsFor pr m z other) name also) stands
-    name_only o there x denotes t stands _ e other (by_read {place = place} {x = y} word reads linked) = absurd (no_read_here o there y (sym (ap (read_word (tree_of pr m)) e) ∙ word))
+    name_only o there x denotes t stands _ e other
+        (by_read {place = place} {x = y} word reads linked) =
+        absurd (no_read_here o there y (sym (ap (read_word (tree_of pr m)) e) ∙ word))
 
-    members_of : (begins more : ℕ) (role : Role) (xs rest : List Item) → IsReads more role xs → drop begins (tree_of pr m) ≡ xs ++ rest → AreMembers begins more
+    members_of : (begins more : ℕ) (role : Role) (xs rest : List Item) → IsReads more role xs →
+        drop begins (tree_of pr m) ≡ xs ++ rest → AreMembers begins more
     members_of begins more role xs rest reads at j l =
         let its = member_before reads rest j l in
-        (its.0, get-drop (tree_of pr m) begins j ∙ ap (λ l. slice_get l j) at ∙ its.1)
+        (its.0, sym (slice_get-drop begins (tree_of pr m) j) ∙ ap (λ l. slice_get l j) at ∙ its.1)
 
     -- what is found of a use: no more reads around it are replaced
-    pub no_further : (o : Occurrence) → IsThere pr m nodes o → (x : Text) → denoted_at BySymbol Es (tree_of pr m) o.place ≡ Some (Bound Top (plain x)) → {n : ℕ} {t : Target} → WordsMean pr m x (words_at (tree_of pr m) o.place) n t → (begins more : ℕ) (u : Target) (role : Role) (xs rest : List Item) → IsReads more role xs → drop begins (tree_of pr m) ≡ xs ++ rest → begins + more ≡ o.place → Replaced pr m begins (ByName (Of u)) → more ≤ n
-    no_further o there x denotes its begins more u role xs rest chain at far (static_read word reads) =
-        longest its.reads o.place refl (λ other r. name_only o there x denotes its.named its.stands o.place refl other r) begins more far (members_of begins more role xs rest chain at) u reads
+    pub no_further : (o : Occurrence) → IsThere pr m nodes o → (x : Text) →
+        denoted_at BySymbol Es (tree_of pr m) o.place ≡ Some (Bound Top (plain x)) →
+        {n : ℕ} {t : Target} → WordsMean pr m x (words_at (tree_of pr m) o.place) n t →
+        (begins more : ℕ) (u : Target) (role : Role) (xs rest : List Item) → IsReads more role xs →
+        drop begins (tree_of pr m) ≡ xs ++ rest → begins + more ≡ o.place →
+        Replaced pr m begins (ByName (Of u)) → more ≤ n
+    no_further o there x denotes its begins more u role xs rest chain at far
+        (static_read word reads) =
+        longest its.reads o.place refl
+            (λ other r. name_only o there x denotes its.named its.stands o.place refl other r)
+            begins more far (members_of begins more role xs rest chain at) u reads
 
     -- a use that means what one of its reads gives stands for the whole read
-    pub use_agrees : (kind : ModuleKind) (o : Occurrence) → IsThere pr m nodes o → (x : Text) → denoted_at BySymbol Es (tree_of pr m) o.place ≡ Some (Bound Top (plain x)) → (n : ℕ) (t : Target) → WordsMean pr m x (words_at (tree_of pr m) o.place) (suc n) t → StandsForReads (own_sense pr m kind) o (Known (Of t)) (suc n)
-    use_agrees kind o there x denotes n t its = by (outward its.reads o.place (path_at (tree_of pr m) o.place) refl (by_name denotes its.stands))
+    pub use_agrees : (kind : ModuleKind) (o : Occurrence) → IsThere pr m nodes o → (x : Text) →
+        denoted_at BySymbol Es (tree_of pr m) o.place ≡ Some (Bound Top (plain x)) →
+        (n : ℕ) (t : Target) → WordsMean pr m x (words_at (tree_of pr m) o.place) (suc n) t →
+        StandsForReads (own_sense pr m kind) o (Known (Of t)) (suc n)
+    use_agrees kind o there x denotes n t its =
+        by
+        (outward its.reads o.place (path_at (tree_of pr m) o.place) refl
+        (by_name denotes its.stands))
       where
-        by : {s : Target} → Outward o.place (path_at (tree_of pr m) o.place) (suc n) s t → StandsForReads (own_sense pr m kind) o (Known (Of t)) (suc n)
-        by (far_out r) = agrees_reads pr m nodes kind o there (suc n) t r.node r.there r.far (static_read r.word r.reads) (no_further o there x denotes its)
+        by : {s : Target} → Outward o.place (path_at (tree_of pr m) o.place) (suc n) s t →
+            StandsForReads (own_sense pr m kind) o (Known (Of t)) (suc n)
+        by (far_out r) =
+            agrees_reads pr m nodes kind o there (suc n) t r.node r.there r.far
+            (static_read r.word r.reads) (no_further o there x denotes its)
 
     -- and one that means what the name itself stands for stands alone, where no call of it is replaced
-    pub use_alone : (kind : ModuleKind) (inner : List Denoted) (o : Occurrence) → IsThere pr m nodes o → (x : Text) → denoted_at BySymbol Es (tree_of pr m) o.place ≡ Some (Bound Top (plain x)) → (t : Target) → WordsMean pr m x (words_at (tree_of pr m) o.place) 0 t → ((begins : ℕ) (by : Replacement) → suc begins ≡ o.place → Replaced pr m begins by → ⊥) → (d : Denoted) (meant : Meant) → denoted_at BySymbol kind (tree_of pr m) o.place ≡ Some d → NameMeans (own_sense pr m kind) inner d meant → StandsAlone (own_sense pr m kind) inner o meant
-    use_alone kind inner o there x denotes t its no_call d meant also means = agrees_alone pr m nodes kind inner o there none d meant also means
+    pub use_alone : (kind : ModuleKind) (inner : List Denoted) (o : Occurrence) →
+        IsThere pr m nodes o → (x : Text) →
+        denoted_at BySymbol Es (tree_of pr m) o.place ≡ Some (Bound Top (plain x)) → (t : Target) →
+        WordsMean pr m x (words_at (tree_of pr m) o.place) 0 t →
+        ((begins : ℕ) (by : Replacement) → suc begins ≡ o.place → Replaced pr m begins by → ⊥) →
+        (d : Denoted) (meant : Meant) → denoted_at BySymbol kind (tree_of pr m) o.place ≡ Some d →
+        NameMeans (own_sense pr m kind) inner d meant →
+        StandsAlone (own_sense pr m kind) inner o meant
+    use_alone kind inner o there x denotes t its no_call d meant also means =
+        agrees_alone pr m nodes kind inner o there none d meant also means
       where
-        at_name : (begins : ℕ) (u : Target) → begins ≡ o.place → Replaced pr m begins (ByName (Of u)) → ⊥
-        at_name begins u e (static_read {x = y} word reads) = no_read_here o there y (sym (ap (read_word (tree_of pr m)) e) ∙ word)
+        at_name : (begins : ℕ) (u : Target) → begins ≡ o.place →
+            Replaced pr m begins (ByName (Of u)) → ⊥
+        at_name begins u e (static_read {x = y} word reads) =
+            no_read_here o there y (sym (ap (read_word (tree_of pr m)) e) ∙ word)
 
-        none : (begins : ℕ) (by : Replacement) → Replaces pr m nodes o.place begins by → Replaced pr m begins by → ⊥
+        none : (begins : ℕ) (by : Replacement) → Replaces pr m nodes o.place begins by →
+            Replaced pr m begins by → ⊥
         none begins _ (by_reads_of {t = u} more role xs rest chain at far) is =
             let l = no_further o there x denotes its begins more u role xs rest chain at far is in
             at_name begins u (omega (arith, far, l)) is
         none begins _ (by_call_of {c = c} far) is = no_call begins (ByCall (Load c)) far is
 
     -- a name that is none of the top stands alone, where no call of it is replaced
-    pub inner_alone : (kind : ModuleKind) (inner : List Denoted) (o : Occurrence) → IsThere pr m nodes o → ((x : Text) → denoted_at BySymbol Es (tree_of pr m) o.place ≡ Some (Bound Top (plain x)) → ⊥) → ((begins : ℕ) (by : Replacement) → suc begins ≡ o.place → Replaced pr m begins by → ⊥) → (d : Denoted) (meant : Meant) → denoted_at BySymbol kind (tree_of pr m) o.place ≡ Some d → NameMeans (own_sense pr m kind) inner d meant → StandsAlone (own_sense pr m kind) inner o meant
-    inner_alone kind inner o there no_top no_call d meant also means = agrees_alone pr m nodes kind inner o there none d meant also means
+    pub inner_alone : (kind : ModuleKind) (inner : List Denoted) (o : Occurrence) →
+        IsThere pr m nodes o →
+        ((x : Text) → denoted_at BySymbol Es (tree_of pr m) o.place ≡ Some (Bound Top (plain x)) →
+        ⊥) →
+        ((begins : ℕ) (by : Replacement) → suc begins ≡ o.place → Replaced pr m begins by → ⊥) →
+        (d : Denoted) (meant : Meant) → denoted_at BySymbol kind (tree_of pr m) o.place ≡ Some d →
+        NameMeans (own_sense pr m kind) inner d meant →
+        StandsAlone (own_sense pr m kind) inner o meant
+    inner_alone kind inner o there no_top no_call d meant also means =
+        agrees_alone pr m nodes kind inner o there none d meant also means
       where
         no_name : (place : ℕ) → place ≡ o.place → (v : Target) → ReadsAs pr m place v → ⊥
-        no_name _ e v (by_name {place = place} {x = y} its stands) = no_top y (sym (ap (denoted_at BySymbol Es (tree_of pr m)) e) ∙ its)
-        no_name _ e v (by_read {place = place} {x = y} word reads linked) = no_read_here o there y (sym (ap (read_word (tree_of pr m)) e) ∙ word)
+        no_name _ e v (by_name {place = place} {x = y} its stands) =
+            no_top y (sym (ap (denoted_at BySymbol Es (tree_of pr m)) e) ∙ its)
+        no_name _ e v (by_read {place = place} {x = y} word reads linked) =
+            no_read_here o there y (sym (ap (read_word (tree_of pr m)) e) ∙ word)
 
-        unread : (begins more : ℕ) (u : Target) → AreMembers begins more → begins + more ≡ o.place → Replaced pr m begins (ByName (Of u)) → ⊥
-        unread begins more u members far (static_read word reads) = let last = unrolled begins more members u reads more (omega arith) in no_name (begins + more) far last.0 last.1
+        unread : (begins more : ℕ) (u : Target) → AreMembers begins more →
+            begins + more ≡ o.place → Replaced pr m begins (ByName (Of u)) → ⊥
+        unread begins more u members far (static_read word reads) =
+            let last = unrolled begins more members u reads more (omega arith) in
+            no_name (begins + more) far last.0 last.1
 
-        none : (begins : ℕ) (by : Replacement) → Replaces pr m nodes o.place begins by → Replaced pr m begins by → ⊥
-        none begins _ (by_reads_of {t = u} more role xs rest chain at far) is = unread begins more u (members_of begins more role xs rest chain at) far is
+        none : (begins : ℕ) (by : Replacement) → Replaces pr m nodes o.place begins by →
+            Replaced pr m begins by → ⊥
+        none begins _ (by_reads_of {t = u} more role xs rest chain at far) is =
+            unread begins more u (members_of begins more role xs rest chain at) far is
         none begins _ (by_call_of {c = c} far) is = no_call begins (ByCall (Load c)) far is

@@ -3,6 +3,7 @@ use Rattle.std.proofs.Common.{◌≡◌, ◌≢◌, true, false, List, [], ◌�
 use Rattle.std.specs.Prelude.{bytes_eq, codes}
 use Rattle.std.specs.List.{AllZip, All}
 use Rattle.std.proofs.lemmas.List.Elements.{All-head, All-tail}
+use Rattle.std.proofs.lemmas.Bool.{not-false}
 use Rattle.std.proofs.lemmas.Slice.Eq.{bytes_eq-Decides}
 use Rattle.bundle_tree_piece.specs.declared.piece.Role.TheVariants as r
 use Rattle.bundle_tree_piece.specs.Item as h
@@ -13,25 +14,31 @@ use Rattle.bundle_rules.specs.Meaning.{Meant}
 use Rattle.bundle_rules.specs.Rebuilds.{with_idents}
 use Rattle.bundle_tree_places.specs.Edits.{Anywhere, InObject, node, in_its_place}
 use Rattle.bundle_merge_meaning.specs.walked.Work.{Step, Work, BySymbol, is_spelled_out_by}
-use Rattle.bundle_merge_meaning.specs.noted.Marked.{Note, Alone, Reads, Marked, marks_there}
+use Rattle.bundle_merge_meaning.specs.noted.Marked.{Alone, Reads, Marked, marks_there}
 use Rattle.bundle_merge_meaning.specs.noted.Marked as d
 use Rattle.bundle_merge_meaning.specs.walked.Becomes.{Becomes, reference}
 use Rattle.bundle_merge_meaning.specs.walked.Becomes as b
 use Rattle.bundle_merge_meaning.specs.walked.Keeps.{Same}
 use Rattle.bundle_merge_meaning.proofs.walked.Whole.{becomes_same}
 use Rattle.bundle_merge_meaning.specs.walked.Rewrites.{KeepsSymbol}
-use Rattle.bundle_merge_meaning.proofs.walked.Naming.{not_false}
 
 -- Where OfReads stands in an object literal: `ns.a` there becomes the name y, which is then the shorthand `{ y }`.
 
 in_object : List Item
-in_object = node 0 h.MemberExpr (h.Ident 0 (codes "ns") 0 r.Reference ∷ node 1 (h.IdentName (codes "a")) [])
+in_object =
+    node 0 h.MemberExpr
+    (h.Ident 0 (codes "ns") 0 r.Reference ∷ node 1 (h.IdentName (codes "a")) [])
 
-read_there : (meant : Meant) → Marked None InObject (record { meant = meant; whole = Reads 1 } ∷ []) in_object (m.Name 0 meant ∷ []) []
+read_there : (meant : Meant) →
+    Marked None InObject (record { meant = meant; whole = Reads 1 } ∷ []) in_object
+    (m.Name 0 meant ∷ []) []
 unfolding in_object
-read_there meant = d.OfReads 0 1 (h.Ident 0 (codes "ns") 0 r.Reference ∷ node 1 (h.IdentName (codes "a")) []) refl
+read_there meant =
+    d.OfReads 0 1 (h.Ident 0 (codes "ns") 0 r.Reference ∷ node 1 (h.IdentName (codes "a")) []) refl
 
-name_there : (meant : Meant) → Marked None InObject (record { meant = meant; whole = Alone } ∷ []) (reference 0 (codes "y", 0)) (marks_there InObject 0 (codes "y") meant) []
+name_there : (meant : Meant) →
+    Marked None InObject (record { meant = meant; whole = Alone } ∷ [])
+    (reference 0 (codes "y", 0)) (marks_there InObject 0 (codes "y") meant) []
 name_there meant = d.Name InObject 0 (codes "y") 0 r.Reference refl
 
 marks_differ : (meant : Meant) → m.Name 0 meant ∷ [] ≢ marks_there InObject 0 (codes "y") meant
@@ -42,13 +49,17 @@ marks_differ meant same = cc
 one_name : List Item
 one_name = h.Open 0 h.ExportNamedSpecifier ∷ h.Ident 0 (codes "x") 0 r.Reference ∷ h.Close ∷ []
 
-two_names : with_idents one_name ((codes "y", 0) ∷ []) ≡ h.Open 0 h.ExportNamedSpecifier ∷ h.Ident 0 (codes "y") 0 r.Reference ∷ h.Ident 1 (codes "x") 0 r.Word ∷ h.Close ∷ []
+two_names : with_idents one_name ((codes "y", 0) ∷ [])
+    ≡ h.Open 0 h.ExportNamedSpecifier ∷ h.Ident 0 (codes "y") 0 r.Reference
+    ∷ h.Ident 1 (codes "x") 0 r.Word ∷ h.Close ∷ []
 unfolding one_name
 two_names = refl
 
 -- Without spelling out, a shorthand whose symbol changes has another key.
 
-other_key : in_its_place InObject (Some (record { ident = (codes "y", 0); is_spelled_out = false })) 0 (codes "x") 0 r.Reference ≡ h.Ident 0 (codes "y") 0 r.Reference ∷ []
+other_key : in_its_place InObject
+    (Some (record { ident = (codes "y", 0); is_spelled_out = false })) 0 (codes "x") 0 r.Reference
+    ≡ h.Ident 0 (codes "y") 0 r.Reference ∷ []
 other_key = refl
 
 -- Steps that spell out by symbol fit any names of their number.
@@ -57,21 +68,43 @@ abbrev pub SpellsBySymbol : Step → Type 0
 SpellsBySymbol step = step.spelling ≡ BySymbol
 
 one_by_symbol : (step : Step) (ident : Ident) → SpellsBySymbol step → KeepsSymbol step ident
-one_by_symbol step ident is spelled = (bytes_eq-Decides step.ident.0 ident.0).0 (not_false (bytes_eq step.ident.0 ident.0) (ap (λ spelling. is_spelled_out_by spelling step.ident.0 ident.0) (sym is) ∙ spelled))
+one_by_symbol step ident is spelled =
+    (bytes_eq-Decides step.ident.0 ident.0).0
+    (not-false (bytes_eq step.ident.0 ident.0)
+    (ap (λ spelling. is_spelled_out_by spelling step.ident.0 ident.0) (sym is) ∙ spelled))
 
-pub by_symbol : (steps : List Step) (names : List Ident) → All SpellsBySymbol steps → length steps ≡ length names → AllZip KeepsSymbol steps names
+pub by_symbol : (steps : List Step) (names : List Ident) → All SpellsBySymbol steps →
+    length steps ≡ length names → AllZip KeepsSymbol steps names
 by_symbol [] [] all same = tt
 by_symbol [] (x ∷ names) all same = absurd (omega arith)
 by_symbol (step ∷ steps) [] all same = absurd (omega arith)
-by_symbol (step ∷ steps) (x ∷ names) all same = (one_by_symbol step x (All-head SpellsBySymbol step steps all), by_symbol steps names (All-tail SpellsBySymbol step steps all) (omega arith))
+by_symbol (step ∷ steps) (x ∷ names) all same =
+    (one_by_symbol step x (All-head SpellsBySymbol step steps all), by_symbol steps names
+    (All-tail SpellsBySymbol step steps all) (omega arith))
 
 -- `use(ns.a, { x });` becomes `use(a1, { x: y });`, and all that is asked for is there.
 
 uses : List Item
-uses = node 0 h.ExprStmt (node 0 h.CallExpr (h.Ident 0 (codes "use") 0 r.Reference ∷ (node 1 (h.ExprOrSpread false) (node 1 h.MemberExpr (h.Ident 0 (codes "ns") 0 r.Reference ∷ node 1 (h.IdentName (codes "a")) [])) ++ node 1 (h.ExprOrSpread false) (node 1 h.ObjectLit (h.Ident 0 (codes "x") 0 r.Reference ∷ [])))))
+uses =
+    node 0 h.ExprStmt
+    (node 0 h.CallExpr
+    (h.Ident 0 (codes "use") 0 r.Reference
+    ∷ (node 1 (h.ExprOrSpread false)
+    (node 1 h.MemberExpr
+    (h.Ident 0 (codes "ns") 0 r.Reference ∷ node 1 (h.IdentName (codes "a")) []))
+    ++ node 1 (h.ExprOrSpread false)
+    (node 1 h.ObjectLit (h.Ident 0 (codes "x") 0 r.Reference ∷ [])))))
 
 used : List Item
-used = node 0 h.ExprStmt (node 0 h.CallExpr (h.Ident 0 (codes "use") 1 r.Reference ∷ (node 1 (h.ExprOrSpread false) (h.Ident 1 (codes "a1") 5 r.Reference ∷ []) ++ node 1 (h.ExprOrSpread false) (node 1 h.ObjectLit (node 0 h.KeyValueProp (node 0 (h.IdentName (codes "x")) [] ++ h.Ident 1 (codes "y") 7 r.Reference ∷ []))))))
+used =
+    node 0 h.ExprStmt
+    (node 0 h.CallExpr
+    (h.Ident 0 (codes "use") 1 r.Reference
+    ∷ (node 1 (h.ExprOrSpread false) (h.Ident 1 (codes "a1") 5 r.Reference ∷ [])
+    ++ node 1 (h.ExprOrSpread false)
+    (node 1 h.ObjectLit
+    (node 0 h.KeyValueProp
+    (node 0 (h.IdentName (codes "x")) [] ++ h.Ident 1 (codes "y") 7 r.Reference ∷ []))))))
 
 abbrev use_step : Step
 use_step = record { ident = (codes "use", 1); spelling = BySymbol; whole = Alone }
@@ -88,13 +121,23 @@ steps_of_use = use_step ∷ read_step ∷ name_step ∷ []
 work_of_use : Work
 work_of_use = record { steps = steps_of_use; meta = None; clears_notes = true }
 
-walk_of_use : Becomes Anywhere work_of_use uses used (record { steps = []; meta = None; clears_notes = true })
+walk_of_use : Becomes Anywhere work_of_use uses used
+    (record { steps = []; meta = None; clears_notes = true })
 unfolding uses used work_of_use
 walk_of_use =
     b.Inside 0 h.ExprStmt refl (b.Inside 0 h.CallExpr refl (b.Joined (b.Name Anywhere 0 (codes "use") 0 r.Reference refl)
     (b.Joined (b.Inside 1 (h.ExprOrSpread false) refl (b.OfReads 1 (codes "a1", 5) (h.Ident 0 (codes "ns") 0 r.Reference ∷ node 1 (h.IdentName (codes "a")) []) refl))
     (b.Inside 1 (h.ExprOrSpread false) refl (b.Inside 1 h.ObjectLit refl (b.Name InObject 0 (codes "x") 0 r.Reference refl))))))
 
-same_of_use : (f a x : Meant) → Same Anywhere work_of_use None (record { meant = f; whole = Alone } ∷ record { meant = a; whole = Reads 1 } ∷ record { meant = x; whole = Alone } ∷ []) uses used
+same_of_use : (f a x : Meant) →
+    Same Anywhere work_of_use None
+    (record { meant = f; whole = Alone } ∷ record { meant = a; whole = Reads 1 } ∷ record
+    { meant = x; whole = Alone } ∷ [])
+    uses used
 unfolding uses used work_of_use
-same_of_use f a x = becomes_same walk_of_use refl refl (one_by_symbol use_step (codes "use", 0) refl, (one_by_symbol read_step (codes "ns", 0) refl, (one_by_symbol name_step (codes "x", 0) refl, tt))) None _ (refl, (refl, (refl, tt))) tt
+same_of_use f a x =
+    becomes_same walk_of_use refl refl
+    (one_by_symbol use_step (codes "use", 0) refl,
+    (one_by_symbol read_step (codes "ns", 0) refl,
+    (one_by_symbol name_step (codes "x", 0) refl, tt)))
+    None _ (refl, (refl, (refl, tt))) tt

@@ -8,7 +8,7 @@ use Rattle.bundle_tree_leaf.specs.declared.operator.UnaryOp.TheVariants.{Bang}
 use Rattle.bundle_tree_piece.specs.declared.piece.Role.{Role}
 use Rattle.bundle_tree_piece.specs.declared.piece.Role.TheVariants as r
 use Rattle.bundle_tree_piece.specs.Item as h
-use Rattle.bundle_tree_piece.specs.Item.{Item, Head}
+use Rattle.bundle_tree_piece.specs.Item.{Item}
 use Rattle.bundle_rules.specs.Nodes.{Text}
 use Rattle.bundle_rules.specs.Idents.{Ident}
 use Rattle.bundle_rules.specs.Entries.{Named, Whole}
@@ -21,7 +21,7 @@ use Rattle.bundle_rules.specs.Forms.{returned_key, returned_property, returned_o
 use Rattle.bundle_rules.specs.Injected as f
 use Rattle.bundle_rules.specs.Injected.{is_ascii_identifier}
 use Rattle.bundle_tree_places.specs.Edits.{Around, Anywhere, InObject, node, is_occurrence}
-use Rattle.bundle_merge_meaning.specs.noted.Marked.{Note, Marked, node_marks}
+use Rattle.bundle_merge_meaning.specs.noted.Marked.{Note, Marked}
 use Rattle.bundle_merge_meaning.specs.noted.Marked as d
 use Rattle.bundle_merge_meaning.specs.walked.Keeps.{alone}
 use Rattle.bundle_merge_meaning.specs.walked.Renaming.{IsMarked}
@@ -44,25 +44,63 @@ written_of row = (row.0, row.1)
 abbrev pub target_of : Row → Text × Target
 target_of row = (row.0, row.2)
 
-string_marked : {around : Around} {its : List Note} (field : ℕ) (x : Text) → Marked None around its (l.string_in field x) (f.string_marks field x) its
+string_marked : {around : Around} {its : List Note} (field : ℕ) (x : Text) →
+    Marked None around its (l.string_in field x) (f.string_marks field x) its
 string_marked field x = d.Inside field (h.Str x None) refl d.Nothing
 
 -- a specifier: a name, and the name of another module
-export_specified : (meant : Meant) (rest : List Note) (id : Ident) (x : Text) (role : Role) (b : Bool) {around : Around} → is_occurrence role ≡ true → Marked None around (record { meant = meant; whole = d.Alone } ∷ rest) (node 0 h.ExportNamedSpecifier (h.Ident 0 id.0 id.1 role ∷ (if b then h.Ident 1 x 0 r.Word ∷ [] else l.string_in 1 x))) (f.marks_node 0 h.ExportNamedSpecifier (m.Name 0 meant ∷ (if b then m.Word 1 x ∷ [] else f.string_marks 1 x))) rest
-export_specified meant rest id x role true occurs = d.Inside 0 h.ExportNamedSpecifier refl (d.Joined (d.Name Anywhere 0 id.0 id.1 role occurs) (d.Word 1 x 0 r.Word refl))
-export_specified meant rest id x role false occurs = d.Inside 0 h.ExportNamedSpecifier refl (d.Joined (d.Name Anywhere 0 id.0 id.1 role occurs) (string_marked 1 x))
+export_specified : (meant : Meant) (rest : List Note) (id : Ident) (x : Text) (role : Role)
+    (b : Bool) {around : Around} → is_occurrence role ≡ true →
+    Marked None around (record { meant = meant; whole = d.Alone } ∷ rest)
+    (node 0 h.ExportNamedSpecifier
+    (h.Ident 0 id.0 id.1 role ∷ (if b then h.Ident 1 x 0 r.Word ∷ [] else l.string_in 1 x)))
+    (f.marks_node 0 h.ExportNamedSpecifier
+    (m.Name 0 meant ∷ (if b then m.Word 1 x ∷ [] else f.string_marks 1 x)))
+    rest
+export_specified meant rest id x role true occurs =
+    d.Inside 0 h.ExportNamedSpecifier refl
+    (d.Joined (d.Name Anywhere 0 id.0 id.1 role occurs) (d.Word 1 x 0 r.Word refl))
+export_specified meant rest id x role false occurs =
+    d.Inside 0 h.ExportNamedSpecifier refl
+    (d.Joined (d.Name Anywhere 0 id.0 id.1 role occurs) (string_marked 1 x))
 
-import_specified : (meant : Meant) (rest : List Note) (id : Ident) (x : Text) (role : Role) (b : Bool) {around : Around} → is_occurrence role ≡ true → Marked None around (record { meant = meant; whole = d.Alone } ∷ rest) (node 0 h.ImportNamedSpecifier (h.Ident 0 id.0 id.1 role ∷ (if b then h.Ident 1 x 0 r.Word ∷ [] else l.string_in 1 x))) (f.marks_node 0 h.ImportNamedSpecifier (m.Name 0 meant ∷ (if b then m.Word 1 x ∷ [] else f.string_marks 1 x))) rest
-import_specified meant rest id x role true occurs = d.Inside 0 h.ImportNamedSpecifier refl (d.Joined (d.Name Anywhere 0 id.0 id.1 role occurs) (d.Word 1 x 0 r.Word refl))
-import_specified meant rest id x role false occurs = d.Inside 0 h.ImportNamedSpecifier refl (d.Joined (d.Name Anywhere 0 id.0 id.1 role occurs) (string_marked 1 x))
+import_specified : (meant : Meant) (rest : List Note) (id : Ident) (x : Text) (role : Role)
+    (b : Bool) {around : Around} → is_occurrence role ≡ true →
+    Marked None around (record { meant = meant; whole = d.Alone } ∷ rest)
+    (node 0 h.ImportNamedSpecifier
+    (h.Ident 0 id.0 id.1 role ∷ (if b then h.Ident 1 x 0 r.Word ∷ [] else l.string_in 1 x)))
+    (f.marks_node 0 h.ImportNamedSpecifier
+    (m.Name 0 meant ∷ (if b then m.Word 1 x ∷ [] else f.string_marks 1 x)))
+    rest
+import_specified meant rest id x role true occurs =
+    d.Inside 0 h.ImportNamedSpecifier refl
+    (d.Joined (d.Name Anywhere 0 id.0 id.1 role occurs) (d.Word 1 x 0 r.Word refl))
+import_specified meant rest id x role false occurs =
+    d.Inside 0 h.ImportNamedSpecifier refl
+    (d.Joined (d.Name Anywhere 0 id.0 id.1 role occurs) (string_marked 1 x))
 
-exports_marked : {around : Around} (rows : List Row) (more : List Meant) → Marked None around (alone (map means_of rows ++ more)) (flat_map l.export_specifier (map written_of rows)) (flat_map f.export_specifier (map target_of rows)) (alone more)
+exports_marked : {around : Around} (rows : List Row) (more : List Meant) →
+    Marked None around (alone (map means_of rows ++ more))
+    (flat_map l.export_specifier (map written_of rows))
+    (flat_map f.export_specifier (map target_of rows)) (alone more)
 exports_marked [] more = d.Nothing
-exports_marked (row ∷ rows) more = d.Joined (export_specified (means_of row) (alone (map means_of rows ++ more)) row.1 row.0 r.Reference (is_ascii_identifier row.0) refl) (exports_marked rows more)
+exports_marked (row ∷ rows) more =
+    d.Joined
+    (export_specified (means_of row) (alone (map means_of rows ++ more)) row.1 row.0 r.Reference
+    (is_ascii_identifier row.0) refl)
+    (exports_marked rows more)
 
 -- the list of exports
-pub export_list_marked : (rows : List Row) → IsMarked (l.export_list (map written_of rows)) (map means_of rows, f.export_list (map target_of rows))
-export_list_marked rows = subst (λ meants. Marked None Anywhere (alone meants) (l.export_list (map written_of rows)) (f.export_list (map target_of rows)) []) (append-nil (map means_of rows)) (d.Inside 0 (h.NamedExport no_notes) refl (exports_marked rows []))
+pub export_list_marked : (rows : List Row) →
+    IsMarked (l.export_list (map written_of rows))
+    (map means_of rows, f.export_list (map target_of rows))
+export_list_marked rows =
+    subst
+    (λ meants.
+    Marked None Anywhere (alone meants) (l.export_list (map written_of rows))
+    (f.export_list (map target_of rows)) [])
+    (append-nil (map means_of rows))
+    (d.Inside 0 (h.NamedExport no_notes) refl (exports_marked rows []))
 
 -- Imports.
 
@@ -73,15 +111,36 @@ Import = Text × Ident
 abbrev pub imported_from : Text → Import → Meant
 imported_from s it = Known (Of (External s (Named it.0)))
 
-imports_marked : {around : Around} (s : Text) (its : List Import) (more : List Meant) → Marked None around (alone (map (imported_from s) its ++ more)) (flat_map l.import_specifier its) (flat_map (f.import_specifier s) (map (λ it. it.0) its)) (alone more)
+imports_marked : {around : Around} (s : Text) (its : List Import) (more : List Meant) →
+    Marked None around (alone (map (imported_from s) its ++ more))
+    (flat_map l.import_specifier its) (flat_map (f.import_specifier s) (map (λ it. it.0) its))
+    (alone more)
 imports_marked s [] more = d.Nothing
-imports_marked s (it ∷ its) more = d.Joined (import_specified (imported_from s it) (alone (map (imported_from s) its ++ more)) it.1 it.0 r.Binding (is_ascii_identifier it.0) refl) (imports_marked s its more)
+imports_marked s (it ∷ its) more =
+    d.Joined
+    (import_specified (imported_from s it) (alone (map (imported_from s) its ++ more)) it.1 it.0
+    r.Binding (is_ascii_identifier it.0) refl)
+    (imports_marked s its more)
 
-pub import_names_marked : (s : Text) (its : List Import) → IsMarked (l.import_names s its) (map (imported_from s) its, f.import_names s (map (λ it. it.0) its))
-import_names_marked s its = subst (λ meants. Marked None Anywhere (alone meants) (l.import_names s its) (f.import_names s (map (λ it. it.0) its)) []) (append-nil (map (imported_from s) its)) (d.Inside 0 (h.ImportDecl no_notes) refl (d.Joined (imports_marked s its []) (string_marked 1 s)))
+pub import_names_marked : (s : Text) (its : List Import) →
+    IsMarked (l.import_names s its)
+    (map (imported_from s) its, f.import_names s (map (λ it. it.0) its))
+import_names_marked s its =
+    subst
+    (λ meants.
+    Marked None Anywhere (alone meants) (l.import_names s its)
+    (f.import_names s (map (λ it. it.0) its)) [])
+    (append-nil (map (imported_from s) its))
+    (d.Inside 0 (h.ImportDecl no_notes) refl
+    (d.Joined (imports_marked s its []) (string_marked 1 s)))
 
-pub import_whole_marked : (s : Text) (whole : Ident) → IsMarked (l.import_whole s whole) (Known (Of (External s Whole)) ∷ [], f.import_whole s)
-import_whole_marked s whole = d.Inside 0 (h.ImportDecl no_notes) refl (d.Joined (d.Inside 0 h.ImportStarAsSpecifier refl (d.Name Anywhere 0 whole.0 whole.1 r.Binding refl)) (string_marked 1 s))
+pub import_whole_marked : (s : Text) (whole : Ident) →
+    IsMarked (l.import_whole s whole) (Known (Of (External s Whole)) ∷ [], f.import_whole s)
+import_whole_marked s whole =
+    d.Inside 0 (h.ImportDecl no_notes) refl
+    (d.Joined
+    (d.Inside 0 h.ImportStarAsSpecifier refl (d.Name Anywhere 0 whole.0 whole.1 r.Binding refl))
+    (string_marked 1 s))
 
 pub import_bare_marked : (s : Text) → IsMarked (l.import_bare s) ([], f.import_bare s)
 import_bare_marked s = d.Inside 0 (h.ImportDecl no_notes) refl (string_marked 1 s)
@@ -91,84 +150,149 @@ export_star_marked s = d.Inside 0 (h.ExportAll no_notes) refl (string_marked 0 s
 
 -- Objects.
 
-key_by : {around : Around} {its : List Note} (x : Text) (computed plain : Bool) → Marked None around its (if computed then h.Open 0 h.ComputedPropName ∷ h.Open 0 (h.Str x None) ∷ h.Close ∷ h.Close ∷ [] else (if plain then plain_key x else h.Open 0 (h.Str x None) ∷ h.Close ∷ [])) (if computed then m.computed_key x else (if plain then m.word_key x else f.string_marks 0 x)) its
+key_by : {around : Around} {its : List Note} (x : Text) (computed plain : Bool) →
+    Marked None around its
+    (if computed then h.Open 0 h.ComputedPropName ∷ h.Open 0 (h.Str x None) ∷ h.Close ∷ h.Close
+    ∷ [] else (if plain then plain_key x else h.Open 0 (h.Str x None) ∷ h.Close ∷ []))
+    (if computed then m.computed_key x else (if plain then m.word_key x else f.string_marks 0 x))
+    its
 key_by x true plain = d.Inside 0 h.ComputedPropName refl (d.Inside 0 (h.Str x None) refl d.Nothing)
 key_by x false true = d.Inside 0 (h.IdentName x) refl d.Nothing
 key_by x false false = d.Inside 0 (h.Str x None) refl d.Nothing
 
-key_marked : {around : Around} {its : List Note} (x : Text) → Marked None around its (returned_key x) (f.key_marks x) its
+key_marked : {around : Around} {its : List Note} (x : Text) →
+    Marked None around its (returned_key x) (f.key_marks x) its
 key_marked x = key_by x (bytes_eq x (codes "__proto__")) (is_ascii_identifier x)
 
-property_marked : {around : Around} (row : Row) (rest : List Note) → Marked None around (record { meant = means_of row; whole = d.Alone } ∷ rest) (returned_property (written_of row)) (f.property (target_of row)) rest
+property_marked : {around : Around} (row : Row) (rest : List Note) →
+    Marked None around (record { meant = means_of row; whole = d.Alone } ∷ rest)
+    (returned_property (written_of row)) (f.property (target_of row)) rest
 property_marked {around = around} row rest =
-    subst (λ list. Marked None around (record { meant = means_of row; whole = d.Alone } ∷ rest) (h.Open 0 h.KeyValueProp ∷ list) (f.property (target_of row)) rest) (append_assoc (returned_key row.0) (h.Ident 1 (row.1).0 (row.1).1 r.Reference ∷ []) (h.Close ∷ []))
-    (d.Inside 0 h.KeyValueProp refl (d.Joined (key_marked row.0) (d.Name Anywhere 1 (row.1).0 (row.1).1 r.Reference refl)))
+    subst
+        (λ list.
+        Marked None around (record { meant = means_of row; whole = d.Alone } ∷ rest)
+        (h.Open 0 h.KeyValueProp ∷ list) (f.property (target_of row)) rest)
+        (append_assoc (returned_key row.0) (h.Ident 1 (row.1).0 (row.1).1 r.Reference ∷ [])
+        (h.Close ∷ []))
+    (d.Inside 0 h.KeyValueProp refl
+        (d.Joined (key_marked row.0) (d.Name Anywhere 1 (row.1).0 (row.1).1 r.Reference refl)))
 
-properties_marked : {around : Around} (rows : List Row) (more : List Meant) → Marked None around (alone (map means_of rows ++ more)) (flat_map returned_property (map written_of rows)) (flat_map f.property (map target_of rows)) (alone more)
+properties_marked : {around : Around} (rows : List Row) (more : List Meant) →
+    Marked None around (alone (map means_of rows ++ more))
+    (flat_map returned_property (map written_of rows)) (flat_map f.property (map target_of rows))
+    (alone more)
 properties_marked [] more = d.Nothing
-properties_marked (row ∷ rows) more = d.Joined (property_marked row (alone (map means_of rows ++ more))) (properties_marked rows more)
+properties_marked (row ∷ rows) more =
+    d.Joined (property_marked row (alone (map means_of rows ++ more)))
+    (properties_marked rows more)
 
 -- the object that is returned
-pub returned_marked : {around : Around} (rows : List Row) (more : List Meant) → Marked None around (alone (map means_of rows ++ more)) (returned_object (map written_of rows)) (f.return_object (map target_of rows)) (alone more)
+pub returned_marked : {around : Around} (rows : List Row) (more : List Meant) →
+    Marked None around (alone (map means_of rows ++ more)) (returned_object (map written_of rows))
+    (f.return_object (map target_of rows)) (alone more)
 returned_marked {around = around} rows more =
     let properties : List Item = flat_map returned_property (map written_of rows) in
-    subst (λ list. Marked None around (alone (map means_of rows ++ more)) (h.Open 0 h.ReturnStmt ∷ h.Open 0 h.ObjectLit ∷ list) (f.return_object (map target_of rows)) (alone more)) (append_assoc properties (h.Close ∷ []) (h.Close ∷ []))
+    subst
+        (λ list.
+        Marked None around (alone (map means_of rows ++ more))
+        (h.Open 0 h.ReturnStmt ∷ h.Open 0 h.ObjectLit ∷ list)
+        (f.return_object (map target_of rows)) (alone more))
+        (append_assoc properties (h.Close ∷ []) (h.Close ∷ []))
     (d.Inside 0 h.ReturnStmt refl (d.Inside 0 h.ObjectLit refl (properties_marked rows more)))
 
 -- a declaration of one name
-declares_marked : {around : Around} (kind : _) (notes : ExportMetadata) (name : Ident) (label : Label) {value : List Item} {marks : List Mark} {its rest : List Note} → Marked None Anywhere its value marks rest → Marked None around (record { meant = Known label; whole = d.Alone } ∷ its) (node 0 (h.VarDecl kind notes) (l.declarator (l.pattern_of 0 r.Binding name) value)) (f.declaration kind (f.declarator (f.declares 0 label) marks)) rest
-declares_marked kind notes name label one = d.Inside 0 (h.VarDecl kind notes) refl (d.Inside 1 h.VarDeclarator refl (d.Joined (binding_marked 0 name r.Binding _ _ refl) one))
+declares_marked : {around : Around} (kind : _) (notes : ExportMetadata) (name : Ident)
+    (label : Label) {value : List Item} {marks : List Mark} {its rest : List Note} →
+    Marked None Anywhere its value marks rest →
+    Marked None around (record { meant = Known label; whole = d.Alone } ∷ its)
+    (node 0 (h.VarDecl kind notes) (l.declarator (l.pattern_of 0 r.Binding name) value))
+    (f.declaration kind (f.declarator (f.declares 0 label) marks)) rest
+declares_marked kind notes name label one =
+    d.Inside 0 (h.VarDecl kind notes) refl
+    (d.Inside 1 h.VarDeclarator refl (d.Joined (binding_marked 0 name r.Binding _ _ refl) one))
 
 -- the object of a namespace
-pub namespace_marked : (notes : ExportMetadata) (object : Ident) (d' : ℕ) (rows : List Row) → IsMarked (l.namespace_object notes object (map written_of rows)) (Known (Of (Namespace d')) ∷ map means_of rows, f.namespace_object d' (map target_of rows))
+pub namespace_marked : (notes : ExportMetadata) (object : Ident) (d' : ℕ) (rows : List Row) →
+    IsMarked (l.namespace_object notes object (map written_of rows))
+    (Known (Of (Namespace d')) ∷ map means_of rows, f.namespace_object d' (map target_of rows))
 namespace_marked notes object d' rows =
-    let made : List Item = node 0 h.FnExpr (l.function_in 1 [] (returned_object (map written_of rows))) in
+    let made : List Item =
+        node 0 h.FnExpr (l.function_in 1 [] (returned_object (map written_of rows))) in
     declares_marked Const notes object (Of (Namespace d'))
     (subst (λ meants. Marked None Anywhere (alone meants) (l.call_in 1 made []) (f.marks_node 1 h.CallExpr (f.marks_node 0 h.FnExpr (f.marks_node 1 (h.Function false false) (f.marks_node 1 h.BlockStmt (f.return_object (map target_of rows)))))) []) (append-nil (map means_of rows))
     (subst (λ list. Marked None Anywhere (alone (map means_of rows ++ [])) (node 1 h.CallExpr list) (f.marks_node 1 h.CallExpr (f.marks_node 0 h.FnExpr (f.marks_node 1 (h.Function false false) (f.marks_node 1 h.BlockStmt (f.return_object (map target_of rows)))))) []) (sym (append-nil made))
     (d.Inside 1 h.CallExpr (alone_stays (map means_of rows ++ []) h.CallExpr made) (d.Inside 0 h.FnExpr refl (d.Inside 1 (h.Function false false) refl (d.Inside 1 h.BlockStmt refl (returned_marked rows [])))))))
 
 -- the `import.meta` of a module, by the marks of its properties
-pub meta_marked : (notes : ExportMetadata) (name : Ident) (k : ℕ) (properties : List Item) (meants : List Meant) (marks : List Mark) → Marked None InObject (alone meants) properties marks [] → IsMarked (l.constant notes name (node 1 h.ObjectLit properties)) (Known (Meta k) ∷ meants, f.meta_object k marks)
-meta_marked notes name k properties meants marks one = declares_marked Const notes name (Meta k) (d.Inside 1 h.ObjectLit refl one)
+pub meta_marked : (notes : ExportMetadata) (name : Ident) (k : ℕ) (properties : List Item)
+    (meants : List Meant) (marks : List Mark) →
+    Marked None InObject (alone meants) properties marks [] →
+    IsMarked (l.constant notes name (node 1 h.ObjectLit properties))
+    (Known (Meta k) ∷ meants, f.meta_object k marks)
+meta_marked notes name k properties meants marks one =
+    declares_marked Const notes name (Meta k) (d.Inside 1 h.ObjectLit refl one)
 
 -- CommonJS modules.
 
 -- a call of a name without arguments
-call_marked : {around : Around} (field : ℕ) (load : Ident) (c : ℕ) (rest : List Note) → Marked None around (record { meant = Known (Load c); whole = d.Alone } ∷ rest) (l.load_call field load) (f.load_call field c) rest
-call_marked field load c rest = d.Inside field h.CallExpr refl (d.Name Anywhere 0 load.0 load.1 r.Reference refl)
+call_marked : {around : Around} (field : ℕ) (load : Ident) (c : ℕ) (rest : List Note) →
+    Marked None around (record { meant = Known (Load c); whole = d.Alone } ∷ rest)
+    (l.load_call field load) (f.load_call field c) rest
+call_marked field load c rest =
+    d.Inside field h.CallExpr refl (d.Name Anywhere 0 load.0 load.1 r.Reference refl)
 
 -- what a name that m takes of c means
 abbrev pub taken_from_c : (taker c : ℕ) → Import → Meant
 taken_from_c taker c it = Known (Of (CommonJs taker c (Named it.0)))
 
-load_property_marked : {around : Around} (taker c : ℕ) (it : Import) (rest : List Note) → Marked None around (record { meant = taken_from_c taker c it; whole = d.Alone } ∷ rest) (l.load_property it) (f.load_property taker c it.0) rest
-load_property_marked taker c it rest = d.Inside 0 h.KeyValuePatProp refl (d.Joined (key_marked it.0) (binding_marked 1 it.1 r.Binding _ rest refl))
+load_property_marked : {around : Around} (taker c : ℕ) (it : Import) (rest : List Note) →
+    Marked None around (record { meant = taken_from_c taker c it; whole = d.Alone } ∷ rest)
+    (l.load_property it) (f.load_property taker c it.0) rest
+load_property_marked taker c it rest =
+    d.Inside 0 h.KeyValuePatProp refl
+    (d.Joined (key_marked it.0) (binding_marked 1 it.1 r.Binding _ rest refl))
 
-load_properties_marked : {around : Around} (taker c : ℕ) (its : List Import) (more : List Meant) → Marked None around (alone (map (taken_from_c taker c) its ++ more)) (flat_map l.load_property its) (flat_map (f.load_property taker c) (map (λ it. it.0) its)) (alone more)
+load_properties_marked : {around : Around} (taker c : ℕ) (its : List Import) (more : List Meant) →
+    Marked None around (alone (map (taken_from_c taker c) its ++ more))
+    (flat_map l.load_property its) (flat_map (f.load_property taker c) (map (λ it. it.0) its))
+    (alone more)
 load_properties_marked taker c [] more = d.Nothing
-load_properties_marked taker c (it ∷ its) more = d.Joined (load_property_marked taker c it (alone (map (taken_from_c taker c) its ++ more))) (load_properties_marked taker c its more)
+load_properties_marked taker c (it ∷ its) more =
+    d.Joined (load_property_marked taker c it (alone (map (taken_from_c taker c) its ++ more)))
+    (load_properties_marked taker c its more)
 
-load_pattern_marked : {around : Around} (taker c : ℕ) (its : List Import) (more : List Meant) → Marked None around (alone (map (taken_from_c taker c) its ++ more)) (l.load_pattern its) (f.load_pattern taker c (map (λ it. it.0) its)) (alone more)
-load_pattern_marked taker c its more = d.Inside 0 h.ObjectPat refl (load_properties_marked taker c its more)
+load_pattern_marked : {around : Around} (taker c : ℕ) (its : List Import) (more : List Meant) →
+    Marked None around (alone (map (taken_from_c taker c) its ++ more)) (l.load_pattern its)
+    (f.load_pattern taker c (map (λ it. it.0) its)) (alone more)
+load_pattern_marked taker c its more =
+    d.Inside 0 h.ObjectPat refl (load_properties_marked taker c its more)
 
 -- the names of a load statement: that of the whole, and those that are taken
 abbrev pub load_means : (taker c : ℕ) → Option Ident → List Import → List Meant
 load_means taker c None [] = Known (Load c) ∷ []
 load_means taker c None (it ∷ its) = map (taken_from_c taker c) (it ∷ its) ++ Known (Load c) ∷ []
 load_means taker c (Some whole) [] = Known (Of (CommonJs taker c Whole)) ∷ Known (Load c) ∷ []
-load_means taker c (Some whole) (it ∷ its) = Known (Of (CommonJs taker c Whole)) ∷ Known (Load c) ∷ (map (taken_from_c taker c) (it ∷ its) ++ Known (Of (CommonJs taker c Whole)) ∷ [])
+load_means taker c (Some whole) (it ∷ its) =
+    Known (Of (CommonJs taker c Whole)) ∷ Known (Load c)
+    ∷ (map (taken_from_c taker c) (it ∷ its) ++ Known (Of (CommonJs taker c Whole)) ∷ [])
 
 abbrev pub is_there : Option Ident → Bool
 is_there None = false
 is_there (Some whole) = true
 
 -- a load statement
-pub load_marked : (taker c : ℕ) (load : Ident) (whole : Option Ident) (its : List Import) → IsMarked (l.load_statement load whole its) (load_means taker c whole its, f.load_statement taker c (is_there whole) (map (λ it. it.0) its))
+pub load_marked : (taker c : ℕ) (load : Ident) (whole : Option Ident) (its : List Import) →
+    IsMarked (l.load_statement load whole its)
+    (load_means taker c whole its, f.load_statement taker c (is_there whole)
+    (map (λ it. it.0) its))
 load_marked taker c load None [] = d.Inside 0 h.ExprStmt refl (call_marked 0 load c [])
 load_marked taker c load None (it ∷ its) =
-    d.Inside 0 (h.VarDecl Var no_notes) refl (d.Inside 1 h.VarDeclarator refl (d.Joined (load_pattern_marked taker c (it ∷ its) (Known (Load c) ∷ [])) (call_marked 1 load c [])))
-load_marked taker c load (Some whole) [] = declares_marked Var no_notes whole (Of (CommonJs taker c Whole)) (call_marked 1 load c [])
+    d.Inside 0 (h.VarDecl Var no_notes) refl
+        (d.Inside 1 h.VarDeclarator refl
+        (d.Joined (load_pattern_marked taker c (it ∷ its) (Known (Load c) ∷ []))
+        (call_marked 1 load c [])))
+load_marked taker c load (Some whole) [] =
+    declares_marked Var no_notes whole (Of (CommonJs taker c Whole)) (call_marked 1 load c [])
 load_marked taker c load (Some whole) (it ∷ its) =
     d.Inside 0 (h.VarDecl Var no_notes) refl
     (d.Joined (d.Inside 1 h.VarDeclarator refl (d.Joined (binding_marked 0 whole r.Binding _ _ refl) (call_marked 1 load c _)))
@@ -176,29 +300,59 @@ load_marked taker c load (Some whole) (it ∷ its) =
 
 -- The helper.
 
-member_marked : {around : Around} (field : ℕ) (id : Ident) (x : Text) (meant : Meant) (rest : List Note) → Marked None around (record { meant = meant; whole = d.Alone } ∷ rest) (l.member field id x) (f.marks_node field h.MemberExpr (m.Name 0 meant ∷ f.marks_node 1 (h.IdentName x) [])) rest
-member_marked field id x meant rest = d.Inside field h.MemberExpr refl (d.Joined (d.Name Anywhere 0 id.0 id.1 r.Reference refl) (d.Inside 1 (h.IdentName x) refl d.Nothing))
+member_marked : {around : Around} (field : ℕ) (id : Ident) (x : Text) (meant : Meant)
+    (rest : List Note) →
+    Marked None around (record { meant = meant; whole = d.Alone } ∷ rest) (l.member field id x)
+    (f.marks_node field h.MemberExpr (m.Name 0 meant ∷ f.marks_node 1 (h.IdentName x) [])) rest
+member_marked field id x meant rest =
+    d.Inside field h.MemberExpr refl
+    (d.Joined (d.Name Anywhere 0 id.0 id.1 r.Reference refl)
+    (d.Inside 1 (h.IdentName x) refl d.Nothing))
 
-exported_marked : {its : List Note} → Marked None InObject its l.exported (f.marks_node 0 h.KeyValueProp (m.word_key (codes "exports") ++ f.marks_node 1 h.ObjectLit [])) its
-exported_marked = d.Inside 0 h.KeyValueProp refl (d.Joined (d.Inside 0 (h.IdentName (codes "exports")) refl d.Nothing) (d.Inside 1 h.ObjectLit refl d.Nothing))
+exported_marked : {its : List Note} →
+    Marked None InObject its l.exported
+    (f.marks_node 0 h.KeyValueProp (m.word_key (codes "exports") ++ f.marks_node 1 h.ObjectLit []))
+    its
+exported_marked =
+    d.Inside 0 h.KeyValueProp refl
+    (d.Joined (d.Inside 0 (h.IdentName (codes "exports")) refl d.Nothing)
+    (d.Inside 1 h.ObjectLit refl d.Nothing))
 
-makes_marked : {around : Around} (id : Ident) (rest : List Note) → Marked None around (record { meant = Inside 1; whole = d.Alone } ∷ rest) (l.makes_module id) f.makes_module rest
-makes_marked id rest = d.Inside 0 h.ExprStmt refl (d.Inside 0 (h.AssignExpr Assign) refl (d.Joined (binding_marked 1 id r.Reference _ rest refl) (d.Inside 2 h.ObjectLit refl exported_marked)))
+makes_marked : {around : Around} (id : Ident) (rest : List Note) →
+    Marked None around (record { meant = Inside 1; whole = d.Alone } ∷ rest) (l.makes_module id)
+    f.makes_module rest
+makes_marked id rest =
+    d.Inside 0 h.ExprStmt refl
+    (d.Inside 0 (h.AssignExpr Assign) refl
+    (d.Joined (binding_marked 1 id r.Reference _ rest refl)
+    (d.Inside 2 h.ObjectLit refl exported_marked)))
 
-runs_marked : {around : Around} (fn id : Ident) (rest : List Note) → Marked None around (alone (Inside 0 ∷ Inside 1 ∷ Inside 1 ∷ Inside 1 ∷ []) ++ rest) (l.runs_module fn id) f.runs_module rest
+runs_marked : {around : Around} (fn id : Ident) (rest : List Note) →
+    Marked None around (alone (Inside 0 ∷ Inside 1 ∷ Inside 1 ∷ Inside 1 ∷ []) ++ rest)
+    (l.runs_module fn id) f.runs_module rest
 runs_marked fn id rest =
     d.Inside 0 h.ExprStmt refl (d.Inside 0 h.CallExpr refl (d.Joined (member_marked 0 fn (codes "call") (Inside 0) _)
     (d.Joined (d.Inside 1 (h.ExprOrSpread false) refl (member_marked 1 id (codes "exports") (Inside 1) _))
     (d.Joined (d.Inside 1 (h.ExprOrSpread false) refl (d.Name Anywhere 1 id.0 id.1 r.Reference refl))
     (d.Inside 1 (h.ExprOrSpread false) refl (member_marked 1 id (codes "exports") (Inside 1) rest))))))
 
-once_marked : {around : Around} (fn id : Ident) (rest : List Note) → Marked None around (alone (Inside 1 ∷ Inside 1 ∷ Inside 0 ∷ Inside 1 ∷ Inside 1 ∷ Inside 1 ∷ []) ++ rest) (l.loads_once fn id) (f.marks_node 0 h.IfStmt (f.marks_node 0 (h.UnaryExpr Bang) (f.its_module 1) ++ f.marks_node 1 h.BlockStmt (f.makes_module ++ f.runs_module))) rest
+once_marked : {around : Around} (fn id : Ident) (rest : List Note) →
+    Marked None around
+    (alone (Inside 1 ∷ Inside 1 ∷ Inside 0 ∷ Inside 1 ∷ Inside 1 ∷ Inside 1 ∷ []) ++ rest)
+    (l.loads_once fn id)
+    (f.marks_node 0 h.IfStmt
+    (f.marks_node 0 (h.UnaryExpr Bang) (f.its_module 1)
+    ++ f.marks_node 1 h.BlockStmt (f.makes_module ++ f.runs_module)))
+    rest
 once_marked fn id rest =
     d.Inside 0 h.IfStmt refl (d.Joined (d.Inside 0 (h.UnaryExpr Bang) refl (d.Name Anywhere 1 id.0 id.1 r.Reference refl))
     (d.Inside 1 h.BlockStmt refl (d.Joined (makes_marked id _) (runs_marked fn id rest))))
 
 -- the helper
-pub helper_marked : (helper fn id : Ident) → IsMarked (l.helper_function helper fn id) (Known Helper ∷ Inside 0 ∷ Inside 1 ∷ Inside 1 ∷ Inside 1 ∷ Inside 0 ∷ Inside 1 ∷ Inside 1 ∷ Inside 1 ∷ Inside 1 ∷ [], f.helper_function)
+pub helper_marked : (helper fn id : Ident) →
+    IsMarked (l.helper_function helper fn id)
+    (Known Helper ∷ Inside 0 ∷ Inside 1 ∷ Inside 1 ∷ Inside 1 ∷ Inside 0 ∷ Inside 1 ∷ Inside 1
+    ∷ Inside 1 ∷ Inside 1 ∷ [], f.helper_function)
 helper_marked helper fn id =
     d.Inside 0 h.FnDecl refl (d.Joined (d.Name Anywhere 0 helper.0 helper.1 r.Binding refl)
     (d.Inside 1 (h.Function false false) refl (d.Joined (d.Inside 0 h.Param refl (binding_marked 0 fn r.Binding _ _ refl))

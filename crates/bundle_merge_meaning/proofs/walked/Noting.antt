@@ -10,7 +10,7 @@ use Rattle.bundle_rules.specs.Marks as m
 use Rattle.bundle_rules.specs.Meaning.{Meant, Mark}
 use Rattle.bundle_rules.specs.Cleared.{cleared_head, cleared, without_note, without_notes}
 use Rattle.bundle_tree_places.specs.Edits.{Around, node, around_in, binding}
-use Rattle.bundle_merge_meaning.specs.noted.Marked.{Note, Marked, keeps_first, stays, marks_there, node_marks, shorthand_marks}
+use Rattle.bundle_merge_meaning.specs.noted.Marked.{Note, Marked, keeps_first, stays, node_marks, shorthand_marks}
 use Rattle.bundle_merge_meaning.specs.noted.Marked as d
 use Rattle.bundle_merge_meaning.specs.walked.Renaming.{AreAlone, Told, IsMarked, module_of_items}
 use Rattle.bundle_merge_meaning.proofs.walked.Keeping.{alike, alike_inside}
@@ -28,13 +28,15 @@ record Parts (xs first second : List Item) : Type 0 where
   back_is : without_notes back ≡ second
 
 parts : (xs first second : List Item) → without_notes xs ≡ first ++ second → Parts xs first second
-parts xs [] second same = record { front = []; back = xs; is = refl; front_is = refl; back_is = same }
+parts xs [] second same =
+    record { front = []; back = xs; is = refl; front_is = refl; back_is = same }
 parts [] (x ∷ first) second same = cc
 parts (y ∷ xs) (x ∷ first) second same =
     let here : without_note y ≡ x = cc in
     let behind : without_notes xs ≡ first ++ second = cc in
     let rest = parts xs first second behind in
-    record { front = y ∷ rest.front; back = rest.back; is = ap (λ list. y ∷ list) rest.is; front_is = (λ i. here i ∷ rest.front_is i); back_is = rest.back_is }
+    record
+        { front = y ∷ rest.front; back = rest.back; is = ap (λ list. y ∷ list) rest.is; front_is = (λ i. here i ∷ rest.front_is i); back_is = rest.back_is }
 
 -- one element
 record One (xs : List Item) (x : Item) : Type 0 where
@@ -54,7 +56,8 @@ hole_is (h.Ident its y ctxt role) field same = cc
 hole_is (h.Hole its) field same = same
 hole_is h.Close field same = cc
 
-name_is : (x : Item) (field : ℕ) (y : Text) (ctxt : ℕ) (role : Role) → without_note x ≡ h.Ident field y ctxt role → x ≡ h.Ident field y ctxt role
+name_is : (x : Item) (field : ℕ) (y : Text) (ctxt : ℕ) (role : Role) →
+    without_note x ≡ h.Ident field y ctxt role → x ≡ h.Ident field y ctxt role
 name_is (h.Open its head) field y ctxt role same = cc
 name_is (h.Ident its z other its_role) field y ctxt role same = same
 name_is (h.Hole its) field y ctxt role same = cc
@@ -71,8 +74,10 @@ record Begins (x : Item) (field : ℕ) (head : Head) : Type 0 where
   is : x ≡ h.Open field its
   same : cleared_head its ≡ head
 
-begins : (x : Item) (field : ℕ) (head : Head) → without_note x ≡ h.Open field head → Begins x field head
-begins (h.Open other its) field head same = record { its = its; is = (let e : other ≡ field = cc in ap (λ n. h.Open n its) e); same = cc }
+begins : (x : Item) (field : ℕ) (head : Head) → without_note x ≡ h.Open field head →
+    Begins x field head
+begins (h.Open other its) field head same =
+    record { its = its; is = (let e : other ≡ field = cc in ap (λ n. h.Open n its) e); same = cc }
 begins (h.Ident other z ctxt role) field head same = cc
 begins (h.Hole other) field head same = cc
 begins h.Close field head same = cc
@@ -85,7 +90,8 @@ record NodeOf (xs : List Item) (field : ℕ) (head : Head) (inside : List Item) 
   same : cleared_head its ≡ head
   within_is : without_notes within ≡ inside
 
-node_of : (xs : List Item) (field : ℕ) (head : Head) (inside : List Item) → without_notes xs ≡ node field head inside → NodeOf xs field head inside
+node_of : (xs : List Item) (field : ℕ) (head : Head) (inside : List Item) →
+    without_notes xs ≡ node field head inside → NodeOf xs field head inside
 node_of [] field head inside same = cc
 node_of (x ∷ xs) field head inside same =
     let here : without_note x ≡ h.Open field head = cc in
@@ -96,7 +102,13 @@ node_of (x ∷ xs) field head inside same =
     record {
       its = first.its;
       within = rest.front;
-      is = (λ i. first.is i ∷ (rest.is ∙ (ap (λ list. rest.front ++ list) last.is ∙ ap (λ it. rest.front ++ it ∷ []) (close_is last.item last.same))) i);
+      is =
+          (λ i.
+          first.is i
+          ∷ (rest.is
+          ∙ (ap (λ list. rest.front ++ list) last.is
+          ∙ ap (λ it. rest.front ++ it ∷ []) (close_is last.item last.same)))
+          i);
       same = first.same;
       within_is = rest.front_is;
     }
@@ -123,14 +135,33 @@ nothing_of [] same = refl
 nothing_of (x ∷ xs) same = cc
 
 -- with the list that it is
-listed_so : {around : Around} {notes rest : List Note} {xs ys : List Item} {marks : List Mark} → xs ≡ ys → Marked None around notes ys marks rest → Marked None around notes xs marks rest
-listed_so {around = around} {notes = notes} {rest = rest} {marks = marks} is one = subst (λ list. Marked None around notes list marks rest) (sym is) one
+listed_so : {around : Around} {notes rest : List Note} {xs ys : List Item} {marks : List Mark} →
+    xs ≡ ys → Marked None around notes ys marks rest → Marked None around notes xs marks rest
+listed_so {around = around} {notes = notes} {rest = rest} {marks = marks} is one =
+    subst (λ list. Marked None around notes list marks rest) (sym is) one
 
-noted_node : {around : Around} {notes rest : List Note} (field : ℕ) (its : Head) (within inside : List Item) (marks : List Mark) → AreAlone notes → stays None (d.upcoming notes) (cleared_head its) inside ≡ true → Marked None (around_in (cleared_head its) inside) notes within marks rest → Marked None around notes (node field its within) (node_marks field (cleared_head its) marks) rest
-noted_node {around = around} {notes = notes} {rest = rest} field its within inside marks are_alone it_stays one =
-    let still : stays None (d.upcoming notes) its within ≡ true = sym (head_stays notes its within are_alone) ∙ (alone_stays notes (cleared_head its) (cleared within) inside are_alone ∙ it_stays) in
-    subst (λ head. Marked None around notes (node field its within) (m.Begins field head ∷ (marks ++ m.Ends ∷ [])) rest) (sym (twice its))
-    (d.Inside field its still (alike (λ n x meant. alike_inside (cleared_head its) inside (cleared within) n x meant ∙ sym (head_alike its within n x meant)) one))
+noted_node : {around : Around} {notes rest : List Note} (field : ℕ) (its : Head)
+    (within inside : List Item) (marks : List Mark) → AreAlone notes →
+    stays None (d.upcoming notes) (cleared_head its) inside ≡ true →
+    Marked None (around_in (cleared_head its) inside) notes within marks rest →
+    Marked None around notes (node field its within) (node_marks field (cleared_head its) marks)
+    rest
+noted_node {around = around} {notes = notes} {rest = rest} field its within inside marks are_alone
+    it_stays one =
+    let still : stays None (d.upcoming notes) its within ≡ true =
+        sym (head_stays notes its within are_alone)
+        ∙ (alone_stays notes (cleared_head its) (cleared within) inside are_alone ∙ it_stays) in
+    subst
+        (λ head.
+        Marked None around notes (node field its within)
+        (m.Begins field head ∷ (marks ++ m.Ends ∷ [])) rest)
+        (sym (twice its))
+    (d.Inside field its still
+        (alike
+        (λ n x meant.
+        alike_inside (cleared_head its) inside (cleared within) n x meant
+        ∙ sym (head_alike its within n x meant))
+        one))
 
 kept_plain : (head : Head) (first : ℕ) → keeps_first head first ≡ true → is_noted head ≡ false
 kept_plain (h.ImportDecl meta) first keeps = cc
@@ -140,14 +171,18 @@ kept_plain (h.VarDecl kind meta) first keeps = cc
 kept_plain _ first keeps = refl
 
 -- what is first in a node, and what follows
-record KeptOf (xs : List Item) (field : ℕ) (head : Head) (first : ℕ) (inside more : List Item) : Type 0 where
+record KeptOf (xs : List Item) (field : ℕ) (head : Head) (first : ℕ) (inside more : List Item) : Type
+    0 where
   front : List Item
   back : List Item
   is : xs ≡ node field head (node first h.MemberExpr front ++ back)
   front_is : without_notes front ≡ inside
   back_is : without_notes back ≡ more
 
-kept_of : (xs : List Item) (field : ℕ) (head : Head) (first : ℕ) (inside more : List Item) → is_noted head ≡ false → without_notes xs ≡ node field head (node first h.MemberExpr inside ++ more) → KeptOf xs field head first inside more
+kept_of : (xs : List Item) (field : ℕ) (head : Head) (first : ℕ) (inside more : List Item) →
+    is_noted head ≡ false →
+    without_notes xs ≡ node field head (node first h.MemberExpr inside ++ more) →
+    KeptOf xs field head first inside more
 kept_of xs field head first inside more plain same =
     let outer = node_of xs field head (node first h.MemberExpr inside ++ more) same in
     let both = parts outer.within (node first h.MemberExpr inside) more outer.within_is in
@@ -155,62 +190,95 @@ kept_of xs field head first inside more plain same =
     record {
       front = member.within;
       back = both.back;
-      is = outer.is ∙ (λ i. node field (plain_head outer.its head plain outer.same i) ((both.is ∙ ap (λ list. list ++ both.back) (member.is ∙ ap (λ it. node first it member.within) (plain_head member.its h.MemberExpr refl member.same))) i));
+      is =
+          outer.is
+          ∙ (λ i.
+          node field (plain_head outer.its head plain outer.same i)
+          ((both.is
+          ∙ ap (λ list. list ++ both.back)
+          (member.is
+          ∙ ap (λ it. node first it member.within)
+          (plain_head member.its h.MemberExpr refl member.same)))
+          i));
       front_is = member.within_is;
       back_is = both.back_is;
     }
 
 -- a shorthand property
-record ShortOf (xs : List Item) (field : ℕ) (x : Text) (ctxt : ℕ) (role : Role) (default : List Item) : Type 0 where
+record ShortOf (xs : List Item) (field : ℕ) (x : Text) (ctxt : ℕ) (role : Role) (default : List Item) : Type
+    0 where
   its : List Item
   is : xs ≡ node field h.AssignPatProp (binding None 0 x ctxt role ++ its)
   its_is : without_notes its ≡ default
 
-short_of : (xs : List Item) (field : ℕ) (x : Text) (ctxt : ℕ) (role : Role) (default : List Item) → without_notes xs ≡ node field h.AssignPatProp (binding None 0 x ctxt role ++ default) → ShortOf xs field x ctxt role default
+short_of : (xs : List Item) (field : ℕ) (x : Text) (ctxt : ℕ) (role : Role) (default : List Item) →
+    without_notes xs ≡ node field h.AssignPatProp (binding None 0 x ctxt role ++ default) →
+    ShortOf xs field x ctxt role default
 short_of xs field x ctxt role default same =
     let outer = node_of xs field h.AssignPatProp (binding None 0 x ctxt role ++ default) same in
     let both = parts outer.within (binding None 0 x ctxt role) default outer.within_is in
     let name = node_of both.front 0 h.BindingIdent (h.Ident 0 x ctxt role ∷ []) both.front_is in
     let one = one_of name.within (h.Ident 0 x ctxt role) name.within_is in
-    let inside : name.within ≡ h.Ident 0 x ctxt role ∷ [] = one.is ∙ ap (λ it. it ∷ []) (name_is one.item 0 x ctxt role one.same) in
-    let front : both.front ≡ binding None 0 x ctxt role = name.is ∙ (λ i. node 0 (plain_head name.its h.BindingIdent refl name.same i) (inside i)) in
+    let inside : name.within ≡ h.Ident 0 x ctxt role ∷ [] =
+        one.is ∙ ap (λ it. it ∷ []) (name_is one.item 0 x ctxt role one.same) in
+    let front : both.front ≡ binding None 0 x ctxt role =
+        name.is ∙ (λ i. node 0 (plain_head name.its h.BindingIdent refl name.same i) (inside i)) in
     record {
       its = both.back;
-      is = outer.is ∙ (λ i. node field (plain_head outer.its h.AssignPatProp refl outer.same i) ((both.is ∙ ap (λ list. list ++ both.back) front) i));
+      is =
+          outer.is
+          ∙ (λ i.
+          node field (plain_head outer.its h.AssignPatProp refl outer.same i)
+          ((both.is ∙ ap (λ list. list ++ both.back) front) i));
       its_is = both.back_is;
     }
 
-default_so : (field : ℕ) (x : Text) (meant : Meant) (its default : List Item) (marks : List Mark) → without_notes its ≡ default → shorthand_marks field x meant its marks ≡ shorthand_marks field x meant default marks
+default_so : (field : ℕ) (x : Text) (meant : Meant) (its default : List Item) (marks : List Mark) →
+    without_notes its ≡ default →
+    shorthand_marks field x meant its marks ≡ shorthand_marks field x meant default marks
 default_so field x meant [] [] marks same = refl
 default_so field x meant [] (y ∷ default) marks same = cc
 default_so field x meant (y ∷ its) [] marks same = cc
 default_so field x meant (y ∷ its) (z ∷ default) marks same = refl
 
--- THE RESULT: where names stand for themselves alone, a part has the marks that it has without notes
-pub noted : {around : Around} {notes rest : List Note} {items : List Item} {marks : List Mark} → Marked None around notes items marks rest → AreAlone notes → (xs : List Item) → without_notes xs ≡ items → Marked None around notes xs marks rest
+-- where names stand for themselves alone, a part has the marks that it has without notes
+pub noted : {around : Around} {notes rest : List Note} {items : List Item} {marks : List Mark} →
+    Marked None around notes items marks rest → AreAlone notes → (xs : List Item) →
+    without_notes xs ≡ items → Marked None around notes xs marks rest
 noted d.Nothing are_alone xs same = listed_so (nothing_of xs same) d.Nothing
 noted (d.Joined {first = first} {second = second} one two) are_alone xs same =
     let both = parts xs first second same in
-    listed_so both.is (d.Joined (noted one are_alone both.front both.front_is) (noted two (alone_left one are_alone) both.back both.back_is))
+    listed_so both.is
+        (d.Joined (noted one are_alone both.front both.front_is)
+        (noted two (alone_left one are_alone) both.back both.back_is))
 noted (d.Hole field) are_alone xs same =
     let one = one_of xs (h.Hole field) same in
     listed_so (one.is ∙ ap (λ it. it ∷ []) (hole_is one.item field one.same)) (d.Hole field)
 noted (d.Word field x ctxt role plain) are_alone xs same =
     let one = one_of xs (h.Ident field x ctxt role) same in
-    listed_so (one.is ∙ ap (λ it. it ∷ []) (name_is one.item field x ctxt role one.same)) (d.Word field x ctxt role plain)
+    listed_so (one.is ∙ ap (λ it. it ∷ []) (name_is one.item field x ctxt role one.same))
+        (d.Word field x ctxt role plain)
 noted (d.Name around field x ctxt role occurs) are_alone xs same =
     let one = one_of xs (h.Ident field x ctxt role) same in
-    listed_so (one.is ∙ ap (λ it. it ∷ []) (name_is one.item field x ctxt role one.same)) (d.Name around field x ctxt role occurs)
-noted {around = around} {notes = notes} {rest = rest} (d.Inside field head {inside = inside} {marks = marks} it_stays one) are_alone xs same =
+    listed_so (one.is ∙ ap (λ it. it ∷ []) (name_is one.item field x ctxt role one.same))
+        (d.Name around field x ctxt role occurs)
+noted {around = around} {notes = notes} {rest = rest}
+    (d.Inside field head {inside = inside} {marks = marks} it_stays one) are_alone xs same =
     let it = node_of xs field head inside same in
-    let within : Marked None (around_in head inside) notes it.within marks rest = noted one are_alone it.within it.within_is in
+    let within : Marked None (around_in head inside) notes it.within marks rest =
+        noted one are_alone it.within it.within_is in
     listed_so it.is
     (subst (λ its. Marked None around notes (node field it.its it.within) (node_marks field its marks) rest) it.same
     (noted_node field it.its it.within inside marks are_alone (subst (λ its. stays None (d.upcoming notes) its inside ≡ true) (sym it.same) it_stays) (subst (λ its. Marked None (around_in its inside) notes it.within marks rest) (sym it.same) within)))
 noted (d.Kept field head first {inside = inside} {more = more} keeps one two) are_alone xs same =
     let it = kept_of xs field head first inside more (kept_plain head first keeps) same in
-    listed_so it.is (d.Kept field head first keeps (noted one are_alone it.front it.front_is) (noted two (alone_left one are_alone) it.back it.back_is))
-noted {around = around} (d.Shorthand {note = note} {notes = notes} {rest = rest} field x ctxt role {default = default} {marks = marks} occurs one) are_alone xs same =
+    listed_so it.is
+        (d.Kept field head first keeps (noted one are_alone it.front it.front_is)
+        (noted two (alone_left one are_alone) it.back it.back_is))
+noted {around = around}
+    (d.Shorthand {note = note} {notes = notes} {rest = rest} field x ctxt role {default = default}
+    {marks = marks} occurs one)
+    are_alone xs same =
     let it = short_of xs field x ctxt role default same in
     listed_so it.is
     (subst (λ list. Marked None around (note ∷ notes) (node field h.AssignPatProp (binding None 0 x ctxt role ++ it.its)) list rest) (default_so field x note.meant it.its default marks it.its_is)
@@ -226,14 +294,17 @@ record ItemsOf (xs : List Item) (tolds : List Told) : Type 0 where
   is : xs ≡ flat_map (λ item. item) items
   marked : AllZip IsMarked items tolds
 
-items_of : (xs : List Item) (items : List (List Item)) (tolds : List Told) → AllZip IsMarked items tolds → without_notes xs ≡ flat_map (λ item. item) items → ItemsOf xs tolds
+items_of : (xs : List Item) (items : List (List Item)) (tolds : List Told) →
+    AllZip IsMarked items tolds → without_notes xs ≡ flat_map (λ item. item) items →
+    ItemsOf xs tolds
 items_of xs [] [] marked same = record { items = []; is = nothing_of xs same; marked = tt }
 items_of xs [] (told ∷ tolds) marked same = absurd marked
 items_of xs (item ∷ items) [] marked same = absurd marked
 items_of xs (item ∷ items) (told ∷ tolds) marked same =
     let both = parts xs item (flat_map (λ it. it) items) same in
     let rest = items_of both.back items tolds marked.1 both.back_is in
-    record { items = both.front ∷ rest.items; is = both.is ∙ ap (λ list. both.front ++ list) rest.is; marked = (noted marked.0 (alone_alone told.0) both.front both.front_is, rest.marked) }
+    record
+        { items = both.front ∷ rest.items; is = both.is ∙ ap (λ list. both.front ++ list) rest.is; marked = (noted marked.0 (alone_alone told.0) both.front both.front_is, rest.marked) }
 
 -- a module that is marked without its notes
 pub record ModuleOf (tree : List Item) (tolds : List Told) : Type 0 where
@@ -241,8 +312,10 @@ pub record ModuleOf (tree : List Item) (tolds : List Told) : Type 0 where
   pub is : tree ≡ module_of_items items
   pub marked : AllZip IsMarked items tolds
 
-pub module_of : (tree : List Item) (items : List (List Item)) (tolds : List Told) → AllZip IsMarked items tolds → without_notes tree ≡ module_of_items items → ModuleOf tree tolds
+pub module_of : (tree : List Item) (items : List (List Item)) (tolds : List Told) →
+    AllZip IsMarked items tolds → without_notes tree ≡ module_of_items items → ModuleOf tree tolds
 module_of tree items tolds marked same =
     let it = node_of tree 0 h.Module (flat_map (λ its. its) items) same in
     let all = items_of it.within items tolds marked it.within_is in
-    record { items = all.items; is = it.is ∙ (λ i. node 0 (plain_head it.its h.Module refl it.same i) (all.is i)); marked = all.marked }
+    record
+        { items = all.items; is = it.is ∙ (λ i. node 0 (plain_head it.its h.Module refl it.same i) (all.is i)); marked = all.marked }

@@ -26,10 +26,12 @@ pub record IsAt (tree : List Item) (s : Spot) (rest : List Item) : Type 0 where
 -- none of these nodes is replaced
 abbrev pub IsClear : (ℕ → Replacement → Type 0) → List Around → Type 0
 IsClear replaced [] = Unit {0}
-IsClear replaced (node ∷ outer) = (((x : Replacement) → replaced node.begins x → ⊥)) × IsClear replaced outer
+IsClear replaced (node ∷ outer) =
+    (((x : Replacement) → replaced node.begins x → ⊥)) × IsClear replaced outer
 
 -- of these nodes the outermost one that is replaced begins there, and is replaced by that
-pub record IsReplacedAround (replaced : ℕ → Replacement → Type 0) (path : List Around) (begins : ℕ) (by : Replacement) : Type 0 where
+pub record IsReplacedAround (replaced : ℕ → Replacement → Type 0) (path : List Around) (begins : ℕ) (by : Replacement) : Type
+    0 where
   pub inner : List Around
   pub node : Around
   pub outer : List Around
@@ -40,30 +42,38 @@ pub record IsReplacedAround (replaced : ℕ → Replacement → Type 0) (path : 
 
 -- a node of which a note can tell, or `import.meta`
 pub data IsNotable (meta : Option Meant) : Head → List Item → Replacement → Type 0 where
-  by_reads : {inside : List Item} {l : Label} (count : ℕ) → are_reads count inside ≡ true → IsNotable meta h.MemberExpr inside (ByName l)
-  by_call : {inside : List Item} {l : Label} → is_literal_call inside ≡ true → IsNotable meta h.CallExpr inside (ByCall l)
-  by_meta : {l : Label} → meta ≡ Some (Known l) → IsNotable meta (h.MetaPropExpr p.ImportMeta) [] (ByName l)
+  by_reads : {inside : List Item} {l : Label} (count : ℕ) → are_reads count inside ≡ true →
+      IsNotable meta h.MemberExpr inside (ByName l)
+  by_call : {inside : List Item} {l : Label} → is_literal_call inside ≡ true →
+      IsNotable meta h.CallExpr inside (ByCall l)
+  by_meta : {l : Label} → meta ≡ Some (Known l) →
+      IsNotable meta (h.MetaPropExpr p.ImportMeta) [] (ByName l)
 
 -- a node that is replaced, where none around it is
-pub record IsNotedNode (tree : List Item) (meta : Option Meant) (place field : ℕ) (head : Head) (by : Replacement) : Type 0 where
+pub record IsNotedNode (tree : List Item) (meta : Option Meant) (place field : ℕ) (head : Head) (by : Replacement) : Type
+    0 where
   pub inside : List Item
   pub behind : List Item
   pub there : drop place tree ≡ node field head inside ++ behind
   pub notable : IsNotable meta head inside by
   -- it is no member expression that is assigned to or begins an optional chain
-  pub unkept : (around : Around) (outer : List Around) → head ≡ h.MemberExpr → path_at tree place ≡ around ∷ outer → keeps_first around.head around.field ≡ true → place ≡ suc around.begins → ⊥
+  pub unkept : (around : Around) (outer : List Around) → head ≡ h.MemberExpr →
+      path_at tree place ≡ around ∷ outer → keeps_first around.head around.field ≡ true →
+      place ≡ suc around.begins → ⊥
 
 -- Notes.
 
 -- the occurrence stands for itself: no node around it is replaced, and what it denotes means that
-pub record StandsAlone (sense : Sense) (inner : List Denoted) (o : Occurrence) (meant : Meant) : Type 0 where
+pub record StandsAlone (sense : Sense) (inner : List Denoted) (o : Occurrence) (meant : Meant) : Type
+    0 where
   pub d : Denoted
   pub denotes : denoted_at sense.view.reading sense.view.kind sense.view.tree o.place ≡ Some d
   pub means : NameMeans sense inner d meant
   pub clear : IsClear sense.replaced o.path
 
 -- the node that begins so many places before it is replaced by a name of the label
-pub record StandsForReads (sense : Sense) (o : Occurrence) (meant : Meant) (count : ℕ) : Type 0 where
+pub record StandsForReads (sense : Sense) (o : Occurrence) (meant : Meant) (count : ℕ) : Type 0
+    where
   pub begins : ℕ
   pub far : begins + count ≡ o.place
   pub label : Label
@@ -88,10 +98,12 @@ Agrees sense inner o meant Call = StandsForCall sense o meant
 abbrev pub AgreeInTurn : Sense → List Denoted → List Occurrence → List Note → Type 0
 AgreeInTurn sense inner [] notes = Unit {0}
 AgreeInTurn sense inner (o ∷ more) [] = ⊥
-AgreeInTurn sense inner (o ∷ more) (note ∷ notes) = Agrees sense inner o note.meant note.whole × AgreeInTurn sense inner more notes
+AgreeInTurn sense inner (o ∷ more) (note ∷ notes) =
+    Agrees sense inner o note.meant note.whole × AgreeInTurn sense inner more notes
 
 -- the same where nothing is replaced: the occurrence stands for itself, and what it denotes means that
-pub record MeansAlone (sense : Sense) (inner : List Denoted) (o : Occurrence) (note : Note) : Type 0 where
+pub record MeansAlone (sense : Sense) (inner : List Denoted) (o : Occurrence) (note : Note) : Type
+    0 where
   pub alone : note.whole ≡ Alone
   pub d : Denoted
   pub denotes : denoted_at sense.view.reading sense.view.kind sense.view.tree o.place ≡ Some d
@@ -101,7 +113,8 @@ pub record MeansAlone (sense : Sense) (inner : List Denoted) (o : Occurrence) (n
 abbrev pub EachMeans : Sense → List Denoted → List Occurrence → List Note → Type 0
 EachMeans sense inner [] notes = Unit {0}
 EachMeans sense inner (o ∷ more) [] = ⊥
-EachMeans sense inner (o ∷ more) (note ∷ notes) = MeansAlone sense inner o note × EachMeans sense inner more notes
+EachMeans sense inner (o ∷ more) (note ∷ notes) =
+    MeansAlone sense inner o note × EachMeans sense inner more notes
 
 -- What is so in the list of each tree.
 
@@ -113,10 +126,22 @@ is_read_or_call head = false
 
 -- a name right in a member expression or a call refers; what is assigned to stands first in an assignment, in its field
 pub record IsListing (tree : List Item) : Type 0 where
-  pub names : (place field ctxt : ℕ) (x : Text) (role : Role) (around : Around) (outer : List Around) → slice_get tree place ≡ Some (h.Ident field x ctxt role) → path_at tree place ≡ around ∷ outer → is_read_or_call around.head ≡ true → is_reference role ≡ true
-  pub targets : (place field : ℕ) (head : Head) (around : Around) (outer : List Around) (op : AssignOp) → slice_get tree place ≡ Some (h.Open field head) → path_at tree place ≡ around ∷ outer → around.head ≡ h.AssignExpr op → place ≡ suc around.begins → around.field ≡ 1
+  pub names : (place field ctxt : ℕ) (x : Text) (role : Role) (around : Around)
+      (outer : List Around) → slice_get tree place ≡ Some (h.Ident field x ctxt role) →
+      path_at tree place ≡ around ∷ outer → is_read_or_call around.head ≡ true →
+      is_reference role ≡ true
+  pub targets : (place field : ℕ) (head : Head) (around : Around) (outer : List Around)
+      (op : AssignOp) → slice_get tree place ≡ Some (h.Open field head) →
+      path_at tree place ≡ around ∷ outer → around.head ≡ h.AssignExpr op →
+      place ≡ suc around.begins → around.field ≡ 1
 
 -- what is replaced in a tree, where `meta` is what `import.meta` stands for
 pub record ReplacesNotable (sense : Sense) (meta : Option Meant) : Type 0 where
-  pub nodes : (place field : ℕ) (head : Head) (by : Replacement) → slice_get sense.view.tree place ≡ Some (h.Open field head) → IsClear sense.replaced (path_at sense.view.tree place) → sense.replaced place by → IsNotedNode sense.view.tree meta place field head by
-  pub metas : (place field : ℕ) (meant : Meant) → slice_get sense.view.tree place ≡ Some (h.Open field (h.MetaPropExpr p.ImportMeta)) → meta ≡ Some meant → (label : Label) × (meant ≡ Known label) × (sense.replaced place (ByName label))
+  pub nodes : (place field : ℕ) (head : Head) (by : Replacement) →
+      slice_get sense.view.tree place ≡ Some (h.Open field head) →
+      IsClear sense.replaced (path_at sense.view.tree place) → sense.replaced place by →
+      IsNotedNode sense.view.tree meta place field head by
+  pub metas : (place field : ℕ) (meant : Meant) →
+      slice_get sense.view.tree place ≡ Some (h.Open field (h.MetaPropExpr p.ImportMeta)) →
+      meta ≡ Some meant →
+      (label : Label) × (meant ≡ Known label) × (sense.replaced place (ByName label))

@@ -41,6 +41,11 @@ NodeFits stand field = Unit {0}
 -- whole nodes, names and holes, one after another, of which the first stands there
 pub data AreListed : Stand → List Item → Type 0 where
   nothing : {stand : Stand} → AreListed stand []
-  name : {stand : Stand} {field ctxt : ℕ} {sym : List ℕ} {role : Role} {rest : List Item} → NameFits stand role → AreListed (next_to stand) rest → AreListed stand (h.Ident field sym ctxt role ∷ rest)
-  hole : {stand : Stand} {field : ℕ} {rest : List Item} → AreListed (next_to stand) rest → AreListed stand (h.Hole field ∷ rest)
-  node : {stand : Stand} {field : ℕ} {head : Head} {inside rest : List Item} → NodeFits stand field → AreListed (first_in head) inside → AreListed (next_to stand) rest → AreListed stand (h.Open field head ∷ (inside ++ h.Close ∷ rest))
+  name : {stand : Stand} {field ctxt : ℕ} {sym : List ℕ} {role : Role} {rest : List Item} →
+      NameFits stand role → AreListed (next_to stand) rest →
+      AreListed stand (h.Ident field sym ctxt role ∷ rest)
+  hole : {stand : Stand} {field : ℕ} {rest : List Item} → AreListed (next_to stand) rest →
+      AreListed stand (h.Hole field ∷ rest)
+  node : {stand : Stand} {field : ℕ} {head : Head} {inside rest : List Item} →
+      NodeFits stand field → AreListed (first_in head) inside → AreListed (next_to stand) rest →
+      AreListed stand (h.Open field head ∷ (inside ++ h.Close ∷ rest))

@@ -1,5 +1,5 @@
 -- Which marks a part of a tree has, where a note tells of each occurrence what it means and how much of what is around
--- it stands for that: a relation over the nodes of its list. Each clause is one of `Becomes` (bundle_rebuild).
+-- it stands for that: a relation over the nodes of its list. Each clause is one of `Becomes` (bundle_tree_rebuild).
 use Rattle.std.specs.Prelude.{◌≡◌, ℕ, zero, suc, ◌==◌, Bool, true, false, is_none, List, [], ◌∷◌, ◌++◌, Option, Some, None, slice_get, if◌then◌else◌}
 use Rattle.bundle_tree_leaf.specs.declared.kind.MetaPropKind.{MetaPropKind}
 use Rattle.bundle_tree_leaf.specs.declared.kind.MetaPropKind.TheVariants as p
@@ -53,7 +53,10 @@ are_reads count inside = is_end (behind_reads count (node 0 h.MemberExpr inside)
 
 -- whether these elements are one string as an argument, not spread
 abbrev pub is_one_string : List Item → Bool
-is_one_string (h.Open field (h.ExprOrSpread false) ∷ h.Open inner (h.Str value raw) ∷ h.Close ∷ h.Close ∷ []) = true
+is_one_string
+    (h.Open field (h.ExprOrSpread false) ∷ h.Open inner (h.Str value raw) ∷ h.Close ∷ h.Close ∷ [])
+    =
+    true
 is_one_string _ = false
 
 -- whether what is in a call is an identifier that refers and is called, and one string
@@ -108,7 +111,8 @@ node_marks field head inside = k.Begins field (cleared_head head) ∷ (inside ++
 
 -- a name: in an object literal it is short for a property
 abbrev pub marks_there : Around → ℕ → Text → Meant → List Mark
-marks_there InObject field x meant = k.Begins field h.KeyValueProp ∷ (object_key x ++ k.Name 1 meant ∷ k.Ends ∷ [])
+marks_there InObject field x meant =
+    k.Begins field h.KeyValueProp ∷ (object_key x ++ k.Name 1 meant ∷ k.Ends ∷ [])
 marks_there Anywhere field x meant = k.Name field meant ∷ []
 marks_there InSpecifier field x meant = k.Name field meant ∷ []
 
@@ -118,34 +122,69 @@ pattern_marks field meant = k.Begins field h.BindingIdent ∷ k.Name 0 meant ∷
 
 -- a shorthand property of a pattern, with or without a default value
 abbrev pub shorthand_marks : ℕ → Text → Meant → (default : List Item) → List Mark → List Mark
-shorthand_marks field x meant [] marks = k.Begins field h.KeyValuePatProp ∷ (word_key x ++ (pattern_marks 1 meant ++ k.Ends ∷ []))
-shorthand_marks field x meant (first ∷ more) marks = k.Begins field h.KeyValuePatProp ∷ (word_key x ++ (k.Begins 1 h.AssignPat ∷ (pattern_marks 0 meant ++ (marks ++ k.Ends ∷ k.Ends ∷ []))))
+shorthand_marks field x meant [] marks =
+    k.Begins field h.KeyValuePatProp ∷ (word_key x ++ (pattern_marks 1 meant ++ k.Ends ∷ []))
+shorthand_marks field x meant (first ∷ more) marks =
+    k.Begins field h.KeyValuePatProp
+    ∷ (word_key x
+    ++ (k.Begins 1 h.AssignPat ∷ (pattern_marks 0 meant ++ (marks ++ k.Ends ∷ k.Ends ∷ []))))
 
 -- a call without arguments
 abbrev pub call_marks : ℕ → Meant → List Mark
 call_marks field meant = k.Begins field h.CallExpr ∷ k.Name 0 meant ∷ k.Ends ∷ []
 
 -- `Marked meta around notes items marks rest`: with these notes, and where `meta` is what `import.meta` stands for, what stands here has these marks, and these notes are left for what follows.
-pub data Marked (meta : Option Meant) : Around → List Note → List Item → List Mark → List Note → Type 0 where
+pub data Marked (meta : Option Meant) : Around → List Note → List Item → List Mark → List Note →
+    Type 0 where
   -- where nothing stands
   Nothing : {around : Around} {notes : List Note} → Marked meta around notes [] [] notes
   -- one after the other
-  Joined : {around : Around} {notes between rest : List Note} {first second : List Item} {marks more : List Mark} → Marked meta around notes first marks between → Marked meta around between second more rest → Marked meta around notes (first ++ second) (marks ++ more) rest
+  Joined : {around : Around} {notes between rest : List Note} {first second : List Item}
+      {marks more : List Mark} → Marked meta around notes first marks between →
+      Marked meta around between second more rest →
+      Marked meta around notes (first ++ second) (marks ++ more) rest
   -- an empty place of a list
-  Hole : {around : Around} {notes : List Note} (field : ℕ) → Marked meta around notes (h.Hole field ∷ []) (k.Empty field ∷ []) notes
+  Hole : {around : Around} {notes : List Note} (field : ℕ) →
+      Marked meta around notes (h.Hole field ∷ []) (k.Empty field ∷ []) notes
   -- a plain word
-  Word : {around : Around} {notes : List Note} (field : ℕ) (x : Text) (ctxt : ℕ) (role : Role) → is_occurrence role ≡ false → Marked meta around notes (h.Ident field x ctxt role ∷ []) (k.Word field x ∷ []) notes
+  Word : {around : Around} {notes : List Note} (field : ℕ) (x : Text) (ctxt : ℕ) (role : Role) →
+      is_occurrence role ≡ false →
+      Marked meta around notes (h.Ident field x ctxt role ∷ []) (k.Word field x ∷ []) notes
   -- an occurrence takes the next note
-  Name : (around : Around) {note : Note} {rest : List Note} (field : ℕ) (x : Text) (ctxt : ℕ) (role : Role) → is_occurrence role ≡ true → Marked meta around (note ∷ rest) (h.Ident field x ctxt role ∷ []) (marks_there around field x note.meant) rest
+  Name : (around : Around) {note : Note} {rest : List Note} (field : ℕ) (x : Text) (ctxt : ℕ)
+      (role : Role) → is_occurrence role ≡ true →
+      Marked meta around (note ∷ rest) (h.Ident field x ctxt role ∷ [])
+      (marks_there around field x note.meant) rest
   -- a node stays, and what is in it is marked
-  Inside : {around : Around} {notes rest : List Note} (field : ℕ) (head : Head) {inside : List Item} {marks : List Mark} → stays meta (upcoming notes) head inside ≡ true → Marked meta (around_in head inside) notes inside marks rest → Marked meta around notes (node field head inside) (node_marks field head marks) rest
+  Inside : {around : Around} {notes rest : List Note} (field : ℕ) (head : Head)
+      {inside : List Item} {marks : List Mark} → stays meta (upcoming notes) head inside ≡ true →
+      Marked meta (around_in head inside) notes inside marks rest →
+      Marked meta around notes (node field head inside) (node_marks field head marks) rest
   -- the same where the first of what is in a node is a member expression for which no name may stand
-  Kept : {around : Around} {notes between rest : List Note} (field : ℕ) (head : Head) (first : ℕ) {inside more : List Item} {marks more_marks : List Mark} → keeps_first head first ≡ true → Marked meta Anywhere notes inside marks between → Marked meta Anywhere between more more_marks rest → Marked meta around notes (node field head (node first h.MemberExpr inside ++ more)) (node_marks field head (node_marks first h.MemberExpr marks ++ more_marks)) rest
+  Kept : {around : Around} {notes between rest : List Note} (field : ℕ) (head : Head) (first : ℕ)
+      {inside more : List Item} {marks more_marks : List Mark} → keeps_first head first ≡ true →
+      Marked meta Anywhere notes inside marks between →
+      Marked meta Anywhere between more more_marks rest →
+      Marked meta around notes (node field head (node first h.MemberExpr inside ++ more))
+      (node_marks field head (node_marks first h.MemberExpr marks ++ more_marks)) rest
   -- a shorthand property of a pattern takes the next note for its name
-  Shorthand : {around : Around} {note : Note} {notes rest : List Note} (field : ℕ) (x : Text) (ctxt : ℕ) (role : Role) {default : List Item} {marks : List Mark} → is_occurrence role ≡ true → Marked meta Anywhere notes default marks rest → Marked meta around (note ∷ notes) (node field h.AssignPatProp (binding None 0 x ctxt role ++ default)) (shorthand_marks field x note.meant default marks) rest
+  Shorthand : {around : Around} {note : Note} {notes rest : List Note} (field : ℕ) (x : Text)
+      (ctxt : ℕ) (role : Role) {default : List Item} {marks : List Mark} →
+      is_occurrence role ≡ true → Marked meta Anywhere notes default marks rest →
+      Marked meta around (note ∷ notes)
+      (node field h.AssignPatProp (binding None 0 x ctxt role ++ default))
+      (shorthand_marks field x note.meant default marks) rest
   -- static reads that stand for what the next note tells
-  OfReads : {around : Around} {meant : Meant} {rest : List Note} (field count : ℕ) (inside : List Item) → are_reads count inside ≡ true → Marked meta around (record { meant = meant; whole = Reads count } ∷ rest) (node field h.MemberExpr inside) (k.Name field meant ∷ []) rest
+  OfReads : {around : Around} {meant : Meant} {rest : List Note} (field count : ℕ)
+      (inside : List Item) → are_reads count inside ≡ true →
+      Marked meta around (record { meant = meant; whole = Reads count } ∷ rest)
+      (node field h.MemberExpr inside) (k.Name field meant ∷ []) rest
   -- a literal call that stands for a call of what the next note tells
-  OfCall : {around : Around} {meant : Meant} {rest : List Note} (field : ℕ) (inside : List Item) → is_literal_call inside ≡ true → Marked meta around (record { meant = meant; whole = Call } ∷ rest) (node field h.CallExpr inside) (call_marks field meant) rest
+  OfCall : {around : Around} {meant : Meant} {rest : List Note} (field : ℕ) (inside : List Item) →
+      is_literal_call inside ≡ true →
+      Marked meta around (record { meant = meant; whole = Call } ∷ rest)
+      (node field h.CallExpr inside) (call_marks field meant) rest
   -- `import.meta`
-  OfMeta : {around : Around} {notes : List Note} (field : ℕ) (meant : Meant) → meta ≡ Some meant → Marked meta around notes (node field (h.MetaPropExpr p.ImportMeta) []) (k.Name field meant ∷ []) notes
+  OfMeta : {around : Around} {notes : List Note} (field : ℕ) (meant : Meant) → meta ≡ Some meant →
+      Marked meta around notes (node field (h.MetaPropExpr p.ImportMeta) [])
+      (k.Name field meant ∷ []) notes

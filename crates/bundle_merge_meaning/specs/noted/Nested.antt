@@ -30,7 +30,9 @@ is_import_specifier _ = false
 
 -- each node in field 0 is an import specifier
 abbrev pub HasSpecifiers : List Item → Type 0
-HasSpecifiers inside = (part : List Item) → Contains (side_by_side 0 inside) part → begins_in 0 part ≡ true → begins_with is_import_specifier part ≡ true
+HasSpecifiers inside =
+    (part : List Item) → Contains (side_by_side 0 inside) part → begins_in 0 part ≡ true →
+    begins_with is_import_specifier part ≡ true
 
 -- what stands in a node where others rely on it: nothing in a word and in `import.meta`, an object and a property in a member,
 -- the local name in front in an import specifier, and specifiers in an import
@@ -47,6 +49,9 @@ HasParts _ inside = Unit {0}
 -- whole nodes, names and holes, one after another
 pub data AreNodes : List Item → Type 0 where
   nothing : AreNodes []
-  name : {field ctxt : ℕ} {sym : List ℕ} {role : Role} {rest : List Item} → AreNodes rest → AreNodes (h.Ident field sym ctxt role ∷ rest)
+  name : {field ctxt : ℕ} {sym : List ℕ} {role : Role} {rest : List Item} → AreNodes rest →
+      AreNodes (h.Ident field sym ctxt role ∷ rest)
   hole : {field : ℕ} {rest : List Item} → AreNodes rest → AreNodes (h.Hole field ∷ rest)
-  node : {field : ℕ} {head : Head} {inside rest : List Item} → AreNodes inside → HasParts head inside → AreNodes rest → AreNodes (h.Open field head ∷ (inside ++ h.Close ∷ rest))
+  node : {field : ℕ} {head : Head} {inside rest : List Item} → AreNodes inside →
+      HasParts head inside → AreNodes rest →
+      AreNodes (h.Open field head ∷ (inside ++ h.Close ∷ rest))

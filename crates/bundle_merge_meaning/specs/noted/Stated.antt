@@ -36,22 +36,44 @@ is_default_head head = false
 -- whether a top item declares a default without a name
 abbrev pub declares_default : List Item → Truth
 declares_default (h.Open field h.ExportDefaultExpr ∷ rest) = true
-declares_default (h.Open field h.ExportDefaultDecl ∷ h.Open its head ∷ h.Open own first ∷ rest) = true
+declares_default (h.Open field h.ExportDefaultDecl ∷ h.Open its head ∷ h.Open own first ∷ rest) =
+    true
 declares_default items = false
 
 -- `const default = e;`
 abbrev pub constant_marks : Meant → (value : List Mark) → List Mark
-constant_marks default value = node_marks 0 (h.VarDecl Const no_notes) (node_marks 1 h.VarDeclarator (pattern_marks 0 default ++ value))
+constant_marks default value =
+    node_marks 0 (h.VarDecl Const no_notes)
+    (node_marks 1 h.VarDeclarator (pattern_marks 0 default ++ value))
 
 -- `MarkedStated meta default notes item marks rest`: where `default` is what a default without a name means, what this top item states has these marks
-pub data MarkedStated (meta : Option Meant) (default : Meant) : List Note → List Item → List Mark → List Note → Type 0 where
+pub data MarkedStated (meta : Option Meant) (default : Meant) : List Note → List Item → List Mark →
+    List Note → Type 0 where
   -- a statement
-  Itself : {notes rest : List Note} {marks : List Mark} (field : ℕ) (head : Head) (inside : List Item) → states_itself head ≡ true → Marked meta Anywhere notes (node field head inside) marks rest → MarkedStated meta default notes (node field head inside) marks rest
+  Itself : {notes rest : List Note} {marks : List Mark} (field : ℕ) (head : Head)
+      (inside : List Item) → states_itself head ≡ true →
+      Marked meta Anywhere notes (node field head inside) marks rest →
+      MarkedStated meta default notes (node field head inside) marks rest
   -- an exported declaration
-  Declared : {notes rest : List Note} {marks : List Mark} (field : ℕ) (inside : List Item) → Marked meta Anywhere notes inside marks rest → MarkedStated meta default notes (node field h.ExportDecl inside) marks rest
+  Declared : {notes rest : List Note} {marks : List Mark} (field : ℕ) (inside : List Item) →
+      Marked meta Anywhere notes inside marks rest →
+      MarkedStated meta default notes (node field h.ExportDecl inside) marks rest
   -- the value of a default expression
-  Value : {notes rest : List Note} {marks : List Mark} (field : ℕ) (value : List Item) → Marked meta Anywhere notes (in_field 1 value) marks rest → MarkedStated meta default notes (node field h.ExportDefaultExpr value) (constant_marks default marks) rest
+  Value : {notes rest : List Note} {marks : List Mark} (field : ℕ) (value : List Item) →
+      Marked meta Anywhere notes (in_field 1 value) marks rest →
+      MarkedStated meta default notes (node field h.ExportDefaultExpr value)
+      (constant_marks default marks) rest
   -- a default function or class with a name
-  Named : {notes rest : List Note} {marks : List Mark} (field its : ℕ) (head : Head) (own : ℕ) (x : Text) (ctxt : ℕ) (role : Role) (more : List Item) → is_default_head head ≡ true → Marked meta Anywhere notes (h.Ident own x ctxt role ∷ more) marks rest → MarkedStated meta default notes (node field h.ExportDefaultDecl (node its head (h.Ident own x ctxt role ∷ more))) (node_marks 0 (declaration_head head) marks) rest
+  Named : {notes rest : List Note} {marks : List Mark} (field its : ℕ) (head : Head) (own : ℕ)
+      (x : Text) (ctxt : ℕ) (role : Role) (more : List Item) → is_default_head head ≡ true →
+      Marked meta Anywhere notes (h.Ident own x ctxt role ∷ more) marks rest →
+      MarkedStated meta default notes
+      (node field h.ExportDefaultDecl (node its head (h.Ident own x ctxt role ∷ more)))
+      (node_marks 0 (declaration_head head) marks) rest
   -- and without one
-  Nameless : {notes rest : List Note} {marks : List Mark} (field its : ℕ) (head : Head) (own : ℕ) (first : Head) (more : List Item) → is_default_head head ≡ true → Marked meta Anywhere notes (h.Open own first ∷ more) marks rest → MarkedStated meta default notes (node field h.ExportDefaultDecl (node its head (h.Open own first ∷ more))) (node_marks 0 (declaration_head head) (k.Name 0 default ∷ marks)) rest
+  Nameless : {notes rest : List Note} {marks : List Mark} (field its : ℕ) (head : Head) (own : ℕ)
+      (first : Head) (more : List Item) → is_default_head head ≡ true →
+      Marked meta Anywhere notes (h.Open own first ∷ more) marks rest →
+      MarkedStated meta default notes
+      (node field h.ExportDefaultDecl (node its head (h.Open own first ∷ more)))
+      (node_marks 0 (declaration_head head) (k.Name 0 default ∷ marks)) rest

@@ -84,27 +84,58 @@ pub data Becomes : Around → Work → List Item → List Item → Work → Type
   -- where nothing stands
   Nothing : {around : Around} {work : Work} → Becomes around work [] [] work
   -- one after the other
-  Joined : {around : Around} {work between rest : Work} {first made_first second made_second : List Item} → Becomes around work first made_first between → Becomes around between second made_second rest → Becomes around work (first ++ second) (made_first ++ made_second) rest
+  Joined : {around : Around} {work between rest : Work}
+      {first made_first second made_second : List Item} →
+      Becomes around work first made_first between →
+      Becomes around between second made_second rest →
+      Becomes around work (first ++ second) (made_first ++ made_second) rest
   -- an empty place of a list stays
-  Hole : {around : Around} {work : Work} (field : ℕ) → Becomes around work (h.Hole field ∷ []) (h.Hole field ∷ []) work
+  Hole : {around : Around} {work : Work} (field : ℕ) →
+      Becomes around work (h.Hole field ∷ []) (h.Hole field ∷ []) work
   -- a plain word stays
-  Word : {around : Around} {work : Work} (field : ℕ) (x : Text) (ctxt : ℕ) (role : Role) → is_occurrence role ≡ false → Becomes around work (h.Ident field x ctxt role ∷ []) (h.Ident field x ctxt role ∷ []) work
+  Word : {around : Around} {work : Work} (field : ℕ) (x : Text) (ctxt : ℕ) (role : Role) →
+      is_occurrence role ≡ false →
+      Becomes around work (h.Ident field x ctxt role ∷ []) (h.Ident field x ctxt role ∷ []) work
   -- an occurrence gets its name
-  Name : (around : Around) {work : Work} (field : ℕ) (x : Text) (ctxt : ℕ) (role : Role) → is_occurrence role ≡ true → Becomes around work (h.Ident field x ctxt role ∷ []) (in_its_place around (next work x) field x ctxt role) (after work)
+  Name : (around : Around) {work : Work} (field : ℕ) (x : Text) (ctxt : ℕ) (role : Role) →
+      is_occurrence role ≡ true →
+      Becomes around work (h.Ident field x ctxt role ∷ [])
+      (in_its_place around (next work x) field x ctxt role) (after work)
   -- a node stays, and what is in it is made anew
-  Inside : {around : Around} {work rest : Work} (field : ℕ) (head : Head) {inside made : List Item} → stays work head inside ≡ true → Becomes (around_in head inside) work inside made rest → Becomes around work (node field head inside) (node field head made) rest
+  Inside : {around : Around} {work rest : Work} (field : ℕ) (head : Head)
+      {inside made : List Item} → stays work head inside ≡ true →
+      Becomes (around_in head inside) work inside made rest →
+      Becomes around work (node field head inside) (node field head made) rest
   -- the same of a declaration of variables, whose notes may be cleared
-  Declaration : {around : Around} {work rest : Work} (field : ℕ) (kind : VarDeclKind) (notes : ExportMetadata) {inside made : List Item} → Becomes Anywhere work inside made rest → Becomes around work (node field (h.VarDecl kind notes) inside) (node field (h.VarDecl kind (kept_notes work.clears_notes notes)) made) rest
+  Declaration : {around : Around} {work rest : Work} (field : ℕ) (kind : VarDeclKind)
+      (notes : ExportMetadata) {inside made : List Item} → Becomes Anywhere work inside made rest →
+      Becomes around work (node field (h.VarDecl kind notes) inside)
+      (node field (h.VarDecl kind (kept_notes work.clears_notes notes)) made) rest
   -- the same where the first of what is in a node is a member expression for which no name may stand
-  Kept : {around : Around} {work between rest : Work} (field : ℕ) (head : Head) (first : ℕ) {inside made more made_more : List Item} → keeps_first head first ≡ true → Becomes Anywhere work inside made between → Becomes Anywhere between more made_more rest → Becomes around work (node field head (node first h.MemberExpr inside ++ more)) (node field head (node first h.MemberExpr made ++ made_more)) rest
+  Kept : {around : Around} {work between rest : Work} (field : ℕ) (head : Head) (first : ℕ)
+      {inside made more made_more : List Item} → keeps_first head first ≡ true →
+      Becomes Anywhere work inside made between → Becomes Anywhere between more made_more rest →
+      Becomes around work (node field head (node first h.MemberExpr inside ++ more))
+      (node field head (node first h.MemberExpr made ++ made_more)) rest
   -- a shorthand property of a pattern gets the next name
-  Shorthand : {around : Around} {work rest : Work} (field : ℕ) (x : Text) (ctxt : ℕ) (role : Role) {default made : List Item} → is_occurrence role ≡ true → Becomes Anywhere (after work) default made rest → Becomes around work (node field h.AssignPatProp (binding None 0 x ctxt role ++ default)) (shorthand_in_its_place (next work x) field x ctxt role made) rest
+  Shorthand : {around : Around} {work rest : Work} (field : ℕ) (x : Text) (ctxt : ℕ) (role : Role)
+      {default made : List Item} → is_occurrence role ≡ true →
+      Becomes Anywhere (after work) default made rest →
+      Becomes around work (node field h.AssignPatProp (binding None 0 x ctxt role ++ default))
+      (shorthand_in_its_place (next work x) field x ctxt role made) rest
   -- a name stands for static reads
-  OfReads : {work : Work} (field : ℕ) (name : Ident) (inside : List Item) → name_for_member (upcoming work) inside ≡ Some name → Becomes Anywhere work (node field h.MemberExpr inside) (reference field name) (after work)
+  OfReads : {work : Work} (field : ℕ) (name : Ident) (inside : List Item) →
+      name_for_member (upcoming work) inside ≡ Some name →
+      Becomes Anywhere work (node field h.MemberExpr inside) (reference field name) (after work)
   -- a call of a name stands for a literal call
-  OfCall : {around : Around} {work : Work} (field : ℕ) (name : Ident) (inside : List Item) → name_for_call (upcoming work) inside ≡ Some name → Becomes around work (node field h.CallExpr inside) (node field h.CallExpr (reference 0 name)) (after work)
+  OfCall : {around : Around} {work : Work} (field : ℕ) (name : Ident) (inside : List Item) →
+      name_for_call (upcoming work) inside ≡ Some name →
+      Becomes around work (node field h.CallExpr inside) (node field h.CallExpr (reference 0 name))
+      (after work)
   -- a name stands for `import.meta`
-  OfMeta : {work : Work} (field : ℕ) (kind : MetaPropKind) (name : Ident) → name_for_meta work.meta kind ≡ Some name → Becomes Anywhere work (node field (h.MetaPropExpr kind) []) (reference field name) work
+  OfMeta : {work : Work} (field : ℕ) (kind : MetaPropKind) (name : Ident) →
+      name_for_meta work.meta kind ≡ Some name →
+      Becomes Anywhere work (node field (h.MetaPropExpr kind) []) (reference field name) work
 
 -- the items of a part with this work, from its first occurrence on
 pub record Reworked (work : Work) (before after : List Item) : Type 0 where

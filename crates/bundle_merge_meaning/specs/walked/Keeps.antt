@@ -56,7 +56,8 @@ notes_in (ByMeta ident meant ∷ rest) = notes_in rest
 abbrev pub AreOfMeta : Option Ident → Option Meant → List Entry → Type 0
 AreOfMeta meta means [] = ⊤
 AreOfMeta meta means (ByStep step note ∷ rest) = AreOfMeta meta means rest
-AreOfMeta meta means (ByMeta ident meant ∷ rest) = (meta ≡ Some ident) × (means ≡ Some meant) × AreOfMeta meta means rest
+AreOfMeta meta means (ByMeta ident meant ∷ rest) =
+    (meta ≡ Some ident) × (means ≡ Some meant) × AreOfMeta meta means rest
 
 -- notes of names that stand for themselves alone
 abbrev pub alone_note : Meant → Note
@@ -66,12 +67,14 @@ abbrev pub alone : List Meant → List Note
 alone meants = map alone_note meants
 
 -- What stands here and what is made of it have the same marks: by the notes of the occurrences, and by what the names that stand in what is made mean, each by itself.
-pub record Keeps (around : Around) (work : Work) (meta : Option Meant) (notes : List Note) (before made : List Item) (rest : Work) : Type 0 where
+pub record Keeps (around : Around) (work : Work) (meta : Option Meant) (notes : List Note) (before made : List Item) (rest : Work) : Type
+    0 where
   pub marks : List Mark
   pub left : List Note
   pub entries : List Entry
   pub source : Marked meta around notes before marks left
-  pub result : (more : List Meant) → Marked None around (alone (map meant_in entries ++ more)) made marks (alone more)
+  pub result : (more : List Meant) →
+      Marked None around (alone (map meant_in entries ++ more)) made marks (alone more)
   -- the identifiers in what is made, in their order
   pub names : names_of made ≡ map ident_in entries
   -- their steps and notes, in their order, and what is left
@@ -82,7 +85,8 @@ pub record Keeps (around : Around) (work : Work) (meta : Option Meant) (notes : 
   pub same_meta : rest.meta ≡ work.meta
 
 -- All of a part and what is made of it have the same marks, where each step and note belongs to one of its occurrences.
-pub record Same (around : Around) (work : Work) (meta : Option Meant) (notes : List Note) (before made : List Item) : Type 0 where
+pub record Same (around : Around) (work : Work) (meta : Option Meant) (notes : List Note) (before made : List Item) : Type
+    0 where
   pub marks : List Mark
   pub entries : List Entry
   pub source : Marked meta around notes before marks []

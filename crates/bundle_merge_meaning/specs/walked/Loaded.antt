@@ -18,8 +18,14 @@ use Rattle.bundle_merge_meaning.specs.walked.Listed.{named, pattern_of, paramete
 -- nodes that begin, with whole nodes between: which marks they have
 pub data MarkedFront : List Note → List Item → List Mark → List Note → Type 0 where
   Done : {notes : List Note} → MarkedFront notes [] [] notes
-  Opens : {notes rest : List Note} {items : List Item} {marks : List Mark} (field : ℕ) (head : Head) → is_object head ≡ false → is_shorthand_in_pattern head ≡ false → MarkedFront notes items marks rest → MarkedFront notes (h.Open field head ∷ items) (m.Begins field (cleared_head head) ∷ marks) rest
-  Nodes : {notes between rest : List Note} {first items : List Item} {marks more : List Mark} → Marked None Anywhere notes first marks between → MarkedFront between items more rest → MarkedFront notes (first ++ items) (marks ++ more) rest
+  Opens : {notes rest : List Note} {items : List Item} {marks : List Mark} (field : ℕ)
+      (head : Head) → is_object head ≡ false → is_shorthand_in_pattern head ≡ false →
+      MarkedFront notes items marks rest →
+      MarkedFront notes (h.Open field head ∷ items) (m.Begins field (cleared_head head) ∷ marks)
+      rest
+  Nodes : {notes between rest : List Note} {first items : List Item} {marks more : List Mark} →
+      Marked None Anywhere notes first marks between → MarkedFront between items more rest →
+      MarkedFront notes (first ++ items) (marks ++ more) rest
 
 -- so many ends
 abbrev pub closes : ℕ → List Item
@@ -39,4 +45,9 @@ Closable (suc n) (node ∷ outer) = (is_shorthand_in_pattern node.head ≡ false
 -- `var load = helper(function (m, e) {`
 abbrev pub load_front_items : (load helper m e : Ident) → List Item
 load_front_items load helper m e =
-    h.Open 0 (h.VarDecl Var no_notes) ∷ h.Open 1 h.VarDeclarator ∷ (pattern_of 0 Binding load ++ h.Open 1 h.CallExpr ∷ (named 0 Reference helper ++ h.Open 1 (h.ExprOrSpread false) ∷ h.Open 1 h.FnExpr ∷ h.Open 1 (h.Function false false) ∷ (parameter m ++ (parameter e ++ h.Open 1 h.BlockStmt ∷ []))))
+    h.Open 0 (h.VarDecl Var no_notes) ∷ h.Open 1 h.VarDeclarator
+        ∷ (pattern_of 0 Binding load
+        ++ h.Open 1 h.CallExpr
+        ∷ (named 0 Reference helper
+        ++ h.Open 1 (h.ExprOrSpread false) ∷ h.Open 1 h.FnExpr ∷ h.Open 1 (h.Function false false)
+        ∷ (parameter m ++ (parameter e ++ h.Open 1 h.BlockStmt ∷ []))))

@@ -2,7 +2,7 @@
 use Rattle.std.specs.Prelude.{◌≡◌, Bool, true, false, not, ◌&&◌, List, [], ◌∷◌, ◌++◌, None, map, flat_map, ⊤}
 use Rattle.std.specs.List.{AllZip}
 use Rattle.bundle_tree_piece.specs.Item as h
-use Rattle.bundle_tree_piece.specs.Item.{Item, Head}
+use Rattle.bundle_tree_piece.specs.Item.{Item}
 use Rattle.bundle_rules.specs.Idents.{Ident}
 use Rattle.bundle_rules.specs.Rebuilds.{Change, rebuilt}
 use Rattle.bundle_rules.specs.Shape.{is_specifier}
@@ -24,11 +24,15 @@ KeepsText change ident = change.is_spelled_out ≡ false → change.ident.0 ≡ 
 -- whether no specifier ends right behind an occurrence, where these nodes are open, innermost first (for each whether it is a specifier), and `is_name` says whether an occurrence stands right before
 abbrev pub ends_no_specifier : (open_nodes : List Bool) → (is_name : Bool) → List Item → Bool
 ends_no_specifier open_nodes is_name [] = true
-ends_no_specifier open_nodes is_name (h.Open field head ∷ rest) = ends_no_specifier (is_specifier head ∷ open_nodes) false rest
-ends_no_specifier open_nodes is_name (h.Ident field x ctxt role ∷ rest) = ends_no_specifier open_nodes (is_occurrence role) rest
-ends_no_specifier open_nodes is_name (h.Hole field ∷ rest) = ends_no_specifier open_nodes false rest
+ends_no_specifier open_nodes is_name (h.Open field head ∷ rest) =
+    ends_no_specifier (is_specifier head ∷ open_nodes) false rest
+ends_no_specifier open_nodes is_name (h.Ident field x ctxt role ∷ rest) =
+    ends_no_specifier open_nodes (is_occurrence role) rest
+ends_no_specifier open_nodes is_name (h.Hole field ∷ rest) =
+    ends_no_specifier open_nodes false rest
 ends_no_specifier [] is_name (h.Close ∷ rest) = ends_no_specifier [] false rest
-ends_no_specifier (spec ∷ open_nodes) is_name (h.Close ∷ rest) = not (spec && is_name) && ends_no_specifier open_nodes false rest
+ends_no_specifier (spec ∷ open_nodes) is_name (h.Close ∷ rest) =
+    not (spec && is_name) && ends_no_specifier open_nodes false rest
 
 -- whether an occurrence stands last; where nothing stands, it is as before
 abbrev pub last_is_name : Bool → List Item → Bool
@@ -43,7 +47,8 @@ abbrev pub ident_of_change : Change → Ident
 ident_of_change change = change.ident
 
 -- these elements with the changes of their occurrences in turn, of which these are left: the same marks by the same notes
-pub record Renamed (around : Around) (notes rest : List Note) (before : List Item) (marks : List Mark) (changes left : List Change) : Type 0 where
+pub record Renamed (around : Around) (notes rest : List Note) (before : List Item) (marks : List Mark) (changes left : List Change) : Type
+    0 where
   pub after : List Item
   pub edits : Edits around changes before after left
   pub marked : Marked None around notes after marks rest
@@ -69,7 +74,8 @@ abbrev pub module_of_items : List (List Item) → List Item
 module_of_items items = node 0 h.Module (flat_map (λ item. item) items)
 
 -- what becomes of a module's items: each has the marks that it had
-pub record RenamedItems (items : List (List Item)) (tolds : List Told) (changes : List Change) : Type 0 where
+pub record RenamedItems (items : List (List Item)) (tolds : List Told) (changes : List Change) : Type
+    0 where
   pub after : List (List Item)
   pub marked : AllZip IsMarked after tolds
   pub same : rebuilt (module_of_items items) changes ≡ module_of_items after

@@ -30,17 +30,50 @@ is_in_no_specifier around = true
 
 pub data Rewrites : Around → Work → List Item → List Item → Work → Type 0 where
   Nothing : {around : Around} {work : Work} → Rewrites around work [] [] work
-  Joined : {around : Around} {work between rest : Work} {first made_first second made_second : List Item} → Rewrites around work first made_first between → Rewrites around between second made_second rest → Rewrites around work (first ++ second) (made_first ++ made_second) rest
-  Hole : {around : Around} {work : Work} (field : ℕ) → Rewrites around work (h.Hole field ∷ []) (h.Hole field ∷ []) work
-  Word : {around : Around} {work : Work} (field : ℕ) (x : Text) (ctxt : ℕ) (role : Role) → is_occurrence role ≡ false → Rewrites around work (h.Ident field x ctxt role ∷ []) (h.Ident field x ctxt role ∷ []) work
-  Name : (around : Around) {work : Work} (field : ℕ) (x : Text) (ctxt : ℕ) (role : Role) (step : Step) → is_occurrence role ≡ true → is_in_no_specifier around ≡ true → TakesStep work x step → Rewrites around work (h.Ident field x ctxt role ∷ []) (in_its_place around (Some (change_at x step)) field x ctxt role) (after work)
-  Inside : {around : Around} {work rest : Work} (field : ℕ) (head : Head) {inside made : List Item} → stays work head inside ≡ true → Rewrites (around_in head inside) work inside made rest → Rewrites around work (node field head inside) (node field head made) rest
-  Declaration : {around : Around} {work rest : Work} (field : ℕ) (kind : VarDeclKind) (notes : ExportMetadata) {inside made : List Item} → Rewrites Anywhere work inside made rest → Rewrites around work (node field (h.VarDecl kind notes) inside) (node field (h.VarDecl kind (kept_notes work.clears_notes notes)) made) rest
-  Kept : {around : Around} {work between rest : Work} (field : ℕ) (head : Head) (first : ℕ) {inside made more made_more : List Item} → keeps_first head first ≡ true → Rewrites Anywhere work inside made between → Rewrites Anywhere between more made_more rest → Rewrites around work (node field head (node first h.MemberExpr inside ++ more)) (node field head (node first h.MemberExpr made ++ made_more)) rest
-  Shorthand : {around : Around} {work rest : Work} (field : ℕ) (x : Text) (ctxt : ℕ) (role : Role) (step : Step) {default made : List Item} → is_occurrence role ≡ true → TakesStep work x step → Rewrites Anywhere (after work) default made rest → Rewrites around work (node field h.AssignPatProp (binding None 0 x ctxt role ++ default)) (shorthand_in_its_place (Some (change_at x step)) field x ctxt role made) rest
-  OfReads : {work : Work} (field : ℕ) (name : Ident) (inside : List Item) → name_for_member (upcoming work) inside ≡ Some name → Rewrites Anywhere work (node field h.MemberExpr inside) (reference field name) (after work)
-  OfCall : {around : Around} {work : Work} (field : ℕ) (name : Ident) (inside : List Item) → name_for_call (upcoming work) inside ≡ Some name → Rewrites around work (node field h.CallExpr inside) (node field h.CallExpr (reference 0 name)) (after work)
-  OfMeta : {work : Work} (field : ℕ) (kind : MetaPropKind) (name : Ident) → name_for_meta work.meta kind ≡ Some name → Rewrites Anywhere work (node field (h.MetaPropExpr kind) []) (reference field name) work
+  Joined : {around : Around} {work between rest : Work}
+      {first made_first second made_second : List Item} →
+      Rewrites around work first made_first between →
+      Rewrites around between second made_second rest →
+      Rewrites around work (first ++ second) (made_first ++ made_second) rest
+  Hole : {around : Around} {work : Work} (field : ℕ) →
+      Rewrites around work (h.Hole field ∷ []) (h.Hole field ∷ []) work
+  Word : {around : Around} {work : Work} (field : ℕ) (x : Text) (ctxt : ℕ) (role : Role) →
+      is_occurrence role ≡ false →
+      Rewrites around work (h.Ident field x ctxt role ∷ []) (h.Ident field x ctxt role ∷ []) work
+  Name : (around : Around) {work : Work} (field : ℕ) (x : Text) (ctxt : ℕ) (role : Role)
+      (step : Step) → is_occurrence role ≡ true → is_in_no_specifier around ≡ true →
+      TakesStep work x step →
+      Rewrites around work (h.Ident field x ctxt role ∷ [])
+      (in_its_place around (Some (change_at x step)) field x ctxt role) (after work)
+  Inside : {around : Around} {work rest : Work} (field : ℕ) (head : Head)
+      {inside made : List Item} → stays work head inside ≡ true →
+      Rewrites (around_in head inside) work inside made rest →
+      Rewrites around work (node field head inside) (node field head made) rest
+  Declaration : {around : Around} {work rest : Work} (field : ℕ) (kind : VarDeclKind)
+      (notes : ExportMetadata) {inside made : List Item} →
+      Rewrites Anywhere work inside made rest →
+      Rewrites around work (node field (h.VarDecl kind notes) inside)
+      (node field (h.VarDecl kind (kept_notes work.clears_notes notes)) made) rest
+  Kept : {around : Around} {work between rest : Work} (field : ℕ) (head : Head) (first : ℕ)
+      {inside made more made_more : List Item} → keeps_first head first ≡ true →
+      Rewrites Anywhere work inside made between → Rewrites Anywhere between more made_more rest →
+      Rewrites around work (node field head (node first h.MemberExpr inside ++ more))
+      (node field head (node first h.MemberExpr made ++ made_more)) rest
+  Shorthand : {around : Around} {work rest : Work} (field : ℕ) (x : Text) (ctxt : ℕ) (role : Role)
+      (step : Step) {default made : List Item} → is_occurrence role ≡ true →
+      TakesStep work x step → Rewrites Anywhere (after work) default made rest →
+      Rewrites around work (node field h.AssignPatProp (binding None 0 x ctxt role ++ default))
+      (shorthand_in_its_place (Some (change_at x step)) field x ctxt role made) rest
+  OfReads : {work : Work} (field : ℕ) (name : Ident) (inside : List Item) →
+      name_for_member (upcoming work) inside ≡ Some name →
+      Rewrites Anywhere work (node field h.MemberExpr inside) (reference field name) (after work)
+  OfCall : {around : Around} {work : Work} (field : ℕ) (name : Ident) (inside : List Item) →
+      name_for_call (upcoming work) inside ≡ Some name →
+      Rewrites around work (node field h.CallExpr inside)
+      (node field h.CallExpr (reference 0 name)) (after work)
+  OfMeta : {work : Work} (field : ℕ) (kind : MetaPropKind) (name : Ident) →
+      name_for_meta work.meta kind ≡ Some name →
+      Rewrites Anywhere work (node field (h.MetaPropExpr kind) []) (reference field name) work
 
 -- What fits.
 
@@ -57,7 +90,8 @@ AreOwn items = list_all is_own_item items ≡ true
 
 -- where a step does not spell out an occurrence, its symbol stays
 abbrev pub KeepsSymbol : Step → Ident → Type 0
-KeepsSymbol step ident = is_spelled_out_by step.spelling step.ident.0 ident.0 ≡ false → step.ident.0 ≡ ident.0
+KeepsSymbol step ident =
+    is_spelled_out_by step.spelling step.ident.0 ident.0 ≡ false → step.ident.0 ≡ ident.0
 
 -- these steps belong to the occurrences of some elements in turn
 abbrev pub Cover : List Step → List Item → Type 0

@@ -1,4 +1,4 @@
--- What an item of a module states in a bundle, by its list (the list form of `States` of bundle_rewrite), and that
+-- What an item of a module states in a bundle, by its list (the list form of `States` of bundle_tree_rewrite), and that
 -- it has the same marks.
 use Rattle.std.specs.Prelude.{◌≡◌, ◌⊎◌, ℕ, true, List, [], ◌∷◌, ◌++◌, Option, None, map}
 use Rattle.bundle_tree_leaf.specs.declared.kind.VarDeclKind.TheVariants.{Const}
@@ -20,30 +20,52 @@ use Rattle.bundle_merge_meaning.specs.walked.Keeps.{Entry, ident_in, meant_in, s
 
 -- a declaration of a constant
 abbrev pub constant : Ident → (value : List Item) → List Item
-constant name value = node 0 (h.VarDecl Const no_notes) (node 1 h.VarDeclarator (node 0 h.BindingIdent (named 0 name Binding) ++ value))
+constant name value =
+    node 0 (h.VarDecl Const no_notes)
+    (node 1 h.VarDeclarator (node 0 h.BindingIdent (named 0 name Binding) ++ value))
 
 -- What an item states with this work of its occurrences, where `default` is the name of a default export that has none of its own.
 pub data StatesList (work : Work) (default : Ident) : List Item → List Item → Type 0 where
   -- a statement states itself
-  StatementStates : (field : ℕ) (head : Head) (inside : List Item) {made : List Item} {rest : Work} → states_itself head ≡ true → Becomes Anywhere work (node field head inside) made rest → StatesList work default (node field head inside) made
+  StatementStates : (field : ℕ) (head : Head) (inside : List Item) {made : List Item}
+      {rest : Work} → states_itself head ≡ true →
+      Becomes Anywhere work (node field head inside) made rest →
+      StatesList work default (node field head inside) made
   -- an exported declaration is declared
-  DeclarationStates : (field : ℕ) (inside : List Item) {made : List Item} {rest : Work} → Becomes Anywhere work inside made rest → StatesList work default (node field h.ExportDecl inside) made
+  DeclarationStates : (field : ℕ) (inside : List Item) {made : List Item} {rest : Work} →
+      Becomes Anywhere work inside made rest →
+      StatesList work default (node field h.ExportDecl inside) made
   -- the value of a default expression is declared by the name of the default
-  ValueStates : (field : ℕ) (first : Item) (more : List Item) {value : List Item} {rest : Work} → Becomes Anywhere work (moved_to 1 first ∷ more) value rest → StatesList work default (node field h.ExportDefaultExpr (first ∷ more)) (constant default value)
+  ValueStates : (field : ℕ) (first : Item) (more : List Item) {value : List Item} {rest : Work} →
+      Becomes Anywhere work (moved_to 1 first ∷ more) value rest →
+      StatesList work default (node field h.ExportDefaultExpr (first ∷ more))
+      (constant default value)
   -- a default function or class is declared: by its own name
-  OwnStates : (field inner name_field : ℕ) (x : Text) (ctxt : ℕ) (role : Role) (head : Head) (body : List Item) {made : List Item} {rest : Work} → is_default_head head ≡ true → Becomes Anywhere work (h.Ident name_field x ctxt role ∷ body) made rest → StatesList work default (node field h.ExportDefaultDecl (node inner head (h.Ident name_field x ctxt role ∷ body))) (node 0 (declaration_head head) made)
+  OwnStates : (field inner name_field : ℕ) (x : Text) (ctxt : ℕ) (role : Role) (head : Head)
+      (body : List Item) {made : List Item} {rest : Work} → is_default_head head ≡ true →
+      Becomes Anywhere work (h.Ident name_field x ctxt role ∷ body) made rest →
+      StatesList work default
+      (node field h.ExportDefaultDecl (node inner head (h.Ident name_field x ctxt role ∷ body)))
+      (node 0 (declaration_head head) made)
   -- or by the name of the default
-  DefaultStates : (field inner first_field : ℕ) (head first : Head) (more : List Item) {made : List Item} {rest : Work} → is_default_head head ≡ true → Becomes Anywhere work (h.Open first_field first ∷ more) made rest → StatesList work default (node field h.ExportDefaultDecl (node inner head (h.Open first_field first ∷ more))) (node 0 (declaration_head head) (named 0 default Binding ++ made))
+  DefaultStates : (field inner first_field : ℕ) (head first : Head) (more : List Item)
+      {made : List Item} {rest : Work} → is_default_head head ≡ true →
+      Becomes Anywhere work (h.Open first_field first ∷ more) made rest →
+      StatesList work default
+      (node field h.ExportDefaultDecl (node inner head (h.Open first_field first ∷ more)))
+      (node 0 (declaration_head head) (named 0 default Binding ++ made))
 
 -- What an item states has the same marks in the module and in the bundle.
-pub record SameStated (work : Work) (meta : Option Meant) (notes : List Note) (name : Ident) (default : Meant) (item made : List Item) : Type 0 where
+pub record SameStated (work : Work) (meta : Option Meant) (notes : List Note) (name : Ident) (default : Meant) (item made : List Item) : Type
+    0 where
   pub marks : List Mark
   pub entries : List Entry
   -- the name of a default that has none of its own, where it is declared
   pub front : List (Ident × Meant)
   pub front_is : (front ≡ []) ⊎ ((front ≡ (name, default) ∷ []) × (declares_default item ≡ true))
   pub source : MarkedStated meta default notes item marks []
-  pub result : Marked None Anywhere (alone (map (λ pair. pair.1) front ++ map meant_in entries)) made marks []
+  pub result : Marked None Anywhere (alone (map (λ pair. pair.1) front ++ map meant_in entries))
+      made marks []
   pub names : names_of made ≡ map (λ pair. pair.0) front ++ map ident_in entries
   pub steps_are : work.steps ≡ steps_in entries
   pub notes_are : notes ≡ notes_in entries

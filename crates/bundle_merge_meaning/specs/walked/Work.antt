@@ -28,7 +28,8 @@ upcoming work = slice_get work.steps 0
 
 -- what is left behind the next occurrence
 abbrev pub after : Work → Work
-after work = record { steps = drop 1 work.steps; meta = work.meta; clears_notes = work.clears_notes }
+after work =
+    record { steps = drop 1 work.steps; meta = work.meta; clears_notes = work.clears_notes }
 
 -- whether what is short is spelled out where an identifier of this symbol is to stand in the place of one of the symbol `x`
 abbrev pub is_spelled_out_by : Spelling → (sym x : Text) → Bool
@@ -37,7 +38,8 @@ is_spelled_out_by BySymbol sym x = not (bytes_eq sym x)
 
 -- the change of an occurrence of the symbol `x`
 abbrev pub change_at : Text → Step → Change
-change_at x step = record { ident = step.ident; is_spelled_out = is_spelled_out_by step.spelling step.ident.0 x }
+change_at x step =
+    record { ident = step.ident; is_spelled_out = is_spelled_out_by step.spelling step.ident.0 x }
 
 -- the change of the next occurrence, which is one of `x`
 abbrev pub next : Work → Text → Option Change
@@ -45,7 +47,8 @@ next work x = option_map (change_at x) (upcoming work)
 
 -- just these changes of the occurrences in turn, and all else stays
 abbrev pub plain_step : Change → Step
-plain_step change = record { ident = change.ident; spelling = Fixed change.is_spelled_out; whole = Alone }
+plain_step change =
+    record { ident = change.ident; spelling = Fixed change.is_spelled_out; whole = Alone }
 
 abbrev pub plain : List Change → Work
 plain changes = record { steps = map plain_step changes; meta = None; clears_notes = false }
