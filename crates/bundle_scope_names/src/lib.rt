@@ -1,5 +1,5 @@
 //! Which contexts tell the bindings of a tree apart, and which symbols they get: none has a reserved word's symbol,
-//! and each name denotes by its symbol alone what it denoted by symbol and context;
+//! and each name denotes by its symbol alone what it denoted by symbol and context.
 #![tactic(auto)]
 
 pub mod contexts;

@@ -1,6 +1,6 @@
 //! What the bindings of a list are called.
 
-ghost use Rattle.std.specs.Prelude.{◌≡◌, ◌<◌, ◌≢◌, ℕ, Some, IfOk, length, string_bytes};
+ghost use Rattle.std.specs.Prelude.{◌≡◌, ◌<◌, ◌≢◌, ℕ, None, Some, IfOk, length, string_bytes};
 ghost use Rattle.std.specs.Option.{option_map};
 ghost use Rattle.bundle_scope_names.specs.Called as called;
 
@@ -29,6 +29,10 @@ impl Names {
     pub fn kept(alloc: Global, count: usize) -> Result<Names, AllocError>
         ensures texts { IfOk result (λ names. length names.texts.items ≡ count) }
         ensures contexts { IfOk result (λ names. length names.contexts.items ≡ count) }
+        ensures same { IfOk result (λ names.
+            (number : ℕ) → called.text_of names number ≡ None) }
+        ensures same_contexts { IfOk result (λ names.
+            (number : ℕ) → called.context_of names number ≡ None) }
     {
         let mut texts = Vec::new(alloc);
         let mut contexts = Vec::new(alloc);

@@ -1,1 +1,2 @@
+pub mod Undoubled
 pub mod fit

@@ -19,6 +19,7 @@ use Rattle.bundle_rules.specs.Rebuilds.{changes_to, with_idents}
 use Rattle.bundle_rules.specs.Renamed.{HasNamesOnly}
 use Rattle.bundle_rules.proofs.PathLemmas.{occurrences-cleared}
 use Rattle.bundle_rules.proofs.DenotesLemmas.{first_doubled-cleared}
+pub use Rattle.bundle_scope_renamed.specs.Undoubled.{IsUndoubled}
 use Rattle.bundle_scope_renamed.proofs.kept.Lists.{IsIn, any-here, find-failed, find-none_in, map-in, trichotomy}
 use Rattle.bundle_scope_renamed.proofs.kept.Known.{table_in}
 use Rattle.bundle_scope_renamed.proofs.kept.Tree.{declarations, declared-named, all-named, setting}
@@ -168,10 +169,6 @@ module _ (move : ℕ → ℕ) (os ps : List Occurrence) where
           by_both false w = rest
           by_both true None = rest
           by_both true (Some way) = ((record { name = refl; by = refl; scopes = refl }, record { i = k; o = o; p = p; at = here; there = there; place = refl; other = refl }), rest)
-
--- no declaration of a tree clashes with one before it, by symbol and context
-abbrev pub IsUndoubled : List Item → Type 0
-IsUndoubled items = find (is_doubled (declared ByContext Es items)) (declared ByContext Es items) ≡ None
 
 -- a test that none passes
 pub any-none : {A : Type 0} (p : A → Bool) (xs : List A) → ((x : A) → IsIn xs x → p x ≡ false) → list_any p xs ≡ false

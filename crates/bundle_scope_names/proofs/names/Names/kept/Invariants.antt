@@ -1,6 +1,6 @@
--- Each binding passed has its places.
-use Rattle.std.proofs.Common.{◌≡◌, length}
+-- Nothing is new so far.
+use Rattle.std.proofs.Common.{◌≡◌, None, replicate}
 use Rattle.bundle_scope_names.proofs.names.Names.kept.Given as goal
 
 abbrev pub invariant-loop : goal.invariant-loop
-invariant-loop l = (length l.texts.items ≡ l.counter) × (length l.contexts.items ≡ l.counter)
+invariant-loop l = (l.texts.items ≡ replicate l.counter None) × (l.contexts.items ≡ replicate l.counter None)
