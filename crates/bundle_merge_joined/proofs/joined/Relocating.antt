@@ -14,7 +14,8 @@ is_body-relocated f (Inner FunctionBody begins) = refl
 is_body-relocated f (Inner StaticBody begins) = refl
 is_body-relocated f (Inner _ begins) = refl
 
-pub is_block-relocated : (f : ℕ → ℕ) (scope : Scope) → is_block (relocated f scope) ≡ is_block scope
+pub is_block-relocated : (f : ℕ → ℕ) (scope : Scope) →
+    is_block (relocated f scope) ≡ is_block scope
 is_block-relocated f Wrapper = refl
 is_block-relocated f Top = refl
 is_block-relocated f (Inner FunctionBody begins) = refl
@@ -23,7 +24,8 @@ is_block-relocated f (Inner Block begins) = refl
 is_block-relocated f (Inner CatchBlock begins) = refl
 is_block-relocated f (Inner _ begins) = refl
 
-pub is_parameters-relocated : (f : ℕ → ℕ) (scope : Scope) → is_parameters (relocated f scope) ≡ is_parameters scope
+pub is_parameters-relocated : (f : ℕ → ℕ) (scope : Scope) →
+    is_parameters (relocated f scope) ≡ is_parameters scope
 is_parameters-relocated f Wrapper = refl
 is_parameters-relocated f Top = refl
 is_parameters-relocated f (Inner Parameters begins) = refl
@@ -36,25 +38,29 @@ is_loop-relocated f Top = refl
 is_loop-relocated f (Inner Loop begins) = refl
 is_loop-relocated f (Inner _ begins) = refl
 
-pub is_catch-relocated : (f : ℕ → ℕ) (scope : Scope) → is_catch (relocated f scope) ≡ is_catch scope
+pub is_catch-relocated : (f : ℕ → ℕ) (scope : Scope) →
+    is_catch (relocated f scope) ≡ is_catch scope
 is_catch-relocated f Wrapper = refl
 is_catch-relocated f Top = refl
 is_catch-relocated f (Inner Catch begins) = refl
 is_catch-relocated f (Inner _ begins) = refl
 
-pub is_function_name-relocated : (f : ℕ → ℕ) (scope : Scope) → is_function_name (relocated f scope) ≡ is_function_name scope
+pub is_function_name-relocated : (f : ℕ → ℕ) (scope : Scope) →
+    is_function_name (relocated f scope) ≡ is_function_name scope
 is_function_name-relocated f Wrapper = refl
 is_function_name-relocated f Top = refl
 is_function_name-relocated f (Inner FunctionName begins) = refl
 is_function_name-relocated f (Inner _ begins) = refl
 
-pub is_class_name-relocated : (f : ℕ → ℕ) (scope : Scope) → is_class_name (relocated f scope) ≡ is_class_name scope
+pub is_class_name-relocated : (f : ℕ → ℕ) (scope : Scope) →
+    is_class_name (relocated f scope) ≡ is_class_name scope
 is_class_name-relocated f Wrapper = refl
 is_class_name-relocated f Top = refl
 is_class_name-relocated f (Inner ClassName begins) = refl
 is_class_name-relocated f (Inner _ begins) = refl
 
-pub is_function-relocated : (f : ℕ → ℕ) (scope : Scope) → is_function (relocated f scope) ≡ is_function scope
+pub is_function-relocated : (f : ℕ → ℕ) (scope : Scope) →
+    is_function (relocated f scope) ≡ is_function scope
 is_function-relocated f Wrapper = refl
 is_function-relocated f Top = refl
 is_function-relocated f (Inner Parameters begins) = refl
@@ -65,12 +71,14 @@ is_top-relocated f Wrapper = refl
 is_top-relocated f Top = refl
 is_top-relocated f (Inner kind begins) = refl
 
-pub is_wrapper-relocated : (f : ℕ → ℕ) (scope : Scope) → is_wrapper (relocated f scope) ≡ is_wrapper scope
+pub is_wrapper-relocated : (f : ℕ → ℕ) (scope : Scope) →
+    is_wrapper (relocated f scope) ≡ is_wrapper scope
 is_wrapper-relocated f Wrapper = refl
 is_wrapper-relocated f Top = refl
 is_wrapper-relocated f (Inner kind begins) = refl
 
-pub takes-relocated : (f : ℕ → ℕ) (way : Way) (scope : Scope) → takes way (relocated f scope) ≡ takes way scope
+pub takes-relocated : (f : ℕ → ℕ) (way : Way) (scope : Scope) →
+    takes way (relocated f scope) ≡ takes way scope
 takes-relocated f ByImport scope = is_top-relocated f scope
 takes-relocated f ByVar scope = is_body-relocated f scope
 takes-relocated f ByLet scope = is_block-relocated f scope
@@ -87,25 +95,36 @@ takes-relocated f ByWrapper scope = is_wrapper-relocated f scope
 
 -- Takers.
 
-pub from_taker-relocated : (f : ℕ → ℕ) (way : Way) (scopes : List Scope) → from_taker way (map (relocated f) scopes) ≡ map (relocated f) (from_taker way scopes)
+pub from_taker-relocated : (f : ℕ → ℕ) (way : Way) (scopes : List Scope) →
+    from_taker way (map (relocated f) scopes) ≡ map (relocated f) (from_taker way scopes)
 from_taker-relocated f way [] = refl
-from_taker-relocated f way (scope ∷ outer) = ap (λ b. cond b (relocated f scope ∷ map (relocated f) outer) (from_taker way (map (relocated f) outer))) (takes-relocated f way scope) ∙ by_first (takes way scope) (from_taker-relocated f way outer)
+from_taker-relocated f way (scope ∷ outer) =
+    ap (λ b. cond b (relocated f scope ∷ map (relocated f) outer)
+        (from_taker way (map (relocated f) outer))) (takes-relocated f way scope)
+    ∙ by_first (takes way scope) (from_taker-relocated f way outer)
   where
-    by_first : (b : Bool) → from_taker way (map (relocated f) outer) ≡ map (relocated f) (from_taker way outer) → cond b (relocated f scope ∷ map (relocated f) outer) (from_taker way (map (relocated f) outer)) ≡ map (relocated f) (cond b (scope ∷ outer) (from_taker way outer))
+    by_first : (b : Bool) →
+        from_taker way (map (relocated f) outer) ≡ map (relocated f) (from_taker way outer) →
+        cond b (relocated f scope ∷ map (relocated f) outer)
+            (from_taker way (map (relocated f) outer)) ≡ map (relocated f)
+            (cond b (scope ∷ outer) (from_taker way outer))
     by_first true ih = refl
     by_first false ih = ih
 
-pub nearest-relocated : (f : ℕ → ℕ) (scopes : List Scope) → nearest (map (relocated f) scopes) ≡ option_map (relocated f) (nearest scopes)
+pub nearest-relocated : (f : ℕ → ℕ) (scopes : List Scope) →
+    nearest (map (relocated f) scopes) ≡ option_map (relocated f) (nearest scopes)
 nearest-relocated f [] = refl
 nearest-relocated f (scope ∷ outer) = refl
 
-pub parameters_of-relocated : (f : ℕ → ℕ) (scopes : List Scope) → parameters_of (map (relocated f) scopes) ≡ option_map (relocated f) (parameters_of scopes)
+pub parameters_of-relocated : (f : ℕ → ℕ) (scopes : List Scope) →
+    parameters_of (map (relocated f) scopes) ≡ option_map (relocated f) (parameters_of scopes)
 parameters_of-relocated f [] = refl
 parameters_of-relocated f (Wrapper ∷ outer) = refl
 parameters_of-relocated f (Top ∷ outer) = nearest-relocated f outer
 parameters_of-relocated f (Inner FunctionBody begins ∷ outer) = nearest-relocated f outer
 parameters_of-relocated f (Inner _ begins ∷ outer) = refl
 
-pub or_top-relocated : (f : ℕ → ℕ) (scope : Option Scope) → unwrap_or (option_map (relocated f) scope) Top ≡ relocated f (unwrap_or scope Top)
+pub or_top-relocated : (f : ℕ → ℕ) (scope : Option Scope) →
+    unwrap_or (option_map (relocated f) scope) Top ≡ relocated f (unwrap_or scope Top)
 or_top-relocated f None = refl
 or_top-relocated f (Some scope) = refl

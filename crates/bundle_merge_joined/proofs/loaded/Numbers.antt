@@ -1,66 +1,35 @@
--- The bindings inside a statement have the same numbers in the module and in the bundle. (Copied from the probe `become`, proofs/Numbers.antt; only `inside_zip` is new.)
-use Rattle.std.proofs.Common.{◌≡◌, suc, ◌+◌, Bool, true, false, not, cond, List, [], ◌∷◌, Some, None, length, filter, refl, ap}
-use Rattle.std.specs.Prelude.{position, nat_lt}
-use Rattle.std.specs.List.{AllZip, position_or_len}
+-- Lists of what is denoted, one beside the other: what is inside on one side is inside on the
+-- other, and stands there once.
+use Rattle.std.proofs.Common.{◌≡◌, Bool, true, false, not, cond, List, [], ◌∷◌, filter, refl, ap}
+use Rattle.std.specs.List.{AllZip}
 use Rattle.bundle_rules.specs.Denotes.{Denoted}
 use Rattle.bundle_rules.specs.Mentions.{same_denoted, each_denoted_once}
+use Rattle.bundle_merge_meaning.specs.walked.Numbers.{IsOneToOne}
+use Rattle.bundle_merge_meaning.proofs.walked.Numbers.{both_filtered}
 
--- what is one on one side is one on the other (as in the probe `become`)
-abbrev pub IsOneToOne : (Denoted → Denoted → Type 0) → Type 0
-IsOneToOne Becomes = (a b other_a other_b : Denoted) → Becomes a other_a → Becomes b other_b → same_denoted a b ≡ same_denoted other_a other_b
-
--- where tests agree
-abbrev Agreeing : (p q : Denoted → Bool) → Denoted → Denoted → Type 0
-Agreeing p q x y = p x ≡ q y
-
-length_agrees : (p q : Denoted → Bool) (xs ys : List Denoted) → AllZip (Agreeing p q) xs ys → length xs ≡ length ys
-length_agrees p q [] [] all = refl
-length_agrees p q [] (y ∷ ys) all = absurd all
-length_agrees p q (x ∷ xs) [] all = absurd all
-length_agrees p q (x ∷ xs) (y ∷ ys) all = ap suc (length_agrees p q xs ys all.1)
-
-first_agrees : (p q : Denoted → Bool) (xs ys : List Denoted) → AllZip (Agreeing p q) xs ys → position_or_len p xs ≡ position_or_len q ys
-first_agrees p q [] [] all = refl
-first_agrees p q [] (y ∷ ys) all = absurd all
-first_agrees p q (x ∷ xs) [] all = absurd all
-first_agrees p q (x ∷ xs) (y ∷ ys) all = λ i. cond (not (all.0 i)) (1 + first_agrees p q xs ys all.1 i) 0
-
-position_agrees : (p q : Denoted → Bool) (xs ys : List Denoted) → AllZip (Agreeing p q) xs ys → position p xs ≡ position q ys
-position_agrees p q xs ys all = λ i. cond (nat_lt (first_agrees p q xs ys all i) (length_agrees p q xs ys all i)) (Some (first_agrees p q xs ys all i)) None
-
--- one more, where it passes
-pick : (R : Denoted → Denoted → Type 0) (b c : Bool) (x y : Denoted) (xs ys : List Denoted) → b ≡ c → (b ≡ true → R x y) → AllZip R xs ys → AllZip R (cond b (x ∷ xs) xs) (cond c (y ∷ ys) ys)
-pick R true true x y xs ys same its all = (its refl, all)
-pick R false false x y xs ys same its all = all
-pick R true false x y xs ys same its all = cc
-pick R false true x y xs ys same its all = cc
-
--- what passes
-pub both_filtered : (R : Denoted → Denoted → Type 0) (p q : Denoted → Bool) → ((x y : Denoted) → R x y → p x ≡ q y) → (xs ys : List Denoted) → AllZip R xs ys → AllZip R (filter p xs) (filter q ys)
-both_filtered R p q agree [] [] all = tt
-both_filtered R p q agree [] (y ∷ ys) all = absurd all
-both_filtered R p q agree (x ∷ xs) [] all = absurd all
-both_filtered R p q agree (x ∷ xs) (y ∷ ys) all = pick R (p x) (q y) x y (filter p xs) (filter q ys) (agree x y all.0) (λ is. all.0) (both_filtered R p q agree xs ys all.1)
-
-pub both_once : (R : Denoted → Denoted → Type 0) → IsOneToOne R → (xs ys : List Denoted) → AllZip R xs ys → AllZip R (each_denoted_once xs) (each_denoted_once ys)
+-- each once (a private lemma of the crate of meanings, whose proof this is)
+pub both_once : (R : Denoted → Denoted → Type 0) → IsOneToOne R → (xs ys : List Denoted) →
+    AllZip R xs ys → AllZip R (each_denoted_once xs) (each_denoted_once ys)
 both_once R one [] [] all = tt
 both_once R one [] (y ∷ ys) all = absurd all
 both_once R one (x ∷ xs) [] all = absurd all
-both_once R one (x ∷ xs) (y ∷ ys) all = (all.0, both_filtered R (λ other. not (same_denoted x other)) (λ other. not (same_denoted y other)) (λ a b its. ap not (one x a y b all.0 its)) (each_denoted_once xs) (each_denoted_once ys) (both_once R one xs ys all.1))
+both_once R one (x ∷ xs) (y ∷ ys) all =
+    (all.0, both_filtered R (λ other. not (same_denoted x other))
+        (λ other. not (same_denoted y other)) (λ a b its. ap not (one x a y b all.0 its))
+        (each_denoted_once xs) (each_denoted_once ys) (both_once R one xs ys all.1))
 
-each_weaker : {R S : Denoted → Denoted → Type 0} → ((x y : Denoted) → R x y → S x y) → (xs ys : List Denoted) → AllZip R xs ys → AllZip S xs ys
-each_weaker weaker [] [] all = tt
-each_weaker weaker [] (y ∷ ys) all = absurd all
-each_weaker weaker (x ∷ xs) [] all = absurd all
-each_weaker weaker (x ∷ xs) (y ∷ ys) all = (weaker x y all.0, each_weaker weaker xs ys all.1)
-
--- THE NUMBERS: what becomes each other has one number
-pub numbers_agree : (R : Denoted → Denoted → Type 0) → IsOneToOne R → (xs ys : List Denoted) → AllZip R xs ys → (a b : Denoted) → R a b → position (same_denoted a) (each_denoted_once xs) ≡ position (same_denoted b) (each_denoted_once ys)
-numbers_agree R one xs ys all a b its = position_agrees (same_denoted a) (same_denoted b) (each_denoted_once xs) (each_denoted_once ys) (each_weaker (λ x y there. one a x b y its there) (each_denoted_once xs) (each_denoted_once ys) (both_once R one xs ys all))
-
--- what is inside on one side is inside on the other
-pub inside_zip : (R : Denoted → Denoted → Type 0) (p q : Denoted → Bool) (ds es : List Denoted) → AllZip (λ d e. (p d ≡ q e) × (p d ≡ true → R d e)) ds es → AllZip R (filter p ds) (filter q es)
+-- what is inside
+pub inside_zip : (R : Denoted → Denoted → Type 0) (p q : Denoted → Bool) (ds es : List Denoted) →
+    AllZip (λ d e. (p d ≡ q e) × (p d ≡ true → R d e)) ds es → AllZip R (filter p ds) (filter q es)
 inside_zip R p q [] [] all = tt
 inside_zip R p q [] (e ∷ es) all = absurd all
 inside_zip R p q (d ∷ ds) [] all = absurd all
-inside_zip R p q (d ∷ ds) (e ∷ es) all = pick R (p d) (q e) d e (filter p ds) (filter q es) all.0.0 all.0.1 (inside_zip R p q ds es all.1)
+inside_zip R p q (d ∷ ds) (e ∷ es) all =
+    pick (p d) (q e) all.0.0 all.0.1 (inside_zip R p q ds es all.1)
+  where
+    pick : (b c : Bool) → b ≡ c → (b ≡ true → R d e) → AllZip R (filter p ds) (filter q es) →
+        AllZip R (cond b (d ∷ filter p ds) (filter p ds)) (cond c (e ∷ filter q es) (filter q es))
+    pick true true same its all = (its refl, all)
+    pick false false same its all = all
+    pick true false same its all = cc
+    pick false true same its all = cc

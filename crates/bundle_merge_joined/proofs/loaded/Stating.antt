@@ -1,14 +1,13 @@
 -- What the names of a statement of a CommonJS module mean in the item of its load function.
-use Rattle.std.proofs.Common.{◌≡◌, ℕ, zero, suc, ◌+◌, ◌<◌, ◌≤◌, Bool, true, false, cond, List, [], ◌∷◌, ◌++◌, Option, Some, None, unwrap_or, filter, map, fold, length, slice_get, refl, ap, ap₂, sym, ◌∙◌, subst, arith, find}
+use Rattle.std.proofs.Common.{◌≡◌, ℕ, zero, suc, ◌+◌, ◌<◌, ◌≤◌, true, false, List, [], ◌∷◌, Option, Some, None, filter, map, fold, length, slice_get, refl, ap, ap₂, sym, ◌∙◌, subst, arith, find}
 use Rattle.std.specs.Prelude.{Contains, position, nat_le}
-use Rattle.std.specs.List.{AllZip, list_any}
+use Rattle.std.specs.List.{AllZip}
 use Rattle.std.proofs.lemmas.Bool.{false≢true, false_from_ne_true, leb-true, le-leb}
-use Rattle.std.proofs.lemmas.Option.{none-some, same_Some}
 use Rattle.bundle_tree_piece.specs.Item.{Item}
 use Rattle.bundle_rules.specs.Places.{Spot, past, Occurrence, occurrences_from}
-use Rattle.bundle_rules.specs.Scopes.{Cjs, Scope, Wrapper, Top, Inner, FunctionBody, scopes_around}
-use Rattle.bundle_rules.specs.Declarations.{Way, BySymbol, Name, Declared}
-use Rattle.bundle_rules.specs.Homes.{from_taker, nearest, taker, takes, parameters_of, joins_parameter, is_parameter, home_beside, home_of, binds}
+use Rattle.bundle_rules.specs.Scopes.{Cjs, Scope, Wrapper, Top, Inner, scopes_around}
+use Rattle.bundle_rules.specs.Declarations.{BySymbol, Name, Declared}
+use Rattle.bundle_rules.specs.Homes.{binds}
 use Rattle.bundle_rules.specs.Denotes.{Denoted, Bound, Global, bound_in, denoted_in, own_or_found, denoted_of}
 use Rattle.bundle_rules.specs.Idents.{Ident, ident_of}
 use Rattle.bundle_rules.specs.Mentions.{same_denoted, each_denoted_once}
@@ -19,6 +18,7 @@ use Rattle.bundle_scope_names.proofs.Numbering.{Numbering, context_of}
 use Rattle.bundle_scope_names.proofs.FoundLemmas.{plain, with}
 use Rattle.bundle_scope_names.proofs.Separation.{IsFor, denoted-for}
 use Rattle.bundle_scope_names.proofs.TreeLemmas.{DeclaresOrNot, DoesNot, Does, declares_or_not}
+use Rattle.bundle_merge_meaning.proofs.walked.Numbers.{numbers_agree}
 use Rattle.bundle_merge_joined.specs.joined.Joined.{AllOf, own_declared, is_top_name}
 use Rattle.bundle_merge_joined.specs.joined.Notes.{its_name, own_denoted, is_inner, is_inner_name}
 use Rattle.bundle_merge_joined.proofs.joined.Paths.{occurrences-append, fold-place}
@@ -35,95 +35,38 @@ use Rattle.bundle_merge_joined.proofs.loaded.Following.{follows-turned}
 use Rattle.bundle_merge_joined.proofs.loaded.Whole.{kept-there}
 use Rattle.bundle_merge_joined.proofs.loaded.One.{denoted-one}
 use Rattle.bundle_merge_joined.proofs.loaded.Parts.{turned-append, goes-first, goes-second, has-first, has-second, path-behind}
-use Rattle.bundle_merge_joined.proofs.loaded.Numbers.{both_once, numbers_agree, inside_zip}
+use Rattle.bundle_merge_joined.proofs.loaded.Numbers.{both_once, inside_zip}
 use Rattle.bundle_merge_joined.proofs.loaded.Noted.{AreKnown, strange-outside, strange-own, beside-inner}
-
--- Lists.
-
-behind : {A : Type 0} (xs ys : List A) (j : ℕ) (y : A) → slice_get ys j ≡ Some y → (i : ℕ) × (slice_get (xs ++ ys) i ≡ Some y)
-behind [] ys j y at = (j, at)
-behind (x ∷ xs) ys j y at = let it = behind xs ys j y at in (suc it.0, it.1)
-
-in-front : {A : Type 0} (xs ys : List A) (j : ℕ) (x : A) → slice_get xs j ≡ Some x → slice_get (xs ++ ys) j ≡ Some x
-in-front [] ys j x at = absurd (none-some x at)
-in-front (first ∷ xs) ys zero x at = at
-in-front (first ∷ xs) ys (suc j) x at = in-front xs ys j x at
+use Rattle.bundle_merge_joined.proofs.joined.Lists.{get-left, get-right}
+use Rattle.bundle_merge_joined.proofs.joined.Homes.{home-in}
+use Rattle.bundle_merge_joined.proofs.joined.Bindings.{scope_in, bound-global}
+use Rattle.bundle_merge_joined.proofs.joined.Notes.{find-has}
 
 -- What holds of the scopes around a name holds of the one that it denotes.
 
-find-in : (P : Scope → Type 0) (p : Scope → Bool) (ss : List Scope) (s : Scope) → AllOf P ss → find p ss ≡ Some s → P s
-find-in P p [] s all is = absurd (none-some s is)
-find-in P p (first ∷ ss) s all is = by (p first) is (λ further. find-in P p ss s all.1 further)
-  where
-    by : (b : Bool) → cond b (Some first) (find p ss) ≡ Some s → (find p ss ≡ Some s → P s) → P s
-    by true is rest = subst P (same_Some first s is) all.0
-    by false is rest = rest is
-
-taker-in : (P : Scope → Type 0) (way : Way) (ss : List Scope) → AllOf P ss → AllOf P (from_taker way ss)
-taker-in P way [] all = tt
-taker-in P way (s ∷ ss) all = by (takes way s) (taker-in P way ss all.1)
-  where
-    by : (b : Bool) → AllOf P (from_taker way ss) → AllOf P (cond b (s ∷ ss) (from_taker way ss))
-    by true rest = all
-    by false rest = rest
-
-abbrev Optional : (P : Scope → Type 0) → Option Scope → Type 0
-Optional P None = Unit {0}
-Optional P (Some s) = P s
-
-nearest-in : (P : Scope → Type 0) (ss : List Scope) → AllOf P ss → Optional P (nearest ss)
-nearest-in P [] all = tt
-nearest-in P (s ∷ ss) all = all.0
-
-parameters-in : (P : Scope → Type 0) (ss : List Scope) → AllOf P ss → Optional P (parameters_of ss)
-parameters-in P [] all = tt
-parameters-in P (Wrapper ∷ ss) all = tt
-parameters-in P (Top ∷ ss) all = nearest-in P ss all.1
-parameters-in P (Inner FunctionBody begins ∷ ss) all = nearest-in P ss all.1
-parameters-in P (Inner _ begins ∷ ss) all = tt
-
-or-top-in : (P : Scope → Type 0) → P Top → (s : Option Scope) → Optional P s → P (unwrap_or s Top)
-or-top-in P at_last None its = at_last
-or-top-in P at_last (Some s) its = its
-
-home-in : (P : Scope → Type 0) → P Top → (ds : List Declared) (d : Declared) → AllOf P d.scopes → P (home_of ds d)
-home-in P at_last ds d all = by (joins_parameter d.by) (beside (parameters_of (from_taker d.by d.scopes)) (parameters-in P (from_taker d.by d.scopes) taken)) mine
-  where
-    taken : AllOf P (from_taker d.by d.scopes)
-    taken = taker-in P d.by d.scopes all
-
-    mine : P (taker d)
-    mine = or-top-in P at_last (nearest (from_taker d.by d.scopes)) (nearest-in P (from_taker d.by d.scopes) taken)
-
-    choose : (b : Bool) (s : Scope) → P s → P (cond b s (taker d))
-    choose true s its = its
-    choose false s its = mine
-
-    beside : (s : Option Scope) → Optional P s → P (home_beside ds d s)
-    beside None its = mine
-    beside (Some s) its = choose (list_any (is_parameter s d.name) ds) s its
-
-    by : (b : Bool) → P (home_beside ds d (parameters_of (from_taker d.by d.scopes))) → P (taker d) → P (cond b (home_beside ds d (parameters_of (from_taker d.by d.scopes))) (taker d))
-    by true first second = first
-    by false first second = second
-
-abbrev its_scope : Denoted → Scope
-its_scope (Bound s k) = s
-its_scope (Global x) = Top
-
-denoted-in : (P : Scope → Type 0) → P Top → (ds : List Declared) (o : Occurrence) → AllOf P (scopes_around Cjs o.path) → P (its_scope (denoted_of BySymbol Cjs ds o))
+denoted-in : (P : Scope → Type 0) → P Top → (ds : List Declared) (o : Occurrence) →
+    AllOf P (scopes_around Cjs o.path) → P (scope_in (denoted_of BySymbol Cjs ds o))
 denoted-in P at_last ds o all = by (declares_or_not Cjs o)
   where
-    found : (s : Option Scope) → find (λ s. binds ds s (plain o.sym)) (scopes_around Cjs o.path) ≡ s → P (its_scope (bound_in (plain o.sym) s))
+    found : (s : Option Scope) →
+        find (λ s. binds ds s (plain o.sym)) (scopes_around Cjs o.path) ≡ s →
+        P (scope_in (bound_in (plain o.sym) s))
     found None is = at_last
-    found (Some s) is = find-in P (λ s. binds ds s (plain o.sym)) (scopes_around Cjs o.path) s all is
+    found (Some s) is =
+        (find-has P (λ s. binds ds s (plain o.sym)) (scopes_around Cjs o.path) all s is).0
 
-    by : DeclaresOrNot Cjs o → P (its_scope (denoted_of BySymbol Cjs ds o))
-    by (DoesNot never) = subst (λ d. P (its_scope (own_or_found ds (denoted_in BySymbol ds (scopes_around Cjs o.path) (plain o.sym)) d))) (sym (never BySymbol o.ctxt)) (found (find (λ s. binds ds s (plain o.sym)) (scopes_around Cjs o.path)) refl)
-    by (Does way known is later) = subst (λ d. P (its_scope (own_or_found ds (denoted_in BySymbol ds (scopes_around Cjs o.path) (plain o.sym)) d))) (sym is) (home-in P at_last ds (record { place = o.place; name = plain o.sym; by = way; scopes = scopes_around Cjs o.path }) all)
-
-bound-global : {s : Scope} {k : Name} {x : List ℕ} → Bound s k ≡ Global x → ⊥
-bound-global same = cc
+    by : DeclaresOrNot Cjs o → P (scope_in (denoted_of BySymbol Cjs ds o))
+    by (DoesNot never) =
+        subst (λ d. P (scope_in
+            (own_or_found ds (denoted_in BySymbol ds (scopes_around Cjs o.path) (plain o.sym)) d)))
+            (sym (never BySymbol o.ctxt))
+            (found (find (λ s. binds ds s (plain o.sym)) (scopes_around Cjs o.path)) refl)
+    by (Does way known is later) =
+        subst (λ d. P (scope_in
+            (own_or_found ds (denoted_in BySymbol ds (scopes_around Cjs o.path) (plain o.sym)) d)))
+            (sym is) (home-in P at_last ds
+            (record { place = o.place; name = plain o.sym; by = way;
+            scopes = scopes_around Cjs o.path }) all)
 
 -- inner scopes go somewhere
 abbrev GoesIn : (ℕ → ℕ → Type 0) → Scope → Type 0
@@ -135,23 +78,29 @@ framed-in : {R : ℕ → ℕ → Type 0} {ss ts : List Scope} → Framed R ss ts
 framed-in outside = (tt, (tt, tt))
 framed-in (within {b = b} r framed) = ((b, r), framed-in framed)
 
-widen : {R S : ℕ → ℕ → Type 0} → ((a b : ℕ) → R a b → S a b) → {ss ts : List Scope} → Framed R ss ts → Framed S ss ts
+widen : {R S : ℕ → ℕ → Type 0} → ((a b : ℕ) → R a b → S a b) → {ss ts : List Scope} →
+    Framed R ss ts → Framed S ss ts
 widen wider outside = outside
 widen wider (within {a = a} {b = b} r framed) = within (wider a b r) (widen wider framed)
 
-at-any : {R S : ℕ → ℕ → Type 0} {old new : _} → PathBeside R zero old new → PathBeside S zero old new
+at-any : {R S : ℕ → ℕ → Type 0} {old new : _} → PathBeside R zero old new →
+    PathBeside S zero old new
 at-any (at_top field its) = at_top field its
 
 -- some of the statements: where they stand, and that they are some of the module's
-pub record IsPart {L : Ident → Type 0} {xs ys : List Item} (w : Turned L zero xs ys) (g : Numbering) {x y : List Item} (wx : Turned L zero x y) (s t : Spot) : Type 0 where
+pub record IsPart {L : Ident → Type 0} {xs ys : List Item} (w : Turned L zero xs ys)
+    (g : Numbering) {x y : List Item} (wx : Turned L zero x y) (s t : Spot) : Type 0 where
   pub path : PathBeside (Goes w 1 22) zero s.path t.path
   pub goes : (a b : ℕ) → Goes wx s.place t.place a b → Goes w 1 22 a b
   pub has : HasContexts g (module_declared xs) wx s
-  pub listed : (j : ℕ) (o : Occurrence) → slice_get (occurrences_from s x) j ≡ Some o → (i : ℕ) × (slice_get (module_names xs) i ≡ Some o)
+  pub listed : (j : ℕ) (o : Occurrence) → slice_get (occurrences_from s x) j ≡ Some o →
+      (i : ℕ) × (slice_get (module_names xs) i ≡ Some o)
   pub far : 22 ≤ t.place
 
 -- all of them
-pub whole-part : {L : Ident → Type 0} {xs ys : List Item} (w : Turned L zero xs ys) (g : Numbering) (load m e : Ident) → IsLoaded g w load m e → IsPart w g w module_start body_start
+pub whole-part : {L : Ident → Type 0} {xs ys : List Item} (w : Turned L zero xs ys) (g : Numbering)
+        (load m e : Ident) →
+    IsLoaded g w load m e → IsPart w g w module_start body_start
 whole-part w g load m e its = record {
   path = at_top 0 0;
   goes = λ a b there. there;
@@ -161,25 +110,44 @@ whole-part w g load m e its = record {
 }
 
 -- the first of them, and the rest
-pub first-part : {L : Ident → Type 0} {xs ys : List Item} (w : Turned L zero xs ys) (g : Numbering) {x y more after : List Item} (wx : Turned L zero x y) (rest : Turned L zero more after) (s t : Spot) → IsPart w g (turned-append wx rest) s t → IsPart w g wx s t
+pub first-part : {L : Ident → Type 0} {xs ys : List Item} (w : Turned L zero xs ys) (g : Numbering)
+        {x y more after : List Item} (wx : Turned L zero x y) (rest : Turned L zero more after)
+        (s t : Spot) →
+    IsPart w g (turned-append wx rest) s t → IsPart w g wx s t
 first-part {xs = xs} w g {x = x} {more = more} wx rest s t part = record {
   path = part.path;
   goes = λ a b there. part.goes a b (goes-first wx rest s.place t.place a b there);
   has = has-first g (module_declared xs) wx rest s part.has;
-  listed = λ j o at. part.listed j o (ap (λ os. slice_get os j) (occurrences-append s x more) ∙ in-front (occurrences_from s x) (occurrences_from (fold past s x) more) j o at);
+  listed =
+      λ j o at. part.listed j o (ap (λ os. slice_get os j) (occurrences-append s x more)
+          ∙ get-left (occurrences_from s x) (occurrences_from (fold past s x) more) j o at);
   far = part.far;
 }
 
-pub next-part : {L : Ident → Type 0} {xs ys : List Item} (w : Turned L zero xs ys) (g : Numbering) {x y more after : List Item} (wx : Turned L zero x y) (rest : Turned L zero more after) (s t : Spot) → IsPart w g (turned-append wx rest) s t → IsPart w g rest (fold past s x) (fold past t y)
+pub next-part : {L : Ident → Type 0} {xs ys : List Item} (w : Turned L zero xs ys) (g : Numbering)
+        {x y more after : List Item} (wx : Turned L zero x y) (rest : Turned L zero more after)
+        (s t : Spot) →
+    IsPart w g (turned-append wx rest) s t → IsPart w g rest (fold past s x) (fold past t y)
 next-part {xs = xs} w g {x = x} {y = y} {more = more} wx rest s t part = record {
-  path = path-behind (Goes w 1 22) wx s t part.path (λ a b there. part.goes a b (goes-first wx rest s.place t.place a b there));
-  goes = λ a b there. part.goes a b (goes-second wx rest s.place t.place a b (subst (λ n. Goes rest n (t.place + length y) a b) (fold-place s x) (subst (λ n. Goes rest (fold past s x).place n a b) (fold-place t y) there)));
+  path =
+      path-behind (Goes w 1 22) wx s t part.path
+          (λ a b there. part.goes a b (goes-first wx rest s.place t.place a b there));
+  goes =
+      λ a b there. part.goes a b
+          (goes-second wx rest s.place t.place a b
+          (subst (λ n. Goes rest n (t.place + length y) a b) (fold-place s x)
+          (subst (λ n. Goes rest (fold past s x).place n a b) (fold-place t y) there)));
   has = has-second g (module_declared xs) wx rest s part.has;
-  listed = λ j o at. let it = behind (occurrences_from s x) (occurrences_from (fold past s x) more) j o at in part.listed it.0 o (ap (λ os. slice_get os it.0) (occurrences-append s x more) ∙ it.1);
+  listed =
+      λ j o at. let it = get-right (occurrences_from s x) (occurrences_from (fold past s x) more) j
+          o at in part.listed it.0 o (ap (λ os. slice_get os it.0) (occurrences-append s x more)
+          ∙ it.1);
   far = let place = fold-place t y in let before = part.far in omega (arith, place, before);
 }
 
-module _ {L : Ident → Type 0} {xs ys : List Item} (w : Turned L zero xs ys) (g : Numbering) (load helper m e : Ident) (its : IsLoaded g w load m e) {x y : List Item} (wx : Turned L zero x y) (s t : Spot) (part : IsPart w g wx s t) where
+module _ {L : Ident → Type 0} {xs ys : List Item} (w : Turned L zero xs ys) (g : Numbering)
+    (load helper m e : Ident) (its : IsLoaded g w load m e) {x y : List Item}
+    (wx : Turned L zero x y) (s t : Spot) (part : IsPart w g wx s t) where
   abbrev ds : List Declared
   ds = module_declared xs
 
@@ -194,25 +162,39 @@ module _ {L : Ident → Type 0} {xs ys : List Item} (w : Turned L zero xs ys) (g
   In a b = (s.place ≤ a) × (t.place ≤ b) × R a b
 
   pub part-follows : Follows L In g ds (occurrences_from s x) (occurrences_from t y)
-  part-follows = follows-turned In g ds wx s t (at-any {R = R} {S = In} part.path) (λ a b there. let far = goes-from wx s.place t.place a b there in (far.0, far.1, part.goes a b there)) part.has
+  part-follows =
+      follows-turned In g ds wx s t (at-any {R = R} {S = In} part.path)
+          (λ a b there. let far = goes-from wx s.place t.place a b there in
+          (far.0, far.1, part.goes a b there)) part.has
 
-  part-index : (j : ℕ) (o : Occurrence) → slice_get (occurrences_from s x) j ≡ Some o → (i : ℕ) × (slice_get (module_names xs) i ≡ Some o)
+  part-index : (j : ℕ) (o : Occurrence) → slice_get (occurrences_from s x) j ≡ Some o →
+      (i : ℕ) × (slice_get (module_names xs) i ≡ Some o)
   part-index j o at = part.listed j o at
 
   part-stands : (o u : Occurrence) → StandsBeside In o u → StandsBeside R o u
-  part-stands o u stands = record { role = stands.role; way = stands.way; scopes = widen (λ a b there. there.2) stands.scopes; own = stands.own }
+  part-stands o u stands =
+      record { role = stands.role; way = stands.way;
+          scopes = widen (λ a b there. there.2) stands.scopes; own = stands.own }
 
   far-enough : 22 ≤ t.place
   far-enough = part.far
 
   not-inside : (n : ℕ) → n < 22 → nat_le t.place n ≡ false
-  not-inside n small = let far = far-enough in false_from_ne_true (nat_le t.place n) (λ is. let le = leb-true t.place n is in omega (arith, le, small, far))
+  not-inside n small =
+      let far = far-enough in
+          false_from_ne_true (nat_le t.place n) (λ is. let le = leb-true t.place n is in
+          omega (arith, le, small, far))
 
   -- what is inside the statement in the module is inside in the item
-  near : (o u : Occurrence) → StandsBeside In o u → DenotedBeside R g ds (denoted_of BySymbol Cjs ds o) (own_denoted item u) → is_inside 0 (denoted_of BySymbol Cjs ds o) ≡ is_inside t.place (own_denoted item u)
-  near o u stands beside = by (denoted_of BySymbol Cjs ds o) (own_denoted item u) beside (denoted-in (GoesIn In) tt ds o (framed-in stands.scopes))
+  near : (o u : Occurrence) → StandsBeside In o u →
+      DenotedBeside R g ds (denoted_of BySymbol Cjs ds o) (own_denoted item u) →
+      is_inside 0 (denoted_of BySymbol Cjs ds o) ≡ is_inside t.place (own_denoted item u)
+  near o u stands beside =
+      by (denoted_of BySymbol Cjs ds o) (own_denoted item u) beside
+          (denoted-in (GoesIn In) tt ds o (framed-in stands.scopes))
     where
-      by : (a b : Denoted) → DenotedBeside R g ds a b → GoesIn In (its_scope a) → is_inside 0 a ≡ is_inside t.place b
+      by : (a b : Denoted) → DenotedBeside R g ds a b → GoesIn In (scope_in a) →
+          is_inside 0 a ≡ is_inside t.place b
       by a b globals goes = refl
       by a b (bindings top) goes = sym (not-inside 21 (omega arith))
       by a b (bindings wrapper) goes = sym (not-inside 10 (omega arith))
@@ -232,100 +214,189 @@ module _ {L : Ident → Type 0} {xs ys : List Item} (w : Turned L zero xs ys) (g
   outside-there (Bound Wrapper k) is = refl
   outside-there (Global z) is = refl
 
-  module _ (items : List (List Item)) (known : AreKnown w g load helper m e its items) (table : Table) (c : ℕ) (tabled : AreTabled table c g xs L) (inner0 : List Denoted) where
+  module _ (items : List (List Item)) (known : AreKnown w g load helper m e its items)
+      (table : Table) (c : ℕ) (tabled : AreTabled table c g xs L) (inner0 : List Denoted) where
     abbrev Tells : Occurrence → Occurrence → Meant → Type 0
     Tells o u meant = Told table L c g ds inner0 o u meant
 
     abbrev Becomes : Denoted → Denoted → Type 0
     Becomes = DenotedBeside R g ds
 
-    kept-pair : (o u : Occurrence) → Stands o u → KeepsName g ds o u → Becomes (denoted_of BySymbol Cjs ds o) (own_denoted item u)
-    kept-pair o u stands keeps = kept-there w g load helper m e its stands.1.0 o u stands.1.1 (part-stands o u stands.0) keeps
+    kept-pair : (o u : Occurrence) → Stands o u → KeepsName g ds o u →
+        Becomes (denoted_of BySymbol Cjs ds o) (own_denoted item u)
+    kept-pair o u stands keeps =
+        kept-there w g load helper m e its stands.1.0 o u stands.1.1 (part-stands o u stands.0)
+            keeps
 
     -- one by one: inside in one exactly if inside in the other
-    pair-inside : (o u : Occurrence) (meant : Meant) → Stands o u → Tells o u meant → (is_inside 0 (denoted_of BySymbol Cjs ds o) ≡ is_inside t.place (own_denoted item u)) × (is_inside 0 (denoted_of BySymbol Cjs ds o) ≡ true → Becomes (denoted_of BySymbol Cjs ds o) (own_denoted item u))
-    pair-inside o u meant stands (told_kept keeps named) = let beside = kept-pair o u stands keeps in (near o u stands.0 beside, λ is. beside)
+    pair-inside : (o u : Occurrence) (meant : Meant) → Stands o u → Tells o u meant →
+        (is_inside 0 (denoted_of BySymbol Cjs ds o) ≡ is_inside t.place (own_denoted item u)) ×
+            (is_inside 0 (denoted_of BySymbol Cjs ds o) ≡ true →
+            Becomes (denoted_of BySymbol Cjs ds o) (own_denoted item u))
+    pair-inside o u meant stands (told_kept keeps named) =
+        let beside = kept-pair o u stands keeps in (near o u stands.0 beside, λ is. beside)
     pair-inside o u meant stands (told_load calls refers out there) =
         let facts = known.called_known (ident_of u) calls in
-        (out ∙ sym (outside-there (own_denoted item u) (strange-own w g load helper m e its u.sym u.ctxt facts.1 facts.2 u refl refl refers)), λ is. absurd (false≢true (sym out ∙ is)))
+        (out ∙ sym (outside-there (own_denoted item u)
+            (strange-own w g load helper m e its u.sym u.ctxt facts.1 facts.2 u refl refl refers)),
+            λ is. absurd (false≢true (sym out ∙ is)))
 
-    all-inside : {os us : List Occurrence} → Follows L In g ds os us → (meants : List Meant) → ((j : ℕ) (o : Occurrence) → slice_get os j ≡ Some o → (i : ℕ) × (slice_get (module_names xs) i ≡ Some o)) → AreTold table L c g ds inner0 os us meants → AllZip (λ d v. (is_inside 0 d ≡ is_inside t.place v) × (is_inside 0 d ≡ true → Becomes d v)) (map (denoted_of BySymbol Cjs ds) os) (map (own_denoted item) us)
+    all-inside : {os us : List Occurrence} → Follows L In g ds os us → (meants : List Meant) →
+        ((j : ℕ) (o : Occurrence) → slice_get os j ≡ Some o →
+            (i : ℕ) × (slice_get (module_names xs) i ≡ Some o)) →
+        AreTold table L c g ds inner0 os us meants →
+        AllZip (λ d v. (is_inside 0 d ≡ is_inside t.place v) × (is_inside 0 d ≡ true →
+            Becomes d v)) (map (denoted_of BySymbol Cjs ds) os) (map (own_denoted item) us)
     all-inside done [] at told = tt
     all-inside done (meant ∷ meants) at told = absurd told
     all-inside (kept stands keeps rest) [] at told = absurd told
-    all-inside (kept {o = o} {u = u} stands keeps rest) (meant ∷ meants) at told = (pair-inside o u meant (stands, at zero o refl) told.0, all-inside rest meants (λ j q is. at (suc j) q is) told.1)
+    all-inside (kept {o = o} {u = u} stands keeps rest) (meant ∷ meants) at told =
+        (pair-inside o u meant (stands, at zero o refl) told.0,
+            all-inside rest meants (λ j q is. at (suc j) q is) told.1)
     all-inside (changed stands refers is rest) [] at told = absurd told
-    all-inside (changed {o = o} {u = u} stands refers is rest) (meant ∷ meants) at told = (pair-inside o u meant (stands, at zero o refl) told.0, all-inside rest meants (λ j q is. at (suc j) q is) told.1)
+    all-inside (changed {o = o} {u = u} stands refers is rest) (meant ∷ meants) at told =
+        (pair-inside o u meant (stands, at zero o refl) told.0,
+            all-inside rest meants (λ j q is. at (suc j) q is) told.1)
 
     -- one name
-    module _ (inner1 : List Denoted) (numbers : (d v : Denoted) → Becomes d v → position (same_denoted d) inner0 ≡ position (same_denoted v) inner1) where
-      not-top : (i : ℕ) (o u : Occurrence) → slice_get (module_names xs) i ≡ Some o → KeepsName g ds o u → is_top_name items (its_name u) ≡ false
-      not-top i o u at keeps = (λ k. is_top_name items (with (keeps.symbol k) (keeps.ctxt k))) ∙ known.own_names i o at
+    module _ (inner1 : List Denoted) (numbers : (d v : Denoted) → Becomes d v →
+        position (same_denoted d) inner0 ≡ position (same_denoted v) inner1) where
+      not-top : (i : ℕ) (o u : Occurrence) → slice_get (module_names xs) i ≡ Some o →
+          KeepsName g ds o u → is_top_name items (its_name u) ≡ false
+      not-top i o u at keeps =
+          (λ k. is_top_name items (with (keeps.symbol k) (keeps.ctxt k))) ∙ known.own_names i o at
 
-      must-be-inner : (d v : Denoted) → Becomes d v → ((z : List ℕ) → d ≡ Global z → ⊥) → is_inner v ≡ true
+      must-be-inner : (d v : Denoted) → Becomes d v → ((z : List ℕ) → d ≡ Global z → ⊥) →
+          is_inner v ≡ true
       must-be-inner d v globals bound = absurd (bound _ refl)
       must-be-inner d v (bindings near) bound = beside-inner w g load helper m e its _ near
 
-      name-kept : (o u : Occurrence) (d : Denoted) (meant : Meant) → NamedAs c inner0 d meant → Stands o u → KeepsName g ds o u → denoted_of BySymbol Cjs ds o ≡ d → Becomes d (own_denoted item u) → is_inside 0 d ≡ is_inside t.place (own_denoted item u) → IsFor o.sym d → NameNoted items table item t.place inner1 u meant
+      name-kept : (o u : Occurrence) (d : Denoted) (meant : Meant) → NamedAs c inner0 d meant →
+          Stands o u → KeepsName g ds o u → denoted_of BySymbol Cjs ds o ≡ d →
+          Becomes d (own_denoted item u) → is_inside 0 d ≡ is_inside t.place (own_denoted item u) →
+          IsFor o.sym d → NameNoted items table item t.place inner1 u meant
       name-kept o u d (Inside n) (one_inside found inside) stands keeps is beside at_hand its_for =
-          is_one_inside (must-be-inner d (own_denoted item u) beside (λ z global. false≢true (sym (ap (is_inside 0) global) ∙ inside))) (λ unwritten. not-top stands.1.0 o u stands.1.1 keeps) (sym at_hand ∙ inside) (sym (numbers d (own_denoted item u) beside) ∙ found)
+          is_one_inside (must-be-inner d (own_denoted item u) beside
+              (λ z global. false≢true (sym (ap (is_inside 0) global) ∙ inside)))
+              (λ unwritten. not-top stands.1.0 o u stands.1.1 keeps) (sym at_hand ∙ inside)
+              (sym (numbers d (own_denoted item u) beside) ∙ found)
       name-kept o u d (Known l) (of_top {x = z}) stands keeps is beside at_hand its_for =
           let symbol : z ≡ u.sym = ap (λ (k : Name). k.sym) its_for ∙ sym keeps.symbol in
           let number : g 1 z ≡ u.ctxt = sym (keeps.ctxt ∙ ap (context_of g) is) in
-          is_known (sym at_hand) (labelled_inner (must-be-inner (Bound Top (plain z)) (own_denoted item u) beside (λ y global. bound-global global)) (λ unwritten. not-top stands.1.0 o u stands.1.1 keeps)
-          (subst (λ (i : Ident). Contains table (i, Of (IsDeclared c z))) (λ k. (symbol k, number k)) (tabled.tops stands.1.0 o z stands.1.1 is)))
+          is_known (sym at_hand)
+              (labelled_inner (must-be-inner (Bound Top (plain z)) (own_denoted item u) beside
+              (λ y global. bound-global global))
+              (λ unwritten. not-top stands.1.0 o u stands.1.1 keeps)
+          (subst (λ (i : Ident). Contains table (i, Of (IsDeclared c z)))
+              (λ k. (symbol k, number k)) (tabled.tops stands.1.0 o z stands.1.1 is)))
       name-kept o u d (Known l) (of_wrapper {x = z}) stands keeps is beside at_hand its_for =
           let symbol : z ≡ u.sym = ap (λ (k : Name). k.sym) its_for ∙ sym keeps.symbol in
           let number : g 0 z ≡ u.ctxt = sym (keeps.ctxt ∙ ap (context_of g) is) in
-          is_known (sym at_hand) (labelled_inner (must-be-inner (Bound Wrapper (plain z)) (own_denoted item u) beside (λ y global. bound-global global)) (λ unwritten. not-top stands.1.0 o u stands.1.1 keeps)
-          (subst (λ (i : Ident). Contains table (i, Parameter c z)) (λ k. (symbol k, number k)) (tabled.wrapped stands.1.0 o z stands.1.1 is)))
+          is_known (sym at_hand)
+              (labelled_inner (must-be-inner (Bound Wrapper (plain z)) (own_denoted item u) beside
+              (λ y global. bound-global global))
+              (λ unwritten. not-top stands.1.0 o u stands.1.1 keeps)
+          (subst (λ (i : Ident). Contains table (i, Parameter c z)) (λ k. (symbol k, number k))
+              (tabled.wrapped stands.1.0 o z stands.1.1 is)))
       name-kept o u d (Unbound z) unbound stands keeps is beside at_hand its_for =
           let symbol : u.sym ≡ z = keeps.symbol ∙ sym its_for in
           let one : u.ctxt ≡ 1 = keeps.ctxt ∙ ap (context_of g) is in
           subst (λ y. NameNoted items table item t.place inner1 u (Unbound y)) symbol
-          (is_free one (not-top stands.1.0 o u stands.1.1 keeps) (ap (λ n. is_inner_name (own_declared item) (with u.sym n)) one ∙ strange-outside w g load helper m e its u.sym 1 (known.global_strange u.sym)))
+          (is_free one (not-top stands.1.0 o u stands.1.1 keeps)
+              (ap (λ n. is_inner_name (own_declared item) (with u.sym n)) one
+              ∙ strange-outside w g load helper m e its u.sym 1 (known.global_strange u.sym)))
 
-      name-noted : (o u : Occurrence) (meant : Meant) → Stands o u → Tells o u meant → NameNoted items table item t.place inner1 u meant
+      name-noted : (o u : Occurrence) (meant : Meant) → Stands o u → Tells o u meant →
+          NameNoted items table item t.place inner1 u meant
       name-noted o u meant stands (told_kept keeps named) =
           let beside = kept-pair o u stands keeps in
-          name-kept o u (denoted_of BySymbol Cjs ds o) meant named stands keeps refl beside (near o u stands.0 beside) (denoted-for Cjs ds o)
+          name-kept o u (denoted_of BySymbol Cjs ds o) meant named stands keeps refl beside
+              (near o u stands.0 beside) (denoted-for Cjs ds o)
       name-noted o u meant stands (told_load calls refers out there) =
           let facts = known.called_known (ident_of u) calls in
-          is_known (outside-there (own_denoted item u) (strange-own w g load helper m e its u.sym u.ctxt facts.1 facts.2 u refl refl refers)) (labelled_top facts.0 (strange-outside w g load helper m e its u.sym u.ctxt facts.1) there)
+          is_known (outside-there (own_denoted item u)
+              (strange-own w g load helper m e its u.sym u.ctxt facts.1 facts.2 u refl refl
+              refers)) (labelled_top facts.0
+              (strange-outside w g load helper m e its u.sym u.ctxt facts.1) there)
 
-      all-noted : {os us : List Occurrence} → Follows L In g ds os us → (meants : List Meant) → ((j : ℕ) (o : Occurrence) → slice_get os j ≡ Some o → (i : ℕ) × (slice_get (module_names xs) i ≡ Some o)) → AreTold table L c g ds inner0 os us meants → AllZip (NameNoted items table item t.place inner1) us meants
+      all-noted : {os us : List Occurrence} → Follows L In g ds os us → (meants : List Meant) →
+          ((j : ℕ) (o : Occurrence) → slice_get os j ≡ Some o →
+              (i : ℕ) × (slice_get (module_names xs) i ≡ Some o)) →
+          AreTold table L c g ds inner0 os us meants →
+          AllZip (NameNoted items table item t.place inner1) us meants
       all-noted done [] at told = tt
       all-noted done (meant ∷ meants) at told = absurd told
       all-noted (kept stands keeps rest) [] at told = absurd told
-      all-noted (kept {o = o} {u = u} stands keeps rest) (meant ∷ meants) at told = (name-noted o u meant (stands, at zero o refl) told.0, all-noted rest meants (λ j q is. at (suc j) q is) told.1)
+      all-noted (kept {o = o} {u = u} stands keeps rest) (meant ∷ meants) at told =
+          (name-noted o u meant (stands, at zero o refl) told.0,
+              all-noted rest meants (λ j q is. at (suc j) q is) told.1)
       all-noted (changed stands refers is rest) [] at told = absurd told
-      all-noted (changed {o = o} {u = u} stands refers is rest) (meant ∷ meants) at told = (name-noted o u meant (stands, at zero o refl) told.0, all-noted rest meants (λ j q is. at (suc j) q is) told.1)
+      all-noted (changed {o = o} {u = u} stands refers is rest) (meant ∷ meants) at told =
+          (name-noted o u meant (stands, at zero o refl) told.0,
+              all-noted rest meants (λ j q is. at (suc j) q is) told.1)
 
-  -- THE STATEMENT: noted in the module, it is noted in the item of the load function, by itself (`StatementNoted` of the probe `compose`)
-  pub statement-noted : (items : List (List Item)) → AreKnown w g load helper m e its items → (table : Table) (c : ℕ) → AreTabled table c g xs L → (meants : List Meant) → AreTold table L c g ds (each_denoted_once (filter (is_inside 0) (map (denoted_of BySymbol Cjs ds) (occurrences_from s x)))) (occurrences_from s x) (occurrences_from t y) meants → AllZip (NameNoted items table item t.place (each_denoted_once (filter (is_inside t.place) (map (own_denoted item) (occurrences_from t y))))) (occurrences_from t y) meants
+  -- THE STATEMENT: noted in the module, it is noted in the item of the load function, by itself
+  pub statement-noted : (items : List (List Item)) → AreKnown w g load helper m e its items →
+      (table : Table) (c : ℕ) → AreTabled table c g xs L → (meants : List Meant) →
+      AreTold table L c g ds
+          (each_denoted_once
+          (filter (is_inside 0) (map (denoted_of BySymbol Cjs ds) (occurrences_from s x))))
+          (occurrences_from s x) (occurrences_from t y) meants →
+      AllZip (NameNoted items table item t.place
+          (each_denoted_once
+          (filter (is_inside t.place) (map (own_denoted item) (occurrences_from t y)))))
+          (occurrences_from t y) meants
   statement-noted items known table c tabled meants told =
-      let inner0 : List Denoted = each_denoted_once (filter (is_inside 0) (map (denoted_of BySymbol Cjs ds) (occurrences_from s x))) in
-      let inner1 : List Denoted = each_denoted_once (filter (is_inside t.place) (map (own_denoted item) (occurrences_from t y))) in
+      let inner0 : List Denoted =
+          each_denoted_once (filter (is_inside 0)
+          (map (denoted_of BySymbol Cjs ds) (occurrences_from s x))) in
+      let inner1 : List Denoted =
+          each_denoted_once (filter (is_inside t.place)
+          (map (own_denoted item) (occurrences_from t y))) in
       all-noted items known table c tabled inner0 inner1
-      (λ d v beside. numbers_agree (DenotedBeside R g ds) (λ a b p q. denoted-one R (turned-frame w) g ds a b p q) (filter (is_inside 0) (map (denoted_of BySymbol Cjs ds) (occurrences_from s x))) (filter (is_inside t.place) (map (own_denoted item) (occurrences_from t y)))
-      (inside_zip (DenotedBeside R g ds) (is_inside 0) (is_inside t.place) (map (denoted_of BySymbol Cjs ds) (occurrences_from s x)) (map (own_denoted item) (occurrences_from t y)) (all-inside items known table c tabled inner0 part-follows meants part-index told)) d v beside)
+      (λ d v beside. numbers_agree (DenotedBeside R g ds)
+          (λ a b p q. denoted-one R (turned-frame w) g ds a b p q)
+          (filter (is_inside 0) (map (denoted_of BySymbol Cjs ds) (occurrences_from s x)))
+          (filter (is_inside t.place) (map (own_denoted item) (occurrences_from t y)))
+      (inside_zip (DenotedBeside R g ds) (is_inside 0) (is_inside t.place)
+          (map (denoted_of BySymbol Cjs ds) (occurrences_from s x))
+          (map (own_denoted item) (occurrences_from t y))
+          (all-inside items known table c tabled inner0 part-follows meants part-index told)) d v
+          beside)
       part-follows meants part-index told
 
-  -- the bindings inside are called as in the module (for `CalledAlike` of bundle_terms/specs/Symbols.antt)
-  symbols-same : (olds bs : List Denoted) → AllZip (DenotedBeside R g ds) olds bs → map denoted_symbol bs ≡ map denoted_symbol olds
+  -- the bindings inside are called as in the module
+  symbols-same : (olds bs : List Denoted) → AllZip (DenotedBeside R g ds) olds bs →
+      map denoted_symbol bs ≡ map denoted_symbol olds
   symbols-same [] [] all = refl
   symbols-same [] (b ∷ bs) all = absurd all
   symbols-same (a ∷ olds) [] all = absurd all
-  symbols-same (a ∷ olds) (b ∷ bs) all = ap₂ (λ (p : List ℕ) (ps : List (List ℕ)). p ∷ ps) (one a b all.0) (symbols-same olds bs all.1)
+  symbols-same (a ∷ olds) (b ∷ bs) all =
+      ap₂ (λ (p : List ℕ) (ps : List (List ℕ)). p ∷ ps) (one a b all.0)
+          (symbols-same olds bs all.1)
     where
       one : (a b : Denoted) → DenotedBeside R g ds a b → denoted_symbol b ≡ denoted_symbol a
       one a b globals = refl
       one a b (bindings near) = refl
 
-  pub inner-symbols : (items : List (List Item)) → AreKnown w g load helper m e its items → (table : Table) (c : ℕ) → AreTabled table c g xs L → (meants : List Meant) → AreTold table L c g ds (each_denoted_once (filter (is_inside 0) (map (denoted_of BySymbol Cjs ds) (occurrences_from s x)))) (occurrences_from s x) (occurrences_from t y) meants → map denoted_symbol (each_denoted_once (filter (is_inside t.place) (map (own_denoted item) (occurrences_from t y)))) ≡ map denoted_symbol (each_denoted_once (filter (is_inside 0) (map (denoted_of BySymbol Cjs ds) (occurrences_from s x))))
+  pub inner-symbols : (items : List (List Item)) → AreKnown w g load helper m e its items →
+      (table : Table) (c : ℕ) → AreTabled table c g xs L → (meants : List Meant) →
+      AreTold table L c g ds
+          (each_denoted_once
+          (filter (is_inside 0) (map (denoted_of BySymbol Cjs ds) (occurrences_from s x))))
+          (occurrences_from s x) (occurrences_from t y) meants →
+      map denoted_symbol
+          (each_denoted_once
+          (filter (is_inside t.place) (map (own_denoted item) (occurrences_from t y)))) ≡ map
+          denoted_symbol (each_denoted_once
+          (filter (is_inside 0) (map (denoted_of BySymbol Cjs ds) (occurrences_from s x))))
   inner-symbols items known table c tabled meants told =
       let here : List Denoted = map (denoted_of BySymbol Cjs ds) (occurrences_from s x) in
       let there : List Denoted = map (own_denoted item) (occurrences_from t y) in
-      symbols-same (each_denoted_once (filter (is_inside 0) here)) (each_denoted_once (filter (is_inside t.place) there))
-      (both_once (DenotedBeside R g ds) (λ a b p q. denoted-one R (turned-frame w) g ds a b p q) (filter (is_inside 0) here) (filter (is_inside t.place) there)
-      (inside_zip (DenotedBeside R g ds) (is_inside 0) (is_inside t.place) here there (all-inside items known table c tabled (each_denoted_once (filter (is_inside 0) here)) part-follows meants part-index told)))
+      symbols-same (each_denoted_once (filter (is_inside 0) here))
+          (each_denoted_once (filter (is_inside t.place) there))
+      (both_once (DenotedBeside R g ds) (λ a b p q. denoted-one R (turned-frame w) g ds a b p q)
+          (filter (is_inside 0) here) (filter (is_inside t.place) there)
+      (inside_zip (DenotedBeside R g ds) (is_inside 0) (is_inside t.place) here there
+          (all-inside items known table c tabled (each_denoted_once (filter (is_inside 0) here))
+          part-follows meants part-index told)))

@@ -20,11 +20,14 @@ pub record IsTopBinding (o : Occurrence) : Type 0 where
 
 -- what binds and has the symbol and context of what declares at the top declares there too
 pub record TopsApart (tree : List Item) : Type 0 where
-  pub apart : (n m : ℕ) (o p : Occurrence) → slice_get (occurrences tree) n ≡ Some o → slice_get (occurrences tree) m ≡ Some p → is_binding o.role ≡ true → SameIdent o p → IsTopBinding p → IsTopBinding o
+  pub apart : (n m : ℕ) (o p : Occurrence) → slice_get (occurrences tree) n ≡ Some o →
+      slice_get (occurrences tree) m ≡ Some p → is_binding o.role ≡ true → SameIdent o p →
+      IsTopBinding p → IsTopBinding o
 
 -- nothing that binds has the context of what nothing binds
 pub record BindsOwn (tree : List Item) : Type 0 where
-  pub own : (n : ℕ) (o : Occurrence) → slice_get (occurrences tree) n ≡ Some o → is_binding o.role ≡ true → o.ctxt ≢ 1
+  pub own : (n : ℕ) (o : Occurrence) → slice_get (occurrences tree) n ≡ Some o →
+      is_binding o.role ≡ true → o.ctxt ≢ 1
 
 -- by symbol and context, names of the top and globals are told apart in this tree
 pub record IsTold (tree : List Item) : Type 0 where

@@ -4,22 +4,29 @@ use Rattle.bundle_tree_piece.specs.Item as h
 use Rattle.bundle_tree_piece.specs.Item.{Head}
 use Rattle.bundle_rules.specs.Places.{Around}
 use Rattle.bundle_rules.specs.Scopes.{Scope, Wrapper, Top, Inner}
-use Rattle.bundle_merge_joined.specs.grouped.Paths.{node_in}
+use Rattle.bundle_merge_meaning.proofs.noted.Spots.{around}
 
--- one is the path in an item that stands alone, the other that of the same item in a module; or the two are the same but for what is spelled out
+-- one is the path in an item that stands alone, the other that of the same item in a module; or
+-- the two are the same but for what is spelled out
 pub data FormAlike : List Around → List Around → Type 0 where
   outside : FormAlike [] []
-  in_module : (b field : ℕ) → FormAlike [] (node_in h.Module b field ∷ [])
-  same : (head : Head) (b a field : ℕ) {p q : List Around} → FormAlike p q → FormAlike (node_in head b field ∷ p) (node_in head a field ∷ q)
-  pair : (b a field : ℕ) {p q : List Around} → FormAlike (node_in h.ObjectLit b field ∷ p) q → FormAlike (node_in h.ObjectLit b field ∷ p) (node_in h.KeyValueProp a 1 ∷ q)
-  key : (b a : ℕ) {p q : List Around} → FormAlike p q → FormAlike (node_in h.AssignPatProp b 0 ∷ p) (node_in h.KeyValuePatProp a 1 ∷ q)
-  defaulted : (b a outer field : ℕ) {p q : List Around} → FormAlike p q → FormAlike (node_in h.AssignPatProp b field ∷ p) (node_in h.AssignPat a field ∷ node_in h.KeyValuePatProp outer 1 ∷ q)
+  in_module : (b field : ℕ) → FormAlike [] (around h.Module b field ∷ [])
+  same : (head : Head) (b a field : ℕ) {p q : List Around} → FormAlike p q →
+      FormAlike (around head b field ∷ p) (around head a field ∷ q)
+  pair : (b a field : ℕ) {p q : List Around} → FormAlike (around h.ObjectLit b field ∷ p) q →
+      FormAlike (around h.ObjectLit b field ∷ p) (around h.KeyValueProp a 1 ∷ q)
+  key : (b a : ℕ) {p q : List Around} → FormAlike p q →
+      FormAlike (around h.AssignPatProp b 0 ∷ p) (around h.KeyValuePatProp a 1 ∷ q)
+  defaulted : (b a outer field : ℕ) {p q : List Around} → FormAlike p q →
+      FormAlike (around h.AssignPatProp b field ∷ p)
+          (around h.AssignPat a field ∷ around h.KeyValuePatProp outer 1 ∷ q)
 
 -- the path in an item that stands alone, and that of the same item in a module
 pub data Under : List Around → List Around → Type 0 where
   out : Under [] []
-  below : (b field : ℕ) → Under [] (node_in h.Module b field ∷ [])
-  deeper : (head : Head) (b a field : ℕ) {p q : List Around} → Under p q → Under (node_in head b field ∷ p) (node_in head a field ∷ q)
+  below : (b field : ℕ) → Under [] (around h.Module b field ∷ [])
+  deeper : (head : Head) (b a field : ℕ) {p q : List Around} → Under p q →
+      Under (around head b field ∷ p) (around head a field ∷ q)
 
 -- whether the first of these scopes is the top of a module, or there is none
 abbrev pub is_top_first : List Scope → Bool

@@ -1,4 +1,5 @@
--- The nodes around an identifier in an item before and after identifiers change and shorthands are spelled out.
+-- The nodes around an identifier in an item before and after identifiers change and shorthands are
+-- spelled out.
 use Rattle.std.specs.Prelude.{◌≡◌, ℕ, ◌+◌, ◌&&◌, Bool, true, false, List, [], ◌∷◌, None, codes, drop}
 use Rattle.bundle_tree_piece.specs.declared.piece.Role.TheVariants as r
 use Rattle.bundle_tree_piece.specs.Item as h
@@ -8,6 +9,7 @@ use Rattle.bundle_rules.specs.Nodes.{in_field, node_at}
 use Rattle.bundle_rules.specs.Entries.{is_call_head}
 use Rattle.bundle_rules.specs.Reads.{property_of}
 use Rattle.bundle_rules.specs.Order.{is_declarator, is_nothing, is_text}
+use Rattle.bundle_merge_meaning.proofs.noted.Spots.{around}
 
 -- whether an element is an identifier that binds or refers
 abbrev pub is_named : Item → Bool
@@ -17,37 +19,55 @@ is_named (h.Open field head) = false
 is_named (h.Hole field) = false
 is_named h.Close = false
 
--- a node as it is around a place in this field of it
-abbrev pub node_in : Head → ℕ → ℕ → Around
-node_in head begins field = record { head = head; begins = begins; field = field }
-
 -- whether a node that begins at a place calls the `assign` of what passes the test at its place
 abbrev pub calls_assign : List Item → (ℕ → Bool) → ℕ → Bool
-calls_assign item test begins = is_text (codes "assign") (property_of (node_at item (begins + 1))) && test (begins + 2)
+calls_assign item test begins =
+    is_text (codes "assign") (property_of (node_at item (begins + 1))) && test (begins + 2)
 
 -- the test holds of identifiers alone
 pub record OfNames (item : List Item) (test : ℕ → Bool) : Type 0 where
-  pub none : (place : ℕ) (x : Item) (rest : List Item) → drop place item ≡ x ∷ rest → is_named x ≡ false → test place ≡ false
+  pub none : (place : ℕ) (x : Item) (rest : List Item) → drop place item ≡ x ∷ rest →
+      is_named x ≡ false → test place ≡ false
 
 -- what is asked of a node with this head that begins at these places of two items is the same
-pub record NodeAlike (before after : List Item) (test_before test_after : ℕ → Bool) (head : Head) (b a : ℕ) : Type 0 where
+pub record NodeAlike (before after : List Item) (test_before test_after : ℕ → Bool) (head : Head)
+    (b a : ℕ) : Type 0 where
   pub word : property_of (node_at before b) ≡ property_of (node_at after a)
-  pub empty : is_declarator head ≡ true → is_nothing (in_field 1 (node_at before b)) ≡ is_nothing (in_field 1 (node_at after a))
-  pub assign : is_call_head head ≡ true → calls_assign before test_before b ≡ calls_assign after test_after a
+  pub empty : is_declarator head ≡ true →
+      is_nothing (in_field 1 (node_at before b)) ≡ is_nothing (in_field 1 (node_at after a))
+  pub assign : is_call_head head ≡ true →
+      calls_assign before test_before b ≡ calls_assign after test_after a
 
--- the nodes around a place in the one item and around the place that corresponds to it in the other
-pub data PathAlike (before after : List Item) (test_before test_after : ℕ → Bool) : List Around → List Around → Type 0 where
+-- the nodes around a place in the one item and around the place that corresponds to it in the
+-- other
+pub data PathAlike (before after : List Item) (test_before test_after : ℕ → Bool) : List Around →
+    List Around → Type 0 where
   outside : PathAlike before after test_before test_after [] []
   -- the same node
-  same : (head : Head) (b a field : ℕ) {p q : List Around} → NodeAlike before after test_before test_after head b a → PathAlike before after test_before test_after p q → PathAlike before after test_before test_after (node_in head b field ∷ p) (node_in head a field ∷ q)
+  same : (head : Head) (b a field : ℕ) {p q : List Around} →
+      NodeAlike before after test_before test_after head b a →
+      PathAlike before after test_before test_after p q →
+      PathAlike before after test_before test_after (around head b field ∷ p)
+          (around head a field ∷ q)
   -- the pair that a shorthand of an object literal is spelled out with
-  pair : (b a field : ℕ) {p q : List Around} → property_of (node_at before b) ≡ None → PathAlike before after test_before test_after (node_in h.ObjectLit b field ∷ p) q → PathAlike before after test_before test_after (node_in h.ObjectLit b field ∷ p) (node_in h.KeyValueProp a 1 ∷ q)
-  -- the pair that a shorthand property of a pattern is spelled out with, around the name: without a default value
-  key : (b a : ℕ) {p q : List Around} → property_of (node_at before b) ≡ None → PathAlike before after test_before test_after p q → PathAlike before after test_before test_after (node_in h.AssignPatProp b 0 ∷ p) (node_in h.KeyValuePatProp a 1 ∷ q)
+  pair : (b a field : ℕ) {p q : List Around} → property_of (node_at before b) ≡ None →
+      PathAlike before after test_before test_after (around h.ObjectLit b field ∷ p) q →
+      PathAlike before after test_before test_after (around h.ObjectLit b field ∷ p)
+          (around h.KeyValueProp a 1 ∷ q)
+  -- the pair that a shorthand property of a pattern is spelled out with, around the name: without
+  -- a default value
+  key : (b a : ℕ) {p q : List Around} → property_of (node_at before b) ≡ None →
+      PathAlike before after test_before test_after p q →
+      PathAlike before after test_before test_after (around h.AssignPatProp b 0 ∷ p)
+          (around h.KeyValuePatProp a 1 ∷ q)
   -- with a default value, around the name and around the value
-  defaulted : (b a outer field : ℕ) {p q : List Around} → property_of (node_at before b) ≡ None → property_of (node_at after a) ≡ None → PathAlike before after test_before test_after p q → PathAlike before after test_before test_after (node_in h.AssignPatProp b field ∷ p) (node_in h.AssignPat a field ∷ node_in h.KeyValuePatProp outer 1 ∷ q)
+  defaulted : (b a outer field : ℕ) {p q : List Around} → property_of (node_at before b) ≡ None →
+      property_of (node_at after a) ≡ None → PathAlike before after test_before test_after p q →
+      PathAlike before after test_before test_after (around h.AssignPatProp b field ∷ p)
+          (around h.AssignPat a field ∷ around h.KeyValuePatProp outer 1 ∷ q)
 
 -- two identifiers correspond: they both bind or both refer, and the nodes around them are alike
-pub record NameAlike (before after : List Item) (test_before test_after : ℕ → Bool) (o its : Occurrence) : Type 0 where
+pub record NameAlike (before after : List Item) (test_before test_after : ℕ → Bool)
+    (o its : Occurrence) : Type 0 where
   pub role : o.role ≡ its.role
   pub path : PathAlike before after test_before test_after o.path its.path

@@ -10,15 +10,22 @@ use Rattle.bundle_rules.specs.Order.{is_of_nothing, is_of_scope}
 
 -- each identifier that binds stands where names are declared
 pub record HasWays (tree : List Item) : Type 0 where
-  pub way : (n : ℕ) (o : Occurrence) → slice_get (occurrences tree) n ≡ Some o → is_binding o.role ≡ true → (w : Way) × (way_of o.path ≡ Some w)
+  pub way : (n : ℕ) (o : Occurrence) → slice_get (occurrences tree) n ≡ Some o →
+      is_binding o.role ≡ true → (w : Way) × (way_of o.path ≡ Some w)
 
 -- what denotes the global `Object` has the context of what nothing binds, where contexts are read
 pub record HasObjects (reading : Reading) (tree : List Item) : Type 0 where
-  pub unbound : (n : ℕ) (o : Occurrence) → slice_get (occurrences tree) n ≡ Some o → denoted_of reading Es (declared reading Es tree) o ≡ Global (codes "Object") → is_of_nothing reading (Some o) ≡ true
+  pub unbound : (n : ℕ) (o : Occurrence) → slice_get (occurrences tree) n ≡ Some o →
+      denoted_of reading Es (declared reading Es tree) o ≡ Global (codes "Object") →
+      is_of_nothing reading (Some o) ≡ true
 
 -- what binds denotes a binding of the top in both trees or in neither
-pub record TopsKept (reading : Reading) (tree : List Item) (its_reading : Reading) (its_tree : List Item) : Type 0 where
-  pub top : (n : ℕ) (o p : Occurrence) → slice_get (occurrences tree) n ≡ Some o → slice_get (occurrences its_tree) n ≡ Some p → is_binding o.role ≡ true → is_of_scope Top (denoted_of reading Es (declared reading Es tree) o) ≡ is_of_scope Top (denoted_of its_reading Es (declared its_reading Es its_tree) p)
+pub record TopsKept (reading : Reading) (tree : List Item) (its_reading : Reading)
+    (its_tree : List Item) : Type 0 where
+  pub top : (n : ℕ) (o p : Occurrence) → slice_get (occurrences tree) n ≡ Some o →
+      slice_get (occurrences its_tree) n ≡ Some p → is_binding o.role ≡ true →
+      is_of_scope Top (denoted_of reading Es (declared reading Es tree) o) ≡ is_of_scope Top
+          (denoted_of its_reading Es (declared its_reading Es its_tree) p)
 
 -- item k of the one tree and item k of the other
 pub record AtOne (tree its_tree : List Item) (item its : TopItem) : Type 0 where

@@ -1,16 +1,11 @@
--- Two trees whose names are declared alike, though their scopes begin elsewhere, as in a statement that was rewritten.
+-- Two trees whose names are declared alike, though their scopes begin elsewhere, as in a statement
+-- that was rewritten.
 use Rattle.std.specs.Prelude.{◌≡◌, ℕ, false, List, [], ◌∷◌, Option, Some, None}
+use Rattle.std.specs.List.{AllZip}
 use Rattle.bundle_rules.specs.Places.{Occurrence, is_binding}
 use Rattle.bundle_rules.specs.Scopes.{ModuleKind, Scope, ScopeKind, Wrapper, Top, Inner, scopes_around}
 use Rattle.bundle_rules.specs.Declarations.{Name, Declared, way_of}
 use Rattle.bundle_rules.specs.Denotes.{Denoted, Bound, Global}
-
--- pair by pair
-abbrev pub Zipped : {A B : Type 0} → (A → B → Type 0) → List A → List B → Type 0
-Zipped R [] [] = Unit {0}
-Zipped R [] (y ∷ ys) = ⊥
-Zipped R (x ∷ xs) [] = ⊥
-Zipped R (x ∷ xs) (y ∷ ys) = R x y × Zipped R xs ys
 
 -- positions of scopes correspond one to one
 pub record IsOneToOne (R : ℕ → ℕ → Type 0) : Type 0 where
@@ -34,18 +29,19 @@ BothAlike R (Some s) (Some t) = ScopesAlike R s t
 pub record DeclaredAlike (R : ℕ → ℕ → Type 0) (d e : Declared) : Type 0 where
   pub name : e.name ≡ d.name
   pub by : e.by ≡ d.by
-  pub scopes : Zipped (ScopesAlike R) d.scopes e.scopes
+  pub scopes : AllZip (ScopesAlike R) d.scopes e.scopes
 
 -- what is denoted corresponds
 pub data DenotedAlike (R : ℕ → ℕ → Type 0) : Denoted → Denoted → Type 0 where
-  bindings : {s t : Scope} {name : Name} → ScopesAlike R s t → DenotedAlike R (Bound s name) (Bound t name)
+  bindings : {s t : Scope} {name : Name} → ScopesAlike R s t →
+      DenotedAlike R (Bound s name) (Bound t name)
   globals : {x : List ℕ} → DenotedAlike R (Global x) (Global x)
 
 -- an occurrence stands where another does; its name may be another
 pub record StandsAlike (R : ℕ → ℕ → Type 0) (kind : ModuleKind) (o u : Occurrence) : Type 0 where
   pub role : u.role ≡ o.role
   pub way : way_of u.path ≡ way_of o.path
-  pub scopes : Zipped (ScopesAlike R) (scopes_around kind o.path) (scopes_around kind u.path)
+  pub scopes : AllZip (ScopesAlike R) (scopes_around kind o.path) (scopes_around kind u.path)
 
 -- and has its name
 pub record SeenAlike (R : ℕ → ℕ → Type 0) (kind : ModuleKind) (o u : Occurrence) : Type 0 where
@@ -53,10 +49,16 @@ pub record SeenAlike (R : ℕ → ℕ → Type 0) (kind : ModuleKind) (o u : Occ
   pub symbol : u.sym ≡ o.sym
   pub ctxt : u.ctxt ≡ o.ctxt
 
--- the occurrences of a tree that was rewritten: some keep their names, some references have other ones, some were added or left out
-pub data Follows (R : ℕ → ℕ → Type 0) (kind : ModuleKind) : List Occurrence → List Occurrence → Type 0 where
+-- the occurrences of a tree that was rewritten: some keep their names, some references have other
+-- ones, some were added or left out
+pub data Follows (R : ℕ → ℕ → Type 0) (kind : ModuleKind) : List Occurrence → List Occurrence →
+    Type 0 where
   done : Follows R kind [] []
-  kept : {o u : Occurrence} {os us : List Occurrence} → SeenAlike R kind o u → Follows R kind os us → Follows R kind (o ∷ os) (u ∷ us)
-  changed : {o u : Occurrence} {os us : List Occurrence} → StandsAlike R kind o u → is_binding o.role ≡ false → Follows R kind os us → Follows R kind (o ∷ os) (u ∷ us)
-  added : {u : Occurrence} {os us : List Occurrence} → is_binding u.role ≡ false → Follows R kind os us → Follows R kind os (u ∷ us)
-  dropped : {o : Occurrence} {os us : List Occurrence} → is_binding o.role ≡ false → Follows R kind os us → Follows R kind (o ∷ os) us
+  kept : {o u : Occurrence} {os us : List Occurrence} → SeenAlike R kind o u →
+      Follows R kind os us → Follows R kind (o ∷ os) (u ∷ us)
+  changed : {o u : Occurrence} {os us : List Occurrence} → StandsAlike R kind o u →
+      is_binding o.role ≡ false → Follows R kind os us → Follows R kind (o ∷ os) (u ∷ us)
+  added : {u : Occurrence} {os us : List Occurrence} → is_binding u.role ≡ false →
+      Follows R kind os us → Follows R kind os (u ∷ us)
+  dropped : {o : Occurrence} {os us : List Occurrence} → is_binding o.role ≡ false →
+      Follows R kind os us → Follows R kind (o ∷ os) us

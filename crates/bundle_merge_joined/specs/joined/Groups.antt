@@ -1,4 +1,5 @@
--- Groups of items that are to be put in order and differ only in how bindings are numbered, and in names that none of the items declares.
+-- Groups of items that are to be put in order and differ only in how bindings are numbered, and in
+-- names that none of the items declares.
 use Rattle.std.specs.Prelude.{◌≡◌, ℕ, Option, Some, None, length}
 use Rattle.bundle_rules.specs.Order.{Mention, Group, mention_at, Declares}
 
@@ -27,7 +28,9 @@ pub record MentionsAlike (R : ℕ → ℕ → Type 0) (g other : Group) (x y : M
 pub record GroupsAlike (R : ℕ → ℕ → Type 0) (g other : Group) : Type 0 where
   pub owners : g.owners ≡ other.owners
   pub size : length g.items ≡ length other.items
-  pub there : (s i : ℕ) (x : Mention) → mention_at g s i ≡ Some x → (y : Mention) × (mention_at other s i ≡ Some y) × MentionsAlike R g other x y
-  pub back : (s i : ℕ) (y : Mention) → mention_at other s i ≡ Some y → (x : Mention) × (mention_at g s i ≡ Some x) × MentionsAlike R g other x y
+  pub there : (s i : ℕ) (x : Mention) → mention_at g s i ≡ Some x →
+      (y : Mention) × (mention_at other s i ≡ Some y) × MentionsAlike R g other x y
+  pub back : (s i : ℕ) (y : Mention) → mention_at other s i ≡ Some y →
+      (x : Mention) × (mention_at g s i ≡ Some x) × MentionsAlike R g other x y
   pub one : (b c d : ℕ) → R b c → R b d → c ≡ d
   pub other_one : (b c d : ℕ) → R c b → R d b → c ≡ d

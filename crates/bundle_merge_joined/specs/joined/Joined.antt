@@ -1,4 +1,5 @@
--- A module that is put together of items, each of which is whole nodes: where its names stand, and what they denote.
+-- A module that is put together of items, each of which is whole nodes: where its names stand, and
+-- what they denote.
 use Rattle.std.specs.Prelude.{◌≡◌, ℕ, zero, suc, ◌+◌, Bool as Truth, false, cond, not, ◌&&◌, List, [], ◌∷◌, ◌++◌, Option, Some, None, is_some, map, take, length}
 use Rattle.std.specs.List.{list_any}
 use Rattle.bundle_tree_piece.specs.Item as h
@@ -14,7 +15,8 @@ use Rattle.bundle_rules.specs.Sorting.{flat}
 abbrev pub joined : List (List Item) → List Item
 joined items = tree_of_items (flat items)
 
--- how many nodes are open behind these elements, of which so many were before; nothing where more end than were open
+-- how many nodes are open behind these elements, of which so many were before; nothing where more
+-- end than were open
 abbrev pub open_behind : ℕ → List Item → Option ℕ
 open_behind depth [] = Some depth
 open_behind depth (h.Open field head ∷ rest) = open_behind (suc depth) rest
@@ -45,7 +47,9 @@ abbrev pub moved_path : ℕ → List Around → List Around
 moved_path k path = map (moved_node k) path
 
 abbrev pub moved_occurrence : ℕ → Occurrence → Occurrence
-moved_occurrence k o = record { place = o.place + k; sym = o.sym; ctxt = o.ctxt; role = o.role; path = moved_path k o.path }
+moved_occurrence k o =
+    record { place = o.place + k; sym = o.sym; ctxt = o.ctxt; role = o.role;
+        path = moved_path k o.path }
 
 -- a scope whose node begins elsewhere
 abbrev pub relocated : (ℕ → ℕ) → Scope → Scope
@@ -57,7 +61,8 @@ abbrev pub moved_scope : ℕ → Scope → Scope
 moved_scope k scope = relocated (moved k) scope
 
 abbrev pub moved_declared : ℕ → Declared → Declared
-moved_declared k d = record { place = d.place + k; name = d.name; by = d.by; scopes = map (moved_scope k) d.scopes }
+moved_declared k d =
+    record { place = d.place + k; name = d.name; by = d.by; scopes = map (moved_scope k) d.scopes }
 
 abbrev pub moved_denoted : ℕ → Denoted → Denoted
 moved_denoted k (Bound scope name) = Bound (moved_scope k scope) name
@@ -68,9 +73,11 @@ abbrev pub offset : List (List Item) → ℕ → ℕ
 offset items m = length (flat (take m items))
 
 -- what is told of each item, so many places further on as elements stand before it
-abbrev pub each_moved : {A : Type 0} → (ℕ → A → A) → (List Item → List A) → ℕ → List (List Item) → List A
+abbrev pub each_moved : {A : Type 0} → (ℕ → A → A) → (List Item → List A) → ℕ → List (List Item) →
+    List A
 each_moved move tell k [] = []
-each_moved move tell k (item ∷ more) = map (move k) (tell item) ++ each_moved move tell (k + length item) more
+each_moved move tell k (item ∷ more) =
+    map (move k) (tell item) ++ each_moved move tell (k + length item) more
 
 -- what an item declares, by itself
 abbrev pub own_declared : List Item → List Declared
@@ -80,16 +87,22 @@ own_declared item = declared ByContext Es (tree_of_items item)
 abbrev pub is_top_name : List (List Item) → Name → Truth
 is_top_name items name = list_any (λ item. is_written_in (own_declared item) Top name) items
 
--- whether an identifier declares what is denoted: an implicit `arguments` has none, and neither has a global
+-- whether an identifier declares what is denoted: an implicit `arguments` has none, and neither
+-- has a global
 abbrev pub is_written : Denoted → Truth
 is_written (Bound scope name) = is_some name.ctxt
 is_written (Global sym) = false
 
--- what a name denotes in the whole that denotes this in its item by itself: the binding of the top, if some item declares one and it was written nowhere around; else the same
+-- what a name denotes in the whole that denotes this in its item by itself: the binding of the
+-- top, if some item declares one and it was written nowhere around; else the same
 abbrev pub denoted_in_whole : (is_top : Truth) → ℕ → Name → Denoted → Denoted
-denoted_in_whole is_top k name d = cond (not (is_written d) && is_top) (Bound Top name) (moved_denoted k d)
+denoted_in_whole is_top k name d =
+    cond (not (is_written d) && is_top) (Bound Top name) (moved_denoted k d)
 
 -- what the occurrences of items denote in the whole of them, in the order of the source
 abbrev pub denoted_in_turn : List (List Item) → ℕ → List (List Item) → List Denoted
 denoted_in_turn items k [] = []
-denoted_in_turn items k (item ∷ more) = map (λ o. denoted_in_whole (is_top_name items (name_of ByContext o.sym o.ctxt)) k (name_of ByContext o.sym o.ctxt) (denoted_of ByContext Es (own_declared item) o)) (occurrences (tree_of_items item)) ++ denoted_in_turn items (k + length item) more
+denoted_in_turn items k (item ∷ more) =
+    map (λ o. denoted_in_whole (is_top_name items (name_of ByContext o.sym o.ctxt)) k
+        (name_of ByContext o.sym o.ctxt) (denoted_of ByContext Es (own_declared item) o))
+        (occurrences (tree_of_items item)) ++ denoted_in_turn items (k + length item) more

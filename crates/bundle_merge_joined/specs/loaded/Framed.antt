@@ -1,19 +1,10 @@
--- A CommonJS module as the body of its load function: where its scopes, its declarations and its names go. The item by itself is
--- `var load = helper(function (module, exports) { .. });`, so that the function's node begins at 10, its name's scope at 9 and its body at 21.
+-- A CommonJS module as the body of its load function: where its scopes, its declarations and its
+-- names go. The item by itself is `var load = helper(function (module, exports) { .. });`, so that
+-- the function's node begins at 10, its name's scope at 9 and its body at 21.
 use Rattle.std.specs.Prelude.{◌≡◌, ℕ, ◌<◌, Bool as Truth, true, false, List, [], ◌∷◌, Option, Some, None, is_some}
 use Rattle.bundle_rules.specs.Scopes.{Scope, ScopeKind, Wrapper, Top, Inner, Parameters, FunctionBody, FunctionName}
 use Rattle.bundle_rules.specs.Declarations.{Way, ByImport, ByDefault, ByWrapper, ByParameter, Declared, wrapper_parameter}
 use Rattle.bundle_rules.specs.Homes.{from_taker, nearest}
-
--- the scope of the function's name, which nothing declares; that of its parameters; and that of its body
-abbrev pub name_scope : Scope
-name_scope = Inner FunctionName 9
-
-abbrev pub parameters_scope : Scope
-parameters_scope = Inner Parameters 10
-
-abbrev pub body_scope : Scope
-body_scope = Inner FunctionBody 21
 
 -- nodes of the module's statements go to nodes in the body, one to one: `from` leads back
 pub record IsFrame (R : ℕ → ℕ → Type 0) : Type 0 where
@@ -30,8 +21,10 @@ pub data Beside (R : ℕ → ℕ → Type 0) : Scope → Scope → Type 0 where
 
 -- the scopes around a place of the module, and around that of the body
 pub data Framed (R : ℕ → ℕ → Type 0) : List Scope → List Scope → Type 0 where
-  outside : Framed R (Top ∷ Wrapper ∷ []) (Inner FunctionBody 21 ∷ Inner Parameters 10 ∷ Inner FunctionName 9 ∷ Top ∷ [])
-  within : {kind : ScopeKind} {a b : ℕ} {ss ts : List Scope} → R a b → Framed R ss ts → Framed R (Inner kind a ∷ ss) (Inner kind b ∷ ts)
+  outside : Framed R (Top ∷ Wrapper ∷ [])
+          (Inner FunctionBody 21 ∷ Inner Parameters 10 ∷ Inner FunctionName 9 ∷ Top ∷ [])
+  within : {kind : ScopeKind} {a b : ℕ} {ss ts : List Scope} → R a b → Framed R ss ts →
+      Framed R (Inner kind a ∷ ss) (Inner kind b ∷ ts)
 
 -- whether a way is that of imports, of a nameless default or of a wrapper's parameters
 abbrev pub is_module_way : Way → Truth
@@ -42,7 +35,9 @@ is_module_way _ = false
 
 -- a parameter of the load function, by its symbol
 abbrev pub parameter : ℕ → List ℕ → Declared
-parameter place x = record { place = place; name = record { sym = x; ctxt = None }; by = ByParameter; scopes = Inner Parameters 10 ∷ Inner FunctionName 9 ∷ Top ∷ [] }
+parameter place x =
+    record { place = place; name = record { sym = x; ctxt = None }; by = ByParameter;
+        scopes = Inner Parameters 10 ∷ Inner FunctionName 9 ∷ Top ∷ [] }
 
 -- a declaration of the module's statements that one of its scopes takes, and the one in the body
 pub record IsSeated (R : ℕ → ℕ → Type 0) (d e : Declared) : Type 0 where
@@ -54,13 +49,15 @@ pub record IsSeated (R : ℕ → ℕ → Type 0) (d e : Declared) : Type 0 where
 
 -- a parameter, or one of the statements
 pub data DeclaredBeside (R : ℕ → ℕ → Type 0) : Declared → Declared → Type 0 where
-  of_wrapper : (place : ℕ) (x : List ℕ) → DeclaredBeside R (wrapper_parameter x) (parameter place x)
+  of_wrapper : (place : ℕ) (x : List ℕ) →
+      DeclaredBeside R (wrapper_parameter x) (parameter place x)
   of_body : {d e : Declared} → IsSeated R d e → DeclaredBeside R d e
 
 -- one by one
 pub data AllBeside (R : ℕ → ℕ → Type 0) : List Declared → List Declared → Type 0 where
   none : AllBeside R [] []
-  more : {d e : Declared} {ds es : List Declared} → DeclaredBeside R d e → AllBeside R ds es → AllBeside R (d ∷ ds) (e ∷ es)
+  more : {d e : Declared} {ds es : List Declared} → DeclaredBeside R d e → AllBeside R ds es →
+      AllBeside R (d ∷ ds) (e ∷ es)
 
 -- both scopes are there, one beside the other, or none is
 pub data BothBeside (R : ℕ → ℕ → Type 0) : Option Scope → Option Scope → Type 0 where

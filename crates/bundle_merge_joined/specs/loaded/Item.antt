@@ -9,12 +9,15 @@ use Rattle.bundle_rules.specs.Scopes.{ModuleKind, Top, Inner, Parameters, Functi
 use Rattle.bundle_rules.specs.Declarations.{Reading, ByParameter, Declared, declaration_of}
 use Rattle.bundle_rules.specs.Idents.{Ident}
 use Rattle.bundle_rules.specs.Statements.{no_notes}
+use Rattle.bundle_merge_meaning.proofs.noted.Spots.{around}
 
--- `var load = helper(function (m, e) {` (as `load_front_items` of the probe `become`)
+-- `var load = helper(function (m, e) {`
 abbrev pub front_items : (load helper m e : Ident) → List Item
 front_items load helper m e =
-    h.Open 0 (h.VarDecl Var no_notes) ∷ h.Open 1 h.VarDeclarator ∷ h.Open 0 h.BindingIdent ∷ h.Ident 0 load.0 load.1 Binding ∷ h.Close
-    ∷ h.Open 1 h.CallExpr ∷ h.Ident 0 helper.0 helper.1 Reference ∷ h.Open 1 (h.ExprOrSpread false) ∷ h.Open 1 h.FnExpr ∷ h.Open 1 (h.Function false false)
+    h.Open 0 (h.VarDecl Var no_notes) ∷ h.Open 1 h.VarDeclarator ∷ h.Open 0
+        h.BindingIdent ∷ h.Ident 0 load.0 load.1 Binding ∷ h.Close
+    ∷ h.Open 1 h.CallExpr ∷ h.Ident 0 helper.0 helper.1 Reference ∷ h.Open 1
+        (h.ExprOrSpread false) ∷ h.Open 1 h.FnExpr ∷ h.Open 1 (h.Function false false)
     ∷ h.Open 0 h.Param ∷ h.Open 0 h.BindingIdent ∷ h.Ident 0 m.0 m.1 Binding ∷ h.Close ∷ h.Close
     ∷ h.Open 0 h.Param ∷ h.Open 0 h.BindingIdent ∷ h.Ident 0 e.0 e.1 Binding ∷ h.Close ∷ h.Close
     ∷ h.Open 1 h.BlockStmt ∷ []
@@ -26,14 +29,12 @@ back_items = h.Close ∷ h.Close ∷ h.Close ∷ h.Close ∷ h.Close ∷ h.Close
 abbrev pub load_item : (load helper m e : Ident) → List Item → List Item
 load_item load helper m e made = front_items load helper m e ++ (made ++ back_items)
 
--- a node that is open
-abbrev pub around : Head → ℕ → ℕ → Around
-around head begins field = record { head = head; begins = begins; field = field }
-
 -- the nodes around the statements, in this field of the body
 abbrev pub body_path : ℕ → List Around
 body_path field =
-    around h.BlockStmt 21 field ∷ around (h.Function false false) 10 1 ∷ around h.FnExpr 9 1 ∷ around (h.ExprOrSpread false) 8 1 ∷ around h.CallExpr 6 1 ∷ around h.VarDeclarator 2 1 ∷ around (h.VarDecl Var no_notes) 1 1 ∷ around h.Module 0 0 ∷ []
+    around h.BlockStmt 21 field ∷ around (h.Function false false) 10 1 ∷ around h.FnExpr 9
+        1 ∷ around (h.ExprOrSpread false) 8 1 ∷ around h.CallExpr 6 1 ∷ around h.VarDeclarator 2
+        1 ∷ around (h.VarDecl Var no_notes) 1 1 ∷ around h.Module 0 0 ∷ []
 
 -- where the statements begin
 abbrev pub body_start : Spot
@@ -44,7 +45,9 @@ module_start = record { place = 1; path = around h.Module 0 0 ∷ [] }
 
 -- a parameter of the function, by symbol and context
 abbrev pub parameter_named : ℕ → Ident → Declared
-parameter_named place name = record { place = place; name = record { sym = name.0; ctxt = Some name.1 }; by = ByParameter; scopes = Inner Parameters 10 ∷ Inner FunctionName 9 ∷ Top ∷ [] }
+parameter_named place name =
+    record { place = place; name = record { sym = name.0; ctxt = Some name.1 }; by = ByParameter;
+        scopes = Inner Parameters 10 ∷ Inner FunctionName 9 ∷ Top ∷ [] }
 
 -- what identifiers declare
 abbrev pub declared_by_names : Reading → ModuleKind → List Occurrence → List Declared
@@ -52,11 +55,22 @@ declared_by_names reading kind os = filter_map (declaration_of reading kind) os
 
 -- the names in front
 abbrev pub load_name : Ident → Occurrence
-load_name load = record { place = 4; sym = load.0; ctxt = load.1; role = Binding; path = around h.BindingIdent 3 0 ∷ around h.VarDeclarator 2 0 ∷ around (h.VarDecl Var no_notes) 1 1 ∷ around h.Module 0 0 ∷ [] }
+load_name load =
+    record { place = 4; sym = load.0; ctxt = load.1; role = Binding;
+        path = around h.BindingIdent 3 0 ∷ around h.VarDeclarator 2 0 ∷ around
+        (h.VarDecl Var no_notes) 1 1 ∷ around h.Module 0 0 ∷ [] }
 
 abbrev pub helper_name : Ident → Occurrence
-helper_name helper = record { place = 7; sym = helper.0; ctxt = helper.1; role = Reference; path = around h.CallExpr 6 0 ∷ around h.VarDeclarator 2 1 ∷ around (h.VarDecl Var no_notes) 1 1 ∷ around h.Module 0 0 ∷ [] }
+helper_name helper =
+    record { place = 7; sym = helper.0; ctxt = helper.1; role = Reference;
+        path = around h.CallExpr 6 0 ∷ around h.VarDeclarator 2 1 ∷ around (h.VarDecl Var no_notes)
+        1 1 ∷ around h.Module 0 0 ∷ [] }
 
 -- a parameter, whose pattern begins at this place in a node that begins at that
 abbrev pub parameter_name : (place pattern begins : ℕ) → Ident → Occurrence
-parameter_name place pattern begins name = record { place = place; sym = name.0; ctxt = name.1; role = Binding; path = around h.BindingIdent pattern 0 ∷ around h.Param begins 0 ∷ around (h.Function false false) 10 0 ∷ around h.FnExpr 9 1 ∷ around (h.ExprOrSpread false) 8 1 ∷ around h.CallExpr 6 1 ∷ around h.VarDeclarator 2 1 ∷ around (h.VarDecl Var no_notes) 1 1 ∷ around h.Module 0 0 ∷ [] }
+parameter_name place pattern begins name =
+    record { place = place; sym = name.0; ctxt = name.1; role = Binding;
+        path = around h.BindingIdent pattern 0 ∷ around h.Param begins 0 ∷ around
+        (h.Function false false) 10 0 ∷ around h.FnExpr 9 1 ∷ around (h.ExprOrSpread false) 8
+        1 ∷ around h.CallExpr 6 1 ∷ around h.VarDeclarator 2 1 ∷ around (h.VarDecl Var no_notes) 1
+        1 ∷ around h.Module 0 0 ∷ [] }

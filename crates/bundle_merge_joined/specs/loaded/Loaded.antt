@@ -27,10 +27,15 @@ body_names ys = occurrences_from body_start ys
 
 -- what the function declares, by symbol
 abbrev pub function_declared : List Item → List Declared
-function_declared ys = parameter 13 (codes "module") ∷ parameter 18 (codes "exports") ∷ declared_by_names BySymbol Es (body_names ys)
+function_declared ys =
+    parameter 13 (codes "module") ∷ parameter 18 (codes "exports") ∷ declared_by_names BySymbol Es
+        (body_names ys)
 
--- the contexts that the names get: those of the bindings that they denote in the module, by a numbering of its bindings; the parameters get theirs too; each declaration has a scope that takes it; and the contexts tell bindings apart
-pub record IsLoaded (g : Numbering) {L : Ident → Type 0} {xs ys : List Item} (w : Turned L zero xs ys) (load m e : Ident) : Type 0 where
+-- the contexts that the names get: those of the bindings that they denote in the module, by a
+-- numbering of its bindings; the parameters get theirs too; each declaration has a scope that
+-- takes it; and the contexts tell bindings apart
+pub record IsLoaded (g : Numbering) {L : Ident → Type 0} {xs ys : List Item}
+    (w : Turned L zero xs ys) (load m e : Ident) : Type 0 where
   pub has : HasContexts g (module_declared xs) w module_start
   pub taken : Each IsTaken (module_declared xs)
   pub its_module : m ≡ (codes "module", g 0 (codes "module"))

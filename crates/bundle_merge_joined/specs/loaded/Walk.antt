@@ -1,4 +1,5 @@
--- What a walk over a statement of a CommonJS module does that gives each name its symbol with a context, and each literal call of `require` a load function.
+-- What a walk over a statement of a CommonJS module does that gives each name its symbol with a
+-- context, and each literal call of `require` a load function.
 use Rattle.std.specs.Prelude.{◌≡◌, ℕ, false, List, [], ◌∷◌, Option, ⊤}
 use Rattle.bundle_tree_piece.specs.declared.piece.Role.TheVariants as r
 use Rattle.bundle_tree_piece.specs.Item as h
@@ -8,7 +9,7 @@ use Rattle.bundle_rules.specs.Idents.{Ident}
 use Rattle.bundle_tree_places.specs.Edits.{Around}
 use Rattle.bundle_merge_meaning.specs.walked.Work.{Step, Work, is_spelled_out_by}
 use Rattle.bundle_merge_meaning.specs.walked.Rewrites.{Rewrites, Nothing, Joined, Hole, Word, Name, Inside, Declaration, Kept, Shorthand, OfReads, OfCall, OfMeta}
-use Rattle.bundle_merge_joined.specs.loaded.Turned.{is_module_head}
+use Rattle.bundle_rules.specs.Callable.{is_module_head}
 
 -- a name that refers, and one string as an argument, not spread
 pub record IsLiteral (inside : List Item) : Type 0 where
@@ -19,7 +20,8 @@ pub record IsLiteral (inside : List Item) : Type 0 where
   pub inner : ℕ
   pub value : Text
   pub raw : Option Text
-  pub is : inside ≡ h.Ident callee x ctxt r.Reference ∷ h.Open outer (h.ExprOrSpread false) ∷ h.Open inner (h.Str value raw) ∷ h.Close ∷ h.Close ∷ []
+  pub is : inside ≡ h.Ident callee x ctxt r.Reference ∷ h.Open outer
+          (h.ExprOrSpread false) ∷ h.Open inner (h.Str value raw) ∷ h.Close ∷ h.Close ∷ []
 
 -- a step that keeps the symbol of its occurrence, so that nothing is spelled out
 pub record KeepsIt (step : Step) (x : Text) : Type 0 where
@@ -27,7 +29,9 @@ pub record KeepsIt (step : Step) (x : Text) : Type 0 where
   pub short : is_spelled_out_by step.spelling step.ident.0 x ≡ false
 
 -- the walk does so
-abbrev pub IsFine : (L : Ident → Type 0) {around : Around} {work rest : Work} {before made : List Item} → Rewrites around work before made rest → Type 0
+abbrev pub IsFine : (L : Ident → Type 0) {around : Around} {work rest : Work}
+        {before made : List Item} →
+    Rewrites around work before made rest → Type 0
 IsFine L Nothing = ⊤
 IsFine L (Joined first second) = IsFine L first × IsFine L second
 IsFine L (Hole field) = ⊤
@@ -35,7 +39,8 @@ IsFine L (Word field x ctxt role is) = ⊤
 IsFine L (Name around field x ctxt role step is free takes) = KeepsIt step x
 IsFine L (Inside field head stays one) = (is_module_head head ≡ false) × IsFine L one
 IsFine L (Declaration field kind notes one) = IsFine L one
-IsFine L (Kept field head first keeps one more) = (is_module_head head ≡ false) × IsFine L one × IsFine L more
+IsFine L (Kept field head first keeps one more) =
+    (is_module_head head ≡ false) × IsFine L one × IsFine L more
 IsFine L (Shorthand field x ctxt role step is takes one) = KeepsIt step x × IsFine L one
 IsFine L (OfReads field name inside is) = ⊥
 IsFine L (OfCall field name inside is) = IsLiteral inside × L name
