@@ -1,5 +1,6 @@
 -- In a tree with other names statements agree with what they agreed with, where each occurrence denotes what corresponds.
 use Rattle.std.proofs.Common.{◌≡◌, ◌≤◌, ◌⊎◌, inl, inr, ℕ, suc, ◌+◌, Bool, true, false, List, [], ◌∷◌, ◌++◌, filter, map, length, length-append, refl, ap, ap₂, sym, ◌∙◌, subst, arith}
+use Rattle.std.proofs.lemmas.List.{length-map, map-append}
 use Rattle.std.specs.Prelude.{Contains, fold, nat_le, position}
 use Rattle.std.specs.List.{AllZip}
 use Rattle.std.proofs.lemmas.Bool.{le-leb, leb-true}
@@ -28,6 +29,7 @@ use Rattle.bundle_merge_whole.specs.composed.Noted.{AgreesWith, AgreeInTurn, den
 use Rattle.bundle_merge_whole.specs.composed.Becoming.{placed_scope, StandsIn, Becoming, labels_of}
 use Rattle.bundle_merge_whole.specs.composed.Turned.{IsScopeBelow, SpotsMatch, module_path, PartTurned, ItemTurned, whole_turned, function_turned, ItemsTurned}
 use Rattle.bundle_merge_whole.proofs.composed.Among.{denoted-of, OfScope, IsScopeFrom, HasScopes, part-scopes}
+pub use Rattle.bundle_merge_whole.proofs.composed.ListFacts.{zip-length}
 
 -- Lists.
 same-parts : {A : Type 0} (xs ys others more : List A) → xs ++ ys ≡ others ++ more → length xs ≡ length others → (xs ≡ others) × (ys ≡ more)
@@ -40,25 +42,11 @@ same-parts (x ∷ xs) ys (o ∷ others) more e same =
     let rest = same-parts xs ys others more later (omega (arith, same)) in
     (ap₂ (λ y l. y ∷ l) first rest.0, rest.1)
 
-map-append : {A B : Type 0} (f : A → B) (xs ys : List A) → map f (xs ++ ys) ≡ map f xs ++ map f ys
-map-append f [] ys = refl
-map-append f (x ∷ xs) ys = ap (λ l. f x ∷ l) (map-append f xs ys)
-
-length-map : {A B : Type 0} (f : A → B) (xs : List A) → length (map f xs) ≡ length xs
-length-map f [] = refl
-length-map f (x ∷ xs) = ap suc (length-map f xs)
-
 pub zip-parts : {A B : Type 0} (R : A → B → Type 0) (xs ys : List A) (others more : List B) → length xs ≡ length others → AllZip R (xs ++ ys) (others ++ more) → AllZip R xs others × AllZip R ys more
 zip-parts R [] ys [] more same all = (tt, all)
 zip-parts R [] ys (o ∷ others) more same all = absurd (omega (arith, same))
 zip-parts R (x ∷ xs) ys [] more same all = absurd (omega (arith, same))
 zip-parts R (x ∷ xs) ys (o ∷ others) more same all = let rest = zip-parts R xs ys others more (omega (arith, same)) all.1 in ((all.0, rest.0), rest.1)
-
-pub zip-length : {A B : Type 0} (R : A → B → Type 0) (xs : List A) (ys : List B) → AllZip R xs ys → length xs ≡ length ys
-zip-length R [] [] all = refl
-zip-length R [] (y ∷ ys) all = absurd all
-zip-length R (x ∷ xs) [] all = absurd all
-zip-length R (x ∷ xs) (y ∷ ys) all = ap suc (zip-length R xs ys all.1)
 
 -- no name of these scopes is inside
 abbrev pub AreOutside : ℕ → List Scope → Type 0
@@ -118,10 +106,10 @@ flat-names (part ∷ parts) (other ∷ others) turned =
     omega (arith, rest, first, a, c)
 
 -- in a module
-module-scopes : (path : List Around) (field : ℕ) → path ≡ in_field field module_path → scopes_around Es path ≡ Top ∷ []
+pub module-scopes : (path : List Around) (field : ℕ) → path ≡ in_field field module_path → scopes_around Es path ≡ Top ∷ []
 module-scopes path field e = ap (scopes_around Es) e
 
-field-scopes : (path : List Around) (field f : ℕ) → path ≡ in_field field module_path → scopes_around Es (in_field f path) ≡ Top ∷ []
+pub field-scopes : (path : List Around) (field f : ℕ) → path ≡ in_field field module_path → scopes_around Es (in_field f path) ≡ Top ∷ []
 field-scopes path field f e = ap (λ p. scopes_around Es (in_field f p)) e
 
 pub module-match : (s t : Spot) (field its : ℕ) → s.path ≡ in_field field module_path → t.path ≡ in_field its module_path → SpotsMatch s t
@@ -184,7 +172,7 @@ module _ (reading other : Reading) (items others : List (List Item)) (b : Becomi
       let lengths = ap length whole in
       let first = length-append (map (placed_scope b.move) one.inner) (map (placed_scope b.move) outer) in
       let second = length-append two.inner its in
-      let mapped = length-map (placed_scope b.move) outer in
+      let mapped = length-map outer (placed_scope b.move) in
       let parts = same-parts (map (placed_scope b.move) one.inner) (map (placed_scope b.move) outer) two.inner its whole (omega (arith, lengths, first, second, mapped, same)) in
       of-aligned low high (denoted_here here o)
       (denoted-of (Aligned low high) (λ name other. refl) reading (declared reading Es (joined items)) o
@@ -308,7 +296,7 @@ module _ (reading other : Reading) (items others : List (List Item)) (b : Becomi
         statements_turn (fold past s front) (fold past t its_front) (fold past s front) (fold past t its_front) (fronts.spots s t field its_field path_is its_is) own.0 other.0 own.1 other.1 (omega arith) (omega arith) insides its parts two.0 tolds agree.1,
       )
 
-  turned-nodes : {item renamed : List Item} {one other : Noted} → ItemTurned item one renamed other → PartTurned item renamed
+  pub turned-nodes : {item renamed : List Item} {one other : Noted} → ItemTurned item one renamed other → PartTurned item renamed
   turned-nodes (whole_turned turned) = turned
   turned-nodes (function_turned back its_back turned is its_made fronts parts) = turned
 

@@ -90,7 +90,7 @@ module _ (before after : List Item) (resolved : IsResolved Es before) (names : H
   abbrev made : List Item
   made = with_idents before (idents after)
 
-  -- (The next five are local in the probe `capture`, in `denotes-alike`.)
+  -- the next five stand inside the proof of `denotes-alike` too, which hands on none of them
   clear : cleared after ≡ cleared made
   clear = sym (cleared-notes after) ∙ ap cleared same ∙ cleared-twice made
 
@@ -112,7 +112,7 @@ module _ (before after : List Item) (resolved : IsResolved Es before) (names : H
   named_after : AreNamed made
   named_after = rebuilt-named before changes (all-named before names) plain
 
-  -- (The next two are local in the probe `capture`, in `capture`.)
+  -- the next two stand inside the proof of `capture` too, which hands on neither
   zip_declared : AllZip (IsMoved move) (renamed_all numbers all) (declarations BySymbol (occurrences made))
   zip_declared = subst (λ l. AllZip (IsMoved move) l (declarations BySymbol (occurrences made))) (all-renamed before resolved names numbers renamed.right) (declarations-moved move renamed_occurrences (occurrences made) zip)
 

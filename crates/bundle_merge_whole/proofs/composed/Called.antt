@@ -1,5 +1,5 @@
 -- What bindings are called where keywords are renamed: as before, but for a `__` before a keyword's.
-use Rattle.std.proofs.Common.{◌≡◌, ◌≤◌, ℕ, ◌==◌, Bool, true, false, cond, not, List, [], ◌∷◌, ◌++◌, Option, Some, None, option_map, filter, find, codes, map, slice_get, refl, ap, sym, ◌∙◌, arith}
+use Rattle.std.proofs.Common.{◌≡◌, ◌≤◌, ℕ, ◌==◌, Bool, true, false, cond, List, [], ◌∷◌, ◌++◌, Option, Some, None, option_map, filter, find, codes, map, slice_get, refl, ap, sym, ◌∙◌, arith}
 use Rattle.std.specs.Prelude.{Contains, is_some, IsTrue}
 use Rattle.std.specs.List.{AllZip}
 use Rattle.std.proofs.lemmas.Bool.{false≢true}
@@ -13,16 +13,14 @@ use Rattle.bundle_rules.specs.Keywords.{is_keyword, keyword_free, keyword_free_o
 use Rattle.bundle_rules.proofs.PlacesLemmas.{occurrence_at-listed, occurrences-at}
 use Rattle.bundle_rules.specs.Nodes.{Text}
 use Rattle.bundle_rules.specs.Renamed.{HasNamesOnly, IsRidOfKeywords}
-use Rattle.bundle_rules.specs.Mentions.{same_denoted, each_denoted_once}
+use Rattle.bundle_rules.specs.Mentions.{each_denoted_once}
 use Rattle.bundle_rules.specs.Linking.{Declared as IsDeclared}
 use Rattle.bundle_rules.specs.Meaning.{Of, Label, Labelling, is_inside}
 use Rattle.bundle_rules.specs.Program.{Program}
 use Rattle.bundle_rules.specs.Symbols.{denoted_symbol, symbol_of_label}
 use Rattle.bundle_merge_joined.specs.joined.Notes.{its_name}
 use Rattle.bundle_merge_joined.specs.joined.Joined.{joined}
-use Rattle.bundle_merge_meaning.specs.walked.Numbers.{IsOneToOne}
 use Rattle.bundle_merge_meaning.specs.walked.Renewed.{Renews}
-use Rattle.bundle_merge_meaning.proofs.walked.Numbers.{both_filtered}
 use Rattle.bundle_scope_renamed.proofs.kept.Lists.{map-in}
 use Rattle.bundle_merge_whole.specs.composed.Noted.{denoted_from, view_of}
 use Rattle.bundle_merge_whole.specs.composed.Names.{denoted_in_tree}
@@ -33,6 +31,8 @@ use Rattle.bundle_merge_whole.proofs.composed.Among.{part-scopes}
 use Rattle.bundle_merge_whole.proofs.composed.Aligned.{Turns, turns-one, Corresponds, renews, all-outside}
 use Rattle.bundle_merge_whole.proofs.composed.Keywords.{size, at-before, at-after, symbol-at, context-stays, as-long, zip-at, name_in}
 use Rattle.bundle_merge_whole.proofs.composed.Naming.{was-labelled}
+use Rattle.bundle_merge_whole.proofs.composed.ListFacts.{pick}
+use Rattle.bundle_merge_joined.proofs.loaded.Numbers.{both_once}
 
 -- the context of what an occurrence denotes is its own, if it has one
 pub own-context : (all : List Declared) (o : Occurrence) (c : ℕ) → name_in (denoted_of ByContext Es all o) ≡ Some c → c ≡ o.ctxt
@@ -55,18 +55,6 @@ own-context all o c is = by_declared (declaration_of ByContext Es o) refl is
     by_declared (Some d) at e = sym (same_Some o.ctxt c (sym (ap (λ (n : Name). n.ctxt) (declared-name o d at)) ∙ e))
 
 -- SYMBOLS: bindings inside a statement are called as they become
-pub both_once : (R : Denoted → Denoted → Type 0) → IsOneToOne R → (xs ys : List Denoted) → AllZip R xs ys → AllZip R (each_denoted_once xs) (each_denoted_once ys)
-both_once R one [] [] all = tt
-both_once R one [] (y ∷ ys) all = absurd all
-both_once R one (x ∷ xs) [] all = absurd all
-both_once R one (x ∷ xs) (y ∷ ys) all = (all.0, both_filtered R (λ other. not (same_denoted x other)) (λ other. not (same_denoted y other)) (λ a b its. ap not (one x a y b all.0 its)) (each_denoted_once xs) (each_denoted_once ys) (both_once R one xs ys all.1))
-
-pick : (R : Denoted → Denoted → Type 0) (b c : Bool) (x y : Denoted) (xs ys : List Denoted) → b ≡ c → (b ≡ true → R x y) → AllZip R xs ys → AllZip R (cond b (x ∷ xs) xs) (cond c (y ∷ ys) ys)
-pick R true true x y xs ys same its all = (its refl, all)
-pick R false false x y xs ys same its all = all
-pick R true false x y xs ys same its all = cc
-pick R false true x y xs ys same its all = cc
-
 module _ (reading other : Reading) (items others : List (List Item)) (b : Becoming reading (joined items) other (joined others)) (labels : Labelling) (spelled : Text → Text) (symbols : (scope : Scope) (name : Name) → Contains (denotations reading Es (joined items)) (Bound scope name) → denoted_symbol (b.becomes (Bound scope name)) ≡ spelled name.sym) where
   abbrev Inner : ℕ → Denoted → Denoted → Type 0
   Inner low d e = Turns reading other items others b labels d e × (is_inside low d ≡ true)

@@ -1,8 +1,8 @@
 -- Renaming of keywords tells bindings apart as before, so that it keeps bundles.
-use Rattle.std.proofs.Common.{◌≡◌, ℕ, zero, suc, ◌==◌, ◌&&◌, Bool, true, false, cond, not, List, [], ◌∷◌, Option, Some, None, option_map, find, bytes_eq, codes, map, length, slice_get, refl, ap, sym, ◌∙◌, subst, eqb-true, eq-eqb, arith}
+use Rattle.std.proofs.Common.{◌≡◌, ℕ, zero, suc, ◌==◌, ◌&&◌, Bool, true, false, cond, not, List, [], ◌∷◌, Option, Some, None, option_map, find, bytes_eq, codes, map, length, slice_get, refl, ap, sym, ◌∙◌, subst, eqb-true, arith}
+use Rattle.std.proofs.lemmas.List.{length-map}
 use Rattle.std.specs.Prelude.{IsTrue, is_some, if◌then◌else◌}
-use Rattle.std.specs.List.{AllZip}
-use Rattle.std.proofs.lemmas.Bool.{false≢true, and_parts, and_from}
+use Rattle.std.proofs.lemmas.Bool.{false≢true, and_parts}
 use Rattle.std.proofs.lemmas.Option.{none-some, same_Some, slice_get-map, slice_get_within, get_or_from_slice_get}
 use Rattle.std.proofs.lemmas.Slice.Eq.{bytes_eq-Decides}
 use Rattle.bundle_tree_piece.specs.Item.{Item}
@@ -21,15 +21,10 @@ use Rattle.bundle_merge_joined.proofs.joined.Denotes.{HasIdentifier, nothing-imp
 use Rattle.bundle_scope_renamed.proofs.kept.Lists.{find-passes}
 use Rattle.bundle_scope_renamed.proofs.kept.Recalled.{Calling, is_written_one, IsFaithful}
 use Rattle.bundle_merge_whole.specs.composed.Names.{denoted_in_tree}
-use Rattle.bundle_merge_whole.proofs.composed.Labels.{same-denoted, same-ident}
+pub use Rattle.bundle_merge_whole.proofs.composed.ListFacts.{as-long, zip-at}
+use Rattle.bundle_merge_whole.proofs.composed.ListFacts.{all-in}
+use Rattle.bundle_merge_whole.proofs.composed.Labels.{ident-same, ident-self, same-denoted, same-ident}
 use Rattle.bundle_merge_whole.proofs.composed.Contexts.{declared-name}
-
--- identifiers
-ident-same : (a b : Ident) → ident_eq a b ≡ true → a ≡ b
-ident-same a b is = let both = and_parts (bytes_eq a.0 b.0) (a.1 == b.1) is in λ i. ((bytes_eq-Decides a.0 b.0).0 both.0 i, eqb-true a.1 b.1 both.1 i)
-
-ident-self : (a b : Ident) → a ≡ b → ident_eq a b ≡ true
-ident-self a b e = subst (λ x. ident_eq a x ≡ true) e (and_from (bytes_eq a.0 a.0) (a.1 == a.1) ((bytes_eq-Decides a.0 a.0).1 refl) (eq-eqb a.1 a.1 refl))
 
 -- what an identifier is called afterwards: as the first occurrence of it is
 call_of : List Occurrence → List Occurrence → Calling
@@ -49,7 +44,7 @@ call-at (a ∷ os) (q ∷ ps) same i o p at there = by_test (ident_eq (ident_of 
   where
     by_test : (b : Bool) → ident_eq (ident_of a) (ident_of o) ≡ b → (i : ℕ) → slice_get (a ∷ os) i ≡ Some o → slice_get (q ∷ ps) i ≡ Some p → ((j : ℕ) → slice_get os j ≡ Some o → slice_get ps j ≡ Some p → call_of os ps o.sym o.ctxt ≡ ident_of p) → (if ident_eq (ident_of a) (ident_of o) then ident_of q else call_of os ps o.sym o.ctxt) ≡ ident_of p
     by_test true e i at there ih = ap (λ b. if b then ident_of q else call_of os ps o.sym o.ctxt) e ∙ same 0 i a o q p refl at refl there (ident-same (ident_of a) (ident_of o) e)
-    by_test false e zero at there ih = absurd (false≢true (sym e ∙ ident-self (ident_of a) (ident_of o) (ap ident_of (same_Some a o at))))
+    by_test false e zero at there ih = absurd (false≢true (sym e ∙ subst (λ i. ident_eq (ident_of a) i ≡ true) (ap ident_of (same_Some a o at)) (ident-self (ident_of a))))
     by_test false e (suc j) at there ih = ap (λ b. if b then ident_of q else call_of os ps o.sym o.ctxt) e ∙ ih j at there
 
 map-at : (f : Occurrence → Ident) (os ps : List Occurrence) → length os ≡ length ps → ((i : ℕ) (o p : Occurrence) → slice_get os i ≡ Some o → slice_get ps i ≡ Some p → f o ≡ ident_of p) → map ident_of ps ≡ map f os
@@ -57,27 +52,6 @@ map-at f [] [] same at = refl
 map-at f [] (p ∷ ps) same at = absurd (omega (arith, same))
 map-at f (o ∷ os) [] same at = absurd (omega (arith, same))
 map-at f (o ∷ os) (p ∷ ps) same at = λ i. sym (at 0 o p refl refl) i ∷ map-at f os ps (omega (arith, same)) (λ j a b one two. at (suc j) a b one two) i
-
--- a list as long
-pub as-long : {A B : Type 0} (xs : List A) (ys : List B) (i : ℕ) (x : A) → length xs ≡ length ys → slice_get xs i ≡ Some x → (y : B) × (slice_get ys i ≡ Some y)
-as-long [] ys i x same e = absurd (none-some x e)
-as-long (a ∷ xs) [] i x same e = absurd (omega (arith, same))
-as-long (a ∷ xs) (b ∷ ys) zero x same e = (b, refl)
-as-long (a ∷ xs) (b ∷ ys) (suc i) x same e = as-long xs ys i x (omega (arith, same)) e
-
-pub zip-at : {A B : Type 0} (R : A → B → Type 0) (xs : List A) (ys : List B) → AllZip R xs ys → (i : ℕ) (x : A) (y : B) → slice_get xs i ≡ Some x → slice_get ys i ≡ Some y → R x y
-zip-at R [] ys all i x y at there = absurd (none-some x at)
-zip-at R (a ∷ xs) [] all i x y at there = absurd all
-zip-at R (a ∷ xs) (b ∷ ys) all zero x y at there = subst (λ z. R z y) (same_Some a x at) (subst (R a) (same_Some b y there) all.0)
-zip-at R (a ∷ xs) (b ∷ ys) all (suc i) x y at there = zip-at R xs ys all.1 i x y at there
-
-length-map : {A B : Type 0} (f : A → B) (xs : List A) → length (map f xs) ≡ length xs
-length-map f [] = refl
-length-map f (x ∷ xs) = ap suc (length-map f xs)
-
-all-in : {A : Type 0} (P : A → Type 0) (xs : List A) → ((i : ℕ) (x : A) → slice_get xs i ≡ Some x → P x) → AllOf P xs
-all-in P [] f = tt
-all-in P (x ∷ xs) f = (f 0 x refl, all-in P xs (λ i y at. f (suc i) y at))
 
 -- What no identifier declares.
 
@@ -121,7 +95,7 @@ module _ (before after : List Item) (resolved : IsResolved Es before) (names : H
   all = declared ByContext Es before
 
   pub size : length os ≡ length ps
-  size = sym (length-map (denoted_in_tree before) os) ∙ rid.free.alike.len ∙ length-map (denoted_in_tree after) ps
+  size = sym (length-map os (denoted_in_tree before)) ∙ rid.free.alike.len ∙ length-map ps (denoted_in_tree after)
 
   -- what is denoted by number
   pub at-before : (i : ℕ) (o : Occurrence) → slice_get os i ≡ Some o → denoted_as ByContext Es before i ≡ Some (denoted_in_tree before o)

@@ -19,10 +19,10 @@ use Rattle.bundle_scope_renamed.proofs.kept.Lists.{IsIn, find-passes, find-in, f
 use Rattle.bundle_merge_whole.specs.composed.Names.{Table, IsTable, denoted_in_tree, denoted_ident, labels_in}
 
 -- identifiers that are the same
-ident-same : (a b : Ident) → ident_eq a b ≡ true → a ≡ b
+pub ident-same : (a b : Ident) → ident_eq a b ≡ true → a ≡ b
 ident-same a b is = let both = and_parts (bytes_eq a.0 b.0) (a.1 == b.1) is in λ i. ((bytes_eq-Decides a.0 b.0).0 both.0 i, eqb-true a.1 b.1 both.1 i)
 
-ident-self : (a : Ident) → ident_eq a a ≡ true
+pub ident-self : (a : Ident) → ident_eq a a ≡ true
 ident-self a = and_from (bytes_eq a.0 a.0) (a.1 == a.1) ((bytes_eq-Decides a.0 a.0).1 refl) (eq-eqb a.1 a.1 refl)
 
 module _ (tree : List Item) (resolved : IsResolved Es tree) where

@@ -1,7 +1,6 @@
 -- Naming keeps the layout, and so bundles: what stands in good order does so where names change.
-use Rattle.std.proofs.Common.{◌≡◌, ℕ, zero, suc, List, [], ◌∷◌, Option, Some, length, slice_get, refl, ap, sym, ◌∙◌, subst, arith}
+use Rattle.std.proofs.Common.{◌≡◌, ℕ, List, [], ◌∷◌, Option, length, slice_get, refl, ap, sym, ◌∙◌, subst}
 use Rattle.std.specs.List.{AllZip}
-use Rattle.std.proofs.lemmas.Option.{none-some}
 use Rattle.bundle_tree_piece.specs.Item.{Item}
 use Rattle.bundle_rules.specs.Scopes.{Es, Top}
 use Rattle.bundle_rules.specs.Declarations.{Reading, BySymbol, ByContext}
@@ -19,16 +18,9 @@ use Rattle.bundle_merge_joined.specs.grouped.Renaming.{HasWays, HasObjects, AtOn
 use Rattle.bundle_merge_joined.proofs.grouped.ComposedLemmas.{named-good_order}
 use Rattle.bundle_merge_whole.specs.composed.Noted.{pairing_of}
 use Rattle.bundle_merge_whole.specs.composed.Becoming.{Becoming}
-use Rattle.bundle_merge_whole.proofs.composed.Aligned.{zip-length}
+use Rattle.bundle_merge_whole.proofs.composed.ListFacts.{as-long, zip-length}
 use Rattle.bundle_merge_whole.proofs.composed.Becomings.{becoming_named}
 use Rattle.bundle_merge_whole.proofs.composed.Naming.{IsStillNoted, IsReady, items-edited, as-many, naming-keeps}
-
--- an element of a list as long
-as-long : {A B : Type 0} (xs : List A) (ys : List B) (i : ℕ) (x : A) → length xs ≡ length ys → slice_get xs i ≡ Some x → (y : B) × (slice_get ys i ≡ Some y)
-as-long [] ys i x same e = absurd (none-some x e)
-as-long (a ∷ xs) [] i x same e = absurd (omega (arith, same))
-as-long (a ∷ xs) (b ∷ ys) zero x same e = (b, refl)
-as-long (a ∷ xs) (b ∷ ys) (suc i) x same e = as-long xs ys i x (omega (arith, same)) e
 
 module _ (p : Program) (form : Form) (reading other : Reading) (tree after : List Item) (plan : List Cause) (labels its_labels : Labelling) (items its : List (List Item)) (tree_is : tree ≡ joined items) (after_is : after ≡ joined its) (size : length (top_items (joined items)) ≡ length (top_items (joined its))) (good : (tops others : List TopItem) → AllZip (AtOne tree after) tops others → (owners : List (Option ℕ)) (order : List ℕ) → IsGoodOrder (group_of reading Top tree tops owners) order → IsGoodOrder (group_of other Top after others owners) order) where
   abbrev one : Pairing
@@ -57,10 +49,10 @@ module _ (p : Program) (form : Form) (reading other : Reading) (tree after : Lis
       }
 
   block-stays : {members : List ℕ} {causes : List Cause} → IsBlockLaidOut p form tree reading one members causes → IsBlockLaidOut p form after other two members causes
-  block-stays (lone apart chosen) = lone apart chosen
-  block-stays (cycle numbered tops order asks chosen stand ordered plan_is) =
+  block-stays (lone apart plan_is) = lone apart plan_is
+  block-stays (cycle numbered tops order asks numbers stand ordered plan_is) =
       let more = others_of numbered tops stand in
-      cycle numbered more.others order asks chosen more.stand (good tops more.others more.at _ order ordered) plan_is
+      cycle numbered more.others order asks numbers more.stand (good tops more.others more.at _ order ordered) plan_is
 
   blocks-stay : {blocks : List (List ℕ)} {causes : List Cause} → AreBlocksLaidOut p form tree reading one blocks causes → AreBlocksLaidOut p form after other two blocks causes
   blocks-stay over = over

@@ -1,5 +1,5 @@
 -- The tree that is put together of items agrees with what is told of their names by identifiers.
-use Rattle.std.proofs.Common.{◌≡◌, ℕ, suc, ◌+◌, ◌&&◌, Bool, true, false, cond, List, [], ◌∷◌, ◌++◌, Some, append_assoc, append-nil, filter, map, slice_get, take, length, bytes_eq, refl, ap, ap₂, sym, ◌∙◌, subst, arith}
+use Rattle.std.proofs.Common.{◌≡◌, ℕ, ◌+◌, ◌&&◌, true, false, List, [], ◌∷◌, ◌++◌, Some, append_assoc, append-nil, filter, map, slice_get, take, length, bytes_eq, refl, ap, ap₂, sym, ◌∙◌, subst, arith}
 use Rattle.std.specs.Prelude.{Contains, fold, nat_le, position}
 use Rattle.std.specs.List.{AllZip}
 use Rattle.std.proofs.lemmas.Bool.{false≢true, leb-true, le-leb}
@@ -29,15 +29,12 @@ use Rattle.bundle_merge_meaning.proofs.walked.Numbers.{numbers_agree}
 use Rattle.bundle_scope_renamed.proofs.kept.Lists.{IsIn, same_bool, map-twice}
 use Rattle.bundle_merge_whole.specs.composed.Noted.{Noted, AsWhole, AsFunction, AgreesWith, AgreeInTurn, denoted_here, denoted_from, StatementsAgree, StandsForLabel, ItemAgrees, ItemsAgree, IsMadeOf, view_of, BundleAgrees}
 use Rattle.bundle_merge_whole.specs.composed.Names.{Table, denoted_in_tree, labels_in, IsLabelled, labelled_top, labelled_inner, NameNoted, is_one_inside, is_known, is_free, StatementNoted, StatementsNoted, ItemNoted}
+use Rattle.bundle_merge_whole.proofs.composed.ListFacts.{all-in, pick}
 use Rattle.bundle_merge_whole.proofs.composed.Labels.{label-there}
 
 -- Numbers and lists.
 shifted : (a b k : ℕ) → nat_le (a + k) (b + k) ≡ nat_le a b
 shifted a b k = same_bool (nat_le (a + k) (b + k)) (nat_le a b) (λ is. let l = leb-true (a + k) (b + k) is in le-leb a b (omega (arith, l))) (λ is. let l = leb-true a b is in le-leb (a + k) (b + k) (omega (arith, l)))
-
-all-in : {A : Type 0} (P : A → Type 0) (xs : List A) → ((i : ℕ) (x : A) → slice_get xs i ≡ Some x → P x) → AllOf P xs
-all-in P [] f = tt
-all-in P (x ∷ xs) f = (f 0 x refl, all-in P xs (λ i y at. f (suc i) y at))
 
 get-behind : (before after : List (List Item)) (item : List Item) → slice_get (before ++ item ∷ after) (length before) ≡ Some item
 get-behind [] after item = refl
@@ -80,12 +77,6 @@ record AreAlike (begins k : ℕ) (d e : Denoted) : Type 0 where
 
 outside-both : (begins k : ℕ) (d e : Denoted) → is_inside begins d ≡ false → is_inside (begins + k) e ≡ false → AreAlike begins k d e
 outside-both begins k d e one two = record { same = one ∙ sym two; moves = λ is. absurd (false≢true (sym one ∙ is)) }
-
-pick : (R : Denoted → Denoted → Type 0) (b c : Bool) (x y : Denoted) (xs ys : List Denoted) → b ≡ c → (b ≡ true → R x y) → AllZip R xs ys → AllZip R (cond b (x ∷ xs) xs) (cond c (y ∷ ys) ys)
-pick R true true x y xs ys same its all = (its refl, all)
-pick R false false x y xs ys same its all = all
-pick R true false x y xs ys same its all = cc
-pick R false true x y xs ys same its all = cc
 
 module _ (items : List (List Item)) (table : Table) (whole : AllOf IsWhole items) (named : AllOf IsNamed items) (resolved : IsResolved Es (joined items)) where
   abbrev labels : Labelling

@@ -1,5 +1,6 @@
 -- Naming keeps bundles: where names are given by the naming rule, what is told of the items of a bundle stays.
-use Rattle.std.proofs.Common.{◌≡◌, ◌⊎◌, inl, inr, ℕ, suc, Bool, true, false, not, List, [], ◌∷◌, ◌++◌, append-nil, length, map, refl, ap, ap₂, sym, ◌∙◌, subst, arith}
+use Rattle.std.proofs.Common.{◌≡◌, ◌⊎◌, inl, inr, ℕ, List, [], ◌∷◌, ◌++◌, append-nil, length, map, ap, ap₂, sym, ◌∙◌, subst, arith}
+use Rattle.std.proofs.lemmas.List.{length-map}
 use Rattle.std.proofs.Math.Path.{subst_refl, path_j}
 use Rattle.std.specs.Prelude.{Contains, bytes_eq}
 use Rattle.std.specs.List.{AllZip}
@@ -33,6 +34,7 @@ use Rattle.bundle_scope_renamed.proofs.kept.Named.{ArePlain}
 use Rattle.bundle_merge_meaning.specs.walked.Names.{names_of}
 use Rattle.bundle_merge_meaning.specs.walked.Renaming.{KeepsText, Told, IsMarked}
 use Rattle.bundle_merge_meaning.proofs.walked.NameLemmas.{names_of-append, idents-names}
+use Rattle.bundle_merge_meaning.proofs.walked.Naming.{not_false}
 use Rattle.bundle_merge_whole.specs.composed.Noted.{Noted, AsWhole, AsFunction, function_ends, IsNotedFor, as_whole, as_function, AreNotedFor, BundleAgrees, IsNotedBundle, pairing_of}
 use Rattle.bundle_merge_whole.specs.composed.Becoming.{Becoming, AllOccur, labels_of}
 use Rattle.bundle_merge_whole.specs.composed.Turned.{PartTurned, ItemTurned, whole_turned, function_turned, ItemsTurned}
@@ -49,27 +51,27 @@ use Rattle.bundle_merge_whole.proofs.composed.Unnoted.{ModuleRemade, module_unno
 
 -- Functions.
 
-declarator-nodes : (load helper own its : Ident) (body : List Item) → AreNodes body → AreNodes (function_declarator load helper own its body)
+pub declarator-nodes : (load helper own its : Ident) (body : List Item) → AreNodes body → AreNodes (function_declarator load helper own its body)
 declarator-nodes load helper own its body are =
     one_node _ _ (join (one_node _ _ (nodes.name nodes.nothing))
     (one_node _ _ (nodes.name (one_node _ _ (one_node _ _ (one_node _ _
     (join (one_node _ _ (one_node _ _ (nodes.name nodes.nothing))) (join (one_node _ _ (one_node _ _ (nodes.name nodes.nothing))) (one_node _ _ are)))))))))
 
-function-nodes : (meta : ExportMetadata) (load helper own its : Ident) (body : List Item) → AreNodes body → AreNodes (function_items meta load helper own its body)
+pub function-nodes : (meta : ExportMetadata) (load helper own its : Ident) (body : List Item) → AreNodes body → AreNodes (function_items meta load helper own its body)
 function-nodes meta load helper own its body are = one_node 0 (h.VarDecl Var meta) (declarator-nodes load helper own its body are)
 
-node-count : (field : ℕ) (head : Head) (inside : List Item) → AreNodes inside → nodes_in 0 (node field head inside) ≡ 1
+pub node-count : (field : ℕ) (head : Head) (inside : List Item) → AreNodes inside → nodes_in 0 (node field head inside) ≡ 1
 node-count field head inside are = ap (nodes_in 0) (sym (append-nil (node field head inside))) ∙ (let all = (item-node field head inside (nodes-many are).1).here [] in all)
 
-function-count : (meta : ExportMetadata) (load helper own its : Ident) (body : List Item) → AreNodes body → nodes_in 0 (function_items meta load helper own its body) ≡ 1
+pub function-count : (meta : ExportMetadata) (load helper own its : Ident) (body : List Item) → AreNodes body → nodes_in 0 (function_items meta load helper own its body) ≡ 1
 function-count meta load helper own its body are = node-count 0 (h.VarDecl Var meta) (function_declarator load helper own its body) (declarator-nodes load helper own its body are)
 
 -- what is a function but for its names
-record IsFunction (item : List Item) : Type 0 where
-  nodes : AreNodes item
-  one : nodes_in 0 item ≡ 1
+pub record IsFunction (item : List Item) : Type 0 where
+  pub nodes : AreNodes item
+  pub one : nodes_in 0 item ≡ 1
 
-like-function : (item front : List Item) (insides : List (List Item)) (tolds : List Told) → item ≡ front ++ (flat insides ++ function_ends) → blanks front ≡ skeleton → AllZip IsMarked insides tolds → IsFunction item
+pub like-function : (item front : List Item) (insides : List (List Item)) (tolds : List Told) → item ≡ front ++ (flat insides ++ function_ends) → blanks front ≡ skeleton → AllZip IsMarked insides tolds → IsFunction item
 like-function item front insides tolds is blank marked =
     let none : Ident = ([], 0) in
     let body : List Item = flat insides in
@@ -85,10 +87,10 @@ like-function item front insides tolds is blank marked =
 
 -- Items.
 
-part-turned : (part renamed : List Item) (told : Told) → IsMarked part told → IsMarked renamed told → PartTurned part renamed
+pub part-turned : (part renamed : List Item) (told : Told) → IsMarked part told → IsMarked renamed told → PartTurned part renamed
 part-turned part renamed told one two = record { nodes = marked_nodes one; its_nodes = marked_nodes two; names = told-names part told one ∙ sym (told-names renamed told two) }
 
-parts-turned : (parts others : List (List Item)) (tolds : List Told) → AllZip IsMarked parts tolds → AllZip IsMarked others tolds → AllZip PartTurned parts others
+pub parts-turned : (parts others : List (List Item)) (tolds : List Told) → AllZip IsMarked parts tolds → AllZip IsMarked others tolds → AllZip PartTurned parts others
 parts-turned [] [] [] one two = tt
 parts-turned [] [] (told ∷ tolds) one two = absurd one
 parts-turned [] (other ∷ others) [] one two = absurd two
@@ -97,7 +99,7 @@ parts-turned (part ∷ parts) others [] one two = absurd one
 parts-turned (part ∷ parts) [] (told ∷ tolds) one two = absurd two
 parts-turned (part ∷ parts) (other ∷ others) (told ∷ tolds) one two = (part-turned part other told one.0 two.0, parts-turned parts others tolds one.1 two.1)
 
-function-turned : (item renamed front its_front : List Item) (names : List Label) (insides its : List (List Item)) (tolds : List Told) → item ≡ front ++ (flat insides ++ function_ends) → renamed ≡ its_front ++ (flat its ++ function_ends) → blanks front ≡ skeleton → blanks its_front ≡ skeleton → AllZip IsMarked insides tolds → AllZip IsMarked its tolds → ItemTurned item (AsFunction front names insides tolds) renamed (AsFunction its_front names its tolds)
+pub function-turned : (item renamed front its_front : List Item) (names : List Label) (insides its : List (List Item)) (tolds : List Told) → item ≡ front ++ (flat insides ++ function_ends) → renamed ≡ its_front ++ (flat its ++ function_ends) → blanks front ≡ skeleton → blanks its_front ≡ skeleton → AllZip IsMarked insides tolds → AllZip IsMarked its tolds → ItemTurned item (AsFunction front names insides tolds) renamed (AsFunction its_front names its tolds)
 function-turned item renamed front its_front names insides its tolds is its_is blank its_blank marked its_marked =
     let parts = parts-turned insides its tolds marked its_marked in
     let a = ap (λ l. length (names_of l)) is ∙ names-append front (flat insides ++ function_ends) in
@@ -120,7 +122,7 @@ abbrev pub OneNode : List Item → Noted → Type 0
 OneNode item (AsWhole told) = nodes_in 0 item ≡ 1
 OneNode item (AsFunction front names insides tolds) = AllOf (λ part. nodes_in 0 part ≡ 1) insides
 
-ones-again : (parts others : List (List Item)) (tolds : List Told) → AllZip IsMarked parts tolds → AllZip IsMarked others tolds → AllOf (λ part. nodes_in 0 part ≡ 1) parts → AllOf (λ part. nodes_in 0 part ≡ 1) others
+pub ones-again : (parts others : List (List Item)) (tolds : List Told) → AllZip IsMarked parts tolds → AllZip IsMarked others tolds → AllOf (λ part. nodes_in 0 part ≡ 1) parts → AllOf (λ part. nodes_in 0 part ≡ 1) others
 ones-again [] [] [] one two all = tt
 ones-again [] [] (told ∷ tolds) one two all = absurd one
 ones-again [] (other ∷ others) [] one two all = absurd two
@@ -129,7 +131,7 @@ ones-again (part ∷ parts) others [] one two all = absurd one
 ones-again (part ∷ parts) [] (told ∷ tolds) one two all = absurd two
 ones-again (part ∷ parts) (other ∷ others) (told ∷ tolds) one two all = (sym (same-count part other told one.0 two.0) ∙ all.0, ones-again parts others tolds one.1 two.1 all.1)
 
-singles : (parts : List (List Item)) (tolds : List Told) → AllZip IsMarked parts tolds → AllOf (λ part. nodes_in 0 part ≡ 1) parts → AllOf IsSingle parts
+pub singles : (parts : List (List Item)) (tolds : List Told) → AllZip IsMarked parts tolds → AllOf (λ part. nodes_in 0 part ≡ 1) parts → AllOf IsSingle parts
 singles [] [] marked all = tt
 singles [] (told ∷ tolds) marked all = absurd marked
 singles (part ∷ parts) [] marked all = absurd marked
@@ -147,10 +149,10 @@ single-again {renamed = renamed} (function_form {tolds = tolds} meta load helper
     one-single like.nodes like.one
 
 -- it stands for its cause
-form-blank : {item front : List Item} {names : List Label} {insides : List (List Item)} {tolds : List Told} → IsOfForm item (AsFunction front names insides tolds) → blanks front ≡ skeleton
+pub form-blank : {item front : List Item} {names : List Label} {insides : List (List Item)} {tolds : List Told} → IsOfForm item (AsFunction front names insides tolds) → blanks front ≡ skeleton
 form-blank (function_form meta load helper own exports marked) = front-blank meta load helper own exports
 
-noted-again : (p : Program) (hooks : Hooks) (form : Form) {item renamed : List Item} {one other : Noted} {cause : Cause} → IsNotedFor p hooks form item one cause → IsOfForm item one → Remade one renamed other → OneNode item one → IsNotedFor p hooks form renamed other cause
+pub noted-again : (p : Program) (hooks : Hooks) (form : Form) {item renamed : List Item} {one other : Noted} {cause : Cause} → IsNotedFor p hooks form item one cause → IsOfForm item one → Remade one renamed other → OneNode item one → IsNotedFor p hooks form renamed other cause
 noted-again p hooks form (as_whole marked stand) its (remade_whole again) count = as_whole again stand
 noted-again p hooks form {renamed = renamed} (as_function {c = c} {front = front} {names = names} {insides = insides} {tolds = tolds} are is plain states) its (remade_function {front = its_front} {insides = others} its_is blank again) count =
     as_function (like-function renamed its_front others tolds its_is blank again).nodes its_is (same-marks front its_front names _ (form-blank its ∙ sym blank) plain)
@@ -168,7 +170,7 @@ all-turned (item ∷ items) (one ∷ noted) [] others forms remade = absurd rema
 all-turned (item ∷ items) (one ∷ noted) (made ∷ renamed) [] forms remade = absurd remade
 all-turned (item ∷ items) (one ∷ noted) (made ∷ renamed) (other ∷ others) forms remade = (item-turned forms.0 remade.0, all-turned items noted renamed others forms.1 remade.1)
 
-all-single : (items : List (List Item)) (noted : List Noted) (renamed : List (List Item)) (others : List Noted) → AllOfForm items noted → AllRemade noted renamed others → AllZip OneNode items noted → AllOf IsSingle renamed
+pub all-single : (items : List (List Item)) (noted : List Noted) (renamed : List (List Item)) (others : List Noted) → AllOfForm items noted → AllRemade noted renamed others → AllZip OneNode items noted → AllOf IsSingle renamed
 all-single [] [] [] [] forms remade count = tt
 all-single [] [] [] (other ∷ others) forms remade count = absurd remade
 all-single [] [] (item ∷ renamed) others forms remade count = absurd remade
@@ -178,7 +180,7 @@ all-single (item ∷ items) (one ∷ noted) [] others forms remade count = absur
 all-single (item ∷ items) (one ∷ noted) (made ∷ renamed) [] forms remade count = absurd remade
 all-single (item ∷ items) (one ∷ noted) (made ∷ renamed) (other ∷ others) forms remade count = (single-again forms.0 remade.0 count.0, all-single items noted renamed others forms.1 remade.1 count.1)
 
-all-one : (items : List (List Item)) (noted : List Noted) (renamed : List (List Item)) (others : List Noted) → AllOfForm items noted → AllRemade noted renamed others → AllZip OneNode items noted → AllZip OneNode renamed others
+pub all-one : (items : List (List Item)) (noted : List Noted) (renamed : List (List Item)) (others : List Noted) → AllOfForm items noted → AllRemade noted renamed others → AllZip OneNode items noted → AllZip OneNode renamed others
 all-one [] [] [] [] forms remade count = tt
 all-one [] [] [] (other ∷ others) forms remade count = absurd remade
 all-one [] [] (item ∷ renamed) others forms remade count = absurd remade
@@ -188,7 +190,7 @@ all-one (item ∷ items) (one ∷ noted) [] others forms remade count = absurd r
 all-one (item ∷ items) (one ∷ noted) (made ∷ renamed) [] forms remade count = absurd remade
 all-one (item ∷ items) (one ∷ noted) (made ∷ renamed) (other ∷ others) forms remade count = (one-again forms.0 remade.0 count.0, all-one items noted renamed others forms.1 remade.1 count.1)
 
-all-noted : (p : Program) (hooks : Hooks) (form : Form) (items : List (List Item)) (noted : List Noted) (causes : List Cause) (renamed : List (List Item)) (others : List Noted) → AreNotedFor p hooks form items noted causes → AllOfForm items noted → AllRemade noted renamed others → AllZip OneNode items noted → AreNotedFor p hooks form renamed others causes
+pub all-noted : (p : Program) (hooks : Hooks) (form : Form) (items : List (List Item)) (noted : List Noted) (causes : List Cause) (renamed : List (List Item)) (others : List Noted) → AreNotedFor p hooks form items noted causes → AllOfForm items noted → AllRemade noted renamed others → AllZip OneNode items noted → AreNotedFor p hooks form renamed others causes
 all-noted p hooks form [] [] [] [] [] each forms remade count = tt
 all-noted p hooks form [] [] (cause ∷ causes) renamed others each forms remade count = absurd each
 all-noted p hooks form [] [] [] [] (other ∷ others) each forms remade count = absurd remade
@@ -239,10 +241,6 @@ module _ (reading other : Reading) (before after : List Item) (b : Becoming read
 
 -- Names.
 
-not_false : (b : Bool) → not b ≡ false → b ≡ true
-not_false true e = refl
-not_false false e = absurd cc
-
 pub changes-keep : (olds news : List Ident) → length news ≡ length olds → AllZip KeepsText (changes_to olds news) olds
 changes-keep [] [] same = tt
 changes-keep [] (new ∷ news) same = tt
@@ -251,10 +249,6 @@ changes-keep (old ∷ olds) (new ∷ news) same = ((λ is. sym ((bytes_eq-Decide
 
 pub module-names : (items : List (List Item)) → idents (joined items) ≡ names_of (flat items)
 module-names items = idents-names (joined items) ∙ names_of-append (flat items) (h.Close ∷ []) ∙ append-nil (names_of (flat items))
-
-length-map : {A B : Type 0} (f : A → B) (xs : List A) → length (map f xs) ≡ length xs
-length-map f [] = refl
-length-map f (x ∷ xs) = ap suc (length-map f xs)
 
 -- THE ITEMS: a tree that is the one before with other identifiers, but for notes and contexts, is of items of which the same is told
 pub items-renamed : (items : List (List Item)) (noted : List Noted) (after : List Item) → AllOfForm items noted → AllZip NoLone items noted → length (idents after) ≡ length (idents (joined items)) → without_notes after ≡ cleared (with_idents (joined items) (idents after)) → ModuleRemade noted after
@@ -276,7 +270,7 @@ items-edited items noted after forms lone same =
 
 -- as many identifiers
 pub as-many : (reading other : Reading) (before after : List Item) → Becoming reading before other after → length (idents after) ≡ length (idents before)
-as-many reading other before after b = length-map ident_of (occurrences after) ∙ sym (zip-length _ (occurrences before) (occurrences after) b.stands) ∙ sym (length-map ident_of (occurrences before))
+as-many reading other before after b = length-map (occurrences after) ident_of ∙ sym (zip-length _ (occurrences before) (occurrences after) b.stands) ∙ sym (length-map (occurrences before) ident_of)
 
 -- THE NAMED BUNDLE
 pub record IsStillNoted (p : Program) (hooks : Hooks) (plan : List Cause) (reading : Reading) (tree : List Item) : Type 0 where
@@ -339,7 +333,7 @@ module _ (p : Program) (hooks : Hooks) (plan : List Cause) (reading other : Read
 pub named-bundle : (p : Program) (hooks : Hooks) (plan : List Cause) (items : List (List Item)) (noted : List Noted) (labels : Labelling) (named : List Item) → IsNotedBundle p hooks items noted plan → AllOfForm items noted → AllZip OneNode items noted → AllZip NoLone items noted → IsOneToOne labels → AllOccur ByContext (joined items) labels → BundleAgrees ByContext labels items noted → IsResolved Es (joined items) → HasNamesOnly (joined items) → ArePlain (joined items) → IsNamed (joined items) named → IsListing named → IsStillNoted p hooks plan BySymbol named
 named-bundle p hooks plan items noted labels named its forms count lone one occur agrees resolved names plain naming listing =
     let b = becoming_named (joined items) named resolved names plain naming.renamed naming.keeps.same in
-    let lengths : length (idents named) ≡ length (idents (joined items)) = length-map ident_of (occurrences named) ∙ sym (zip-length _ (occurrences (joined items)) (occurrences named) b.stands) ∙ sym (length-map ident_of (occurrences (joined items))) in
+    let lengths : length (idents named) ≡ length (idents (joined items)) = length-map (occurrences named) ident_of ∙ sym (zip-length _ (occurrences (joined items)) (occurrences named) b.stands) ∙ sym (length-map (occurrences (joined items)) ident_of) in
     still-noted p hooks plan ByContext BySymbol items noted labels named its forms count one occur agrees b (items-renamed items noted named forms lone lengths naming.keeps.same) listing
 
 -- A BUNDLE THAT CAN BE RENAMED: noted right, of such items that what is told of them stays where names change

@@ -35,6 +35,7 @@ use Rattle.bundle_merge_meaning.proofs.walked.Denoting.{elements_denote, MeansNo
 use Rattle.bundle_merge_meaning.proofs.walked.Renewing.{marked_means}
 use Rattle.bundle_merge_whole.specs.composed.Noted.{MarksStandFor, Noted, AsWhole, AsFunction, are_plain, plain_marks, HasPlainMarks, StateAll, function_ends, IsNotedFor, as_whole, as_function, AreNotedFor, AgreesWith, AgreeInTurn, denoted_here, denoted_from, StatementsAgree, StandsForLabel, ItemAgrees, ItemsAgree, first_spot, view_of, BundleAgrees, IsNotedBundle, pairing_of}
 use Rattle.bundle_merge_whole.specs.composed.Noted as w
+use Rattle.bundle_merge_whole.proofs.composed.Aligned.{same_field}
 use Rattle.bundle_merge_whole.proofs.composed.Plain.{IsPlainPath, plain_field, plain_outer, not_is, plain_means}
 
 -- elements of two parts
@@ -79,10 +80,6 @@ plain_object (node ∷ outer) plain = plain.1
 plain_short : (path : List Around) → IsPlainPath path → is_in_short path ≡ false
 plain_short [] plain = refl
 plain_short (node ∷ outer) plain = plain.0
-
-same_field : (path : List Around) → (f : ℕ) × (path ≡ in_field f path)
-same_field [] = (0, refl)
-same_field (node ∷ outer) = (node.field, refl)
 
 -- what is marked is whole nodes
 pub flat_nodes : (items : List (List Item)) (tolds : List Told) → AllZip IsMarked items tolds → AreNodes (flat items)

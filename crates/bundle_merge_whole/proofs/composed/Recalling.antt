@@ -55,7 +55,7 @@ module _ (call : Calling) (before after : List Item) (names : HasNamesOnly befor
   zipped : AllZip (Recalls call move) os (occurrences after)
   zipped = zip call before after names plain faithful same calls
 
-  -- (The next two are local in the probe `capture`.)
+  -- the next two stand inside the proof of `recalled-alike` too, which hands on neither
   zip_declared : AllZip (IsRecalled call move os) all every
   zip_declared = subst (λ l. AllZip (IsRecalled call move os) l every) (sym (all-are before names)) (subst (AllZip (IsRecalled call move os) (declarations ByContext os)) (sym (declared-named ByContext after (named_after call before after names plain faithful same calls))) (declarations-recalled call move os os (occurrences after) (λ o at. at) zipped))
 

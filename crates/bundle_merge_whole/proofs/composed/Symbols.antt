@@ -24,7 +24,7 @@ use Rattle.bundle_merge_whole.specs.composed.Noted.{denoted_from, first_spot, vi
 use Rattle.bundle_merge_whole.specs.composed.Names.{Table, own_from, StatementNoted}
 use Rattle.bundle_merge_whole.specs.composed.Own.{OutsideNoted, EntriesNoted}
 use Rattle.bundle_merge_whole.proofs.composed.Merged.{Moves, moves-one, beside, in_turn}
-use Rattle.bundle_merge_whole.proofs.composed.Called.{both_once}
+use Rattle.bundle_merge_joined.proofs.loaded.Numbers.{both_once}
 use Rattle.bundle_merge_whole.proofs.composed.Own.{all-beside, front-filtered}
 
 zipped-symbols : (R : Denoted → Denoted → Type 0) → ((d e : Denoted) → R d e → denoted_symbol e ≡ denoted_symbol d) → (ds es : List Denoted) → AllZip R ds es → map denoted_symbol es ≡ map denoted_symbol ds

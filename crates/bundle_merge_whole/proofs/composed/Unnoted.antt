@@ -22,7 +22,7 @@ use Rattle.bundle_merge_whole.proofs.composed.Remade.{Remade, remade_whole, rema
 
 -- Parts.
 
--- two parts of what has no notes (as in the probe `become`, where it is private)
+-- two parts of what has no notes
 pub record Unnoted (xs first second : List Item) : Type 0 where
   pub front : List Item
   pub back : List Item

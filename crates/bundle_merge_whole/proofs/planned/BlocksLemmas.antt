@@ -19,7 +19,7 @@ use Rattle.bundle_merge_whole.specs.planned.Decided.{DecidedBlock, IsBlockDecide
 use Rattle.bundle_merge_whole.specs.planned.Blocks.{block_read}
 use Rattle.bundle_merge_whole.proofs.planned.OrderLemmas.{shares-flip, shares-join}
 use Rattle.bundle_merge_whole.proofs.planned.DueLemmas.{in-some}
-use Rattle.bundle_merge_whole.proofs.planned.ElementLemmas.{later, first_or_later}
+use Rattle.bundle_link_reached.proofs.ElementLemmas.{later, first_or_later}
 use Rattle.bundle_merge_whole.proofs.planned.ListLemmas.{here, no_element}
 
 -- ---- one list, where two graphs have the same requests

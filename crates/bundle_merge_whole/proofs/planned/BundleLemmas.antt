@@ -10,13 +10,13 @@ use Rattle.bundle_order_sort.specs.Plan.{IsPlanOf}
 use Rattle.bundle_order_sort.specs.declared.plan.Block.{Block}
 use Rattle.bundle_order_sort.specs.declared.plan.Plan.{Plan}
 use Rattle.bundle_rules.specs.Program.{Program, requested, IsList, AreBlocks}
-use Rattle.bundle_merge_whole.specs.planned.Alike.{IsAlike, IsAt}
+use Rattle.bundle_link_reached.specs.Alike.{IsAlike, IsAt}
 use Rattle.bundle_merge_whole.specs.planned.Blocks.{block_of, block_read}
 use Rattle.bundle_merge_whole.specs.planned.Placed.{AreFound, block_by, renumbered}
 use Rattle.bundle_rules.specs.Statements.{TopItem}
 use Rattle.bundle_rules.specs.Meaning.{IsOneToOne, Labelling}
 use Rattle.bundle_merge_whole.specs.planned.Sorted.{AreBlocksGood, IsItem}
-use Rattle.bundle_merge_whole.proofs.planned.ElementLemmas.{later}
+use Rattle.bundle_link_reached.proofs.ElementLemmas.{later}
 use Rattle.bundle_merge_whole.proofs.planned.ListLemmas.{ReadBy, here}
 use Rattle.bundle_merge_whole.proofs.planned.ArrangeLemmas.{whole-read}
 use Rattle.bundle_merge_whole.proofs.planned.StandLemmas.{good-within, ordered-from}

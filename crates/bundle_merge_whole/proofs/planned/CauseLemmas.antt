@@ -7,8 +7,8 @@ use Rattle.bundle_rules.specs.Nodes.{Text}
 use Rattle.bundle_rules.specs.Statements.{own_statements}
 use Rattle.bundle_rules.specs.Program.{Program, tree_of, requested}
 use Rattle.bundle_rules.specs.Bundle.{Cause, Own, ImportsNames, ImportsWhole, ImportsNothing, Helps, Defines, Loads, HoldsMeta, HoldsNamespace, Stars, Exports, Chosen, nothing, chosen, left, externals, import_causes, counted, module_causes, owner_of}
-use Rattle.bundle_merge_whole.proofs.planned.ElementLemmas.{later, first_or_later, map_on}
-use Rattle.bundle_merge_whole.proofs.planned.AskedLemmas.{flat_back, flat_on}
+use Rattle.bundle_link_reached.proofs.ElementLemmas.{later, first_or_later, map_on}
+use Rattle.bundle_link_index.proofs.AskedLemmas.{flat_back, flat_on, only_one as only}
 use Rattle.bundle_merge_whole.proofs.planned.ListLemmas.{Once, here, map_back, no_element, once-flat, once-join, once-map, once-numbers, once-one, once-texts}
 
 -- ---- what is chosen
@@ -108,9 +108,6 @@ imports-in s c (zero, l, e) = subst (λ c. (external_of c ≡ Some s) × (part_o
 imports-in s c (suc zero, l, e) = subst (λ c. (external_of c ≡ Some s) × (part_of c ≡ 0) × (kind_of c < 4)) e (refl, refl, omega arith)
 imports-in s c (suc (suc zero), l, e) = subst (λ c. (external_of c ≡ Some s) × (part_of c ≡ 0) × (kind_of c < 4)) e (refl, refl, omega arith)
 imports-in s c (suc (suc (suc k)), l, e) = absurd (omega (arith, l))
-
-only : {A : Type 0} (x y : A) → Contains (x ∷ []) y → x ≡ y
-only x y c = elim (first_or_later x [] y c) [ inl e ↦ e | inr none ↦ absurd (no_element none) ]
 
 imports-once : (s : Text) → Once (import_causes s)
 imports-once s = (

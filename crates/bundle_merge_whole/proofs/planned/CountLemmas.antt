@@ -17,8 +17,8 @@ use Rattle.bundle_order_sort.proofs.OnceLemmas.{InSome, AreApart, AreOnce}
 use Rattle.bundle_order_sort.proofs.BlockLemmas.{blocks-apart, blocks-in, blocks-once}
 use Rattle.bundle_merge_whole.specs.planned.Decided.{Decided, DecidedExternal, DecidedLoad, DecidedBlock, IsExternalDecided, IsLoadDecided, IsModuleDecided, AreDecided, one_if, names_plan, bare_plan, external_plan, numbers_from, es_plan, module_plan, object_plan, block_plan, back_plan, merged_blocks, merged_plan}
 use Rattle.bundle_merge_whole.specs.planned.Counted.{sum_of, count_if, external_count, load_count, module_count, object_count, block_count, front_count, injected_count}
-use Rattle.bundle_merge_whole.proofs.planned.ElementLemmas.{later, first_or_later}
-use Rattle.bundle_merge_whole.proofs.planned.AskedLemmas.{flat_back}
+use Rattle.bundle_link_reached.proofs.ElementLemmas.{later, first_or_later}
+use Rattle.bundle_link_index.proofs.AskedLemmas.{flat_back}
 use Rattle.bundle_merge_whole.proofs.planned.ListLemmas.{Once, here, no_element, once-join, once-places}
 use Rattle.bundle_merge_whole.proofs.planned.RequestLemmas.{list-once, list-reached}
 use Rattle.bundle_merge_whole.proofs.planned.OrderLemmas.{shares-flip, shares-join}

@@ -1,6 +1,7 @@
 -- What is laid out is just what is due, each once.
 use Rattle.std.proofs.Common.{◌≡◌, ◌⊎◌, inl, inr, ◌↔◌, ℕ, suc, ◌<◌, List, [], ◌∷◌, ◌++◌, Some, Contains, length, map, refl, sym, ap, ◌∙◌, subst, arith}
 use Rattle.std.specs.Prelude.{flat_map, slice_get}
+use Rattle.std.proofs.lemmas.Slice.Zip.{AllZip-long}
 use Rattle.std.specs.List.{AllZip}
 use Rattle.std.proofs.lemmas.List.{append-nil}
 use Rattle.std.proofs.lemmas.List.Elements.{Contains-append_left, Contains-append_right, Contains-append_cases}
@@ -15,8 +16,8 @@ use Rattle.bundle_rules.specs.Bundle as b
 use Rattle.bundle_rules.specs.Bundle.{Form, Cause, Own, ImportsNames, ImportsWhole, ImportsNothing, Helps, Defines, Loads, HoldsMeta, HoldsNamespace, Stars, Exports, IsDue, AsksCommonJs, Chosen, externals, import_causes, module_causes, owner_of, StandsFor, Pairing, IsBlockLaidOut, lone, cycle, AreBlocksLaidOut, over, next, IsLaidOut}
 use Rattle.bundle_order_sort.proofs.OnceLemmas.{IsOnce, IsOnce-from_distinct, InSome, AreApart, AreOnce}
 use Rattle.bundle_order_sort.proofs.BlockLemmas.{blocks-apart, blocks-has, blocks-once}
-use Rattle.bundle_merge_whole.proofs.planned.ElementLemmas.{later, first_or_later, map_on}
-use Rattle.bundle_merge_whole.proofs.planned.AskedLemmas.{flat_on}
+use Rattle.bundle_link_reached.proofs.ElementLemmas.{later, first_or_later, map_on}
+use Rattle.bundle_link_index.proofs.AskedLemmas.{flat_on}
 use Rattle.bundle_merge_whole.proofs.planned.ListLemmas.{Once, contains-get, get-contains, here, length-mapped, no_element, once-join, once-places, read-back, read-on, read-once}
 use Rattle.bundle_merge_whole.proofs.planned.RequestLemmas.{declared_leads, list-once, list-reached, meant-reached, star-used, used-listed}
 use Rattle.bundle_merge_whole.proofs.planned.OrderLemmas.{shares-flip, shares-join}
@@ -28,10 +29,7 @@ once-from [] once = tt
 once-from (x ∷ xs) once = (once.0, once-from xs once.1)
 
 pub length-zip : {A B : Type 0} (R : A → B → Type 0) (xs : List A) (ys : List B) → AllZip R xs ys → length xs ≡ length ys
-length-zip R [] [] z = refl
-length-zip R [] (y ∷ ys) z = absurd z
-length-zip R (x ∷ xs) [] z = absurd z
-length-zip R (x ∷ xs) (y ∷ ys) z = ap suc (length-zip R xs ys z.1)
+length-zip R xs ys z = sym (AllZip-long R xs ys z)
 
 -- ---- where what is due stands
 -- a cause of a listed module stands among those of each block that has the module

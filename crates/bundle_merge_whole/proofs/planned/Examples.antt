@@ -10,10 +10,11 @@ use Rattle.bundle_rules.specs.Bundle.{AsModule, Own, Helps, Defines, Loads, exte
 use Rattle.bundle_rules.proofs.Trees.{imports, imports_bare, requires}
 use Rattle.bundle_rules.proofs.Programs.{main_js, loaded}
 use Rattle.bundle_rules.proofs.BundleExamples as e
+use Rattle.bundle_link_targets.specs.Taken as picks
 use Rattle.bundle_merge_whole.specs.planned.Decided as d
 use Rattle.bundle_merge_whole.specs.planned.Decided.{Decided, DecidedBlock, DecidedExternal, DecidedLoad, AreDecided, HandsOut, IsModuleDecided, IsBlockDecided, plan_of, taken_modules}
 use Rattle.bundle_merge_whole.proofs.planned.ListLemmas.{no_element}
-use Rattle.bundle_merge_whole.proofs.planned.ElementLemmas.{first_or_later}
+use Rattle.bundle_link_reached.proofs.ElementLemmas.{first_or_later}
 
 -- ---- `f(1);` alone
 abbrev alone : Decided
@@ -57,7 +58,7 @@ is_decided = record {
   list = listed (λ c. no_element c) finished finished;
   modules = λ m c. elim (first_or_later 0 [] m c) [ inl same ↦ subst (IsModuleDecided (e.p e.as_module) alone) same module_zero | inr none ↦ absurd (no_element none) ];
   outside = tt;
-  starred = d.nothing;
+  starred = picks.nothing;
   exports = (λ t. absurd (true≢false (sym t)), no_exports);
   blocks = g.BlocksOf.ends (itself, itself) (λ y c s. no_element c) (g.Members.kept (itself, itself) g.Members.nothing) g.BlocksOf.over;
   kinds = λ block c. elim (first_or_later (record { modules = 0 ∷ []; is_sorted = false }) [] block c) [ inl same ↦ subst (IsBlockDecided (e.p e.as_module)) same block_zero | inr none ↦ absurd (no_element none) ];

@@ -1,4 +1,4 @@
--- What loops over the tables of modules find is what is decided: the CommonJS modules that a module loads, and stars.
+-- What loops over the tables of modules find is what is decided: the CommonJS modules that a module loads.
 use Rattle.std.proofs.Common.{◌≡◌, ◌↔◌, ℕ, Bool, true, false, not, nat_eq, List, [], ◌∷◌, ◌++◌, None, Contains, map, refl, ap, ◌∙◌, subst, cond, if◌then◌else◌, ◌&&◌}
 use Rattle.std.specs.Prelude.{IsTrue, filter, filter_map}
 use Rattle.std.specs.List.{cons_option, list_any}
@@ -12,9 +12,8 @@ use Rattle.bundle_rules.specs.Entries.{declared_requests, linked_calls}
 use Rattle.bundle_rules.specs.Program.{Program, tree_of, resolves, is_external, requested}
 use Rattle.bundle_rules.specs.Linking.{IsCommonJs}
 use Rattle.bundle_rules.specs.Bundle.{AsksCommonJs}
-use Rattle.bundle_merge_whole.specs.planned.Decided as d
-use Rattle.bundle_merge_whole.specs.planned.Decided.{Starred, taken_modules}
-use Rattle.bundle_merge_whole.proofs.planned.ElementLemmas.{later, filter_on, some_back, some_on}
+use Rattle.bundle_merge_whole.specs.planned.Decided.{taken_modules}
+use Rattle.bundle_link_reached.proofs.ElementLemmas.{later, filter_on, some_back, some_on}
 use Rattle.bundle_merge_whole.proofs.planned.ListLemmas.{here, passes}
 use Rattle.bundle_merge_whole.proofs.planned.OnceLemmas.{filter-once, filter-same, once-behind, once-led}
 
@@ -25,14 +24,6 @@ filter-members {Has = Has} test (x ∷ xs) says = by (test x) (says x (here x xs
     by : (t : Bool) → (IsTrue t ↔ Has x) → Members Has xs (filter test xs) → Members Has (x ∷ xs) (cond t (x ∷ filter test xs) (filter test xs))
     by true its more = kept (its.0 refl) more
     by false its more = left {xs = xs} {ys = filter test xs} (λ h. false≢true (its.1 h)) more
-
-pub filter-starred : {Has : Text → Type 0} (test : Text → Bool) (xs : List Text) → ((x : Text) → Contains xs x → IsTrue (test x) ↔ Has x) → Starred Has xs (filter test xs)
-filter-starred test [] says = d.nothing
-filter-starred {Has = Has} test (x ∷ xs) says = by (test x) (says x (here x xs)) (filter-starred test xs (λ y c. says y (later x xs y c)))
-  where
-    by : (t : Bool) → (IsTrue t ↔ Has x) → Starred Has xs (filter test xs) → Starred Has (x ∷ xs) (cond t (x ∷ filter test xs) (filter test xs))
-    by true its more = d.kept (its.0 refl) more
-    by false its more = d.left (λ h. false≢true (its.1 h)) more
 
 module _ (p : Program) (m : ℕ) (test : ℕ → Bool) (says : (c : ℕ) → IsTrue (test c) ↔ IsCommonJs p c) where
   abbrev declared : List Text

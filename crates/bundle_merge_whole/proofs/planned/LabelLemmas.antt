@@ -15,8 +15,8 @@ use Rattle.bundle_order_sort.proofs.OnceLemmas.{InSome}
 use Rattle.bundle_order_sort.proofs.BlockLemmas.{blocks-has, Members-has}
 use Rattle.bundle_merge_whole.specs.planned.Decided.{Decided, DecidedExternal, DecidedLoad, DecidedBlock, IsExternalDecided, IsModuleDecided, AreDecided}
 use Rattle.bundle_merge_whole.specs.planned.Counted.{sum_of, count_if, external_count, load_count, module_count, object_count, block_count, injected_count, label_if, external_labels, load_labels, module_labels, object_labels, block_labels, front_labels, injected_labels}
-use Rattle.bundle_merge_whole.proofs.planned.ElementLemmas.{later, first_or_later, map_on}
-use Rattle.bundle_merge_whole.proofs.planned.AskedLemmas.{flat_on}
+use Rattle.bundle_link_reached.proofs.ElementLemmas.{later, first_or_later, map_on}
+use Rattle.bundle_link_index.proofs.AskedLemmas.{flat_on}
 use Rattle.bundle_merge_whole.proofs.planned.ListLemmas.{here, length-mapped, map_back, no_element}
 use Rattle.bundle_merge_whole.proofs.planned.RequestLemmas.{list-reached, meant-reached, used-listed}
 use Rattle.bundle_merge_whole.proofs.planned.OrderLemmas.{shares-flip, shares-join}

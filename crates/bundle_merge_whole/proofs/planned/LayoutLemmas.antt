@@ -14,7 +14,7 @@ use Rattle.bundle_rules.specs.Bundle.{Form, Cause, HoldsNamespace, IsDue, Chosen
 use Rattle.bundle_order_sort.proofs.OnceLemmas.{InSome}
 use Rattle.bundle_order_sort.proofs.BlockLemmas.{blocks-in}
 use Rattle.bundle_merge_whole.specs.planned.Decided.{Decided, DecidedBlock, IsBlockDecided, IsModuleDecided, AreDecided, numbers_from, block_plan, front_plan, back_plan, arranged, placed_plan, blocks_plan, plan_of, index_of, item_at, no_item, block_items, IsBlockOrdered, AreOrdered}
-use Rattle.bundle_merge_whole.proofs.planned.ElementLemmas.{later, first_or_later}
+use Rattle.bundle_link_reached.proofs.ElementLemmas.{later, first_or_later}
 use Rattle.bundle_merge_whole.proofs.planned.ListLemmas.{ReadBy, here, length-mapped, no_element}
 use Rattle.bundle_merge_whole.proofs.planned.RequestLemmas.{list-once, list-reached}
 use Rattle.bundle_merge_whole.proofs.planned.OrderLemmas.{blocks-follow, shares-flip, shares-join}

@@ -8,8 +8,12 @@ use Rattle.std.proofs.lemmas.Option.{none-some, same_Some, get_or_from_slice_get
 use Rattle.std.proofs.lemmas.Slice.Eq.{bytes_eq-Decides}
 use Rattle.bundle_rules.specs.Nodes.{Text, each_once, numbers_once}
 use Rattle.bundle_order_sort.proofs.OnceLemmas.{IsOnce}
-use Rattle.bundle_merge_whole.proofs.planned.ElementLemmas.{later, first_or_later, filter_back, filter_on}
-use Rattle.bundle_merge_whole.proofs.planned.AskedLemmas.{flat_back}
+use Rattle.bundle_link_reached.proofs.ElementLemmas.{later, first_or_later, filter_back, filter_on}
+pub use Rattle.bundle_link_index.proofs.ProgramLemmas.{map_back}
+pub use Rattle.bundle_link_index.proofs.HandedLemmas.{got as get-contains, got_there as contains-get}
+pub use Rattle.bundle_link_reached.proofs.AlikeLemmas.{once_back as numbers-back, once_on as numbers-on}
+pub use Rattle.bundle_scope_names.proofs.Counting.{length-map as length-mapped}
+use Rattle.bundle_link_index.proofs.AskedLemmas.{flat_back}
 
 -- each element stands once
 abbrev pub Once : {A : Type 0} → List A → Type 0
@@ -21,19 +25,6 @@ no_element c = omega (arith, c.1)
 
 pub here : {A : Type 0} (x : A) (xs : List A) → Contains (x ∷ xs) x
 here x xs = (0, omega arith, refl)
-
-pub contains-get : {A : Type 0} (xs : List A) (i : ℕ) (x : A) → slice_get xs i ≡ Some x → Contains xs x
-contains-get xs i x e = (i, slice_get_within xs i x e, get_or_from_slice_get xs i x x e)
-
-pub get-contains : {A : Type 0} (xs : List A) (x : A) → Contains xs x → (i : ℕ) × (slice_get xs i ≡ Some x)
-get-contains xs x c = (c.0, slice_get-get_or xs c.0 x c.1 ∙ ap (λ y. Some y) c.2)
-
-pub map_back : {A B : Type 0} (f : A → B) (xs : List A) (y : B) → Contains (map f xs) y → (x : A) × Contains xs x × (f x ≡ y)
-map_back f [] y c = absurd (no_element c)
-map_back f (x ∷ xs) y c = elim (first_or_later (f x) (map f xs) y c) [
-  | inl e ↦ (x, here x xs, e)
-  | inr rest ↦ let r = map_back f xs y rest in (r.0, later x xs r.0 r.1, r.2)
-]
 
 pub passes : {A : Type 0} (test : A → Bool) (xs : List A) (x : A) → Contains (filter test xs) x → test x ≡ true
 passes test [] x c = absurd (no_element c)
@@ -89,22 +80,6 @@ once-texts (x ∷ texts) = (
   once-filter (λ y. not (bytes_eq x y)) (each_once texts) (once-texts texts),
 )
 
-pub numbers-back : (ns : List ℕ) (n : ℕ) → Contains (numbers_once ns) n → Contains ns n
-numbers-back [] n c = absurd (no_element c)
-numbers-back (m ∷ ns) n c = elim (first_or_later m (filter (λ k. not (nat_eq m k)) (numbers_once ns)) n c) [
-  | inl e ↦ (0, omega arith, e)
-  | inr rest ↦ later m ns n (numbers-back ns n (filter_back (λ k. not (nat_eq m k)) (numbers_once ns) n rest))
-]
-
-pub numbers-on : (ns : List ℕ) (n : ℕ) → Contains ns n → Contains (numbers_once ns) n
-numbers-on [] n c = absurd (no_element c)
-numbers-on (m ∷ ns) n c = by (nat_eq m n) refl (first_or_later m ns n c) (numbers-on ns n)
-  where
-    by : (b : Bool) → nat_eq m n ≡ b → (m ≡ n) ⊎ Contains ns n → (Contains ns n → Contains (numbers_once ns) n) → Contains (m ∷ filter (λ k. not (nat_eq m k)) (numbers_once ns)) n
-    by b is (inl e) ih = (0, omega arith, e)
-    by true is (inr rest) ih = (0, omega arith, eqb-true m n is)
-    by false is (inr rest) ih = later m (filter (λ k. not (nat_eq m k)) (numbers_once ns)) n (filter_on (λ k. not (nat_eq m k)) (numbers_once ns) n (ih rest) (ap not is))
-
 pub texts-back : (texts : List Text) (s : Text) → Contains (each_once texts) s → Contains texts s
 texts-back [] s c = absurd (no_element c)
 texts-back (x ∷ texts) s c = elim (first_or_later x (filter (λ y. not (bytes_eq x y)) (each_once texts)) s c) [
@@ -159,7 +134,3 @@ read-once xs (n ∷ order) (b ∷ ys) z once each = (
   λ c. let r = read-back xs order ys z.1 b c in each.0 (subst (Contains order) (once-places xs once r.0 n b r.2 z.0) r.1),
   read-once xs order ys z.1 once each.1,
 )
-
-pub length-mapped : {A B : Type 0} (f : A → B) (xs : List A) → length (map f xs) ≡ length xs
-length-mapped f [] = refl
-length-mapped f (x ∷ xs) = ap suc (length-mapped f xs)

@@ -6,7 +6,7 @@ use Rattle.std.proofs.lemmas.List.{append_assoc, append-nil}
 use Rattle.std.proofs.lemmas.List.Elements.{Contains-append_left, filter-append}
 use Rattle.std.proofs.lemmas.Slice.Eq.{bytes_eq-Decides}
 use Rattle.bundle_rules.specs.Nodes.{Text, each_once, numbers_once}
-use Rattle.bundle_merge_whole.proofs.planned.ElementLemmas.{later, first_or_later}
+use Rattle.bundle_link_reached.proofs.ElementLemmas.{later, first_or_later}
 use Rattle.bundle_merge_whole.proofs.planned.ListLemmas.{here, no_element}
 
 -- the test that a number is another

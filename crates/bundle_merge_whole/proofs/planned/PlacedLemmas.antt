@@ -15,18 +15,21 @@ use Rattle.bundle_rules.specs.Linking.{Target, Namespace, External, CommonJs, Is
 use Rattle.bundle_rules.specs.Meaning.{Label, Of, IsMeant}
 use Rattle.bundle_rules.specs.Bundle.{Form, AreNames, AsksCommonJs, externals}
 use Rattle.bundle_order_sort.proofs.OnceLemmas.{IsOnce}
-use Rattle.bundle_merge_whole.specs.planned.Alike.{IsAlike, IsAt}
+use Rattle.bundle_link_reached.specs.Alike.{IsAlike, IsAt}
+use Rattle.bundle_link_targets.specs.Taken as picks
+use Rattle.bundle_link_targets.specs.Taken.{Picks}
 use Rattle.bundle_merge_whole.specs.planned.Decided as d
-use Rattle.bundle_merge_whole.specs.planned.Decided.{Decided, DecidedExternal, DecidedLoad, DecidedBlock, IsExternalDecided, IsLoadDecided, IsModuleDecided, IsBlockDecided, HandsOut, Starred, AreDecided, index_of, numbers_from}
+use Rattle.bundle_merge_whole.specs.planned.Decided.{Decided, DecidedExternal, DecidedLoad, DecidedBlock, IsExternalDecided, IsLoadDecided, IsModuleDecided, IsBlockDecided, HandsOut, AreDecided, index_of, numbers_from}
 use Rattle.bundle_merge_whole.specs.planned.Placed.{id_at, load_by, block_by, renumbered, AreFound}
-use Rattle.bundle_merge_whole.proofs.planned.ElementLemmas.{later}
+use Rattle.bundle_link_reached.proofs.ElementLemmas.{later}
 use Rattle.bundle_merge_whole.proofs.planned.ListLemmas.{contains-get, here, map_back, once-places}
 use Rattle.bundle_merge_whole.proofs.planned.DueLemmas.{once-from}
 use Rattle.bundle_merge_whole.proofs.planned.LayoutLemmas.{index-there}
-use Rattle.bundle_merge_whole.proofs.planned.AlikeLemmas as a
-use Rattle.bundle_merge_whole.proofs.planned.AlikeLemmas.{AlikeTarget, common_js_on, declared_on, flip, linked_on, one_target, outside_on, resolves_on, same_asked, turned}
-use Rattle.bundle_merge_whole.proofs.planned.AlikeMeantLemmas as n
-use Rattle.bundle_merge_whole.proofs.planned.AlikeMeantLemmas.{AlikeLabel, meant_on}
+use Rattle.bundle_link_reached.proofs.AlikeLemmas as a
+use Rattle.bundle_link_reached.proofs.AlikeLemmas.{AlikeTarget, common_js_on, declared_on, flip, linked_on, resolves_on, same_asked}
+use Rattle.bundle_merge_whole.proofs.planned.AlikeLemmas.{one_target, outside_on, turned}
+use Rattle.bundle_link_reached.proofs.MeantLemmas as n
+use Rattle.bundle_link_reached.proofs.MeantLemmas.{AlikeLabel, meant_on}
 
 label-target : {R : ℕ → ℕ → Type 0} {t : Target} {o : Label} → AlikeLabel R (Of t) o → (u : Target) × (Of u ≡ o) × AlikeTarget R t u
 label-target (n.of {t} {u} alike) = (u, refl, alike)
@@ -104,11 +107,11 @@ members-zip R name names both (x ∷ xs) [] zs z its = absurd z
 members-zip R name names {P} {Q} both (x ∷ xs) (y ∷ ys) (_ ∷ zs) z (kept h more) = subst (λ k. Members P (x ∷ xs) (k ∷ map name zs)) (sym (names x y z.0)) (kept ((both x y z.0).1 h) (members-zip R name names both xs ys zs z.1 more))
 members-zip R name names {P} {Q} both (x ∷ xs) (y ∷ ys) zs z (left h more) = left {xs = xs} {ys = map name zs} (λ k. h ((both x y z.0).0 k)) (members-zip R name names both xs ys zs z.1 more)
 
-starred-same : {P Q : Text → Type 0} → ((s : Text) → P s ↔ Q s) → (xs ys : List Text) → Starred P xs ys → Starred Q xs ys
-starred-same both [] [] d.nothing = d.nothing
+starred-same : {P Q : Text → Type 0} → ((s : Text) → P s ↔ Q s) → (xs ys : List Text) → Picks P xs ys → Picks Q xs ys
+starred-same both [] [] picks.nothing = picks.nothing
 starred-same both [] (y ∷ ys) its = elim its [ ]
-starred-same both (x ∷ xs) (_ ∷ ys) (d.kept h more) = d.kept ((both x).0 h) (starred-same both xs ys more)
-starred-same both (x ∷ xs) ys (d.left h more) = d.left (λ k. h ((both x).1 k)) (starred-same both xs ys more)
+starred-same both (x ∷ xs) (_ ∷ ys) (picks.picked h more) = picks.picked ((both x).0 h) (starred-same both xs ys more)
+starred-same both (x ∷ xs) ys (picks.left h more) = picks.left (λ k. h ((both x).1 k)) (starred-same both xs ys more)
 
 names-same : {P Q : Text → Type 0} {names : List Text} → ((s : Text) → P s ↔ Q s) → AreNames P names → AreNames Q names
 names-same both its = record { ascending = its.ascending; all = λ x. ((λ c. (both x).0 ((its.all x).0 c)), λ h. (its.all x).1 ((both x).1 h)) }
@@ -224,7 +227,7 @@ module _ (p q : Program) (list : List ℕ) (once : IsOnce list) (w : IsAlike p q
       list = is;
       modules = module-decided;
       outside = subst (AllZip (IsExternalDecided p) f.externals) (sym same-externals) (external-decided f.externals (externals q (numbers_from zero (length list))) found.outside);
-      starred = subst (λ (texts : List Text). Starred (HasExternalStar p p.entry) texts f.stars) (sym same-externals)
+      starred = subst (λ (texts : List Text). Picks (HasExternalStar p p.entry) texts f.stars) (sym same-externals)
         (starred-same (λ s. (star-forth q p (λ k m. IsAt list m k) back s, star-forth p q At w s)) (externals q (numbers_from zero (length list))) f.stars found.starred);
       exports = both-steps found.exports (hands-on (linked-forth q p (λ k m. IsAt list m k) back), hands-on (linked-forth p q At w));
       blocks = blocks;

@@ -12,9 +12,11 @@ use Rattle.bundle_rules.specs.Linking.{IsCommonJs, Namespace, HasExternalStar}
 use Rattle.bundle_rules.specs.Meaning.{Of, IsMeant}
 use Rattle.bundle_rules.specs.Bundle as b
 use Rattle.bundle_rules.specs.Bundle.{Form, AsModule, AsCall, Cause, Own, ImportsNames, ImportsWhole, ImportsNothing, Helps, Defines, Loads, HoldsMeta, HoldsNamespace, Stars, Exports, IsDue, IsUsed, MeansName, MeansWhole, AsksCommonJs, Chosen, nothing, chosen, left, externals, import_causes, counted, module_causes}
+use Rattle.bundle_link_targets.specs.Taken as picks
+use Rattle.bundle_link_targets.specs.Taken.{Picks}
 use Rattle.bundle_merge_whole.specs.planned.Decided as d
-use Rattle.bundle_merge_whole.specs.planned.Decided.{Decided, DecidedExternal, DecidedLoad, DecidedBlock, IsExternalDecided, IsModuleDecided, HandsOut, Starred, AreDecided, one_if, external_plan, numbers_from, es_plan, module_plan, object_plan, block_plan, front_plan, back_plan}
-use Rattle.bundle_merge_whole.proofs.planned.ElementLemmas.{later, first_or_later}
+use Rattle.bundle_merge_whole.specs.planned.Decided.{Decided, DecidedExternal, DecidedLoad, DecidedBlock, IsExternalDecided, IsModuleDecided, HandsOut, AreDecided, one_if, external_plan, numbers_from, es_plan, module_plan, object_plan, block_plan, front_plan, back_plan}
+use Rattle.bundle_link_reached.proofs.ElementLemmas.{later, first_or_later}
 use Rattle.bundle_merge_whole.proofs.planned.ListLemmas.{here, map_back, no_element}
 use Rattle.bundle_merge_whole.proofs.planned.RequestLemmas.{list-reached, listed-used}
 use Rattle.bundle_merge_whole.proofs.planned.CauseLemmas.{Chosen-join, back_causes, block_causes, chosen-all, chosen-none, chosen-nothing, chosen-one, front_causes}
@@ -186,11 +188,11 @@ module _ (p : Program) (form : Form) where
     block-chosen members all = Chosen-join (modules-chosen members all) (objects-chosen members all)
 
   -- ---- the whole
-  starred-chosen : (xs ys : List Text) → Starred (HasExternalStar p p.entry) xs ys → Chosen Due (map Stars xs) (map Stars ys)
-  starred-chosen [] [] d.nothing = nothing
+  starred-chosen : (xs ys : List Text) → Picks (HasExternalStar p p.entry) xs ys → Chosen Due (map Stars xs) (map Stars ys)
+  starred-chosen [] [] picks.nothing = nothing
   starred-chosen [] (y ∷ ys) its = elim its [ ]
-  starred-chosen (x ∷ xs) (y ∷ ys) (d.kept star more) = chosen (b.stars star) (starred-chosen xs ys more)
-  starred-chosen (x ∷ xs) ys (d.left lacks more) = left (λ due. lacks (due-star due)) (starred-chosen xs ys more)
+  starred-chosen (x ∷ xs) (y ∷ ys) (picks.picked star more) = chosen (b.stars star) (starred-chosen xs ys more)
+  starred-chosen (x ∷ xs) ys (picks.left lacks more) = left (λ due. lacks (due-star due)) (starred-chosen xs ys more)
 
   module _ (d : Decided) (its : AreDecided p form d) where
     -- in front and behind too

@@ -5,7 +5,7 @@ use Rattle.std.proofs.lemmas.Bool.{false≢true}
 use Rattle.std.proofs.lemmas.List.Elements.{filter-append}
 use Rattle.std.proofs.lemmas.Slice.Eq.{bytes_eq-Decides}
 use Rattle.bundle_rules.specs.Nodes.{Text, each_once, numbers_once}
-use Rattle.bundle_merge_whole.proofs.planned.ElementLemmas.{later, first_or_later}
+use Rattle.bundle_link_reached.proofs.ElementLemmas.{later, first_or_later}
 use Rattle.bundle_merge_whole.proofs.planned.ListLemmas.{no_element}
 use Rattle.bundle_merge_whole.proofs.planned.OnceLemmas.{once-behind}
 

@@ -18,29 +18,18 @@ use Rattle.bundle_rules.specs.Denotes.{Denoted}
 use Rattle.bundle_rules.specs.Statements.{Element}
 use Rattle.bundle_rules.specs.Bundle.{IsUsed, AsksCommonJs, externals}
 use Rattle.bundle_order_sort.proofs.OnceLemmas.{IsOnce, IsOnce-from_distinct}
-use Rattle.bundle_merge_whole.proofs.planned.ElementLemmas.{first_or_later, filter_back, filter_on, some_on, found}
-use Rattle.bundle_merge_whole.proofs.planned.AskedLemmas.{flat_back, flat_on, import_asks, entry_asks, star_asks}
+use Rattle.bundle_link_reached.proofs.ElementLemmas.{first_or_later, filter_back, filter_on, some_on, found}
+use Rattle.bundle_link_index.proofs.AskedLemmas.{flat_back, flat_on, entry_asks, star_asks}
+use Rattle.bundle_link_reached.proofs.AskedLemmas.{bound_asks, resolved_inside}
 use Rattle.bundle_merge_whole.proofs.planned.ListLemmas.{no_element, here, numbers-on, passes, texts-back, texts-on}
 
 -- ---- requests
--- what is a module is not external
-pub resolved_inside : (p : Program) (m d : ℕ) (s : Text) → resolves p m s ≡ Some d → is_external p s ≡ false
-resolved_inside p m d s is = by (is_external p s) refl is
-  where
-    by : (b : Bool) → is_external p s ≡ b → (if b then None else p.leads m s) ≡ Some d → is_external p s ≡ false
-    by true at is = absurd (none-some d is)
-    by false at is = at
-
 -- the module to which what a declaration asks for leads is requested
 pub declared_leads : (p : Program) (m d : ℕ) (s : Text) → Contains (declared_requests (tree_of p m)) s → resolves p m s ≡ Some d → Requests p m d
 declared_leads p m d s there leads =
     numbers-on _ d (some_on (resolves p m) (requests_of p.settings (is_free (tree_of p m)) (tree_of p m)) s d
     (texts-on _ s (Contains-append_left _ _ s (filter_on (λ s. not (has_text s p.settings.external)) (declared_requests (tree_of p m)) s there (ap not (resolved_inside p m d s leads)))))
     leads)
-
--- the specifier of the import that binds a name
-pub bound_asks : (tree : List Item) (y : Text) (entry : ImportEntry) → import_of (imports_of tree) y ≡ Some entry → Contains (declared_requests tree) entry.specifier
-bound_asks tree y entry is = import_asks tree entry (found (λ it. bytes_eq it.local y) (imports_of tree) entry is)
 
 -- ---- the list
 pub list-reached : (p : Program) (list : List ℕ) → IsList p list → (m : ℕ) → Contains list m ↔ IsReached p m

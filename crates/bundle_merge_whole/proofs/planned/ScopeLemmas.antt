@@ -1,8 +1,10 @@
--- The scopes of a tree for which a context is taken, one each, are no more than its bindings; the first part is taken over from `bundle_contexts`.
+-- The scopes of a tree for which a context is taken, one each, are no more than its bindings. (That bindings that are
+-- denoted are no more than are counted is proved where trees are resolved too, but not handed on.)
 use Rattle.std.proofs.Common.{◌≡◌, ◌≤◌, ℕ, zero, suc, false, List, [], ◌∷◌, Some, length, map, refl, ap, sym, ◌∙◌, subst, arith}
 use Rattle.std.specs.Prelude.{slice_get}
 use Rattle.std.specs.List.{AllZip}
 use Rattle.std.proofs.lemmas.Option.{same_Some}
+use Rattle.std.proofs.lemmas.Slice.Zip.{AllZip-long}
 use Rattle.bundle_tree_piece.specs.Item.{Item}
 use Rattle.bundle_rules.specs.Scopes.{ModuleKind, Scope}
 use Rattle.bundle_rules.specs.Declarations.{BySymbol, Name}
@@ -85,12 +87,6 @@ module _ (kind : ModuleKind) (items : List Item) (table : Denotations) (t : IsTa
       let rest = bindings-of scopes (λ k u e. each (suc k) u e) in
       (first.0 ∷ rest.0, (first.1, rest.1))
 
-  zip-length : (scopes given : List ℕ) → AllZip IsTaken scopes given → length scopes ≡ length given
-  zip-length [] [] z = refl
-  zip-length [] (b ∷ given) z = absurd z
-  zip-length (s ∷ scopes) [] z = absurd z
-  zip-length (s ∷ scopes) (b ∷ given) z = ap suc (zip-length scopes given z.1)
-
   same-scope : (s u b : ℕ) → IsTaken s b → IsTaken u b → s ≡ u
   same-scope s u b x y = sym x.scope ∙ (ap (λ (it : Binding). it.scope) (same_Some x.binding y.binding (sym x.at ∙ y.at)) ∙ y.scope)
 
@@ -98,7 +94,7 @@ module _ (kind : ModuleKind) (items : List Item) (table : Denotations) (t : IsTa
   pub scopes-below : (scopes : List ℕ) → AreTaken scopes → length scopes ≤ binding_count kind items
   scopes-below scopes taken =
       let chosen = bindings-of scopes taken.each in
-      let long = zip-length scopes chosen.0 chosen.1 in
+      let long = AllZip-long IsTaken scopes chosen.0 chosen.1 in
       let second = λ (k b : ℕ) (e : slice_get chosen.0 k ≡ Some b). AllZip-at_second IsTaken scopes chosen.0 k b chosen.1 e in
       let fewer = count chosen.0 (record {
         once = λ i j b e f. (let x = second i b e in let y = second j b f in taken.once i j x.0 x.1 (y.1 ∙ ap (λ (s : ℕ). Some s) (same-scope y.0 x.0 b y.2 x.2)));

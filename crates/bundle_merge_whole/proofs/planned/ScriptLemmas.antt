@@ -9,8 +9,8 @@ use Rattle.bundle_rules.specs.Statements.{TopItem, top_items}
 use Rattle.bundle_rules.specs.Entries.{declared_requests, is_module_declaration, requests_by, requests_of_item}
 use Rattle.bundle_rules.specs.Program.{Program, tree_of}
 use Rattle.bundle_rules.specs.Linking.{IsCommonJs}
-use Rattle.bundle_merge_whole.proofs.planned.ElementLemmas.{first_or_later}
-use Rattle.bundle_merge_whole.proofs.planned.AskedLemmas.{flat_back}
+use Rattle.bundle_link_reached.proofs.ElementLemmas.{first_or_later}
+use Rattle.bundle_link_index.proofs.AskedLemmas.{flat_back}
 use Rattle.bundle_merge_whole.proofs.planned.ListLemmas.{no_element}
 
 asks-by : (head : Head) (item : List Item) (s : Text) → Contains (requests_by head item) s → is_module_declaration head ≡ true

@@ -14,7 +14,7 @@ use Rattle.bundle_rules.specs.Faults as f
 use Rattle.bundle_rules.specs.Faults.{TreesCountTo, NeedsTooManyContexts, tree_count, properties_count}
 use Rattle.bundle_merge_whole.specs.planned.Decided.{Decided, AreDecided}
 use Rattle.bundle_merge_whole.specs.planned.Counted.{answer_count, count_if, injected_labels, sum_of, tree_total}
-use Rattle.bundle_merge_whole.proofs.planned.ElementLemmas.{later}
+use Rattle.bundle_link_reached.proofs.ElementLemmas.{later}
 use Rattle.bundle_merge_whole.proofs.planned.ListLemmas.{here}
 use Rattle.bundle_merge_whole.proofs.planned.CountLemmas.{needs-too-many}
 use Rattle.bundle_merge_whole.proofs.planned.LabelLemmas.{labels-few}

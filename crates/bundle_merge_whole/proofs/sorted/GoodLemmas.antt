@@ -16,6 +16,7 @@ use Rattle.bundle_merge_joined.specs.joined.Picked.{BindsOwn, IsPlaced, IsSingle
 use Rattle.bundle_merge_joined.proofs.joined.TopItems.{order-of-block, placed-joined, top_items-joined}
 use Rattle.bundle_merge_whole.specs.planned.Sorted.{AreItemsOf, IsBlockGood}
 use Rattle.bundle_merge_whole.proofs.planned.ListLemmas.{get-contains, length-mapped}
+use Rattle.bundle_merge_whole.proofs.composed.ListFacts.{all-in}
 
 -- a block is a part of the merged items
 pub record IsPart (merged : List (List Item)) (first count : ℕ) (block : List (List Item)) : Type 0 where
@@ -25,10 +26,6 @@ pub record IsPart (merged : List (List Item)) (first count : ℕ) (block : List 
 length-placed : (n : ℕ) (items : List (List Item)) → length (placed n items) ≡ length items
 length-placed n [] = refl
 length-placed n (item ∷ more) = ap suc (length-placed (n + length item) more)
-
-all-from : {A : Type 0} (P : A → Type 0) (xs : List A) → ((n : ℕ) (x : A) → slice_get xs n ≡ Some x → P x) → AllOf P xs
-all-from P [] each = tt
-all-from P (x ∷ xs) each = (each zero x refl, all-from P xs (λ n y e. each (suc n) y e))
 
 all-to : {A : Type 0} (P : A → Type 0) (xs : List A) → AllOf P xs → (n : ℕ) (x : A) → slice_get xs n ≡ Some x → P x
 all-to P [] all n x e = absurd (none-some x e)
@@ -65,7 +62,7 @@ block-good merged others block first causes order part single whole named ways o
     counts = length-mapped _ (top_items (joined block)) ∙ (ap length (top_items-joined block single) ∙ (length-placed 1 block ∙ part.long))
 
     placed_its : (items : List TopItem) → AreItemsOf (top_items (joined others)) merged first (length causes) items → AllOf (IsPlaced others) items
-    placed_its items its = all-from (IsPlaced others) items (λ n top e.
+    placed_its items its = all-in (IsPlaced others) items (λ n top e.
         let c = subst (λ (l : List TopItem). Contains l top) (top_items-joined others other_single) (its.there n top e) in
         let at = get-contains (placed 1 others) top c in
         all-to (IsPlaced others) (placed 1 others) (placed-joined others) at.0 top at.1)

@@ -11,6 +11,7 @@ use Rattle.bundle_rules.specs.Entries.{Named, Whole, declared_requests, has_impo
 use Rattle.bundle_rules.specs.Program.{Program, tree_of, resolves, requested, Requests, IsList, AreBlocks}
 use Rattle.bundle_rules.specs.Linking.{IsCommonJs, Namespace, CommonJs, IsLinked, HasExternalStar}
 use Rattle.bundle_rules.specs.Meaning.{Of, IsMeant}
+use Rattle.bundle_link_targets.specs.Taken.{Picks}
 use Rattle.bundle_rules.specs.Bundle.{Form, AsModule, AsCall, Cause, Own, ImportsNames, ImportsWhole, ImportsNothing, Helps, Defines, Loads, HoldsMeta, HoldsNamespace, Stars, Exports, AreNames, MeansName, MeansWhole, AsksCommonJs, Pairing, externals, owner_of}
 
 -- What is decided.
@@ -200,12 +201,6 @@ pub data HandsOut (p : Program) : Form → Type 0 where
   exported : {x : Text} → IsLinked p p.entry x → HandsOut p AsModule
   returned : HandsOut p AsCall
 
--- `Starred Has texts stars`: of the texts, those that `Has` holds of, in their order
-pub data Starred (Has : Text → Type 0) : List Text → List Text → Type 0 where
-  nothing : Starred Has [] []
-  kept : {x : Text} {xs ys : List Text} → Has x → Starred Has xs ys → Starred Has (x ∷ xs) (x ∷ ys)
-  left : {x : Text} {xs ys : List Text} → (Has x → ⊥) → Starred Has xs ys → Starred Has (x ∷ xs) ys
-
 -- what is decided of a listed module
 pub record IsModuleDecided (p : Program) (d : Decided) (m : ℕ) : Type 0 where
   pub common_js : IsTrue (d.is_common_js m) ↔ IsCommonJs p m
@@ -225,7 +220,7 @@ pub record AreDecided (p : Program) (form : Form) (d : Decided) : Type 0 where
   pub list : IsList p d.list
   pub modules : (m : ℕ) → Contains d.list m → IsModuleDecided p d m
   pub outside : AllZip (IsExternalDecided p) d.externals (externals p d.list)
-  pub starred : Starred (HasExternalStar p p.entry) (externals p d.list) d.stars
+  pub starred : Picks (HasExternalStar p p.entry) (externals p d.list) d.stars
   pub exports : IsTrue d.exports ↔ HandsOut p form
   pub blocks : AreBlocks p d.list (map (λ block. block.modules) d.blocks)
   pub kinds : (block : DecidedBlock) → Contains d.blocks block → IsBlockDecided p block

@@ -4,7 +4,8 @@ use Rattle.std.specs.List.{AllZip}
 use Rattle.bundle_rules.specs.Program.{Program}
 use Rattle.bundle_rules.specs.Linking.{HasExternalStar}
 use Rattle.bundle_rules.specs.Bundle.{Form, externals}
-use Rattle.bundle_merge_whole.specs.planned.Decided.{Decided, DecidedLoad, DecidedBlock, IsExternalDecided, IsModuleDecided, HandsOut, Starred, index_of, numbers_from}
+use Rattle.bundle_link_targets.specs.Taken.{Picks}
+use Rattle.bundle_merge_whole.specs.planned.Decided.{Decided, DecidedLoad, DecidedBlock, IsExternalDecided, IsModuleDecided, HandsOut, index_of, numbers_from}
 
 -- the module at a place of a list
 abbrev pub id_at : List ℕ → ℕ → ℕ
@@ -38,5 +39,5 @@ pub record AreFound (q : Program) (form : Form) (n : ℕ) (f : Decided) : Type 0
   pub modules : (k : ℕ) → k < n → IsModuleDecided q f k
   pub within : (k : ℕ) (load : DecidedLoad) → Contains (f.loads k) load → load.«module» < n
   pub outside : AllZip (IsExternalDecided q) f.externals (externals q (numbers_from zero n))
-  pub starred : Starred (HasExternalStar q q.entry) (externals q (numbers_from zero n)) f.stars
+  pub starred : Picks (HasExternalStar q q.entry) (externals q (numbers_from zero n)) f.stars
   pub exports : IsTrue f.exports ↔ HandsOut q form
