@@ -1,5 +1,5 @@
 -- Naming keeps bundles: where names are given by the naming rule, what is told of the items of a bundle stays.
-use Rattle.std.proofs.Common.{◌≡◌, ◌⊎◌, inl, inr, ℕ, List, [], ◌∷◌, ◌++◌, append-nil, length, map, ap, ap₂, sym, ◌∙◌, subst, arith}
+use Rattle.std.proofs.Common.{◌≡◌, ◌⊎◌, inl, inr, ℕ, List, [], ◌∷◌, ◌++◌, append-nil, length, map, ap, ap₂, sym, ◌∙◌, subst, arith, Bool, true, false, not, refl}
 use Rattle.std.proofs.lemmas.List.{length-map}
 use Rattle.std.proofs.Math.Path.{subst_refl, path_j}
 use Rattle.std.specs.Prelude.{Contains, bytes_eq}
@@ -34,7 +34,6 @@ use Rattle.bundle_scope_renamed.proofs.kept.Named.{ArePlain}
 use Rattle.bundle_merge_meaning.specs.walked.Names.{names_of}
 use Rattle.bundle_merge_meaning.specs.walked.Renaming.{KeepsText, Told, IsMarked}
 use Rattle.bundle_merge_meaning.proofs.walked.NameLemmas.{names_of-append, idents-names}
-use Rattle.bundle_merge_meaning.proofs.walked.Naming.{not_false}
 use Rattle.bundle_merge_whole.specs.composed.Noted.{Noted, AsWhole, AsFunction, function_ends, IsNotedFor, as_whole, as_function, AreNotedFor, BundleAgrees, IsNotedBundle, pairing_of}
 use Rattle.bundle_merge_whole.specs.composed.Becoming.{Becoming, AllOccur, labels_of}
 use Rattle.bundle_merge_whole.specs.composed.Turned.{PartTurned, ItemTurned, whole_turned, function_turned, ItemsTurned}
@@ -240,6 +239,10 @@ module _ (reading other : Reading) (before after : List Item) (b : Becoming read
       subst (λ ds. Contains ds d) (sym b.are) (subst (Contains (map b.becomes (denotations reading Es before))) (sym was.is) (contains-map b.becomes (denotations reading Es before) was.old (occur was.old l was.labelled)))
 
 -- Names.
+
+not_false : (b : Bool) → not b ≡ false → b ≡ true
+not_false true e = refl
+not_false false e = absurd cc
 
 pub changes-keep : (olds news : List Ident) → length news ≡ length olds → AllZip KeepsText (changes_to olds news) olds
 changes-keep [] [] same = tt

@@ -1,15 +1,14 @@
 -- A merged tree that is named in one go is the tree without keywords, named.
-use Rattle.std.proofs.Common.{◌≡◌, ℕ, zero, suc, ◌+◌, ◌==◌, Bool, true, false, cond, List, [], ◌∷◌, ◌++◌, Option, Some, None, find, bytes_eq, codes, map, length, refl, ap, ap₂, sym, ◌∙◌, subst, arith}
+use Rattle.std.proofs.Common.{◌≡◌, ℕ, zero, suc, ◌+◌, Bool, true, false, cond, List, [], ◌∷◌, ◌++◌, Option, Some, None, bytes_eq, codes, map, length, refl, ap, ap₂, sym, ◌∙◌, subst, arith}
 use Rattle.std.specs.Prelude.{IsTrue, is_some, decimal}
 use Rattle.std.specs.List.{AllZip}
-use Rattle.std.proofs.lemmas.Option.{none-some, same_Some}
 use Rattle.std.proofs.lemmas.Slice.Eq.{bytes_eq-Decides}
 use Rattle.bundle_tree_piece.specs.Item as h
 use Rattle.bundle_tree_piece.specs.Item.{Item, Head}
 use Rattle.bundle_rules.specs.Places.{Occurrence, occurrences}
-use Rattle.bundle_rules.specs.Scopes.{Es, Scope, scopes_around}
-use Rattle.bundle_rules.specs.Declarations.{ByContext, Name, Declared, declared, declaration_of}
-use Rattle.bundle_rules.specs.Denotes.{Denoted, Bound, Global, without_context, bound_in, is_written_in, is_implied_in, written_or_implied, denoted_by_context, own_or_found, denoted_of, denotations, IsResolved}
+use Rattle.bundle_rules.specs.Scopes.{Es, Scope}
+use Rattle.bundle_rules.specs.Declarations.{ByContext, Name, Declared, declared}
+use Rattle.bundle_rules.specs.Denotes.{Denoted, Bound, Global, denoted_of, denotations, IsResolved}
 use Rattle.bundle_rules.specs.Doubled.{first_doubled}
 use Rattle.bundle_rules.specs.Keywords.{is_keyword, keyword_free, keyword_free_of, has_right_context}
 use Rattle.bundle_rules.specs.Renaming.{Numbering, numbered, symbol_after, IsNumbering}
@@ -18,7 +17,6 @@ use Rattle.bundle_rules.specs.Idents.{Ident, ident_of, idents}
 use Rattle.bundle_rules.specs.Rebuilds.{changes_to, with_idents}
 use Rattle.bundle_rules.specs.Renamed.{HasNamesOnly, IsRebuilt, IsRidOfKeywords, IsNamed}
 use Rattle.bundle_rules.proofs.PathLemmas.{cleared_occurrence, occurrences-cleared}
-use Rattle.bundle_merge_joined.specs.joined.Notes.{its_name}
 use Rattle.bundle_merge_whole.proofs.composed.Keywords.{name_in}
 use Rattle.bundle_merge_whole.proofs.composed.Called.{own-context}
 use Rattle.bundle_scope_renamed.proofs.kept.Lists.{IsIn, map-twice, map-congr}
@@ -34,7 +32,7 @@ use Rattle.bundle_scope_renamed.proofs.kept.Grouped.{HasPlainKeys}
 use Rattle.bundle_scope_renamed.proofs.kept.Undoubled.{IsUndoubled, none-doubled}
 use Rattle.bundle_scope_renamed.proofs.kept.Again.{faithful-undoubled, faithful-keys}
 use Rattle.bundle_scope_renamed.proofs.kept.Theorem.{cleared-twice, is-named}
-use Rattle.bundle_merge_whole.proofs.composed.Contexts.{own-symbol, declared-name}
+use Rattle.bundle_merge_whole.proofs.composed.Contexts.{own-symbol}
 use Rattle.bundle_merge_whole.specs.finished.Twice.{IsEditable, AreNotBack}
 use Rattle.bundle_merge_whole.specs.finished.Finished.{denoted_there, called_idents, recall, IsRightContext, IsKeywordCalling, called_place, final_symbol, final_idents, finished}
 use Rattle.bundle_merge_whole.proofs.finished.Twice.{Again, once-is-twice}

@@ -1,12 +1,11 @@
 -- What the bindings inside a bundle's items are called where names change and denote what corresponds.
-use Rattle.std.proofs.Common.{◌≡◌, ◌≤◌, inl, inr, ℕ, suc, ◌+◌, List, [], ◌∷◌, ◌++◌, append_assoc, filter, map, length, refl, ap, sym, ◌∙◌, subst, arith}
+use Rattle.std.proofs.Common.{◌≡◌, ◌≤◌, inl, inr, ℕ, ◌+◌, List, [], ◌∷◌, ◌++◌, append_assoc, filter, map, length, refl, ap, sym, ◌∙◌, subst, arith}
 use Rattle.std.specs.Prelude.{Contains, fold}
 use Rattle.std.specs.List.{AllZip}
-use Rattle.bundle_tree_piece.specs.declared.piece.Role.TheVariants as r
 use Rattle.bundle_tree_piece.specs.Item as h
 use Rattle.bundle_tree_piece.specs.Item.{Item}
-use Rattle.bundle_rules.specs.Places.{Around, Spot, Occurrence, past, in_field, occurrences, occurrences_from}
-use Rattle.bundle_rules.specs.Scopes.{Es, Scope, Top, scopes_around}
+use Rattle.bundle_rules.specs.Places.{Spot, Occurrence, past, in_field, occurrences, occurrences_from}
+use Rattle.bundle_rules.specs.Scopes.{Es, Scope}
 use Rattle.bundle_rules.specs.Declarations.{Reading, Name}
 use Rattle.bundle_rules.specs.Denotes.{Bound, denotations}
 use Rattle.bundle_rules.specs.Nodes.{Text}
@@ -17,14 +16,14 @@ use Rattle.bundle_rules.specs.Symbols.{denoted_symbol, inner_symbols}
 use Rattle.bundle_rules.specs.Sorting.{flat}
 use Rattle.bundle_merge_meaning.specs.noted.Agrees.{IsAt}
 use Rattle.bundle_merge_meaning.proofs.noted.Spots.{fold-place, fold-path, field-twice, at-first, at-past, at-behind, at-as}
-use Rattle.bundle_merge_joined.specs.joined.Joined.{joined, AllOf}
+use Rattle.bundle_merge_joined.specs.joined.Joined.{joined}
 use Rattle.bundle_merge_joined.proofs.joined.Paths.{occurrences-append, item-occurrences}
 use Rattle.bundle_merge_joined.proofs.joined.Tops.{Contains-cons}
 use Rattle.bundle_merge_meaning.specs.walked.Names.{names_of}
 use Rattle.bundle_merge_meaning.proofs.walked.Denoting.{elements_denote}
 use Rattle.bundle_merge_whole.specs.composed.Noted.{Noted, denoted_here, denoted_from, first_spot, view_of}
 use Rattle.bundle_merge_whole.specs.composed.Becoming.{StandsIn, Becoming}
-use Rattle.bundle_merge_whole.specs.composed.Turned.{IsScopeBelow, SpotsMatch, module_path, PartTurned, ItemTurned, whole_turned, function_turned, FrontTurned, ItemsTurned}
+use Rattle.bundle_merge_whole.specs.composed.Turned.{SpotsMatch, module_path, PartTurned, ItemTurned, whole_turned, function_turned, FrontTurned, ItemsTurned}
 use Rattle.bundle_merge_whole.proofs.composed.Aligned.{Corresponds, same_field, names-count, module-match, zip-parts, flat-names, contains-map}
 use Rattle.bundle_merge_whole.proofs.composed.Called.{symbols-turn}
 use Rattle.bundle_merge_whole.proofs.finished.CommonJs.{InsideAre, AllInside}
