@@ -6,4 +6,3 @@ pub mod finished
 pub mod called
 pub mod fit
 pub mod grown
-pub mod asked

@@ -1,15 +1,14 @@
 -- A merged tree that is named in one go is the tree without keywords, named.
-use Rattle.std.proofs.Common.{◌≡◌, ℕ, zero, suc, ◌+◌, ◌==◌, Bool, true, false, cond, List, [], ◌∷◌, ◌++◌, Option, Some, None, find, bytes_eq, codes, map, length, refl, ap, ap₂, sym, ◌∙◌, subst, arith}
+use Rattle.std.proofs.Common.{◌≡◌, ℕ, zero, suc, ◌+◌, Bool, true, false, cond, List, [], ◌∷◌, ◌++◌, Option, Some, None, bytes_eq, codes, map, length, refl, ap, ap₂, sym, ◌∙◌, subst, arith}
 use Rattle.std.specs.Prelude.{IsTrue, is_some, decimal}
 use Rattle.std.specs.List.{AllZip}
-use Rattle.std.proofs.lemmas.Option.{none-some, same_Some}
 use Rattle.std.proofs.lemmas.Slice.Eq.{bytes_eq-Decides}
 use Rattle.bundle_tree_piece.specs.Item as h
 use Rattle.bundle_tree_piece.specs.Item.{Item, Head}
 use Rattle.bundle_rules.specs.Places.{Occurrence, occurrences}
-use Rattle.bundle_rules.specs.Scopes.{Es, Scope, scopes_around}
-use Rattle.bundle_rules.specs.Declarations.{ByContext, Name, Declared, declared, declaration_of}
-use Rattle.bundle_rules.specs.Denotes.{Denoted, Bound, Global, without_context, bound_in, is_written_in, is_implied_in, written_or_implied, denoted_by_context, own_or_found, denoted_of, denotations, IsResolved}
+use Rattle.bundle_rules.specs.Scopes.{Es, Scope}
+use Rattle.bundle_rules.specs.Declarations.{ByContext, Name, Declared, declared}
+use Rattle.bundle_rules.specs.Denotes.{Denoted, Bound, Global, denoted_of, denotations, IsResolved}
 use Rattle.bundle_rules.specs.Doubled.{first_doubled}
 use Rattle.bundle_rules.specs.Keywords.{is_keyword, keyword_free, keyword_free_of, has_right_context}
 use Rattle.bundle_rules.specs.Renaming.{Numbering, numbered, symbol_after, IsNumbering}
@@ -18,7 +17,8 @@ use Rattle.bundle_rules.specs.Idents.{Ident, ident_of, idents}
 use Rattle.bundle_rules.specs.Rebuilds.{changes_to, with_idents}
 use Rattle.bundle_rules.specs.Renamed.{HasNamesOnly, IsRebuilt, IsRidOfKeywords, IsNamed}
 use Rattle.bundle_rules.proofs.PathLemmas.{cleared_occurrence, occurrences-cleared}
-use Rattle.bundle_merge_joined.specs.joined.Notes.{its_name}
+use Rattle.bundle_merge_whole.proofs.composed.Keywords.{name_in}
+use Rattle.bundle_merge_whole.proofs.composed.Called.{own-context}
 use Rattle.bundle_scope_renamed.proofs.kept.Lists.{IsIn, map-twice, map-congr}
 use Rattle.bundle_scope_renamed.proofs.kept.Tree.{all-are, declarations, declared-named}
 use Rattle.bundle_scope_renamed.proofs.kept.Moved.{moved, IsInjective}
@@ -32,7 +32,7 @@ use Rattle.bundle_scope_renamed.proofs.kept.Grouped.{HasPlainKeys}
 use Rattle.bundle_scope_renamed.proofs.kept.Undoubled.{IsUndoubled, none-doubled}
 use Rattle.bundle_scope_renamed.proofs.kept.Again.{faithful-undoubled, faithful-keys}
 use Rattle.bundle_scope_renamed.proofs.kept.Theorem.{cleared-twice, is-named}
-use Rattle.bundle_merge_whole.proofs.composed.Contexts.{own-symbol, declared-name}
+use Rattle.bundle_merge_whole.proofs.composed.Contexts.{own-symbol}
 use Rattle.bundle_merge_whole.specs.finished.Twice.{IsEditable, AreNotBack}
 use Rattle.bundle_merge_whole.specs.finished.Finished.{denoted_there, called_idents, recall, IsRightContext, IsKeywordCalling, called_place, final_symbol, final_idents, finished}
 use Rattle.bundle_merge_whole.proofs.finished.Twice.{Again, once-is-twice}
@@ -79,32 +79,6 @@ plainly i = (i.0, 0)
 
 pub idents-cleared : (l : List Item) → idents (cleared l) ≡ map plainly (idents l)
 idents-cleared l = ap (map ident_of) (occurrences-cleared l) ∙ map-twice ident_of cleared_occurrence (occurrences l) ∙ sym (map-twice plainly ident_of (occurrences l))
-
--- The context of what is denoted.
-
-abbrev name_in : Denoted → Option ℕ
-name_in (Bound scope name) = name.ctxt
-name_in (Global x) = None
-
--- (Of the probe `compose`, `own-context`.)
-own-context : (all : List Declared) (o : Occurrence) (c : ℕ) → name_in (denoted_of ByContext Es all o) ≡ Some c → c ≡ o.ctxt
-own-context all o c is = by_declared (declaration_of ByContext Es o) refl is
-  where
-    by_implied : (found : Option Scope) → name_in (bound_in (without_context (its_name o)) found) ≡ Some c → c ≡ o.ctxt
-    by_implied None e = absurd (none-some c e)
-    by_implied (Some scope) e = absurd (none-some c e)
-
-    by_context : (b : Bool) → name_in (cond b (Global o.sym) (bound_in (without_context (its_name o)) (find (λ scope. is_implied_in all scope (its_name o)) (scopes_around Es o.path)))) ≡ Some c → c ≡ o.ctxt
-    by_context true e = absurd (none-some c e)
-    by_context false e = by_implied (find (λ scope. is_implied_in all scope (its_name o)) (scopes_around Es o.path)) e
-
-    by_found : (found : Option Scope) → name_in (written_or_implied all (scopes_around Es o.path) (its_name o) found) ≡ Some c → c ≡ o.ctxt
-    by_found None e = by_context (o.ctxt == 1) e
-    by_found (Some scope) e = sym (same_Some o.ctxt c e)
-
-    by_declared : (d : Option Declared) → declaration_of ByContext Es o ≡ d → name_in (own_or_found all (denoted_by_context all (scopes_around Es o.path) (its_name o)) d) ≡ Some c → c ≡ o.ctxt
-    by_declared None at e = by_found (find (λ scope. is_written_in all scope (its_name o)) (scopes_around Es o.path)) e
-    by_declared (Some d) at e = sym (same_Some o.ctxt c (sym (ap (λ (n : Name). n.ctxt) (declared-name o d at)) ∙ e))
 
 -- The tree.
 
@@ -154,7 +128,7 @@ module _ (call : Calling) (tree : List Item) (names : HasNamesOnly tree) (plain 
   pub denoted-free : denotations ByContext Es free ≡ map (λ o. recalled_denoted call move (denoted_there tree o)) os
   denoted-free = map-zip_in os (occurrences free) (λ o at. at) its_zip
 
-  -- KEYWORDS
+  -- keywords
   zip-contexts : IsKeywordCalling call tree → (l ps : List Occurrence) → ((o : Occurrence) → IsIn l o → IsIn os o) → AllZip (Recalls call move) l ps → AllZip (λ old new. IsTrue (has_right_context os old new)) l ps
   zip-contexts its [] [] among all_zip = tt
   zip-contexts its [] (p ∷ ps) among all_zip = absurd all_zip
@@ -180,7 +154,7 @@ module _ (call : Calling) (tree : List Item) (names : HasNamesOnly tree) (plain 
     };
   }
 
-  -- NAMES: no keyword comes back
+  -- no keyword comes back
   comes-back : IsKeywordCalling call tree → (later : Numbering) (o : Occurrence) → IsIn os o → bytes_eq o.sym (final_symbol call tree later o) ≡ true → bytes_eq o.sym (call o.sym o.ctxt).0 ≡ true
   comes-back its later o at is = by_denoted (denoted_there tree o) refl is
     where
@@ -241,7 +215,7 @@ module _ (call : Calling) (tree : List Item) (names : HasNamesOnly tree) (plain 
   pub numbers-right : (later : Numbering) → IsFinalNumbering later → IsNumbering free later
   numbers-right later right = called-numbers call tree free names plain faithful same calls later right
 
-  -- THE NAMES: what is made in one go is the tree without keywords, named
+  -- what is made in one go is the tree without keywords, named
   pub is-finished : IsResolved Es tree → IsKeywordCalling call tree → (later : Numbering) → IsFinalNumbering later → IsNamed free (finished call tree later)
   is-finished resolved its later right =
       is-named free (finished call tree later)

@@ -1,12 +1,11 @@
 -- What the bindings inside a bundle's items are called where names change and denote what corresponds.
-use Rattle.std.proofs.Common.{◌≡◌, ◌≤◌, inl, inr, ℕ, suc, ◌+◌, List, [], ◌∷◌, ◌++◌, append_assoc, filter, map, length, refl, ap, sym, ◌∙◌, subst, arith}
+use Rattle.std.proofs.Common.{◌≡◌, ◌≤◌, inl, inr, ℕ, ◌+◌, List, [], ◌∷◌, ◌++◌, append_assoc, filter, map, length, refl, ap, sym, ◌∙◌, subst, arith}
 use Rattle.std.specs.Prelude.{Contains, fold}
 use Rattle.std.specs.List.{AllZip}
-use Rattle.bundle_tree_piece.specs.declared.piece.Role.TheVariants as r
 use Rattle.bundle_tree_piece.specs.Item as h
 use Rattle.bundle_tree_piece.specs.Item.{Item}
-use Rattle.bundle_rules.specs.Places.{Around, Spot, Occurrence, past, in_field, occurrences, occurrences_from}
-use Rattle.bundle_rules.specs.Scopes.{Es, Scope, Top, scopes_around}
+use Rattle.bundle_rules.specs.Places.{Spot, Occurrence, past, in_field, occurrences, occurrences_from}
+use Rattle.bundle_rules.specs.Scopes.{Es, Scope}
 use Rattle.bundle_rules.specs.Declarations.{Reading, Name}
 use Rattle.bundle_rules.specs.Denotes.{Bound, denotations}
 use Rattle.bundle_rules.specs.Nodes.{Text}
@@ -17,45 +16,17 @@ use Rattle.bundle_rules.specs.Symbols.{denoted_symbol, inner_symbols}
 use Rattle.bundle_rules.specs.Sorting.{flat}
 use Rattle.bundle_merge_meaning.specs.noted.Agrees.{IsAt}
 use Rattle.bundle_merge_meaning.proofs.noted.Spots.{fold-place, fold-path, field-twice, at-first, at-past, at-behind, at-as}
-use Rattle.bundle_merge_joined.specs.joined.Joined.{joined, AllOf}
+use Rattle.bundle_merge_joined.specs.joined.Joined.{joined}
 use Rattle.bundle_merge_joined.proofs.joined.Paths.{occurrences-append, item-occurrences}
 use Rattle.bundle_merge_joined.proofs.joined.Tops.{Contains-cons}
 use Rattle.bundle_merge_meaning.specs.walked.Names.{names_of}
 use Rattle.bundle_merge_meaning.proofs.walked.Denoting.{elements_denote}
 use Rattle.bundle_merge_whole.specs.composed.Noted.{Noted, denoted_here, denoted_from, first_spot, view_of}
 use Rattle.bundle_merge_whole.specs.composed.Becoming.{StandsIn, Becoming}
-use Rattle.bundle_merge_whole.specs.composed.Turned.{IsScopeBelow, SpotsMatch, module_path, PartTurned, ItemTurned, whole_turned, function_turned, FrontTurned, ItemsTurned}
-use Rattle.bundle_merge_whole.proofs.composed.Aligned.{Corresponds, zip-parts, flat-names, contains-map}
+use Rattle.bundle_merge_whole.specs.composed.Turned.{SpotsMatch, module_path, PartTurned, ItemTurned, whole_turned, function_turned, FrontTurned, ItemsTurned}
+use Rattle.bundle_merge_whole.proofs.composed.Aligned.{Corresponds, same_field, names-count, module-match, zip-parts, flat-names, contains-map}
 use Rattle.bundle_merge_whole.proofs.composed.Called.{symbols-turn}
-
--- (The next five are local in the probe `compose`.)
-same_field : (path : List Around) → (f : ℕ) × (path ≡ in_field f path)
-same_field [] = (0, refl)
-same_field (node ∷ outer) = (node.field, refl)
-
-names-count : (xs : List Item) (s : Spot) → length (occurrences_from s xs) ≡ length (names_of xs)
-names-count [] s = refl
-names-count (h.Open field head ∷ xs) s = names-count xs (past s (h.Open field head))
-names-count (h.Ident field x c r.Word ∷ xs) s = names-count xs (past s (h.Ident field x c r.Word))
-names-count (h.Ident field x c r.Binding ∷ xs) s = ap suc (names-count xs (past s (h.Ident field x c r.Binding)))
-names-count (h.Ident field x c r.Reference ∷ xs) s = ap suc (names-count xs (past s (h.Ident field x c r.Reference)))
-names-count (h.Hole field ∷ xs) s = names-count xs (past s (h.Hole field))
-names-count (h.Close ∷ xs) s = names-count xs (past s h.Close)
-
-module-scopes : (path : List Around) (field : ℕ) → path ≡ in_field field module_path → scopes_around Es path ≡ Top ∷ []
-module-scopes path field e = ap (scopes_around Es) e
-
-field-scopes : (path : List Around) (field f : ℕ) → path ≡ in_field field module_path → scopes_around Es (in_field f path) ≡ Top ∷ []
-field-scopes path field f e = ap (λ p. scopes_around Es (in_field f p)) e
-
-module-match : (s t : Spot) (field its : ℕ) → s.path ≡ in_field field module_path → t.path ≡ in_field its module_path → SpotsMatch s t
-module-match s t field its path_is its_is = record {
-  same = λ f. field-scopes s.path field f path_is ∙ sym (module-scopes s.path field path_is);
-  its_same = λ f. field-scopes t.path its f its_is ∙ sym (module-scopes t.path its its_is);
-  size = ap length (module-scopes s.path field path_is ∙ sym (module-scopes t.path its its_is));
-  below = subst (AllOf (IsScopeBelow s.place)) (sym (module-scopes s.path field path_is)) (tt, tt);
-  its_below = subst (AllOf (IsScopeBelow t.place)) (sym (module-scopes t.path its its_is)) (tt, tt);
-}
+use Rattle.bundle_merge_whole.proofs.finished.CommonJs.{InsideAre, AllInside}
 
 turned-nodes : {item renamed : List Item} {one other : Noted} → ItemTurned item one renamed other → PartTurned item renamed
 turned-nodes (whole_turned turned) = turned
@@ -122,7 +93,7 @@ module _ (reading other : Reading) (items others : List (List Item)) (b : Becomi
             (subst (λ place. AllZip BothCalled (placed (fold past s part).place parts) (placed place renamed)) (fold-place t item) rest),
       )
 
-  -- STATEMENTS in a function, one after another
+  -- statements in a function, one after another
   pub statements-called : (base its_base s t : Spot) → SpotsMatch base its_base → (field its_field : ℕ) → s.path ≡ in_field field base.path → t.path ≡ in_field its_field its_base.path → base.place ≤ s.place → its_base.place ≤ t.place → (parts renamed : List (List Item)) → AllZip PartTurned parts renamed → AllZip Corr (occurrences_from s (flat parts)) (occurrences_from t (flat renamed)) → (tail its_tail : List Item) → IsAt (joined items) s (flat parts ++ tail) → IsAt (joined others) t (flat renamed ++ its_tail) → AllZip BothCalled (placed s.place parts) (placed t.place renamed)
   statements-called base its_base s t match field its_field path_is its_is low high [] [] turned all tail its_tail at its_at = tt
   statements-called base its_base s t match field its_field path_is its_is low high [] (item ∷ renamed) turned all tail its_tail at its_at = absurd turned
@@ -167,13 +138,47 @@ module _ (reading other : Reading) (items others : List (List Item)) (b : Becomi
       let later : map (denoted_here there) ps ≡ map b.becomes (map (denoted_here here) os) = cc in
       (record { scopes = stands.0; is = first; denoted = in_it o ((Contains-cons o os o).1 (inl refl)) }, each-corresponds os ps stands.1 later (λ x c. in_it x ((Contains-cons o os x).1 (inr c))))
 
-  -- ALL ITEMS
-  pub all-called : (noted its : List Noted) → ItemsTurned items noted others its → AllZip BothCalled (placed 1 items) (placed 1 others)
-  all-called noted its turned =
-      items-called first_spot first_spot 0 0 refl refl items noted others its turned
-      (subst (λ os. AllZip Corr os (occurrences_from first_spot (flat others))) (item-occurrences (flat items))
+  all-correspond : AllZip Corr (occurrences_from first_spot (flat items)) (occurrences_from first_spot (flat others))
+  all-correspond =
+      subst (λ os. AllZip Corr os (occurrences_from first_spot (flat others))) (item-occurrences (flat items))
       (subst (AllZip Corr (occurrences (joined items))) (item-occurrences (flat others))
-      (each-corresponds (occurrences (joined items)) (occurrences (joined others)) b.stands b.are (λ o c. contains-map (denoted_here here) (occurrences (joined items)) o c))))
-      (h.Close ∷ []) (h.Close ∷ [])
-      (at-past (h.Open 0 h.Module) (flat items ++ h.Close ∷ []) (at-first (joined items)))
-      (at-past (h.Open 0 h.Module) (flat others ++ h.Close ∷ []) (at-first (joined others)))
+      (each-corresponds (occurrences (joined items)) (occurrences (joined others)) b.stands b.are (λ o c. contains-map (denoted_here here) (occurrences (joined items)) o c)))
+
+  first-at : IsAt (joined items) first_spot (flat items ++ h.Close ∷ [])
+  first-at = at-past (h.Open 0 h.Module) (flat items ++ h.Close ∷ []) (at-first (joined items))
+
+  its-first-at : IsAt (joined others) first_spot (flat others ++ h.Close ∷ [])
+  its-first-at = at-past (h.Open 0 h.Module) (flat others ++ h.Close ∷ []) (at-first (joined others))
+
+  -- all items
+  pub all-called : (noted its : List Noted) → ItemsTurned items noted others its → AllZip BothCalled (placed 1 items) (placed 1 others)
+  all-called noted its turned = items-called first_spot first_spot 0 0 refl refl items noted others its turned all-correspond (h.Close ∷ []) (h.Close ∷ []) first-at its-first-at
+
+  inside-called : (s t : Spot) (field its_field : ℕ) → s.path ≡ in_field field module_path → t.path ≡ in_field its_field module_path → {part item : List Item} {one two : Noted} → ItemTurned part one item two → AllZip Corr (occurrences_from s part) (occurrences_from t item) → (tail its_tail : List Item) → IsAt (joined items) s (part ++ tail) → IsAt (joined others) t (item ++ its_tail) → InsideAre BothCalled s.place one t.place two
+  inside-called s t field its_field path_is its_is (whole_turned turned) all tail its_tail at its_at = tt
+  inside-called s t field its_field path_is its_is {part} {item} (function_turned {front = front} {its_front = its_front} {insides = insides} {its = its} back its_back turned is its_made fronts inner) all tail its_tail at its_at =
+      function-called s t field its_field path_is its_is front its_front back its_back insides its fronts inner
+      (subst (λ xs. AllZip Corr (occurrences_from s xs) (occurrences_from t (its_front ++ (flat its ++ its_back)))) is (subst (λ xs. AllZip Corr (occurrences_from s part) (occurrences_from t xs)) its_made all))
+      tail its_tail (subst (λ xs. IsAt (joined items) s (xs ++ tail)) is at) (subst (λ xs. IsAt (joined others) t (xs ++ its_tail)) its_made its_at)
+
+  insides-called : (s t : Spot) (field its_field : ℕ) → s.path ≡ in_field field module_path → t.path ≡ in_field its_field module_path → (parts : List (List Item)) (noted : List Noted) (renamed : List (List Item)) (its : List Noted) → ItemsTurned parts noted renamed its → AllZip Corr (occurrences_from s (flat parts)) (occurrences_from t (flat renamed)) → (tail its_tail : List Item) → IsAt (joined items) s (flat parts ++ tail) → IsAt (joined others) t (flat renamed ++ its_tail) → AllInside BothCalled s.place parts noted t.place renamed its
+  insides-called s t field its_field path_is its_is [] noted renamed its turned all tail its_tail at its_at = tt
+  insides-called s t field its_field path_is its_is (part ∷ parts) [] renamed its turned all tail its_tail at its_at = tt
+  insides-called s t field its_field path_is its_is (part ∷ parts) (one ∷ noted) [] its turned all tail its_tail at its_at = tt
+  insides-called s t field its_field path_is its_is (part ∷ parts) (one ∷ noted) (item ∷ renamed) [] turned all tail its_tail at its_at = tt
+  insides-called s t field its_field path_is its_is (part ∷ parts) (one ∷ noted) (item ∷ renamed) (two ∷ its) turned all tail its_tail at its_at =
+      let nodes : PartTurned part item = turned-nodes turned.0 in
+      let both = parts-split s t part (flat parts) item (flat renamed) nodes.names all in
+      let behind = fold-path nodes.nodes s in
+      let its_behind = fold-path nodes.its_nodes t in
+      let here_at : IsAt (joined items) s (part ++ (flat parts ++ tail)) = at-as refl (append_assoc part (flat parts) tail) at in
+      let there_at : IsAt (joined others) t (item ++ (flat renamed ++ its_tail)) = at-as refl (append_assoc item (flat renamed) its_tail) its_at in
+      let rest : AllInside BothCalled (fold past s part).place parts noted (fold past t item).place renamed its = insides-called (fold past s part) (fold past t item) behind.0 its_behind.0 (behind.1 ∙ ap (in_field behind.0) path_is ∙ field-twice behind.0 field module_path) (its_behind.1 ∙ ap (in_field its_behind.0) its_is ∙ field-twice its_behind.0 its_field module_path) parts noted renamed its turned.1 both.1 tail its_tail (at-behind part (flat parts ++ tail) here_at) (at-behind item (flat renamed ++ its_tail) there_at) in (
+        inside-called s t field its_field path_is its_is turned.0 both.0 (flat parts ++ tail) (flat renamed ++ its_tail) here_at there_at,
+        subst (λ place. AllInside BothCalled place parts noted (t.place + length item) renamed its) (fold-place s part)
+            (subst (λ place. AllInside BothCalled (fold past s part).place parts noted place renamed its) (fold-place t item) rest),
+      )
+
+  -- all functions
+  pub all-inside : (noted its : List Noted) → ItemsTurned items noted others its → AllInside BothCalled 1 items noted 1 others its
+  all-inside noted its turned = insides-called first_spot first_spot 0 0 refl refl items noted others its turned all-correspond (h.Close ∷ []) (h.Close ∷ []) first-at its-first-at

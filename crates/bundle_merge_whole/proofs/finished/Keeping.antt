@@ -17,7 +17,8 @@ use Rattle.bundle_rules.specs.Meaning.{Labelling, IsOneToOne}
 use Rattle.bundle_rules.specs.Program.{Program}
 use Rattle.bundle_rules.specs.Bundle.{Cause, Hooks, AsModule, labelled, IsLaidOut}
 use Rattle.bundle_rules.specs.Symbols.{AreCalled}
-use Rattle.bundle_rules.specs.Merged.{HasContexts, BindsOwn}
+use Rattle.bundle_rules.specs.Keywords.{keyword_free}
+use Rattle.bundle_rules.specs.Merged.{HasContexts, BindsOwn, IsMerged}
 use Rattle.bundle_tree_places.specs.Edits.{Anywhere, Edits, Inside, node}
 use Rattle.bundle_merge_meaning.specs.noted.Agrees.{IsListing}
 use Rattle.bundle_merge_meaning.specs.noted.Listed.{AreListed, Other}
@@ -31,16 +32,14 @@ use Rattle.bundle_merge_meaning.specs.walked.Renaming.{KeepsText}
 use Rattle.bundle_merge_whole.specs.composed.Noted.{Noted, BundleAgrees, IsNotedBundle, pairing_of}
 use Rattle.bundle_merge_whole.specs.composed.Becoming.{AllOccur}
 use Rattle.bundle_merge_whole.proofs.composed.Remade.{NoLone, AllOfForm, Renewed, renewed}
-use Rattle.bundle_merge_whole.proofs.composed.Naming.{OneNode, IsStillNoted, items-edited}
+use Rattle.bundle_merge_whole.proofs.composed.Naming.{OneNode, IsStillNoted, items-edited, changes-keep, module-names}
 use Rattle.bundle_merge_whole.proofs.composed.LaidOut.{layout-stays, body-length}
 use Rattle.bundle_merge_whole.proofs.composed.Chain.{IsWholeBundle}
 use Rattle.bundle_merge_whole.specs.finished.Twice.{IsEditable}
 use Rattle.bundle_merge_whole.specs.finished.Finished.{called_idents, recall}
 use Rattle.bundle_merge_whole.specs.finished.Rules.{IsKeywordRule}
-use Rattle.bundle_merge_whole.specs.finished.Kept.{KeepsMerged}
 use Rattle.bundle_merge_whole.proofs.finished.Rules.{rule-faithful}
 use Rattle.bundle_merge_whole.proofs.finished.Finished.{calls, rid-of-keywords}
-use Rattle.bundle_merge_whole.proofs.finished.Naming.{changes-keep, module-names}
 use Rattle.bundle_merge_whole.proofs.finished.Merged.{its_still, merged-again}
 use Rattle.bundle_merge_whole.proofs.finished.Whole.{as-many, free-listing}
 
@@ -82,18 +81,15 @@ module _ (p : Program) (hooks : Hooks) (plan : List Cause) (items : List (List I
   its_laid : IsLaidOut p AsModule ByContext (joined all.made) (pairing_of after.labels after.items plan)
   its_laid = layout-stays p AsModule ByContext ByContext tree (joined all.made) plan labels after.labels items after.items refl after.is (size ∙ sym (body-length p hooks plan ByContext (joined all.made) after)) ordered laid
 
-  pub kept-joined : AreCalled (λ x. x) p hooks (labelled tree ByContext (pairing_of labels items plan)) (pairing_of labels items plan) → HasContexts local (labelled tree ByContext (pairing_of labels items plan)) → BindsOwn tree → KeepsMerged local p hooks (recall call tree)
-  kept-joined called contexts own = subst (KeepsMerged local p hooks) (sym all.is) (record {
-    pairing = pairing_of after.labels after.items plan;
-    merged = λ common. merged-again p hooks plan items noted labels all.made all.others call local bundle forms count one occur agrees all.remade listing resolved names plain rid its_idents faithful called contexts its_laid common (keyword-own tree (joined all.made) (Inside 0 h.Module refl edits) rid.free (record { own = own })).own;
-  })
+  pub kept-joined : AreCalled (λ x. x) p hooks (labelled tree ByContext (pairing_of labels items plan)) (pairing_of labels items plan) → HasContexts local (labelled tree ByContext (pairing_of labels items plan)) → BindsOwn tree → IsMerged keyword_free local p hooks (recall call tree)
+  kept-joined called contexts own = subst (IsMerged keyword_free local p hooks) (sym all.is) (merged-again p hooks plan items noted labels all.made all.others call local bundle forms count one occur agrees all.remade listing resolved names plain rid its_idents faithful called contexts its_laid (keyword-own tree (joined all.made) (Inside 0 h.Module refl edits) rid.free (record { own = own })).own)
 
--- THE KEYWORDS: what is merged stays so without them
-pub keywords-keep-merged : (p : Program) (hooks : Hooks) (plan : List Cause) (merged : List Item) (its : IsWholeBundle p hooks plan merged) (call : Calling) → IsKeywordRule call merged → AreListed Other merged → (local : ℕ → ℕ) → AreCalled (λ x. x) p hooks (labelled merged ByContext (pairing_of its.ready.still.labels its.ready.still.items plan)) (pairing_of its.ready.still.labels its.ready.still.items plan) → HasContexts local (labelled merged ByContext (pairing_of its.ready.still.labels its.ready.still.items plan)) → BindsOwn merged → KeepsMerged local p hooks (recall call merged)
+-- what is merged stays so without them
+pub keywords-keep-merged : (p : Program) (hooks : Hooks) (plan : List Cause) (merged : List Item) (its : IsWholeBundle p hooks plan merged) (call : Calling) → IsKeywordRule call merged → AreListed Other merged → (local : ℕ → ℕ) → AreCalled (λ x. x) p hooks (labelled merged ByContext (pairing_of its.ready.still.labels its.ready.still.items plan)) (pairing_of its.ready.still.labels its.ready.still.items plan) → HasContexts local (labelled merged ByContext (pairing_of its.ready.still.labels its.ready.still.items plan)) → BindsOwn merged → IsMerged keyword_free local p hooks (recall call merged)
 keywords-keep-merged p hooks plan merged its call rule listed local called contexts own =
     let still = its.ready.still in
     let is : merged ≡ joined still.items = still.is in
-    subst (λ t. KeepsMerged local p hooks (recall call t)) (sym is)
+    subst (λ t. IsMerged keyword_free local p hooks (recall call t)) (sym is)
     (kept-joined p hooks plan still.items still.noted still.labels call local still.bundle its.ready.forms its.ready.count its.ready.lone still.one still.occur still.agrees (body-length p hooks plan ByContext merged still)
     (subst (λ t. IsLaidOut p AsModule ByContext t (pairing_of still.labels still.items plan)) is its.laid)
     (subst (IsResolved Es) is its.resolved) (subst HasNamesOnly is its.names) (subst ArePlain is its.plain) (subst HasWays is its.ways) (subst (HasObjects ByContext) is its.objects)

@@ -1,7 +1,7 @@
 -- A listing stays one with other identifiers.
-use Rattle.std.proofs.Common.{◌≡◌, ℕ, ◌==◌, Bool, true, false, not, List, [], ◌∷◌, ◌++◌, Option, Some, None, append_assoc, append-nil, bytes_eq, codes, refl, ap, sym, ◌∙◌, subst, eqb-true, eq-eqb}
+use Rattle.std.proofs.Common.{◌≡◌, ℕ, Bool, true, false, List, [], ◌∷◌, ◌++◌, Option, Some, None, append_assoc, append-nil, bytes_eq, codes, refl, sym, subst, eqb-true, eq-eqb}
 use Rattle.std.specs.Prelude.{if◌then◌else◌}
-use Rattle.std.proofs.lemmas.Bool.{false≢true, and_parts, and_from}
+use Rattle.std.proofs.lemmas.Bool.{and_parts, and_from}
 use Rattle.bundle_tree_piece.specs.declared.piece.Role.{Role}
 use Rattle.bundle_tree_piece.specs.declared.piece.Role.TheVariants as r
 use Rattle.bundle_tree_piece.specs.Item as h
@@ -50,19 +50,6 @@ listed-are {s = s} (node {field = field} {head = head} {inside = inside} {rest =
     (listed-are one (next_to s ∷ outer) (h.Close ∷ (rest ++ post)) (λ u. listed-are its outer post behind)))
 
 -- Where something stands.
-
--- one place takes what the other does
-data Weak : Stand → Stand → Type 0 where
-  same : {s : Stand} → Weak s s
-
-weak-next : {s t : Stand} → Weak s t → Weak (next_to s) (next_to t)
-weak-next same = same
-
-weak-node : {s t : Stand} → Weak s t → (field : ℕ) → fits_node s field ≡ true → fits_node t field ≡ true
-weak-node same field e = e
-
-weak-name : {s t : Stand} → Weak s t → (role : Role) → fits_name s role ≡ true → fits_name t role ≡ true
-weak-name same role e = e
 
 -- in an object literal or a specifier anything may stand
 data At : Around → Stand → Type 0 where
@@ -148,40 +135,40 @@ pattern-listed : (change : Option Change) (x : Text) (ctxt : ℕ) (role : Role) 
 pattern-listed change x ctxt role [] its = subst (AreListed Other) (append-nil (binding change 1 x ctxt role)) (binding-listed change 1 x ctxt role [] refl nothing)
 pattern-listed change x ctxt role (y ∷ ys) its = subst (AreListed Other) (append-nil (node_of 1 h.AssignPat (binding change 0 x ctxt role ++ y ∷ ys))) (one-node 1 h.AssignPat (binding change 0 x ctxt role ++ y ∷ ys) [] refl (binding-listed change 0 x ctxt role (y ∷ ys) refl its) nothing)
 
-short-listed : {s : Stand} (change : Option Change) (field : ℕ) (x : Text) (ctxt : ℕ) (role : Role) (made tail : List Item) → fits_node s field ≡ true → ((t : Stand) → Weak Other t → AreListed t made) → AreListed (next_to s) tail → AreListed s (shorthand_in_its_place change field x ctxt role made ++ tail)
+short-listed : {s : Stand} (change : Option Change) (field : ℕ) (x : Text) (ctxt : ℕ) (role : Role) (made tail : List Item) → fits_node s field ≡ true → AreListed Other made → AreListed (next_to s) tail → AreListed s (shorthand_in_its_place change field x ctxt role made ++ tail)
 short-listed {s = s} change field x ctxt role made tail fits inner its = by_spelled (spells_out change)
   where
     by_spelled : (b : Bool) → AreListed s ((if b then node_of field h.KeyValuePatProp (plain_key x ++ pattern_in_its_place change x ctxt role made) else node_of field h.AssignPatProp (binding change 0 x ctxt role ++ made)) ++ tail)
-    by_spelled true = one-node field h.KeyValuePatProp (plain_key x ++ pattern_in_its_place change x ctxt role made) tail fits (key-listed false x (pattern_in_its_place change x ctxt role made) (pattern-listed change x ctxt role made (inner Other same))) its
-    by_spelled false = one-node field h.AssignPatProp (binding change 0 x ctxt role ++ made) tail fits (binding-listed change 0 x ctxt role made refl (inner Other same)) its
+    by_spelled true = one-node field h.KeyValuePatProp (plain_key x ++ pattern_in_its_place change x ctxt role made) tail fits (key-listed false x (pattern_in_its_place change x ctxt role made) (pattern-listed change x ctxt role made inner)) its
+    by_spelled false = one-node field h.AssignPatProp (binding change 0 x ctxt role ++ made) tail fits (binding-listed change 0 x ctxt role made refl inner) its
 
--- THE LISTING
-listed-edited : {around : Around} {changes rest : List Change} {before made : List Item} → Edits around changes before made rest → (s t : Stand) → Weak s t → At around t → (outer : List Stand) (post : List Item) → are_listed s outer (before ++ post) ≡ true → (tail : List Item) → ((u v : Stand) → Weak u v → At around v → are_listed u outer post ≡ true → AreListed v tail) → AreListed t (made ++ tail)
-listed-edited c.Nothing s t weak at outer post e tail behind = behind s t weak at e
-listed-edited (c.Joined {first = first} {made_first = made_first} {second = second} {made_second = made_second} d f) s t weak at outer post e tail behind =
-    subst (AreListed t) (sym (append_assoc made_first made_second tail))
-    (listed-edited d s t weak at outer (second ++ post) (subst (λ l. are_listed s outer l ≡ true) (append_assoc first second post) e) (made_second ++ tail) (λ u v w a k. listed-edited f u v w a outer post k tail behind))
-listed-edited (c.Hole field) s t weak at outer post e tail behind = hole (behind (next_to s) (next_to t) (weak-next weak) (at-next at) e)
-listed-edited (c.Word field x ctxt role plain) s t weak at outer post e tail behind =
+-- the listing
+listed-edited : {around : Around} {changes rest : List Change} {before made : List Item} → Edits around changes before made rest → (s : Stand) → At around s → (outer : List Stand) (post : List Item) → are_listed s outer (before ++ post) ≡ true → (tail : List Item) → ((u : Stand) → At around u → are_listed u outer post ≡ true → AreListed u tail) → AreListed s (made ++ tail)
+listed-edited c.Nothing s at outer post e tail behind = behind s at e
+listed-edited (c.Joined {first = first} {made_first = made_first} {second = second} {made_second = made_second} d f) s at outer post e tail behind =
+    subst (AreListed s) (sym (append_assoc made_first made_second tail))
+    (listed-edited d s at outer (second ++ post) (subst (λ l. are_listed s outer l ≡ true) (append_assoc first second post) e) (made_second ++ tail) (λ u a k. listed-edited f u a outer post k tail behind))
+listed-edited (c.Hole field) s at outer post e tail behind = hole (behind (next_to s) (at-next at) e)
+listed-edited (c.Word field x ctxt role plain) s at outer post e tail behind =
     let both = and_parts (fits_name s role) (are_listed (next_to s) outer post) e in
-    name (name-fits t role (weak-name weak role both.0)) (behind (next_to s) (next_to t) (weak-next weak) (at-next at) both.1)
-listed-edited (c.Name around {changes = changes} field x ctxt role occurs) s t weak at outer post e tail behind =
+    name (name-fits s role both.0) (behind (next_to s) (at-next at) both.1)
+listed-edited (c.Name around {changes = changes} field x ctxt role occurs) s at outer post e tail behind =
     let both = and_parts (fits_name s role) (are_listed (next_to s) outer post) e in
-    place-listed at (next changes) field x ctxt role tail (weak-name weak role both.0) (behind (next_to s) (next_to t) (weak-next weak) (at-next at) both.1)
-listed-edited (c.Inside field head {inside = inside} {made = made} plain one) s t weak at outer post e tail behind =
+    place-listed at (next changes) field x ctxt role tail both.0 (behind (next_to s) (at-next at) both.1)
+listed-edited (c.Inside field head {inside = inside} {made = made} plain one) s at outer post e tail behind =
     let its = behind-node s outer field head inside post e in
-    let inner : AreListed (first_in head) (made ++ []) = listed-edited one (first_in head) (first_in head) same (at-inside head inside) (next_to s ∷ outer) (h.Close ∷ post) its.1 [] (λ u v w a k. nothing) in
+    let inner : AreListed (first_in head) (made ++ []) = listed-edited one (first_in head) (at-inside head inside) (next_to s ∷ outer) (h.Close ∷ post) its.1 [] (λ u a k. nothing) in
     let more = passed one (first_in head) (next_to s ∷ outer) (h.Close ∷ post) its.1 in
-    one-node field head made tail (weak-node weak field its.0) (subst (AreListed (first_in head)) (append-nil made) inner) (behind (next_to s) (next_to t) (weak-next weak) (at-next at) more.1)
-listed-edited (c.Shorthand {changes = changes} field x ctxt role {default = default} {made = made} occurs one) s t weak at outer post e tail behind =
+    one-node field head made tail its.0 (subst (AreListed (first_in head)) (append-nil made) inner) (behind (next_to s) (at-next at) more.1)
+listed-edited (c.Shorthand {changes = changes} field x ctxt role {default = default} {made = made} occurs one) s at outer post e tail behind =
     let its = behind-short s outer field x ctxt role default post e in
     let more = passed one Other (next_to s ∷ outer) (h.Close ∷ post) its.1 in
-    short-listed (next changes) field x ctxt role made tail (weak-node weak field its.0)
-    (λ v w. subst (AreListed v) (append-nil made) (listed-edited one Other v w at_any (next_to s ∷ outer) (h.Close ∷ post) its.1 [] (λ u k w a n. nothing)))
-    (behind (next_to s) (next_to t) (weak-next weak) (at-next at) more.1)
+    short-listed (next changes) field x ctxt role made tail its.0
+    (subst (AreListed Other) (append-nil made) (listed-edited one Other at_any (next_to s ∷ outer) (h.Close ∷ post) its.1 [] (λ u a n. nothing)))
+    (behind (next_to s) (at-next at) more.1)
 
 pub listed-again : {changes rest : List Change} {before made : List Item} → AreListed Other before → Edits Anywhere changes before made rest → AreListed Other made
-listed-again {before = before} {made = made} listed edits = subst (AreListed Other) (append-nil made) (listed-edited edits Other Other same at_any [] [] (listed-are listed [] [] (λ u. refl)) [] (λ u v w a k. nothing))
+listed-again {before = before} {made = made} listed edits = subst (AreListed Other) (append-nil made) (listed-edited edits Other at_any [] [] (listed-are listed [] [] (λ u. refl)) [] (λ u a k. nothing))
 
 -- a tidy listing
 first-tidied : (head : Head) → first_in (cleared_head head) ≡ first_in head

@@ -90,7 +90,7 @@ module _ (call : Calling) (tree : List Item) (names : HasNamesOnly tree) (plain 
   one : (d e : Denoted) → IsIn (denotations ByContext Es tree) d → IsIn (denotations ByContext Es tree) e → recalled_denoted call move d ≡ recalled_denoted call move e → d ≡ e
   one d e at there is = recalled-one call move (injective call tree names plain editable faithful) os all every (zip_declared call tree names plain editable faithful) faithful d e (known_one d at) (known_one e there) is
 
-  -- (Of the probe `compose`, `same-after`.)
+  -- what is told to be the same in the tree without keywords is the same
   same-after : (d e : Denoted) → OfScope (InTable K) ([], refl) d → OfScope (InTable K) ([], refl) e → same_denoted (recalled_denoted call move d) (recalled_denoted call move e) ≡ true → recalled_denoted call move d ≡ recalled_denoted call move e
   same-after (Bound s m) (Bound t n) at there is =
       let parts = same-bound (moved move s) (moved move t) (recalled call m) (recalled call n) is in
@@ -117,7 +117,7 @@ module _ (call : Calling) (tree : List Item) (names : HasNamesOnly tree) (plain 
       let from = declared-in ByContext os d (subst (λ l. IsIn l d) (all-are tree names) at) in
       subst (IsIn (denotations ByContext Es tree)) (ap (own_or_found all (denoted_by_context all (scopes_around Es from.0.path) (its_name from.0))) from.2) (in-map (denoted_of ByContext Es all) os from.0 from.1)
 
-  -- THE NUMBERS of the merged tree are right for the tree without keywords
+  -- the numbers of the merged tree are right for the tree without keywords
   pub final-numbering : (numbers : Numbering) → ((d : Declared) → IsIn all d → named_right_by numbers call all os d ≡ true) → IsFinalNumbering call tree names plain editable faithful (later_of call tree numbers)
   final-numbering numbers right d at =
       same-right call all os (λ t n. later_of call tree numbers (moved move t) (recalled call n)) numbers

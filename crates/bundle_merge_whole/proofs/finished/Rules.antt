@@ -95,7 +95,7 @@ module _ (call : Calling) (tree : List Item) (names : HasNamesOnly tree) (rule :
   context-of : (o : Occurrence) → IsIn os o → (call o.sym o.ctxt).0 ≡ o.sym → (call o.sym o.ctxt).1 ≡ o.ctxt
   context-of o at is = eqb-true (call o.sym o.ctxt).1 o.ctxt (sym (ap (λ b. cond (not b && has_ident os (call o.sym o.ctxt).0 o.ctxt) (is_unused_context os (call o.sym o.ctxt).1) ((call o.sym o.ctxt).1 == o.ctxt)) ((bytes_eq-Decides o.sym (call o.sym o.ctxt).0).1 (sym is))) ∙ rule.calling.context o at)
 
-  -- THE RULE is faithful
+  -- the rule is faithful
   pub rule-faithful : IsFaithful call os all
   rule-faithful = record {
     one = λ o p at there symbols contexts. one o p at there symbols contexts (kind o at) (kind p there);
@@ -115,7 +115,7 @@ calling-is os new alike o at =
     let passes = and_parts (bytes_eq found.0.sym o.sym) (found.0.ctxt == o.ctxt) (find-passes (λ (a : Occurrence). ident_eq (ident_of a) (o.sym, o.ctxt)) os found.0 found.1) in
     ap (λ f. unwrap_or (option_map new f) (o.sym, o.ctxt)) found.1 ∙ alike found.0 o its at ((bytes_eq-Decides found.0.sym o.sym).0 passes.0) (eqb-true found.0.ctxt o.ctxt passes.1)
 
--- THE RULE of occurrences is one of identifiers
+-- the rule of occurrences is one of identifiers
 pub rule-of-occurrences : (tree : List Item) (new : Occurrence → Ident) → IsOccurrenceRule tree new → IsKeywordRule (calling_of (occurrences tree) new) tree
 rule-of-occurrences tree new its = record {
   calling = record {

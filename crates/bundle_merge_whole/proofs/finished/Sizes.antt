@@ -58,7 +58,7 @@ short_made_names change field x ctxt role default occurs = by_spelled change.is_
     by_spelled true = node_names field h.KeyValuePatProp (plain_key x ++ pattern_in_its_place (Some change) x ctxt role default) ∙ pattern_names change x ctxt role default occurs
     by_spelled false = short_names field change.ident.0 change.ident.1 role default occurs
 
--- THE NAMES of what is made are those of the changes in turn
+-- the names of what is made are those of the changes in turn
 pub record NamedSo (before made : List Item) (changes rest : List Change) : Type 0 where
   pub names : map ident_of_change changes ≡ names_of made ++ map ident_of_change rest
   pub size : length changes ≡ length (names_of before) + length rest

@@ -133,7 +133,7 @@ tidied-plain (h.ExportAll meta) inside = refl
 tidied-plain (h.VarDecl kind meta) inside = refl
 tidied-plain _ inside = refl
 
--- THE EDITS of a tidy tree
+-- the edits of a tidy tree
 both : {around : Around} {changes rest : List Change} {one other made its : List Item} → one ≡ other → made ≡ its → Edits around changes other its rest → Edits around changes one made rest
 both {around = around} {changes = changes} {rest = rest} {other = other} {made = made} a b edits = subst (λ l. Edits around changes l made rest) (sym a) (subst (λ l. Edits around changes other l rest) (sym b) edits)
 
@@ -170,7 +170,7 @@ tidied-names (h.Close ∷ l) = tidied-names l
 pub tidied-idents : (l : List Item) → idents (tidied l) ≡ idents l
 tidied-idents l = idents-names (tidied l) ∙ tidied-names l ∙ sym (idents-names l)
 
--- IN EITHER ORDER
+-- in either order
 pub tidied-with_idents : (tree : List Item) → IsEditable tree → (news : List Ident) → length news ≡ length (idents tree) → tidied (with_idents tree news) ≡ with_idents (tidied tree) news
 tidied-with_idents tree editable news same =
     let it = edits-with tree editable news same in

@@ -264,7 +264,7 @@ short_exact {around = around} field x ctxt role occurs default false t new final
   at_once = subst (λ l. Edits around (record { ident = final; is_spelled_out = t } ∷ boths) (node field h.AssignPatProp (binding None 0 x ctxt role ++ default)) l rest) (short_same t final field x new.0 ctxt new.1 role it.whole (sym (keeps refl))) (c.Shorthand field x ctxt role occurs it.at_once);
 }
 
--- THE WHOLE: what becomes of a part by one change after the other is what becomes of it by both at once
+-- what becomes of a part by one change after the other is what becomes of it by both at once
 
 pub twice : {around : Around} {changes others : List Change} {before after : List Item} → Edits around changes before after others → Free around → (ones twos boths left later rest : List Change) → Along (names_of before) ones twos boths left later rest → Twice around before ones twos boths left later rest
 twice c.Nothing is ones twos boths left later rest along = stays [] (λ changes. c.Nothing) [] refl along
@@ -357,7 +357,7 @@ idents-made tree made news {left = left} same ends edits =
     let named = edited_names edits (omega (arith, a, b)) in
     idents-names made ∙ sym (append-nil (names_of made)) ∙ sym (ap (λ l. names_of made ++ map ident_of_change l) ends) ∙ sym named.names ∙ changed-idents (idents tree) news same
 
--- ONCE IS TWICE
+-- once is twice
 pub record Again (tree : List Item) (news last : List Ident) : Type 0 where
   pub idents_are : idents (with_idents tree news) ≡ news
   pub last_are : idents (with_idents tree last) ≡ last

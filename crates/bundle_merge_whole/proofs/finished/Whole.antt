@@ -5,18 +5,18 @@ use Rattle.bundle_tree_piece.specs.Item as h
 use Rattle.bundle_tree_piece.specs.Item.{Item}
 use Rattle.bundle_rules.specs.Places.{Occurrence, occurrences}
 use Rattle.bundle_rules.specs.Scopes.{Es}
-use Rattle.bundle_rules.specs.Declarations.{ByContext, declared}
+use Rattle.bundle_rules.specs.Declarations.{BySymbol, ByContext, declared}
 use Rattle.bundle_rules.specs.Doubled.{first_doubled}
 use Rattle.bundle_rules.specs.Renaming.{Numbering}
 use Rattle.bundle_rules.specs.Cleared.{cleared, tidied}
 use Rattle.bundle_rules.specs.Idents.{Ident, ident_of, idents}
 use Rattle.bundle_rules.specs.Rebuilds.{with_idents}
-use Rattle.bundle_rules.specs.Renamed.{HasNamesOnly, IsNamed}
+use Rattle.bundle_rules.specs.Renamed.{HasNamesOnly, IsRidOfKeywords, IsNamed}
 use Rattle.bundle_rules.specs.Merged.{IsNamedAs}
 use Rattle.bundle_rules.specs.Entries.{Settings}
 use Rattle.bundle_rules.specs.Headline.{IsClean}
 use Rattle.bundle_rules.specs.Program.{Program}
-use Rattle.bundle_rules.specs.Bundle.{Cause, Hooks}
+use Rattle.bundle_rules.specs.Bundle.{Cause, Hooks, AsModule, IsBundle}
 use Rattle.bundle_tree_places.specs.Edits.{Inside, node}
 use Rattle.bundle_merge_meaning.specs.noted.Agrees.{IsListing}
 use Rattle.bundle_merge_meaning.specs.noted.Listed.{AreListed, Other}
@@ -32,7 +32,7 @@ use Rattle.bundle_merge_whole.specs.finished.Twice.{IsEditable}
 use Rattle.bundle_merge_whole.specs.finished.Finished.{called_idents, recall, final_symbol, final_idents, finished}
 use Rattle.bundle_merge_whole.specs.finished.Rules.{IsKeywordRule}
 use Rattle.bundle_merge_whole.specs.finished.Numbers.{later_of, named_symbol}
-use Rattle.bundle_merge_whole.specs.finished.Whole.{named_idents, named_at_once, AreRightNumbers, IsFinished}
+use Rattle.bundle_merge_whole.specs.finished.Whole.{named_idents, named_at_once, AreRightNumbers}
 use Rattle.bundle_merge_whole.proofs.finished.Twice.{with-idents-are, edits-with}
 use Rattle.bundle_merge_whole.proofs.finished.Rules.{rule-faithful}
 use Rattle.bundle_merge_whole.proofs.finished.Finished.{rid-of-keywords, clean-finished, is-finished, undoubled-finished}
@@ -67,7 +67,7 @@ length-map f (x ∷ xs) = ap suc (length-map f xs)
 pub as-many : (call : Calling) (tree : List Item) → length (called_idents call tree) ≡ length (idents tree)
 as-many call tree = length-map (λ (o : Occurrence). call o.sym o.ctxt) (occurrences tree) ∙ sym (length-map ident_of (occurrences tree))
 
--- THE END WITHOUT HYGIENE: the tidy tree with the keywords' identifiers is the tidied tree without keywords
+-- the tidy tree with the keywords' identifiers is the tidied tree without keywords
 pub unnamed : (call : Calling) (tree : List Item) → IsEditable tree → IsNamedAs false (recall call tree) (with_idents (tidied tree) (called_idents call tree))
 unnamed call tree editable = sym (tidied-with_idents tree editable (called_idents call tree) (as-many call tree))
 
@@ -96,7 +96,16 @@ named-listing call tree editable numbers listed =
     let it = edits-with (tidied tree) its (named_idents call tree numbers) size in
     subst IsListing (it.is ∙ sym (named-tidy call tree editable numbers)) (listing-again (listed-tidied listed) it.edits)
 
--- THE END OF A BUNDLE
+-- a merged bundle, without keywords, and named
+pub record IsFinished (p : Program) (hooks : Hooks) (plan : List Cause) (merged free named : List Item) : Type 0 where
+  pub rid : IsRidOfKeywords merged free
+  pub whole : IsWholeBundle p hooks plan free
+  pub names : IsNamed free named
+  pub clean : named ≡ cleared named
+  pub is_bundle : IsBundle p hooks AsModule BySymbol named
+  pub undoubled : first_doubled Es named ≡ None
+
+-- the end of a bundle
 pub bundle-finished : (p : Program) (hooks : Hooks) (plan : List Cause) (merged : List Item) → IsWholeBundle p hooks plan merged → HasPlainKeys merged → IsUndoubled merged → (call : Calling) → IsKeywordRule call merged → (numbers : Numbering) → AreRightNumbers call merged numbers → AreListed Other merged → IsFinished p hooks plan merged (recall call merged) (named_at_once call merged numbers)
 bundle-finished p hooks plan merged its keys undoubled call rule numbers right listed =
     let editable = ready-editable p hooks plan merged its.ready in

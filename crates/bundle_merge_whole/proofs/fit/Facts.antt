@@ -1,6 +1,6 @@
 -- What is so of lists that are fit: they are listings of whole nodes, with plain defaults and keys
 -- and with ways, and in none of their items an exported declaration is a list of exports.
-use Rattle.std.proofs.Common.{◌≡◌, ℕ, suc, true, List, [], ◌∷◌, ◌++◌, Some, append_assoc, append-nil, refl, sym, ap, ◌∙◌, subst, length, ◌+◌}
+use Rattle.std.proofs.Common.{◌≡◌, ℕ, suc, true, List, [], ◌∷◌, ◌++◌, Some, append_assoc, append-nil, refl, ap, ◌∙◌, subst, length, ◌+◌}
 use Rattle.std.specs.List.{AllByRecursion}
 use Rattle.std.proofs.lemmas.Bool.{and_from}
 use Rattle.bundle_tree_piece.specs.Item as h

@@ -6,7 +6,7 @@ use Rattle.bundle_tree_piece.specs.Item as h
 use Rattle.bundle_tree_piece.specs.Item.{Item, Head}
 use Rattle.bundle_rules.specs.Nodes.{begins_with, without_last}
 use Rattle.bundle_rules.specs.Forms.{is_export_list}
-use Rattle.bundle_scope_renamed.specs.fit.Sorts.{Sort, ADefault, ADecl, One, Slot, slot, takes, names_in, slots}
+use Rattle.bundle_scope_renamed.specs.fit.Sorts.{Sort, ADefault, ADecl, One, slot, takes, names_in, slots}
 use Rattle.bundle_scope_renamed.specs.fit.Fits.{AreFit, over, a_name, a_node, IsFit, name, node}
 use Rattle.bundle_merge_whole.proofs.called.Filed.{IsListless}
 

@@ -8,7 +8,7 @@ use Rattle.bundle_tree_piece.specs.Item.{Item, Head}
 use Rattle.bundle_scope_renamed.specs.fit.Sorts.{Sort, AKey, ABindingIdent, AnIdent, AnExpr, One, Optional, Slot, slot, takes, takes_parameter, takes_name, names_in, slots}
 use Rattle.bundle_scope_renamed.specs.fit.Fits.{after, AreFit, no_more, over, a_name, a_hole, a_node}
 use Rattle.bundle_scope_renamed.specs.fit.Seen.{each_slot}
-use Rattle.bundle_rules.specs.Callable.{is_module_head, BeginsNamed, HasName}
+use Rattle.bundle_rules.specs.Callable.{BeginsNamed, HasName}
 use Rattle.bundle_merge_whole.specs.called.Within.{is_setter_key, has_parameters, may_hold, may_name, AreIn}
 use Rattle.bundle_merge_whole.specs.called.Within as w
 use Rattle.bundle_scope_renamed.proofs.fit.Seeing.{after_slot}

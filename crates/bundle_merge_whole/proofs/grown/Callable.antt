@@ -22,7 +22,7 @@ use Rattle.bundle_scope_renamed.specs.fit.Sorts.{AStmt}
 use Rattle.bundle_scope_renamed.specs.fit.Fits.{AreEach, ended, next}
 use Rattle.bundle_scope_renamed.proofs.fit.Rows.{last_each}
 use Rattle.bundle_merge_whole.proofs.fit.Within.{are_in}
-use Rattle.bundle_merge_whole.proofs.grown.Grown.{stmt_fit}
+use Rattle.bundle_scope_renamed.proofs.grown.Grown.{stmt_fit}
 
 pub stmts_in_module : (list : List Stmt) → AreIn h.Module (flat_map (stmt_items 0) list)
 stmts_in_module list = are_in (last_each (each_stmt list)) h.Module refl refl

@@ -1,5 +1,5 @@
 -- What is so of the lists of syntax trees, since they are fit.
-use Rattle.std.proofs.Common.{◌≡◌, ℕ, true, List, Some, refl, sym, subst}
+use Rattle.std.proofs.Common.{◌≡◌, ℕ, true, Some, refl, sym, subst}
 use Rattle.bundle_tree_ast.specs.declared.module.Module.{Module}
 use Rattle.bundle_tree_ast.specs.declared.module.ModuleItem.{ModuleItem}
 use Rattle.bundle_tree_ast.specs.declared.stmt.Stmt.{Stmt}
@@ -32,7 +32,7 @@ use Rattle.bundle_merge_whole.proofs.fit.Kept.{tree-fit}
 use Rattle.bundle_merge_whole.proofs.fit.Facts as fit
 use Rattle.bundle_merge_whole.proofs.fit.Facts.{one_listing, one_plain, one_keyless, one_own, one_ways, one_in, one_listless}
 use Rattle.bundle_merge_whole.proofs.fit.Within.{seats}
-use Rattle.bundle_merge_whole.proofs.grown.Grown.{stmt_fit, decl_fit, expr_fit, class_fit, function_fit, key_value_prop_fit, module_item_fit, module_fit}
+use Rattle.bundle_scope_renamed.proofs.grown.Grown.{stmt_fit, decl_fit, expr_fit, class_fit, function_fit, key_value_prop_fit, module_item_fit, module_fit}
 
 -- Modules.
 

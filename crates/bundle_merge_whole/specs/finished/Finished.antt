@@ -47,6 +47,6 @@ final_symbol call tree later o = symbol_after later (recalled_denoted call (call
 abbrev pub final_idents : Calling → List Item → Numbering → List Ident
 final_idents call tree later = map (λ (o : Occurrence). (final_symbol call tree later o, 0)) (occurrences tree)
 
--- THE NAMED TREE, made in one go
+-- the named tree, made in one go
 abbrev pub finished : Calling → List Item → Numbering → List Item
 finished call tree later = cleared (with_idents tree (final_idents call tree later))

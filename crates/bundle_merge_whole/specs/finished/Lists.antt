@@ -1,13 +1,12 @@
 -- Whether a list is one of whole nodes as trees list them, by the nodes that are open.
-use Rattle.std.specs.Prelude.{ℕ, ◌==◌, ◌&&◌, Bool, true, not, List, [], ◌∷◌}
+use Rattle.std.specs.Prelude.{ℕ, ◌==◌, ◌&&◌, Bool, true, List, [], ◌∷◌}
 use Rattle.bundle_tree_piece.specs.declared.piece.Role.{Role}
 use Rattle.bundle_tree_piece.specs.Item as h
 use Rattle.bundle_tree_piece.specs.Item.{Item}
-use Rattle.bundle_tree_places.specs.Edits.{is_occurrence}
-use Rattle.bundle_merge_meaning.specs.noted.Listed.{Stand, Other, InReadOrCall, AtTarget, first_in, next_to}
+use Rattle.bundle_merge_meaning.specs.noted.Listed.{Stand, Other, InReadOrCall, AtTarget, is_reference, first_in, next_to}
 
 abbrev pub fits_name : Stand → Role → Bool
-fits_name InReadOrCall role = is_occurrence role
+fits_name InReadOrCall role = is_reference role
 fits_name stand role = true
 
 abbrev pub fits_node : Stand → ℕ → Bool

@@ -1,21 +1,16 @@
--- The end of a bundle in the form of a module: what is owed of it, and what has to be known of the merged tree.
-use Rattle.std.specs.Prelude.{◌≡◌, true, None, List, map}
+-- The names that a merged tree gets in one go, and what has to be known of their numbers.
+use Rattle.std.specs.Prelude.{◌≡◌, true, List, map}
 use Rattle.bundle_tree_piece.specs.Item.{Item}
 use Rattle.bundle_rules.specs.Places.{Occurrence, occurrences}
 use Rattle.bundle_rules.specs.Scopes.{Es}
-use Rattle.bundle_rules.specs.Declarations.{BySymbol, ByContext, Declared, declared}
-use Rattle.bundle_rules.specs.Doubled.{first_doubled}
+use Rattle.bundle_rules.specs.Declarations.{ByContext, Declared, declared}
 use Rattle.bundle_rules.specs.Renaming.{Numbering}
 use Rattle.bundle_rules.specs.Cleared.{cleared}
 use Rattle.bundle_rules.specs.Idents.{Ident}
 use Rattle.bundle_rules.specs.Rebuilds.{with_idents}
-use Rattle.bundle_rules.specs.Renamed.{IsRidOfKeywords, IsNamed}
-use Rattle.bundle_rules.specs.Program.{Program}
-use Rattle.bundle_rules.specs.Bundle.{Cause, Hooks, AsModule, IsBundle}
 use Rattle.bundle_scope_renamed.proofs.kept.Lists.{IsIn}
 use Rattle.bundle_scope_renamed.proofs.kept.Recalled.{Calling}
 use Rattle.bundle_scope_renamed.proofs.kept.Transfer.{named_right_by}
-use Rattle.bundle_merge_whole.proofs.composed.Chain.{IsWholeBundle}
 use Rattle.bundle_merge_whole.specs.finished.Numbers.{named_symbol}
 
 -- the identifiers of the named tree, by the numbers of the merged one
@@ -29,12 +24,3 @@ named_at_once call tree numbers = cleared (with_idents tree (named_idents call t
 -- the numbers are right by the symbols that bindings have without keywords
 abbrev pub AreRightNumbers : Calling → List Item → Numbering → Type 0
 AreRightNumbers call tree numbers = (d : Declared) → IsIn (declared ByContext Es tree) d → named_right_by numbers call (declared ByContext Es tree) (occurrences tree) d ≡ true
-
--- a merged bundle, without keywords, and named
-pub record IsFinished (p : Program) (hooks : Hooks) (plan : List Cause) (merged free named : List Item) : Type 0 where
-  pub rid : IsRidOfKeywords merged free
-  pub whole : IsWholeBundle p hooks plan free
-  pub names : IsNamed free named
-  pub clean : named ≡ cleared named
-  pub is_bundle : IsBundle p hooks AsModule BySymbol named
-  pub undoubled : first_doubled Es named ≡ None
