@@ -1,5 +1,6 @@
 pub mod FacesLemmas
 pub mod NamedLemmas
+pub mod PromisedLemmas
 pub mod RefusalLemmas
 pub mod RenameLemmas
 pub mod WordsLemmas

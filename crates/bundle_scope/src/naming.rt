@@ -2,7 +2,7 @@
 
 ghost use Rattle.std.specs.Prelude.{◌≡◌, IfErr, IfOk};
 ghost use Rattle.bundle_marks.specs.Composed.{list_of};
-ghost use Rattle.bundle_scope.specs.Named.{RenamesBindings, RenamesKeywords};
+ghost use Rattle.bundle_scope.specs.Named.{FreesOfKeywords, RenamesBindings, RenamesKeywords, StaysNamed, StaysUndoubled, TellsByNames};
 
 use crate::words::clear_words;
 use bundle_scope_denote::{ModuleKind, Reading, denotations};
@@ -20,9 +20,16 @@ pub struct KeywordRenamer;
 impl KeywordRenamer {
     /// The module in which each binding with the symbol of a reserved word has `__` before it, wherever it
     /// occurs (ECMA-262, 12.7.2). Globals stay, and all other names. Refused only where memory runs out.
+    ///
+    /// Of a module that is resolved and has no default export without a name, names denote what they did, and it
+    /// is still resolved: a context changes only where another binding would be told by the same.
     pub fn run(alloc: Global, module: &Module) -> Result<Module, Error>
         ensures renamed { IfOk result (λ made.
             RenamesKeywords (list_of «module».now.body.items) (list_of made.body.items)) }
+        ensures rid { IfOk result (λ made.
+            FreesOfKeywords (list_of «module».now.body.items) (list_of made.body.items)) }
+        ensures named { IfOk result (λ made.
+            StaysNamed (list_of «module».now.body.items) (list_of made.body.items)) }
         ensures refused { IfErr result (λ refusal. refusal ≡ Error.OutOfMemory) }
     {
         let items = module.body.as_slice();
@@ -37,9 +44,16 @@ impl KeywordRenamer {
 
 /// The module in which each name denotes by its symbol what it denoted by symbol and context, and each context
 /// is 0. No binding is renamed without need, and globals keep their names. Refused only where memory runs out.
+///
+/// This is so of a module that is resolved and has no default export without a name. Where no name of it was
+/// declared beside another that excludes it, none is afterwards.
 pub fn hygiene(alloc: Global, module: &Module) -> Result<Module, Error>
     ensures renamed { IfOk result (λ made.
         RenamesBindings (list_of «module».now.body.items) (list_of made.body.items)) }
+    ensures named { IfOk result (λ made.
+        TellsByNames (list_of «module».now.body.items) (list_of made.body.items)) }
+    ensures undoubled { IfOk result (λ made.
+        StaysUndoubled (list_of «module».now.body.items) (list_of made.body.items)) }
     ensures refused { IfErr result (λ refusal. refusal ≡ Error.OutOfMemory) }
 {
     let items = module.body.as_slice();

@@ -4,14 +4,15 @@ ghost use Rattle.std.specs.Prelude.{◌≡◌, ℕ, flat_map};
 ghost use Rattle.bundle_tree_piece.specs.declared.piece.Role.TheVariants as role;
 ghost use Rattle.bundle_tree_listed.specs.Tree.{export_specifier_items, import_specifier_items, module_decl_items, module_export_name_items, module_item_items, option_items};
 ghost use Rattle.bundle_marks.specs.Composed.{list_of};
-ghost use Rattle.bundle_scope.specs.Named.{words_aside};
+ghost use Rattle.bundle_scope.specs.Named.{AreWordsClear, words_aside};
 
 use bundle_tree_ast::{ExportSpecifier, ImportSpecifier, ModuleDecl, ModuleExportName, ModuleItem};
 use bundle_tree_names::SyntaxContext;
 
 /// Makes the context of each name that is imported or exported 0.
 pub(crate) fn clear_words(items: &mut Vec<ModuleItem>)
-    ensures { words_aside (list_of items.new.items) ≡ words_aside (list_of items.old.items) }
+    ensures same { words_aside (list_of items.new.items) ≡ words_aside (list_of items.old.items) }
+    ensures clear { AreWordsClear (list_of items.new.items) }
 {
     for place in 0..items.len() {
         clear_item(&mut items[place]);
@@ -19,8 +20,9 @@ pub(crate) fn clear_words(items: &mut Vec<ModuleItem>)
 }
 
 fn clear_item(item: &mut ModuleItem)
-    ensures { words_aside (module_item_items 0 item.new)
+    ensures same { words_aside (module_item_items 0 item.new)
         ≡ words_aside (module_item_items 0 item.old) }
+    ensures clear { AreWordsClear (module_item_items 0 item.new) }
 {
     if let ModuleItem::ModuleDecl(decl) = item {
         clear_decl(decl);
@@ -28,8 +30,9 @@ fn clear_item(item: &mut ModuleItem)
 }
 
 fn clear_decl(decl: &mut ModuleDecl)
-    ensures { words_aside (module_decl_items 0 decl.new)
+    ensures same { words_aside (module_decl_items 0 decl.new)
         ≡ words_aside (module_decl_items 0 decl.old) }
+    ensures clear { AreWordsClear (module_decl_items 0 decl.new) }
 {
     match decl {
         ModuleDecl::ImportDecl { specifiers, .. } => clear_imports(specifiers),
@@ -47,8 +50,9 @@ fn clear_decl(decl: &mut ModuleDecl)
 }
 
 fn clear_imports(specifiers: &mut Vec<ImportSpecifier>)
-    ensures { words_aside (flat_map (import_specifier_items 0) specifiers.new.items)
+    ensures same { words_aside (flat_map (import_specifier_items 0) specifiers.new.items)
         ≡ words_aside (flat_map (import_specifier_items 0) specifiers.old.items) }
+    ensures clear { AreWordsClear (flat_map (import_specifier_items 0) specifiers.new.items) }
 {
     for place in 0..specifiers.len() {
         clear_import(&mut specifiers[place]);
@@ -57,8 +61,11 @@ fn clear_imports(specifiers: &mut Vec<ImportSpecifier>)
 
 // The specifiers of a list with names of this module.
 fn clear_exports(specifiers: &mut Vec<ExportSpecifier>)
-    ensures { words_aside (flat_map (export_specifier_items role.Reference 0) specifiers.new.items)
+    ensures same { words_aside
+        (flat_map (export_specifier_items role.Reference 0) specifiers.new.items)
         ≡ words_aside (flat_map (export_specifier_items role.Reference 0) specifiers.old.items) }
+    ensures clear { AreWordsClear
+        (flat_map (export_specifier_items role.Reference 0) specifiers.new.items) }
 {
     for place in 0..specifiers.len() {
         clear_export(&mut specifiers[place]);
@@ -67,8 +74,10 @@ fn clear_exports(specifiers: &mut Vec<ExportSpecifier>)
 
 // The specifiers of a list with names of another module.
 fn clear_names(specifiers: &mut Vec<ExportSpecifier>)
-    ensures { words_aside (flat_map (export_specifier_items role.Word 0) specifiers.new.items)
+    ensures same { words_aside (flat_map (export_specifier_items role.Word 0) specifiers.new.items)
         ≡ words_aside (flat_map (export_specifier_items role.Word 0) specifiers.old.items) }
+    ensures clear { AreWordsClear
+        (flat_map (export_specifier_items role.Word 0) specifiers.new.items) }
 {
     for place in 0..specifiers.len() {
         clear_both(&mut specifiers[place]);
@@ -76,8 +85,9 @@ fn clear_names(specifiers: &mut Vec<ExportSpecifier>)
 }
 
 fn clear_import(specifier: &mut ImportSpecifier)
-    ensures { words_aside (import_specifier_items 0 specifier.new)
+    ensures same { words_aside (import_specifier_items 0 specifier.new)
         ≡ words_aside (import_specifier_items 0 specifier.old) }
+    ensures clear { AreWordsClear (import_specifier_items 0 specifier.new) }
 {
     match specifier {
         ImportSpecifier::ImportNamedSpecifier { imported, .. } => clear_option(imported),
@@ -88,10 +98,9 @@ fn clear_import(specifier: &mut ImportSpecifier)
 
 // The name under which a specifier exports.
 fn clear_export(specifier: &mut ExportSpecifier)
-    ensures own { words_aside (export_specifier_items role.Reference 0 specifier.new)
+    ensures same { words_aside (export_specifier_items role.Reference 0 specifier.new)
         ≡ words_aside (export_specifier_items role.Reference 0 specifier.old) }
-    ensures other { words_aside (export_specifier_items role.Word 0 specifier.new)
-        ≡ words_aside (export_specifier_items role.Word 0 specifier.old) }
+    ensures clear { AreWordsClear (export_specifier_items role.Reference 0 specifier.new) }
 {
     match specifier {
         ExportSpecifier::ExportNamespaceSpecifier { name } => clear_name(name),
@@ -101,27 +110,23 @@ fn clear_export(specifier: &mut ExportSpecifier)
 
 // The names in a specifier with names of another module.
 fn clear_both(specifier: &mut ExportSpecifier)
-    ensures { words_aside (export_specifier_items role.Word 0 specifier.new)
+    ensures same { words_aside (export_specifier_items role.Word 0 specifier.new)
         ≡ words_aside (export_specifier_items role.Word 0 specifier.old) }
-{
-    clear_orig(specifier);
-    clear_export(specifier);
-}
-
-// The name that a specifier takes from another module.
-fn clear_orig(specifier: &mut ExportSpecifier)
-    ensures { words_aside (export_specifier_items role.Word 0 specifier.new)
-        ≡ words_aside (export_specifier_items role.Word 0 specifier.old) }
+    ensures clear { AreWordsClear (export_specifier_items role.Word 0 specifier.new) }
 {
     match specifier {
-        ExportSpecifier::ExportNamespaceSpecifier { .. } => {}
-        ExportSpecifier::ExportNamedSpecifier { orig, .. } => clear_name(orig),
+        ExportSpecifier::ExportNamespaceSpecifier { name } => clear_name(name),
+        ExportSpecifier::ExportNamedSpecifier { orig, exported } => {
+            clear_name(orig);
+            clear_option(exported);
+        }
     }
 }
 
 fn clear_option(name: &mut Option<ModuleExportName>)
-    ensures { words_aside (option_items (module_export_name_items role.Word 1) name.new)
+    ensures same { words_aside (option_items (module_export_name_items role.Word 1) name.new)
         ≡ words_aside (option_items (module_export_name_items role.Word 1) name.old) }
+    ensures clear { AreWordsClear (option_items (module_export_name_items role.Word 1) name.new) }
 {
     if let Some(name) = name {
         clear_name(name);
@@ -129,9 +134,11 @@ fn clear_option(name: &mut Option<ModuleExportName>)
 }
 
 fn clear_name(name: &mut ModuleExportName)
-    ensures { (field : ℕ) →
+    ensures same { (field : ℕ) →
         words_aside (module_export_name_items role.Word field name.new)
         ≡ words_aside (module_export_name_items role.Word field name.old) }
+    ensures clear { (field : ℕ) →
+        AreWordsClear (module_export_name_items role.Word field name.new) }
 {
     match name {
         ModuleExportName::Ident(ident) => ident.ctxt = SyntaxContext::empty(),
