@@ -3,7 +3,7 @@
 use Rattle.std.proofs.Common.{◌≡◌, List, [], ◌∷◌, map, length, refl, ap, sym, ◌∙◌, subst, arith}
 use Rattle.std.specs.Prelude.{bytes_eq}
 use Rattle.std.specs.List.{AllZip, All}
-use Rattle.std.proofs.lemmas.Bool.{not-false}
+pub use Rattle.std.proofs.lemmas.Bool.{not-false as not_false}
 use Rattle.std.proofs.lemmas.Slice.Eq.{bytes_eq-Decides}
 use Rattle.bundle_tree_piece.specs.Item.{Item}
 use Rattle.bundle_rules.specs.Scopes.{Es}
@@ -22,7 +22,7 @@ use Rattle.bundle_rules.specs.Places.{Occurrence, occurrences}
 
 keeps_text : (old new : Ident) → KeepsText (change_to old new) old
 keeps_text old new is =
-    sym ((bytes_eq-Decides old.0 new.0).0 (not-false (bytes_eq old.0 new.0) is))
+    sym ((bytes_eq-Decides old.0 new.0).0 (not_false (bytes_eq old.0 new.0) is))
 
 changes_cover : (olds news : List Ident) → length news ≡ length olds →
     AllZip KeepsText (changes_to olds news) olds
