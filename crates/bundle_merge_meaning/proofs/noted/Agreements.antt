@@ -1,5 +1,5 @@
--- Which notes agree with what is replaced in a module: of the reads around a name that are replaced, the outermost; the
--- literal call of the name; else the name alone.
+-- Which notes agree with what is replaced in a module: of the reads around a name that are
+-- replaced, the outermost; the literal call of the name; else the name alone.
 use Rattle.std.proofs.Common.{◌≡◌, inl, inr, ℕ, zero, suc, ◌+◌, ◌-◌, ◌<◌, ◌≤◌, true, List, [], ◌∷◌, ◌++◌, append_assoc, append-nil, length, take, drop, Option, Some, None, refl, sym, ap, ◌∙◌, subst, arith}
 use Rattle.std.specs.Prelude.{Contains, fold, slice_get, option_and_then}
 use Rattle.std.proofs.lemmas.Option.{none-some, same_Some}
@@ -20,8 +20,8 @@ use Rattle.bundle_rules.specs.Program.{Program, tree_of, calls_of}
 use Rattle.bundle_rules.specs.Linking.{Target}
 use Rattle.bundle_rules.specs.Meaning.{Replacement, ByName, ByCall, Of, Load, Meta, Meant, Known, NameMeans, ReadsAs, is_meta_at, Replaced, static_read, import_meta, require_call, own_sense}
 use Rattle.bundle_tree_places.specs.Edits as edits
-use Rattle.bundle_merge_meaning.specs.noted.Nested as nested
-use Rattle.bundle_merge_meaning.specs.noted.Nested.{HasParts}
+use Rattle.bundle_link_reached.specs.Nested as nested
+use Rattle.bundle_link_reached.specs.Nested.{HasParts}
 use Rattle.bundle_merge_meaning.specs.noted.Agrees.{IsClear, IsReplacedAround, StandsAlone, StandsForReads, StandsForCall}
 use Rattle.bundle_merge_meaning.proofs.noted.ListFacts.{none-there, first-there, later-there, get-front, get-behind, split}
 use Rattle.bundle_merge_meaning.proofs.noted.Shapes.{IsReads, base, read, nodes_in_reads, IsLiteralCall, literal_call_nodes, same_nodes, tail_same}
@@ -80,8 +80,8 @@ below-to place path (Some h.Close) below = below
 pub below-there : (tree : List Item) (place : ℕ) → Below place (path_at tree place)
 below-there tree place = let l = spot-place start tree place in
     below-to place (spot_before tree place).path (slice_get tree place)
-        (below-more (spot_before tree place).place place (spot_before tree place).path
-        (omega (arith, l)) (below-fold start (take place tree) tt))
+    (below-more (spot_before tree place).place place (spot_before tree place).path
+    (omega (arith, l)) (below-fold start (take place tree) tt))
 
 below-apart : (place : ℕ) (inner : List Around) (node : Around) (outer : List Around) →
     Below place (inner ++ node ∷ outer) → Below node.begins outer
@@ -144,17 +144,20 @@ member_before base rest j l = absurd (omega (arith, l))
 member_before (read {field = f} second word it) rest zero l = (f, refl)
 member_before (read {object = object} second word it) rest (suc j) l =
     let its =
-        member_before it (h.Open second (h.IdentName word) ∷ h.Close ∷ h.Close ∷ rest) j
-        (omega (arith, l)) in
-    (its.0, ap (λ l. slice_get l j)
-        (append_assoc object (h.Open second (h.IdentName word) ∷ h.Close ∷ h.Close ∷ []) rest)
-        ∙ its.1)
+    member_before it (h.Open second (h.IdentName word) ∷ h.Close ∷ h.Close ∷ rest) j
+    (omega (arith, l)) in (
+      its.0,
+      ap (λ l. slice_get l j)
+          (append_assoc object (h.Open second (h.IdentName word) ∷ h.Close ∷ h.Close ∷ []) rest)
+          ∙ its.1,
+    )
 
 module _ (pr : Program) (m : ℕ) (nodes : nested.AreNodes (tree_of pr m)) where
   abbrev tree : List Item
   tree = tree_of pr m
 
-  -- what replaces a node around a name: a name of so many reads around that name, or a call right before it
+  -- what replaces a node around a name: a name of so many reads around that name, or a call right
+  -- before it
   pub data Replaces (place begins : ℕ) : Replacement → Type 0 where
     by_reads_of : {t : Target} (count : ℕ) (role : Role) (xs behind : List Item) →
         IsReads count role xs → drop begins (tree_of pr m) ≡ xs ++ behind →
@@ -195,28 +198,28 @@ module _ (pr : Program) (m : ℕ) (nodes : nested.AreNodes (tree_of pr m)) where
     by_static t x word reads its =
         let chain = chain_of nodes reads in
         let r =
-            read_node (tree_of pr m) node.begins chain.behind chain.reads chain.there its.field
-            node.head (opens its) in
+        read_node (tree_of pr m) node.begins chain.behind chain.reads chain.there its.field
+        node.head (opens its) in
         let both : r.inside ++ h.Close ∷ chain.behind ≡ its.inside ++ h.Close ∷ its.rest =
-            tail_same
-                (ap (λ l. h.Open its.field h.MemberExpr ∷ l)
-                (sym (append_assoc r.inside (h.Close ∷ []) chain.behind))
-                ∙ ap (λ l. l ++ chain.behind) (sym r.is)
-                ∙ sym chain.there
-                ∙ its.at)
-                in
+        tail_same
+        (ap (λ l. h.Open its.field h.MemberExpr ∷ l)
+        (sym (append_assoc r.inside (h.Close ∷ []) chain.behind))
+        ∙ ap (λ l. l ++ chain.behind) (sym r.is)
+        ∙ sym chain.there
+        ∙ its.at)
+        in
         let same =
-            (same_nodes (nodes_in_reads r.reads its.field r.inside refl) (plain_nodes its.nodes) chain.behind its.rest both).0 in
+        (same_nodes (nodes_in_reads r.reads its.field r.inside refl) (plain_nodes its.nodes) chain.behind its.rest both).0 in
         let named : IsName (slice_get (edits.node its.field h.MemberExpr its.inside) (suc its.k)) =
-            subst IsName (sym (get-front its.inside (h.Close ∷ []) its.k (name-within its.name)))
-            (name_is its.name) in
+        subst IsName (sym (get-front its.inside (h.Close ∷ []) its.k (name-within its.name)))
+        (name_is its.name) in
         let count =
-            name_at_count r.reads (suc its.k)
-            (subst (λ l. IsName (slice_get (edits.node its.field h.MemberExpr l) (suc its.k)))
-            (sym same) named) in
+        name_at_count r.reads (suc its.k)
+        (subst (λ l. IsName (slice_get (edits.node its.field h.MemberExpr l) (suc its.k)))
+        (sym same) named) in
         let far = its.far in
         by_reads_of chain.count chain.role chain.xs chain.behind chain.reads chain.there
-            (omega (arith, far, count))
+        (omega (arith, far, count))
 
     by_literal : (l : ℕ) (call : RequireCall) → Contains (calls_of pr m) call →
         call.place ≡ node.begins →
@@ -224,22 +227,22 @@ module _ (pr : Program) (m : ℕ) (nodes : nested.AreNodes (tree_of pr m)) where
         Replaces place node.begins (ByCall (Load l))
     by_literal l call listed same_place its =
         let found =
-            required_there (drop node.begins (tree_of pr m)) call.specifier
-            (ap (λ n. required_at (drop n (tree_of pr m))) (sym same_place)
-            ∙ linked_there pr.settings (is_free (tree_of pr m)) (tree_of pr m) call listed) in
+        required_there (drop node.begins (tree_of pr m)) call.specifier
+        (ap (λ n. required_at (drop n (tree_of pr m))) (sym same_place)
+        ∙ linked_there pr.settings (is_free (tree_of pr m)) (tree_of pr m) call listed) in
         let literal = found.literal in
         let both : found.inside ++ h.Close ∷ found.behind ≡ its.inside ++ h.Close ∷ its.rest =
-            tail_same
-                (ap (λ l. h.Open found.field h.CallExpr ∷ l)
-                (sym (append_assoc found.inside (h.Close ∷ []) found.behind))
-                ∙ sym found.is
-                ∙ its.at)
-                in
+        tail_same
+        (ap (λ l. h.Open found.field h.CallExpr ∷ l)
+        (sym (append_assoc found.inside (h.Close ∷ []) found.behind))
+        ∙ sym found.is
+        ∙ its.at)
+        in
         let same =
-            (same_nodes (literal_call_nodes literal) (plain_nodes its.nodes) found.behind its.rest both).0 in
+        (same_nodes (literal_call_nodes literal) (plain_nodes its.nodes) found.behind its.rest both).0 in
         first literal its.k
-            (subst (λ l. IsName (slice_get l its.k)) (sym same ∙ literal.is) (name_is its.name))
-            its.far
+        (subst (λ l. IsName (slice_get l its.k)) (sym same ∙ literal.is) (name_is its.name))
+        its.far
       where
         first : {role : Role} {inside : List Item} (literal : IsLiteralCall role inside) (k : ℕ) →
             IsName
@@ -295,16 +298,18 @@ module _ (pr : Program) (m : ℕ) (nodes : nested.AreNodes (tree_of pr m)) where
           let name = name-at nodes place (f, x, c, role, at) in
           let same = same_Some _ o e in
           let its_place : (spot_before (tree_of pr m) place).place ≡ place =
-              spot_place (name-within name) in
+          spot_place (name-within name) in
           let o_place : o.place ≡ place =
-              ap (λ (it : Occurrence). it.place) (sym same) ∙ its_place in
-          (o_place, record {
-            at = subst (NameAt (tree_of pr m)) (sym o_place) name;
-            path_is =
-                ap (λ (it : Occurrence). it.path) (sym same)
-                ∙ ap (path_to_option (spot_before (tree_of pr m) place).path) (sym at)
-                ∙ ap (path_at (tree_of pr m)) (sym o_place);
-          })
+          ap (λ (it : Occurrence). it.place) (sym same) ∙ its_place in (
+            o_place,
+            record {
+              at = subst (NameAt (tree_of pr m)) (sym o_place) name;
+              path_is =
+                  ap (λ (it : Occurrence). it.path) (sym same)
+                  ∙ ap (path_to_option (spot_before (tree_of pr m) place).path) (sym at)
+                  ∙ ap (path_at (tree_of pr m)) (sym o_place);
+            },
+          )
 
       by : (item : Option Item) → slice_get (tree_of pr m) place ≡ item →
           option_and_then (occurrence_of (spot_before (tree_of pr m) place)) item ≡ Some o →
@@ -322,9 +327,9 @@ module _ (pr : Program) (m : ℕ) (nodes : nested.AreNodes (tree_of pr m)) where
       (f : ℕ) × (slice_get (tree_of pr m) begins ≡ Some (h.Open f h.CallExpr))
   call_head {begins = begins} (require_call call listed same_place resolved) =
       let found =
-          required_there (drop begins (tree_of pr m)) call.specifier
-          (ap (λ n. required_at (drop n (tree_of pr m))) (sym same_place)
-          ∙ linked_there pr.settings (is_free (tree_of pr m)) (tree_of pr m) call listed) in
+      required_there (drop begins (tree_of pr m)) call.specifier
+      (ap (λ n. required_at (drop n (tree_of pr m))) (sym same_place)
+      ∙ linked_there pr.settings (is_free (tree_of pr m)) (tree_of pr m) call listed) in
       (found.field, get-drop (tree_of pr m) begins ∙ ap (λ l. slice_get l 0) found.is)
 
   -- ---- notes
@@ -346,10 +351,12 @@ module _ (pr : Program) (m : ℕ) (nodes : nested.AreNodes (tree_of pr m)) where
       ((node : Around) → Contains path node → (by : Replacement) → Replaced pr m node.begins by →
       ⊥) → IsClear (Replaced pr m) path
   clear_if [] none = tt
-  clear_if (node ∷ outer) none =
-      (λ by is.
-      none node (first-there node outer) by is, clear_if outer
-      (λ other c. none other (later-there node outer other c)))
+  clear_if (node ∷ outer) none = (
+    λ by is.
+        none node (first-there node outer) by is,
+    clear_if outer
+        (λ other c. none other (later-there node outer other c)),
+  )
 
   -- of the nodes around a name the outermost that is replaced
   outermost_there : (o : Occurrence) → IsThere o → (node : Around) →
@@ -361,8 +368,8 @@ module _ (pr : Program) (m : ℕ) (nodes : nested.AreNodes (tree_of pr m)) where
   outermost_there o there node c by is none =
       let its = split_path (path_at (tree_of pr m) o.place) node c in
       let below : Below node.begins its.1 =
-          below-apart o.place its.0 node its.1
-          (subst (Below o.place) its.2 (below-there (tree_of pr m) o.place)) in
+      below-apart o.place its.0 node its.1
+      (subst (Below o.place) its.2 (below-there (tree_of pr m) o.place)) in
       record {
         inner = its.0;
         node = node;
@@ -454,18 +461,18 @@ module _ (pr : Program) (m : ℕ) (nodes : nested.AreNodes (tree_of pr m)) where
           Replaces o.place other.begins by → ⊥
       not_further other less (by_reads_of more role xs rest reads at e) =
           let between : other.begins + (node.begins - other.begins) ≡ node.begins =
-              omega (arith, less) in
+          omega (arith, less) in
           let far = called in
           let member =
-              member_before reads rest (node.begins - other.begins)
-              (omega (arith, less, e, far)) in
+          member_before reads rest (node.begins - other.begins)
+          (omega (arith, less, e, far)) in
           let call = call_head is in
           differ member.0 call.0
-              (sym member.1
-              ∙ ap (λ l. slice_get l (node.begins - other.begins)) (sym at)
-              ∙ slice_get-drop other.begins (tree_of pr m) (node.begins - other.begins)
-              ∙ ap (slice_get (tree_of pr m)) between
-              ∙ call.1)
+          (sym member.1
+          ∙ ap (λ l. slice_get l (node.begins - other.begins)) (sym at)
+          ∙ slice_get-drop other.begins (tree_of pr m) (node.begins - other.begins)
+          ∙ ap (slice_get (tree_of pr m)) between
+          ∙ call.1)
       not_further other less (by_call_of e) = let far = called in omega (arith, e, far, less)
 
       none : (other : Around) → Contains (path_at (tree_of pr m) o.place) other →

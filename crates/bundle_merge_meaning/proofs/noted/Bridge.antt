@@ -17,7 +17,10 @@ use Rattle.bundle_tree_places.specs.Edits as edits
 use Rattle.bundle_tree_places.specs.Edits.{is_occurrence, around_in}
 use Rattle.bundle_merge_meaning.specs.noted.Nodes as n
 use Rattle.bundle_merge_meaning.specs.noted.Nodes.{AreNodes}
-use Rattle.bundle_merge_meaning.specs.noted.Marked.{Whole, Alone, Reads, Call, Note, upcoming, stays, keeps_first, node_marks, marks_there, call_marks, Marked, Nothing, Joined, Hole, Word, Name, Inside, Kept, Shorthand, OfReads, OfCall, OfMeta}
+use Rattle.bundle_tree_rebuild.specs.declared.rewrite.Whole.{Whole}
+use Rattle.bundle_tree_rebuild.specs.declared.rewrite.Whole.TheVariants.{Alone, Reads, Call}
+use Rattle.bundle_merge_meaning.specs.noted.Marked.{Note, upcoming, stays, node_marks, marks_there, call_marks, Marked, Nothing, Joined, Hole, Word, Name, Inside, Kept, Shorthand, OfReads, OfCall, OfMeta}
+use Rattle.bundle_tree_rebuild.specs.Becomes.{keeps_first}
 use Rattle.bundle_merge_meaning.specs.noted.Agrees.{IsAt, IsClear, IsReplacedAround, IsNotable, by_reads, by_call, by_meta, StandsAlone, StandsForReads, StandsForCall, Agrees, AgreeInTurn, IsListing, ReplacesNotable}
 use Rattle.bundle_merge_meaning.proofs.noted.Spots.{fold-place, fold-path, spot-in, at-past, at-behind, at-as, at-get}
 use Rattle.bundle_merge_meaning.proofs.noted.Shapes.{reads_inside, nodes_in_reads, literal_call, literal_call_nodes, marked_nodes, join, one_node}
@@ -113,10 +116,10 @@ module _ (sense : Sense) (inner : List Denoted) (meta : Option Meant)
       Agree s first (occurrences_from (fold past s first) second ++ os) notes
   agree_first s first second os notes agree =
       subst (λ l. AgreeInTurn sense inner l notes)
-          (ap (λ l. l ++ os) (occurrences_append s first second)
-          ∙ append_assoc (occurrences_from s first) (occurrences_from (fold past s first) second)
-          os)
-          agree
+      (ap (λ l. l ++ os) (occurrences_append s first second)
+      ∙ append_assoc (occurrences_from s first) (occurrences_from (fold past s first) second)
+      os)
+      agree
 
   -- a node that stays, by what is in it
   node_gives : {its : edits.Around} (s : Spot) (field : ℕ) (head : Head) (inside tail : List Item)
@@ -130,16 +133,17 @@ module _ (sense : Sense) (inner : List Denoted) (meta : Option Meant)
       let path = fold-path nodes (spot-in s field head) in
       gives_node sense inner
       (opens_at sense inner s field head ((inside ++ h.Close ∷ []) ++ tail) at stands refl none
-          short)
+      short)
       (omega arith)
       gives
       (fold-place (spot-in s field head) inside)
       (closes_at sense inner (fold past (spot-in s field head) inside) tail head s.place path.0
-          (in_field field s.path) behind refl path.1 short)
+      (in_field field s.path) behind refl path.1 short)
 
-  -- what is so of a part: the notes that are left agree with what follows, and the part means its marks
-  pub record Bridged (s : Spot) (items : List Item) (marks : List Mark) (os : List Occurrence) (rest : List Note) : Type
-      0 where
+  -- what is so of a part: the notes that are left agree with what follows, and the part means its
+  -- marks
+  pub record Bridged (s : Spot) (items : List Item) (marks : List Mark) (os : List Occurrence)
+      (rest : List Note) : Type 0 where
     pub agrees : AgreeInTurn sense inner os rest
     pub gives : Gives sense inner s.place items marks
 
@@ -151,13 +155,13 @@ module _ (sense : Sense) (inner : List Denoted) (meta : Option Meant)
       Bridged s (h.Ident field x ctxt role ∷ []) (marks_there its field x note.meant) os rest
   name_bridged its s field x ctxt role tail os note rest occurs at stands agree =
       let both =
-          subst (λ l. AgreeInTurn sense inner (l ++ os) (note ∷ rest))
-          (name_first s field x ctxt role [] occurs) agree in
+      subst (λ l. AgreeInTurn sense inner (l ++ os) (note ∷ rest))
+      (name_first s field x ctxt role [] occurs) agree in
       let alone =
-          alone_there (occurrence_here s field x ctxt role) note.meant note.whole
-          (clear-field sense.replaced field s.path stands.clear) both.0 in
+      alone_there (occurrence_here s field x ctxt role) note.meant note.whole
+      (clear-field sense.replaced field s.path stands.clear) both.0 in
       record
-          { agrees = both.1; gives = gives_name sense inner its s field ctxt x role tail alone.d note.meant at stands.object refl alone.denotes alone.means }
+      { agrees = both.1; gives = gives_name sense inner its s field ctxt x role tail alone.d note.meant at stands.object refl alone.denotes alone.means }
 
   -- reads, and a call, take it
   reads_bridged : (s : Spot) (field count : ℕ) (inside : List Item) (os : List Occurrence)
@@ -204,15 +208,15 @@ module _ (sense : Sense) (inner : List Denoted) (meta : Option Meant)
   bridge (Joined {notes = notes} {first = first} {second = second} one two) s tail os at stands
       agree =
       let at_one : IsAt sense.view.tree s (first ++ (second ++ tail)) =
-          at-as refl (append_assoc first second tail) at in
+      at-as refl (append_assoc first second tail) at in
       let its_one =
-          bridge one s (second ++ tail) (occurrences_from (fold past s first) second ++ os) at_one
-          stands (agree_first s first second os notes agree) in
+      bridge one s (second ++ tail) (occurrences_from (fold past s first) second ++ os) at_one
+      stands (agree_first s first second os notes agree) in
       let its_two =
-          bridge two (fold past s first) tail os (at-behind first (second ++ tail) at_one)
-          (stands_behind (marked_nodes one) s stands) its_one.agrees in
+      bridge two (fold past s first) tail os (at-behind first (second ++ tail) at_one)
+      (stands_behind (marked_nodes one) s stands) its_one.agrees in
       record
-          { agrees = its_two.agrees; gives = gives_joined sense inner its_one.gives (fold-place s first) its_two.gives }
+      { agrees = its_two.agrees; gives = gives_joined sense inner its_one.gives (fold-place s first) its_two.gives }
   bridge (Hole field) s tail os at stands agree =
       record
       { agrees = agree; gives = gives_one sense inner (steps_empty sense inner s.place field) }
@@ -225,24 +229,23 @@ module _ (sense : Sense) (inner : List Denoted) (meta : Option Meant)
       by r.Word plain agree = agree
       by r.Binding plain agree = absurd (false≢true (sym plain))
       by r.Reference plain agree = absurd (false≢true (sym plain))
-  bridge (Name its {note = note} {rest = rest} field x ctxt role occurs) s tail os at stands agree
-      =
+  bridge (Name its {note = note} {rest = rest} field x ctxt role occurs) s tail os at stands agree =
       name_bridged its s field x ctxt role tail os note rest occurs at stands agree
   bridge (Inside {notes = notes} field head {inside = inside} {marks = marks} stay one) s tail os
       at stands agree =
       let nodes = marked_nodes one in
       let none =
-          stays_unreplaced sense inner listing meta replaces s field head inside tail os notes
-          nodes at stands.clear agree stay in
+      stays_unreplaced sense inner listing meta replaces s field head inside tail os notes
+      nodes at stands.clear agree stay in
       let short = stays_short meta (upcoming notes) head inside stay in
       let its =
-          bridge one (spot-in s field head) (h.Close ∷ tail) os
-          (at_in_node field head inside tail at)
-          (stands_in s (around_in head inside) field head stands none (object_in head inside)
-          short)
-          (agree_in s field head inside os notes agree) in
+      bridge one (spot-in s field head) (h.Close ∷ tail) os
+      (at_in_node field head inside tail at)
+      (stands_in s (around_in head inside) field head stands none (object_in head inside)
+      short)
+      (agree_in s field head inside os notes agree) in
       record
-          { agrees = its.agrees; gives = node_gives s field head inside tail marks at stands none short nodes its.gives }
+      { agrees = its.agrees; gives = node_gives s field head inside tail marks at stands none short nodes its.gives }
   bridge
       (Kept {notes = notes} field head first {inside = inside} {more = more} {marks = marks}
       {more_marks = more_marks} keeps one two)
@@ -251,36 +254,36 @@ module _ (sense : Sense) (inner : List Denoted) (meta : Option Meant)
       let behind : List Item = more ++ h.Close ∷ tail in
       let short = keeps_short head first keeps in
       let none =
-          other_unreplaced sense inner listing meta replaces s field head
-          (((member ++ more) ++ h.Close ∷ []) ++ tail) at stands.clear
-          (λ ins by it. keeps_notable first it keeps) in
+      other_unreplaced sense inner listing meta replaces s field head
+      (((member ++ more) ++ h.Close ∷ []) ++ tail) at stands.clear
+      (λ ins by it. keeps_notable first it keeps) in
       let s1 : Spot = spot-in s field head in
       let at1 : IsAt sense.view.tree s1 (member ++ behind) =
-          at-as refl (append_assoc member more (h.Close ∷ tail))
-          (at_in_node field head (member ++ more) tail at) in
+      at-as refl (append_assoc member more (h.Close ∷ tail))
+      (at_in_node field head (member ++ more) tail at) in
       let stands1 : Stands sense edits.Anywhere s1 =
-          stands_in s edits.Anywhere field head stands none (keeps_object head first keeps)
-          short in
+      stands_in s edits.Anywhere field head stands none (keeps_object head first keeps)
+      short in
       let none1 =
-          kept_unreplaced sense inner listing meta replaces s1 first
-          ((inside ++ h.Close ∷ []) ++ behind) head s.place 0 (in_field field s.path) at1
-          stands1.clear refl keeps (omega arith) in
+      kept_unreplaced sense inner listing meta replaces s1 first
+      ((inside ++ h.Close ∷ []) ++ behind) head s.place 0 (in_field field s.path) at1
+      stands1.clear refl keeps (omega arith) in
       let after : List Occurrence = occurrences_from (fold past s1 member) more ++ os in
       let agree1 : Agree s1 member after notes =
-          agree_first s1 member more os notes
-          (agree_in s field head (member ++ more) os notes agree) in
+      agree_first s1 member more os notes
+      (agree_in s field head (member ++ more) os notes agree) in
       let its_one =
-          bridge one (spot-in s1 first h.MemberExpr) (h.Close ∷ behind) after
-          (at_in_node first h.MemberExpr inside behind at1)
-          (stands_in s1 edits.Anywhere first h.MemberExpr stands1 none1 refl refl)
-          (agree_in s1 first h.MemberExpr inside after notes agree1) in
+      bridge one (spot-in s1 first h.MemberExpr) (h.Close ∷ behind) after
+      (at_in_node first h.MemberExpr inside behind at1)
+      (stands_in s1 edits.Anywhere first h.MemberExpr stands1 none1 refl refl)
+      (agree_in s1 first h.MemberExpr inside after notes agree1) in
       let nodes = marked_nodes one in
       let member_gives =
-          node_gives s1 first h.MemberExpr inside behind marks at1 stands1 none1 refl nodes
-          its_one.gives in
+      node_gives s1 first h.MemberExpr inside behind marks at1 stands1 none1 refl nodes
+      its_one.gives in
       let its_two =
-          bridge two (fold past s1 member) (h.Close ∷ tail) os (at-behind member behind at1)
-          (stands_behind (one_node first h.MemberExpr nodes) s1 stands1) its_one.agrees in
+      bridge two (fold past s1 member) (h.Close ∷ tail) os (at-behind member behind at1)
+      (stands_behind (one_node first h.MemberExpr nodes) s1 stands1) its_one.agrees in
       let all = gives_joined sense inner member_gives (fold-place s1 member) its_two.gives in
       record {
         agrees = its_two.agrees;
@@ -294,52 +297,52 @@ module _ (sense : Sense) (inner : List Denoted) (meta : Option Meant)
       {marks = marks} occurs one)
       s tail os at stands agree =
       let apart : (default ++ h.Close ∷ []) ++ tail ≡ default ++ h.Close ∷ tail =
-          append_assoc default (h.Close ∷ []) tail in
+      append_assoc default (h.Close ∷ []) tail in
       let front : List Item → List Item =
-          λ l.
-          h.Open field h.AssignPatProp ∷ h.Open 0 h.BindingIdent ∷ h.Ident 0 x ctxt role ∷ h.Close
-          ∷ l in
+      λ l.
+      h.Open field h.AssignPatProp ∷ h.Open 0 h.BindingIdent ∷ h.Ident 0 x ctxt role ∷ h.Close
+      ∷ l in
       let at0 : IsAt sense.view.tree s (front (default ++ h.Close ∷ tail)) =
-          at-as refl (ap front apart) at in
+      at-as refl (ap front apart) at in
       let none =
-          other_unreplaced sense inner listing meta replaces s field h.AssignPatProp
-          (h.Open 0 h.BindingIdent ∷ h.Ident 0 x ctxt role ∷ h.Close ∷ (default ++ h.Close ∷ tail))
-          at0 stands.clear (λ ins by it. property_notable it) in
+      other_unreplaced sense inner listing meta replaces s field h.AssignPatProp
+      (h.Open 0 h.BindingIdent ∷ h.Ident 0 x ctxt role ∷ h.Close ∷ (default ++ h.Close ∷ tail))
+      at0 stands.clear (λ ins by it. property_notable it) in
       let s1 : Spot = spot-in s field h.AssignPatProp in
       let clear1 : IsClear sense.replaced s1.path =
-          (none, clear-field sense.replaced field s.path stands.clear) in
+      (none, clear-field sense.replaced field s.path stands.clear) in
       let at1 =
-          at-past (h.Open field h.AssignPatProp)
-          (h.Open 0 h.BindingIdent ∷ h.Ident 0 x ctxt role ∷ h.Close ∷ (default ++ h.Close ∷ tail))
-          at0 in
+      at-past (h.Open field h.AssignPatProp)
+      (h.Open 0 h.BindingIdent ∷ h.Ident 0 x ctxt role ∷ h.Close ∷ (default ++ h.Close ∷ tail))
+      at0 in
       let none1 =
-          other_unreplaced sense inner listing meta replaces s1 0 h.BindingIdent
-          (h.Ident 0 x ctxt role ∷ h.Close ∷ (default ++ h.Close ∷ tail)) at1 clear1
-          (λ ins by it. pattern_notable it) in
+      other_unreplaced sense inner listing meta replaces s1 0 h.BindingIdent
+      (h.Ident 0 x ctxt role ∷ h.Close ∷ (default ++ h.Close ∷ tail)) at1 clear1
+      (λ ins by it. pattern_notable it) in
       let s2 : Spot = spot-in s1 0 h.BindingIdent in
       let s4 : Spot = past (past s2 (h.Ident 0 x ctxt role)) h.Close in
       let at4 =
-          at-past h.Close (default ++ h.Close ∷ tail)
-          (at-past (h.Ident 0 x ctxt role) (h.Close ∷ (default ++ h.Close ∷ tail))
-          (at-past (h.Open 0 h.BindingIdent)
-          (h.Ident 0 x ctxt role ∷ h.Close ∷ (default ++ h.Close ∷ tail)) at1)) in
+      at-past h.Close (default ++ h.Close ∷ tail)
+      (at-past (h.Ident 0 x ctxt role) (h.Close ∷ (default ++ h.Close ∷ tail))
+      (at-past (h.Open 0 h.BindingIdent)
+      (h.Ident 0 x ctxt role ∷ h.Close ∷ (default ++ h.Close ∷ tail)) at1)) in
       let its_name : Occurrence = occurrence_here s2 0 x ctxt role in
       let both =
-          subst (λ l. AgreeInTurn sense inner (l ++ os) (note ∷ notes))
-          (name_first s2 0 x ctxt role (h.Close ∷ (default ++ h.Close ∷ [])) occurs
-          ∙ ap (λ l. its_name ∷ l)
-          (occurrences_append s4 default (h.Close ∷ [])
-          ∙ append-nil (occurrences_from s4 default)))
-          agree in
+      subst (λ l. AgreeInTurn sense inner (l ++ os) (note ∷ notes))
+      (name_first s2 0 x ctxt role (h.Close ∷ (default ++ h.Close ∷ [])) occurs
+      ∙ ap (λ l. its_name ∷ l)
+      (occurrences_append s4 default (h.Close ∷ [])
+      ∙ append-nil (occurrences_from s4 default)))
+      agree in
       let alone =
-          alone_there its_name note.meant note.whole
-          (none1, (none, clear-field sense.replaced field s.path stands.clear)) both.0 in
+      alone_there its_name note.meant note.whole
+      (none1, (none, clear-field sense.replaced field s.path stands.clear)) both.0 in
       let ih : not (ends_at (slice_get (default ++ h.Close ∷ tail) 0)) ≡ true → Bridged s4 default marks os rest =
-          λ has.
-              bridge one s4 (h.Close ∷ tail) os at4
-              (record
-              { object = refl; default = λ is. ap (λ o. not (ends_at o)) (at-get at0 (s.place + 4) 4 refl) ∙ has; clear = clear1 })
-              both.1 in
+      λ has.
+      bridge one s4 (h.Close ∷ tail) os at4
+      (record
+      { object = refl; default = λ is. ap (λ o. not (ends_at o)) (at-get at0 (s.place + 4) 4 refl) ∙ has; clear = clear1 })
+      both.1 in
       record {
         agrees =
             by_default (marked_nodes one) tail
@@ -356,21 +359,21 @@ module _ (sense : Sense) (inner : List Denoted) (meta : Option Meant)
       let found = reads_inside field count inside are in
       let its = name_in_node found.reads refl field inside refl s in
       let both =
-          subst
-          (λ l.
-          AgreeInTurn sense inner (l ++ os) (record { meant = meant; whole = Reads count } ∷ rest))
-          its.is agree in
+      subst
+      (λ l.
+      AgreeInTurn sense inner (l ++ os) (record { meant = meant; whole = Reads count } ∷ rest))
+      its.is agree in
       reads_bridged s field count inside os meant rest
-          (nodes_in_reads found.reads field inside refl) its.o its.far both.0 both.1
+      (nodes_in_reads found.reads field inside refl) its.o its.far both.0 both.1
   bridge (OfCall {meant = meant} {rest = rest} field inside are) s tail os at stands agree =
       let found = literal_call inside are in
       let its = name_in_call field inside found refl s in
       let both =
-          subst
-          (λ l. AgreeInTurn sense inner (l ++ os) (record { meant = meant; whole = Call } ∷ rest))
-          its.is agree in
+      subst
+      (λ l. AgreeInTurn sense inner (l ++ os) (record { meant = meant; whole = Call } ∷ rest))
+      its.is agree in
       call_bridged s field inside os meant rest (literal_call_nodes found) its.o its.far both.0
-          both.1
+      both.1
   bridge (OfMeta field meant is) s tail os at stands agree =
       let found = replaces.metas s.place field meant (at-get at s.place 0 (omega arith)) is in
       record {

@@ -45,7 +45,7 @@ denoted_elements view s (x ∷ items) tail at =
     ap₂ cons_option
     (ap (option_map (denotes view)) (occurrence_there at))
     (ap (λ p. filter_map (denoted view) (taken_from p items)) next
-        ∙ denoted_elements view (past s x) items tail (at-past x (items ++ tail) at))
+    ∙ denoted_elements view (past s x) items tail (at-past x (items ++ tail) at))
     ∙ sym (map-cons (denotes view) (occurrence_of s x) (occurrences_from (past s x) items))
 
 -- ---- a statement of a module
@@ -77,77 +77,76 @@ pub stated_denotes : {meta : Option Meant} {default : Meant} {notes rest : List 
     DenotesInside view start s items statement
 stated_denotes (Itself field head inside is marked) view start s tail at statement e =
     let same =
-        one_statement (taken_from s.place (node field head inside)) statement
-        (sym (itself_stated head is s.place (node field head inside)) ∙ e) in
+    one_statement (taken_from s.place (node field head inside)) statement
+    (sym (itself_stated head is s.place (node field head inside)) ∙ e) in
     ap (λ l. filter (is_inside start) (filter_map (denoted view) l)) (sym same)
     ∙ ap (filter (is_inside start)) (denoted_elements view s (node field head inside) tail at)
 stated_denotes (Declared field inside marked) view start s tail at statement e =
     let place : suc s.place ≡ s.place + 1 = omega arith in
     let same =
-        one_statement (taken_from (suc s.place) (without_last (inside ++ h.Close ∷ []))) statement
-        e in
+    one_statement (taken_from (suc s.place) (without_last (inside ++ h.Close ∷ []))) statement
+    e in
     ap (λ l. filter (is_inside start) (filter_map (denoted view) l))
-        (sym same
-        ∙ ap (taken_from (suc s.place)) (last_off inside h.Close)
-        ∙ ap (λ p. taken_from p inside) place)
+    (sym same
+    ∙ ap (taken_from (suc s.place)) (last_off inside h.Close)
+    ∙ ap (λ p. taken_from p inside) place)
     ∙ ap (filter (is_inside start))
-        (denoted_elements view (spot-in s field h.ExportDecl) inside (h.Close ∷ tail)
-        (at_in_node field h.ExportDecl inside tail at))
+    (denoted_elements view (spot-in s field h.ExportDecl) inside (h.Close ∷ tail)
+    (at_in_node field h.ExportDecl inside tail at))
     ∙ ap (λ l. filter (is_inside start) (map (denotes view) l))
-        (sym (occurrences_node s field h.ExportDecl inside))
+    (sym (occurrences_node s field h.ExportDecl inside))
 stated_denotes (Value field value marked) view start s tail at statement e =
     let place : suc s.place ≡ s.place + 1 = omega arith in
     let same =
-        one_statement (default_constant (suc s.place) (without_last (value ++ h.Close ∷ [])))
-        statement e in
+    one_statement (default_constant (suc s.place) (without_last (value ++ h.Close ∷ [])))
+    statement e in
     ap (λ l. filter (is_inside start) (filter_map (denoted view) l))
-        (sym same
-        ∙ ap (default_constant (suc s.place)) (last_off value h.Close)
-        ∙ ap (λ p. default_constant p value) place)
+    (sym same
+    ∙ ap (default_constant (suc s.place)) (last_off value h.Close)
+    ∙ ap (λ p. default_constant p value) place)
     ∙ ap (filter (is_inside start)) (
     filter_map-append (denoted view) (taken_in_field 1 (s.place + 1) value)
-        (written h.Close ∷ written h.Close ∷ [])
+    (written h.Close ∷ written h.Close ∷ [])
     ∙ append-nil (filter_map (denoted view) (taken_in_field 1 (s.place + 1) value))
     ∙ field_denotes view 1 (s.place + 1) value
     ∙ denoted_elements view (spot-in s field h.ExportDefaultExpr) value (h.Close ∷ tail) (at_in_node field h.ExportDefaultExpr value tail at))
     ∙ ap (λ l. filter (is_inside start) (map (denotes view) l))
-        (sym (occurrences_node s field h.ExportDefaultExpr value))
+    (sym (occurrences_node s field h.ExportDefaultExpr value))
 stated_denotes (Named field its head own x ctxt role more is marked) view start s tail at statement
     e =
     let declaration : List Item = node its head (h.Ident own x ctxt role ∷ more) in
     let place : suc s.place ≡ s.place + 1 = omega arith in
     let same =
-        one_statement
-        (default_declaration (suc s.place) (without_last (declaration ++ h.Close ∷ []))) statement
-        e in
+    one_statement
+    (default_declaration (suc s.place) (without_last (declaration ++ h.Close ∷ []))) statement
+    e in
     ap (λ l. filter (is_inside start) (filter_map (denoted view) l))
-        (sym same
-        ∙ ap (default_declaration (suc s.place)) (last_off declaration h.Close)
-        ∙ ap (λ p. default_declaration p declaration) place)
+    (sym same
+    ∙ ap (default_declaration (suc s.place)) (last_off declaration h.Close)
+    ∙ ap (λ p. default_declaration p declaration) place)
     ∙ ap (filter (is_inside start))
-        (denoted_elements view (spot-in s field h.ExportDefaultDecl) declaration (h.Close ∷ tail)
-        (at_in_node field h.ExportDefaultDecl declaration tail at))
+    (denoted_elements view (spot-in s field h.ExportDefaultDecl) declaration (h.Close ∷ tail)
+    (at_in_node field h.ExportDefaultDecl declaration tail at))
     ∙ ap (λ l. filter (is_inside start) (map (denotes view) l))
-        (sym (occurrences_node s field h.ExportDefaultDecl declaration))
-stated_denotes (Nameless field its head own first more is marked) view start s tail at statement e
-    =
+    (sym (occurrences_node s field h.ExportDefaultDecl declaration))
+stated_denotes (Nameless field its head own first more is marked) view start s tail at statement e =
     let declaration : List Item = node its head (h.Open own first ∷ more) in
     let place : suc s.place ≡ s.place + 1 = omega arith in
     let same =
-        one_statement
-        (default_declaration (suc s.place) (without_last (declaration ++ h.Close ∷ []))) statement
-        e in
+    one_statement
+    (default_declaration (suc s.place) (without_last (declaration ++ h.Close ∷ []))) statement
+    e in
     ap (λ l. filter (is_inside start) (filter_map (denoted view) l))
-        (sym same
-        ∙ ap (default_declaration (suc s.place)) (last_off declaration h.Close)
-        ∙ ap (λ p. default_declaration p declaration) place)
+    (sym same
+    ∙ ap (default_declaration (suc s.place)) (last_off declaration h.Close)
+    ∙ ap (λ p. default_declaration p declaration) place)
     ∙ without_top start (denoted_at view.reading view.kind view.tree (s.place + 1))
-        (Bound Top (plain default_name))
-        (filter_map (denoted view)
-        (taken_from (suc (s.place + 1)) ((h.Open own first ∷ more) ++ h.Close ∷ [])))
-        refl
+    (Bound Top (plain default_name))
+    (filter_map (denoted view)
+    (taken_from (suc (s.place + 1)) ((h.Open own first ∷ more) ++ h.Close ∷ [])))
+    refl
     ∙ ap (filter (is_inside start))
-        (denoted_elements view (spot-in s field h.ExportDefaultDecl) declaration (h.Close ∷ tail)
-        (at_in_node field h.ExportDefaultDecl declaration tail at))
+    (denoted_elements view (spot-in s field h.ExportDefaultDecl) declaration (h.Close ∷ tail)
+    (at_in_node field h.ExportDefaultDecl declaration tail at))
     ∙ ap (λ l. filter (is_inside start) (map (denotes view) l))
-        (sym (occurrences_node s field h.ExportDefaultDecl declaration))
+    (sym (occurrences_node s field h.ExportDefaultDecl declaration))

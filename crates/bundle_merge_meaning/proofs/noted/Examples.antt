@@ -1,4 +1,5 @@
--- `use(ns.x);` with `import * as ns from './a'` and a: `export const x = 1;` means `use(l);`, by notes beside it.
+-- `use(ns.x);` with `import * as ns from './a'` and a: `export const x = 1;` means `use(l);`, by
+-- notes beside it.
 use Rattle.std.proofs.Common.{◌≡◌, ℕ, zero, suc, Bool, true, false, List, [], ◌∷◌, ◌++◌, Some, None, refl, sym, ap, ◌∙◌, subst, arith, lit<, true≢false}
 use Rattle.std.specs.Prelude.{codes, Contains, slice_get}
 use Rattle.std.proofs.lemmas.Option.{none-some, same_Some}
@@ -20,13 +21,15 @@ use Rattle.bundle_tree_leaf.specs.declared.kind.MetaPropKind.TheVariants.{Import
 use Rattle.bundle_rules.specs.Reads.{read_word}
 use Rattle.bundle_rules.proofs.Trees.{module_of, imports_all, calls, uses, member, node}
 use Rattle.bundle_rules.proofs.LinkingExamples.{x, plain, es_plain, x_is_linked}
-use Rattle.bundle_merge_meaning.specs.noted.Nested as nested
+use Rattle.bundle_link_reached.specs.Nested as nested
 use Rattle.bundle_tree_places.specs.Edits.{Anywhere}
 use Rattle.bundle_merge_meaning.specs.noted.Listed as listed
-use Rattle.bundle_merge_meaning.specs.noted.Marked.{Note, Alone, Reads, are_reads, Joined, Name, Inside, OfReads}
+use Rattle.bundle_merge_meaning.specs.noted.Marked.{Note, Joined, Name, Inside, OfReads}
+use Rattle.bundle_tree_rebuild.specs.declared.rewrite.Whole.TheVariants.{Alone, Reads}
+use Rattle.bundle_tree_rebuild.specs.Becomes.{are_reads}
 use Rattle.bundle_merge_meaning.specs.noted.Agrees.{IsListing, Agrees, AgreeInTurn, ReplacesNotable}
 use Rattle.bundle_merge_meaning.specs.noted.Stated.{MarkedStated, Itself}
-use Rattle.bundle_merge_meaning.specs.noted.Uses.{done, on, WordsMean}
+use Rattle.bundle_link_targets.specs.Meant.{done, on, WordsMean}
 use Rattle.bundle_merge_meaning.proofs.noted.Listing.{is_listing}
 use Rattle.bundle_merge_meaning.proofs.noted.Replaces.{replaces_notable}
 use Rattle.bundle_merge_meaning.proofs.noted.Agreements.{is_there}
@@ -72,7 +75,7 @@ read_nodes : nested.AreNodes read
 read_nodes = nested.node {inside = in_read} {rest = []}
     (nested.name (nested.node {inside = []} {rest = []} nested.nothing refl nested.nothing))
     (record
-        { first = uses 0 ns; second = node 1 (h.IdentName x) []; them = refl; in_first = refl; in_second = refl })
+    { first = uses 0 ns; second = node 1 (h.IdentName x) []; them = refl; in_first = refl; in_second = refl })
     nested.nothing
 
 call_nodes : nested.AreNodes in_call
@@ -93,8 +96,8 @@ has_specifiers part (suc (suc i), l, e) is = absurd (omega (arith, l))
 main_nodes : nested.AreNodes main
 main_nodes = nested.node {inside = in_import} {rest = statement} import_nodes has_specifiers
     (nested.node {inside = in_statement} {rest = []}
-        (nested.node {inside = in_call} {rest = []} call_nodes tt nested.nothing) tt
-        nested.nothing)
+    (nested.node {inside = in_call} {rest = []} call_nodes tt nested.nothing) tt
+    nested.nothing)
 
 tree_nodes : nested.AreNodes (tree_of p 0)
 tree_nodes = nested.node {inside = main} {rest = []} main_nodes tt nested.nothing
@@ -105,14 +108,14 @@ tree_listed =
     listed.node {inside = main} {rest = []} tt
     (listed.node {inside = in_import} {rest = statement} tt
     (listed.node {inside = in_specifier} {rest = node 1 (h.Str (codes "./a") None) []} tt
-        (listed.name tt listed.nothing)
-        (listed.node {inside = []} {rest = []} tt listed.nothing listed.nothing))
+    (listed.name tt listed.nothing)
+    (listed.node {inside = []} {rest = []} tt listed.nothing listed.nothing))
     (listed.node {inside = in_statement} {rest = []} tt
     (listed.node {inside = in_call} {rest = []} tt
     (listed.name refl (listed.node {inside = read} {rest = []} tt
     (listed.node {inside = in_read} {rest = []} tt
-        (listed.name refl (listed.node {inside = []} {rest = []} tt listed.nothing listed.nothing))
-        listed.nothing)
+    (listed.name refl (listed.node {inside = []} {rest = []} tt listed.nothing listed.nothing))
+    listed.nothing)
     listed.nothing))
     listed.nothing)
     listed.nothing))
@@ -129,9 +132,9 @@ notes =
 
 statement_marked : MarkedStated None (Unbound []) notes statement
     (k.Begins 0 h.ExprStmt ∷ k.Begins 0 h.CallExpr ∷ k.Name 0 (Unbound used)
-        ∷ k.Begins 1 (h.ExprOrSpread false) ∷ k.Name 1 (Known (Of (Declared 1 x))) ∷ k.Ends
-        ∷ k.Ends ∷ k.Ends ∷ [])
-        []
+    ∷ k.Begins 1 (h.ExprOrSpread false) ∷ k.Name 1 (Known (Of (Declared 1 x))) ∷ k.Ends
+    ∷ k.Ends ∷ k.Ends ∷ [])
+    []
 statement_marked = Itself 0 h.ExprStmt in_statement refl (Inside 0 h.ExprStmt {inside = in_statement} refl (Inside 0 h.CallExpr {inside = in_call} refl (Joined {first = uses 0 used} {second = node 1 (h.ExprOrSpread false) read}
     (Name Anywhere 0 used 0 Reference refl)
     (Inside 1 (h.ExprOrSpread false) {inside = read} refl (OfReads 1 1 in_read refl)))))
@@ -155,9 +158,9 @@ no_meta (h.Open f head ∷ xs) none zero field e =
     let same : h.Open f head ≡ h.Open field (h.MetaPropExpr ImportMeta) = same_Some _ _ e in
     let heads : head ≡ h.MetaPropExpr ImportMeta = cc in
     true≢false
-        (ap (λ b. elim b [ true ↦ true | false ↦ has_head is_import_meta xs ])
-        (sym (ap is_import_meta heads))
-        ∙ none)
+    (ap (λ b. elim b [ true ↦ true | false ↦ has_head is_import_meta xs ])
+    (sym (ap is_import_meta heads))
+    ∙ none)
 no_meta (h.Open f head ∷ xs) none (suc place) field e =
     by (is_import_meta head) none (λ none. no_meta xs none place field e)
   where
@@ -224,13 +227,13 @@ module _
   -- the statement `use(ns.x);` means `use(l);`
   pub use_means : OwnMeaning p 0 (taken_from 8 statement)
       (k.Begins 0 h.ExprStmt ∷ k.Begins 0 h.CallExpr ∷ k.Name 0 (Unbound used)
-          ∷ k.Begins 1 (h.ExprOrSpread false) ∷ k.Name 1 (Known (Of (Declared 1 x))) ∷ k.Ends
-          ∷ k.Ends ∷ k.Ends ∷ [])
+      ∷ k.Begins 1 (h.ExprOrSpread false) ∷ k.Name 1 (Known (Of (Declared 1 x))) ∷ k.Ends
+      ∷ k.Ends ∷ k.Ends ∷ [])
   use_means =
       top_means p 0 Es (is_es (es_plain main 0)) None (Unbound []) listing replaces 0 main []
       (plain_nodes main_nodes) refl
       (record { start = 8; items = statement }) (1, lit< tt, refl) notes [] _ statement_marked
-          (taken_from 8 statement) refl agreed (λ e. absurd (true≢false (sym e)))
+      (taken_from 8 statement) refl agreed (λ e. absurd (true≢false (sym e)))
 
 -- `ns.x = 1` writes, and reads nothing
 written : read_word

@@ -1,4 +1,5 @@
--- Notes that agree one by one agree in turn; the occurrences of a part are those of the tree that stand there.
+-- Notes that agree one by one agree in turn; the occurrences of a part are those of the tree that
+-- stand there.
 use Rattle.std.proofs.Common.{◌≡◌, ℕ, zero, suc, List, [], ◌∷◌, ◌++◌, Option, Some, None, refl, sym, ap, ◌∙◌, subst}
 use Rattle.std.specs.Prelude.{Contains, fold, slice_get}
 use Rattle.std.specs.List.{cons_option}
@@ -10,7 +11,7 @@ use Rattle.bundle_rules.specs.Denotes.{Denoted}
 use Rattle.bundle_rules.specs.Program.{Program, tree_of}
 use Rattle.bundle_rules.specs.Meaning.{Sense, ByCall, Load, Known, Replaced, own_sense}
 use Rattle.bundle_rules.specs.Scopes.{ModuleKind}
-use Rattle.bundle_merge_meaning.specs.noted.Nested as nested
+use Rattle.bundle_link_reached.specs.Nested as nested
 use Rattle.bundle_merge_meaning.specs.noted.Marked.{Note}
 use Rattle.bundle_merge_meaning.specs.noted.Agrees.{IsAt, Agrees, AgreeInTurn, StandsForCall}
 use Rattle.bundle_merge_meaning.proofs.noted.Spots.{at-past}
@@ -21,8 +22,8 @@ use Rattle.bundle_merge_meaning.proofs.noted.Agreements.{IsThere, call_head, agr
 use Rattle.bundle_merge_meaning.proofs.noted.UsesAgree.{path_next}
 
 -- its note is there, and what is noted is so
-pub record HasNote (sense : Sense) (inner : List Denoted) (notes : List Note) (i : ℕ) (o : Occurrence) : Type
-    0 where
+pub record HasNote (sense : Sense) (inner : List Denoted) (notes : List Note) (i : ℕ)
+    (o : Occurrence) : Type 0 where
   pub note : Note
   pub there : slice_get notes i ≡ Some note
   pub agrees : Agrees sense inner o note.meant note.whole
@@ -32,11 +33,13 @@ pub in_turn : (sense : Sense) (inner : List Denoted) (os : List Occurrence) (not
     AgreeInTurn sense inner os notes
 in_turn sense inner [] notes each = tt
 in_turn sense inner (o ∷ os) [] each = let its = each 0 o refl in none-some its.note its.there
-in_turn sense inner (o ∷ os) (note ∷ notes) each =
-    (first (each 0 o refl), in_turn sense inner os notes
-    (λ i p e.
-    let its = each (suc i) p e in
-    record { note = its.note; there = its.there; agrees = its.agrees }))
+in_turn sense inner (o ∷ os) (note ∷ notes) each = (
+  first (each 0 o refl),
+  in_turn sense inner os notes
+      (λ i p e.
+      let its = each (suc i) p e in
+      record { note = its.note; there = its.there; agrees = its.agrees }),
+)
   where
     first : HasNote sense inner (note ∷ notes) 0 o → Agrees sense inner o note.meant note.whole
     first its =
@@ -72,7 +75,7 @@ section items tail s at =
     ap occurrences at.tree_is
     ∙ occurrences_append start at.front (items ++ tail)
     ∙ ap (λ t. occurrences_from start at.front ++ occurrences_from t (items ++ tail))
-        (sym at.spot_is)
+    (sym at.spot_is)
     ∙ ap (λ l. occurrences_from start at.front ++ l) (occurrences_append s items tail)
 
 -- the name of a literal call that is replaced
@@ -84,7 +87,7 @@ call_agrees pr m nodes kind o there begins l place is =
     let head = call_head pr m nodes is in
     let path = path_next (tree_of pr m) begins head.0 h.CallExpr head.1 in
     agrees_call pr m nodes kind o there l
-        (record { head = h.CallExpr; begins = begins; field = path.0 })
+    (record { head = h.CallExpr; begins = begins; field = path.0 })
     (subst (λ p. Contains p (record { head = h.CallExpr; begins = begins; field = path.0 }))
-        (sym (ap (path_at (tree_of pr m)) place ∙ path.1)) (first-there _ _))
-        is
+    (sym (ap (path_at (tree_of pr m)) place ∙ path.1)) (first-there _ _))
+    is

@@ -1,5 +1,5 @@
--- The bindings inside a statement, by their numbers: what lies outside has none, what lies inside has one, and where
--- two statements' names denote alike they have the same.
+-- The bindings inside a statement, by their numbers: what lies outside has none, what lies inside
+-- has one, and where two statements' names denote alike they have the same.
 use Rattle.std.proofs.Common.{◌≡◌, ℕ, zero, suc, ◌+◌, ◌<◌, ◌≤◌, ◌&&◌, ◌||◌, Bool, true, false, cond, not, List, [], ◌∷◌, length, map, filter, Option, Some, None, refl, sym, ap, ap₂, ◌∙◌, subst, arith}
 use Rattle.std.specs.Prelude.{Contains, bytes_eq, filter_map, nat_le, nat_lt, position}
 use Rattle.std.specs.List.{position_or_len, list_any}
@@ -82,7 +82,7 @@ none-first test [] each = omega arith
 none-first test (x ∷ xs) each =
     let rest = none-first test xs each.1 in
     let step : cond (not (test x)) (1 + position_or_len test xs) 0 ≡ 1 + position_or_len test xs =
-        ap (λ b. cond (not b) (1 + position_or_len test xs) 0) each.0 in
+    ap (λ b. cond (not b) (1 + position_or_len test xs) 0) each.0 in
     omega (arith, rest, step)
 
 pub position-none : {A : Type 0} (test : A → Bool) (xs : List A) → Each (λ x. test x ≡ false) xs →
@@ -111,9 +111,11 @@ some-first {A = A} test (x ∷ xs) any = by (test x) refl any (some-first test x
 
 position-some : {A : Type 0} (test : A → Bool) (xs : List A) → list_any test xs ≡ true →
     (n : ℕ) × (position test xs ≡ Some n)
-position-some test xs any =
-    (position_or_len test xs, ap (λ b. cond b (Some (position_or_len test xs)) None)
-    (lt-ltb (position_or_len test xs) (length xs) (some-first test xs any)))
+position-some test xs any = (
+  position_or_len test xs,
+  ap (λ b. cond b (Some (position_or_len test xs)) None)
+      (lt-ltb (position_or_len test xs) (length xs) (some-first test xs any)),
+)
 
 -- ---- what is the same
 abbrev Same : Denoted → Denoted → Type 0
@@ -136,11 +138,14 @@ same_contexts (Some x) = eq-eqb x x refl
 to_same : (d e : Denoted) → same_denoted d e ≡ true → Same d e
 to_same (Bound scope name) (Bound other its) is =
     let one =
-        and_parts (same_scope scope other && bytes_eq name.sym its.sym)
-        (same_context name.ctxt its.ctxt) is in
-    let two = and_parts (same_scope scope other) (bytes_eq name.sym its.sym) one.0 in
-    (eqb-true (scope_order scope) (scope_order other) two.0, (bytes_eq-Decides name.sym its.sym).0
-        two.1, contexts_same name.ctxt its.ctxt one.1)
+    and_parts (same_scope scope other && bytes_eq name.sym its.sym)
+    (same_context name.ctxt its.ctxt) is in
+    let two = and_parts (same_scope scope other) (bytes_eq name.sym its.sym) one.0 in (
+      eqb-true (scope_order scope) (scope_order other) two.0,
+      (bytes_eq-Decides name.sym its.sym).0
+          two.1,
+      contexts_same name.ctxt its.ctxt one.1,
+    )
 to_same (Global x) (Global y) is = (bytes_eq-Decides x y).0 is
 to_same (Bound scope name) (Global y) is = false≢true is
 to_same (Global x) (Bound other its) is = false≢true is
@@ -149,12 +154,12 @@ from_same : (d e : Denoted) → Same d e → same_denoted d e ≡ true
 from_same (Bound scope name) (Bound other its) same =
     let texts : bytes_eq name.sym its.sym ≡ true = (bytes_eq-Decides name.sym its.sym).1 same.1 in
     let contexts : same_context name.ctxt its.ctxt ≡ true =
-        subst (λ c. same_context name.ctxt c ≡ true) same.2 (same_contexts name.ctxt) in
+    subst (λ c. same_context name.ctxt c ≡ true) same.2 (same_contexts name.ctxt) in
     and_from (same_scope scope other && bytes_eq name.sym its.sym)
-        (same_context name.ctxt its.ctxt)
-        (and_from (same_scope scope other) (bytes_eq name.sym its.sym)
-        (eq-eqb (scope_order scope) (scope_order other) same.0) texts)
-        contexts
+    (same_context name.ctxt its.ctxt)
+    (and_from (same_scope scope other) (bytes_eq name.sym its.sym)
+    (eq-eqb (scope_order scope) (scope_order other) same.0) texts)
+    contexts
 from_same (Global x) (Global y) same = (bytes_eq-Decides x y).1 same
 from_same (Bound scope name) (Global y) same = absurd same
 from_same (Global x) (Bound other its) same = absurd same
@@ -200,9 +205,11 @@ inside_same start (Global x) (Bound other its) same is = absurd same
 
 each-once : (P : Denoted → Type 0) (ds : List Denoted) → Each P ds → Each P (each_denoted_once ds)
 each-once P [] each = tt
-each-once P (d ∷ ds) each =
-    (each.0, each-filter P (λ other. not (same_denoted d other)) (each_denoted_once ds)
-    (each-once P ds each.1))
+each-once P (d ∷ ds) each = (
+  each.0,
+  each-filter P (λ other. not (same_denoted d other)) (each_denoted_once ds)
+      (each-once P ds each.1),
+)
 
 -- what is outside has no number among what is inside
 pub position-outside : (start : ℕ) (d : Denoted) (ds : List Denoted) → is_inside start d ≡ false →
@@ -302,13 +309,13 @@ pub any-there : (start : ℕ) (d : Denoted) (ds : List Denoted) → is_inside st
 any-there start d [] is (i, l, e) = absurd (omega (arith, l))
 any-there start d (x ∷ ds) is (zero, l, e) =
     let same : same_denoted d x ≡ true =
-        from_same d x (subst (λ y. Same d y) (sym e) (same_self d)) in
+    from_same d x (subst (λ y. Same d y) (sym e) (same_self d)) in
     let inside : is_inside start x ≡ true = subst (λ y. is_inside start y ≡ true) (sym e) is in
     ap
-        (λ b.
-        list_any (same_denoted d)
-        (cond b (x ∷ filter (is_inside start) ds) (filter (is_inside start) ds)))
-        inside
+    (λ b.
+    list_any (same_denoted d)
+    (cond b (x ∷ filter (is_inside start) ds) (filter (is_inside start) ds)))
+    inside
     ∙ ap (λ b. b || list_any (same_denoted d) (filter (is_inside start) ds)) same
 any-there start d (x ∷ ds) is (suc i, l, e) =
     by (is_inside start x) (any-there start d ds is (i, omega (arith, l), e))
@@ -340,9 +347,11 @@ once (p ∷ ps) = p ∷ filter (λ q. not (same_denoted p.0 q.0)) (once ps)
 
 each-pair-once : (P : Pair → Type 0) (ps : List Pair) → Each P ps → Each P (once ps)
 each-pair-once P [] each = tt
-each-pair-once P (p ∷ ps) each =
-    (each.0, each-filter P (λ q. not (same_denoted p.0 q.0)) (once ps)
-    (each-pair-once P ps each.1))
+each-pair-once P (p ∷ ps) each = (
+  each.0,
+  each-filter P (λ q. not (same_denoted p.0 q.0)) (once ps)
+      (each-pair-once P ps each.1),
+)
 
 firsts : (ps : List Pair) →
     each_denoted_once (map (λ (p : Pair). p.0) ps) ≡ map (λ (p : Pair). p.0) (once ps)
@@ -350,7 +359,7 @@ firsts [] = refl
 firsts (p ∷ ps) =
     ap (λ l. p.0 ∷ filter (λ other. not (same_denoted p.0 other)) l) (firsts ps)
     ∙ ap (λ l. p.0 ∷ l)
-        (filter-map (λ other. not (same_denoted p.0 other)) (λ (q : Pair). q.0) (once ps))
+    (filter-map (λ other. not (same_denoted p.0 other)) (λ (q : Pair). q.0) (once ps))
 
 seconds : (ps : List Pair) → AllAlike ps →
     each_denoted_once (map (λ (p : Pair). p.1) ps) ≡ map (λ (p : Pair). p.1) (once ps)
@@ -358,7 +367,7 @@ seconds [] alike = refl
 seconds (p ∷ ps) alike =
     ap (λ l. p.1 ∷ filter (λ other. not (same_denoted p.1 other)) l) (seconds ps alike.1)
     ∙ ap (λ l. p.1 ∷ l)
-        (filter-map (λ other. not (same_denoted p.1 other)) (λ (q : Pair). q.1) (once ps))
+    (filter-map (λ other. not (same_denoted p.1 other)) (λ (q : Pair). q.1) (once ps))
     ∙ ap (λ l. p.1 ∷ map (λ (q : Pair). q.1) l) (filter-alike (λ (q : Pair). not (same_denoted p.1 q.1)) (λ (q : Pair). not (same_denoted p.0 q.0)) (once ps)
     (each-map (Alike p) (λ q. not (same_denoted p.1 q.1) ≡ not (same_denoted p.0 q.0)) (once ps) (λ q e. ap not (sym e)) (each-pair-once (Alike p) ps alike.0)))
 
@@ -374,6 +383,6 @@ same_numbers view start statement other its elements ps ones others alike p each
     ap (λ l. position (same_denoted p.0) (each_denoted_once l)) (sym ones)
     ∙ ap (position (same_denoted p.0)) (firsts ps)
     ∙ position-alike (same_denoted p.0) (same_denoted p.1) (λ (q : Pair). q.0) (λ (q : Pair). q.1)
-        (once ps) (each-pair-once (Alike p) ps each)
+    (once ps) (each-pair-once (Alike p) ps each)
     ∙ ap (position (same_denoted p.1)) (sym (seconds ps alike))
     ∙ ap (λ l. position (same_denoted p.1) (each_denoted_once l)) others

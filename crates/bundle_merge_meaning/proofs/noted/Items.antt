@@ -84,19 +84,19 @@ item_means b listing item path its object short notes rest marks marked each =
     let sense : Sense = sense_of b in
     let inner : List Denoted = inner_bindings sense.view item.start (elements_of item) in
     let nothing : (place : ℕ) (by : Replacement) → sense.replaced place by → ⊥ =
-        λ place by none. none in
+    λ place by none. none in
     let agree =
-        all_agree sense inner nothing (occurrences_from (its.s) item.items) notes
-        (subst (λ t. EachMeans sense inner (occurrences_from t item.items) notes) (spot_there its)
-        each) in
+    all_agree sense inner nothing (occurrences_from (its.s) item.items) notes
+    (subst (λ t. EachMeans sense inner (occurrences_from t item.items) notes) (spot_there its)
+    each) in
     let bridged = bridge sense inner None listing (none_notable sense inner nothing None refl) marked (its.s) its.tail [] its.at (stands_there sense its object short (all_clear sense inner nothing path))
-        (subst (λ l. AgreeInTurn sense inner l notes)
-            (sym (append-nil (occurrences_from (its.s) item.items))) agree)
-            in
+    (subst (λ l. AgreeInTurn sense inner l notes)
+    (sym (append-nil (occurrences_from (its.s) item.items))) agree)
+    in
     means_as sense inner
-        (append-nil (taken_from (its.s).place item.items)
-        ∙ ap (λ place. taken_from place item.items) its.place)
-        (append-nil marks) (bridged.gives.before [] [] finished)
+    (append-nil (taken_from (its.s).place item.items)
+    ∙ ap (λ place. taken_from place item.items) its.place)
+    (append-nil marks) (bridged.gives.before [] [] finished)
 
 -- ---- a statement of a module means the marks that it has with right notes
 pub own_meaning : (p : Program) (m : ℕ) (kind : ModuleKind) → HasKind p m kind →
@@ -117,12 +117,12 @@ own_meaning p m kind has_kind meta default listing replaces item path its object
     let sense : Sense = own_sense p m kind in
     let inner : List Denoted = inner_bindings (own_view p m kind) 0 statement in
     let here =
-        subst (λ t. AgreeInTurn sense inner (occurrences_from t item.items) notes) (spot_there its)
-        agree in
+    subst (λ t. AgreeInTurn sense inner (occurrences_from t item.items) notes) (spot_there its)
+    agree in
     let bridged = stated_bridge sense inner meta default listing replaces marked (its.s) its.tail [] its.at (stands_there sense its object short clear)
-        (subst (λ l. AgreeInTurn sense inner l notes)
-            (sym (append-nil (occurrences_from (its.s) item.items))) here)
-            default_means in
+    (subst (λ l. AgreeInTurn sense inner l notes)
+    (sym (append-nil (occurrences_from (its.s) item.items))) here)
+    default_means in
     record {
       kind = kind;
       has_kind = has_kind;
@@ -145,7 +145,7 @@ pub top_means : (p : Program) (m : ℕ) (kind : ModuleKind) → HasKind p m kind
 top_means p m kind has_kind meta default listing replaces field xs behind nodes tree item c notes
     rest marks marked statement is agree default_means =
     own_meaning p m kind has_kind meta default listing replaces item (around h.Module 0 0 ∷ []) its
-        refl refl (none, tt) notes rest marks marked statement is agree default_means
+    refl refl (none, tt) notes rest marks marked statement is agree default_means
   where
     whole : List Item
     whole = h.Open field h.Module ∷ (xs ++ h.Close ∷ behind)

@@ -120,9 +120,11 @@ node_fits_here stand s f hd item fits sees e = record {
       absurd (no_name field x ctxt role (same_Some (h.Open f hd) item e ∙ is));
   node_fits =
       λ field head is.
-      let same = same_field (same_Some (h.Open f hd) item e ∙ is) in
-      (subst (NodeFits stand) same fits, ap (λ n. in_field n s.path) same
-      ∙ sym (field-twice field f s.path));
+      let same = same_field (same_Some (h.Open f hd) item e ∙ is) in (
+        subst (NodeFits stand) same fits,
+        ap (λ n. in_field n s.path) same
+            ∙ sym (field-twice field f s.path),
+      );
 }
   where
     no_name : (field : ℕ) (x : Text) (ctxt : ℕ) (role : Role) →
@@ -144,20 +146,20 @@ each_fits {stand = stand}
     (name {field = f} {ctxt = c} {sym = y} {role = role} {rest = rest} fits it) s sees (suc k) item
     e unended =
     fits_at (omega arith) refl
-        (each_fits it (past s (h.Ident f y c role))
-        (sees-next stand s.path s.place (s.place + 1) (omega arith) sees) k item e unended)
+    (each_fits it (past s (h.Ident f y c role))
+    (sees-next stand s.path s.place (s.place + 1) (omega arith) sees) k item e unended)
 each_fits {stand = stand} (hole {field = f} it) s sees zero item e unended =
     fits_at (omega arith) refl (hole_fits_here stand s f item sees e)
 each_fits {stand = stand} (hole {field = f} {rest = rest} it) s sees (suc k) item e unended =
     fits_at (omega arith) refl
-        (each_fits it (past s (h.Hole f))
-        (sees-next stand s.path s.place (s.place + 1) (omega arith) sees) k item e unended)
+    (each_fits it (past s (h.Hole f))
+    (sees-next stand s.path s.place (s.place + 1) (omega arith) sees) k item e unended)
 each_fits {stand = stand} (node {field = f} {head = hd} fits it more) s sees zero item e unended =
     fits_at (omega arith) refl (node_fits_here stand s f hd item fits sees e)
 each_fits {stand = stand} (node {field = f} {head = hd} {inside = ins} {rest = rest} fits it more)
     s sees (suc k) item e unended =
     by (split ins k) (each_fits it inner (sees-in hd s.place (s.place + 1) (omega arith)) k item)
-        (λ j. each_fits more after after_sees j item)
+    (λ j. each_fits more after after_sees j item)
   where
     inner : Spot
     inner = spot-in s f hd
@@ -170,10 +172,10 @@ each_fits {stand = stand} (node {field = f} {head = hd} {inside = ins} {rest = r
     after_sees =
         let place = place-behind ins s f hd in
         subst (λ l. SeesPath (next_to stand) l (spot-behind s f hd ins).place)
-            (sym (path-behind (listed_nodes it) s f hd))
+        (sym (path-behind (listed_nodes it) s f hd))
         (sees-field (next_to stand) s.path (spot-behind s f hd ins).place f
-            (sees-next stand s.path s.place (spot-behind s f hd ins).place (omega (arith, place))
-            sees))
+        (sees-next stand s.path s.place (spot-behind s f hd ins).place (omega (arith, place))
+        sees))
 
     later : (j : ℕ) → k ≡ length ins + j →
         ((j : ℕ) → slice_get rest j ≡ Some item → (item ≡ h.Close → ⊥) →
@@ -186,8 +188,8 @@ each_fits {stand = stand} (node {field = f} {head = hd} {inside = ins} {rest = r
     later (suc j) at in_rest =
         let place = place-behind ins s f hd in
         fits_at (omega (arith, at, place))
-            (sym (seen-behind (spot-in s f hd) ins (h.Close ∷ rest) k (suc j) at))
-            (in_rest j (sym (get-behind ins (h.Close ∷ rest) k (suc j) at) ∙ e) unended)
+        (sym (seen-behind (spot-in s f hd) ins (h.Close ∷ rest) k (suc j) at))
+        (in_rest j (sym (get-behind ins (h.Close ∷ rest) k (suc j) at) ∙ e) unended)
 
     by : (k < length ins) ⊎ ((j : ℕ) × (k ≡ length ins + j)) →
         (slice_get ins k ≡ Some item → (item ≡ h.Close → ⊥) →
@@ -205,7 +207,7 @@ pub is_listing : {tree : List Item} → AreListed Other tree → IsListing tree
 is_listing {tree = tree} listed = record {
   names = λ place field ctxt x role top outer e path is.
       let its =
-          fits place (h.Ident field x ctxt role) e (λ ends. name_ends field x ctxt role ends) in
+      fits place (h.Ident field x ctxt role) e (λ ends. name_ends field x ctxt role ends) in
       let sees = sees_top its path in
       subst (λ stand. NameFits stand role) (sees.reads is) (its.name_fits field x ctxt role refl);
   targets = λ place field head top outer op e path is begins.
@@ -213,7 +215,7 @@ is_listing {tree = tree} listed = record {
       let sees = sees_top its path in
       let two = its.node_fits field head refl in
       ap (λ l. first_field l top.field) (sym path ∙ two.1 ∙ ap (in_field field) path)
-          ∙ subst (λ stand. NodeFits stand field) (sees.targets op is begins) two.0;
+      ∙ subst (λ stand. NodeFits stand field) (sees.targets op is begins) two.0;
 }
   where
     fits : (place : ℕ) (item : Item) → slice_get tree place ≡ Some item → (item ≡ h.Close → ⊥) →

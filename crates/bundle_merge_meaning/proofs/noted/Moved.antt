@@ -144,11 +144,11 @@ moved {meta = meta} {its = its}
     {marks = marks} occurs one)
     field =
     subst
-        (λ l.
-        Marked meta its (note ∷ notes)
-        (edits.node field h.AssignPatProp (edits.binding None 0 x ctxt role ++ default)) l rest)
-        (moved_property field old x note.meant default marks)
-        (Shorthand field x ctxt role occurs one)
+    (λ l.
+    Marked meta its (note ∷ notes)
+    (edits.node field h.AssignPatProp (edits.binding None 0 x ctxt role ++ default)) l rest)
+    (moved_property field old x note.meant default marks)
+    (Shorthand field x ctxt role occurs one)
 moved (OfReads old count inside are) field = OfReads field count inside are
 moved (OfCall old inside are) field = OfCall field inside are
 moved (OfMeta old meant is) field = OfMeta field meant is
@@ -188,8 +188,8 @@ mark_kept f (k.Name field meant) e = ap (λ n. k.Name n meant) (sym (same_Some f
 mark_kept f (k.Word field x) e = ap (λ n. k.Word n x) (sym (same_Some field f e))
 
 -- what has marks in another field than that in which the node stands
-pub record FromOtherField (meta : Option Meant) (its : edits.Around) (field : ℕ) (notes : List Note) (items : List Item) (marks : List Mark) (rest : List Note) : Type
-    0 where
+pub record FromOtherField (meta : Option Meant) (its : edits.Around) (field : ℕ)
+    (notes : List Note) (items : List Item) (marks : List Mark) (rest : List Note) : Type 0 where
   -- the marks of the node where it stands
   pub there : List Mark
   pub marked : Marked meta its notes items there rest

@@ -13,7 +13,7 @@ use Rattle.bundle_tree_places.specs.Edits as edits
 use Rattle.bundle_tree_places.specs.Edits.{is_occurrence}
 use Rattle.bundle_merge_meaning.specs.noted.Listed.{is_reference}
 use Rattle.bundle_merge_meaning.specs.noted.Agrees.{IsAt, is_read_or_call, IsListing}
-use Rattle.bundle_merge_meaning.proofs.noted.Spots.{around, fold-append, spot-in, spot-behind, at-past, at-as, at-get, at-path}
+use Rattle.bundle_merge_meaning.proofs.noted.Spots.{around, spot-in, at-past, at-as, at-get, at-path}
 use Rattle.bundle_merge_meaning.proofs.noted.Shapes.{IsReads, base, read, IsLiteralCall}
 
 -- the occurrence that an identifier is
@@ -117,8 +117,8 @@ name_in_reads (base {field = field} {ctxt = ctxt} {x = x} {role = role}) occurs 
 }
 name_in_reads (read {field = f} {count = count} {object = object} second word it) occurs s =
     one_in s _ (suc count) f h.MemberExpr
-        (read_around f second count word object s _
-        (name_in_reads it occurs (spot-in s f h.MemberExpr)))
+    (read_around f second count word object s _
+    (name_in_reads it occurs (spot-in s f h.MemberExpr)))
 
 -- the name of a member expression that is just so many reads, with that node around it
 pub name_in_node : {count : ℕ} {role : Role} {xs : List Item} → IsReads count role xs →
@@ -131,12 +131,12 @@ name_in_node (read {field = f} {count = count} {object = object} second word it)
     let same : f ≡ field = cc in
     let its = name_in_reads it occurs (spot-in s f h.MemberExpr) in
     subst
-        (λ g.
-        HasName s (edits.node field h.MemberExpr inside) (suc count)
-        (spot-in s g h.MemberExpr).path)
-        same
+    (λ g.
+    HasName s (edits.node field h.MemberExpr inside) (suc count)
+    (spot-in s g h.MemberExpr).path)
+    same
     (subst (λ l. HasName s l (suc count) (spot-in s f h.MemberExpr).path) e
-        (read_around f second count word object s _ its))
+    (read_around f second count word object s _ its))
 
 -- and that of a literal call
 pub name_in_call : {role : Role} (field : ℕ) (inside : List Item) → IsLiteralCall role inside →
@@ -148,7 +148,7 @@ name_in_call {role = role} field inside its occurs s = subst (λ l. HasName s (e
       occurrences_node s field h.CallExpr (h.Ident its.field its.x its.ctxt role ∷ its.arguments)
       ∙ name_first inner its.field its.x its.ctxt role its.arguments occurs
       ∙ ap (λ l. occurrence_here inner its.field its.x its.ctxt role ∷ l)
-          (its.no_names (past inner (h.Ident its.field its.x its.ctxt role)));
+      (its.no_names (past inner (h.Ident its.field its.x its.ctxt role)));
   far = refl;
   inner = [];
   field = its.field;
@@ -170,8 +170,8 @@ module _ {tree : List Item} (listing : IsListing tree) where
       s.path ≡ around head begins f ∷ outer → role ≡ r.Reference
   name_under s field x ctxt role rest at head begins f outer is path =
       refers role
-          (listing.names s.place field ctxt x role (around head begins field) outer
-          (at-get at s.place 0 (omega arith)) (at-path at ∙ ap (in_field field) path) is)
+      (listing.names s.place field ctxt x role (around head begins field) outer
+      (at-get at s.place 0 (omega arith)) (at-path at ∙ ap (in_field field) path) is)
 
   role_in_reads : {count : ℕ} {role : Role} {xs : List Item} → IsReads count role xs →
       (s : Spot) (tail : List Item) → IsAt tree s (xs ++ tail) →
@@ -182,9 +182,9 @@ module _ {tree : List Item} (listing : IsListing tree) where
       name_under s field x ctxt role tail at h.MemberExpr begins f outer refl path
   role_in_reads (read {field = g} {object = object} second word it) s tail at begins f outer path =
       role_in_reads it (spot-in s g h.MemberExpr) (word_end second word ++ tail)
-          (at-as refl (append_assoc object (word_end second word) tail)
-          (at-past (h.Open g h.MemberExpr) ((object ++ word_end second word) ++ tail) at))
-          s.place 0 (in_field g s.path) refl
+      (at-as refl (append_assoc object (word_end second word) tail)
+      (at-past (h.Open g h.MemberExpr) ((object ++ word_end second word) ++ tail) at))
+      s.place 0 (in_field g s.path) refl
 
   pub role_in_node : {count : ℕ} {role : Role} {xs : List Item} → IsReads count role xs →
       (field : ℕ) (inside : List Item) → xs ≡ edits.node field h.MemberExpr inside →
@@ -192,16 +192,16 @@ module _ {tree : List Item} (listing : IsListing tree) where
   role_in_node base field inside e s tail at = cc
   role_in_node (read {field = g} {object = object} second word it) field inside e s tail at =
       role_in_reads it (spot-in s g h.MemberExpr) (word_end second word ++ tail)
-          (at-as refl (append_assoc object (word_end second word) tail)
-          (at-past (h.Open g h.MemberExpr) ((object ++ word_end second word) ++ tail) at))
-          s.place 0 (in_field g s.path) refl
+      (at-as refl (append_assoc object (word_end second word) tail)
+      (at-past (h.Open g h.MemberExpr) ((object ++ word_end second word) ++ tail) at))
+      s.place 0 (in_field g s.path) refl
 
   pub role_in_call : {role : Role} (field : ℕ) (inside : List Item) → IsLiteralCall role inside →
       (s : Spot) (tail : List Item) → IsAt tree s (edits.node field h.CallExpr inside ++ tail) →
       role ≡ r.Reference
   role_in_call {role = role} field inside its s tail at =
       name_under (spot-in s field h.CallExpr) its.field its.x its.ctxt role
-          ((its.arguments ++ h.Close ∷ []) ++ tail)
+      ((its.arguments ++ h.Close ∷ []) ++ tail)
       (at-past (h.Open field h.CallExpr) _
-          (at-as refl (ap (λ l. edits.node field h.CallExpr l ++ tail) its.is) at))
-          h.CallExpr s.place 0 (in_field field s.path) refl refl
+      (at-as refl (ap (λ l. edits.node field h.CallExpr l ++ tail) its.is) at))
+      h.CallExpr s.place 0 (in_field field s.path) refl refl

@@ -1,4 +1,6 @@
--- What stands in whole nodes sees, of the nodes that are open, those of the list around it and those around the list.
+-- What stands in whole nodes sees, of the nodes that are open, those of the list around it and
+-- those around the list. (bundle_link_reached has the like for its own lemmas alone: its module of this
+-- name is not handed on.)
 use Rattle.std.proofs.Common.{◌≡◌, ◌⊎◌, inl, inr, ℕ, zero, suc, ◌+◌, ◌<◌, ◌≤◌, List, [], ◌∷◌, ◌++◌, append_assoc, length-append, length, Option, Some, take, drop, refl, sym, ap, ◌∙◌, subst, arith}
 use Rattle.std.specs.Prelude.{Contains, fold, slice_get}
 use Rattle.std.proofs.lemmas.Option.{none-some}
@@ -6,7 +8,7 @@ use Rattle.bundle_tree_piece.specs.declared.piece.Role.{Role}
 use Rattle.bundle_tree_piece.specs.Item as h
 use Rattle.bundle_tree_piece.specs.Item.{Item, Head}
 use Rattle.bundle_rules.specs.Places.{Around, Spot, in_field, past, path_to_option}
-use Rattle.bundle_merge_meaning.specs.noted.Nested.{AreNodes, nothing, name, hole, node, HasParts}
+use Rattle.bundle_link_reached.specs.Nested.{AreNodes, nothing, name, hole, node, HasParts}
 use Rattle.bundle_merge_meaning.proofs.noted.Spots.{around, spot-in, spot-behind, path-behind, place-behind}
 use Rattle.bundle_merge_meaning.proofs.noted.StaticReads.{plain_nodes}
 use Rattle.bundle_merge_meaning.proofs.noted.ListFacts.{none-there, first-there, later-there, there-cases, drop-next, drop-past, get-front, get-behind, split}
@@ -139,9 +141,11 @@ module _ (tree : List Item) where
       Opened old c p seen_there n → Opened before b place path n
   opened-as before old b c place p path seen_there n back le ep es (inl was) = inl (back was)
   opened-as before old b c place p path seen_there n back le ep es (inr (l, holds)) =
-      inr
-      (omega (arith, le, l), subst (λ x. Holds x path n) ep
-      (subst (λ x. Holds p x n) (sym es) holds))
+      inr (
+        omega (arith, le, l),
+        subst (λ x. Holds x path n) ep
+            (subst (λ x. Holds p x n) (sym es) holds),
+      )
 
   pub one-more : (s : Spot) (x : Item) (rest : List Item) → drop s.place tree ≡ x ∷ rest →
       drop (s.place + 1) tree ≡ rest
@@ -154,12 +158,12 @@ module _ (tree : List Item) where
       drop (spot-behind s f hd ins).place tree ≡ rest
   behind-node s f hd ins rest e =
       let in_it =
-          drop-past tree (s.place + 1) ins (h.Close ∷ rest)
-          (one-more s (h.Open f hd) (ins ++ h.Close ∷ rest) e) in
+      drop-past tree (s.place + 1) ins (h.Close ∷ rest)
+      (one-more s (h.Open f hd) (ins ++ h.Close ∷ rest) e) in
       let next = drop-next tree (s.place + 1 + length ins) h.Close rest in_it in
       let place = place-behind ins s f hd in
       let n : (spot-behind s f hd ins).place ≡ suc (s.place + 1 + length ins) =
-          omega (arith, place) in
+      omega (arith, place) in
       ap (λ k. drop k tree) n ∙ next
 
   pub around-name : {xs : List Item} {k : ℕ} → NameAt xs k → (s : Spot) (ys : List Item) →
@@ -170,19 +174,18 @@ module _ (tree : List Item) where
       e n c =
       let x : Item = h.Ident f y t r in
       opened-as s.path s.path s.place (s.place + 1) (s.place + suc k) (s.place + 1 + k)
-          (seen s (x ∷ rest) (suc k)) (seen s (x ∷ rest) (suc k)) n (λ was. was) (omega arith)
-          (omega arith) refl (around-name at (past s x) ys (one-more s x (rest ++ ys) e) n c)
+      (seen s (x ∷ rest) (suc k)) (seen s (x ∷ rest) (suc k)) n (λ was. was) (omega arith)
+      (omega arith) refl (around-name at (past s x) ys (one-more s x (rest ++ ys) e) n c)
   around-name (past_hole {field = f} {rest = rest} {k = k} at) s ys e n c =
       let x : Item = h.Hole f in
       opened-as s.path s.path s.place (s.place + 1) (s.place + suc k) (s.place + 1 + k)
-          (seen s (x ∷ rest) (suc k)) (seen s (x ∷ rest) (suc k)) n (λ was. was) (omega arith)
-          (omega arith) refl (around-name at (past s x) ys (one-more s x (rest ++ ys) e) n c)
-  around-name (within {field = f} {head = hd} {inside = ins} rest {k = k} are parts at) s ys e n c
-      =
+      (seen s (x ∷ rest) (suc k)) (seen s (x ∷ rest) (suc k)) n (λ was. was) (omega arith)
+      (omega arith) refl (around-name at (past s x) ys (one-more s x (rest ++ ys) e) n c)
+  around-name (within {field = f} {head = hd} {inside = ins} rest {k = k} are parts at) s ys e n c =
       by
-          (around-name at t (h.Close ∷ (rest ++ ys))
-          (one-more s (h.Open f hd) (ins ++ h.Close ∷ (rest ++ ys)) whole) n
-          (subst (λ l. Contains l n) front c))
+      (around-name at t (h.Close ∷ (rest ++ ys))
+      (one-more s (h.Open f hd) (ins ++ h.Close ∷ (rest ++ ys)) whole) n
+      (subst (λ l. Contains l n) front c))
     where
       t : Spot
       t = spot-in s f hd
@@ -227,13 +230,13 @@ module _ (tree : List Item) where
       (behind {field = f} {head = hd} {inside = ins} {rest = rest} {j = j} {k = k} are ej at) s ys
       e n c =
       opened-as s.path t.path s.place t.place (s.place + suc j) (t.place + k)
-          (seen s (h.Open f hd ∷ (ins ++ h.Close ∷ rest)) (suc j)) (seen t rest k) n
-          (λ was.
-          was-in_field f s.path n
-          (subst (λ l. Was l n) (path-behind (plain_nodes are) s f hd) was))
-          (omega (arith, place)) (omega (arith, place, ej)) back
-          (around-name at t ys (behind-node s f hd ins (rest ++ ys) whole) n
-          (subst (λ l. Contains l n) back c))
+      (seen s (h.Open f hd ∷ (ins ++ h.Close ∷ rest)) (suc j)) (seen t rest k) n
+      (λ was.
+      was-in_field f s.path n
+      (subst (λ l. Was l n) (path-behind (plain_nodes are) s f hd) was))
+      (omega (arith, place)) (omega (arith, place, ej)) back
+      (around-name at t ys (behind-node s f hd ins (rest ++ ys) whole) n
+      (subst (λ l. Contains l n) back c))
     where
       t : Spot
       t = spot-behind s f hd ins

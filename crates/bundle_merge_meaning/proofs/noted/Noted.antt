@@ -1,5 +1,5 @@
 -- A node that stays is not replaced, where notes and what is replaced agree.
-use Rattle.std.proofs.Common.{◌≡◌, ℕ, suc, Bool, true, List, [], ◌∷◌, ◌++◌, Option, Some, None, is_none, refl, sym, ap, ◌∙◌, subst, arith}
+use Rattle.std.proofs.Common.{◌≡◌, ℕ, suc, true, List, [], ◌∷◌, ◌++◌, Option, Some, None, is_none, refl, sym, ap, ◌∙◌, subst, arith}
 use Rattle.std.specs.Prelude.{if◌then◌else◌}
 use Rattle.std.proofs.lemmas.Bool.{false≢true}
 use Rattle.bundle_tree_piece.specs.declared.piece.Role.TheVariants as r
@@ -11,7 +11,10 @@ use Rattle.bundle_rules.specs.Meaning.{Sense, Replacement, ByName, ByCall, Label
 use Rattle.bundle_tree_places.specs.Edits as edits
 use Rattle.bundle_merge_meaning.specs.noted.Nodes as n
 use Rattle.bundle_merge_meaning.specs.noted.Nodes.{AreNodes}
-use Rattle.bundle_merge_meaning.specs.noted.Marked.{Whole, Alone, Reads, Call, Note, upcoming, are_reads, is_literal_call, meant_by_reads, meant_for_member, meant_by_call, meant_for_call, stays, keeps_first}
+use Rattle.bundle_tree_rebuild.specs.declared.rewrite.Whole.{Whole}
+use Rattle.bundle_tree_rebuild.specs.declared.rewrite.Whole.TheVariants.{Alone, Reads, Call}
+use Rattle.bundle_merge_meaning.specs.noted.Marked.{Note, upcoming, meant_by_reads, meant_for_member, meant_by_call, meant_for_call, stays}
+use Rattle.bundle_tree_rebuild.specs.Becomes.{are_reads, is_literal_call, keeps_first}
 use Rattle.bundle_merge_meaning.specs.noted.Agrees.{IsAt, IsClear, IsReplacedAround, IsNotable, by_reads, by_call, by_meta, IsNotedNode, StandsAlone, StandsForReads, StandsForCall, Agrees, AgreeInTurn, IsListing, ReplacesNotable}
 use Rattle.bundle_merge_meaning.proofs.noted.Spots.{around, spot-in, at-drop, at-get, at-path}
 use Rattle.bundle_merge_meaning.proofs.noted.Shapes.{AreReads, reads_inside, nodes_in_reads, IsLiteralCall, literal_call, literal_call_nodes, same_nodes, tail_same}
@@ -44,13 +47,13 @@ outermost replaced [] [] node its outer more e clear also_clear is also = cc
 outermost replaced [] (x ∷ other) node its outer more {also = also_by} e clear also_clear is also =
     let tail : outer ≡ other ++ its ∷ more = cc in
     absurd
-        (replaced-not replaced
-        (clear-there replaced other its more (subst (IsClear replaced) tail clear)) also)
+    (replaced-not replaced
+    (clear-there replaced other its more (subst (IsClear replaced) tail clear)) also)
 outermost replaced (x ∷ inner) [] node its outer more e clear also_clear is also =
     let tail : more ≡ inner ++ node ∷ outer = cc in
     absurd
-        (replaced-not replaced
-        (clear-there replaced inner node outer (subst (IsClear replaced) tail also_clear)) is)
+    (replaced-not replaced
+    (clear-there replaced inner node outer (subst (IsClear replaced) tail also_clear)) is)
 outermost replaced (x ∷ inner) (y ∷ other) node its outer more e clear also_clear is also =
     let tail : inner ++ node ∷ outer ≡ other ++ its ∷ more = cc in
     outermost replaced inner other node its outer more tail clear also_clear is also
@@ -77,9 +80,9 @@ module _ (sense : Sense) (inner : List Denoted) (s : Spot) (field : ℕ) (head :
       IsReplacedAround sense.replaced its.o.path begins other → begins ≡ s.place
   same_begins begins other there =
       let one : there.node ≡ own =
-          outermost sense.replaced there.inner its.inner there.node own there.outer
-              (in_field field s.path) (sym there.path_is ∙ its.path_is) there.clear outer_clear
-              (subst (λ b. sense.replaced b other) (sym there.here) there.its) is in
+      outermost sense.replaced there.inner its.inner there.node own there.outer
+      (in_field field s.path) (sym there.path_is ∙ its.path_is) there.clear outer_clear
+      (subst (λ b. sense.replaced b other) (sym there.here) there.its) is in
       sym there.here ∙ ap (λ (node : Around). node.begins) one
 
   replaced_here : (begins : ℕ) (other : Replacement) →
@@ -92,9 +95,12 @@ module _ (sense : Sense) (inner : List Denoted) (s : Spot) (field : ℕ) (head :
   as_reads meant n reads =
       let here = same_begins reads.begins (ByName reads.label) reads.replaced in
       let far = reads.far in
-      let o_far = its.far in
-      (omega (arith, here, far, o_far), reads.label, replaced_here reads.begins
-          (ByName reads.label) reads.replaced)
+      let o_far = its.far in (
+        omega (arith, here, far, o_far),
+        reads.label,
+        replaced_here reads.begins
+            (ByName reads.label) reads.replaced,
+      )
 
   pub as_call : (meant : Meant) → StandsForCall sense its.o meant →
       (l : Label) × sense.replaced s.place (ByCall l)
@@ -148,13 +154,13 @@ module _ (sense : Sense) (inner : List Denoted) (listing : IsListing sense.view.
           not_alone sense inner s field h.MemberExpr _ count its clear (ByName l) is meant alone
       by_whole meant (Reads n) reads none =
           let same =
-              as_reads sense inner s field h.MemberExpr _ count its clear (ByName l) is meant n
-              reads in
+          as_reads sense inner s field h.MemberExpr _ count its clear (ByName l) is meant n
+          reads in
           said_reads meant n inside (subst (λ k. are_reads k inside ≡ true) (sym same.0) are) none
       by_whole meant Call call none =
           let same =
-              as_call sense inner s field h.MemberExpr _ count its clear (ByName l) is meant
-              call in
+          as_call sense inner s field h.MemberExpr _ count its clear (ByName l) is meant
+          call in
           no_call_of_member (notable (ByCall same.0) same.1).1
 
       on : (notes : List Note) → AgreeInTurn sense inner (its.o ∷ os) notes →
@@ -177,7 +183,7 @@ module _ (sense : Sense) (inner : List Denoted) (listing : IsListing sense.view.
           not_alone sense inner s field h.CallExpr _ 1 its clear (ByCall l) is meant alone
       by_whole meant (Reads n) reads none =
           let same =
-              as_reads sense inner s field h.CallExpr _ 1 its clear (ByCall l) is meant n reads in
+          as_reads sense inner s field h.CallExpr _ 1 its clear (ByCall l) is meant n reads in
           no_name_of_call (notable (ByName same.1) same.2).1
       by_whole meant Call call none = said_call meant inside are none
 
@@ -195,9 +201,9 @@ module _ (sense : Sense) (inner : List Denoted) (listing : IsListing sense.view.
         sense.replaced s.place by → IsNotedNode sense.view.tree meta s.place field head by
     noted_here s field head rest by at clear is =
         replaces.nodes s.place field head by (at-get at s.place 0 (omega arith))
-            (subst (IsClear sense.replaced) (sym (at-path at))
-            (clear-field sense.replaced field s.path clear))
-            is
+        (subst (IsClear sense.replaced) (sym (at-path at))
+        (clear-field sense.replaced field s.path clear))
+        is
 
     notable_nodes : {head : Head} {inside : List Item} {by : Replacement} →
         IsNotable meta head inside by → AreNodes inside
@@ -219,18 +225,18 @@ module _ (sense : Sense) (inner : List Denoted) (listing : IsListing sense.view.
         never by is =
             let noted = noted_here s field head _ by at clear is in
             let both =
-                tail_same
-                (sym (node_ahead field head noted.inside noted.behind)
-                ∙ sym noted.there
-                ∙ at-drop at
-                ∙ node_ahead field head inside tail) in
+            tail_same
+            (sym (node_ahead field head noted.inside noted.behind)
+            ∙ sym noted.there
+            ∙ at-drop at
+            ∙ node_ahead field head inside tail) in
             let same = same_nodes (notable_nodes noted.notable) nodes noted.behind tail both in
             not_stays (subst (λ l. IsNotable meta head l by) same.0 noted.notable) s field tail os
-                notes at clear is agree
-                (λ other also.
-                let its = noted_here s field head _ other at clear also in
-                (its.inside, its.notable))
-                stay
+            notes at clear is agree
+            (λ other also.
+            let its = noted_here s field head _ other at clear also in
+            (its.inside, its.notable))
+            stay
 
     -- a node of which no note can tell
     pub other_unreplaced : (s : Spot) (field : ℕ) (head : Head) (rest : List Item) →
@@ -252,4 +258,4 @@ module _ (sense : Sense) (inner : List Denoted) (listing : IsListing sense.view.
         λ by is.
         let noted = noted_here s first h.MemberExpr rest by at clear is in
         noted.unkept (around head begins first) outer refl (at-path at ∙ ap (in_field first) path)
-            keeps place
+        keeps place

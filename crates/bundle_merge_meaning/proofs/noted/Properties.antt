@@ -58,7 +58,8 @@ apart true field x meant marks ms =
 
 module _ (sense : Sense) (inner : List Denoted) (s : Spot) (field : ℕ) (x : Text) (ctxt : ℕ)
     (role : Role) (default tail : List Item) where
-  -- the spots behind its beginning, behind that of its name, behind the name, and behind the end of that
+  -- the spots behind its beginning, behind that of its name, behind the name, and behind the end
+  -- of that
   abbrev pub one : Spot
   one = spot-in s field h.AssignPatProp
 
@@ -121,13 +122,12 @@ module _ (sense : Sense) (inner : List Denoted) (s : Spot) (field : ℕ) (x : Te
           ≡ k.Begins field h.KeyValuePatProp ∷ (word_key x ++ default_begins has)
       begins =
           ap
-              (λ y.
-              k.Begins field h.KeyValuePatProp ∷ k.Begins 0 (h.IdentName y) ∷ k.Ends
-              ∷ default_begins (has_default sense.view.tree s.place))
-              its_symbol
+          (λ y.
+          k.Begins field h.KeyValuePatProp ∷ k.Begins 0 (h.IdentName y) ∷ k.Ends
+          ∷ default_begins (has_default sense.view.tree s.place))
+          its_symbol
           ∙ ap (λ b. k.Begins field h.KeyValuePatProp ∷ (word_key x ++ default_begins b))
-              its_default
-
+          its_default
 
       name_begins : begin_marks {N = Meant} sense.view.tree (suc s.place) 0
           (path_at sense.view.tree (suc s.place)) h.BindingIdent
@@ -135,7 +135,7 @@ module _ (sense : Sense) (inner : List Denoted) (s : Spot) (field : ℕ) (x : Te
       name_begins =
           let e : suc s.place ≡ s.place + 1 = omega arith in
           ap (λ path. begin_marks sense.view.tree (suc s.place) 0 path h.BindingIdent)
-              (ap (path_at sense.view.tree) e ∙ at-path at_one)
+          (ap (path_at sense.view.tree) e ∙ at-path at_one)
           ∙ ap (λ b. k.Begins (if b then 0 else 1) h.BindingIdent ∷ []) its_default
 
       at_five : IsAt sense.view.tree five (h.Close ∷ tail)
@@ -150,7 +150,7 @@ module _ (sense : Sense) (inner : List Denoted) (s : Spot) (field : ℕ) (x : Te
       ends =
           let path = fold-path nodes four in
           ap (end_marks sense.view.tree)
-              (ap (path_at sense.view.tree) five_place ∙ at-path at_five ∙ path.1)
+          (ap (path_at sense.view.tree) five_place ∙ at-path at_five ∙ path.1)
           ∙ ap default_ends its_default
 
       whole : (es : List Element) (ms : List Mark) → Means sense inner es ms →
@@ -164,41 +164,41 @@ module _ (sense : Sense) (inner : List Denoted) (s : Spot) (field : ℕ) (x : Te
           let p3 : suc (suc (suc s.place)) ≡ three.place = omega arith in
           let p4 : suc (suc (suc (suc s.place))) ≡ four.place = omega arith in
           let last : Means sense inner (taken (suc (suc (suc (suc s.place))) + length default) h.Close ∷ es) (default_ends has ++ ms) =
-              means_as sense inner refl (ap (λ l. l ++ ms) ends) (ended m) in
+          means_as sense inner refl (ap (λ l. l ++ ms) ends) (ended m) in
           let behind : Means sense inner (taken_from (suc (suc (suc (suc s.place)))) default ++ (taken (suc (suc (suc (suc s.place))) + length default) h.Close ∷ es)) (marks ++ (default_ends has ++ ms)) =
-              means_as sense inner
-                  (ap
-                  (λ p.
-                  taken_from p default
-                  ++ (taken (suc (suc (suc (suc s.place))) + length default) h.Close ∷ es))
-                  (sym p4))
-                  refl (gives.before _ _ last) in
+          means_as sense inner
+          (ap
+          (λ p.
+          taken_from p default
+          ++ (taken (suc (suc (suc (suc s.place))) + length default) h.Close ∷ es))
+          (sym p4))
+          refl (gives.before _ _ last) in
           let as_items : Means sense inner (taken_from (suc (suc (suc (suc s.place)))) (default ++ h.Close ∷ []) ++ es) (marks ++ (default_ends has ++ ms)) =
-              means_as sense inner
-                  (sym (taken_append (suc (suc (suc (suc s.place)))) default (h.Close ∷ []) es))
-                  refl behind in
+          means_as sense inner
+          (sym (taken_append (suc (suc (suc (suc s.place)))) default (h.Close ∷ []) es))
+          refl behind in
           let closed =
-              (closes_at sense inner three (default ++ h.Close ∷ tail) h.BindingIdent one.place 0 four.path at_three p3 refl refl).before
-              _ _ as_items in
+          (closes_at sense inner three (default ++ h.Close ∷ tail) h.BindingIdent one.place 0 four.path at_three p3 refl refl).before
+          _ _ as_items in
           let name =
-              (gives_name sense inner edits.Anywhere two 0 ctxt x role _ d meant at_two refl p2 denotes means).before
-              _ _ closed in
+          (gives_name sense inner edits.Anywhere two 0 ctxt x role _ d meant at_two refl p2 denotes means).before
+          _ _ closed in
           let e1 : suc s.place ≡ one.place = omega arith in
           let inside =
-              means_as sense inner refl
-              (ap (λ l. l ++ (k.Name 0 meant ∷ k.Ends ∷ (marks ++ (default_ends has ++ ms))))
-              name_begins)
-              (begun {place = suc s.place} {field = 0} {head = h.BindingIdent}
-              (λ by is. none_inside by (subst (λ p. sense.replaced p by) e1 is)) name) in
           means_as sense inner refl
-              (ap
-              (λ l.
-              l
-              ++ (k.Begins (if has then 0 else 1) h.BindingIdent ∷ k.Name 0 meant ∷ k.Ends
-              ∷ (marks ++ (default_ends has ++ ms))))
-              begins
-              ∙ apart has field x meant marks ms)
-              (begun {place = s.place} {field = field} {head = h.AssignPatProp} none_here inside)
+          (ap (λ l. l ++ (k.Name 0 meant ∷ k.Ends ∷ (marks ++ (default_ends has ++ ms))))
+          name_begins)
+          (begun {place = suc s.place} {field = 0} {head = h.BindingIdent}
+          (λ by is. none_inside by (subst (λ p. sense.replaced p by) e1 is)) name) in
+          means_as sense inner refl
+          (ap
+          (λ l.
+          l
+          ++ (k.Begins (if has then 0 else 1) h.BindingIdent ∷ k.Name 0 meant ∷ k.Ends
+          ∷ (marks ++ (default_ends has ++ ms))))
+          begins
+          ∙ apart has field x meant marks ms)
+          (begun {place = s.place} {field = field} {head = h.AssignPatProp} none_here inside)
 
 -- the same by its default
 pub gives_shorthand : (sense : Sense) (inner : List Denoted) (s : Spot) (field : ℕ) (x : Text)

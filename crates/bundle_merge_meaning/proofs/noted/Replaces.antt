@@ -1,4 +1,5 @@
--- What is replaced in a module is what notes can tell of: static reads around a name, literal calls, `import.meta`.
+-- What is replaced in a module is what notes can tell of: static reads around a name, literal
+-- calls, `import.meta`.
 use Rattle.std.proofs.Common.{◌≡◌, inl, inr, ℕ, zero, suc, ◌+◌, Bool, true, false, cond, not, ◌||◌, ◌&&◌, List, [], ◌∷◌, ◌++◌, append_assoc, append-nil, filter, take, drop, Option, Some, None, refl, sym, ap, ◌∙◌, subst, arith}
 use Rattle.std.specs.Prelude.{if◌then◌else◌, Contains, slice_get, option_map, option_and_then}
 use Rattle.std.proofs.lemmas.Bool.{false≢true, true≢false, or_right}
@@ -25,9 +26,9 @@ use Rattle.bundle_tree_places.specs.Edits as edits
 use Rattle.bundle_tree_places.proofs.ListLemmas.{drop_at}
 use Rattle.bundle_merge_meaning.specs.noted.Nodes as n
 use Rattle.bundle_merge_meaning.specs.noted.Nodes.{AreNodes}
-use Rattle.bundle_merge_meaning.specs.noted.Nested as nested
-use Rattle.bundle_merge_meaning.specs.noted.Nested.{HasParts}
-use Rattle.bundle_merge_meaning.specs.noted.Marked.{behind_word, behind_reads, is_end, are_reads, keeps_first}
+use Rattle.bundle_link_reached.specs.Nested as nested
+use Rattle.bundle_link_reached.specs.Nested.{HasParts}
+use Rattle.bundle_tree_rebuild.specs.Becomes.{behind_word, behind_reads, is_end, are_reads, keeps_first}
 use Rattle.bundle_merge_meaning.specs.noted.Agrees.{IsAt, IsListing, IsNotable, by_reads, by_call, by_meta, IsNotedNode, ReplacesNotable}
 use Rattle.bundle_merge_meaning.proofs.noted.Shapes.{IsReads, base, read, join, one_node, reads_nodes, in_other_field, IsLiteralCall, literal_call_of, call_is_literal}
 use Rattle.bundle_merge_meaning.proofs.noted.ListFacts.{drop-next}
@@ -41,7 +42,7 @@ reads_back : {count : ℕ} {xs : List Item} → IsReads count r.Reference xs →
 reads_back base rest = refl
 reads_back (read {count = count} {object = object} second word it) rest =
     ap (λ l. behind_word (behind_reads count l))
-        (append_assoc object (h.Open second (h.IdentName word) ∷ h.Close ∷ h.Close ∷ []) rest)
+    (append_assoc object (h.Open second (h.IdentName word) ∷ h.Close ∷ h.Close ∷ []) rest)
     ∙ ap behind_word (reads_back it (h.Open second (h.IdentName word) ∷ h.Close ∷ h.Close ∷ rest))
 
 pub are_reads_back : {count : ℕ} (field : ℕ) (inside : List Item) →
@@ -49,8 +50,8 @@ pub are_reads_back : {count : ℕ} (field : ℕ) (inside : List Item) →
     are_reads count inside ≡ true
 are_reads_back {count = count} field inside it =
     ap is_end
-        (ap (behind_reads count) (sym (append-nil (edits.node 0 h.MemberExpr inside)))
-        ∙ reads_back (in_other_field it field 0 inside refl) [])
+    (ap (behind_reads count) (sym (append-nil (edits.node 0 h.MemberExpr inside)))
+    ∙ reads_back (in_other_field it field 0 inside refl) [])
 
 reads_one : {count : ℕ} {role : Role} {xs : List Item} → IsReads count role xs →
     (rest : List Item) → side_by_side zero (xs ++ rest) ≡ xs ∷ side_by_side zero rest
@@ -58,12 +59,12 @@ reads_one base rest = refl
 reads_one (read {field = field} {object = object} second word it) rest =
     let its_word : List Item = h.Open second (h.IdentName word) ∷ h.Close ∷ [] in
     ap (λ l. side_by_side zero (h.Open field h.MemberExpr ∷ l))
-        (append_assoc object (h.Open second (h.IdentName word) ∷ h.Close ∷ h.Close ∷ []) rest
-        ∙ sym (append_assoc object its_word (h.Close ∷ rest)))
+    (append_assoc object (h.Open second (h.IdentName word) ∷ h.Close ∷ h.Close ∷ []) rest
+    ∙ sym (append_assoc object its_word (h.Close ∷ rest)))
     ∙ beside_node field h.MemberExpr
-        (join (reads_nodes it) (one_node second (h.IdentName word) n.nothing)) rest
+    (join (reads_nodes it) (one_node second (h.IdentName word) n.nothing)) rest
     ∙ ap (λ l. (h.Open field h.MemberExpr ∷ l) ∷ side_by_side zero rest)
-        (append_assoc object its_word (h.Close ∷ []))
+    (append_assoc object its_word (h.Close ∷ []))
 
 -- a read is a node
 pub record IsReadNode (count field : ℕ) (role : Role) (head : Head) (xs : List Item) : Type 0 where
@@ -113,17 +114,20 @@ word_property tree place {x = x} e =
 -- one read around a chain
 chain_around : {tree : List Item} (place : ℕ) {x : Text} → IsReadThere tree place x →
     (its : IsChain tree (suc place)) → (more : IsChain tree place) × (more.count ≡ suc its.count)
-chain_around {tree = tree} place {x = x} here its = (record {
-  count = suc its.count;
-  role = its.role;
-  xs = h.Open here.field h.MemberExpr ∷ (its.xs ++ word_end);
-  behind = here.behind;
-  reads = read member.field x its.reads;
-  there =
-      here.there
-      ∙ ap (λ l. h.Open here.field h.MemberExpr ∷ l)
-      (inside_is ∙ sym (append_assoc its.xs word_end here.behind));
-}, refl)
+chain_around {tree = tree} place {x = x} here its = (
+  record {
+    count = suc its.count;
+    role = its.role;
+    xs = h.Open here.field h.MemberExpr ∷ (its.xs ++ word_end);
+    behind = here.behind;
+    reads = read member.field x its.reads;
+    there =
+        here.there
+        ∙ ap (λ l. h.Open here.field h.MemberExpr ∷ l)
+        (inside_is ∙ sym (append_assoc its.xs word_end here.behind));
+  },
+  refl,
+)
   where
     member : IsMemberOf x here.inside
     member = here.member
@@ -139,10 +143,10 @@ chain_around {tree = tree} place {x = x} here its = (record {
         ++ (h.Open member.field (h.IdentName x) ∷ h.Close ∷ (h.Close ∷ here.behind))
     in_it =
         drop-next tree place (h.Open here.field h.MemberExpr)
-            (here.inside ++ h.Close ∷ here.behind) here.there
+        (here.inside ++ h.Close ∷ here.behind) here.there
         ∙ ap (λ l. l ++ h.Close ∷ here.behind) member.is
         ∙ append_assoc member.object (h.Open member.field (h.IdentName x) ∷ h.Close ∷ [])
-            (h.Close ∷ here.behind)
+        (h.Close ∷ here.behind)
 
     same : its.xs ≡ member.object
     same =
@@ -157,9 +161,9 @@ chain_around {tree = tree} place {x = x} here its = (record {
     inside_is =
         ap (λ l. l ++ h.Close ∷ here.behind) member.is
         ∙ append_assoc member.object (h.Open member.field (h.IdentName x) ∷ h.Close ∷ [])
-            (h.Close ∷ here.behind)
+        (h.Close ∷ here.behind)
         ∙ ap (λ l. l ++ (h.Open member.field (h.IdentName x) ∷ h.Close ∷ h.Close ∷ here.behind))
-            (sym same)
+        (sym same)
 
 -- what reads as a target is a name with reads around it
 pub chain_of : {pr : Program} {m place : ℕ} {t : Target} → nested.AreNodes (tree_of pr m) →
@@ -185,23 +189,23 @@ read_node tree place behind (base {field = f} {ctxt = ctxt} {x = x} {role = role
 read_node tree place {count = suc count} {role = role} behind
     (read {field = f} {object = object} second word it) there field head e =
     let first : h.Open f h.MemberExpr ≡ h.Open field head =
-        same_Some (h.Open f h.MemberExpr) (h.Open field head)
-        (sym (get-drop tree place ∙ ap (λ l. slice_get l 0) there) ∙ e) in
+    same_Some (h.Open f h.MemberExpr) (h.Open field head)
+    (sym (get-drop tree place ∙ ap (λ l. slice_get l 0) there) ∙ e) in
     let its_head : head ≡ h.MemberExpr = cc in
     let its_field : f ≡ field = cc in
     let inside : List Item = object ++ h.Open second (h.IdentName word) ∷ h.Close ∷ [] in
     let is : h.Open f h.MemberExpr ∷ (object ++ h.Open second (h.IdentName word) ∷ h.Close ∷ h.Close ∷ []) ≡ edits.node field h.MemberExpr inside =
-        ap
-            (λ n.
-            h.Open n h.MemberExpr
-            ∷ (object ++ h.Open second (h.IdentName word) ∷ h.Close ∷ h.Close ∷ []))
-            its_field
-            ∙ ap (λ l. h.Open field h.MemberExpr ∷ l)
-            (sym
-            (append_assoc object (h.Open second (h.IdentName word) ∷ h.Close ∷ []) (h.Close ∷ [])))
-            in
+    ap
+    (λ n.
+    h.Open n h.MemberExpr
+    ∷ (object ++ h.Open second (h.IdentName word) ∷ h.Close ∷ h.Close ∷ []))
+    its_field
+    ∙ ap (λ l. h.Open field h.MemberExpr ∷ l)
+    (sym
+    (append_assoc object (h.Open second (h.IdentName word) ∷ h.Close ∷ []) (h.Close ∷ [])))
+    in
     record
-        { inside = inside; its_head = its_head; is = is; reads = subst (IsReads (suc count) role) is (read second word it) }
+    { inside = inside; its_head = its_head; is = is; reads = subst (IsReads (suc count) role) is (read second word it) }
 
 -- where a read may be static, no node keeps it
 keeps_no_read : (tree : List Item) (place : ℕ) →
@@ -216,21 +220,21 @@ keeps_no_read tree place free around outer path keeps = by around.head refl keep
     by : (k : Head) → around.head ≡ k → keeps_first k around.field ≡ true → ⊥
     by (h.AssignExpr op) is keeps =
         let written : writes around.head around.field ≡ true =
-            ap (λ k. writes k around.field) is ∙ keeps in
+        ap (λ k. writes k around.field) is ∙ keeps in
         true≢false
-            (sym
-            (ap
-            (λ b.
-            (b || (passes_writes around.head around.field && is_written_to outer))
-            || is_optional_base (around ∷ outer))
-            written)
-            ∙ free_here)
+        (sym
+        (ap
+        (λ b.
+        (b || (passes_writes around.head around.field && is_written_to outer))
+        || is_optional_base (around ∷ outer))
+        written)
+        ∙ free_here)
     by (h.OptChainExpr optional) is keeps =
         let base : is_optional_chain around.head ≡ true = ap is_optional_chain is in
         true≢false
-            (sym
-            (or_right (is_written_to (around ∷ outer)) (is_optional_base (around ∷ outer)) base)
-            ∙ free_here)
+        (sym
+        (or_right (is_written_to (around ∷ outer)) (is_optional_base (around ∷ outer)) base)
+        ∙ free_here)
     by _ is keeps = false≢true keeps
 
 -- ---- literal calls
@@ -286,7 +290,7 @@ required_there items text e =
         ends 3 rest ≡ true → string_of (x ∷ rest) ≡ Some text → IsCallThere items
     string x rest is closes text_is =
         let third =
-            after_is is_plain_argument (after is_require_name (after is_call items)) x rest is in
+        after_is is_plain_argument (after is_require_name (after is_call items)) x rest is in
         let second = after_is is_require_name (after is_call items) third.0 (x ∷ rest) third.1 in
         let first = after_is is_call items second.0 (third.0 ∷ x ∷ rest) second.1 in
         let call = is_call_is first.0 first.2 in
@@ -305,20 +309,20 @@ required_there items text e =
               ∙ ap (λ y. y ∷ second.0 ∷ third.0 ∷ x ∷ rest) call.1
               ∙ ap (λ y. h.Open call.0 h.CallExpr ∷ y ∷ third.0 ∷ x ∷ rest) name.4
               ∙ ap
-                  (λ y.
-                  h.Open call.0 h.CallExpr ∷ h.Ident name.0 name.1 name.2 name.3 ∷ y ∷ x ∷ rest)
-                  argument.1
+              (λ y.
+              h.Open call.0 h.CallExpr ∷ h.Ident name.0 name.1 name.2 name.3 ∷ y ∷ x ∷ rest)
+              argument.1
               ∙ ap
-                  (λ y.
-                  h.Open call.0 h.CallExpr ∷ h.Ident name.0 name.1 name.2 name.3
-                  ∷ h.Open argument.0 (h.ExprOrSpread false) ∷ y ∷ rest)
-                  its_string.3
+              (λ y.
+              h.Open call.0 h.CallExpr ∷ h.Ident name.0 name.1 name.2 name.3
+              ∷ h.Open argument.0 (h.ExprOrSpread false) ∷ y ∷ rest)
+              its_string.3
               ∙ ap
-                  (λ l.
-                  h.Open call.0 h.CallExpr ∷ h.Ident name.0 name.1 name.2 name.3
-                  ∷ h.Open argument.0 (h.ExprOrSpread false)
-                  ∷ h.Open its_string.0 (h.Str its_string.1 its_string.2) ∷ l)
-                  its_ends.1;
+              (λ l.
+              h.Open call.0 h.CallExpr ∷ h.Ident name.0 name.1 name.2 name.3
+              ∷ h.Open argument.0 (h.ExprOrSpread false)
+              ∷ h.Open its_string.0 (h.Str its_string.1 its_string.2) ∷ l)
+              its_ends.1;
           role = name.3;
           literal =
               literal_call_of name.0 name.1 name.2 name.3
@@ -352,11 +356,12 @@ call_there free place (x ∷ rest) call c = elim (Contains-append_cases (call_at
         Contains (record { place = place; specifier = text } ∷ []) call →
         (k : ℕ) × (call.place ≡ place + k)
         × (required_at (drop k (x ∷ rest)) ≡ Some call.specifier)
-    found text is (zero, l, e) =
-        (0,
-        (let p : place ≡ call.place = ap (λ (it : RequireCall). it.place) e in omega (arith, p)),
-        is
-        ∙ ap (λ (it : RequireCall). Some it.specifier) e)
+    found text is (zero, l, e) = (
+      0,
+      (let p : place ≡ call.place = ap (λ (it : RequireCall). it.place) e in omega (arith, p)),
+      is
+          ∙ ap (λ (it : RequireCall). Some it.specifier) e,
+    )
     found text is (suc i, l, e) = absurd (omega (arith, l))
 
     first : (o : Option Text) → required_at (x ∷ rest) ≡ o → Contains (call_at free place o) call →

@@ -15,7 +15,8 @@ use Rattle.bundle_rules.specs.Meaning.{Meant, Mark, past_end}
 use Rattle.bundle_tree_places.specs.Edits as edits
 use Rattle.bundle_merge_meaning.specs.noted.Nodes as n
 use Rattle.bundle_merge_meaning.specs.noted.Nodes.{AreNodes}
-use Rattle.bundle_merge_meaning.specs.noted.Marked.{Note, behind_word, behind_reads, is_end, are_reads, is_one_string, is_literal_call, Marked, Nothing, Joined, Hole, Word, Name, Inside, Kept, Shorthand, OfReads, OfCall, OfMeta}
+use Rattle.bundle_merge_meaning.specs.noted.Marked.{Note, Marked, Nothing, Joined, Hole, Word, Name, Inside, Kept, Shorthand, OfReads, OfCall, OfMeta}
+use Rattle.bundle_tree_rebuild.specs.Becomes.{behind_word, behind_reads, is_end, are_reads, is_one_string, is_literal_call}
 
 -- ---- whole nodes
 pub join : {xs ys : List Item} → AreNodes xs → AreNodes ys → AreNodes (xs ++ ys)
@@ -47,14 +48,14 @@ past_nodes (n.hole {rest = rest} x) depth place ys es =
 past_nodes (n.node {field = field} {head = head} {inside = inside} {rest = rest} x more) depth
     place ys es =
     let far : suc (suc place + length inside) + length rest
-        ≡ place + suc (length inside + suc (length rest)) =
-        omega arith in
+    ≡ place + suc (length inside + suc (length rest)) =
+    omega arith in
     let long = length-append inside (h.Close ∷ rest) in
     let there : suc (suc place + length inside) + length rest
-        ≡ place + length (h.Open field head ∷ (inside ++ h.Close ∷ rest)) =
-        omega (arith, far, long) in
+    ≡ place + length (h.Open field head ∷ (inside ++ h.Close ∷ rest)) =
+    omega (arith, far, long) in
     ap (λ l. past_end (suc depth) (taken_from (suc place) l ++ es))
-        (append_assoc inside (h.Close ∷ rest) ys)
+    (append_assoc inside (h.Close ∷ rest) ys)
     ∙ past_nodes x (suc depth) (suc place) (h.Close ∷ (rest ++ ys)) es
     ∙ past_nodes more depth (suc (suc place + length inside)) ys es
     ∙ ap (λ p. past_end depth (taken_from p ys ++ es)) there
@@ -85,9 +86,9 @@ same_nodes (n.node x w) (n.hole y) more other e = cc
 same_nodes (n.node {field = f} {head = hd} {inside = ins} {rest = rest} x w)
     (n.node {field = g} {head = k} {inside = jns} {rest = sest} y z) more other e =
     let apart : ins ++ h.Close ∷ (rest ++ h.Close ∷ more) ≡ jns ++ h.Close ∷ (sest ++ h.Close ∷ other) =
-        sym (append_assoc ins (h.Close ∷ rest) (h.Close ∷ more))
-            ∙ tail_same e
-            ∙ append_assoc jns (h.Close ∷ sest) (h.Close ∷ other) in
+    sym (append_assoc ins (h.Close ∷ rest) (h.Close ∷ more))
+    ∙ tail_same e
+    ∙ append_assoc jns (h.Close ∷ sest) (h.Close ∷ other) in
     let in_it = same_nodes x y (rest ++ h.Close ∷ more) (sest ++ h.Close ∷ other) apart in
     let behind = same_nodes w z more other in_it.1 in
     let first : h.Open f hd ≡ h.Open g k = cc in
@@ -108,9 +109,9 @@ pub reads_nodes : {count : ℕ} {role : Role} {xs : List Item} → IsReads count
 reads_nodes base = n.name n.nothing
 reads_nodes (read {field = field} {object = object} second word it) =
     subst (λ l. AreNodes (h.Open field h.MemberExpr ∷ l))
-        (append_assoc object (h.Open second (h.IdentName word) ∷ h.Close ∷ []) (h.Close ∷ []))
+    (append_assoc object (h.Open second (h.IdentName word) ∷ h.Close ∷ []) (h.Close ∷ []))
     (one_node field h.MemberExpr
-        (join (reads_nodes it) (one_node second (h.IdentName word) n.nothing)))
+    (join (reads_nodes it) (one_node second (h.IdentName word) n.nothing)))
 
 -- a word and two ends
 pub record IsWordBehind (o : Option (List Item)) (rest : List Item) : Type 0 where
@@ -118,7 +119,7 @@ pub record IsWordBehind (o : Option (List Item)) (rest : List Item) : Type 0 whe
   pub word : Text
   pub is : o ≡ Some (h.Open field (h.IdentName word) ∷ h.Close ∷ h.Close ∷ rest)
 
-word_behind : (o : Option (List Item)) (rest : List Item) → behind_word o ≡ Some rest →
+pub word_behind : (o : Option (List Item)) (rest : List Item) → behind_word o ≡ Some rest →
     IsWordBehind o rest
 word_behind (Some (h.Open field (h.IdentName word) ∷ h.Close ∷ h.Close ∷ more)) rest e =
     record
@@ -153,7 +154,7 @@ begins_with_reads (suc count) (h.Open field h.MemberExpr ∷ more) rest e =
     }
 begins_with_reads _ _ rest e = absurd (none-some rest e)
 
-ends_there : (o : Option (List Item)) → is_end o ≡ true → o ≡ Some []
+pub ends_there : (o : Option (List Item)) → is_end o ≡ true → o ≡ Some []
 ends_there (Some []) e = refl
 ends_there _ e = absurd (false≢true e)
 
@@ -168,27 +169,27 @@ in_other_field base old field inside e = cc
 in_other_field {count = suc count} {role = role} (read {object = object} second word it) old field
     inside e =
     subst (λ l. IsReads (suc count) role (h.Open field h.MemberExpr ∷ l)) (tail_same e)
-        (read second word it)
+    (read second word it)
 
 pub nodes_in_reads : {count : ℕ} {role : Role} {xs : List Item} → IsReads count role xs →
     (field : ℕ) (inside : List Item) → xs ≡ edits.node field h.MemberExpr inside → AreNodes inside
 nodes_in_reads base field inside e = cc
 nodes_in_reads (read {object = object} second word it) field inside e =
     let both =
-        append_cancel_right (object ++ h.Open second (h.IdentName word) ∷ h.Close ∷ []) inside
-        (h.Close ∷ [])
-        (append_assoc object (h.Open second (h.IdentName word) ∷ h.Close ∷ []) (h.Close ∷ [])
-        ∙ tail_same e) in
+    append_cancel_right (object ++ h.Open second (h.IdentName word) ∷ h.Close ∷ []) inside
+    (h.Close ∷ [])
+    (append_assoc object (h.Open second (h.IdentName word) ∷ h.Close ∷ []) (h.Close ∷ [])
+    ∙ tail_same e) in
     subst AreNodes both (join (reads_nodes it) (one_node second (h.IdentName word) n.nothing))
 
 pub reads_inside : (field count : ℕ) (inside : List Item) → are_reads count inside ≡ true →
     AreReads field count inside
 reads_inside field count inside e =
     let begins =
-        begins_with_reads count (edits.node 0 h.MemberExpr inside) []
-        (ends_there (behind_reads count (edits.node 0 h.MemberExpr inside)) e) in
+    begins_with_reads count (edits.node 0 h.MemberExpr inside) []
+    (ends_there (behind_reads count (edits.node 0 h.MemberExpr inside)) e) in
     record
-        { reads = in_other_field begins.reads 0 field inside (sym (append-nil begins.xs) ∙ sym begins.is) }
+    { reads = in_other_field begins.reads 0 field inside (sym (append-nil begins.xs) ∙ sym begins.is) }
 
 -- ---- literal calls
 -- what is in a call of an identifier of this role with one string

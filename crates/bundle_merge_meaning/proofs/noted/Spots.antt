@@ -107,10 +107,10 @@ pub at-spot : {tree : List Item} {s : Spot} {rest : List Item} → IsAt tree s r
     spot_before tree s.place ≡ s
 at-spot {tree = tree} {s = s} {rest = rest} at =
     ap (fold past start)
-        (ap (λ n. take n tree) (at-place at)
-        ∙ ap (take (length at.front)) at.tree_is
-        ∙ take-append_seam at.front rest)
-        ∙ sym at.spot_is
+    (ap (λ n. take n tree) (at-place at)
+    ∙ ap (take (length at.front)) at.tree_is
+    ∙ take-append_seam at.front rest)
+    ∙ sym at.spot_is
 
 pub at-path : {tree : List Item} {s : Spot} {rest : List Item} → IsAt tree s rest →
     path_at tree s.place ≡ path_to_option s.path (slice_get rest 0)

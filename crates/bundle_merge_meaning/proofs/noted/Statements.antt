@@ -182,8 +182,8 @@ one_statement one other e = cc
 module _ (sense : Sense) (inner : List Denoted) (meta : Option Meant) (default : Meant)
     (listing : IsListing sense.view.tree) (replaces : ReplacesNotable sense meta) where
   -- the notes that are left behind it agree, and each statement that it states means its marks
-  pub record StatedBridged (s : Spot) (items : List Item) (marks : List Mark) (os : List Occurrence) (rest : List Note) : Type
-      0 where
+  pub record StatedBridged (s : Spot) (items : List Item) (marks : List Mark)
+      (os : List Occurrence) (rest : List Note) : Type 0 where
     pub agrees : AgreeInTurn sense inner os rest
     pub means : (statement : List Element) → stated s.place items ≡ statement ∷ [] →
         Means sense inner statement marks
@@ -209,10 +209,10 @@ module _ (sense : Sense) (inner : List Denoted) (meta : Option Meant) (default :
   constant_means place value marks default_means m =
       means_as sense inner refl
       (ap
-          (λ l.
-          k.Begins 0 (h.VarDecl Const no_notes) ∷ k.Begins 1 h.VarDeclarator
-          ∷ k.Begins 0 h.BindingIdent ∷ k.Name 0 default ∷ k.Ends ∷ l)
-          (sym (append_assoc marks (k.Ends ∷ []) (k.Ends ∷ []))))
+      (λ l.
+      k.Begins 0 (h.VarDecl Const no_notes) ∷ k.Begins 1 h.VarDeclarator
+      ∷ k.Begins 0 h.BindingIdent ∷ k.Name 0 default ∷ k.Ends ∷ l)
+      (sym (append_assoc marks (k.Ends ∷ []) (k.Ends ∷ []))))
       (adds_begin (adds_begin (adds_begin (adds_name default default_means (adds_end m)))))
 
   value_means : (s : Spot) (value tail : List Item) (there marks : List Mark) → AreNodes value →
@@ -258,31 +258,31 @@ module _ (sense : Sense) (inner : List Denoted) (meta : Option Meant) (default :
       let behind = at-behind body (h.Close ∷ tail) (at_in_node its head body tail at) in
       let path = fold-path nodes in_it in
       let far : s.place + 1 + length body ≡ (fold past in_it body).place =
-          sym (fold-place in_it body) in
+      sym (fold-place in_it body) in
       let closes =
-          closes_at sense inner (fold past in_it body) tail head s.place path.0
-          (field_in its s.path) behind far path.1 facts.short in
+      closes_at sense inner (fold past in_it body) tail head s.place path.0
+      (field_in its s.path) behind far path.1 facts.short in
       let body_means =
-          gives.before (taken (s.place + 1 + length body) h.Close ∷ []) (k.Ends ∷ [])
-          (closes.before [] [] finished) in
+      gives.before (taken (s.place + 1 + length body) h.Close ∷ []) (k.Ends ∷ [])
+      (closes.before [] [] finished) in
       let as_items : taken_from (s.place + 1) body ++ (taken (s.place + 1 + length body) h.Close ∷ []) ≡ taken_from (suc s.place) (body ++ h.Close ∷ []) =
-          sym (taken_append (s.place + 1) body (h.Close ∷ []) [])
-              ∙ append-nil (taken_from (s.place + 1) (body ++ h.Close ∷ []))
-              ∙ ap (λ p. taken_from p (body ++ h.Close ∷ [])) place in
+      sym (taken_append (s.place + 1) body (h.Close ∷ []) [])
+      ∙ append-nil (taken_from (s.place + 1) (body ++ h.Close ∷ []))
+      ∙ ap (λ p. taken_from p (body ++ h.Close ∷ [])) place in
       let inside =
-          adds (taken_from (suc s.place) (body ++ h.Close ∷ [])) (marks ++ k.Ends ∷ [])
-          (means_as sense inner as_items refl body_means) in
+      adds (taken_from (suc s.place) (body ++ h.Close ∷ [])) (marks ++ k.Ends ∷ [])
+      (means_as sense inner as_items refl body_means) in
       let none =
-          other_unreplaced sense inner listing meta replaces s its head
-          ((body ++ h.Close ∷ []) ++ tail) at stands.clear facts.notable in
+      other_unreplaced sense inner listing meta replaces s its head
+      ((body ++ h.Close ∷ []) ++ tail) at stands.clear facts.notable in
       let begins : begin_marks {N = Meant} sense.view.tree s.place 0 (path_at sense.view.tree s.place) (declaration_head head) ≡ k.Begins 0 (cleared_head (declaration_head head)) ∷ [] =
-          ap (λ p. begin_marks sense.view.tree s.place 0 p (declaration_head head)) (at-path at)
-          ∙ begin_plain sense.view.tree s.place 0 (field_in its s.path) (declaration_head head)
-              facts.declared_short (unmoved s.path its short) in
+      ap (λ p. begin_marks sense.view.tree s.place 0 p (declaration_head head)) (at-path at)
+      ∙ begin_plain sense.view.tree s.place 0 (field_in its s.path) (declaration_head head)
+      facts.declared_short (unmoved s.path its short) in
       means_as sense inner refl
-          (ap (λ l. l ++ (names ++ (marks ++ k.Ends ∷ []))) begins
-          ∙ ap (λ l. k.Begins 0 (cleared_head (declaration_head head)) ∷ l)
-          (sym (append_assoc names marks (k.Ends ∷ []))))
+      (ap (λ l. l ++ (names ++ (marks ++ k.Ends ∷ []))) begins
+      ∙ ap (λ l. k.Begins 0 (cleared_head (declaration_head head)) ∷ l)
+      (sym (append_assoc names marks (k.Ends ∷ []))))
       (begun {place = s.place} {field = 0} {head = declaration_head head} none inside)
 
   pub stated_bridge : {notes rest : List Note} {items : List Item} {marks : List Mark} →
@@ -300,33 +300,33 @@ module _ (sense : Sense) (inner : List Denoted) (meta : Option Meant) (default :
         agrees = its.agrees;
         means = λ statement e.
             let same =
-                one_statement (taken_from s.place (node field head inside)) statement
-                (sym (itself_stated head is s.place (node field head inside)) ∙ e) in
+            one_statement (taken_from s.place (node field head inside)) statement
+            (sym (itself_stated head is s.place (node field head inside)) ∙ e) in
             means_as sense inner (append-nil (taken_from s.place (node field head inside)) ∙ same)
-                (append-nil marks) (its.gives.before [] [] finished);
+            (append-nil marks) (its.gives.before [] [] finished);
       }
   stated_bridge (Declared {rest = rest} {marks = marks} field inside marked) s tail os at stands
       agree default_means =
       let s1 : Spot = spot-in s field h.ExportDecl in
       let its =
-          bridge sense inner meta listing replaces marked s1 (h.Close ∷ tail) os
-          (at_in_node field h.ExportDecl inside tail at)
-          (stands_inside s field h.ExportDecl ((inside ++ h.Close ∷ []) ++ tail) at stands
-          (λ ins by it. elim it [ ]) refl refl)
-          (agree_in sense inner meta listing replaces s field h.ExportDecl inside os _ agree) in
+      bridge sense inner meta listing replaces marked s1 (h.Close ∷ tail) os
+      (at_in_node field h.ExportDecl inside tail at)
+      (stands_inside s field h.ExportDecl ((inside ++ h.Close ∷ []) ++ tail) at stands
+      (λ ins by it. elim it [ ]) refl refl)
+      (agree_in sense inner meta listing replaces s field h.ExportDecl inside os _ agree) in
       record {
         agrees = its.agrees;
         means = λ statement e.
             let place : s.place + 1 ≡ suc s.place = omega arith in
             let same =
-                one_statement (taken_from (suc s.place) (without_last (inside ++ h.Close ∷ [])))
-                statement e in
+            one_statement (taken_from (suc s.place) (without_last (inside ++ h.Close ∷ [])))
+            statement e in
             means_as sense inner
-                (append-nil (taken_from (s.place + 1) inside)
-                ∙ ap (λ p. taken_from p inside) place
-                ∙ ap (taken_from (suc s.place)) (sym (last_off inside h.Close))
-                ∙ same)
-                (append-nil marks) (its.gives.before [] [] finished);
+            (append-nil (taken_from (s.place + 1) inside)
+            ∙ ap (λ p. taken_from p inside) place
+            ∙ ap (taken_from (suc s.place)) (sym (last_off inside h.Close))
+            ∙ same)
+            (append-nil marks) (its.gives.before [] [] finished);
       }
   stated_bridge (Value {rest = rest} {marks = marks} field value marked) s tail os at stands agree
       default_means =
@@ -335,27 +335,27 @@ module _ (sense : Sense) (inner : List Denoted) (meta : Option Meant) (default :
       let nodes = nodes_from value 1 (marked_nodes marked) in
       let other = from_other_field 1 nodes marked in
       let its =
-          bridge sense inner meta listing replaces other.marked s1 (h.Close ∷ tail) os at1
-          (stands_inside s field h.ExportDefaultExpr ((value ++ h.Close ∷ []) ++ tail) at stands
-          (λ ins by it. elim it [ ]) refl refl)
-          (agree_in sense inner meta listing replaces s field h.ExportDefaultExpr value os _
-          agree) in
+      bridge sense inner meta listing replaces other.marked s1 (h.Close ∷ tail) os at1
+      (stands_inside s field h.ExportDefaultExpr ((value ++ h.Close ∷ []) ++ tail) at stands
+      (λ ins by it. elim it [ ]) refl refl)
+      (agree_in sense inner meta listing replaces s field h.ExportDefaultExpr value os _
+      agree) in
       let m =
-          value_means s1 value (h.Close ∷ tail) other.there marks nodes at1 refl
-          (alike other.marked) other.back its.gives (default_means refl) in
+      value_means s1 value (h.Close ∷ tail) other.there marks nodes at1 refl
+      (alike other.marked) other.back its.gives (default_means refl) in
       record {
         agrees = its.agrees;
         means = λ statement e.
             let place : s.place + 1 ≡ suc s.place = omega arith in
             let same =
-                one_statement
-                (default_constant (suc s.place) (without_last (value ++ h.Close ∷ []))) statement
-                e in
+            one_statement
+            (default_constant (suc s.place) (without_last (value ++ h.Close ∷ []))) statement
+            e in
             means_as sense inner
-                (ap (λ p. default_constant p value) place
-                ∙ ap (default_constant (suc s.place)) (sym (last_off value h.Close))
-                ∙ same)
-                refl m;
+            (ap (λ p. default_constant p value) place
+            ∙ ap (default_constant (suc s.place)) (sym (last_off value h.Close))
+            ∙ same)
+            refl m;
       }
   stated_bridge
       (Named {notes = notes} {rest = rest} {marks = marks} field its head own x ctxt role more is
@@ -366,36 +366,36 @@ module _ (sense : Sense) (inner : List Denoted) (meta : Option Meant) (default :
       let s1 : Spot = spot-in s field h.ExportDefaultDecl in
       let at1 = at_in_node field h.ExportDefaultDecl (node its head body) tail at in
       let stands1 =
-          stands_inside s field h.ExportDefaultDecl ((node its head body ++ h.Close ∷ []) ++ tail)
-          at stands (λ ins by it. elim it [ ]) refl refl in
+      stands_inside s field h.ExportDefaultDecl ((node its head body ++ h.Close ∷ []) ++ tail)
+      at stands (λ ins by it. elim it [ ]) refl refl in
       let agree1 =
-          agree_in sense inner meta listing replaces s field h.ExportDefaultDecl
-          (node its head body) os notes agree in
+      agree_in sense inner meta listing replaces s field h.ExportDefaultDecl
+      (node its head body) os notes agree in
       let stands2 =
-          stands_inside s1 its head ((body ++ h.Close ∷ []) ++ h.Close ∷ tail) at1 stands1
-          facts.notable facts.object facts.short in
+      stands_inside s1 its head ((body ++ h.Close ∷ []) ++ h.Close ∷ tail) at1 stands1
+      facts.notable facts.object facts.short in
       let one =
-          bridge sense inner meta listing replaces marked (spot-in s1 its head)
-          (h.Close ∷ (h.Close ∷ tail)) os (at_in_node its head body (h.Close ∷ tail) at1) stands2
-          (agree_in sense inner meta listing replaces s1 its head body os notes agree1) in
+      bridge sense inner meta listing replaces marked (spot-in s1 its head)
+      (h.Close ∷ (h.Close ∷ tail)) os (at_in_node its head body (h.Close ∷ tail) at1) stands2
+      (agree_in sense inner meta listing replaces s1 its head body os notes agree1) in
       let m =
-          declared_means s1 its head body (h.Close ∷ tail) [] [] marks facts (marked_nodes marked)
-          at1 stands1 refl one.gives (λ es ms m. m) in
+      declared_means s1 its head body (h.Close ∷ tail) [] [] marks facts (marked_nodes marked)
+      at1 stands1 refl one.gives (λ es ms m. m) in
       record {
         agrees = one.agrees;
         means = λ statement e.
             let place : s.place + 1 ≡ suc s.place = omega arith in
             let same =
-                one_statement
-                (default_declaration (suc s.place)
-                (without_last (node its head body ++ h.Close ∷ [])))
-                statement e in
+            one_statement
+            (default_declaration (suc s.place)
+            (without_last (node its head body ++ h.Close ∷ [])))
+            statement e in
             means_as sense inner
-                (ap (λ p. default_declaration p (node its head body)) place
-                ∙ ap (default_declaration (suc s.place))
-                (sym (last_off (node its head body) h.Close))
-                ∙ same)
-                refl m;
+            (ap (λ p. default_declaration p (node its head body)) place
+            ∙ ap (default_declaration (suc s.place))
+            (sym (last_off (node its head body) h.Close))
+            ∙ same)
+            refl m;
       }
   stated_bridge
       (Nameless {notes = notes} {rest = rest} {marks = marks} field its head own first more is
@@ -406,35 +406,35 @@ module _ (sense : Sense) (inner : List Denoted) (meta : Option Meant) (default :
       let s1 : Spot = spot-in s field h.ExportDefaultDecl in
       let at1 = at_in_node field h.ExportDefaultDecl (node its head body) tail at in
       let stands1 =
-          stands_inside s field h.ExportDefaultDecl ((node its head body ++ h.Close ∷ []) ++ tail)
-          at stands (λ ins by it. elim it [ ]) refl refl in
+      stands_inside s field h.ExportDefaultDecl ((node its head body ++ h.Close ∷ []) ++ tail)
+      at stands (λ ins by it. elim it [ ]) refl refl in
       let agree1 =
-          agree_in sense inner meta listing replaces s field h.ExportDefaultDecl
-          (node its head body) os notes agree in
+      agree_in sense inner meta listing replaces s field h.ExportDefaultDecl
+      (node its head body) os notes agree in
       let stands2 =
-          stands_inside s1 its head ((body ++ h.Close ∷ []) ++ h.Close ∷ tail) at1 stands1
-          facts.notable facts.object facts.short in
+      stands_inside s1 its head ((body ++ h.Close ∷ []) ++ h.Close ∷ tail) at1 stands1
+      facts.notable facts.object facts.short in
       let one =
-          bridge sense inner meta listing replaces marked (spot-in s1 its head)
-          (h.Close ∷ (h.Close ∷ tail)) os (at_in_node its head body (h.Close ∷ tail) at1) stands2
-          (agree_in sense inner meta listing replaces s1 its head body os notes agree1) in
+      bridge sense inner meta listing replaces marked (spot-in s1 its head)
+      (h.Close ∷ (h.Close ∷ tail)) os (at_in_node its head body (h.Close ∷ tail) at1) stands2
+      (agree_in sense inner meta listing replaces s1 its head body os notes agree1) in
       let m =
-          declared_means s1 its head body (h.Close ∷ tail) (default_binding ∷ [])
-          (k.Name 0 default ∷ []) marks facts (marked_nodes marked) at1 stands1 refl one.gives
-          (λ es ms m. adds_name default (default_means refl) m) in
+      declared_means s1 its head body (h.Close ∷ tail) (default_binding ∷ [])
+      (k.Name 0 default ∷ []) marks facts (marked_nodes marked) at1 stands1 refl one.gives
+      (λ es ms m. adds_name default (default_means refl) m) in
       record {
         agrees = one.agrees;
         means = λ statement e.
             let place : s.place + 1 ≡ suc s.place = omega arith in
             let same =
-                one_statement
-                (default_declaration (suc s.place)
-                (without_last (node its head body ++ h.Close ∷ [])))
-                statement e in
+            one_statement
+            (default_declaration (suc s.place)
+            (without_last (node its head body ++ h.Close ∷ [])))
+            statement e in
             means_as sense inner
-                (ap (λ p. default_declaration p (node its head body)) place
-                ∙ ap (default_declaration (suc s.place))
-                (sym (last_off (node its head body) h.Close))
-                ∙ same)
-                refl m;
+            (ap (λ p. default_declaration p (node its head body)) place
+            ∙ ap (default_declaration (suc s.place))
+            (sym (last_off (node its head body) h.Close))
+            ∙ same)
+            refl m;
       }

@@ -12,8 +12,8 @@ use Rattle.bundle_rules.specs.Reads.{is_member, head_plain_word, plain_word, pro
 use Rattle.bundle_tree_places.specs.Edits as edits
 use Rattle.bundle_merge_meaning.specs.noted.Nodes as n
 use Rattle.bundle_merge_meaning.specs.noted.Nodes.{AreNodes}
-use Rattle.bundle_merge_meaning.specs.noted.Nested as nested
-use Rattle.bundle_merge_meaning.specs.noted.Nested.{HasParts, AreTwo}
+use Rattle.bundle_link_reached.specs.Nested as nested
+use Rattle.bundle_link_reached.specs.Nested.{HasParts, AreTwo}
 use Rattle.bundle_merge_meaning.proofs.noted.ListFacts.{get-front, get-behind, split}
 use Rattle.bundle_merge_meaning.proofs.noted.Tops.{beside_node}
 
@@ -67,7 +67,7 @@ node_there (nested.node {field = f} {head = hd} {inside = ins} {rest = rest} it 
     let same : h.Open f hd ≡ h.Open field head = same_Some (h.Open f hd) (h.Open field head) e in
     let its_head : hd ≡ head = cc in
     record
-        { inside = ins; behind = rest; there = ap (λ x. x ∷ (ins ++ h.Close ∷ rest)) same; nodes = it; parts = subst (λ k. HasParts k ins) its_head parts }
+    { inside = ins; behind = rest; there = ap (λ x. x ∷ (ins ++ h.Close ∷ rest)) same; nodes = it; parts = subst (λ k. HasParts k ins) its_head parts }
 node_there (nested.node {field = f} {head = hd} {inside = ins} {rest = rest} it parts more)
     (suc place) field head e =
     by (split ins place) (node_there it place field head) (λ j. node_there more j field head)
@@ -83,7 +83,7 @@ node_there (nested.node {field = f} {head = hd} {inside = ins} {rest = rest} it 
     later (suc j) at in_rest =
         let its = in_rest j (sym (get-behind ins (h.Close ∷ rest) place (suc j) at) ∙ e) in
         record
-            { inside = its.inside; behind = its.behind; there = drop-behind ins (h.Close ∷ rest) place (suc j) at ∙ its.there; nodes = its.nodes; parts = its.parts }
+        { inside = its.inside; behind = its.behind; there = drop-behind ins (h.Close ∷ rest) place (suc j) at ∙ its.there; nodes = its.nodes; parts = its.parts }
 
     by : (place < length ins) ⊎ ((j : ℕ) × (place ≡ length ins + j)) →
         (slice_get ins place ≡ Some (h.Open field head) → NodeThere ins place field head) →
@@ -132,9 +132,9 @@ ones_of (nested.hole it) behind end = one a_hole (ones_of it behind end)
 ones_of (nested.node {field = field} {head = head} {inside = inside} {rest = rest} it parts more)
     behind end =
     let ahead : side_by_side zero (h.Open field head ∷ (inside ++ h.Close ∷ rest) ++ behind) ≡ edits.node field head inside ∷ side_by_side zero (rest ++ behind) =
-        ap (λ l. side_by_side zero (h.Open field head ∷ l))
-            (append_assoc inside (h.Close ∷ rest) behind)
-            ∙ beside_node field head (plain_nodes it) (rest ++ behind) in
+    ap (λ l. side_by_side zero (h.Open field head ∷ l))
+    (append_assoc inside (h.Close ∷ rest) behind)
+    ∙ beside_node field head (plain_nodes it) (rest ++ behind) in
     subst (AreOnes (h.Open field head ∷ (inside ++ h.Close ∷ rest))) (sym ahead)
     (subst (λ l. AreOnes l (edits.node field head inside ∷ side_by_side zero (rest ++ behind))) (ap (λ l. h.Open field head ∷ l) (append_assoc inside (h.Close ∷ []) rest))
     (one (a_node it parts) (ones_of more behind end)))
@@ -149,13 +149,13 @@ sides_end (nested.hole {field = field} it) behind =
 sides_end (nested.node {field = field} {head = head} {inside = inside} {rest = rest} it parts more)
     behind =
     ap (λ l. side_by_side zero (h.Open field head ∷ l))
-        (append_assoc inside (h.Close ∷ rest) (h.Close ∷ behind))
+    (append_assoc inside (h.Close ∷ rest) (h.Close ∷ behind))
     ∙ beside_node field head (plain_nodes it) (rest ++ h.Close ∷ behind)
     ∙ ap (λ l. edits.node field head inside ∷ l) (sides_end more behind)
     ∙ sym
-        (ap (λ l. side_by_side zero (h.Open field head ∷ l))
-        (append_assoc inside (h.Close ∷ rest) [])
-        ∙ beside_node field head (plain_nodes it) (rest ++ []))
+    (ap (λ l. side_by_side zero (h.Open field head ∷ l))
+    (append_assoc inside (h.Close ∷ rest) [])
+    ∙ beside_node field head (plain_nodes it) (rest ++ []))
 
 -- ---- a read
 -- what is in a member expression with this word
@@ -185,7 +185,7 @@ word_part x (a_node {field = field} {head = head} {inside = inside} nodes parts)
     let same = word_head x head e in
     let empty : inside ≡ [] = subst (λ k. HasParts k inside) same parts in
     record
-        { field = field; is = ap (λ k. edits.node field k inside) same ∙ ap (edits.node field (h.IdentName x)) empty }
+    { field = field; is = ap (λ k. edits.node field k inside) same ∙ ap (edits.node field (h.IdentName x)) empty }
 
 zero_not_one : (field : ℕ) → (field == 0) ≡ true → (field == 1) ≡ false
 zero_not_one field e = subst (λ f. (f == 1) ≡ false) (sym (eqb-true field 0 e)) refl
@@ -206,20 +206,20 @@ member_inside : (x : Text) (inside : List Item) → nested.AreNodes inside → A
     plain_word (child 1 (edits.node 0 h.MemberExpr inside)) ≡ Some x → IsMemberOf x inside
 member_inside x inside nodes two e =
     let them : side_by_side zero (inside ++ []) ≡ two.first ∷ two.second ∷ [] =
-        ap (side_by_side zero) (append-nil inside) ∙ two.them in
+    ap (side_by_side zero) (append-nil inside) ∙ two.them in
     let ones = two_ones (subst (AreOnes inside) them (ones_of nodes [] refl)) in
     let second : child 1 (edits.node 0 h.MemberExpr inside) ≡ two.second =
-        ap (λ l. first_or_nothing (filter (begins_in 1) l)) (sides_end nodes [] ∙ them)
-        ∙ ap
-            (λ b.
-            first_or_nothing
-            (cond b (two.first ∷ cond (begins_in 1 two.second) (two.second ∷ []) [])
-            (cond (begins_in 1 two.second) (two.second ∷ []) [])))
-            (not_second two.first two.in_first)
-        ∙ ap (λ b. first_or_nothing (cond b (two.second ∷ []) [])) two.in_second in
+    ap (λ l. first_or_nothing (filter (begins_in 1) l)) (sides_end nodes [] ∙ them)
+    ∙ ap
+    (λ b.
+    first_or_nothing
+    (cond b (two.first ∷ cond (begins_in 1 two.second) (two.second ∷ []) [])
+    (cond (begins_in 1 two.second) (two.second ∷ []) [])))
+    (not_second two.first two.in_first)
+    ∙ ap (λ b. first_or_nothing (cond b (two.second ∷ []) [])) two.in_second in
     let word = word_part x ones.1 (ap plain_word (sym second) ∙ e) in
     record
-        { object = two.first; field = word.field; one = ones.0; is = ones.2 ∙ ap (λ l. two.first ++ l) word.is }
+    { object = two.first; field = word.field; one = ones.0; is = ones.2 ∙ ap (λ l. two.first ++ l) word.is }
 
 -- a node that has a word is a member expression
 pub property_there : (x : Text) (field : ℕ) (head : Head) (inside : List Item) →
@@ -268,11 +268,11 @@ read_there {tree = tree} nodes place x e = by (drop place tree) refl e
     by (h.Open field head ∷ rest) at e =
         let its = opens field head rest at in
         let here = property_there x field head its.inside its.nodes its.parts
-            (sym
-                (ap (λ l. property_of (first_or_nothing l))
-                (ap (side_by_side zero) (sym at ∙ its.there)
-                ∙ beside_node field head (plain_nodes its.nodes) its.behind))
-                ∙ e)
-                in
+        (sym
+        (ap (λ l. property_of (first_or_nothing l))
+        (ap (side_by_side zero) (sym at ∙ its.there)
+        ∙ beside_node field head (plain_nodes its.nodes) its.behind))
+        ∙ e)
+        in
         record
-            { field = field; inside = its.inside; behind = its.behind; there = its.there ∙ ap (λ k. h.Open field k ∷ (its.inside ++ h.Close ∷ its.behind)) here.0; member = here.1 }
+        { field = field; inside = its.inside; behind = its.behind; there = its.there ∙ ap (λ k. h.Open field k ∷ (its.inside ++ h.Close ∷ its.behind)) here.0; member = here.1 }

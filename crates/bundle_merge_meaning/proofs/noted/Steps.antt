@@ -51,7 +51,8 @@ default-field : (tree : List Item) (field : ℕ) (path : List Around) → HasDef
 default-field tree field [] has = has
 default-field tree field (node ∷ outer) has = has
 
--- in an object literal or not, in a shorthand property only if it has a default, and in no node that is replaced
+-- in an object literal or not, in a shorthand property only if it has a default, and in no node
+-- that is replaced
 pub record Stands (sense : Sense) (its : edits.Around) (s : Spot) : Type 0 where
   pub object : is_object_around s.path ≡ is_in_object its
   pub default : HasDefault sense.view.tree s.path
@@ -154,8 +155,8 @@ taken_append place [] ys es =
 taken_append place (x ∷ xs) ys es =
     let e : suc place + length xs ≡ place + length (x ∷ xs) = omega arith in
     ap (λ l. taken place x ∷ l)
-        (taken_append (suc place) xs ys es
-        ∙ ap (λ p. taken_from (suc place) xs ++ (taken_from p ys ++ es)) e)
+    (taken_append (suc place) xs ys es
+    ∙ ap (λ p. taken_from (suc place) xs ++ (taken_from p ys ++ es)) e)
 
 -- ---- meanings
 module _ (sense : Sense) (inner : List Denoted) where
@@ -189,34 +190,40 @@ module _ (sense : Sense) (inner : List Denoted) where
   pub gives_joined : {place between : ℕ} {first second : List Item} {marks more : List Mark} →
       Gives place first marks → between ≡ place + length first → Gives between second more →
       Gives place (first ++ second) (marks ++ more)
-  gives_joined {place = place} {between = between} {first = first} {second = second} {marks = marks} {more = more} one e two = record { before = λ es ms m.
-      means_as
-      (ap (λ p. taken_from place first ++ (taken_from p second ++ es)) e
-          ∙ sym (taken_append place first second es))
-      (sym (append_assoc marks more ms))
-      (one.before (taken_from between second ++ es) (more ++ ms) (two.before es ms m)) }
+  gives_joined {place = place} {between = between} {first = first} {second = second} {marks = marks} {more = more} one e two = record {
+    before = λ es ms m.
+        means_as
+        (ap (λ p. taken_from place first ++ (taken_from p second ++ es)) e
+        ∙ sym (taken_append place first second es))
+        (sym (append_assoc marks more ms))
+        (one.before (taken_from between second ++ es) (more ++ ms) (two.before es ms m));
+  }
 
   pub gives_node : {place in_it behind field : ℕ} {head : Head} {inside : List Item}
       {marks : List Mark} → Step place (h.Open field head) (k.Begins field (cleared_head head)) →
       in_it ≡ suc place → Gives in_it inside marks → behind ≡ in_it + length inside →
       Step behind h.Close k.Ends →
       Gives place (edits.node field head inside) (node_marks field head marks)
-  gives_node {place = place} {in_it = in_it} {behind = behind} {field = field} {head = head} {inside = inside} {marks = marks} opens e gives eb closes = record { before = λ es ms m.
-      means_as
-      (ap (λ l. taken place (h.Open field head) ∷ l) (
-      ap (λ p. taken_from in_it inside ++ taken p h.Close ∷ es) eb
-      ∙ sym (taken_append in_it inside (h.Close ∷ []) es)
-      ∙ ap (λ p. taken_from p (inside ++ h.Close ∷ []) ++ es) e))
-      (ap (λ l. k.Begins field (cleared_head head) ∷ l)
-          (sym (append_assoc marks (k.Ends ∷ []) ms)))
-      (opens.before _ _ (gives.before _ _ (closes.before es ms m))) }
+  gives_node {place = place} {in_it = in_it} {behind = behind} {field = field} {head = head} {inside = inside} {marks = marks} opens e gives eb closes = record {
+    before = λ es ms m.
+        means_as
+        (ap (λ l. taken place (h.Open field head) ∷ l) (
+        ap (λ p. taken_from in_it inside ++ taken p h.Close ∷ es) eb
+        ∙ sym (taken_append in_it inside (h.Close ∷ []) es)
+        ∙ ap (λ p. taken_from p (inside ++ h.Close ∷ []) ++ es) e))
+        (ap (λ l. k.Begins field (cleared_head head) ∷ l)
+        (sym (append_assoc marks (k.Ends ∷ []) ms)))
+        (opens.before _ _ (gives.before _ _ (closes.before es ms m)));
+  }
 
   -- a node that is replaced
   pub gives_replaced : (place field : ℕ) (head : Head) (inside : List Item) (by : Replacement) →
       AreNodes inside → sense.replaced place by →
       Gives place (edits.node field head inside) (replacement_marks field by)
-  gives_replaced place field head inside by nodes is = record { before = λ es ms m.
-      replaced by is (means_as (sym (past_nodes nodes zero (suc place) (h.Close ∷ []) es)) refl m) }
+  gives_replaced place field head inside by nodes is = record {
+    before = λ es ms m.
+        replaced by is (means_as (sym (past_nodes nodes zero (suc place) (h.Close ∷ []) es)) refl m);
+  }
 
   pub steps_empty : (place field : ℕ) → Step place (h.Hole field) (k.Empty field)
   steps_empty place field = record { before = λ es ms m. empty m }
@@ -235,33 +242,39 @@ module _ (sense : Sense) (inner : List Denoted) where
       denoted_at sense.view.reading sense.view.kind sense.view.tree s.place ≡ Some d →
       NameMeans sense inner d meant →
       Gives place (h.Ident field x ctxt role ∷ []) (marks_there its field x meant)
-  gives_name its {place = place} s field ctxt x role rest d meant at object e denotes means = record { before = λ es ms m.
-      means_as refl
-      (ap (λ l. l ++ ms) (
-      ap (λ path. name_marks field path x meant) (ap (path_at sense.view.tree) e ∙ at-path at)
-      ∙ name_there its field (in_field field s.path) x meant (object-field field s.path ∙ object)))
-      (named d meant (ap (denoted_at sense.view.reading sense.view.kind sense.view.tree) e ∙ denotes) means m) }
+  gives_name its {place = place} s field ctxt x role rest d meant at object e denotes means = record {
+    before = λ es ms m.
+        means_as refl
+        (ap (λ l. l ++ ms) (
+        ap (λ path. name_marks field path x meant) (ap (path_at sense.view.tree) e ∙ at-path at)
+        ∙ name_there its field (in_field field s.path) x meant (object-field field s.path ∙ object)))
+        (named d meant (ap (denoted_at sense.view.reading sense.view.kind sense.view.tree) e ∙ denotes) means m);
+  }
 
   pub opens_at : {its : edits.Around} {place : ℕ} (s : Spot) (field : ℕ) (head : Head)
       (rest : List Item) → IsAt sense.view.tree s (h.Open field head ∷ rest) → Stands sense its s →
       place ≡ s.place → ((x : Replacement) → sense.replaced s.place x → ⊥) →
       is_shorthand_in_pattern head ≡ false →
       Step place (h.Open field head) (k.Begins field (cleared_head head))
-  opens_at {place = place} s field head rest at stands e none short = record { before = λ es ms m.
-      means_as refl
-      (ap (λ l. l ++ ms) (
-      ap (λ path. begin_marks sense.view.tree place field path head)
-          (ap (path_at sense.view.tree) e ∙ at-path at)
-      ∙ begin_there sense.view.tree place field s.path head short stands.default))
-      (begun (λ by is. none by (subst (λ p. sense.replaced p by) e is)) m) }
+  opens_at {place = place} s field head rest at stands e none short = record {
+    before = λ es ms m.
+        means_as refl
+        (ap (λ l. l ++ ms) (
+        ap (λ path. begin_marks sense.view.tree place field path head)
+        (ap (path_at sense.view.tree) e ∙ at-path at)
+        ∙ begin_there sense.view.tree place field s.path head short stands.default))
+        (begun (λ by is. none by (subst (λ p. sense.replaced p by) e is)) m);
+  }
 
   pub closes_at : {place : ℕ} (s : Spot) (rest : List Item) (head : Head) (begins f : ℕ)
       (outer : List Around) → IsAt sense.view.tree s (h.Close ∷ rest) → place ≡ s.place →
       s.path ≡ around head begins f ∷ outer → is_shorthand_in_pattern head ≡ false →
       Step place h.Close k.Ends
-  closes_at s rest head begins f outer at e path short = record { before = λ es ms m.
-      means_as refl
-      (ap (λ l. l ++ ms) (
-      ap (end_marks sense.view.tree) (ap (path_at sense.view.tree) e ∙ at-path at ∙ path)
-      ∙ end_plain sense.view.tree head begins f outer short))
-      (ended m) }
+  closes_at s rest head begins f outer at e path short = record {
+    before = λ es ms m.
+        means_as refl
+        (ap (λ l. l ++ ms) (
+        ap (end_marks sense.view.tree) (ap (path_at sense.view.tree) e ∙ at-path at ∙ path)
+        ∙ end_plain sense.view.tree head begins f outer short))
+        (ended m);
+  }

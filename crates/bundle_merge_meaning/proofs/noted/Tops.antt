@@ -40,7 +40,7 @@ inner (n.name {field = field} {ctxt = ctxt} {sym = x} {role = role} it) depth re
 inner (n.hole {field = field} it) depth rest = ap (put_first (h.Hole field)) (inner it depth rest)
 inner (n.node {field = field} {head = head} {inside = inside} {rest = behind} it more) depth rest =
     ap (λ list. put_first (h.Open field head) (side_by_side (suc (suc depth)) list))
-        (append_assoc inside (h.Close ∷ behind) rest)
+    (append_assoc inside (h.Close ∷ behind) rest)
     ∙ (ap (put_first (h.Open field head)) (inner it (suc depth) (h.Close ∷ (behind ++ rest)))
     ∙ (ap (λ list. put_first (h.Open field head) (put_all inside (put_first h.Close list))) (inner more depth rest)
     ∙ ap (put_first (h.Open field head)) (sym (put_all-append inside (h.Close ∷ behind) (side_by_side (suc depth) rest)))))
@@ -52,7 +52,7 @@ pub beside_node : (field : ℕ) (head : Head) {inside : List Item} → AreNodes 
 beside_node field head {inside = inside} it rest =
     ap (put_first (h.Open field head)) (inner it zero (h.Close ∷ rest))
     ∙ ap (put_first (h.Open field head))
-        (put_all-cons inside (h.Close ∷ []) (side_by_side zero rest))
+    (put_all-cons inside (h.Close ∷ []) (side_by_side zero rest))
 
 -- ---- the nodes of a list
 pub data AreParts : List Item → List (List Item) → Type 0 where
@@ -67,12 +67,11 @@ parts_of n.nothing behind end = subst (AreParts []) (sym end) none
 parts_of (n.name {field = field} {ctxt = ctxt} {sym = x} {role = role} it) behind end =
     one (n.name n.nothing) (parts_of it behind end)
 parts_of (n.hole it) behind end = one (n.hole n.nothing) (parts_of it behind end)
-parts_of (n.node {field = field} {head = head} {inside = inside} {rest = rest} it more) behind end
-    =
+parts_of (n.node {field = field} {head = head} {inside = inside} {rest = rest} it more) behind end =
     let ahead : side_by_side zero (h.Open field head ∷ (inside ++ h.Close ∷ rest) ++ behind) ≡ edits.node field head inside ∷ side_by_side zero (rest ++ behind) =
-        ap (λ l. side_by_side zero (h.Open field head ∷ l))
-            (append_assoc inside (h.Close ∷ rest) behind)
-            ∙ beside_node field head it (rest ++ behind) in
+    ap (λ l. side_by_side zero (h.Open field head ∷ l))
+    (append_assoc inside (h.Close ∷ rest) behind)
+    ∙ beside_node field head it (rest ++ behind) in
     subst (AreParts (h.Open field head ∷ (inside ++ h.Close ∷ rest))) (sym ahead)
     (subst (λ l. AreParts l (edits.node field head inside ∷ side_by_side zero (rest ++ behind))) (node_ahead field head inside rest)
     (one (one_node field head it) (parts_of more behind end)))
@@ -96,10 +95,10 @@ there {tree = tree} (one {part = part} {rest = rest} {more = more} nodes others)
   | inl e ↦ subst (StandsThere tree s.path) e (record { s = s; tail = rest ++ behind; at = at_part; place = refl; field = same.0; path_is = same.1; nodes = nodes })
   | inr later ↦
       let its =
-          there others (fold past s part) behind (at-behind part (rest ++ behind) at_part) item
-          (subst (λ p. Contains (placed p more) item) (sym (fold-place s part)) later) in
+      there others (fold past s part) behind (at-behind part (rest ++ behind) at_part) item
+      (subst (λ p. Contains (placed p more) item) (sym (fold-place s part)) later) in
       record
-          { s = its.s; tail = its.tail; at = its.at; place = its.place; field = its.field; path_is = its.path_is ∙ ap (in_field its.field) path.1 ∙ field-twice its.field path.0 s.path; nodes = its.nodes }
+      { s = its.s; tail = its.tail; at = its.at; place = its.place; field = its.field; path_is = its.path_is ∙ ap (in_field its.field) path.1 ∙ field-twice its.field path.0 s.path; nodes = its.nodes }
 ]
   where
     at_part : IsAt tree s (part ++ (rest ++ behind))
@@ -118,7 +117,7 @@ pub top_there : (field : ℕ) (head : Head) {xs : List Item} → AreNodes xs →
     StandsThere (h.Open field head ∷ (xs ++ h.Close ∷ behind)) (around head 0 0 ∷ []) item
 top_there field head {xs = xs} nodes behind item c =
     there (parts_of nodes (h.Close ∷ behind) refl) (past start (h.Open field head))
-        (h.Close ∷ behind)
-        (at-past (h.Open field head) (xs ++ h.Close ∷ behind)
-        (at-first (h.Open field head ∷ (xs ++ h.Close ∷ behind))))
-        item c
+    (h.Close ∷ behind)
+    (at-past (h.Open field head) (xs ++ h.Close ∷ behind)
+    (at-first (h.Open field head ∷ (xs ++ h.Close ∷ behind))))
+    item c

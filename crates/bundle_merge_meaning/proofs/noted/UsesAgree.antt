@@ -1,4 +1,5 @@
--- What is found of a use of a name, with the reads around it, is the note that agrees with what is replaced.
+-- What is found of a use of a name, with the reads around it, is the note that agrees with what is
+-- replaced.
 use Rattle.std.proofs.Common.{◌≡◌, ℕ, zero, suc, ◌+◌, ◌<◌, ◌≤◌, ◌==◌, Bool, true, false, List, [], ◌∷◌, ◌++◌, length, drop, Option, Some, None, refl, sym, ap, ◌∙◌, subst, arith}
 use Rattle.std.specs.Prelude.{if◌then◌else◌, Contains, take, slice_get, option_map, option_and_then}
 use Rattle.std.proofs.lemmas.Bool.{eqb-true, eq-eqb}
@@ -17,9 +18,10 @@ use Rattle.bundle_rules.specs.Reads.{read_word}
 use Rattle.bundle_rules.specs.Program.{Program, tree_of}
 use Rattle.bundle_rules.specs.Linking.{Target, Namespace, Linked, StandsFor}
 use Rattle.bundle_rules.specs.Meaning.{Replacement, ByName, ByCall, Of, Load, Meant, Known, NameMeans, plain, ReadsAs, by_name, by_read, Replaced, static_read, own_sense}
-use Rattle.bundle_merge_meaning.specs.noted.Nested as nested
+use Rattle.bundle_link_reached.specs.Nested as nested
 use Rattle.bundle_merge_meaning.specs.noted.Agrees.{IsAt, StandsAlone, StandsForReads}
-use Rattle.bundle_merge_meaning.specs.noted.Uses.{words_around, ReadsOn, done, on, WordsMean}
+use Rattle.bundle_link_tables.specs.Used.{words_around}
+use Rattle.bundle_link_targets.specs.Meant.{ReadsOn, done, on, WordsMean}
 use Rattle.bundle_merge_meaning.proofs.noted.ListFacts.{first-there, later-there}
 use Rattle.bundle_merge_meaning.proofs.noted.Spots.{around, fold-place, at-past, at-path}
 use Rattle.bundle_merge_meaning.proofs.noted.Shapes.{IsReads}
@@ -29,8 +31,8 @@ use Rattle.bundle_merge_meaning.proofs.noted.Replaces.{word_property}
 use Rattle.bundle_merge_meaning.proofs.noted.Agreements.{name_is, member_before, Replaces, by_reads_of, by_call_of, IsThere, agrees_alone, agrees_reads}
 
 -- ---- the words around a place, one by one
-pub record WordsFrom (tree : List Item) (place : ℕ) (path : List Around) (x : Text) (words : List Text) : Type
-    0 where
+pub record WordsFrom (tree : List Item) (place : ℕ) (path : List Around) (x : Text)
+    (words : List Text) : Type 0 where
   pub node : Around
   pub outer : List Around
   pub path_is : path ≡ node ∷ outer
@@ -51,7 +53,7 @@ words_from tree place (node ∷ outer) x words e = by (node.begins + 1 == place)
         let same : y ≡ x = cc in
         let more : words_around tree node.begins outer ≡ words = cc in
         record
-            { node = node; outer = outer; path_is = refl; near = near; word = is ∙ ap Some same; rest = sym more }
+        { node = node; outer = outer; path_is = refl; near = near; word = is ∙ ap Some same; rest = sym more }
 
     by : (b : Bool) → (node.begins + 1 == place)
         ≡ b →
@@ -79,12 +81,14 @@ inner_field node outer (Some h.Close) = (node.field, refl)
 pub path_next : (tree : List Item) (b f : ℕ) (head : Head) →
     slice_get tree b ≡ Some (h.Open f head) →
     (g : ℕ) × (path_at tree (suc b) ≡ around head b g ∷ path_at tree b)
-path_next tree b f head e =
-    (field.0, ap (path_at tree) next
-        ∙ at-path behind
-        ∙ field.1
-        ∙ ap (λ p. around head p field.0 ∷ in_field f spot.path) place
-        ∙ ap (λ o. around head b field.0 ∷ path_to_option spot.path o) (sym e))
+path_next tree b f head e = (
+  field.0,
+  ap (path_at tree) next
+      ∙ at-path behind
+      ∙ field.1
+      ∙ ap (λ p. around head p field.0 ∷ in_field f spot.path) place
+      ∙ ap (λ o. around head b field.0 ∷ path_to_option spot.path o) (sym e),
+)
   where
     spot : Spot
     spot = spot_before tree b
@@ -126,11 +130,11 @@ words_next tree b f head x e word =
     let near : b + 1 ≡ suc b = omega arith in
     ap (words_around tree (suc b)) its.1
     ∙ ap
-        (λ c.
-        if c then
-        (elim (read_word tree b) [ None ↦ [] | Some y ↦ y ∷ words_around tree b (path_at tree b) ])
-        else [])
-        (eq-eqb (b + 1) (suc b) near)
+    (λ c.
+    if c then
+    (elim (read_word tree b) [ None ↦ [] | Some y ↦ y ∷ words_around tree b (path_at tree b) ])
+    else [])
+    (eq-eqb (b + 1) (suc b) near)
     ∙ ap (λ o. elim o [ None ↦ [] | Some y ↦ y ∷ words_around tree b (path_at tree b) ]) word
 
 module _ (pr : Program) (m : ℕ) where
@@ -157,8 +161,8 @@ module _ (pr : Program) (m : ℕ) where
       reads =
       let from = words_from (tree_of pr m) place path x words (sym e) in
       let its_reads =
-          by_read from.word (subst (λ p. ReadsAs pr m p (Namespace d)) (next from.near) reads)
-          linked in
+      by_read from.word (subst (λ p. ReadsAs pr m p (Namespace d)) (next from.near) reads)
+      linked in
       step from its_reads (outward more from.node.begins from.outer from.rest its_reads)
     where
       next : {b : ℕ} → b + 1 ≡ place → place ≡ suc b
@@ -251,7 +255,7 @@ module _ (pr : Program) (m : ℕ) where
       let one : its.d ≡ d = same_module its.d d (only (Namespace its.d) its.reads) in
       let name : its.x ≡ x = same_word its.x x (sym its.word ∙ word) in
       let other : Linked pr d x w =
-          subst (λ y. Linked pr d y w) name (subst (λ k. Linked pr k its.x w) one its.linked) in
+      subst (λ y. Linked pr d y w) name (subst (λ k. Linked pr k its.x w) one its.linked) in
       (linked.only w other.origin other.given).0
 
   -- no more reads are replaced than are found
@@ -267,15 +271,15 @@ module _ (pr : Program) (m : ℕ) where
       let r = read_at before.1 member.0 h.MemberExpr member.1 in
       let next : place ≡ suc (begins + k) = omega (arith, far) in
       let words_are : words ≡ r.x ∷ words_at (tree_of pr m) (begins + k) =
-          e
-          ∙ ap (words_at (tree_of pr m)) next
-          ∙ words_next (tree_of pr m) (begins + k) member.0 h.MemberExpr r.x member.1 r.word in
+      e
+      ∙ ap (words_at (tree_of pr m)) next
+      ∙ words_next (tree_of pr m) (begins + k) member.0 h.MemberExpr r.x member.1 r.word in
       let namespace : s ≡ Namespace r.d =
-          sym
-          (only (Namespace r.d)
-          (subst (λ p. ReadsAs pr m p (Namespace r.d)) (sym next) r.reads)) in
+      sym
+      (only (Namespace r.d)
+      (subst (λ p. ReadsAs pr m p (Namespace r.d)) (sym next) r.reads)) in
       absurd
-          (is r.d r.x (words_at (tree_of pr m) (begins + k)) before.0 namespace words_are r.linked)
+      (is r.d r.x (words_at (tree_of pr m) (begins + k)) before.0 namespace words_are r.linked)
   longest (on {d = d} {n = n} {x = x} {words = words} {t = t} linked more) place e only begins
       (suc k) far members u its =
       let before = unrolled begins (suc k) members u its k (omega arith) in
@@ -283,19 +287,19 @@ module _ (pr : Program) (m : ℕ) where
       let r = read_at before.1 member.0 h.MemberExpr member.1 in
       let next : place ≡ suc (begins + k) = omega (arith, far) in
       let words_are : x ∷ words ≡ r.x ∷ words_at (tree_of pr m) (begins + k) =
-          e
-          ∙ ap (words_at (tree_of pr m)) next
-          ∙ words_next (tree_of pr m) (begins + k) member.0 h.MemberExpr r.x member.1 r.word in
+      e
+      ∙ ap (words_at (tree_of pr m)) next
+      ∙ words_next (tree_of pr m) (begins + k) member.0 h.MemberExpr r.x member.1 r.word in
       let name : x ≡ r.x =
-          cons_head x r.x words (words_at (tree_of pr m) (begins + k)) words_are in
+      cons_head x r.x words (words_at (tree_of pr m) (begins + k)) words_are in
       let only_next : (other : Target) → ReadsAs pr m (suc (begins + k)) other →
-          other ≡ Namespace d =
-          subst (λ p. (other : Target) → ReadsAs pr m p other → other ≡ Namespace d) next only in
+      other ≡ Namespace d =
+      subst (λ p. (other : Target) → ReadsAs pr m p other → other ≡ Namespace d) next only in
       let rest = longest more (begins + k) (cons_tail x r.x words (words_at (tree_of pr m) (begins + k)) words_are)
-          (λ other reads.
-              same_read only_next member.0 h.MemberExpr member.1 (r.word ∙ ap Some (sym name))
-              linked reads)
-          begins k refl (λ j l. members j (omega (arith, l))) u its in
+      (λ other reads.
+      same_read only_next member.0 h.MemberExpr member.1 (r.word ∙ ap Some (sym name))
+      linked reads)
+      begins k refl (λ j l. members j (omega (arith, l))) u its in
       omega (arith, rest)
 
   module _ (nodes : nested.AreNodes (tree_of pr m))
@@ -307,8 +311,8 @@ module _ (pr : Program) (m : ℕ) where
     no_read_here o there x word =
         let its = read_there nodes o.place x (word_property (tree_of pr m) o.place word).1 in
         no_open its.field h.MemberExpr
-            (subst IsName (get-drop (tree_of pr m) o.place ∙ ap (λ l. slice_get l 0) its.there)
-            (name_is there.at))
+        (subst IsName (get-drop (tree_of pr m) o.place ∙ ap (λ l. slice_get l 0) its.there)
+        (name_is there.at))
       where
         no_open : (f : ℕ) (head : Head) → IsName (Some (h.Open f head)) → ⊥
         no_open f head is = let e = is.4 in cc
@@ -323,7 +327,7 @@ module _ (pr : Program) (m : ℕ) where
         ReadsAs pr m place other → other ≡ t
     name_only o there x denotes t stands _ e other (by_name {place = place} {x = y} its also) =
         let name : y ≡ x =
-            same_symbol y x (sym its ∙ ap (denoted_at BySymbol Es (tree_of pr m)) e ∙ denotes) in
+        same_symbol y x (sym its ∙ ap (denoted_at BySymbol Es (tree_of pr m)) e ∙ denotes) in
         one_stands x other t (subst (λ z. StandsFor pr m z other) name also) stands
     name_only o there x denotes t stands _ e other
         (by_read {place = place} {x = y} word reads linked) =
@@ -345,8 +349,8 @@ module _ (pr : Program) (m : ℕ) where
     no_further o there x denotes its begins more u role xs rest chain at far
         (static_read word reads) =
         longest its.reads o.place refl
-            (λ other r. name_only o there x denotes its.named its.stands o.place refl other r)
-            begins more far (members_of begins more role xs rest chain at) u reads
+        (λ other r. name_only o there x denotes its.named its.stands o.place refl other r)
+        begins more far (members_of begins more role xs rest chain at) u reads
 
     -- a use that means what one of its reads gives stands for the whole read
     pub use_agrees : (kind : ModuleKind) (o : Occurrence) → IsThere pr m nodes o → (x : Text) →
@@ -364,7 +368,8 @@ module _ (pr : Program) (m : ℕ) where
             agrees_reads pr m nodes kind o there (suc n) t r.node r.there r.far
             (static_read r.word r.reads) (no_further o there x denotes its)
 
-    -- and one that means what the name itself stands for stands alone, where no call of it is replaced
+    -- and one that means what the name itself stands for stands alone, where no call of it is
+    -- replaced
     pub use_alone : (kind : ModuleKind) (inner : List Denoted) (o : Occurrence) →
         IsThere pr m nodes o → (x : Text) →
         denoted_at BySymbol Es (tree_of pr m) o.place ≡ Some (Bound Top (plain x)) → (t : Target) →

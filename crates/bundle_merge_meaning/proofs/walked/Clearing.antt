@@ -9,7 +9,8 @@ use Rattle.bundle_rules.specs.Marks as m
 use Rattle.bundle_rules.specs.Meaning.{Meant, Mark}
 use Rattle.bundle_rules.specs.Cleared.{cleared_head, cleared_item, cleared}
 use Rattle.bundle_tree_places.specs.Edits.{Around, node, around_in, binding}
-use Rattle.bundle_merge_meaning.specs.noted.Marked.{Note, Marked, keeps_first, stays, marks_there, node_marks, shorthand_marks}
+use Rattle.bundle_merge_meaning.specs.noted.Marked.{Note, Marked, stays, marks_there, node_marks, shorthand_marks}
+use Rattle.bundle_tree_rebuild.specs.Becomes.{keeps_first}
 use Rattle.bundle_merge_meaning.specs.noted.Marked as d
 use Rattle.bundle_merge_meaning.specs.walked.Renaming.{AreAlone, Told, IsMarked, module_of_items}
 use Rattle.bundle_merge_meaning.proofs.walked.Keeping.{alike, alike_inside}
@@ -66,12 +67,12 @@ cleared_node : {around : Around} {notes rest : List Note} (field : ℕ) (head : 
     Marked None around notes (cleared (node field head inside)) (node_marks field head marks) rest
 cleared_node {around = around} {notes = notes} {rest = rest} field head inside marks one =
     subst (λ list. Marked None around notes list (node_marks field head marks) rest)
-        (sym (node-cleared field head inside))
+    (sym (node-cleared field head inside))
     (subst
-        (λ its.
-        Marked None around notes (node field (cleared_head head) (cleared inside))
-        (m.Begins field its ∷ (marks ++ m.Ends ∷ [])) rest)
-        (twice head) one)
+    (λ its.
+    Marked None around notes (node field (cleared_head head) (cleared inside))
+    (m.Begins field its ∷ (marks ++ m.Ends ∷ [])) rest)
+    (twice head) one)
 
 default-cleared : (field : ℕ) (x : Text) (meant : Meant) (default : List Item)
     (marks : List Mark) →
@@ -88,36 +89,36 @@ marked-cleared d.Nothing its = d.Nothing
 marked-cleared {around = around} {notes = notes} {rest = rest}
     (d.Joined {first = first} {second = second} {marks = marks} {more = more} one two) its =
     subst (λ list. Marked None around notes list (marks ++ more) rest)
-        (sym (cleared-append first second))
-        (d.Joined (marked-cleared one its) (marked-cleared two (alone_left one its)))
+    (sym (cleared-append first second))
+    (d.Joined (marked-cleared one its) (marked-cleared two (alone_left one its)))
 marked-cleared (d.Hole field) its = d.Hole field
 marked-cleared (d.Word field x ctxt role plain) its = d.Word field x 0 role plain
 marked-cleared (d.Name around field x ctxt role occurs) its = d.Name around field x 0 role occurs
 marked-cleared {notes = notes} (d.Inside field head {inside = inside} {marks = marks} it_stays one)
     its =
     cleared_node field head inside marks
-        (d.Inside field (cleared_head head) (head_stays notes head inside its ∙ it_stays)
-        (alike (head_alike head inside) (marked-cleared one its)))
+    (d.Inside field (cleared_head head) (head_stays notes head inside its ∙ it_stays)
+    (alike (head_alike head inside) (marked-cleared one its)))
 marked-cleared {around = around} {notes = notes} {rest = rest}
     (d.Kept field head first {inside = inside} {more = more} {marks = marks}
     {more_marks = more_marks} keeps one two)
     its =
     cleared_node field head (node first h.MemberExpr inside ++ more)
-        (node_marks first h.MemberExpr marks ++ more_marks)
+    (node_marks first h.MemberExpr marks ++ more_marks)
     (subst (λ list. Marked None around notes (node field (cleared_head head) list) (node_marks field (cleared_head head) (node_marks first h.MemberExpr marks ++ more_marks)) rest)
     (sym
-        (cleared-append (node first h.MemberExpr inside) more
-        ∙ ap (λ list. list ++ cleared more) (node-cleared first h.MemberExpr inside)))
+    (cleared-append (node first h.MemberExpr inside) more
+    ∙ ap (λ list. list ++ cleared more) (node-cleared first h.MemberExpr inside)))
     (d.Kept field (cleared_head head) first (first_kept head first keeps) (marked-cleared one its) (marked-cleared two (alone_left one its))))
 marked-cleared {around = around}
     (d.Shorthand {note = note} {notes = notes} {rest = rest} field x ctxt role {default = default}
     {marks = marks} occurs one)
     its =
     subst
-        (λ list.
-        Marked None around (note ∷ notes) list (shorthand_marks field x note.meant default marks)
-        rest)
-        (sym (node-cleared field h.AssignPatProp (binding None 0 x ctxt role ++ default)))
+    (λ list.
+    Marked None around (note ∷ notes) list (shorthand_marks field x note.meant default marks)
+    rest)
+    (sym (node-cleared field h.AssignPatProp (binding None 0 x ctxt role ++ default)))
     (subst (λ list. Marked None around (note ∷ notes) (node field h.AssignPatProp (binding None 0 x 0 role ++ cleared default)) list rest) (default-cleared field x note.meant default marks)
     (d.Shorthand field x 0 role occurs (marked-cleared one its.1)))
 marked-cleared (d.OfReads field count inside reads) its = cc

@@ -8,7 +8,8 @@ use Rattle.bundle_tree_piece.specs.Item.{Item}
 use Rattle.bundle_rules.specs.Places.{Spot, Occurrence, past, occurrence_of, occurrence_at, occurrences_from}
 use Rattle.bundle_rules.specs.Denotes.{Denoted}
 use Rattle.bundle_rules.specs.Meaning.{Sense, NameMeans}
-use Rattle.bundle_merge_meaning.specs.noted.Marked.{Note, Alone}
+use Rattle.bundle_merge_meaning.specs.noted.Marked.{Note}
+use Rattle.bundle_tree_rebuild.specs.declared.rewrite.Whole.TheVariants.{Alone}
 use Rattle.bundle_merge_meaning.specs.noted.Agrees.{IsAt, MeansAlone, EachMeans}
 use Rattle.bundle_merge_meaning.proofs.noted.Spots.{at-past}
 pub use Rattle.bundle_merge_meaning.proofs.noted.Inner.{position-outside as outside_position}

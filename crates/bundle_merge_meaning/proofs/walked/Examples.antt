@@ -1,28 +1,32 @@
 -- What the definitions allow that keeps no marks, by the smallest examples; and what always fits.
-use Rattle.std.proofs.Common.{◌≡◌, ◌≢◌, true, false, List, [], ◌∷◌, ◌++◌, Some, None, length, refl, ap, sym, ◌∙◌, arith}
+use Rattle.std.proofs.Common.{◌≡◌, ◌≢◌, true, false, not, List, [], ◌∷◌, ◌++◌, Some, None, length, refl, sym, ◌∙◌, arith}
 use Rattle.std.specs.Prelude.{bytes_eq, codes}
 use Rattle.std.specs.List.{AllZip, All}
 use Rattle.std.proofs.lemmas.List.Elements.{All-head, All-tail}
-use Rattle.std.proofs.lemmas.Bool.{not-false}
+use Rattle.std.proofs.lemmas.Bool.{not-false, true≢false}
 use Rattle.std.proofs.lemmas.Slice.Eq.{bytes_eq-Decides}
 use Rattle.bundle_tree_piece.specs.declared.piece.Role.TheVariants as r
 use Rattle.bundle_tree_piece.specs.Item as h
 use Rattle.bundle_tree_piece.specs.Item.{Item}
+use Rattle.bundle_rules.specs.Nodes.{Text}
 use Rattle.bundle_rules.specs.Idents.{Ident}
 use Rattle.bundle_rules.specs.Marks as m
 use Rattle.bundle_rules.specs.Meaning.{Meant}
 use Rattle.bundle_rules.specs.Rebuilds.{with_idents}
 use Rattle.bundle_tree_places.specs.Edits.{Anywhere, InObject, node, in_its_place}
-use Rattle.bundle_merge_meaning.specs.walked.Work.{Step, Work, BySymbol, is_spelled_out_by}
-use Rattle.bundle_merge_meaning.specs.noted.Marked.{Alone, Reads, Marked, marks_there}
+use Rattle.bundle_tree_rebuild.specs.Work.{Step, Work, is_spelled_out_by, plain_step, rewrite_step}
+use Rattle.bundle_tree_rebuild.specs.declared.rewrite.Rewrite.{Rewrite}
+use Rattle.bundle_tree_rebuild.specs.declared.rewrite.Whole.TheVariants.{Alone, Reads}
+use Rattle.bundle_merge_meaning.specs.noted.Marked.{Marked, marks_there}
 use Rattle.bundle_merge_meaning.specs.noted.Marked as d
-use Rattle.bundle_merge_meaning.specs.walked.Becomes.{Becomes, reference}
-use Rattle.bundle_merge_meaning.specs.walked.Becomes as b
+use Rattle.bundle_tree_rebuild.specs.Becomes.{Becomes, reference}
+use Rattle.bundle_tree_rebuild.specs.Becomes as b
 use Rattle.bundle_merge_meaning.specs.walked.Keeps.{Same}
 use Rattle.bundle_merge_meaning.proofs.walked.Whole.{becomes_same}
 use Rattle.bundle_merge_meaning.specs.walked.Rewrites.{KeepsSymbol}
 
--- Where OfReads stands in an object literal: `ns.a` there becomes the name y, which is then the shorthand `{ y }`.
+-- Where OfReads stands in an object literal: `ns.a` there becomes the name y, which is then the
+-- shorthand `{ y }`.
 
 in_object : List Item
 in_object =
@@ -44,7 +48,8 @@ name_there meant = d.Name InObject 0 (codes "y") 0 r.Reference refl
 marks_differ : (meant : Meant) → m.Name 0 meant ∷ [] ≢ marks_there InObject 0 (codes "y") meant
 marks_differ meant same = cc
 
--- A specifier of one name, as `export { x }`, whose symbol changes: `export { y as x }` has one mark more.
+-- A specifier of one name, as `export { x }`, whose symbol changes: `export { y as x }` has one
+-- mark more.
 
 one_name : List Item
 one_name = h.Open 0 h.ExportNamedSpecifier ∷ h.Ident 0 (codes "x") 0 r.Reference ∷ h.Close ∷ []
@@ -62,25 +67,29 @@ other_key : in_its_place InObject
     ≡ h.Ident 0 (codes "y") 0 r.Reference ∷ []
 other_key = refl
 
--- Steps that spell out by symbol fit any names of their number.
+-- Steps that spell out where the symbol changes, as rewrites do, fit any names of their number.
 
 abbrev pub SpellsBySymbol : Step → Type 0
-SpellsBySymbol step = step.spelling ≡ BySymbol
+SpellsBySymbol step = (x : Text) → is_spelled_out_by step.spelling step.ident.0 x ≡ not (bytes_eq step.ident.0 x)
+
+pub rewrites_spell : (rewrite : Rewrite) → SpellsBySymbol (rewrite_step rewrite)
+rewrites_spell rewrite x = refl
 
 one_by_symbol : (step : Step) (ident : Ident) → SpellsBySymbol step → KeepsSymbol step ident
 one_by_symbol step ident is spelled =
     (bytes_eq-Decides step.ident.0 ident.0).0
-    (not-false (bytes_eq step.ident.0 ident.0)
-    (ap (λ spelling. is_spelled_out_by spelling step.ident.0 ident.0) (sym is) ∙ spelled))
+    (not-false (bytes_eq step.ident.0 ident.0) (sym (is ident.0) ∙ spelled))
 
 pub by_symbol : (steps : List Step) (names : List Ident) → All SpellsBySymbol steps →
     length steps ≡ length names → AllZip KeepsSymbol steps names
 by_symbol [] [] all same = tt
 by_symbol [] (x ∷ names) all same = absurd (omega arith)
 by_symbol (step ∷ steps) [] all same = absurd (omega arith)
-by_symbol (step ∷ steps) (x ∷ names) all same =
-    (one_by_symbol step x (All-head SpellsBySymbol step steps all), by_symbol steps names
-    (All-tail SpellsBySymbol step steps all) (omega arith))
+by_symbol (step ∷ steps) (x ∷ names) all same = (
+  one_by_symbol step x (All-head SpellsBySymbol step steps all),
+  by_symbol steps names
+      (All-tail SpellsBySymbol step steps all) (omega arith),
+)
 
 -- `use(ns.a, { x });` becomes `use(a1, { x: y });`, and all that is asked for is there.
 
@@ -107,13 +116,13 @@ used =
     (node 0 (h.IdentName (codes "x")) [] ++ h.Ident 1 (codes "y") 7 r.Reference ∷ []))))))
 
 abbrev use_step : Step
-use_step = record { ident = (codes "use", 1); spelling = BySymbol; whole = Alone }
+use_step = plain_step (record { ident = (codes "use", 1); is_spelled_out = false })
 
 abbrev read_step : Step
-read_step = record { ident = (codes "a1", 5); spelling = BySymbol; whole = Reads 1 }
+read_step = record (plain_step (record { ident = (codes "a1", 5); is_spelled_out = true })) { whole = Reads 1 }
 
 abbrev name_step : Step
-name_step = record { ident = (codes "y", 7); spelling = BySymbol; whole = Alone }
+name_step = plain_step (record { ident = (codes "y", 7); is_spelled_out = true })
 
 abbrev steps_of_use : List Step
 steps_of_use = use_step ∷ read_step ∷ name_step ∷ []
@@ -137,7 +146,5 @@ same_of_use : (f a x : Meant) →
 unfolding uses used work_of_use
 same_of_use f a x =
     becomes_same walk_of_use refl refl
-    (one_by_symbol use_step (codes "use", 0) refl,
-    (one_by_symbol read_step (codes "ns", 0) refl,
-    (one_by_symbol name_step (codes "x", 0) refl, tt)))
+    (λ kept. refl, (λ kept. absurd (true≢false kept), (λ kept. absurd (true≢false kept), tt)))
     None _ (refl, (refl, (refl, tt))) tt

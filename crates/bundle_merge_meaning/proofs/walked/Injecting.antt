@@ -23,9 +23,10 @@ use Rattle.bundle_rules.specs.Injected.{is_ascii_identifier}
 use Rattle.bundle_tree_places.specs.Edits.{Around, Anywhere, InObject, node, is_occurrence}
 use Rattle.bundle_merge_meaning.specs.noted.Marked.{Note, Marked}
 use Rattle.bundle_merge_meaning.specs.noted.Marked as d
+use Rattle.bundle_tree_rebuild.specs.declared.rewrite.Whole.TheVariants as w
 use Rattle.bundle_merge_meaning.specs.walked.Keeps.{alone}
 use Rattle.bundle_merge_meaning.specs.walked.Renaming.{IsMarked}
-use Rattle.bundle_merge_meaning.specs.walked.Listed as l
+use Rattle.bundle_merge_injected.specs.Listed as l
 use Rattle.bundle_merge_meaning.proofs.walked.Keeping.{binding_marked, alone_stays}
 
 -- Names and keys.
@@ -51,7 +52,7 @@ string_marked field x = d.Inside field (h.Str x None) refl d.Nothing
 -- a specifier: a name, and the name of another module
 export_specified : (meant : Meant) (rest : List Note) (id : Ident) (x : Text) (role : Role)
     (b : Bool) {around : Around} → is_occurrence role ≡ true →
-    Marked None around (record { meant = meant; whole = d.Alone } ∷ rest)
+    Marked None around (record { meant = meant; whole = w.Alone } ∷ rest)
     (node 0 h.ExportNamedSpecifier
     (h.Ident 0 id.0 id.1 role ∷ (if b then h.Ident 1 x 0 r.Word ∷ [] else l.string_in 1 x)))
     (f.marks_node 0 h.ExportNamedSpecifier
@@ -66,7 +67,7 @@ export_specified meant rest id x role false occurs =
 
 import_specified : (meant : Meant) (rest : List Note) (id : Ident) (x : Text) (role : Role)
     (b : Bool) {around : Around} → is_occurrence role ≡ true →
-    Marked None around (record { meant = meant; whole = d.Alone } ∷ rest)
+    Marked None around (record { meant = meant; whole = w.Alone } ∷ rest)
     (node 0 h.ImportNamedSpecifier
     (h.Ident 0 id.0 id.1 role ∷ (if b then h.Ident 1 x 0 r.Word ∷ [] else l.string_in 1 x)))
     (f.marks_node 0 h.ImportNamedSpecifier
@@ -165,17 +166,17 @@ key_marked : {around : Around} {its : List Note} (x : Text) →
 key_marked x = key_by x (bytes_eq x (codes "__proto__")) (is_ascii_identifier x)
 
 property_marked : {around : Around} (row : Row) (rest : List Note) →
-    Marked None around (record { meant = means_of row; whole = d.Alone } ∷ rest)
+    Marked None around (record { meant = means_of row; whole = w.Alone } ∷ rest)
     (returned_property (written_of row)) (f.property (target_of row)) rest
 property_marked {around = around} row rest =
     subst
-        (λ list.
-        Marked None around (record { meant = means_of row; whole = d.Alone } ∷ rest)
-        (h.Open 0 h.KeyValueProp ∷ list) (f.property (target_of row)) rest)
-        (append_assoc (returned_key row.0) (h.Ident 1 (row.1).0 (row.1).1 r.Reference ∷ [])
-        (h.Close ∷ []))
+    (λ list.
+    Marked None around (record { meant = means_of row; whole = w.Alone } ∷ rest)
+    (h.Open 0 h.KeyValueProp ∷ list) (f.property (target_of row)) rest)
+    (append_assoc (returned_key row.0) (h.Ident 1 (row.1).0 (row.1).1 r.Reference ∷ [])
+    (h.Close ∷ []))
     (d.Inside 0 h.KeyValueProp refl
-        (d.Joined (key_marked row.0) (d.Name Anywhere 1 (row.1).0 (row.1).1 r.Reference refl)))
+    (d.Joined (key_marked row.0) (d.Name Anywhere 1 (row.1).0 (row.1).1 r.Reference refl)))
 
 properties_marked : {around : Around} (rows : List Row) (more : List Meant) →
     Marked None around (alone (map means_of rows ++ more))
@@ -193,18 +194,18 @@ pub returned_marked : {around : Around} (rows : List Row) (more : List Meant) �
 returned_marked {around = around} rows more =
     let properties : List Item = flat_map returned_property (map written_of rows) in
     subst
-        (λ list.
-        Marked None around (alone (map means_of rows ++ more))
-        (h.Open 0 h.ReturnStmt ∷ h.Open 0 h.ObjectLit ∷ list)
-        (f.return_object (map target_of rows)) (alone more))
-        (append_assoc properties (h.Close ∷ []) (h.Close ∷ []))
+    (λ list.
+    Marked None around (alone (map means_of rows ++ more))
+    (h.Open 0 h.ReturnStmt ∷ h.Open 0 h.ObjectLit ∷ list)
+    (f.return_object (map target_of rows)) (alone more))
+    (append_assoc properties (h.Close ∷ []) (h.Close ∷ []))
     (d.Inside 0 h.ReturnStmt refl (d.Inside 0 h.ObjectLit refl (properties_marked rows more)))
 
 -- a declaration of one name
 declares_marked : {around : Around} (kind : _) (notes : ExportMetadata) (name : Ident)
     (label : Label) {value : List Item} {marks : List Mark} {its rest : List Note} →
     Marked None Anywhere its value marks rest →
-    Marked None around (record { meant = Known label; whole = d.Alone } ∷ its)
+    Marked None around (record { meant = Known label; whole = w.Alone } ∷ its)
     (node 0 (h.VarDecl kind notes) (l.declarator (l.pattern_of 0 r.Binding name) value))
     (f.declaration kind (f.declarator (f.declares 0 label) marks)) rest
 declares_marked kind notes name label one =
@@ -217,7 +218,7 @@ pub namespace_marked : (notes : ExportMetadata) (object : Ident) (d' : ℕ) (row
     (Known (Of (Namespace d')) ∷ map means_of rows, f.namespace_object d' (map target_of rows))
 namespace_marked notes object d' rows =
     let made : List Item =
-        node 0 h.FnExpr (l.function_in 1 [] (returned_object (map written_of rows))) in
+    node 0 h.FnExpr (l.function_in 1 [] (returned_object (map written_of rows))) in
     declares_marked Const notes object (Of (Namespace d'))
     (subst (λ meants. Marked None Anywhere (alone meants) (l.call_in 1 made []) (f.marks_node 1 h.CallExpr (f.marks_node 0 h.FnExpr (f.marks_node 1 (h.Function false false) (f.marks_node 1 h.BlockStmt (f.return_object (map target_of rows)))))) []) (append-nil (map means_of rows))
     (subst (λ list. Marked None Anywhere (alone (map means_of rows ++ [])) (node 1 h.CallExpr list) (f.marks_node 1 h.CallExpr (f.marks_node 0 h.FnExpr (f.marks_node 1 (h.Function false false) (f.marks_node 1 h.BlockStmt (f.return_object (map target_of rows)))))) []) (sym (append-nil made))
@@ -236,7 +237,7 @@ meta_marked notes name k properties meants marks one =
 
 -- a call of a name without arguments
 call_marked : {around : Around} (field : ℕ) (load : Ident) (c : ℕ) (rest : List Note) →
-    Marked None around (record { meant = Known (Load c); whole = d.Alone } ∷ rest)
+    Marked None around (record { meant = Known (Load c); whole = w.Alone } ∷ rest)
     (l.load_call field load) (f.load_call field c) rest
 call_marked field load c rest =
     d.Inside field h.CallExpr refl (d.Name Anywhere 0 load.0 load.1 r.Reference refl)
@@ -246,7 +247,7 @@ abbrev pub taken_from_c : (taker c : ℕ) → Import → Meant
 taken_from_c taker c it = Known (Of (CommonJs taker c (Named it.0)))
 
 load_property_marked : {around : Around} (taker c : ℕ) (it : Import) (rest : List Note) →
-    Marked None around (record { meant = taken_from_c taker c it; whole = d.Alone } ∷ rest)
+    Marked None around (record { meant = taken_from_c taker c it; whole = w.Alone } ∷ rest)
     (l.load_property it) (f.load_property taker c it.0) rest
 load_property_marked taker c it rest =
     d.Inside 0 h.KeyValuePatProp refl
@@ -282,15 +283,17 @@ is_there (Some whole) = true
 
 -- a load statement
 pub load_marked : (taker c : ℕ) (load : Ident) (whole : Option Ident) (its : List Import) →
-    IsMarked (l.load_statement load whole its)
-    (load_means taker c whole its, f.load_statement taker c (is_there whole)
-    (map (λ it. it.0) its))
+    IsMarked (l.load_statement load whole its) (
+      load_means taker c whole its,
+      f.load_statement taker c (is_there whole)
+          (map (λ it. it.0) its),
+    )
 load_marked taker c load None [] = d.Inside 0 h.ExprStmt refl (call_marked 0 load c [])
 load_marked taker c load None (it ∷ its) =
     d.Inside 0 (h.VarDecl Var no_notes) refl
-        (d.Inside 1 h.VarDeclarator refl
-        (d.Joined (load_pattern_marked taker c (it ∷ its) (Known (Load c) ∷ []))
-        (call_marked 1 load c [])))
+    (d.Inside 1 h.VarDeclarator refl
+    (d.Joined (load_pattern_marked taker c (it ∷ its) (Known (Load c) ∷ []))
+    (call_marked 1 load c [])))
 load_marked taker c load (Some whole) [] =
     declares_marked Var no_notes whole (Of (CommonJs taker c Whole)) (call_marked 1 load c [])
 load_marked taker c load (Some whole) (it ∷ its) =
@@ -302,7 +305,7 @@ load_marked taker c load (Some whole) (it ∷ its) =
 
 member_marked : {around : Around} (field : ℕ) (id : Ident) (x : Text) (meant : Meant)
     (rest : List Note) →
-    Marked None around (record { meant = meant; whole = d.Alone } ∷ rest) (l.member field id x)
+    Marked None around (record { meant = meant; whole = w.Alone } ∷ rest) (l.member field id x)
     (f.marks_node field h.MemberExpr (m.Name 0 meant ∷ f.marks_node 1 (h.IdentName x) [])) rest
 member_marked field id x meant rest =
     d.Inside field h.MemberExpr refl
@@ -319,7 +322,7 @@ exported_marked =
     (d.Inside 1 h.ObjectLit refl d.Nothing))
 
 makes_marked : {around : Around} (id : Ident) (rest : List Note) →
-    Marked None around (record { meant = Inside 1; whole = d.Alone } ∷ rest) (l.makes_module id)
+    Marked None around (record { meant = Inside 1; whole = w.Alone } ∷ rest) (l.makes_module id)
     f.makes_module rest
 makes_marked id rest =
     d.Inside 0 h.ExprStmt refl
@@ -350,9 +353,11 @@ once_marked fn id rest =
 
 -- the helper
 pub helper_marked : (helper fn id : Ident) →
-    IsMarked (l.helper_function helper fn id)
-    (Known Helper ∷ Inside 0 ∷ Inside 1 ∷ Inside 1 ∷ Inside 1 ∷ Inside 0 ∷ Inside 1 ∷ Inside 1
-    ∷ Inside 1 ∷ Inside 1 ∷ [], f.helper_function)
+    IsMarked (l.helper_function helper fn id) (
+      Known Helper ∷ Inside 0 ∷ Inside 1 ∷ Inside 1 ∷ Inside 1 ∷ Inside 0 ∷ Inside 1 ∷ Inside 1
+          ∷ Inside 1 ∷ Inside 1 ∷ [],
+      f.helper_function,
+    )
 helper_marked helper fn id =
     d.Inside 0 h.FnDecl refl (d.Joined (d.Name Anywhere 0 helper.0 helper.1 r.Binding refl)
     (d.Inside 1 (h.Function false false) refl (d.Joined (d.Inside 0 h.Param refl (binding_marked 0 fn r.Binding _ _ refl))

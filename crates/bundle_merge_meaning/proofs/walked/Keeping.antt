@@ -16,10 +16,13 @@ use Rattle.bundle_rules.specs.Marks as m
 use Rattle.bundle_rules.specs.Meaning.{Meant, Mark}
 use Rattle.bundle_rules.specs.Rebuilds.{Change, spells_out, plain_key, key_in_object}
 use Rattle.bundle_tree_places.specs.Edits.{Around, Anywhere, InObject, InSpecifier, node, is_occurrence, around_in, in_its_place, binding, shorthand_in_its_place, pattern_in_its_place}
-use Rattle.bundle_merge_meaning.specs.walked.Work.{Step, Work, upcoming, after, change_at, is_spelled_out_by}
-use Rattle.bundle_merge_meaning.specs.walked.Becomes.{stays, kept_notes, reference, name_for_member, name_for_call, name_for_meta, name_of_reads, name_of_call}
-use Rattle.bundle_merge_meaning.specs.noted.Marked.{Whole, Note, Marked, keeps_first, are_reads, is_literal_call, meant_by_reads, meant_for_member, meant_by_call, meant_for_call, meant_for_meta, marks_there, node_marks, pattern_marks, shorthand_marks, call_marks}
+use Rattle.bundle_tree_rebuild.specs.Work.{Step, Work, upcoming, after, change_at, is_spelled_out_by}
+use Rattle.bundle_tree_rebuild.specs.Becomes.{stays, kept_notes, reference, name_for_member, name_for_call, name_for_meta, name_of_reads, name_of_call}
+use Rattle.bundle_tree_rebuild.specs.declared.rewrite.Whole.{Whole}
+use Rattle.bundle_merge_meaning.specs.noted.Marked.{Note, Marked, meant_by_reads, meant_for_member, meant_by_call, meant_for_call, meant_for_meta, marks_there, node_marks, pattern_marks, shorthand_marks, call_marks}
+use Rattle.bundle_tree_rebuild.specs.Becomes.{keeps_first, are_reads, is_literal_call}
 use Rattle.bundle_merge_meaning.specs.noted.Marked as d
+use Rattle.bundle_tree_rebuild.specs.declared.rewrite.Whole.TheVariants as w
 use Rattle.bundle_merge_meaning.specs.walked.Rewrites.{Rewrites, TakesStep, is_in_no_specifier}
 use Rattle.bundle_merge_meaning.specs.walked.Rewrites as e
 use Rattle.bundle_merge_meaning.specs.walked.Keeps.{SameWhole, AgreeOnMeta, Agree, Entry, ByStep, ByMeta, ident_in, meant_in, steps_in, notes_in, AreOfMeta, alone, Keeps}
@@ -44,7 +47,7 @@ first_of (s ∷ steps) [] step agree is = absurd agree
 first_of (s ∷ steps) (note ∷ notes) step agree is =
     let same : s ≡ step = cc in
     record
-        { note = note; behind = notes; whole = ap (λ it. it.whole) (sym same) ∙ agree.0; steps_are = ap (λ it. it ∷ steps) same; notes_are = refl; rest = agree.1 }
+    { note = note; behind = notes; whole = ap (λ it. it.whole) (sym same) ∙ agree.0; steps_are = ap (λ it. it ∷ steps) same; notes_are = refl; rest = agree.1 }
 
 -- without a next step there is no next note
 data Upcoming : Option Step → Option Note → Type 0 where
@@ -213,21 +216,21 @@ object_made : (b : Bool) (field : ℕ) (x : Text) (ident : Ident) (role : Role) 
 object_made true field x ident role note rest occurs same =
     let made : Marked None InObject (note ∷ rest) (node field h.KeyValueProp (key_in_object x ++ h.Ident 1 ident.0 ident.1 role ∷ [])) (node_marks field h.KeyValueProp (m.object_key x ++ m.Name 1 note.meant ∷ [])) rest =
     d.Inside field h.KeyValueProp refl
-        (d.Joined (key_marked x (bytes_eq x (codes "__proto__")))
-        (d.Name Anywhere 1 ident.0 ident.1 role occurs))
-        in
+    (d.Joined (key_marked x (bytes_eq x (codes "__proto__")))
+    (d.Name Anywhere 1 ident.0 ident.1 role occurs))
+    in
     subst
-        (λ marks.
-        Marked None InObject (note ∷ rest)
-        (node field h.KeyValueProp (key_in_object x ++ h.Ident 1 ident.0 ident.1 role ∷ []))
-        (m.Begins field h.KeyValueProp ∷ marks) rest)
-        (append_assoc (m.object_key x) (m.Name 1 note.meant ∷ []) (m.Ends ∷ [])) made
+    (λ marks.
+    Marked None InObject (note ∷ rest)
+    (node field h.KeyValueProp (key_in_object x ++ h.Ident 1 ident.0 ident.1 role ∷ []))
+    (m.Begins field h.KeyValueProp ∷ marks) rest)
+    (append_assoc (m.object_key x) (m.Name 1 note.meant ∷ []) (m.Ends ∷ [])) made
 object_made false field x ident role note rest occurs same =
     subst
-        (λ y.
-        Marked None InObject (note ∷ rest) (h.Ident field ident.0 ident.1 role ∷ [])
-        (marks_there InObject field y note.meant) rest)
-        (same refl) (d.Name InObject field ident.0 ident.1 role occurs)
+    (λ y.
+    Marked None InObject (note ∷ rest) (h.Ident field ident.0 ident.1 role ∷ [])
+    (marks_there InObject field y note.meant) rest)
+    (same refl) (d.Name InObject field ident.0 ident.1 role occurs)
 
 -- anywhere but in a specifier
 pub name_made : (around : Around) (field : ℕ) (x : Text) (ctxt : ℕ) (role : Role) (change : Change)
@@ -281,8 +284,8 @@ named {around = around} {work = work} {notes = notes} field x ctxt role step occ
     one_step _ _ (marks_there around field x first.note.meant) step first
     (d.Name around field x ctxt role occurs)
     (λ more.
-        name_made around field x ctxt role (change_at x step) _ (alone more) occurs free
-        takes.symbol)
+    name_made around field x ctxt role (change_at x step) _ (alone more) occurs free
+    takes.symbol)
     (name_made_names around field x ctxt role (change_at x step) occurs free)
 
 -- A node that stays.
@@ -340,16 +343,16 @@ same_found false name meant is = refl
 reads_stay : (name : Ident) (meant : Meant) (whole : Whole) (inside : List Item) →
     is_none (name_of_reads name whole inside) ≡ true →
     is_none (meant_by_reads meant whole inside) ≡ true
-reads_stay name meant d.Alone inside is = refl
-reads_stay name meant d.Call inside is = refl
-reads_stay name meant (d.Reads count) inside is = same_found (are_reads count inside) name meant is
+reads_stay name meant w.Alone inside is = refl
+reads_stay name meant w.Call inside is = refl
+reads_stay name meant (w.Reads count) inside is = same_found (are_reads count inside) name meant is
 
 call_stays : (name : Ident) (meant : Meant) (whole : Whole) (inside : List Item) →
     is_none (name_of_call name whole inside) ≡ true →
     is_none (meant_by_call meant whole inside) ≡ true
-call_stays name meant d.Alone inside is = refl
-call_stays name meant d.Call inside is = same_found (is_literal_call inside) name meant is
-call_stays name meant (d.Reads count) inside is = refl
+call_stays name meant w.Alone inside is = refl
+call_stays name meant w.Call inside is = same_found (is_literal_call inside) name meant is
+call_stays name meant (w.Reads count) inside is = refl
 
 member_stays : {step : Option Step} {note : Option Note} (inside : List Item) →
     Upcoming step note → is_none (name_for_member step inside) ≡ true →
@@ -436,8 +439,8 @@ stayed field head {inside = inside} {made = made} before_stays made_stays one =
     in_node field head head head
     (λ marks left it. d.Inside field head before_stays it)
     (λ its left marks it.
-        d.Inside field head (alone_stays its head made ∙ made_stays)
-        (alike (alike_inside head inside made) it))
+    d.Inside field head (alone_stays its head made ∙ made_stays)
+    (alike (alike_inside head inside made) it))
     one
 
 declared : {around : Around} {work rest : Work} {meta : Option Meant} {notes : List Note}
@@ -560,7 +563,7 @@ abbrev pub spelled : Bool → Change → ℕ → Text → ℕ → Role → (made
 spelled b change field x ctxt role made =
     if b
     then node field h.KeyValuePatProp
-        (plain_key x ++ pattern_in_its_place (Some change) x ctxt role made)
+    (plain_key x ++ pattern_in_its_place (Some change) x ctxt role made)
     else node field h.AssignPatProp (binding (Some change) 0 x ctxt role ++ made)
 
 spelled_with : {around : Around} (change : Change) (field : ℕ) (x : Text) (ctxt : ℕ) (role : Role)
@@ -568,19 +571,18 @@ spelled_with : {around : Around} (change : Change) (field : ℕ) (x : Text) (ctx
     is_occurrence role ≡ true → Marked None Anywhere its (first ∷ others) marks rest →
     Marked None around (note ∷ its) (spelled true change field x ctxt role (first ∷ others))
     (shorthand_marks field x note.meant (first ∷ others) marks) rest
-spelled_with {around = around} change field x ctxt role note first others marks its rest occurs one
-    =
+spelled_with {around = around} change field x ctxt role note first others marks its rest occurs one =
     subst
-        (λ ends.
-        Marked None around (note ∷ its) (spelled true change field x ctxt role (first ∷ others))
-        (m.Begins field h.KeyValuePatProp
-        ∷ (m.word_key x ++ (m.Begins 1 h.AssignPat ∷ (pattern_marks 0 note.meant ++ ends))))
-        rest)
-        (append_assoc marks (m.Ends ∷ []) (m.Ends ∷ []))
+    (λ ends.
+    Marked None around (note ∷ its) (spelled true change field x ctxt role (first ∷ others))
+    (m.Begins field h.KeyValuePatProp
+    ∷ (m.word_key x ++ (m.Begins 1 h.AssignPat ∷ (pattern_marks 0 note.meant ++ ends))))
+    rest)
+    (append_assoc marks (m.Ends ∷ []) (m.Ends ∷ []))
     (d.Inside field h.KeyValuePatProp refl
-        (d.Joined (word_marked x)
-        (d.Inside 1 h.AssignPat refl
-        (d.Joined (binding_marked 0 change.ident role note its occurs) one))))
+    (d.Joined (word_marked x)
+    (d.Inside 1 h.AssignPat refl
+    (d.Joined (binding_marked 0 change.ident role note its occurs) one))))
 
 pub short_made : {around : Around} (b : Bool) (change : Change) (field : ℕ) (x : Text) (ctxt : ℕ)
     (role : Role) (note : Note) (made : List Item) (marks : List Mark) (its rest : List Note) →
@@ -591,22 +593,22 @@ pub short_made : {around : Around} (b : Bool) (change : Change) (field : ℕ) (x
 short_made {around = around} true change field x ctxt role note [] marks its rest occurs same
     if_none one =
     subst
-        (λ left.
-        Marked None around (note ∷ its) (spelled true change field x ctxt role [])
-        (shorthand_marks field x note.meant [] marks) left)
-        (if_none refl)
+    (λ left.
+    Marked None around (note ∷ its) (spelled true change field x ctxt role [])
+    (shorthand_marks field x note.meant [] marks) left)
+    (if_none refl)
     (d.Inside field h.KeyValuePatProp refl
-        (d.Joined (word_marked x) (binding_marked 1 change.ident role note its occurs)))
+    (d.Joined (word_marked x) (binding_marked 1 change.ident role note its occurs)))
 short_made true change field x ctxt role note (first ∷ others) marks its rest occurs same if_none
     one =
     spelled_with change field x ctxt role note first others marks its rest occurs one
 short_made {around = around} false change field x ctxt role note made marks its rest occurs same
     if_none one =
     subst
-        (λ y.
-        Marked None around (note ∷ its) (spelled false change field x ctxt role made)
-        (shorthand_marks field y note.meant made marks) rest)
-        (same refl) (d.Shorthand field change.ident.0 change.ident.1 role occurs one)
+    (λ y.
+    Marked None around (note ∷ its) (spelled false change field x ctxt role made)
+    (shorthand_marks field y note.meant made marks) rest)
+    (same refl) (d.Shorthand field change.ident.0 change.ident.1 role occurs one)
 
 -- the identifiers in it
 pattern_names : (change : Change) (field : ℕ) (x : Text) (ctxt : ℕ) (role : Role)
@@ -623,7 +625,7 @@ spelled_names true change field x ctxt role [] occurs =
     pattern_names change 1 x ctxt role (h.Close ∷ []) occurs
 spelled_names true change field x ctxt role (first ∷ others) occurs =
     node_names field h.KeyValuePatProp
-        (plain_key x ++ node 1 h.AssignPat (binding (Some change) 0 x ctxt role ++ first ∷ others))
+    (plain_key x ++ node 1 h.AssignPat (binding (Some change) 0 x ctxt role ++ first ∷ others))
     ∙ (node_names 1 h.AssignPat (binding (Some change) 0 x ctxt role ++ first ∷ others)
     ∙ pattern_names change 0 x ctxt role (first ∷ others) occurs)
 spelled_names false change field x ctxt role made occurs =
@@ -649,16 +651,16 @@ short {around = around} {work = work} {rest = rest} {meta = meta} {notes = notes
       (sym first.notes_are) (d.Shorthand field x ctxt role occurs one.source);
   result = λ more.
       subst
-          (λ marks.
-          Marked None around (alone (first.note.meant ∷ (map meant_in one.entries ++ more)))
-          (shorthand_in_its_place (Some (change_at x step)) field x ctxt role made) marks
-          (alone more))
-          (same_default field x first.note.meant one.marks both)
+      (λ marks.
+      Marked None around (alone (first.note.meant ∷ (map meant_in one.entries ++ more)))
+      (shorthand_in_its_place (Some (change_at x step)) field x ctxt role made) marks
+      (alone more))
+      (same_default field x first.note.meant one.marks both)
       (short_made (is_spelled_out_by step.spelling step.ident.0 x) (change_at x step) field x ctxt
-          role _ made one.marks (alone (map meant_in one.entries ++ more)) (alone more) occurs
-          takes.symbol
-          (λ is. ap alone (no_entries one.entries more (ap names_of (sym is) ∙ one.names)))
-          (one.result more));
+      role _ made one.marks (alone (map meant_in one.entries ++ more)) (alone more) occurs
+      takes.symbol
+      (λ is. ap alone (no_entries one.entries more (ap names_of (sym is) ∙ one.names)))
+      (one.result more));
   names =
       spelled_names (is_spelled_out_by step.spelling step.ident.0 x) (change_at x step) field x
       ctxt role made occurs
@@ -678,7 +680,7 @@ pub record ReadsFound (next : Option Step) (inside : List Item) (name : Ident) :
   pub is : next ≡ Some step
   pub named : step.ident ≡ name
   pub count : ℕ
-  pub whole : step.whole ≡ d.Reads count
+  pub whole : step.whole ≡ w.Reads count
   pub reads : are_reads count inside ≡ true
 
 some_name : (b : Bool) (ident name : Ident) → (if b then Some ident else None) ≡ Some name →
@@ -693,19 +695,19 @@ reads_found (Some step) inside name is = by_whole step.whole refl is
   where
     by_whole : (whole : Whole) → step.whole ≡ whole →
         name_of_reads step.ident whole inside ≡ Some name → ReadsFound (Some step) inside name
-    by_whole d.Alone whole_is found = cc
-    by_whole d.Call whole_is found = cc
-    by_whole (d.Reads count) whole_is found =
+    by_whole w.Alone whole_is found = cc
+    by_whole w.Call whole_is found = cc
+    by_whole (w.Reads count) whole_is found =
         let both = some_name (are_reads count inside) step.ident name found in
         record
-            { step = step; is = refl; named = both.1; count = count; whole = whole_is; reads = both.0 }
+        { step = step; is = refl; named = both.1; count = count; whole = whole_is; reads = both.0 }
 
 -- a step that stands for a call
 pub record CallFound (next : Option Step) (inside : List Item) (name : Ident) : Type 0 where
   pub step : Step
   pub is : next ≡ Some step
   pub named : step.ident ≡ name
-  pub whole : step.whole ≡ d.Call
+  pub whole : step.whole ≡ w.Call
   pub calls : is_literal_call inside ≡ true
 
 pub call_found : (next : Option Step) (inside : List Item) (name : Ident) →
@@ -715,9 +717,9 @@ call_found (Some step) inside name is = by_whole step.whole refl is
   where
     by_whole : (whole : Whole) → step.whole ≡ whole →
         name_of_call step.ident whole inside ≡ Some name → CallFound (Some step) inside name
-    by_whole d.Alone whole_is found = cc
-    by_whole (d.Reads count) whole_is found = cc
-    by_whole d.Call whole_is found =
+    by_whole w.Alone whole_is found = cc
+    by_whole (w.Reads count) whole_is found = cc
+    by_whole w.Call whole_is found =
         let both = some_name (is_literal_call inside) step.ident name found in
         record { step = step; is = refl; named = both.1; whole = whole_is; calls = both.0 }
 
@@ -729,10 +731,10 @@ reads_kept : {work : Work} {meta : Option Meant} {notes : List Note} (field : �
 reads_kept {work = work} {meta = meta} field name inside found first =
     one_step _ _ (m.Name field first.note.meant ∷ []) found.step first
     (subst
-        (λ whole.
-        Marked meta Anywhere (record { meant = first.note.meant; whole = whole } ∷ first.behind)
-        (node field h.MemberExpr inside) (m.Name field first.note.meant ∷ []) first.behind)
-        (sym found.whole ∙ first.whole) (d.OfReads field found.count inside found.reads))
+    (λ whole.
+    Marked meta Anywhere (record { meant = first.note.meant; whole = whole } ∷ first.behind)
+    (node field h.MemberExpr inside) (m.Name field first.note.meant ∷ []) first.behind)
+    (sym found.whole ∙ first.whole) (d.OfReads field found.count inside found.reads))
     (λ more. d.Name Anywhere field name.0 name.1 r.Reference refl)
     (ap (λ ident. ident ∷ []) (sym found.named))
 
@@ -744,10 +746,10 @@ call_kept : {around : Around} {work : Work} {meta : Option Meant} {notes : List 
 call_kept {around = around} {work = work} {meta = meta} field name inside found first =
     one_step _ _ (call_marks field first.note.meant) found.step first
     (subst
-        (λ whole.
-        Marked meta around (record { meant = first.note.meant; whole = whole } ∷ first.behind)
-        (node field h.CallExpr inside) (call_marks field first.note.meant) first.behind)
-        (sym found.whole ∙ first.whole) (d.OfCall field inside found.calls))
+    (λ whole.
+    Marked meta around (record { meant = first.note.meant; whole = whole } ∷ first.behind)
+    (node field h.CallExpr inside) (call_marks field first.note.meant) first.behind)
+    (sym found.whole ∙ first.whole) (d.OfCall field inside found.calls))
     (λ more. d.Inside field h.CallExpr refl (d.Name Anywhere 0 name.0 name.1 r.Reference refl))
     (ap (λ ident. ident ∷ []) (sym found.named))
 
@@ -790,8 +792,8 @@ keeps e.Nothing meta notes agree on_meta =
 keeps (e.Joined one two) meta notes agree on_meta =
     let front = keeps one meta notes agree on_meta in
     joined front
-        (keeps two meta front.left front.agree
-        (subst (λ it. AgreeOnMeta it meta) (sym front.same_meta) on_meta))
+    (keeps two meta front.left front.agree
+    (subst (λ it. AgreeOnMeta it meta) (sym front.same_meta) on_meta))
 keeps (e.Hole field) meta notes agree on_meta =
     unchanged _ _ (m.Empty field ∷ []) agree (λ means its. d.Hole field)
     (λ means its. d.Hole field) refl
@@ -809,13 +811,12 @@ keeps (e.Declaration {work = work} field kind its one) meta notes agree on_meta 
 keeps (e.Kept field head first keeps_it one two) meta notes agree on_meta =
     let front = keeps one meta notes agree on_meta in
     kept field head first keeps_it front
-        (keeps two meta front.left front.agree
-        (subst (λ it. AgreeOnMeta it meta) (sym front.same_meta) on_meta))
-keeps (e.Shorthand {work = work} field x ctxt role step occurs takes one) meta notes agree on_meta
-    =
+    (keeps two meta front.left front.agree
+    (subst (λ it. AgreeOnMeta it meta) (sym front.same_meta) on_meta))
+keeps (e.Shorthand {work = work} field x ctxt role step occurs takes one) meta notes agree on_meta =
     let first = first_of work.steps notes step agree takes.is in
     short field x ctxt role step occurs takes first (both_filled one)
-        (keeps one meta first.behind first.rest on_meta)
+    (keeps one meta first.behind first.rest on_meta)
 keeps (e.OfReads {work = work} field name inside found) meta notes agree on_meta =
     let reads = reads_found (upcoming work) inside name found in
     reads_kept field name inside reads (first_of work.steps notes reads.step agree reads.is)

@@ -32,7 +32,7 @@ use Rattle.bundle_merge_meaning.proofs.noted.Items.{stands_there, all_clear, all
 use Rattle.bundle_merge_meaning.proofs.noted.Tops.{StandsThere, beside_node}
 use Rattle.bundle_merge_meaning.specs.walked.Keeps.{alone}
 use Rattle.bundle_merge_meaning.specs.walked.Loaded.{MarkedFront, Done, Opens, Nodes, closes, ends, Closable, load_front_items}
-use Rattle.bundle_merge_meaning.specs.walked.Listed as l
+use Rattle.bundle_merge_injected.specs.Listed as l
 use Rattle.bundle_merge_meaning.proofs.walked.Keeping.{binding_marked}
 
 -- whole nodes stand whole
@@ -43,11 +43,11 @@ nodes_whole (whole.name {field = field} {ctxt = ctxt} {sym = x} {role = role} re
 nodes_whole (whole.hole {field = field} rest) = ap (λ list. h.Hole field ∷ list) (nodes_whole rest)
 nodes_whole (whole.node {field = field} {head = head} {inside = inside} {rest = rest} it more) =
     ap (λ list. flat (side_by_side zero (h.Open field head ∷ list)))
-        (append_assoc inside (h.Close ∷ rest) (h.Close ∷ []))
+    (append_assoc inside (h.Close ∷ rest) (h.Close ∷ []))
     ∙
-        (ap flat (beside_node field head it (rest ++ h.Close ∷ []))
-        ∙ (ap (λ list. h.Open field head ∷ ((inside ++ h.Close ∷ []) ++ list)) (nodes_whole more)
-        ∙ ap (λ list. h.Open field head ∷ list) (append_assoc inside (h.Close ∷ []) rest)))
+    (ap flat (beside_node field head it (rest ++ h.Close ∷ []))
+    ∙ (ap (λ list. h.Open field head ∷ ((inside ++ h.Close ∷ []) ++ list)) (nodes_whole more)
+    ∙ ap (λ list. h.Open field head ∷ list) (append_assoc inside (h.Close ∷ []) rest)))
 
 -- and so does a module of them
 pub module_whole : {xs : List Item} → AreNodes xs →
@@ -83,7 +83,7 @@ module _ (sense : Sense) (inner : List Denoted)
   front_means (Opens {items = items} {marks = marks} field head object short more) s tail at stands
       agree =
       (opens_at sense inner s field head (items ++ tail) at stands refl (nothing s.place) short).before
-          _ _
+      _ _
       (subst (λ place. Means sense inner (taken_from place items) marks) (add-one s.place)
       (front_means more (past s (h.Open field head)) tail (at-past (h.Open field head) (items ++ tail) at) (stands_in s Anywhere field head stands (nothing s.place) object short) agree))
   front_means
@@ -92,10 +92,10 @@ module _ (sense : Sense) (inner : List Denoted)
       s tail at stands agree =
       let there = at-as refl (append_assoc first items tail) at in
       let its =
-          bridge sense inner None listing (none_notable sense inner nothing None refl) one s
-          (items ++ tail) (occurrences_from (fold past s first) items) there stands
-          (subst (λ os. AgreeInTurn sense inner os notes) (occurrences_append s first items)
-          agree) in
+      bridge sense inner None listing (none_notable sense inner nothing None refl) one s
+      (items ++ tail) (occurrences_from (fold past s first) items) there stands
+      (subst (λ os. AgreeInTurn sense inner os notes) (occurrences_append s first items)
+      agree) in
       subst (λ es. Means sense inner es (marks ++ more)) (sym (taken_joined s.place first items))
       (its.gives.before (taken_from (s.place + length first) items) more
       (subst (λ place. Means sense inner (taken_from place items) more) (fold-place s first)
@@ -109,7 +109,7 @@ module _ (sense : Sense) (inner : List Denoted)
   back_means (suc n) s [] tail is at closable = absurd closable
   back_means (suc n) s (node ∷ outer) tail is at closable =
       (closes_at sense inner s (closes n ++ tail) node.head node.begins node.field outer at refl is closable.0).before
-          _ _
+      _ _
       (subst (λ place. Means sense inner (taken_from place (closes n)) (ends n)) (add-one s.place)
       (back_means n (past s h.Close) outer tail (ap outer_path is) (at-past h.Close (closes n ++ tail) at) closable.1))
 
@@ -151,7 +151,8 @@ front_closable : (s : Spot) (load helper m e : Ident) →
     Closable 7 (fold past s (load_front_items load helper m e)).path
 front_closable s load helper m e = (refl, (refl, (refl, (refl, (refl, (refl, (refl, tt)))))))
 
--- a load function with right names in its front, whose statements mean the own statements of a module, stands for that
+-- a load function with right names in its front, whose statements mean the own statements of a
+-- module, stands for that
 pub load_function_stands : (p : Program) (b : Labelled) (c : ℕ) (item : TopItem)
     (load helper m e : Ident) (stmts : List Item) →
     item.items ≡ l.load_function load helper m e stmts → AreNodes stmts → IsListing b.tree →
@@ -170,22 +171,22 @@ load_function_stands p b c item load helper m e stmts is nodes listing path its 
     let sense : Sense = sense_of b in
     let front : List Item = load_front_items load helper m e in
     let nothing : (place : ℕ) (by : Replacement) → sense.replaced place by → ⊥ =
-        λ place by none. none in
+    λ place by none. none in
     let there : IsAt b.tree its.s (front ++ (stmts ++ (closes 7 ++ its.tail))) =
-        at-as refl
-        (ap (λ list. list ++ its.tail) (is ∙ load_parts load helper m e stmts)
-        ∙ (append_assoc front (stmts ++ closes 7) its.tail
-        ∙ ap (λ list. front ++ list) (append_assoc stmts (closes 7) its.tail)))
-        its.at in
+    at-as refl
+    (ap (λ list. list ++ its.tail) (is ∙ load_parts load helper m e stmts)
+    ∙ (append_assoc front (stmts ++ closes 7) its.tail
+    ∙ ap (λ list. front ++ list) (append_assoc stmts (closes 7) its.tail)))
+    its.at in
     let in_it : IsAt b.tree (fold past its.s front) (stmts ++ (closes 7 ++ its.tail)) =
-        at-behind front (stmts ++ (closes 7 ++ its.tail)) there in
+    at-behind front (stmts ++ (closes 7 ++ its.tail)) there in
     let behind : IsAt b.tree (fold past (fold past its.s front) stmts) (closes 7 ++ its.tail) =
-        at-behind stmts (closes 7 ++ its.tail) in_it in
+    at-behind stmts (closes 7 ++ its.tail) in_it in
     let open_there = fold-path nodes (fold past its.s front) in
     let closable : Closable 7 (fold past (fold past its.s front) stmts).path =
-        subst (Closable 7) (sym open_there.1)
-        (closable-field 7 open_there.0 (fold past its.s front).path
-        (front_closable its.s load helper m e)) in
+    subst (Closable 7) (sym open_there.1)
+    (closable-field 7 open_there.0 (fold past its.s front).path
+    (front_closable its.s load helper m e)) in
     record {
       front = taken_from item.start front;
       inside = stmts;
@@ -198,19 +199,19 @@ load_function_stands p b c item load helper m e stmts is nodes listing path its 
       front_means =
           subst (λ place. Means sense [] (taken_from place front) (load_front c)) its.place
           (front_means sense [] nothing listing (front_marked load helper m e c) its.s
-              (stmts ++ (closes 7 ++ its.tail)) there (stands_here sense nothing its object short)
-              (all_agree sense [] nothing (occurrences_from its.s front)
-              (alone
-              (Known (Load c) ∷ Known Helper ∷ Known (Parameter c (codes "module"))
-              ∷ Known (Parameter c (codes "exports")) ∷ []))
-              names));
+          (stmts ++ (closes 7 ++ its.tail)) there (stands_here sense nothing its object short)
+          (all_agree sense [] nothing (occurrences_from its.s front)
+          (alone
+          (Known (Load c) ∷ Known Helper ∷ Known (Parameter c (codes "module"))
+          ∷ Known (Parameter c (codes "exports")) ∷ []))
+          names));
       back_means =
           subst (λ place. Means sense [] (taken_from place (closes 7)) load_back)
           (fold-place (fold past its.s front) stmts
           ∙ ap (λ place. place + length stmts)
           (fold-place its.s front ∙ ap (λ place. place + length front) its.place))
           (back_means sense [] nothing listing 7 (fold past (fold past its.s front) stmts)
-              (fold past (fold past its.s front) stmts).path its.tail refl behind closable);
+          (fold past (fold past its.s front) stmts).path its.tail refl behind closable);
       front_length = refl;
       back_length = refl;
       whole = nodes_whole nodes;

@@ -13,7 +13,7 @@ use Rattle.bundle_rules.specs.Statements.{no_notes}
 use Rattle.bundle_rules.specs.Forms.{returned_key, returned_property, returned_object}
 use Rattle.bundle_rules.specs.Injected.{is_ascii_identifier}
 use Rattle.bundle_tree_places.specs.Edits.{node}
-use Rattle.bundle_merge_meaning.specs.walked.Listed as l
+use Rattle.bundle_merge_injected.specs.Listed as l
 use Rattle.bundle_merge_meaning.specs.walked.Rewrites.{AreOwn}
 use Rattle.bundle_merge_meaning.specs.walked.Renaming.{ends_no_specifier, HasNoLoneName}
 use Rattle.bundle_merge_meaning.proofs.walked.Owning.{own_joined, own_node, own_lone}
@@ -38,7 +38,7 @@ exports_passed : (open_nodes : List Bool) (pairs : List Pair) (rest : List Item)
 exports_passed open_nodes [] rest = refl
 exports_passed open_nodes (pair ∷ pairs) rest =
     ap (ends_no_specifier open_nodes false)
-        (append_assoc (l.export_specifier pair) (flat_map l.export_specifier pairs) rest)
+    (append_assoc (l.export_specifier pair) (flat_map l.export_specifier pairs) rest)
     ∙ (export_passed open_nodes false pair.1 pair.0 (is_ascii_identifier pair.0) (flat_map l.export_specifier pairs ++ rest)
     ∙ exports_passed open_nodes pairs rest)
 
@@ -60,14 +60,14 @@ imports_passed : (open_nodes : List Bool) (pairs : List Pair) (rest : List Item)
 imports_passed open_nodes [] rest = refl
 imports_passed open_nodes (pair ∷ pairs) rest =
     ap (ends_no_specifier open_nodes false)
-        (append_assoc (l.import_specifier pair) (flat_map l.import_specifier pairs) rest)
+    (append_assoc (l.import_specifier pair) (flat_map l.import_specifier pairs) rest)
     ∙ (import_passed open_nodes false pair.1 pair.0 (is_ascii_identifier pair.0) (flat_map l.import_specifier pairs ++ rest)
     ∙ imports_passed open_nodes pairs rest)
 
 pub import_names_lone : (s : Text) (pairs : List Pair) → HasNoLoneName (l.import_names s pairs)
 import_names_lone s pairs =
     ap (ends_no_specifier (false ∷ []) false)
-        (append_assoc (flat_map l.import_specifier pairs) (l.string_in 1 s) (h.Close ∷ []))
+    (append_assoc (flat_map l.import_specifier pairs) (l.string_in 1 s) (h.Close ∷ []))
     ∙ imports_passed (false ∷ []) pairs (l.string_in 1 s ++ h.Close ∷ [])
 
 -- The others have none.
@@ -164,12 +164,12 @@ own_load load None (pair ∷ pairs) =
 own_load load (Some whole) [] = refl
 own_load load (Some whole) (pair ∷ pairs) =
     own_node 0 (h.VarDecl Var no_notes)
-        (l.declarator (l.pattern_of 0 r.Binding whole) (l.load_call 1 load)
-        ++ l.declarator (l.load_pattern (pair ∷ pairs)) (l.named 1 r.Reference whole))
-        refl
+    (l.declarator (l.pattern_of 0 r.Binding whole) (l.load_call 1 load)
+    ++ l.declarator (l.load_pattern (pair ∷ pairs)) (l.named 1 r.Reference whole))
+    refl
     (own_joined (l.declarator (l.pattern_of 0 r.Binding whole) (l.load_call 1 load))
-        (l.declarator (l.load_pattern (pair ∷ pairs)) (l.named 1 r.Reference whole)) refl
-        (own_load_declarator (pair ∷ pairs) (l.named 1 r.Reference whole) refl))
+    (l.declarator (l.load_pattern (pair ∷ pairs)) (l.named 1 r.Reference whole)) refl
+    (own_load_declarator (pair ∷ pairs) (l.named 1 r.Reference whole) refl))
 
 pub load_lone : (load : Ident) (whole : Option Ident) (pairs : List Pair) →
     HasNoLoneName (l.load_statement load whole pairs)

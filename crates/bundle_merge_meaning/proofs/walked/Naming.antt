@@ -1,8 +1,9 @@
--- A module whose names change has the same marks, item by item: with other identifiers, and cleared.
+-- A module whose names change has the same marks, item by item: with other identifiers, and
+-- cleared.
 use Rattle.std.proofs.Common.{◌≡◌, List, [], ◌∷◌, map, length, refl, ap, sym, ◌∙◌, subst, arith}
 use Rattle.std.specs.Prelude.{bytes_eq}
 use Rattle.std.specs.List.{AllZip, All}
-use Rattle.std.proofs.lemmas.Bool.{not-false}
+pub use Rattle.std.proofs.lemmas.Bool.{not-false as not_false}
 use Rattle.std.proofs.lemmas.Slice.Eq.{bytes_eq-Decides}
 use Rattle.bundle_tree_piece.specs.Item.{Item}
 use Rattle.bundle_rules.specs.Scopes.{Es}
@@ -21,7 +22,7 @@ use Rattle.bundle_rules.specs.Places.{Occurrence, occurrences}
 
 keeps_text : (old new : Ident) → KeepsText (change_to old new) old
 keeps_text old new is =
-    sym ((bytes_eq-Decides old.0 new.0).0 (not-false (bytes_eq old.0 new.0) is))
+    sym ((bytes_eq-Decides old.0 new.0).0 (not_false (bytes_eq old.0 new.0) is))
 
 changes_cover : (olds news : List Ident) → length news ≡ length olds →
     AllZip KeepsText (changes_to olds news) olds
@@ -53,11 +54,11 @@ pub named_items : (items : List (List Item)) (tolds : List Told) (news : List Id
 named_items items tolds news marked lone same =
     let olds : List Ident = idents (module_of_items items) in
     let all =
-        renamed_items items tolds (changes_to olds news) marked lone
-        (subst (λ list. AllZip KeepsText (changes_to olds news) list)
-        (idents-names (module_of_items items)) (changes_cover olds news same)) in
+    renamed_items items tolds (changes_to olds news) marked lone
+    (subst (λ list. AllZip KeepsText (changes_to olds news) list)
+    (idents-names (module_of_items items)) (changes_cover olds news same)) in
     record
-        { items = all.after; same = all.same; marked = all.marked; names = idents-names (module_of_items all.after) ∙ (all.names ∙ changes_names olds news same) }
+    { items = all.after; same = all.same; marked = all.marked; names = idents-names (module_of_items all.after) ∙ (all.names ∙ changes_names olds news same) }
 
 lengths_agree : {A B : Type 0} (f other : Occurrence → A) (g : Occurrence → B)
     (xs ys : List Occurrence) → length (map f xs) ≡ length (map other ys) →
@@ -75,10 +76,10 @@ pub named_module : (items : List (List Item)) (tolds : List Told) (named : List 
 named_module items tolds named marked lone keeps =
     let merged : List Item = module_of_items items in
     let same : length (idents named) ≡ length (idents merged) =
-        sym
-        (lengths_agree (denoted_of ByContext Es (declared ByContext Es merged))
-        (denoted_of BySymbol Es (declared BySymbol Es named)) ident_of (occurrences merged)
-        (occurrences named) keeps.alike.len) in
+    sym
+    (lengths_agree (denoted_of ByContext Es (declared ByContext Es merged))
+    (denoted_of BySymbol Es (declared BySymbol Es named)) ident_of (occurrences merged)
+    (occurrences named) keeps.alike.len) in
     let all = named_items items tolds (idents named) marked lone same in
     module_of named (map cleared all.items) tolds (items-cleared all.items tolds all.marked)
-        (keeps.same ∙ (ap cleared all.same ∙ module-cleared all.items))
+    (keeps.same ∙ (ap cleared all.same ∙ module-cleared all.items))

@@ -10,7 +10,8 @@ use Rattle.bundle_rules.specs.Marks as m
 use Rattle.bundle_rules.specs.Meaning.{Meant, Mark}
 use Rattle.bundle_rules.specs.Cleared.{cleared_head, cleared, without_note, without_notes}
 use Rattle.bundle_tree_places.specs.Edits.{Around, node, around_in, binding}
-use Rattle.bundle_merge_meaning.specs.noted.Marked.{Note, Marked, keeps_first, stays, node_marks, shorthand_marks}
+use Rattle.bundle_merge_meaning.specs.noted.Marked.{Note, Marked, stays, node_marks, shorthand_marks}
+use Rattle.bundle_tree_rebuild.specs.Becomes.{keeps_first}
 use Rattle.bundle_merge_meaning.specs.noted.Marked as d
 use Rattle.bundle_merge_meaning.specs.walked.Renaming.{AreAlone, Told, IsMarked, module_of_items}
 use Rattle.bundle_merge_meaning.proofs.walked.Keeping.{alike, alike_inside}
@@ -36,7 +37,7 @@ parts (y ∷ xs) (x ∷ first) second same =
     let behind : without_notes xs ≡ first ++ second = cc in
     let rest = parts xs first second behind in
     record
-        { front = y ∷ rest.front; back = rest.back; is = ap (λ list. y ∷ list) rest.is; front_is = (λ i. here i ∷ rest.front_is i); back_is = rest.back_is }
+    { front = y ∷ rest.front; back = rest.back; is = ap (λ list. y ∷ list) rest.is; front_is = (λ i. here i ∷ rest.front_is i); back_is = rest.back_is }
 
 -- one element
 record One (xs : List Item) (x : Item) : Type 0 where
@@ -149,19 +150,19 @@ noted_node : {around : Around} {notes rest : List Note} (field : ℕ) (its : Hea
 noted_node {around = around} {notes = notes} {rest = rest} field its within inside marks are_alone
     it_stays one =
     let still : stays None (d.upcoming notes) its within ≡ true =
-        sym (head_stays notes its within are_alone)
-        ∙ (alone_stays notes (cleared_head its) (cleared within) inside are_alone ∙ it_stays) in
+    sym (head_stays notes its within are_alone)
+    ∙ (alone_stays notes (cleared_head its) (cleared within) inside are_alone ∙ it_stays) in
     subst
-        (λ head.
-        Marked None around notes (node field its within)
-        (m.Begins field head ∷ (marks ++ m.Ends ∷ [])) rest)
-        (sym (twice its))
+    (λ head.
+    Marked None around notes (node field its within)
+    (m.Begins field head ∷ (marks ++ m.Ends ∷ [])) rest)
+    (sym (twice its))
     (d.Inside field its still
-        (alike
-        (λ n x meant.
-        alike_inside (cleared_head its) inside (cleared within) n x meant
-        ∙ sym (head_alike its within n x meant))
-        one))
+    (alike
+    (λ n x meant.
+    alike_inside (cleared_head its) inside (cleared within) n x meant
+    ∙ sym (head_alike its within n x meant))
+    one))
 
 kept_plain : (head : Head) (first : ℕ) → keeps_first head first ≡ true → is_noted head ≡ false
 kept_plain (h.ImportDecl meta) first keeps = cc
@@ -171,8 +172,8 @@ kept_plain (h.VarDecl kind meta) first keeps = cc
 kept_plain _ first keeps = refl
 
 -- what is first in a node, and what follows
-record KeptOf (xs : List Item) (field : ℕ) (head : Head) (first : ℕ) (inside more : List Item) : Type
-    0 where
+record KeptOf (xs : List Item) (field : ℕ) (head : Head) (first : ℕ)
+    (inside more : List Item) : Type 0 where
   front : List Item
   back : List Item
   is : xs ≡ node field head (node first h.MemberExpr front ++ back)
@@ -205,8 +206,8 @@ kept_of xs field head first inside more plain same =
     }
 
 -- a shorthand property
-record ShortOf (xs : List Item) (field : ℕ) (x : Text) (ctxt : ℕ) (role : Role) (default : List Item) : Type
-    0 where
+record ShortOf (xs : List Item) (field : ℕ) (x : Text) (ctxt : ℕ) (role : Role)
+    (default : List Item) : Type 0 where
   its : List Item
   is : xs ≡ node field h.AssignPatProp (binding None 0 x ctxt role ++ its)
   its_is : without_notes its ≡ default
@@ -220,9 +221,9 @@ short_of xs field x ctxt role default same =
     let name = node_of both.front 0 h.BindingIdent (h.Ident 0 x ctxt role ∷ []) both.front_is in
     let one = one_of name.within (h.Ident 0 x ctxt role) name.within_is in
     let inside : name.within ≡ h.Ident 0 x ctxt role ∷ [] =
-        one.is ∙ ap (λ it. it ∷ []) (name_is one.item 0 x ctxt role one.same) in
+    one.is ∙ ap (λ it. it ∷ []) (name_is one.item 0 x ctxt role one.same) in
     let front : both.front ≡ binding None 0 x ctxt role =
-        name.is ∙ (λ i. node 0 (plain_head name.its h.BindingIdent refl name.same i) (inside i)) in
+    name.is ∙ (λ i. node 0 (plain_head name.its h.BindingIdent refl name.same i) (inside i)) in
     record {
       its = both.back;
       is =
@@ -249,32 +250,32 @@ noted d.Nothing are_alone xs same = listed_so (nothing_of xs same) d.Nothing
 noted (d.Joined {first = first} {second = second} one two) are_alone xs same =
     let both = parts xs first second same in
     listed_so both.is
-        (d.Joined (noted one are_alone both.front both.front_is)
-        (noted two (alone_left one are_alone) both.back both.back_is))
+    (d.Joined (noted one are_alone both.front both.front_is)
+    (noted two (alone_left one are_alone) both.back both.back_is))
 noted (d.Hole field) are_alone xs same =
     let one = one_of xs (h.Hole field) same in
     listed_so (one.is ∙ ap (λ it. it ∷ []) (hole_is one.item field one.same)) (d.Hole field)
 noted (d.Word field x ctxt role plain) are_alone xs same =
     let one = one_of xs (h.Ident field x ctxt role) same in
     listed_so (one.is ∙ ap (λ it. it ∷ []) (name_is one.item field x ctxt role one.same))
-        (d.Word field x ctxt role plain)
+    (d.Word field x ctxt role plain)
 noted (d.Name around field x ctxt role occurs) are_alone xs same =
     let one = one_of xs (h.Ident field x ctxt role) same in
     listed_so (one.is ∙ ap (λ it. it ∷ []) (name_is one.item field x ctxt role one.same))
-        (d.Name around field x ctxt role occurs)
+    (d.Name around field x ctxt role occurs)
 noted {around = around} {notes = notes} {rest = rest}
     (d.Inside field head {inside = inside} {marks = marks} it_stays one) are_alone xs same =
     let it = node_of xs field head inside same in
     let within : Marked None (around_in head inside) notes it.within marks rest =
-        noted one are_alone it.within it.within_is in
+    noted one are_alone it.within it.within_is in
     listed_so it.is
     (subst (λ its. Marked None around notes (node field it.its it.within) (node_marks field its marks) rest) it.same
     (noted_node field it.its it.within inside marks are_alone (subst (λ its. stays None (d.upcoming notes) its inside ≡ true) (sym it.same) it_stays) (subst (λ its. Marked None (around_in its inside) notes it.within marks rest) (sym it.same) within)))
 noted (d.Kept field head first {inside = inside} {more = more} keeps one two) are_alone xs same =
     let it = kept_of xs field head first inside more (kept_plain head first keeps) same in
     listed_so it.is
-        (d.Kept field head first keeps (noted one are_alone it.front it.front_is)
-        (noted two (alone_left one are_alone) it.back it.back_is))
+    (d.Kept field head first keeps (noted one are_alone it.front it.front_is)
+    (noted two (alone_left one are_alone) it.back it.back_is))
 noted {around = around}
     (d.Shorthand {note = note} {notes = notes} {rest = rest} field x ctxt role {default = default}
     {marks = marks} occurs one)
@@ -304,7 +305,7 @@ items_of xs (item ∷ items) (told ∷ tolds) marked same =
     let both = parts xs item (flat_map (λ it. it) items) same in
     let rest = items_of both.back items tolds marked.1 both.back_is in
     record
-        { items = both.front ∷ rest.items; is = both.is ∙ ap (λ list. both.front ++ list) rest.is; marked = (noted marked.0 (alone_alone told.0) both.front both.front_is, rest.marked) }
+    { items = both.front ∷ rest.items; is = both.is ∙ ap (λ list. both.front ++ list) rest.is; marked = (noted marked.0 (alone_alone told.0) both.front both.front_is, rest.marked) }
 
 -- a module that is marked without its notes
 pub record ModuleOf (tree : List Item) (tolds : List Told) : Type 0 where
@@ -318,4 +319,4 @@ module_of tree items tolds marked same =
     let it = node_of tree 0 h.Module (flat_map (λ its. its) items) same in
     let all = items_of it.within items tolds marked it.within_is in
     record
-        { items = all.items; is = it.is ∙ (λ i. node 0 (plain_head it.its h.Module refl it.same i) (all.is i)); marked = all.marked }
+    { items = all.items; is = it.is ∙ (λ i. node 0 (plain_head it.its h.Module refl it.same i) (all.is i)); marked = all.marked }

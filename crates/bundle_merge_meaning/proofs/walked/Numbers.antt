@@ -58,10 +58,12 @@ both_once : (R : Denoted → Denoted → Type 0) → IsOneToOne R → (xs ys : L
 both_once R one [] [] all = tt
 both_once R one [] (y ∷ ys) all = absurd all
 both_once R one (x ∷ xs) [] all = absurd all
-both_once R one (x ∷ xs) (y ∷ ys) all =
-    (all.0, both_filtered R (λ other. not (same_denoted x other))
-    (λ other. not (same_denoted y other)) (λ a b its. ap not (one x a y b all.0 its))
-    (each_denoted_once xs) (each_denoted_once ys) (both_once R one xs ys all.1))
+both_once R one (x ∷ xs) (y ∷ ys) all = (
+  all.0,
+  both_filtered R (λ other. not (same_denoted x other))
+      (λ other. not (same_denoted y other)) (λ a b its. ap not (one x a y b all.0 its))
+      (each_denoted_once xs) (each_denoted_once ys) (both_once R one xs ys all.1),
+)
 
 each_weaker : {R S : Denoted → Denoted → Type 0} → ((x y : Denoted) → R x y → S x y) →
     (xs ys : List Denoted) → AllZip R xs ys → AllZip S xs ys

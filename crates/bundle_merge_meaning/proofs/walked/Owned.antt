@@ -9,8 +9,8 @@ use Rattle.bundle_rules.specs.Idents.{Ident}
 use Rattle.bundle_rules.specs.Statements.{declaration_head, no_notes}
 use Rattle.bundle_tree_places.specs.Edits.{Anywhere, node}
 use Rattle.bundle_merge_meaning.specs.noted.Stated.{is_default_head}
-use Rattle.bundle_merge_meaning.specs.walked.Work.{Work}
-use Rattle.bundle_merge_meaning.specs.walked.Becomes.{Becomes, named}
+use Rattle.bundle_tree_rebuild.specs.Work.{Work}
+use Rattle.bundle_tree_rebuild.specs.Becomes.{Becomes, named}
 use Rattle.bundle_merge_meaning.specs.walked.Rewrites.{AreOwn, Cover, KeepsSymbol, is_own_item}
 use Rattle.bundle_merge_meaning.specs.walked.Renaming.{HasNoLoneName}
 use Rattle.bundle_merge_meaning.specs.walked.Stated.{StatesList}
@@ -43,26 +43,26 @@ states_own {work = work} {name = name} (s.ValueStates field first more {value = 
     cover =
     let part_own = (own_inside field h.ExportDefaultExpr (first ∷ more) own).1 in
     let value_own : AreOwn value =
-        own_whole one (ap (λ b. b && list_all is_own_item more) (moved_own 1 first) ∙ part_own)
-        (subst (λ names. AllZip KeepsSymbol work.steps names)
-        (node_names field h.ExportDefaultExpr (first ∷ more) ∙ sym (moved_names 1 first more))
-        cover) in
+    own_whole one (ap (λ b. b && list_all is_own_item more) (moved_own 1 first) ∙ part_own)
+    (subst (λ names. AllZip KeepsSymbol work.steps names)
+    (node_names field h.ExportDefaultExpr (first ∷ more) ∙ sym (moved_names 1 first more))
+    cover) in
     let binding : List Item = node 0 h.BindingIdent (named 0 name r.Binding) in
     own_node 0 (h.VarDecl Const no_notes) (node 1 h.VarDeclarator (binding ++ value)) refl
-        (own_node 1 h.VarDeclarator (binding ++ value) refl
-        (own_joined binding value refl value_own))
+    (own_node 1 h.VarDeclarator (binding ++ value) refl
+    (own_joined binding value refl value_own))
 states_own {work = work}
     (s.OwnStates field inner name_field x ctxt role head body {made = made} is one) own cover =
     let parts =
-        default_parts work.steps field inner head (h.Ident name_field x ctxt role ∷ body) own
-        cover in
+    default_parts work.steps field inner head (h.Ident name_field x ctxt role ∷ body) own
+    cover in
     own_declared head made is (own_whole one parts.0 parts.1)
 states_own {work = work} {name = name}
     (s.DefaultStates field inner first_field head first more {made = made} is one) own cover =
     let parts =
-        default_parts work.steps field inner head (h.Open first_field first ∷ more) own cover in
+    default_parts work.steps field inner head (h.Open first_field first ∷ more) own cover in
     own_declared head (named 0 name r.Binding ++ made) is
-        (own_joined (named 0 name r.Binding) made refl (own_whole one parts.0 parts.1))
+    (own_joined (named 0 name r.Binding) made refl (own_whole one parts.0 parts.1))
 
 pub states_lone : {work : Work} {name : Ident} {item made : List Item} →
     StatesList work name item made → AreOwn item → Cover work.steps item → HasNoLoneName made

@@ -11,8 +11,8 @@ use Rattle.bundle_rules.specs.Nodes.{Text}
 use Rattle.bundle_rules.specs.Rebuilds.{Change, plain_key, key_in_object}
 use Rattle.bundle_rules.specs.Shape.{is_specifier}
 use Rattle.bundle_tree_places.specs.Edits.{Around, Anywhere, InObject, InSpecifier, node, is_occurrence, in_its_place, binding, pattern_in_its_place}
-use Rattle.bundle_merge_meaning.specs.walked.Work.{Work, change_at, is_spelled_out_by}
-use Rattle.bundle_merge_meaning.specs.walked.Becomes.{kept_notes}
+use Rattle.bundle_tree_rebuild.specs.Work.{Work, change_at, is_spelled_out_by}
+use Rattle.bundle_tree_rebuild.specs.Becomes.{kept_notes}
 use Rattle.bundle_merge_meaning.specs.walked.Rewrites.{Rewrites, is_in_no_specifier, is_own_item, AreOwn}
 use Rattle.bundle_merge_meaning.specs.walked.Rewrites as e
 use Rattle.bundle_merge_meaning.specs.walked.Renaming.{ends_no_specifier, HasNoLoneName}
@@ -126,15 +126,15 @@ own_made
     let parts = own_parts (node first h.MemberExpr inside) more whole.1 in
     own_node field head (node first h.MemberExpr made ++ made_more) whole.0
     (own_joined (node first h.MemberExpr made) made_more
-        (own_node first h.MemberExpr made refl
-        (own_made one (own_inside first h.MemberExpr inside parts.0).1))
-        (own_made two parts.1))
+    (own_node first h.MemberExpr made refl
+    (own_made one (own_inside first h.MemberExpr inside parts.0).1))
+    (own_made two parts.1))
 own_made (e.Shorthand field x ctxt role step {default = default} {made = made} occurs takes one)
     own =
     own_short (is_spelled_out_by step.spelling step.ident.0 x) (change_at x step) field x ctxt role
-        made occurs
+    made occurs
     (own_made one
-        (own_parts (binding None 0 x ctxt role) default (own_inside field h.AssignPatProp (binding None 0 x ctxt role ++ default) own).1).1)
+    (own_parts (binding None 0 x ctxt role) default (own_inside field h.AssignPatProp (binding None 0 x ctxt role ++ default) own).1).1)
 own_made (e.OfReads field name inside found) own = refl
 own_made (e.OfCall field name inside found) own = refl
 own_made (e.OfMeta field kind name found) own = refl
@@ -152,7 +152,7 @@ own_ends open_nodes is_name [] none own = refl
 own_ends open_nodes is_name (h.Open field head ∷ rest) none own =
     let parts = and_parts (not (is_specifier head)) (list_all is_own_item rest) own in
     own_ends (is_specifier head ∷ open_nodes) false rest
-        (not-true (is_specifier head) parts.0, none) parts.1
+    (not-true (is_specifier head) parts.0, none) parts.1
 own_ends open_nodes is_name (h.Ident field x ctxt role ∷ rest) none own =
     own_ends open_nodes (is_occurrence role) rest none
     (and_parts (is_occurrence role) (list_all is_own_item rest) own).1

@@ -14,8 +14,11 @@ use Rattle.bundle_rules.specs.Shape.{is_specifier}
 use Rattle.bundle_rules.specs.Meaning.{Meant, Mark}
 use Rattle.bundle_tree_places.specs.Edits.{Around, Anywhere, InObject, InSpecifier, Edits, node, is_occurrence, around_in, in_its_place, is_plain, is_second_plain, binding, shorthand_in_its_place, ends_in_name}
 use Rattle.bundle_tree_places.specs.Edits as c
-use Rattle.bundle_merge_meaning.specs.noted.Marked.{Whole, Note, Marked, keeps_first, stays, marks_there, node_marks, shorthand_marks}
+use Rattle.bundle_tree_rebuild.specs.declared.rewrite.Whole.{Whole}
+use Rattle.bundle_merge_meaning.specs.noted.Marked.{Note, Marked, stays, marks_there, node_marks, shorthand_marks}
+use Rattle.bundle_tree_rebuild.specs.Becomes.{keeps_first}
 use Rattle.bundle_merge_meaning.specs.noted.Marked as d
+use Rattle.bundle_tree_rebuild.specs.declared.rewrite.Whole.TheVariants as w
 use Rattle.bundle_tree_places.proofs.EditsLemmas.{rebuilt_so}
 use Rattle.bundle_merge_meaning.specs.walked.Names.{names_of}
 use Rattle.bundle_merge_meaning.specs.walked.Keeps.{alone}
@@ -41,17 +44,17 @@ alone_left (d.OfCall field inside calls) alone = alone.1
 alone_left (d.OfMeta field meant is) alone = alone
 
 -- and replace nothing
-reads_none : (meant : Meant) (whole : Whole) (inside : List Item) → whole ≡ d.Alone →
+reads_none : (meant : Meant) (whole : Whole) (inside : List Item) → whole ≡ w.Alone →
     is_none (d.meant_by_reads meant whole inside) ≡ true
-reads_none meant d.Alone inside is = refl
-reads_none meant (d.Reads count) inside is = cc
-reads_none meant d.Call inside is = refl
+reads_none meant w.Alone inside is = refl
+reads_none meant (w.Reads count) inside is = cc
+reads_none meant w.Call inside is = refl
 
-call_none : (meant : Meant) (whole : Whole) (inside : List Item) → whole ≡ d.Alone →
+call_none : (meant : Meant) (whole : Whole) (inside : List Item) → whole ≡ w.Alone →
     is_none (d.meant_by_call meant whole inside) ≡ true
-call_none meant d.Alone inside is = refl
-call_none meant (d.Reads count) inside is = refl
-call_none meant d.Call inside is = cc
+call_none meant w.Alone inside is = refl
+call_none meant (w.Reads count) inside is = refl
+call_none meant w.Call inside is = cc
 
 none_stays : (head : Head) (inside made : List Item) →
     stays None None head inside ≡ stays None None head made
@@ -94,10 +97,10 @@ node_passed : (field : ℕ) (head : Head) (inside : List Item) (open_nodes : Lis
     × (ends_no_specifier open_nodes false post ≡ true)
 node_passed field head inside open_nodes is_name post within ends =
     and_parts (not (is_specifier head && last_is_name false inside))
-        (ends_no_specifier open_nodes false post)
+    (ends_no_specifier open_nodes false post)
     (within
-        (subst (λ items. ends_no_specifier (is_specifier head ∷ open_nodes) false items ≡ true)
-        (append_assoc inside (h.Close ∷ []) post) ends))
+    (subst (λ items. ends_no_specifier (is_specifier head ∷ open_nodes) false items ≡ true)
+    (append_assoc inside (h.Close ∷ []) post) ends))
 
 -- behind the first node of another
 behind_first : (first : ℕ) (inside more : List Item) (open_nodes : List Bool) (is_name : Bool)
@@ -127,7 +130,7 @@ passed : {around : Around} {notes rest : List Note} {before : List Item} {marks 
 passed d.Nothing alone open_nodes is_name post ends = ends
 passed (d.Joined {first = first} {second = second} one two) alone open_nodes is_name post ends =
     subst (λ b. ends_no_specifier open_nodes b post ≡ true)
-        (sym (last-append is_name first second))
+    (sym (last-append is_name first second))
     (passed two (alone_left one alone) open_nodes (last_is_name is_name first) post
     (passed one alone open_nodes is_name (second ++ post) (subst (λ items. ends_no_specifier open_nodes is_name items ≡ true) (append_assoc first second post) ends)))
 passed (d.Hole field) alone open_nodes is_name post ends = ends
@@ -139,18 +142,18 @@ passed (d.Inside field head {inside = inside} it_stays one) alone open_nodes is_
 passed (d.Kept field head first {inside = inside} {more = more} keeps one two) alone open_nodes
     is_name post ends =
     subst (λ b. ends_no_specifier open_nodes b post ≡ true)
-        (sym (last_of_node (node first h.MemberExpr inside ++ more)))
+    (sym (last_of_node (node first h.MemberExpr inside ++ more)))
     (node_passed field head (node first h.MemberExpr inside ++ more) open_nodes is_name post
     (λ ends_inside.
     subst (λ b. ends_no_specifier (is_specifier head ∷ open_nodes) b (h.Close ∷ post) ≡ true)
-        (sym (last_of_kept first inside more))
+    (sym (last_of_kept first inside more))
     (passed two (alone_left one alone) (is_specifier head ∷ open_nodes) false (h.Close ∷ post)
     (behind_first first inside more (is_specifier head ∷ open_nodes) false post (passed one alone (false ∷ is_specifier head ∷ open_nodes) false (h.Close ∷ (more ++ h.Close ∷ post))) ends_inside)))
     ends).1
 passed (d.Shorthand field x ctxt role {default = default} occurs one) alone open_nodes is_name post
     ends =
     subst (λ b. ends_no_specifier open_nodes b post ≡ true)
-        (sym (last_of_node (binding None 0 x ctxt role ++ default)))
+    (sym (last_of_node (binding None 0 x ctxt role ++ default)))
     (node_passed field h.AssignPatProp (binding None 0 x ctxt role ++ default) open_nodes is_name post (λ ends_inside. passed one alone.1 (false ∷ open_nodes) false (h.Close ∷ post) ends_inside) ends).1
 passed (d.OfReads field count inside reads) alone open_nodes is_name post ends = cc
 passed (d.OfCall field inside calls) alone open_nodes is_name post ends = cc
@@ -233,7 +236,7 @@ split [] (x ∷ first) second cover = absurd cover
 split (change ∷ its) (x ∷ first) second cover =
     let rest = split its first second cover.1 in
     record
-        { front = change ∷ rest.front; back = rest.back; is = ap (λ list. change ∷ list) rest.is; for_first = (cover.0, rest.for_first); for_second = rest.for_second }
+    { front = change ∷ rest.front; back = rest.back; is = ap (λ list. change ∷ list) rest.is; for_first = (cover.0, rest.for_first); for_second = rest.for_second }
 
 no_changes : (its : List Change) (names : List Ident) → names ≡ [] → AllZip KeepsText its names →
     its ≡ []
@@ -307,10 +310,10 @@ renamed_name : {around : Around} {note : Note} {rest : List Note} (field : ℕ) 
 renamed_name {around = around} {note = note} {rest = rest} field x ctxt role its left occurs free
     first =
     by_changes
-        (ap (λ list. list ++ left)
-        (sym
-        (first.is
-        ∙ ap (λ list. first.change ∷ list) (no_changes first.behind [] refl first.cover))))
+    (ap (λ list. list ++ left)
+    (sym
+    (first.is
+    ∙ ap (λ list. first.change ∷ list) (no_changes first.behind [] refl first.cover))))
     (record {
       after = in_its_place around (Some first.change) field x ctxt role;
       edits = c.Name around field x ctxt role occurs;
@@ -422,12 +425,12 @@ renamed_short {around = around} {note = note} {notes = notes} {rest = rest} {def
       edits = c.Shorthand field x ctxt role occurs one.edits;
       marked =
           subst
-              (λ list.
-              Marked None around (note ∷ notes)
-              (shorthand_in_its_place (Some first.change) field x ctxt role one.after) list rest)
-              (same_default field x note.meant marks (both_edits one.edits))
+          (λ list.
+          Marked None around (note ∷ notes)
+          (shorthand_in_its_place (Some first.change) field x ctxt role one.after) list rest)
+          (same_default field x note.meant marks (both_edits one.edits))
           (short_made first.change.is_spelled_out first.change field x ctxt role note one.after
-              marks notes rest occurs first.symbol (marked_nothing one.marked) one.marked);
+          marks notes rest occurs first.symbol (marked_nothing one.marked) one.marked);
       names =
           ap (λ list. first.change.ident ∷ list) one.names
           ∙ ap (λ list. list ++ map ident_of_change left)
@@ -451,28 +454,28 @@ renamed_marks d.Nothing alone its left cover open_nodes is_name post ends free =
 renamed_marks (d.Joined {first = first} {second = second} one two) alone its left cover open_nodes
     is_name post ends free =
     let parts =
-        split its (names_of first) (names_of second)
-        (subst (λ list. AllZip KeepsText its list) (names_of-append first second) cover) in
+    split its (names_of first) (names_of second)
+    (subst (λ list. AllZip KeepsText its list) (names_of-append first second) cover) in
     let start =
-        subst (λ items. ends_no_specifier open_nodes is_name items ≡ true)
-        (append_assoc first second post) ends in
+    subst (λ items. ends_no_specifier open_nodes is_name items ≡ true)
+    (append_assoc first second post) ends in
     let front =
-        renamed_marks one alone parts.front (parts.back ++ left) parts.for_first open_nodes is_name
-        (second ++ post) start
-        (λ is.
-        no_first (names_of first) (names_of second)
-        (sym (names_of-append first second) ∙ free is)) in
+    renamed_marks one alone parts.front (parts.back ++ left) parts.for_first open_nodes is_name
+    (second ++ post) start
+    (λ is.
+    no_first (names_of first) (names_of second)
+    (sym (names_of-append first second) ∙ free is)) in
     let back =
-        renamed_marks two (alone_left one alone) parts.back left parts.for_second open_nodes
-        (last_is_name is_name first) post
-        (passed one alone open_nodes is_name (second ++ post) start)
-        (λ is.
-        no_second (names_of first) (names_of second)
-        (sym (names_of-append first second) ∙ free is)) in
+    renamed_marks two (alone_left one alone) parts.back left parts.for_second open_nodes
+    (last_is_name is_name first) post
+    (passed one alone open_nodes is_name (second ++ post) start)
+    (λ is.
+    no_second (names_of first) (names_of second)
+    (sym (names_of-append first second) ∙ free is)) in
     by_changes
-        (sym (append_assoc parts.front parts.back left) ∙ ap (λ list. list ++ left) (sym parts.is))
+    (sym (append_assoc parts.front parts.back left) ∙ ap (λ list. list ++ left) (sym parts.is))
     (record
-        { after = front.after ++ back.after; edits = c.Joined front.edits back.edits; marked = d.Joined front.marked back.marked; names = both_names (names_of front.after) (names_of back.after) (map ident_of_change left) front.names back.names ∙ ap (λ list. list ++ map ident_of_change left) (sym (names_of-append front.after back.after)) })
+    { after = front.after ++ back.after; edits = c.Joined front.edits back.edits; marked = d.Joined front.marked back.marked; names = both_names (names_of front.after) (names_of back.after) (map ident_of_change left) front.names back.names ∙ ap (λ list. list ++ map ident_of_change left) (sym (names_of-append front.after back.after)) })
 renamed_marks (d.Hole field) alone its left cover open_nodes is_name post ends free =
     unchanged its left [] refl cover (c.Hole field) (d.Hole field) refl
 renamed_marks (d.Word field x ctxt role plain) alone its left cover open_nodes is_name post ends
@@ -483,68 +486,67 @@ renamed_marks (d.Word field x ctxt role plain) alone its left cover open_nodes i
 renamed_marks (d.Name around field x ctxt role occurs) alone its left cover open_nodes is_name post
     ends free =
     renamed_name field x ctxt role its left occurs
-        (is_free around (x, ctxt) _ [] (name_names field x ctxt role [] occurs) free)
-        (taken its (x, ctxt) [] _ (name_names field x ctxt role [] occurs) cover)
+    (is_free around (x, ctxt) _ [] (name_names field x ctxt role [] occurs) free)
+    (taken its (x, ctxt) [] _ (name_names field x ctxt role [] occurs) cover)
 renamed_marks (d.Inside {notes = notes} field head {inside = inside} it_stays one) alone its left
     cover open_nodes is_name post ends free =
     let within =
-        subst (λ items. ends_no_specifier (is_specifier head ∷ open_nodes) false items ≡ true)
-        (append_assoc inside (h.Close ∷ []) post) ends in
+    subst (λ items. ends_no_specifier (is_specifier head ∷ open_nodes) false items ≡ true)
+    (append_assoc inside (h.Close ∷ []) post) ends in
     let no_end =
-        (node_passed field head inside open_nodes is_name post (passed one alone (is_specifier head ∷ open_nodes) false (h.Close ∷ post)) ends).0 in
+    (node_passed field head inside open_nodes is_name post (passed one alone (is_specifier head ∷ open_nodes) false (h.Close ∷ post)) ends).0 in
     renamed_node field head alone it_stays
-        (plain_inside (d.upcoming notes) head inside it_stays no_end)
+    (plain_inside (d.upcoming notes) head inside it_stays no_end)
     (renamed_marks one alone its left
-        (subst (λ list. AllZip KeepsText its list) (node_names field head inside) cover)
-        (is_specifier head ∷ open_nodes) false (h.Close ∷ post) within
-        (free_inside head inside no_end))
+    (subst (λ list. AllZip KeepsText its list) (node_names field head inside) cover)
+    (is_specifier head ∷ open_nodes) false (h.Close ∷ post) within
+    (free_inside head inside no_end))
 renamed_marks (d.Kept field head first {inside = inside} {more = more} keeps one two) alone its
     left cover open_nodes is_name post ends free =
     let parts =
-        split its (names_of inside) (names_of more)
-        (subst (λ list. AllZip KeepsText its list) (kept_names field head first inside more)
-        cover) in
+    split its (names_of inside) (names_of more)
+    (subst (λ list. AllZip KeepsText its list) (kept_names field head first inside more)
+    cover) in
     let all =
-        subst (λ items. ends_no_specifier (is_specifier head ∷ open_nodes) false items ≡ true)
-        (append_assoc (node first h.MemberExpr inside ++ more) (h.Close ∷ []) post) ends in
+    subst (λ items. ends_no_specifier (is_specifier head ∷ open_nodes) false items ≡ true)
+    (append_assoc (node first h.MemberExpr inside ++ more) (h.Close ∷ []) post) ends in
     let opened =
-        subst (λ items. ends_no_specifier (is_specifier head ∷ open_nodes) false items ≡ true)
-        (append_assoc (node first h.MemberExpr inside) more (h.Close ∷ post)) all in
+    subst (λ items. ends_no_specifier (is_specifier head ∷ open_nodes) false items ≡ true)
+    (append_assoc (node first h.MemberExpr inside) more (h.Close ∷ post)) all in
     let within =
-        subst
-        (λ items. ends_no_specifier (false ∷ is_specifier head ∷ open_nodes) false items ≡ true)
-        (append_assoc inside (h.Close ∷ []) (more ++ h.Close ∷ post)) opened in
+    subst
+    (λ items. ends_no_specifier (false ∷ is_specifier head ∷ open_nodes) false items ≡ true)
+    (append_assoc inside (h.Close ∷ []) (more ++ h.Close ∷ post)) opened in
     let front =
-        renamed_marks one alone parts.front (parts.back ++ left) parts.for_first
-        (false ∷ is_specifier head ∷ open_nodes) false (h.Close ∷ (more ++ h.Close ∷ post)) within
-        (λ is. not_false is) in
+    renamed_marks one alone parts.front (parts.back ++ left) parts.for_first
+    (false ∷ is_specifier head ∷ open_nodes) false (h.Close ∷ (more ++ h.Close ∷ post)) within
+    (λ is. not_false is) in
     let back =
-        renamed_marks two (alone_left one alone) parts.back left parts.for_second
-        (is_specifier head ∷ open_nodes) false (h.Close ∷ post)
-        (behind_first first inside more (is_specifier head ∷ open_nodes) false post
-        (passed one alone (false ∷ is_specifier head ∷ open_nodes) false
-        (h.Close ∷ (more ++ h.Close ∷ post)))
-        all)
-        (λ is. not_false is) in
+    renamed_marks two (alone_left one alone) parts.back left parts.for_second
+    (is_specifier head ∷ open_nodes) false (h.Close ∷ post)
+    (behind_first first inside more (is_specifier head ∷ open_nodes) false post
+    (passed one alone (false ∷ is_specifier head ∷ open_nodes) false
+    (h.Close ∷ (more ++ h.Close ∷ post)))
+    all)
+    (λ is. not_false is) in
     by_changes
-        (sym (append_assoc parts.front parts.back left) ∙ ap (λ list. list ++ left) (sym parts.is))
+    (sym (append_assoc parts.front parts.back left) ∙ ap (λ list. list ++ left) (sym parts.is))
     (renamed_kept field head first keeps front back)
 renamed_marks (d.Shorthand field x ctxt role {default = default} occurs one) alone its left cover
     open_nodes is_name post ends free =
     let first =
-        taken its (x, ctxt) (names_of default) _ (short_names field x ctxt role default occurs)
-        cover in
+    taken its (x, ctxt) (names_of default) _ (short_names field x ctxt role default occurs)
+    cover in
     let within =
-        subst (λ items. ends_no_specifier (false ∷ open_nodes) false items ≡ true)
-        (append_assoc default (h.Close ∷ []) post) ends in
+    subst (λ items. ends_no_specifier (false ∷ open_nodes) false items ≡ true)
+    (append_assoc default (h.Close ∷ []) post) ends in
     renamed_short field x ctxt role its left (names_of default) occurs first
     (renamed_marks one alone.1 first.behind left first.cover (false ∷ open_nodes) false
-        (h.Close ∷ post) within (λ is. not_false is))
+    (h.Close ∷ post) within (λ is. not_false is))
 renamed_marks (d.OfReads field count inside reads) alone its left cover open_nodes is_name post
     ends free =
     cc
-renamed_marks (d.OfCall field inside calls) alone its left cover open_nodes is_name post ends free
-    =
+renamed_marks (d.OfCall field inside calls) alone its left cover open_nodes is_name post ends free =
     cc
 renamed_marks (d.OfMeta field meant is) alone its left cover open_nodes is_name post ends free = cc
 
@@ -565,9 +567,9 @@ renamed_item : (item : List Item) (told : Told) (its left : List Change) → IsM
     HasNoLoneName item → AllZip KeepsText its (names_of item) → RenamedItem item told its left
 renamed_item item told its left marked lone cover =
     let one =
-        renamed_marks marked (alone_alone told.0) its left cover [] false []
-        (subst (λ list. ends_no_specifier [] false list ≡ true) (sym (append-nil item)) lone)
-        (λ is. not_false is) in
+    renamed_marks marked (alone_alone told.0) its left cover [] false []
+    (subst (λ list. ends_no_specifier [] false list ≡ true) (sym (append-nil item)) lone)
+    (λ is. not_false is) in
     record { after = one.after; edits = one.edits; marked = one.marked; names = one.names }
 
 -- all items
@@ -583,20 +585,20 @@ renamed_all : (items : List (List Item)) (tolds : List Told) (its : List Change)
 renamed_all [] [] its marked lone cover =
     let none : its ≡ [] = no_changes its [] refl cover in
     record
-        { after = []; marked = tt; edits = subst (λ list. Edits Anywhere list [] [] []) (sym none) c.Nothing; names = ap (map ident_of_change) none }
+    { after = []; marked = tt; edits = subst (λ list. Edits Anywhere list [] [] []) (sym none) c.Nothing; names = ap (map ident_of_change) none }
 renamed_all [] (told ∷ tolds) its marked lone cover = absurd marked
 renamed_all (item ∷ items) [] its marked lone cover = absurd marked
 renamed_all (item ∷ items) (told ∷ tolds) its marked lone cover =
     let parts =
-        split its (names_of item) (names_of (flat_map (λ it. it) items))
-        (subst (λ list. AllZip KeepsText its list)
-        (names_of-append item (flat_map (λ it. it) items)) cover) in
+    split its (names_of item) (names_of (flat_map (λ it. it) items))
+    (subst (λ list. AllZip KeepsText its list)
+    (names_of-append item (flat_map (λ it. it) items)) cover) in
     let rest =
-        renamed_all items tolds parts.back marked.1 (All-tail HasNoLoneName item items lone)
-        parts.for_second in
+    renamed_all items tolds parts.back marked.1 (All-tail HasNoLoneName item items lone)
+    parts.for_second in
     let one =
-        renamed_item item told parts.front parts.back marked.0
-        (All-head HasNoLoneName item items lone) parts.for_first in
+    renamed_item item told parts.front parts.back marked.0
+    (All-head HasNoLoneName item items lone) parts.for_first in
     record {
       after = one.after ∷ rest.after;
       marked = (one.marked, rest.marked);
@@ -619,9 +621,9 @@ pub renamed_items : (items : List (List Item)) (tolds : List Told) (its : List C
     AllZip KeepsText its (names_of (module_of_items items)) → RenamedItems items tolds its
 renamed_items items tolds its marked lone cover =
     let all =
-        renamed_all items tolds its marked lone
-        (subst (λ list. AllZip KeepsText its list)
-        (node_names 0 h.Module (flat_map (λ it. it) items)) cover) in
+    renamed_all items tolds its marked lone
+    (subst (λ list. AllZip KeepsText its list)
+    (node_names 0 h.Module (flat_map (λ it. it) items)) cover) in
     record {
       after = all.after;
       marked = all.marked;

@@ -49,10 +49,10 @@ module _ (b other : Labelled) (here there : ℕ) (Becomes : Denoted → Denoted 
   name_renewed d e meant its (n.outside {scope = scope} {name = name} {l = l} none stands) =
       let bound = keeps.bindings scope name e l its.0 stands in
       subst (λ it. NameMeans (sense_of other) inner_there it (Known l)) (sym bound.is)
-          (n.outside
-          (ap (λ it. position (same_denoted it) inner_there) (sym bound.is)
-          ∙ (sym (same_number (Bound scope name) e its) ∙ none))
-          bound.labelled)
+      (n.outside
+      (ap (λ it. position (same_denoted it) inner_there) (sym bound.is)
+      ∙ (sym (same_number (Bound scope name) e its) ∙ none))
+      bound.labelled)
   name_renewed d e meant its (n.unbound {x = x}) =
       subst (λ it. NameMeans (sense_of other) inner_there it (Unbound x))
       (sym (keeps.globals x e its.0)) n.unbound
@@ -65,9 +65,11 @@ module _ (b other : Labelled) (here there : ℕ) (Becomes : Denoted → Denoted 
   names_renewed [] (e ∷ es) notes its mean = absurd its
   names_renewed (d ∷ ds) [] notes its mean = absurd its
   names_renewed (d ∷ ds) (e ∷ es) [] its mean = absurd mean
-  names_renewed (d ∷ ds) (e ∷ es) (note ∷ notes) its mean =
-      ((mean.0.0, name_renewed d e note.meant its.0 mean.0.1), names_renewed ds es notes its.1
-      mean.1)
+  names_renewed (d ∷ ds) (e ∷ es) (note ∷ notes) its mean = (
+    (mean.0.0, name_renewed d e note.meant its.0 mean.0.1),
+    names_renewed ds es notes its.1
+        mean.1,
+  )
 
 -- the bindings inside an item, by its occurrences
 inner_there_is : (b : Labelled) (item : TopItem) {path : List Around}
@@ -79,8 +81,8 @@ inner_there_is : (b : Labelled) (item : TopItem) {path : List Around}
 inner_there_is b item its =
     ap (λ list. each_denoted_once (filter (is_inside item.start) list))
     (ap (λ place. filter_map (denoted (sense_of b).view) (taken_from place item.items))
-        (sym its.place)
-        ∙ elements_denote (sense_of b).view its.s item.items its.tail its.at)
+    (sym its.place)
+    ∙ elements_denote (sense_of b).view its.s item.items its.tail its.at)
 
 -- the names of an item mean what is noted of them
 abbrev pub NamesMean : (b : Labelled) (item : TopItem) {path : List Around} →
@@ -99,10 +101,10 @@ pub marked_means : (b : Labelled) (item : TopItem) (path : List Around)
 marked_means b item path its listing object short notes marks marked mean =
     let inner_is : List Denoted = inner_bindings (sense_of b).view item.start (elements_of item) in
     let each : EachMeans (sense_of b) inner_is (occurrences_from its.s item.items) notes =
-        each_means (sense_of b) inner_is its.s item.items its.tail its.at notes mean in
+    each_means (sense_of b) inner_is its.s item.items its.tail its.at notes mean in
     item_means b listing item path its object short notes [] marks marked
     (subst (λ s. EachMeans (sense_of b) inner_is (occurrences_from s item.items) notes)
-        (sym (ap (spot_before b.tree) (sym its.place) ∙ at-spot its.at)) each)
+    (sym (ap (spot_before b.tree) (sym its.place) ∙ at-spot its.at)) each)
 
 -- in a bundle whose names denote alike the item with other names means by the same notes
 pub names_mean_there : (b other : Labelled) (item renewed : TopItem) {path outer : List Around}
@@ -115,10 +117,10 @@ pub names_mean_there : (b other : Labelled) (item renewed : TopItem) {path outer
     (notes : List Note) → NamesMean b item here notes → NamesMean other renewed there notes
 names_mean_there b other item renewed here there Becomes one keeps beside notes mean =
     let ds : List Denoted =
-        map (denoted_here (sense_of b).view) (occurrences_from here.s item.items) in
+    map (denoted_here (sense_of b).view) (occurrences_from here.s item.items) in
     let es : List Denoted =
-        map (denoted_here (sense_of other).view) (occurrences_from there.s renewed.items) in
+    map (denoted_here (sense_of other).view) (occurrences_from there.s renewed.items) in
     subst (λ inside. AllZip (MeansNote (sense_of other) inside) es notes)
-        (sym (inner_there_is other renewed there))
+    (sym (inner_there_is other renewed there))
     (names_renewed b other item.start renewed.start Becomes one keeps ds es beside ds es notes beside
     (subst (λ inside. AllZip (MeansNote (sense_of b) inside) ds notes) (inner_there_is b item here) mean))

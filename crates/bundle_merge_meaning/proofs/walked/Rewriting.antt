@@ -1,5 +1,5 @@
 -- With steps that fit, what a walk makes is what `Rewrites` says.
-use Rattle.std.proofs.Common.{◌≡◌, ℕ, zero, suc, true, false, not, List, [], ◌∷◌, ◌++◌, Option, Some, None, drop, refl, ap, sym, ◌∙◌, subst, append_assoc}
+use Rattle.std.proofs.Common.{◌≡◌, ℕ, zero, suc, true, false, not, List, [], ◌∷◌, ◌++◌, Some, None, drop, refl, ap, sym, ◌∙◌, subst, append_assoc}
 use Rattle.std.specs.Prelude.{slice_get, option_map}
 use Rattle.std.specs.List.{AllZip, list_all}
 use Rattle.std.proofs.lemmas.List.Folds.{list_all-append}
@@ -12,13 +12,14 @@ use Rattle.bundle_rules.specs.Nodes.{Text}
 use Rattle.bundle_rules.specs.Idents.{Ident}
 use Rattle.bundle_rules.specs.Shape.{is_specifier}
 use Rattle.bundle_tree_places.specs.Edits.{Around, Anywhere, node, is_occurrence, around_in, in_its_place, binding, shorthand_in_its_place}
-use Rattle.bundle_merge_meaning.specs.walked.Work.{Step, Work, upcoming, after, next, change_at}
-use Rattle.bundle_merge_meaning.specs.noted.Marked.{are_reads, is_literal_call, is_one_string, behind_word, behind_reads, is_end}
-use Rattle.bundle_merge_meaning.specs.walked.Becomes.{Becomes}
-use Rattle.bundle_merge_meaning.specs.walked.Becomes as b
+use Rattle.bundle_tree_rebuild.specs.Work.{Step, Work, upcoming, after, next, change_at}
+use Rattle.bundle_tree_rebuild.specs.Becomes.{are_reads, is_literal_call, is_one_string, behind_reads}
+use Rattle.bundle_tree_rebuild.specs.Becomes.{Becomes}
+use Rattle.bundle_tree_rebuild.specs.Becomes as b
 use Rattle.bundle_merge_meaning.specs.walked.Names.{names_of}
 use Rattle.bundle_merge_meaning.specs.walked.Rewrites.{Rewrites, TakesStep, is_in_no_specifier, is_own_item, AreOwn, KeepsSymbol, Cover}
 use Rattle.bundle_merge_meaning.specs.walked.Rewrites as e
+use Rattle.bundle_merge_meaning.proofs.noted.Shapes.{word_behind, ends_there}
 use Rattle.bundle_merge_meaning.proofs.walked.NameLemmas.{names_of-append, node_names, word_names, name_names, short_names, kept_names}
 use Rattle.bundle_merge_meaning.proofs.walked.Keeping.{reads_found, call_found}
 
@@ -34,7 +35,7 @@ pub own_inside : (field : ℕ) (head : Head) (inside : List Item) → AreOwn (no
     (not (is_specifier head) ≡ true) × AreOwn inside
 own_inside field head inside own =
     let both =
-        and_parts (not (is_specifier head)) (list_all is_own_item (inside ++ h.Close ∷ [])) own in
+    and_parts (not (is_specifier head)) (list_all is_own_item (inside ++ h.Close ∷ [])) own in
     (both.0, (own_parts inside (h.Close ∷ []) both.1).0)
 
 -- what is in a node that is no specifier
@@ -62,11 +63,11 @@ split [] (x ∷ first) second cover = absurd cover
 split (step ∷ steps) (x ∷ first) second cover =
     let rest = split steps first second cover.1 in
     record
-        { front = step ∷ rest.front; back = rest.back; is = ap (λ list. step ∷ list) rest.is; for_first = (cover.0, rest.for_first); for_second = rest.for_second }
+    { front = step ∷ rest.front; back = rest.back; is = ap (λ list. step ∷ list) rest.is; for_first = (cover.0, rest.for_first); for_second = rest.for_second }
 
 -- the walk fits, and leaves these steps
-pub record Fits (around : Around) (work : Work) (before made : List Item) (rest : Work) (more : List Step) : Type
-    0 where
+pub record Fits (around : Around) (work : Work) (before made : List Item) (rest : Work)
+    (more : List Step) : Type 0 where
   pub by : Rewrites around work before made rest
   pub left : rest.steps ≡ more
 
@@ -120,18 +121,6 @@ record OneName (items rest : List Item) : Type 0 where
   ident : Ident
   is : names_of items ≡ ident ∷ names_of rest
 
-record BehindWord (found : Option (List Item)) (rest : List Item) : Type 0 where
-  field : ℕ
-  word : Text
-  is : found ≡ Some (h.Open field (h.IdentName word) ∷ h.Close ∷ h.Close ∷ rest)
-
-word_behind : (found : Option (List Item)) (rest : List Item) → behind_word found ≡ Some rest →
-    BehindWord found rest
-word_behind (Some (h.Open field (h.IdentName word) ∷ h.Close ∷ h.Close ∷ more)) rest is =
-    record
-    { field = field; word = word; is = ap (λ (list : Option (List Item)). elim list [ None ↦ None | Some items ↦ Some (h.Open field (h.IdentName word) ∷ h.Close ∷ h.Close ∷ items) ]) is }
-word_behind _ rest is = cc
-
 reads_names : (count : ℕ) (items rest : List Item) → AreOwn items →
     behind_reads count items ≡ Some rest → OneName items rest
 reads_names zero (h.Ident field x ctxt r.Reference ∷ items) rest own is =
@@ -140,22 +129,17 @@ reads_names zero (h.Ident field x ctxt r.Reference ∷ items) rest own is =
 reads_names (suc count) (h.Open field h.MemberExpr ∷ items) rest own is =
     let word = word_behind (behind_reads count items) rest is in
     let one =
-        reads_names count items
-        (h.Open word.field (h.IdentName word.word) ∷ h.Close ∷ h.Close ∷ rest) own word.is in
+    reads_names count items
+    (h.Open word.field (h.IdentName word.word) ∷ h.Close ∷ h.Close ∷ rest) own word.is in
     record { ident = one.ident; is = one.is }
 reads_names _ items rest own is = cc
-
-ended : (found : Option (List Item)) → is_end found ≡ true → found ≡ Some []
-ended (Some []) is = refl
-ended (Some (x ∷ items)) is = cc
-ended None is = cc
 
 member_names : (field count : ℕ) (inside : List Item) → AreOwn (node field h.MemberExpr inside) →
     are_reads count inside ≡ true → OneName (node field h.MemberExpr inside) []
 member_names field count inside own reads =
     let one =
-        reads_names count (node 0 h.MemberExpr inside) [] own
-        (ended (behind_reads count (node 0 h.MemberExpr inside)) reads) in
+    reads_names count (node 0 h.MemberExpr inside) [] own
+    (ends_there (behind_reads count (node 0 h.MemberExpr inside)) reads) in
     record { ident = one.ident; is = one.is }
 
 -- the one name of a literal call
@@ -220,12 +204,12 @@ fits {around = around} {work = work} (b.Joined {first = first} {second = second}
     steps more is cover =
     let parts = own_parts first second own in
     let its =
-        split steps (names_of first) (names_of second)
-        (subst (λ list. AllZip KeepsSymbol steps list) (names_of-append first second) cover) in
+    split steps (names_of first) (names_of second)
+    (subst (λ list. AllZip KeepsSymbol steps list) (names_of-append first second) cover) in
     let front =
-        fits one free parts.0 its.front (its.back ++ more)
-        (is ∙ (ap (λ list. list ++ more) its.is ∙ append_assoc its.front its.back more))
-        its.for_first in
+    fits one free parts.0 its.front (its.back ++ more)
+    (is ∙ (ap (λ list. list ++ more) its.is ∙ append_assoc its.front its.back more))
+    its.for_first in
     let back = fits two free parts.1 its.back more front.left its.for_second in
     record { by = e.Joined front.by back.by; left = back.left }
 fits (b.Hole field) free own steps more is cover =
@@ -239,51 +223,51 @@ fits (b.Name around {work = work} field x ctxt role occurs) free own steps more 
 fits (b.Inside field head {inside = inside} it_stays one) free own steps more is cover =
     let parts = own_inside field head inside own in
     let within =
-        fits one (free_inside head inside parts.0) parts.1 steps more is
-        (subst (λ list. AllZip KeepsSymbol steps list) (node_names field head inside) cover) in
+    fits one (free_inside head inside parts.0) parts.1 steps more is
+    (subst (λ list. AllZip KeepsSymbol steps list) (node_names field head inside) cover) in
     record { by = e.Inside field head it_stays within.by; left = within.left }
 fits (b.Declaration field kind notes {inside = inside} one) free own steps more is cover =
     let parts = own_inside field (h.VarDecl kind notes) inside own in
     let within =
-        fits one refl parts.1 steps more is
-        (subst (λ list. AllZip KeepsSymbol steps list)
-        (node_names field (h.VarDecl kind notes) inside) cover) in
+    fits one refl parts.1 steps more is
+    (subst (λ list. AllZip KeepsSymbol steps list)
+    (node_names field (h.VarDecl kind notes) inside) cover) in
     record { by = e.Declaration field kind notes within.by; left = within.left }
 fits (b.Kept field head first {inside = inside} {more = others} keeps one two) free own steps more
     is cover =
     let parts =
-        own_parts (node first h.MemberExpr inside) others
-        (own_inside field head (node first h.MemberExpr inside ++ others) own).1 in
+    own_parts (node first h.MemberExpr inside) others
+    (own_inside field head (node first h.MemberExpr inside ++ others) own).1 in
     let its =
-        split steps (names_of inside) (names_of others)
-        (subst (λ list. AllZip KeepsSymbol steps list) (kept_names field head first inside others)
-        cover) in
+    split steps (names_of inside) (names_of others)
+    (subst (λ list. AllZip KeepsSymbol steps list) (kept_names field head first inside others)
+    cover) in
     let front =
-        fits one refl (own_inside first h.MemberExpr inside parts.0).1 its.front (its.back ++ more)
-        (is ∙ (ap (λ list. list ++ more) its.is ∙ append_assoc its.front its.back more))
-        its.for_first in
+    fits one refl (own_inside first h.MemberExpr inside parts.0).1 its.front (its.back ++ more)
+    (is ∙ (ap (λ list. list ++ more) its.is ∙ append_assoc its.front its.back more))
+    its.for_first in
     let back = fits two refl parts.1 its.back more front.left its.for_second in
     record { by = e.Kept field head first keeps front.by back.by; left = back.left }
 fits (b.Shorthand {work = work} field x ctxt role {default = default} occurs one) free own steps
     more is cover =
     let taken =
-        one_step work steps more (x, ctxt) (names_of default) _ is
-        (short_names field x ctxt role default occurs) cover in
+    one_step work steps more (x, ctxt) (names_of default) _ is
+    (short_names field x ctxt role default occurs) cover in
     let parts =
-        own_parts (binding None 0 x ctxt role) default
-        (own_inside field h.AssignPatProp (binding None 0 x ctxt role ++ default) own).1 in
+    own_parts (binding None 0 x ctxt role) default
+    (own_inside field h.AssignPatProp (binding None 0 x ctxt role ++ default) own).1 in
     short field x ctxt role (names_of default) occurs taken
-        (fits one refl parts.1 taken.behind more taken.left taken.cover)
+    (fits one refl parts.1 taken.behind more taken.left taken.cover)
 fits (b.OfReads {work = work} field name inside found) free own steps more is cover =
     let reads = reads_found (upcoming work) inside name found in
     let one = member_names field reads.count inside own reads.reads in
     record
-        { by = e.OfReads field name inside found; left = one_left (one_step work steps more one.ident [] _ is one.is cover) }
+    { by = e.OfReads field name inside found; left = one_left (one_step work steps more one.ident [] _ is one.is cover) }
 fits (b.OfCall {work = work} field name inside found) free own steps more is cover =
     let calls = call_found (upcoming work) inside name found in
     let one = call_names field inside own calls.calls in
     record
-        { by = e.OfCall field name inside found; left = one_left (one_step work steps more one.ident [] _ is one.is cover) }
+    { by = e.OfCall field name inside found; left = one_left (one_step work steps more one.ident [] _ is one.is cover) }
 fits (b.OfMeta field kind name found) free own steps more is cover =
     record
     { by = e.OfMeta field kind name found; left = nothing_taken steps more [] refl cover is }

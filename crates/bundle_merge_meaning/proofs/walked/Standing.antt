@@ -15,7 +15,9 @@ use Rattle.bundle_rules.specs.Mentions.{same_denoted, each_denoted_once}
 use Rattle.bundle_rules.specs.Meaning.{Meant, Inside, Known, Unbound, Sense, NameMeans, OwnName, plain, is_inside, inner_bindings, own_view, own_sense, HasKind, Replaced, OwnMeaning}
 use Rattle.bundle_rules.specs.Meaning as n
 use Rattle.bundle_rules.specs.Bundle.{Labelled, sense_of, SameMeaning}
-use Rattle.bundle_merge_meaning.specs.noted.Marked.{Note, Whole, Alone, Reads, Call}
+use Rattle.bundle_merge_meaning.specs.noted.Marked.{Note}
+use Rattle.bundle_tree_rebuild.specs.declared.rewrite.Whole.{Whole}
+use Rattle.bundle_tree_rebuild.specs.declared.rewrite.Whole.TheVariants.{Alone, Reads, Call}
 use Rattle.bundle_merge_meaning.specs.noted.Stated.{declares_default}
 use Rattle.bundle_merge_meaning.specs.noted.Agrees.{IsAt, IsClear, Agrees, AgreeInTurn, IsListing, ReplacesNotable}
 use Rattle.bundle_merge_meaning.proofs.noted.Spots.{at-spot, at-past}
@@ -23,7 +25,7 @@ use Rattle.bundle_merge_meaning.proofs.noted.Steps.{is_object_around}
 use Rattle.bundle_merge_meaning.proofs.noted.Statements.{is_in_short}
 use Rattle.bundle_merge_meaning.proofs.noted.Tops.{StandsThere}
 use Rattle.bundle_merge_meaning.proofs.noted.Items.{own_meaning}
-use Rattle.bundle_merge_meaning.specs.walked.Work.{Work}
+use Rattle.bundle_tree_rebuild.specs.Work.{Work}
 use Rattle.bundle_merge_meaning.specs.walked.Keeps.{Agree, AgreeOnMeta, Entry, ByStep, ByMeta, ident_in, steps_in, notes_in, AreOfMeta}
 use Rattle.bundle_merge_meaning.specs.walked.Names.{names_of}
 use Rattle.bundle_merge_meaning.specs.walked.Rewrites.{AreOwn, Cover}
@@ -81,10 +83,10 @@ module _ (p : Program) (m : ℕ) (kind : ModuleKind) (all : List Denoted) where
       found ≡ denoted_here (own_view p m kind) o
   found_there s x more at o is found denotes =
       let there : denoted_at BySymbol kind (tree_of p m) o.place
-          ≡ Some (denoted_here (own_view p m kind) o) =
-          ap (denoted_at BySymbol kind (tree_of p m)) (occurrence_place s x o is)
-          ∙ (ap (option_map (denoted_here (own_view p m kind))) (occurrence_there at)
-          ∙ ap (option_map (denoted_here (own_view p m kind))) is) in
+      ≡ Some (denoted_here (own_view p m kind) o) =
+      ap (denoted_at BySymbol kind (tree_of p m)) (occurrence_place s x o is)
+      ∙ (ap (option_map (denoted_here (own_view p m kind))) (occurrence_there at)
+      ∙ ap (option_map (denoted_here (own_view p m kind))) is) in
       let same : Some found ≡ Some (denoted_here (own_view p m kind) o) = sym denotes ∙ there in
       cc same
 
@@ -119,9 +121,11 @@ module _ (p : Program) (m : ℕ) (kind : ModuleKind) (all : List Denoted) where
           its
       go None is its each outside rest = rest its each outside
       go (Some o) is [] each outside rest = absurd each
-      go (Some o) is (note ∷ its) each outside rest =
-          (note_fact o (denoted_here (own_view p m kind) o) note.meant note.whole
-          (found_there s x (items ++ tail) at o is) outside.0 each.0, rest its each.1 outside.1)
+      go (Some o) is (note ∷ its) each outside rest = (
+        note_fact o (denoted_here (own_view p m kind) o) note.meant note.whole
+            (found_there s x (items ++ tail) at o is) outside.0 each.0,
+        rest its each.1 outside.1,
+      )
 
 -- What is told of both sides.
 
@@ -141,14 +145,17 @@ both_denote R labels inner there [] [] (e ∷ es) source made = absurd made
 both_denote R labels inner there [] (d ∷ ds) es source made = absurd made
 both_denote R labels inner there (ByStep step note ∷ entries) [] es source made = absurd made
 both_denote R labels inner there (ByStep step note ∷ entries) (d ∷ ds) [] source made = absurd made
-both_denote R labels inner there (ByStep step note ∷ entries) (d ∷ ds) (e ∷ es) source made =
-    (one_denotes R labels inner there note.meant d e source.0 made.0, both_denote R labels inner
-    there entries ds es source.1 made.1)
+both_denote R labels inner there (ByStep step note ∷ entries) (d ∷ ds) (e ∷ es) source made = (
+  one_denotes R labels inner there note.meant d e source.0 made.0,
+  both_denote R labels inner
+      there entries ds es source.1 made.1,
+)
 both_denote R labels inner there (ByMeta ident meant ∷ entries) ds [] source made = absurd made
 both_denote R labels inner there (ByMeta ident meant ∷ entries) ds (e ∷ es) source made =
     (made.0, both_denote R labels inner there entries ds es source made.1)
 
--- with right notes of its occurrences, and where each name that is made denotes what its note says, what a walk makes of it means in the bundle what it means in the module
+-- with right notes of its occurrences, and where each name that is made denotes what its note
+-- says, what a walk makes of it means in the bundle what it means in the module
 pub own_statement_stands : (p : Program) (m : ℕ) (kind : ModuleKind) → HasKind p m kind →
     (meta : Option Meant) (default : Meant) → IsListing (tree_of p m) →
     ReplacesNotable (own_sense p m kind) meta →
@@ -180,32 +187,32 @@ own_statement_stands p m kind has_kind meta default listing replaces top outer h
     let sense : Sense = own_sense p m kind in
     let ds : List Denoted = map (denoted_here view) (occurrences_from here.s top.items) in
     let spot : spot_before (tree_of p m) top.start ≡ here.s =
-        ap (spot_before (tree_of p m)) (sym here.place) ∙ at-spot here.at in
+    ap (spot_before (tree_of p m)) (sym here.place) ∙ at-spot here.at in
     let stated_here : stated here.s.place top.items ≡ statement ∷ [] =
-        ap (λ place. stated place top.items) here.place ∙ is in
+    ap (λ place. stated place top.items) here.place ∙ is in
     let inner_is : inner_bindings view 0 statement ≡ each_denoted_once (filter (is_inside 0) ds) =
-        ap each_denoted_once
-        (stated_denotes same.source view 0 here.s here.tail here.at statement stated_here) in
+    ap each_denoted_once
+    (stated_denotes same.source view 0 here.s here.tail here.at statement stated_here) in
     let own : OwnMeaning p m statement same.marks =
     own_meaning p m kind has_kind meta default listing replaces top outer here object short clear
-        notes [] same.marks same.source statement is
+    notes [] same.marks same.source statement is
     (subst
-        (λ s.
-        AgreeInTurn sense (inner_bindings view 0 statement) (occurrences_from s top.items) notes)
-        (sym spot) agree)
-        default_means in
+    (λ s.
+    AgreeInTurn sense (inner_bindings view 0 statement) (occurrences_from s top.items) notes)
+    (sym spot) agree)
+    default_means in
     let source : AllSource (each_denoted_once (filter (is_inside 0) ds)) ds notes =
     all_source p m kind ds here.s top.items here.tail here.at notes
-        (subst (λ inner. AgreeInTurn sense inner (occurrences_from here.s top.items) notes)
-        inner_is agree)
-        out in
+    (subst (λ inner. AgreeInTurn sense inner (occurrences_from here.s top.items) notes)
+    inner_is agree)
+    out in
     statement_stands p b m item statement same own b_listing path there b_object b_short R one ds
-        front_es es denotes front_out
+    front_es es denotes front_out
     (both_denote R b.labels (each_denoted_once (filter (is_inside 0) ds)) item.start same.entries
-        ds es
-        (subst (λ list. AllSource (each_denoted_once (filter (is_inside 0) ds)) ds list)
-        same.notes_are source)
-        made)
+    ds es
+    (subst (λ list. AllSource (each_denoted_once (filter (is_inside 0) ds)) ds list)
+    same.notes_are source)
+    made)
 
 -- By identifiers.
 
@@ -221,9 +228,11 @@ all_made R labels there D own meta on_meta (ByStep step note ∷ entries) [] mad
     absurd made
 all_made R labels there D own meta on_meta (ByStep step note ∷ entries) (d ∷ ds) made of_meta =
     (made.0, all_made R labels there D own meta on_meta entries ds made.1 of_meta)
-all_made R labels there D own meta on_meta (ByMeta ident meant ∷ entries) ds made of_meta =
-    (on_meta ident meant of_meta.0 of_meta.1, all_made R labels there D own meta on_meta entries ds
-    made of_meta.2)
+all_made R labels there D own meta on_meta (ByMeta ident meant ∷ entries) ds made of_meta = (
+  on_meta ident meant of_meta.0 of_meta.1,
+  all_made R labels there D own meta on_meta entries ds
+      made of_meta.2,
+)
 
 front_made : (labels : n.Labelling) (there : ℕ) (D : Ident → Denoted) (name : Ident)
     (default : Meant) (item : List Item) (front : List (Ident × Meant)) →
@@ -236,7 +245,8 @@ front_made labels there D name default item front is out = elim is [
   | inr one ↦ subst (λ (list : List (Ident × Meant)). AllZip (IsOutside labels there) (map (λ pair. pair.1) list) (map D (map (λ pair. pair.0) list))) (sym one.0) (out one.1, tt)
 ]
 
--- what a walk states of a top item, with right steps and notes, means in the bundle what the own statement means in its module; an identifier of the item denotes this in the bundle
+-- what a walk states of a top item, with right steps and notes, means in the bundle what the own
+-- statement means in its module; an identifier of the item denotes this in the bundle
 pub walk_stands : (p : Program) (m : ℕ) (kind : ModuleKind) → HasKind p m kind →
     (meta : Option Meant) (default : Meant) → IsListing (tree_of p m) →
     ReplacesNotable (own_sense p m kind) meta →
@@ -268,20 +278,20 @@ walk_stands p m kind has_kind meta default listing replaces top outer here objec
     statement is work name notes agree default_means out b item states own cover steps_agree
     on_meta b_listing path there b_object b_short R one D denotes made of_meta of_default =
     let ds : List Denoted =
-        map (denoted_here (own_view p m kind)) (occurrences_from here.s top.items) in
+    map (denoted_here (own_view p m kind)) (occurrences_from here.s top.items) in
     let same : SameStated work meta notes name default top.items item.items =
-        states_same states own cover meta notes default steps_agree on_meta in
+    states_same states own cover meta notes default steps_agree on_meta in
     let names : map D (names_of item.items)
-        ≡ map D (map (λ pair. pair.0) same.front) ++ map D (map ident_in same.entries) =
-        ap (map D) same.names
-        ∙ map-append D (map (λ pair. pair.0) same.front) (map ident_in same.entries) in
+    ≡ map D (map (λ pair. pair.0) same.front) ++ map D (map ident_in same.entries) =
+    ap (map D) same.names
+    ∙ map-append D (map (λ pair. pair.0) same.front) (map ident_in same.entries) in
     own_statement_stands p m kind has_kind meta default listing replaces top outer here object
-        short clear statement is notes agree default_means out b item same b_listing path there
-        b_object b_short R one
+    short clear statement is notes agree default_means out b item same b_listing path there
+    b_object b_short R one
     (map D (map (λ pair. pair.0) same.front)) (map D (map ident_in same.entries)) (denotes ∙ names)
     (front_made b.labels item.start D name default top.items same.front same.front_is of_default)
     (all_made R b.labels item.start D work.meta meta of_meta same.entries ds
-        (subst (λ steps. StepsMade R b.labels item.start D steps (notes_in same.entries) ds)
-        same.steps_are
-        (subst (λ its. StepsMade R b.labels item.start D work.steps its ds) same.notes_are made))
-        same.of_meta)
+    (subst (λ steps. StepsMade R b.labels item.start D steps (notes_in same.entries) ds)
+    same.steps_are
+    (subst (λ its. StepsMade R b.labels item.start D work.steps its ds) same.notes_are made))
+    same.of_meta)

@@ -11,8 +11,8 @@ use Rattle.bundle_rules.specs.Marks as m
 use Rattle.bundle_rules.specs.Meaning.{Meant, Mark}
 use Rattle.bundle_rules.specs.Statements.{moved_to, declaration_head, no_notes}
 use Rattle.bundle_tree_places.specs.Edits.{Anywhere, node, around_in}
-use Rattle.bundle_merge_meaning.specs.walked.Work.{Step, Work}
-use Rattle.bundle_merge_meaning.specs.walked.Becomes.{named}
+use Rattle.bundle_tree_rebuild.specs.Work.{Step, Work}
+use Rattle.bundle_tree_rebuild.specs.Becomes.{named}
 use Rattle.bundle_merge_meaning.specs.noted.Marked.{Note, Marked, node_marks}
 use Rattle.bundle_merge_meaning.specs.noted.Marked as d
 use Rattle.bundle_merge_meaning.specs.walked.Names.{names_of}
@@ -97,21 +97,21 @@ states_same (s.StatementStates field head part itself one) own cover meta notes 
 states_same {work = work} (s.DeclarationStates field part one) own cover meta notes default agree
     on_meta =
     let same =
-        becomes_same one refl (own_inside field h.ExportDecl part own).1
-        (subst (λ names. AllZip KeepsSymbol work.steps names) (node_names field h.ExportDecl part)
-        cover)
-        meta notes agree on_meta in
+    becomes_same one refl (own_inside field h.ExportDecl part own).1
+    (subst (λ names. AllZip KeepsSymbol work.steps names) (node_names field h.ExportDecl part)
+    cover)
+    meta notes agree on_meta in
     of_part same (g.Declared field part same.source)
 states_same {work = work} {name = name} (s.ValueStates field first more {value = value} one) own
     cover meta notes default agree on_meta =
     let part_own = (own_inside field h.ExportDefaultExpr (first ∷ more) own).1 in
     let same =
-        becomes_same one refl
-        (ap (λ b. b && list_all is_own_item more) (moved_own 1 first) ∙ part_own)
-        (subst (λ names. AllZip KeepsSymbol work.steps names)
-        (node_names field h.ExportDefaultExpr (first ∷ more) ∙ sym (moved_names 1 first more))
-        cover)
-        meta notes agree on_meta in
+    becomes_same one refl
+    (ap (λ b. b && list_all is_own_item more) (moved_own 1 first) ∙ part_own)
+    (subst (λ names. AllZip KeepsSymbol work.steps names)
+    (node_names field h.ExportDefaultExpr (first ∷ more) ∙ sym (moved_names 1 first more))
+    cover)
+    meta notes agree on_meta in
     record {
       marks = constant_marks default same.marks;
       entries = same.entries;
@@ -138,8 +138,8 @@ states_same {work = work}
     (s.OwnStates field inner name_field x ctxt role head body {made = made} is one) own cover meta
     notes default agree on_meta =
     let parts =
-        default_parts work.steps field inner head (h.Ident name_field x ctxt role ∷ body) own
-        cover in
+    default_parts work.steps field inner head (h.Ident name_field x ctxt role ∷ body) own
+    cover in
     let same = becomes_same one refl parts.0 parts.1 meta notes agree on_meta in
     record {
       marks = node_marks 0 (declaration_head head) same.marks;
@@ -157,7 +157,7 @@ states_same {work = work} {name = name}
     (s.DefaultStates field inner first_field head first more {made = made} is one) own cover meta
     notes default agree on_meta =
     let parts =
-        default_parts work.steps field inner head (h.Open first_field first ∷ more) own cover in
+    default_parts work.steps field inner head (h.Open first_field first ∷ more) own cover in
     let same = becomes_same one refl parts.0 parts.1 meta notes agree on_meta in
     record {
       marks = node_marks 0 (declaration_head head) (m.Name 0 default ∷ same.marks);

@@ -20,7 +20,7 @@ use Rattle.bundle_merge_meaning.proofs.noted.Steps.{is_object_around}
 use Rattle.bundle_merge_meaning.proofs.noted.Statements.{is_in_short}
 use Rattle.bundle_merge_meaning.proofs.noted.Tops.{StandsThere}
 use Rattle.bundle_merge_meaning.proofs.noted.Items.{item_means, same_meaning}
-use Rattle.bundle_merge_meaning.specs.walked.Work.{Work}
+use Rattle.bundle_tree_rebuild.specs.Work.{Work}
 use Rattle.bundle_merge_meaning.specs.walked.Keeps.{Entry, ByStep, ByMeta, meant_in, alone}
 use Rattle.bundle_merge_meaning.specs.walked.Numbers.{IsOneToOne, AreBeside}
 use Rattle.bundle_merge_meaning.specs.walked.Together.{IsBoundAs, IsOutside, StepDenotes, AllDenote}
@@ -59,9 +59,11 @@ all_beside R labels inner here there (ByStep step note ∷ entries) (d ∷ ds) (
     let one = step_beside R labels inner here there note.meant d e all.0 in
     (one.0, one.1, all_beside R labels inner here there entries ds es all.1)
 all_beside R labels inner here there (ByMeta ident meant ∷ entries) ds [] all = absurd all
-all_beside R labels inner here there (ByMeta ident meant ∷ entries) ds (e ∷ es) all =
-    (not_inside labels there meant e all.0, all_beside R labels inner here there entries ds es
-    all.1)
+all_beside R labels inner here there (ByMeta ident meant ∷ entries) ds (e ∷ es) all = (
+  not_inside labels there meant e all.0,
+  all_beside R labels inner here there entries ds es
+      all.1,
+)
 
 -- Meanings, where these are the bindings inside the item.
 
@@ -110,9 +112,11 @@ module _ (tree : List Item) (reading : Reading) (labels : Labelling) (there : �
   entries_mean R inner here [] (d ∷ ds) es same its = absurd its
   entries_mean R inner here (ByStep step note ∷ entries) [] es same its = absurd its
   entries_mean R inner here (ByStep step note ∷ entries) (d ∷ ds) [] same its = absurd its
-  entries_mean R inner here (ByStep step note ∷ entries) (d ∷ ds) (e ∷ es) same its =
-      ((refl, step_means R inner here note.meant d e (same d e) its.0), entries_mean R inner here
-      entries ds es same its.1)
+  entries_mean R inner here (ByStep step note ∷ entries) (d ∷ ds) (e ∷ es) same its = (
+    (refl, step_means R inner here note.meant d e (same d e) its.0),
+    entries_mean R inner here
+        entries ds es same its.1,
+  )
   entries_mean R inner here (ByMeta ident meant ∷ entries) ds [] same its = absurd its
   entries_mean R inner here (ByMeta ident meant ∷ entries) ds (e ∷ es) same its =
       ((refl, outside_means meant e its.0), entries_mean R inner here entries ds es same its.1)
@@ -137,10 +141,10 @@ front_filtered labels there [] (e ∷ front_es) es out = absurd out
 front_filtered labels there (meant ∷ front) [] es out = absurd out
 front_filtered labels there (meant ∷ front) (e ∷ front_es) es out =
     ap
-        (λ b.
-        cond b (e ∷ filter (is_inside there) (front_es ++ es))
-        (filter (is_inside there) (front_es ++ es)))
-        (not_inside labels there meant e out.0)
+    (λ b.
+    cond b (e ∷ filter (is_inside there) (front_es ++ es))
+    (filter (is_inside there) (front_es ++ es)))
+    (not_inside labels there meant e out.0)
     ∙ front_filtered labels there front front_es es out.1
 
 -- with what is told of each, the names of an item mean what is noted of them
@@ -156,16 +160,16 @@ pub names_mean : (tree : List Item) (reading : Reading) (labels : Labelling)
 names_mean tree reading labels R one here there front entries ds front_es es out all =
     let inner : List Denoted = each_denoted_once (filter (is_inside here) ds) in
     let beside =
-        inside_beside R (is_inside here) (is_inside there) entries ds es
-        (all_beside R labels inner here there entries ds es all) in
+    inside_beside R (is_inside here) (is_inside there) entries ds es
+    (all_beside R labels inner here there entries ds es all) in
     let same : (d e : Denoted) → R d e → position (same_denoted d) inner ≡ position (same_denoted e) (each_denoted_once (filter (is_inside there) (front_es ++ es))) = λ d e its.
     numbers_agree R one (filter (is_inside here) ds) (filter (is_inside there) es) beside d e its
     ∙ ap (λ list. position (same_denoted e) (each_denoted_once list))
-        (sym (front_filtered labels there front front_es es out)) in
+    (sym (front_filtered labels there front front_es es out)) in
     front_means tree reading labels there (front_es ++ es) front front_es es (map meant_in entries)
-        out
-        (entries_mean tree reading labels there (front_es ++ es) R inner here entries ds es same
-        all)
+    out
+    (entries_mean tree reading labels there (front_es ++ es) R inner here entries ds es same
+    all)
 
 -- what a walk makes of an own statement means in the bundle what the statement means in its module
 pub statement_stands : (p : Program) (b : Labelled) (m : ℕ) (item : TopItem)
@@ -181,29 +185,28 @@ pub statement_stands : (p : Program) (b : Labelled) (m : ℕ) (item : TopItem)
     AllDenote R b.labels (each_denoted_once (filter (is_inside 0) ds)) 0 item.start same.entries ds
     es → SameMeaning p b m item statement
 statement_stands p b m item statement {work = work} {meta = meta} {notes = notes} {name = name}
-    {default = default} same own listing path its object short R one ds front_es es denotes out all
-    =
+    {default = default} same own listing path its object short R one ds front_es es denotes out all =
     let sense : Sense = sense_of b in
     let inner : List Denoted = inner_bindings sense.view item.start (elements_of item) in
     let meants : List Meant = map (λ pair. pair.1) same.front ++ map meant_in same.entries in
     let found : filter_map (denoted sense.view) (taken_from item.start item.items) ≡ front_es ++ es =
     ap (λ place. filter_map (denoted sense.view) (taken_from place item.items)) (sym its.place)
-        ∙ (elements_denote sense.view its.s item.items its.tail its.at ∙ denotes) in
+    ∙ (elements_denote sense.view its.s item.items its.tail its.at ∙ denotes) in
     let mean : AllZip
-        (MeansNote sense (each_denoted_once (filter (is_inside item.start) (front_es ++ es))))
-        (front_es ++ es) (alone meants) =
-        names_mean b.tree b.reading b.labels R one 0 item.start (map (λ pair. pair.1) same.front)
-        same.entries ds front_es es out all in
+    (MeansNote sense (each_denoted_once (filter (is_inside item.start) (front_es ++ es))))
+    (front_es ++ es) (alone meants) =
+    names_mean b.tree b.reading b.labels R one 0 item.start (map (λ pair. pair.1) same.front)
+    same.entries ds front_es es out all in
     let mean_inner : AllZip (MeansNote sense inner) (front_es ++ es) (alone meants) =
-        subst
-        (λ list.
-        AllZip (MeansNote sense (each_denoted_once (filter (is_inside item.start) list)))
-        (front_es ++ es) (alone meants))
-        (sym found) mean in
+    subst
+    (λ list.
+    AllZip (MeansNote sense (each_denoted_once (filter (is_inside item.start) list)))
+    (front_es ++ es) (alone meants))
+    (sym found) mean in
     let each : EachMeans sense inner (occurrences_from its.s item.items) (alone meants) =
-        each_means sense inner its.s item.items its.tail its.at (alone meants)
-        (subst (λ list. AllZip (MeansNote sense inner) list (alone meants)) (sym denotes)
-        mean_inner) in
+    each_means sense inner its.s item.items its.tail its.at (alone meants)
+    (subst (λ list. AllZip (MeansNote sense inner) list (alone meants)) (sym denotes)
+    mean_inner) in
     same_meaning p b m item statement same.marks own
     (item_means b listing item path its object short (alone meants) [] same.marks same.result
     (subst (λ s. EachMeans sense inner (occurrences_from s item.items) (alone meants)) (sym (ap (spot_before b.tree) (sym its.place) ∙ at-spot its.at)) each))

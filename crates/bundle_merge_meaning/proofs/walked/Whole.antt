@@ -1,13 +1,14 @@
--- All of a part that a walk makes anew: it has the same marks, and what is told of steps and notes is told of what is made.
+-- All of a part that a walk makes anew: it has the same marks, and what is told of steps and notes
+-- is told of what is made.
 use Rattle.std.proofs.Common.{◌≡◌, true, List, [], ◌∷◌, ◌++◌, Option, Some, None, map, refl, ap, sym, ◌∙◌, subst, append-nil}
 use Rattle.std.specs.List.{AllZip}
 use Rattle.bundle_tree_piece.specs.Item.{Item}
 use Rattle.bundle_rules.specs.Idents.{Ident}
 use Rattle.bundle_rules.specs.Meaning.{Meant}
 use Rattle.bundle_tree_places.specs.Edits.{Around}
-use Rattle.bundle_merge_meaning.specs.walked.Work.{Step, Work}
+use Rattle.bundle_tree_rebuild.specs.Work.{Step, Work}
 use Rattle.bundle_merge_meaning.specs.noted.Marked.{Note, Marked}
-use Rattle.bundle_merge_meaning.specs.walked.Becomes.{Becomes}
+use Rattle.bundle_tree_rebuild.specs.Becomes.{Becomes}
 use Rattle.bundle_merge_meaning.specs.walked.Names.{names_of}
 use Rattle.bundle_merge_meaning.specs.walked.Rewrites.{is_in_no_specifier, AreOwn, Cover}
 use Rattle.bundle_merge_meaning.specs.walked.Keeps.{Agree, AgreeOnMeta, Entry, ByStep, ByMeta, ident_in, meant_in, steps_in, notes_in, AreOfMeta, alone, Same}
@@ -48,7 +49,8 @@ becomes_same {around = around} {work = work} {rest = rest} {before = before} {ma
       of_meta = all.of_meta;
     }
 
--- what holds of each step with its note, and of `import.meta`, holds of each identifier that is made with what it means
+-- what holds of each step with its note, and of `import.meta`, holds of each identifier that is
+-- made with what it means
 entries_hold : (P : Ident → Meant → Type 0) (own : Option Ident) (meta : Option Meant) →
     ((ident : Ident) (meant : Meant) → own ≡ Some ident → meta ≡ Some meant → P ident meant) →
     (entries : List Entry) →
@@ -57,9 +59,11 @@ entries_hold : (P : Ident → Meant → Type 0) (own : Option Ident) (meta : Opt
 entries_hold P own meta on_meta [] on_steps of_meta = tt
 entries_hold P own meta on_meta (ByStep step note ∷ entries) on_steps of_meta =
     (on_steps.0, entries_hold P own meta on_meta entries on_steps.1 of_meta)
-entries_hold P own meta on_meta (ByMeta ident meant ∷ entries) on_steps of_meta =
-    (on_meta ident meant of_meta.0 of_meta.1, entries_hold P own meta on_meta entries on_steps
-    of_meta.2)
+entries_hold P own meta on_meta (ByMeta ident meant ∷ entries) on_steps of_meta = (
+  on_meta ident meant of_meta.0 of_meta.1,
+  entries_hold P own meta on_meta entries on_steps
+      of_meta.2,
+)
 
 pub made_hold : {around : Around} {work : Work} {meta : Option Meant} {notes : List Note}
     {before made : List Item} (P : Ident → Meant → Type 0) →
@@ -70,9 +74,9 @@ pub made_hold : {around : Around} {work : Work} {meta : Option Meant} {notes : L
 made_hold {work = work} {meta = meta} {notes = notes} P same on_steps on_meta =
     subst (λ names. AllZip P names (map meant_in same.entries)) (sym same.names)
     (entries_hold P work.meta meta on_meta same.entries
-        (subst
-        (λ steps. AllZip (λ step note. P step.ident note.meant) steps (notes_in same.entries))
-        same.steps_are
-        (subst (λ its. AllZip (λ step note. P step.ident note.meant) work.steps its) same.notes_are
-        on_steps))
-        same.of_meta)
+    (subst
+    (λ steps. AllZip (λ step note. P step.ident note.meant) steps (notes_in same.entries))
+    same.steps_are
+    (subst (λ its. AllZip (λ step note. P step.ident note.meant) work.steps its) same.notes_are
+    on_steps))
+    same.of_meta)

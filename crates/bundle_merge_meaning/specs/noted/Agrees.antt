@@ -1,4 +1,5 @@
--- What notes and replaced nodes have to be, by their places, so that notes beside a part of a tree give its meaning.
+-- What notes and replaced nodes have to be, by their places, so that notes beside a part of a tree
+-- give its meaning.
 use Rattle.std.specs.Prelude.{◌≡◌, ℕ, suc, ◌+◌, Bool as Truth, true, false, List, [], ◌∷◌, ◌++◌, Option, Some, drop, fold, slice_get}
 use Rattle.bundle_tree_leaf.specs.declared.kind.MetaPropKind.TheVariants as p
 use Rattle.bundle_tree_leaf.specs.declared.operator.AssignOp.{AssignOp}
@@ -11,7 +12,10 @@ use Rattle.bundle_rules.specs.Nodes.{Text}
 use Rattle.bundle_rules.specs.Meaning.{Sense, Replacement, ByName, ByCall, Label, Meant, Known, NameMeans}
 use Rattle.bundle_tree_places.specs.Edits.{node}
 use Rattle.bundle_merge_meaning.specs.noted.Listed.{is_reference}
-use Rattle.bundle_merge_meaning.specs.noted.Marked.{Whole, Alone, Reads, Call, Note, are_reads, is_literal_call, keeps_first}
+use Rattle.bundle_tree_rebuild.specs.declared.rewrite.Whole.{Whole}
+use Rattle.bundle_tree_rebuild.specs.declared.rewrite.Whole.TheVariants.{Alone, Reads, Call}
+use Rattle.bundle_merge_meaning.specs.noted.Marked.{Note}
+use Rattle.bundle_tree_rebuild.specs.Becomes.{are_reads, is_literal_call, keeps_first}
 
 -- Where a part of a tree stands.
 
@@ -30,8 +34,8 @@ IsClear replaced (node ∷ outer) =
     (((x : Replacement) → replaced node.begins x → ⊥)) × IsClear replaced outer
 
 -- of these nodes the outermost one that is replaced begins there, and is replaced by that
-pub record IsReplacedAround (replaced : ℕ → Replacement → Type 0) (path : List Around) (begins : ℕ) (by : Replacement) : Type
-    0 where
+pub record IsReplacedAround (replaced : ℕ → Replacement → Type 0) (path : List Around) (begins : ℕ)
+    (by : Replacement) : Type 0 where
   pub inner : List Around
   pub node : Around
   pub outer : List Around
@@ -50,8 +54,8 @@ pub data IsNotable (meta : Option Meant) : Head → List Item → Replacement �
       IsNotable meta (h.MetaPropExpr p.ImportMeta) [] (ByName l)
 
 -- a node that is replaced, where none around it is
-pub record IsNotedNode (tree : List Item) (meta : Option Meant) (place field : ℕ) (head : Head) (by : Replacement) : Type
-    0 where
+pub record IsNotedNode (tree : List Item) (meta : Option Meant) (place field : ℕ) (head : Head)
+    (by : Replacement) : Type 0 where
   pub inside : List Item
   pub behind : List Item
   pub there : drop place tree ≡ node field head inside ++ behind
@@ -64,8 +68,8 @@ pub record IsNotedNode (tree : List Item) (meta : Option Meant) (place field : �
 -- Notes.
 
 -- the occurrence stands for itself: no node around it is replaced, and what it denotes means that
-pub record StandsAlone (sense : Sense) (inner : List Denoted) (o : Occurrence) (meant : Meant) : Type
-    0 where
+pub record StandsAlone (sense : Sense) (inner : List Denoted) (o : Occurrence)
+    (meant : Meant) : Type 0 where
   pub d : Denoted
   pub denotes : denoted_at sense.view.reading sense.view.kind sense.view.tree o.place ≡ Some d
   pub means : NameMeans sense inner d meant
@@ -73,12 +77,12 @@ pub record StandsAlone (sense : Sense) (inner : List Denoted) (o : Occurrence) (
 
 -- the node that begins so many places before it is replaced by a name of the label
 pub record StandsForReads (sense : Sense) (o : Occurrence) (meant : Meant) (count : ℕ) : Type 0
-    where
-  pub begins : ℕ
-  pub far : begins + count ≡ o.place
-  pub label : Label
-  pub meant_is : meant ≡ Known label
-  pub replaced : IsReplacedAround sense.replaced o.path begins (ByName label)
+  where
+    pub begins : ℕ
+    pub far : begins + count ≡ o.place
+    pub label : Label
+    pub meant_is : meant ≡ Known label
+    pub replaced : IsReplacedAround sense.replaced o.path begins (ByName label)
 
 -- the call that begins right before it is replaced by a call of the label
 pub record StandsForCall (sense : Sense) (o : Occurrence) (meant : Meant) : Type 0 where
@@ -101,9 +105,10 @@ AgreeInTurn sense inner (o ∷ more) [] = ⊥
 AgreeInTurn sense inner (o ∷ more) (note ∷ notes) =
     Agrees sense inner o note.meant note.whole × AgreeInTurn sense inner more notes
 
--- the same where nothing is replaced: the occurrence stands for itself, and what it denotes means that
-pub record MeansAlone (sense : Sense) (inner : List Denoted) (o : Occurrence) (note : Note) : Type
-    0 where
+-- the same where nothing is replaced: the occurrence stands for itself, and what it denotes means
+-- that
+pub record MeansAlone (sense : Sense) (inner : List Denoted) (o : Occurrence)
+    (note : Note) : Type 0 where
   pub alone : note.whole ≡ Alone
   pub d : Denoted
   pub denotes : denoted_at sense.view.reading sense.view.kind sense.view.tree o.place ≡ Some d
@@ -124,7 +129,8 @@ is_read_or_call h.MemberExpr = true
 is_read_or_call h.CallExpr = true
 is_read_or_call head = false
 
--- a name right in a member expression or a call refers; what is assigned to stands first in an assignment, in its field
+-- a name right in a member expression or a call refers; what is assigned to stands first in an
+-- assignment, in its field
 pub record IsListing (tree : List Item) : Type 0 where
   pub names : (place field ctxt : ℕ) (x : Text) (role : Role) (around : Around)
       (outer : List Around) → slice_get tree place ≡ Some (h.Ident field x ctxt role) →

@@ -1,11 +1,13 @@
--- Lists that are whole nodes, as trees list them, with what `IsListing` needs of what stands right in a node.
+-- Lists that are whole nodes, as trees list them, with what `IsListing` needs of what stands right
+-- in a node.
 use Rattle.std.specs.Prelude.{◌≡◌, ℕ, Bool, true, false, List, [], ◌∷◌, ◌++◌}
 use Rattle.bundle_tree_piece.specs.declared.piece.Role.{Role}
 use Rattle.bundle_tree_piece.specs.declared.piece.Role.TheVariants.{Reference}
 use Rattle.bundle_tree_piece.specs.Item as h
 use Rattle.bundle_tree_piece.specs.Item.{Item, Head}
 
--- where an element stands in the node around it: in a member expression or a call; first in an assignment; anywhere else
+-- where an element stands in the node around it: in a member expression or a call; first in an
+-- assignment; anywhere else
 pub data Stand : Type 0 where
   Other : Stand
   InReadOrCall : Stand

@@ -1,10 +1,10 @@
--- Which marks a part of a tree has, where a note tells of each occurrence what it means and how much of what is around
--- it stands for that: a relation over the nodes of its list. Each clause is one of `Becomes` (bundle_tree_rebuild).
-use Rattle.std.specs.Prelude.{◌≡◌, ℕ, zero, suc, ◌==◌, Bool, true, false, is_none, List, [], ◌∷◌, ◌++◌, Option, Some, None, slice_get, if◌then◌else◌}
+-- Which marks a part of a tree has, where a note tells of each occurrence what it means and how
+-- much of what is around it stands for that: a relation over the nodes of its list. Each clause is
+-- one of `Becomes` (bundle_tree_rebuild).
+use Rattle.std.specs.Prelude.{◌≡◌, ℕ, Bool, true, false, is_none, List, [], ◌∷◌, ◌++◌, Option, Some, None, slice_get, if◌then◌else◌}
 use Rattle.bundle_tree_leaf.specs.declared.kind.MetaPropKind.{MetaPropKind}
 use Rattle.bundle_tree_leaf.specs.declared.kind.MetaPropKind.TheVariants as p
 use Rattle.bundle_tree_piece.specs.declared.piece.Role.{Role}
-use Rattle.bundle_tree_piece.specs.declared.piece.Role.TheVariants as r
 use Rattle.bundle_tree_piece.specs.Item as h
 use Rattle.bundle_tree_piece.specs.Item.{Item, Head}
 use Rattle.bundle_rules.specs.Nodes.{Text}
@@ -12,13 +12,10 @@ use Rattle.bundle_rules.specs.Cleared.{cleared_head}
 use Rattle.bundle_rules.specs.Marks as k
 use Rattle.bundle_rules.specs.Marks.{word_key, object_key}
 use Rattle.bundle_rules.specs.Meaning.{Meant, Mark}
+use Rattle.bundle_tree_rebuild.specs.declared.rewrite.Whole.{Whole}
+use Rattle.bundle_tree_rebuild.specs.declared.rewrite.Whole.TheVariants.{Alone, Reads, Call}
+use Rattle.bundle_tree_rebuild.specs.Becomes.{are_reads, is_literal_call, keeps_first}
 use Rattle.bundle_tree_places.specs.Edits.{Around, Anywhere, InObject, InSpecifier, node, is_occurrence, around_in, binding}
-
--- how much of what is around an occurrence stands for what it means: just the name; so many static reads around it; the literal call of it
-pub data Whole : Type 0 where
-  Alone : Whole
-  Reads : ℕ → Whole
-  Call : Whole
 
 -- what an occurrence means, and how much stands for it
 pub record Note : Type 0 where
@@ -30,39 +27,6 @@ abbrev pub upcoming : List Note → Option Note
 upcoming notes = slice_get notes 0
 
 -- Which nodes stand for what a name means (as in `Becomes`).
-
--- what stands behind the word and the end of a member expression
-abbrev pub behind_word : Option (List Item) → Option (List Item)
-behind_word (Some (h.Open field (h.IdentName word) ∷ h.Close ∷ h.Close ∷ rest)) = Some rest
-behind_word _ = None
-
--- what stands behind an identifier that refers with so many static reads around it, as `a.b.c` with 2, if these elements begin with one
-abbrev pub behind_reads : ℕ → List Item → Option (List Item)
-behind_reads zero (h.Ident field x ctxt r.Reference ∷ rest) = Some rest
-behind_reads (suc count) (h.Open field h.MemberExpr ∷ rest) = behind_word (behind_reads count rest)
-behind_reads _ _ = None
-
--- whether nothing stands there
-abbrev pub is_end : Option (List Item) → Bool
-is_end (Some []) = true
-is_end _ = false
-
--- whether what is in a member expression makes it just so many static reads
-abbrev pub are_reads : ℕ → (inside : List Item) → Bool
-are_reads count inside = is_end (behind_reads count (node 0 h.MemberExpr inside))
-
--- whether these elements are one string as an argument, not spread
-abbrev pub is_one_string : List Item → Bool
-is_one_string
-    (h.Open field (h.ExprOrSpread false) ∷ h.Open inner (h.Str value raw) ∷ h.Close ∷ h.Close ∷ [])
-    =
-    true
-is_one_string _ = false
-
--- whether what is in a call is an identifier that refers and is called, and one string
-abbrev pub is_literal_call : (inside : List Item) → Bool
-is_literal_call (h.Ident field x ctxt r.Reference ∷ arguments) = is_one_string arguments
-is_literal_call _ = false
 
 -- what a member expression stands for by this note, if it does
 abbrev pub meant_by_reads : Meant → Whole → (inside : List Item) → Option Meant
@@ -89,19 +53,14 @@ abbrev pub meant_for_meta : Option Meant → MetaPropKind → Option Meant
 meant_for_meta meta p.ImportMeta = meta
 meant_for_meta meta p.NewTarget = None
 
--- whether a node stays, and just what is in it is marked: where `meta` is what `import.meta` stands for, and this is the next note
+-- whether a node stays, and just what is in it is marked: where `meta` is what `import.meta`
+-- stands for, and this is the next note
 abbrev pub stays : (meta : Option Meant) → Option Note → Head → (inside : List Item) → Bool
 stays meta next h.MemberExpr inside = is_none (meant_for_member next inside)
 stays meta next h.CallExpr inside = is_none (meant_for_call next inside)
 stays meta next (h.MetaPropExpr kind) inside = is_none (meant_for_meta meta kind)
 stays meta next h.AssignPatProp inside = false
 stays meta next head inside = true
-
--- whether no name may stand for what is first in a node, in this field: what is assigned to, and what begins an optional chain
-abbrev pub keeps_first : Head → ℕ → Bool
-keeps_first (h.AssignExpr op) field = field == 1
-keeps_first (h.OptChainExpr optional) field = field == 1
-keeps_first head field = false
 
 -- The marks.
 
@@ -133,7 +92,9 @@ shorthand_marks field x meant (first ∷ more) marks =
 abbrev pub call_marks : ℕ → Meant → List Mark
 call_marks field meant = k.Begins field h.CallExpr ∷ k.Name 0 meant ∷ k.Ends ∷ []
 
--- `Marked meta around notes items marks rest`: with these notes, and where `meta` is what `import.meta` stands for, what stands here has these marks, and these notes are left for what follows.
+-- `Marked meta around notes items marks rest`: with these notes, and where `meta` is what
+-- `import.meta` stands for, what stands here has these marks, and these notes are left for what
+-- follows.
 pub data Marked (meta : Option Meant) : Around → List Note → List Item → List Mark → List Note →
     Type 0 where
   -- where nothing stands
@@ -160,7 +121,8 @@ pub data Marked (meta : Option Meant) : Around → List Note → List Item → L
       {inside : List Item} {marks : List Mark} → stays meta (upcoming notes) head inside ≡ true →
       Marked meta (around_in head inside) notes inside marks rest →
       Marked meta around notes (node field head inside) (node_marks field head marks) rest
-  -- the same where the first of what is in a node is a member expression for which no name may stand
+  -- the same where the first of what is in a node is a member expression for which no name may
+  -- stand
   Kept : {around : Around} {notes between rest : List Note} (field : ℕ) (head : Head) (first : ℕ)
       {inside more : List Item} {marks more_marks : List Mark} → keeps_first head first ≡ true →
       Marked meta Anywhere notes inside marks between →

@@ -1,5 +1,5 @@
--- Lists that are whole nodes, names and holes, one after another, whatever stands in the nodes (bundle_link_reached's
--- `AreNodes` says of that too).
+-- Lists that are whole nodes, names and holes, one after another, whatever stands in the nodes
+-- (bundle_link_reached's `AreNodes` says of that too).
 use Rattle.std.specs.Prelude.{ℕ, List, [], ◌∷◌, ◌++◌}
 use Rattle.bundle_tree_piece.specs.declared.piece.Role.{Role}
 use Rattle.bundle_tree_piece.specs.Item as h

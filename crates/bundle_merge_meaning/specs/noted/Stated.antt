@@ -46,7 +46,8 @@ constant_marks default value =
     node_marks 0 (h.VarDecl Const no_notes)
     (node_marks 1 h.VarDeclarator (pattern_marks 0 default ++ value))
 
--- `MarkedStated meta default notes item marks rest`: where `default` is what a default without a name means, what this top item states has these marks
+-- `MarkedStated meta default notes item marks rest`: where `default` is what a default without a
+-- name means, what this top item states has these marks
 pub data MarkedStated (meta : Option Meant) (default : Meant) : List Note → List Item → List Mark →
     List Note → Type 0 where
   -- a statement

@@ -6,8 +6,9 @@ use Rattle.bundle_rules.specs.Idents.{Ident}
 use Rattle.bundle_rules.specs.Meaning.{Meant, Mark}
 use Rattle.bundle_tree_places.specs.Edits.{Around}
 use Rattle.bundle_merge_meaning.specs.walked.Names.{names_of}
-use Rattle.bundle_merge_meaning.specs.walked.Work.{Step, Work}
-use Rattle.bundle_merge_meaning.specs.noted.Marked.{Note, Alone, Marked}
+use Rattle.bundle_tree_rebuild.specs.Work.{Step, Work}
+use Rattle.bundle_merge_meaning.specs.noted.Marked.{Note, Marked}
+use Rattle.bundle_tree_rebuild.specs.declared.rewrite.Whole.TheVariants.{Alone}
 
 -- Steps and notes.
 
@@ -27,7 +28,8 @@ Agree steps notes = AllZip SameWhole steps notes
 
 -- What is made.
 
--- why an identifier stands in what is made: by the step of an occurrence, which has a note; or in the place of `import.meta`
+-- why an identifier stands in what is made: by the step of an occurrence, which has a note; or in
+-- the place of `import.meta`
 pub data Entry : Type 0 where
   ByStep : Step → Note → Entry
   ByMeta : Ident → Meant → Entry
@@ -66,9 +68,10 @@ alone_note meant = record { meant = meant; whole = Alone }
 abbrev pub alone : List Meant → List Note
 alone meants = map alone_note meants
 
--- What stands here and what is made of it have the same marks: by the notes of the occurrences, and by what the names that stand in what is made mean, each by itself.
-pub record Keeps (around : Around) (work : Work) (meta : Option Meant) (notes : List Note) (before made : List Item) (rest : Work) : Type
-    0 where
+-- What stands here and what is made of it have the same marks: by the notes of the occurrences,
+-- and by what the names that stand in what is made mean, each by itself.
+pub record Keeps (around : Around) (work : Work) (meta : Option Meant) (notes : List Note)
+    (before made : List Item) (rest : Work) : Type 0 where
   pub marks : List Mark
   pub left : List Note
   pub entries : List Entry
@@ -84,9 +87,10 @@ pub record Keeps (around : Around) (work : Work) (meta : Option Meant) (notes : 
   pub agree : Agree rest.steps left
   pub same_meta : rest.meta ≡ work.meta
 
--- All of a part and what is made of it have the same marks, where each step and note belongs to one of its occurrences.
-pub record Same (around : Around) (work : Work) (meta : Option Meant) (notes : List Note) (before made : List Item) : Type
-    0 where
+-- All of a part and what is made of it have the same marks, where each step and note belongs to
+-- one of its occurrences.
+pub record Same (around : Around) (work : Work) (meta : Option Meant) (notes : List Note)
+    (before made : List Item) : Type 0 where
   pub marks : List Mark
   pub entries : List Entry
   pub source : Marked meta around notes before marks []

@@ -1,4 +1,5 @@
--- The function of a CommonJS module in a bundle: what stands before its statements, and behind them.
+-- The function of a CommonJS module in a bundle: what stands before its statements, and behind
+-- them.
 use Rattle.std.specs.Prelude.{◌≡◌, ℕ, zero, suc, false, List, [], ◌∷◌, ◌++◌, None, ⊤}
 use Rattle.bundle_tree_leaf.specs.declared.kind.VarDeclKind.TheVariants.{Var}
 use Rattle.bundle_tree_piece.specs.declared.piece.Role.TheVariants.{Binding, Reference}
@@ -13,7 +14,7 @@ use Rattle.bundle_rules.specs.Marks as m
 use Rattle.bundle_rules.specs.Meaning.{Mark}
 use Rattle.bundle_tree_places.specs.Edits.{Anywhere}
 use Rattle.bundle_merge_meaning.specs.noted.Marked.{Note, Marked}
-use Rattle.bundle_merge_meaning.specs.walked.Listed.{named, pattern_of, parameter}
+use Rattle.bundle_merge_injected.specs.Listed.{named, pattern_of, parameter}
 
 -- nodes that begin, with whole nodes between: which marks they have
 pub data MarkedFront : List Note → List Item → List Mark → List Note → Type 0 where
@@ -46,8 +47,8 @@ Closable (suc n) (node ∷ outer) = (is_shorthand_in_pattern node.head ≡ false
 abbrev pub load_front_items : (load helper m e : Ident) → List Item
 load_front_items load helper m e =
     h.Open 0 (h.VarDecl Var no_notes) ∷ h.Open 1 h.VarDeclarator
-        ∷ (pattern_of 0 Binding load
-        ++ h.Open 1 h.CallExpr
-        ∷ (named 0 Reference helper
-        ++ h.Open 1 (h.ExprOrSpread false) ∷ h.Open 1 h.FnExpr ∷ h.Open 1 (h.Function false false)
-        ∷ (parameter m ++ (parameter e ++ h.Open 1 h.BlockStmt ∷ []))))
+    ∷ (pattern_of 0 Binding load
+    ++ h.Open 1 h.CallExpr
+    ∷ (named 0 Reference helper
+    ++ h.Open 1 (h.ExprOrSpread false) ∷ h.Open 1 h.FnExpr ∷ h.Open 1 (h.Function false false)
+    ∷ (parameter m ++ (parameter e ++ h.Open 1 h.BlockStmt ∷ []))))

@@ -10,7 +10,8 @@ IsOneToOne Becomes =
     (a b other_a other_b : Denoted) → Becomes a other_a → Becomes b other_b →
     same_denoted a b ≡ same_denoted other_a other_b
 
--- beside each entry what is denoted in the module, if it has a step, and in the bundle: what is inside in one is inside in the other and becomes it; what stands for `import.meta` is not inside
+-- beside each entry what is denoted in the module, if it has a step, and in the bundle: what is
+-- inside in one is inside in the other and becomes it; what stands for `import.meta` is not inside
 abbrev pub AreBeside : (Denoted → Denoted → Type 0) →
     (is_inside is_inside_there : Denoted → Bool) → List Entry → List Denoted → List Denoted →
     Type 0

@@ -8,7 +8,8 @@ use Rattle.bundle_rules.specs.Rebuilds.{Change, rebuilt}
 use Rattle.bundle_rules.specs.Shape.{is_specifier}
 use Rattle.bundle_rules.specs.Meaning.{Meant, Mark}
 use Rattle.bundle_tree_places.specs.Edits.{Around, Anywhere, Edits, node, is_occurrence}
-use Rattle.bundle_merge_meaning.specs.noted.Marked.{Note, Alone, Marked}
+use Rattle.bundle_merge_meaning.specs.noted.Marked.{Note, Marked}
+use Rattle.bundle_tree_rebuild.specs.declared.rewrite.Whole.TheVariants.{Alone}
 use Rattle.bundle_merge_meaning.specs.walked.Names.{names_of}
 use Rattle.bundle_merge_meaning.specs.walked.Keeps.{alone}
 
@@ -21,7 +22,9 @@ AreAlone (note ∷ notes) = (note.whole ≡ Alone) × AreAlone notes
 abbrev pub KeepsText : Change → Ident → Type 0
 KeepsText change ident = change.is_spelled_out ≡ false → change.ident.0 ≡ ident.0
 
--- whether no specifier ends right behind an occurrence, where these nodes are open, innermost first (for each whether it is a specifier), and `is_name` says whether an occurrence stands right before
+-- whether no specifier ends right behind an occurrence, where these nodes are open, innermost
+-- first (for each whether it is a specifier), and `is_name` says whether an occurrence stands
+-- right before
 abbrev pub ends_no_specifier : (open_nodes : List Bool) → (is_name : Bool) → List Item → Bool
 ends_no_specifier open_nodes is_name [] = true
 ends_no_specifier open_nodes is_name (h.Open field head ∷ rest) =
@@ -46,9 +49,10 @@ last_is_name is_name (h.Close ∷ rest) = last_is_name false rest
 abbrev pub ident_of_change : Change → Ident
 ident_of_change change = change.ident
 
--- these elements with the changes of their occurrences in turn, of which these are left: the same marks by the same notes
-pub record Renamed (around : Around) (notes rest : List Note) (before : List Item) (marks : List Mark) (changes left : List Change) : Type
-    0 where
+-- these elements with the changes of their occurrences in turn, of which these are left: the same
+-- marks by the same notes
+pub record Renamed (around : Around) (notes rest : List Note) (before : List Item)
+    (marks : List Mark) (changes left : List Change) : Type 0 where
   pub after : List Item
   pub edits : Edits around changes before after left
   pub marked : Marked None around notes after marks rest
@@ -74,8 +78,8 @@ abbrev pub module_of_items : List (List Item) → List Item
 module_of_items items = node 0 h.Module (flat_map (λ item. item) items)
 
 -- what becomes of a module's items: each has the marks that it had
-pub record RenamedItems (items : List (List Item)) (tolds : List Told) (changes : List Change) : Type
-    0 where
+pub record RenamedItems (items : List (List Item)) (tolds : List Told)
+    (changes : List Change) : Type 0 where
   pub after : List (List Item)
   pub marked : AllZip IsMarked after tolds
   pub same : rebuilt (module_of_items items) changes ≡ module_of_items after

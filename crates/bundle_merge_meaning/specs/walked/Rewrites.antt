@@ -1,6 +1,7 @@
--- The way in which a walk makes a part of a tree anew, where what it is asked for fits the tree: as `Becomes`, but each
--- occurrence has a step; one that is not spelled out keeps its symbol; no name stands alone in a specifier; and no name
--- stands directly in an object literal for something else.
+-- The way in which a walk makes a part of a tree anew, where what it is asked for fits the tree:
+-- as `Becomes`, but each occurrence has a step; one that is not spelled out keeps its symbol; no
+-- name stands alone in a specifier; and no name stands directly in an object literal for something
+-- else.
 use Rattle.std.specs.Prelude.{◌≡◌, ℕ, Bool, true, false, not, List, [], ◌∷◌, ◌++◌, Some, None}
 use Rattle.std.specs.List.{list_all, AllZip}
 use Rattle.bundle_tree_leaf.specs.declared.kind.ExportMetadata.{ExportMetadata}
@@ -13,10 +14,10 @@ use Rattle.bundle_rules.specs.Nodes.{Text}
 use Rattle.bundle_rules.specs.Idents.{Ident}
 use Rattle.bundle_rules.specs.Shape.{is_specifier}
 use Rattle.bundle_tree_places.specs.Edits.{Around, Anywhere, InSpecifier, node, is_occurrence, around_in, in_its_place, binding, shorthand_in_its_place}
-use Rattle.bundle_merge_meaning.specs.walked.Work.{Step, Work, upcoming, after, change_at, is_spelled_out_by}
-use Rattle.bundle_merge_meaning.specs.noted.Marked.{keeps_first}
+use Rattle.bundle_tree_rebuild.specs.Work.{Step, Work, upcoming, after, change_at, is_spelled_out_by}
+use Rattle.bundle_tree_rebuild.specs.Becomes.{keeps_first}
 use Rattle.bundle_merge_meaning.specs.walked.Names.{names_of}
-use Rattle.bundle_merge_meaning.specs.walked.Becomes.{stays, kept_notes, reference, name_for_member, name_for_call, name_for_meta}
+use Rattle.bundle_tree_rebuild.specs.Becomes.{stays, kept_notes, reference, name_for_member, name_for_call, name_for_meta}
 
 -- the next occurrence, one of `x`, has this step; where nothing is spelled out its symbol stays
 pub record TakesStep (work : Work) (x : Text) (step : Step) : Type 0 where

@@ -1,5 +1,5 @@
--- What an item of a module states in a bundle, by its list (the list form of `States` of bundle_tree_rewrite), and that
--- it has the same marks.
+-- What an item of a module states in a bundle, by its list (the list form of `States` of
+-- bundle_tree_rewrite), and that it has the same marks.
 use Rattle.std.specs.Prelude.{◌≡◌, ◌⊎◌, ℕ, true, List, [], ◌∷◌, ◌++◌, Option, None, map}
 use Rattle.bundle_tree_leaf.specs.declared.kind.VarDeclKind.TheVariants.{Const}
 use Rattle.bundle_tree_piece.specs.declared.piece.Role.{Role}
@@ -11,8 +11,8 @@ use Rattle.bundle_rules.specs.Idents.{Ident}
 use Rattle.bundle_rules.specs.Meaning.{Meant, Mark}
 use Rattle.bundle_rules.specs.Statements.{moved_to, declaration_head, no_notes}
 use Rattle.bundle_tree_places.specs.Edits.{Anywhere, node}
-use Rattle.bundle_merge_meaning.specs.walked.Work.{Work}
-use Rattle.bundle_merge_meaning.specs.walked.Becomes.{Becomes, named}
+use Rattle.bundle_tree_rebuild.specs.Work.{Work}
+use Rattle.bundle_tree_rebuild.specs.Becomes.{Becomes, named}
 use Rattle.bundle_merge_meaning.specs.noted.Marked.{Note, Marked}
 use Rattle.bundle_merge_meaning.specs.noted.Stated.{states_itself, is_default_head, declares_default, MarkedStated}
 use Rattle.bundle_merge_meaning.specs.walked.Names.{names_of}
@@ -24,7 +24,8 @@ constant name value =
     node 0 (h.VarDecl Const no_notes)
     (node 1 h.VarDeclarator (node 0 h.BindingIdent (named 0 name Binding) ++ value))
 
--- What an item states with this work of its occurrences, where `default` is the name of a default export that has none of its own.
+-- What an item states with this work of its occurrences, where `default` is the name of a default
+-- export that has none of its own.
 pub data StatesList (work : Work) (default : Ident) : List Item → List Item → Type 0 where
   -- a statement states itself
   StatementStates : (field : ℕ) (head : Head) (inside : List Item) {made : List Item}
@@ -56,8 +57,8 @@ pub data StatesList (work : Work) (default : Ident) : List Item → List Item �
       (node 0 (declaration_head head) (named 0 default Binding ++ made))
 
 -- What an item states has the same marks in the module and in the bundle.
-pub record SameStated (work : Work) (meta : Option Meant) (notes : List Note) (name : Ident) (default : Meant) (item made : List Item) : Type
-    0 where
+pub record SameStated (work : Work) (meta : Option Meant) (notes : List Note) (name : Ident)
+    (default : Meant) (item made : List Item) : Type 0 where
   pub marks : List Mark
   pub entries : List Entry
   -- the name of a default that has none of its own, where it is declared

@@ -1,13 +1,15 @@
--- What the names of an item have to denote in a bundle, so that it means what a statement of a module does.
+-- What the names of an item have to denote in a bundle, so that it means what a statement of a
+-- module does.
 use Rattle.std.specs.Prelude.{◌≡◌, ◌≢◌, ℕ, true, false, List, [], ◌∷◌, Some, Contains, position, ⊤}
 use Rattle.bundle_rules.specs.Scopes.{Scope}
 use Rattle.bundle_rules.specs.Declarations.{Name as Known_as}
 use Rattle.bundle_rules.specs.Denotes.{Denoted, Bound, Global}
 use Rattle.bundle_rules.specs.Mentions.{same_denoted}
 use Rattle.bundle_rules.specs.Meaning.{Label, Meant, Inside, Known, Unbound, Labelling, is_inside}
-use Rattle.bundle_merge_meaning.specs.noted.Marked.{Note, Alone}
+use Rattle.bundle_merge_meaning.specs.noted.Marked.{Note}
+use Rattle.bundle_tree_rebuild.specs.declared.rewrite.Whole.TheVariants.{Alone}
 use Rattle.bundle_rules.specs.Idents.{Ident}
-use Rattle.bundle_merge_meaning.specs.walked.Work.{Step}
+use Rattle.bundle_tree_rebuild.specs.Work.{Step}
 use Rattle.bundle_merge_meaning.specs.walked.Keeps.{Entry, ByStep, ByMeta}
 
 -- a binding that stands for the label
@@ -23,7 +25,9 @@ IsOutside labels start (Known l) e = (is_inside start e ≡ false) × IsBoundAs 
 IsOutside labels start (Unbound x) e = e ≡ Global x
 IsOutside labels start (Inside n) e = ⊥
 
--- where a name denotes `d` in a statement that begins at `here`, whose bindings inside are `inner`, and what is made of it denotes `e` in an item that begins at `there`: the one by its note means what the other does
+-- where a name denotes `d` in a statement that begins at `here`, whose bindings inside are
+-- `inner`, and what is made of it denotes `e` in an item that begins at `there`: the one by its
+-- note means what the other does
 abbrev pub StepDenotes : (Becomes : Denoted → Denoted → Type 0) → Labelling →
     (inner : List Denoted) → (here there : ℕ) → Meant → Denoted → Denoted → Type 0
 StepDenotes Becomes labels inner here there (Inside n) d e =
@@ -34,7 +38,8 @@ StepDenotes Becomes labels inner here there (Known l) d e =
 StepDenotes Becomes labels inner here there (Unbound x) d e =
     (is_inside here d ≡ false) × IsOutside labels there (Unbound x) e
 
--- so it is of each entry: beside it, if it has a step, what the name denotes in the module, and what it denotes in the bundle
+-- so it is of each entry: beside it, if it has a step, what the name denotes in the module, and
+-- what it denotes in the bundle
 abbrev pub AllDenote : (Becomes : Denoted → Denoted → Type 0) → Labelling →
     (inner : List Denoted) → (here there : ℕ) → List Entry → List Denoted → List Denoted → Type 0
 AllDenote Becomes labels inner here there [] [] [] = ⊤
@@ -45,14 +50,16 @@ AllDenote Becomes labels inner here there (ByMeta ident meant ∷ entries) ds (e
     IsOutside labels there meant e × AllDenote Becomes labels inner here there entries ds es
 AllDenote Becomes labels inner here there _ _ _ = ⊥
 
--- what is made of a name that means this: a binding inside that becomes the one that the name denotes, or what is outside
+-- what is made of a name that means this: a binding inside that becomes the one that the name
+-- denotes, or what is outside
 abbrev pub MadeDenotes : (Becomes : Denoted → Denoted → Type 0) → Labelling → (there : ℕ) → Meant →
     Denoted → Denoted → Type 0
 MadeDenotes Becomes labels there (Inside n) d e = (is_inside there e ≡ true) × Becomes d e
 MadeDenotes Becomes labels there (Known l) d e = IsOutside labels there (Known l) e
 MadeDenotes Becomes labels there (Unbound x) d e = IsOutside labels there (Unbound x) e
 
--- so it is of each entry: beside it, if it has a step, what the name denotes in the module, and what it denotes in the bundle
+-- so it is of each entry: beside it, if it has a step, what the name denotes in the module, and
+-- what it denotes in the bundle
 abbrev pub AllMade : (Becomes : Denoted → Denoted → Type 0) → Labelling → (there : ℕ) →
     List Entry → List Denoted → List Denoted → Type 0
 AllMade Becomes labels there [] [] [] = ⊤
@@ -62,7 +69,8 @@ AllMade Becomes labels there (ByMeta ident meant ∷ entries) ds (e ∷ es) =
     IsOutside labels there meant e × AllMade Becomes labels there entries ds es
 AllMade Becomes labels there _ _ _ = ⊥
 
--- what a name of the module that means this denotes: the binding inside of that number, or nothing inside
+-- what a name of the module that means this denotes: the binding inside of that number, or nothing
+-- inside
 abbrev pub SourceDenotes : (inner : List Denoted) → Meant → Denoted → Type 0
 SourceDenotes inner (Inside n) d =
     (position (same_denoted d) inner ≡ Some n) × (is_inside 0 d ≡ true)
@@ -83,7 +91,8 @@ AreReplacedOutside (d ∷ ds) [] = ⊤
 AreReplacedOutside (d ∷ ds) (note ∷ notes) =
     (note.whole ≢ Alone → is_inside 0 d ≡ false) × AreReplacedOutside ds notes
 
--- the same of the steps of some occurrences, their notes, and what they denote in the module, in turn: in the bundle an identifier denotes this
+-- the same of the steps of some occurrences, their notes, and what they denote in the module, in
+-- turn: in the bundle an identifier denotes this
 abbrev pub StepsMade : (Becomes : Denoted → Denoted → Type 0) → Labelling → (there : ℕ) →
     (denotes : Ident → Denoted) → List Step → List Note → List Denoted → Type 0
 StepsMade Becomes labels there denotes [] [] [] = ⊤
