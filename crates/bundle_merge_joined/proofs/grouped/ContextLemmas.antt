@@ -222,8 +222,7 @@ module _ (tree : List Item) where
       let declares : Declares ByContext found.name found.declared =
           declares-from ByContext found.name found.declared found.is in
       let p = and_parts (has_identifier found.declared)
-          (is_declared_in all scope (name_of ByContext o.sym o.ctxt) found.declared) found.passes
-          in
+          (is_declared_in all scope (name_of ByContext o.sym o.ctxt) found.declared) found.passes in
       let q = and_parts (same_scope (home_of all found.declared) scope)
           (names_agree found.declared.name (name_of ByContext o.sym o.ctxt)) p.1 in
       let names = agrees (name_of ByContext found.name.sym found.name.ctxt)

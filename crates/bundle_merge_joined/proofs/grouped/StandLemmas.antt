@@ -90,15 +90,13 @@ module _ (tree its_tree : List Item) (told : IsTold tree) (its_told : IsTold its
       let first : d_o ≡ both.one =
           same_Some d_o both.one (sym (denotes-listed ByContext tree x i o o_here) ∙ both.first) in
       let second : d_p ≡ both.two =
-          same_Some d_p both.two (sym (denotes-listed ByContext tree y j p p_here) ∙ both.second)
-          in
+          same_Some d_p both.two (sym (denotes-listed ByContext tree y j p p_here) ∙ both.second) in
       let equal : d_o ≡ d_p = first
           ∙ (one-top both.one both.two both.of_top both.same ∙ sym second) in
       let p_top : is_of_scope Top d_p ≡ true = ap (is_of_scope Top) (sym equal ∙ first)
           ∙ both.of_top in
       let binds_here : is_binding p_here.name.role ≡ true = ap is_binding p_here.role ∙ binds in
-      let way = told.ways.way (count_before tree y.start + j) p_here.name p_here.there binds_here
-          in
+      let way = told.ways.way (count_before tree y.start + j) p_here.name p_here.there binds_here in
       let top_here : IsTopBinding p_here.name =
           record { binds = binds_here; way = way.0; is = way.1;
           top = sym (binding-top ByContext (declared ByContext Es tree) p_here.name way.0
@@ -159,10 +157,10 @@ module _ (tree its_tree : List Item) (told : IsTold tree) (its_told : IsTold its
         λ k u u' e e'. let found = zip-at (StandsInBoth tree its_tree) items its k u zip e in
             subst (λ (z : TopItem). StandsInBoth tree its_tree u z)
             (same_Some found.0 u' (sym found.1 ∙ e')) found.2 in
-        let one : StandsInBoth tree its_tree x x' = pair_at s x x' at_o.item_there at_o'.item_there
-            in
-        let two : StandsInBoth tree its_tree y y' = pair_at t y y' at_p.item_there at_p'.item_there
-            in
+        let one : StandsInBoth tree its_tree x x' = pair_at s x x' at_o.item_there
+            at_o'.item_there in
+        let two : StandsInBoth tree its_tree y y' = pair_at t y y' at_p.item_there
+            at_p'.item_there in
         let p_is : p ≡ p' = same-name y.items y'.items two.same j p p' at_p.there at_p'.there in
         (
           denote-moves tree its_tree told its_told x y x' y' i j o p o' p' one two at_o.there

@@ -631,8 +631,7 @@ module _ (items others : List (List Item)) (whole : AllOf IsWhole items)
     alike = record {
       top =
           let one = denotes-in items whole named top placed o at_home in
-          let two = denotes-in others other_whole other_named (twin n top) other_placed o at_home
-              in
+          let two = denotes-in others other_whole other_named (twin n top) other_placed o at_home in
           subst (λ x. TopsAlike Corresponds first_group second_group x
               (mention_of ByContext (joined others) ns (twin n top) o).top)
               (sym (number-is (joined items) tops top o _ one))
@@ -646,20 +645,23 @@ module _ (items others : List (List Item)) (whole : AllOf IsWhole items)
               (offset others other_placed.m)
               (viewed top.items item_named at_home.u (listed-at top.items o at_home))
               (more (its_name at_home.u)))));
-      declares = refl;
-      later = refl;
-      assigned = refl;
-      argument = refl;
-      chain = refl;
-      prototype =
-          ap (λ b. is_prototype_read top.items o.path && b)
-              (assign-same (λ place. is_object_at ByContext (joined items) (top.start + place))
-              (λ place. is_object_at ByContext (joined others) (n + place)) top.items
-          (λ p lt. object-at items whole named top placed p lt
-              ∙ object-same items others placed.m other_placed.m top.items item_named picked.object
-              (suc p) ∙ sym (object-at others other_whole other_named (twin n top) other_placed p
-              lt)) o.path);
-      valueless = refl;
+      same = record {
+        declares = refl;
+        later = refl;
+        assigned = refl;
+        argument = refl;
+        chain = refl;
+        prototype =
+            ap (λ b. is_prototype_read top.items o.path && b)
+                (assign-same (λ place. is_object_at ByContext (joined items) (top.start + place))
+                (λ place. is_object_at ByContext (joined others) (n + place)) top.items
+            (λ p lt. object-at items whole named top placed p lt
+                ∙ object-same items others placed.m other_placed.m top.items item_named
+                    picked.object
+                (suc p) ∙ sym (object-at others other_whole other_named (twin n top) other_placed p
+                lt)) o.path);
+        valueless = refl;
+      };
     }
 
   -- BLOCKS: the groups are alike.
