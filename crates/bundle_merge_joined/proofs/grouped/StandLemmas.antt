@@ -27,7 +27,7 @@ use Rattle.bundle_merge_joined.proofs.grouped.ContextLemmas.{top-denotes, tells-
 use Rattle.bundle_merge_joined.proofs.grouped.GroupLemmas.{good_order-corresponds}
 
 -- the same identifier
-same-name : (one two : List Item) → one ≡ two → (i : ℕ) (o p : Occurrence) →
+pub same-name : (one two : List Item) → one ≡ two → (i : ℕ) (o p : Occurrence) →
     slice_get (occurrences one) i ≡ Some o → slice_get (occurrences two) i ≡ Some p → o ≡ p
 same-name one two e i o p here there =
     same_Some o p (sym here ∙ (ap (λ (l : List Item). slice_get (occurrences l) i) e ∙ there))
@@ -90,13 +90,15 @@ module _ (tree its_tree : List Item) (told : IsTold tree) (its_told : IsTold its
       let first : d_o ≡ both.one =
           same_Some d_o both.one (sym (denotes-listed ByContext tree x i o o_here) ∙ both.first) in
       let second : d_p ≡ both.two =
-          same_Some d_p both.two (sym (denotes-listed ByContext tree y j p p_here) ∙ both.second) in
+          same_Some d_p both.two (sym (denotes-listed ByContext tree y j p p_here) ∙ both.second)
+              in
       let equal : d_o ≡ d_p = first
           ∙ (one-top both.one both.two both.of_top both.same ∙ sym second) in
       let p_top : is_of_scope Top d_p ≡ true = ap (is_of_scope Top) (sym equal ∙ first)
           ∙ both.of_top in
       let binds_here : is_binding p_here.name.role ≡ true = ap is_binding p_here.role ∙ binds in
-      let way = told.ways.way (count_before tree y.start + j) p_here.name p_here.there binds_here in
+      let way = told.ways.way (count_before tree y.start + j) p_here.name p_here.there binds_here
+          in
       let top_here : IsTopBinding p_here.name =
           record { binds = binds_here; way = way.0; is = way.1;
           top = sym (binding-top ByContext (declared ByContext Es tree) p_here.name way.0

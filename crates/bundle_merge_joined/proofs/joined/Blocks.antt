@@ -631,7 +631,8 @@ module _ (items others : List (List Item)) (whole : AllOf IsWhole items)
     alike = record {
       top =
           let one = denotes-in items whole named top placed o at_home in
-          let two = denotes-in others other_whole other_named (twin n top) other_placed o at_home in
+          let two = denotes-in others other_whole other_named (twin n top) other_placed o at_home
+              in
           subst (λ x. TopsAlike Corresponds first_group second_group x
               (mention_of ByContext (joined others) ns (twin n top) o).top)
               (sym (number-is (joined items) tops top o _ one))

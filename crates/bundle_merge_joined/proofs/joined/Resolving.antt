@@ -56,7 +56,8 @@ inside-by_symbol from (Global x) = refl
 same-known : (K : Table) (x y : List ℕ) (d e : Denoted) → DenotesOf K d → DenotesOf K e →
     IsFor x d → IsFor y e → same_denoted d e ≡ true → d ≡ e
 same-known K x y (Bound s m) (Bound t n) known other is its e =
-    let parts = and_parts (same_scope s t && bytes_eq m.sym n.sym) (same_context m.ctxt n.ctxt) e in
+    let parts = and_parts (same_scope s t && bytes_eq m.sym n.sym) (same_context m.ctxt n.ctxt) e
+        in
     let more = and_parts (same_scope s t) (bytes_eq m.sym n.sym) parts.0 in
     let scopes : s ≡ t =
         same-of K s t known other (eqb-true (scope_order s) (scope_order t) more.0) in
