@@ -1,9 +1,9 @@
 -- By symbol and context: what denotes a binding of the top, and where the global `Object` stands.
-use Rattle.std.proofs.Common.{◌≡◌, ◌⊎◌, ℕ, zero, suc, ◌+◌, ◌&&◌, ◌||◌, ◌==◌, Bool, true, false, not, cond, List, [], ◌∷◌, ◌++◌, Option, Some, None, codes, slice_get, refl, sym, ap, ◌∙◌, inl, inr, arith}
+use Rattle.std.proofs.Common.{◌≡◌, ◌⊎◌, ℕ, zero, suc, ◌+◌, ◌&&◌, ◌||◌, ◌==◌, Bool, true, false, cond, List, [], ◌∷◌, ◌++◌, Option, Some, None, codes, slice_get, refl, sym, ap, ◌∙◌, inl, inr, arith}
 use Rattle.std.specs.List.{list_any, find, cons_option}
 use Rattle.std.specs.Option.{option_and_then}
 use Rattle.std.specs.Str.{bytes_eq}
-use Rattle.std.proofs.lemmas.Bool.{false≢true, eqb-true, eq-eqb, and_parts, and_from}
+use Rattle.std.proofs.lemmas.Bool.{false≢true, eqb-true, eq-eqb, and_parts, and_from, false_from_ne_true}
 use Rattle.std.proofs.lemmas.Option.{none-some, same_Some}
 use Rattle.std.proofs.lemmas.Slice.Eq.{bytes_eq-Decides}
 use Rattle.bundle_tree_piece.specs.Item as h
@@ -223,7 +223,7 @@ module _ (tree : List Item) where
           declares-from ByContext found.name found.declared found.is in
       let p = and_parts (has_identifier found.declared)
           (is_declared_in all scope (name_of ByContext o.sym o.ctxt) found.declared) found.passes
-          in
+              in
       let q = and_parts (same_scope (home_of all found.declared) scope)
           (names_agree found.declared.name (name_of ByContext o.sym o.ctxt)) p.1 in
       let names = agrees (name_of ByContext found.name.sym found.name.ctxt)
@@ -307,15 +307,11 @@ module _ (tree : List Item) where
               (inner kind node.begins)
           ∙ ih
 
-  false-from : (b : Bool) → (b ≡ true → ⊥) → b ≡ false
-  false-from true not = absurd (not refl)
-  false-from false not = refl
-
   module _ (apart : TopsApart tree) (ways : HasWays tree) where
     inner-unwritten : (m : ℕ) (o p : Occurrence) → slice_get (occurrences tree) m ≡ Some p →
         IsTopBinding p → SameIdent o p → (kind : ScopeKind) (b : ℕ) →
         is_written_in all (Inner kind b) (name_of ByContext o.sym o.ctxt) ≡ false
-    inner-unwritten m o p there top same kind b = false-from _ (λ t.
+    inner-unwritten m o p there top same kind b = false_from_ne_true _ (λ t.
         let w : Written (Inner kind b) o = written-by (Inner kind b) o t in
         let its : IsTopBinding w.name = apart.apart w.at m w.name p w.there there w.binds (w.same.0
             ∙ same.0, w.same.1 ∙ same.1) top in
@@ -406,7 +402,7 @@ module _ (tree : List Item) where
     unwritten : (o : Occurrence) → o.ctxt ≡ 1 → (scope : Scope) →
         is_written_in all scope (name_of ByContext o.sym o.ctxt) ≡ false
     unwritten o one scope =
-        false-from _ (λ t. let w : Written scope o = written-by scope o t in
+        false_from_ne_true _ (λ t. let w : Written scope o = written-by scope o t in
             own.own w.at w.name w.there w.binds (w.same.1 ∙ one))
 
     find-none : (f : Scope → Bool) → ((s : Scope) → f s ≡ false) → (scopes : List Scope) →
@@ -418,7 +414,7 @@ module _ (tree : List Item) where
     pub unbound-denotes : (n : ℕ) (o : Occurrence) → slice_get (occurrences tree) n ≡ Some o →
         o.ctxt ≡ 1 → denoted_of ByContext Es all o ≡ Global o.sym
     unbound-denotes n o here one =
-        referred o (false-from (is_binding o.role) (λ binds. own.own n o here binds one))
+        referred o (false_from_ne_true (is_binding o.role) (λ binds. own.own n o here binds one))
         ∙ (ap (written_or_implied all (scopes_around Es o.path) (name_of ByContext o.sym o.ctxt))
             (find-none (λ scope. is_written_in all scope (name_of ByContext o.sym o.ctxt))
             (unwritten o one) (scopes_around Es o.path))

@@ -190,8 +190,8 @@ module _ (f : ℕ) (inside its_tree : List Item) (whole : Whole inside) (its : L
   twin : (n : ℕ) (q : Occurrence) → slice_get (occurrences tree) n ≡ Some q → Twin its_tree q
   twin n q e =
       let it : InItem (top_items tree) q = module-covers f whole n q e in
-      let found = zip-at (StandsInBoth tree its_tree) (top_items tree) its it.at it.item zip it.its
-          in
+      let found = zip-at (StandsInBoth tree its_tree) (top_items tree) its it.at it.item zip
+          it.its in
       let there : Listed its_tree found.0 it.number it.name =
           listed-in its_tree found.0 found.2.there it.number it.name
           (ap (λ (l : List Item). slice_get (occurrences l) it.number) (sym found.2.same)

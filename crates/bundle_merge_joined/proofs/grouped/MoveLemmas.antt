@@ -22,6 +22,7 @@ use Rattle.bundle_merge_joined.proofs.grouped.PlacedLemmas.{moved-alike}
 use Rattle.bundle_merge_joined.proofs.grouped.GroupLemmas.{good_order-corresponds}
 use Rattle.bundle_merge_joined.proofs.joined.Lists.{get-left}
 use Rattle.bundle_merge_joined.proofs.joined.Paths.{other-spot}
+use Rattle.bundle_merge_joined.proofs.grouped.StandLemmas.{same-name}
 
 -- ---- owners: both are free, or of modules that stand for each other
 module _ (R : ℕ → ℕ → Type 0) (to : (a b c : ℕ) → R a b → R a c → b ≡ c) (from : (a b c : ℕ) →
@@ -111,11 +112,6 @@ module _ (move : Denoted → Denoted) (reading : Reading) (top its_top : Scope)
     (zip : AllZip (IsMoved move reading tree its_tree) items its)
     (occurs : (s i : ℕ) (x : TopItem) (o : Occurrence) (d : Denoted) → Stands items s i x o →
     denoted_in reading tree x o ≡ Some d → Occurs d) where
-  same-name : (one two : List Item) → one ≡ two → (i : ℕ) (o p : Occurrence) →
-      slice_get (occurrences one) i ≡ Some o → slice_get (occurrences two) i ≡ Some p → o ≡ p
-  same-name one two e i o p here there =
-      same_Some o p (sym here ∙ (ap (λ (l : List Item). slice_get (occurrences l) i) e ∙ there))
-
   -- the `Object` of one and the other
   global-moved : (d : Option Denoted) → ((e : Denoted) → d ≡ Some e → Occurs e) →
       is_global_named (codes "Object") (option_map move d) ≡ is_global_named (codes "Object") d

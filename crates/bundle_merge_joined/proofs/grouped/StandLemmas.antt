@@ -27,7 +27,7 @@ use Rattle.bundle_merge_joined.proofs.grouped.ContextLemmas.{top-denotes, tells-
 use Rattle.bundle_merge_joined.proofs.grouped.GroupLemmas.{good_order-corresponds}
 
 -- the same identifier
-same-name : (one two : List Item) → one ≡ two → (i : ℕ) (o p : Occurrence) →
+pub same-name : (one two : List Item) → one ≡ two → (i : ℕ) (o p : Occurrence) →
     slice_get (occurrences one) i ≡ Some o → slice_get (occurrences two) i ≡ Some p → o ≡ p
 same-name one two e i o p here there =
     same_Some o p (sym here ∙ (ap (λ (l : List Item). slice_get (occurrences l) i) e ∙ there))
@@ -91,7 +91,7 @@ module _ (tree its_tree : List Item) (told : IsTold tree) (its_told : IsTold its
           same_Some d_o both.one (sym (denotes-listed ByContext tree x i o o_here) ∙ both.first) in
       let second : d_p ≡ both.two =
           same_Some d_p both.two (sym (denotes-listed ByContext tree y j p p_here) ∙ both.second)
-          in
+              in
       let equal : d_o ≡ d_p = first
           ∙ (one-top both.one both.two both.of_top both.same ∙ sym second) in
       let p_top : is_of_scope Top d_p ≡ true = ap (is_of_scope Top) (sym equal ∙ first)
@@ -159,10 +159,10 @@ module _ (tree its_tree : List Item) (told : IsTold tree) (its_told : IsTold its
         λ k u u' e e'. let found = zip-at (StandsInBoth tree its_tree) items its k u zip e in
             subst (λ (z : TopItem). StandsInBoth tree its_tree u z)
             (same_Some found.0 u' (sym found.1 ∙ e')) found.2 in
-        let one : StandsInBoth tree its_tree x x' = pair_at s x x' at_o.item_there at_o'.item_there
-            in
-        let two : StandsInBoth tree its_tree y y' = pair_at t y y' at_p.item_there at_p'.item_there
-            in
+        let one : StandsInBoth tree its_tree x x' = pair_at s x x' at_o.item_there
+            at_o'.item_there in
+        let two : StandsInBoth tree its_tree y y' = pair_at t y y' at_p.item_there
+            at_p'.item_there in
         let p_is : p ≡ p' = same-name y.items y'.items two.same j p p' at_p.there at_p'.there in
         (
           denote-moves tree its_tree told its_told x y x' y' i j o p o' p' one two at_o.there

@@ -646,20 +646,23 @@ module _ (items others : List (List Item)) (whole : AllOf IsWhole items)
               (offset others other_placed.m)
               (viewed top.items item_named at_home.u (listed-at top.items o at_home))
               (more (its_name at_home.u)))));
-      declares = refl;
-      later = refl;
-      assigned = refl;
-      argument = refl;
-      chain = refl;
-      prototype =
-          ap (λ b. is_prototype_read top.items o.path && b)
-              (assign-same (λ place. is_object_at ByContext (joined items) (top.start + place))
-              (λ place. is_object_at ByContext (joined others) (n + place)) top.items
-          (λ p lt. object-at items whole named top placed p lt
-              ∙ object-same items others placed.m other_placed.m top.items item_named picked.object
-              (suc p) ∙ sym (object-at others other_whole other_named (twin n top) other_placed p
-              lt)) o.path);
-      valueless = refl;
+      same = record {
+        declares = refl;
+        later = refl;
+        assigned = refl;
+        argument = refl;
+        chain = refl;
+        prototype =
+            ap (λ b. is_prototype_read top.items o.path && b)
+                (assign-same (λ place. is_object_at ByContext (joined items) (top.start + place))
+                (λ place. is_object_at ByContext (joined others) (n + place)) top.items
+            (λ p lt. object-at items whole named top placed p lt
+                ∙ object-same items others placed.m other_placed.m top.items item_named
+                    picked.object
+                (suc p) ∙ sym (object-at others other_whole other_named (twin n top) other_placed p
+                lt)) o.path);
+        valueless = refl;
+      };
     }
 
   -- BLOCKS: the groups are alike.

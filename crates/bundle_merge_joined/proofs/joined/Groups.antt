@@ -10,7 +10,7 @@ use Rattle.bundle_order_needs.specs.Renumbered.{IsSameButTop}
 use Rattle.bundle_order_needs.proofs.RenumberLemmas.{Flipped}
 use Rattle.bundle_merge_joined.specs.joined.Groups.{IsLoose, TopsAlike, same_top, loose, MentionsAlike, GroupsAlike}
 use Rattle.bundle_merge_joined.specs.grouped.Alike.{DenoteOne, OwnersAlike, GroupsAlike as AreAlike}
-use Rattle.bundle_merge_joined.proofs.grouped.AlikeLemmas.{owners-refl, IsGoodOrder-alike}
+use Rattle.bundle_merge_joined.proofs.grouped.AlikeLemmas.{owners-refl, IsGoodOrder-alike, same_but_top-sym}
 
 -- lists of which each element stands beside one of the other, and the other way round
 zip-both : {A B : Type 0} (R : A → B → Type 0) (xs : List A) (ys : List B) →
@@ -34,9 +34,7 @@ tops-flipped R g other (loose x y) = loose y x
 mentions-flipped : (R : ℕ → ℕ → Type 0) (g other : Group) (x y : Mention) →
     MentionsAlike R g other x y → MentionsAlike (Flipped R) other g y x
 mentions-flipped R g other x y m =
-    record { top = tops-flipped R g other m.top; declares = sym m.declares; later = sym m.later;
-        assigned = sym m.assigned; argument = sym m.argument; chain = sym m.chain;
-        prototype = sym m.prototype; valueless = sym m.valueless }
+    record { top = tops-flipped R g other m.top; same = same_but_top-sym x y m.same }
 
 flipped : (R : ℕ → ℕ → Type 0) (g other : Group) → GroupsAlike R g other →
     GroupsAlike (Flipped R) other g
@@ -90,15 +88,9 @@ module _ (R : ℕ → ℕ → Type 0) (g other : Group) (a : GroupsAlike R g oth
       slice_get other.items s ≡ Some its → AllZip IsSameButTop row its
   rows-alike s row its e f =
       zip-both IsSameButTop row its (λ i x at. let it = a.there s i x (in-row g s i row e ∙ at) in
-          (it.0, sym (in-row other s i its f) ∙ it.1, same x it.0 it.2))
+          (it.0, sym (in-row other s i its f) ∙ it.1, it.2.same))
           (λ i y at. let it = a.back s i y (in-row other s i its f ∙ at) in
           (it.0, sym (in-row g s i row e) ∙ it.1))
-    where
-      same : (x y : Mention) → MentionsAlike R g other x y → IsSameButTop x y
-      same x y m =
-          record { declares = m.declares; later = m.later; assigned = m.assigned;
-              argument = m.argument; chain = m.chain; prototype = m.prototype;
-              valueless = m.valueless }
 
 module _ (R : ℕ → ℕ → Type 0) (g other : Group) (a : GroupsAlike R g other) where
   alike : AreAlike g other
@@ -109,7 +101,7 @@ module _ (R : ℕ → ℕ → Type 0) (g other : Group) (a : GroupsAlike R g oth
     same = λ s i t j x y its_x its_y at_x at_y there_x there_y declares. (
       one-there R g other a s i t j x y its_x its_y at_x at_y there_x there_y declares,
       one-there (Flipped R) other g (flipped R g other a) s i t j its_x its_y x y there_x there_y
-          at_x at_y (sym (beside R g other a t j y its_y at_y there_y).declares ∙ declares),
+          at_x at_y (sym (beside R g other a t j y its_y at_y there_y).same.declares ∙ declares),
     );
   }
 

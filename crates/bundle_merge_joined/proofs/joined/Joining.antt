@@ -119,8 +119,8 @@ module _ (item : List Item) (resolved : IsResolved Es (tree_of_items item)) wher
   pub resolved-inside : IsResolvedInside item
   resolved-inside = record {
     same = λ a b listed its_listed is.
-        let alike = resolved.same a.place b.place a b (stands-at a listed) (stands-at b its_listed)
-            in
+        let alike = resolved.same a.place b.place a b (stands-at a listed)
+            (stands-at b its_listed) in
         (λ same. same_Some _ _ (sym (denotes-own a listed) ∙ alike.0 same
             ∙ denotes-own b its_listed), λ same. alike.1 (denotes-own a listed ∙ ap Some same
             ∙ sym (denotes-own b its_listed)));

@@ -5,6 +5,7 @@ use Rattle.std.proofs.lemmas.Option.{none-some, same_Some, slice_get-map}
 use Rattle.std.proofs.lemmas.List.{length-append}
 use Rattle.bundle_tree_piece.specs.Item.{Item}
 use Rattle.bundle_rules.specs.Sorting.{flat}
+use Rattle.bundle_scope_names.proofs.TestLemmas.{or_assoc}
 use Rattle.bundle_merge_joined.specs.joined.Joined.{AllOf, each_moved}
 
 pub all-append : {A : Type 0} (P : A → Type 0) (xs ys : List A) → AllOf P xs → AllOf P ys →
@@ -35,11 +36,8 @@ pub any-append : {A : Type 0} (p : A → Bool) (xs ys : List A) →
     list_any p (xs ++ ys) ≡ (list_any p xs || list_any p ys)
 any-append p [] ys = refl
 any-append p (x ∷ xs) ys =
-    ap (λ b. p x || b) (any-append p xs ys) ∙ assoc (p x) (list_any p xs) (list_any p ys)
-  where
-    assoc : (a b c : Bool) → (a || (b || c)) ≡ ((a || b) || c)
-    assoc true b c = refl
-    assoc false b c = refl
+    ap (λ b. p x || b) (any-append p xs ys)
+    ∙ sym (or_assoc (p x) (list_any p xs) (list_any p ys))
 
 pub any-none : {A : Type 0} (P : A → Type 0) (p : A → Bool) → ((a : A) → P a → p a ≡ false) →
     (xs : List A) → AllOf P xs → list_any p xs ≡ false

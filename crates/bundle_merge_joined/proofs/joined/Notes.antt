@@ -1,7 +1,7 @@
 -- What is noted of the names of items is denoted in the whole, and tells them apart there.
 use Rattle.std.proofs.Common.{◌≡◌, ℕ, zero, suc, ◌+◌, ◌==◌, Bool, true, false, cond, not, ◌&&◌, ◌||◌, List, [], ◌∷◌, Option, Some, None, option_and_then, find, slice_get, take, drop, length, bytes_eq, refl, ap, sym, ◌∙◌, subst, arith, eq-eqb, ne_eqb}
 use Rattle.std.specs.List.{list_any, cons_option}
-use Rattle.std.proofs.lemmas.Bool.{false≢true, and_parts, and_from, or_left, or_right}
+use Rattle.std.proofs.lemmas.Bool.{false≢true, and_parts, and_from, or_left, or_right, or_parts}
 use Rattle.std.proofs.lemmas.Option.{none-some, same_Some}
 use Rattle.std.proofs.lemmas.Slice.Eq.{bytes_eq-Decides}
 use Rattle.bundle_tree_piece.specs.Item as h
@@ -303,18 +303,10 @@ pub own-top : (items : List (List Item)) (m : ℕ) (item : List Item) (name : Na
 own-top [] m item name at e = absurd (none-some item at)
 own-top (x ∷ items) zero item name at e =
     ap (λ one. is_written_in (own_declared one) Top name) (sym (same_Some x item at))
-    ∙ or_false (is_written_in (own_declared x) Top name) (is_top_name items name) e
-  where
-    or_false : (a b : Bool) → (a || b) ≡ false → a ≡ false
-    or_false true b is = absurd (false≢true (sym is))
-    or_false false b is = refl
+    ∙ (or_parts (is_written_in (own_declared x) Top name) (is_top_name items name) e).0
 own-top (x ∷ items) (suc m) item name at e =
     own-top items m item name at
-        (or_false (is_written_in (own_declared x) Top name) (is_top_name items name) e)
-  where
-    or_false : (a b : Bool) → (a || b) ≡ false → b ≡ false
-    or_false true b is = absurd (false≢true (sym is))
-    or_false false b is = is
+        (or_parts (is_written_in (own_declared x) Top name) (is_top_name items name) e).1
 
 -- an occurrence of the item with this number, in the whole
 pub denotes-at : (items : List (List Item)) → AllOf IsWhole items → AllOf IsNamed items →

@@ -130,7 +130,7 @@ module _ (R : ℕ → ℕ → Type 0) (frame : IsFrame R) where
   taker-beside (of_wrapper place x) = wrapper
   taker-beside (of_body {d = d} {e = e} s) = first-framed (seat d e s)
 
-  name-beside : {d e : Declared} → DeclaredBeside R d e → e.name ≡ d.name
+  pub name-beside : {d e : Declared} → DeclaredBeside R d e → e.name ≡ d.name
   name-beside (of_wrapper place x) = refl
   name-beside (of_body s) = s.name
 

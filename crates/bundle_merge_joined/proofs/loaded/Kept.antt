@@ -17,7 +17,7 @@ use Rattle.bundle_scope_names.proofs.HomesLemmas.{IsBySymbol, home-lifted, names
 use Rattle.bundle_scope_names.proofs.FoundLemmas.{plain, with, reference-given}
 use Rattle.bundle_merge_joined.specs.loaded.Framed.{IsFrame, Beside, top, wrapper, inner, Framed, is_module_way, DeclaredBeside, of_wrapper, of_body, AllBeside, none, more, BothBeside, neither, both}
 use Rattle.bundle_merge_joined.specs.loaded.Kept.{moved_numbering, item_declared, DenotedBeside, globals, bindings, StandsBeside, IsTaken, IsKnown, IsToldApart, KeepsName}
-use Rattle.bundle_merge_joined.proofs.loaded.Beside.{same-beside, home-beside, found-beside}
+use Rattle.bundle_merge_joined.proofs.loaded.Beside.{same-beside, home-beside, found-beside, name-beside}
 use Rattle.bundle_merge_joined.proofs.loaded.Added.{home-added, denoted-added}
 
 -- each way but a module's is that of an identifier
@@ -59,10 +59,6 @@ module _ (R : ℕ → ℕ → Type 0) (frame : IsFrame R) (g : Numbering) where
   identified-beside (of_body {d = d} {e = e} s) =
       own-identified e.by (ap is_module_way s.by ∙ s.own)
 
-  name-beside : {d e : Declared} → DeclaredBeside R d e → e.name ≡ d.name
-  name-beside (of_wrapper place x) = refl
-  name-beside (of_body s) = s.name
-
   -- each has its partner
   partner : {ds es : List Declared} → AllBeside R ds es → (i : ℕ) (e : Declared) →
       slice_get es i ≡ Some e → (d : Declared) × (slice_get ds i ≡ Some d) × DeclaredBeside R d e
@@ -92,7 +88,7 @@ module _ (R : ℕ → ℕ → Type 0) (frame : IsFrame R) (g : Numbering) where
                 (identified-beside b)
             ∙ (ap₂ (λ (a : Bool) (c : Bool). a && c)
                 (same-beside R frame (home-beside R frame all b) x)
-                (ap (λ (n : Name). bytes_eq n.sym name) (name-beside b))
+                (ap (λ (n : Name). bytes_eq n.sym name) (name-beside R frame b))
             ∙ ap (λ c. same_scope (home_of ds d) s && c)
                 (sym (names_agree-by_symbol d.name (plain name) refl)))
 
@@ -207,7 +203,7 @@ module _ (R : ℕ → ℕ → Type 0) (frame : IsFrame R) (g : Numbering) where
           let order : scope_order (home_of es it.1) ≡ scope_order other =
               same_order (home_of es it.1) other rest.0 in
           let symbol : bytes_eq its.0.name.sym x ≡ true =
-              ap (λ (n : Name). bytes_eq n.sym x) (sym (name-beside its.2)) ∙ rest.1 in
+              ap (λ (n : Name). bytes_eq n.sym x) (sym (name-beside R frame its.2)) ∙ rest.1 in
           let declared : declares ds (home_of ds its.0) (plain x) ≡ true =
           list_any-here (is_declared_in ds (home_of ds its.0) (plain x)) ds it.0 its.0 its.1
               (and_from (same_scope (home_of ds its.0) (home_of ds its.0)) _

@@ -2,7 +2,7 @@
 use Rattle.std.proofs.Common.{◌≡◌, ℕ, zero, suc, ◌+◌, ◌<◌, Bool, true, false, cond, not, ◌&&◌, ◌||◌, List, [], ◌∷◌, ◌++◌, Some, filter, length, get_or, ◌⊎◌, inl, inr, refl, ap, sym, ◌∙◌, subst, arith, ne_eqb, flat_map, bytes_eq}
 use Rattle.std.specs.Prelude.{position}
 use Rattle.std.specs.List.{list_any}
-use Rattle.std.proofs.lemmas.Bool.{false≢true, and_parts, le-leb}
+use Rattle.std.proofs.lemmas.Bool.{false≢true, and_parts, le-leb, not-true}
 use Rattle.std.proofs.lemmas.Option.{none-some}
 use Rattle.std.proofs.lemmas.List.Quantifiers.{position-Some}
 use Rattle.bundle_tree_piece.specs.Item as h
@@ -64,10 +64,6 @@ script-imports tree is =
         (top_items tree)) (and_parts
         (not (list_any (λ (top : TopItem). begins_with is_module_declaration top.items)
         (top_items tree))) _ is).0)
-  where
-    not-true : (b : Bool) → not b ≡ true → b ≡ false
-    not-true true e = absurd (false≢true e)
-    not-true false e = refl
 
 -- so a name of its top stands for what it declares
 pub stands-declared : (p : Program) (c : ℕ) (x : Text) (t : Target) → imports p c ≡ [] →

@@ -2,6 +2,7 @@
 -- names that none of the items declares.
 use Rattle.std.specs.Prelude.{◌≡◌, ℕ, Option, Some, None, length}
 use Rattle.bundle_rules.specs.Order.{Mention, Group, mention_at, Declares}
+use Rattle.bundle_order_needs.specs.Renumbered.{IsSameButTop}
 
 -- the binding of this number, if there is one, is declared by no item
 abbrev pub IsLoose : Group → Option ℕ → Type 0
@@ -16,13 +17,7 @@ pub data TopsAlike (R : ℕ → ℕ → Type 0) (g other : Group) : Option ℕ �
 -- two mentions are alike but for numbers
 pub record MentionsAlike (R : ℕ → ℕ → Type 0) (g other : Group) (x y : Mention) : Type 0 where
   pub top : TopsAlike R g other x.top y.top
-  pub declares : x.declares ≡ y.declares
-  pub later : x.later ≡ y.later
-  pub assigned : x.assigned ≡ y.assigned
-  pub argument : x.argument ≡ y.argument
-  pub chain : x.chain ≡ y.chain
-  pub prototype : x.prototype ≡ y.prototype
-  pub valueless : x.valueless ≡ y.valueless
+  pub same : IsSameButTop x y
 
 -- groups of the same items, whose bindings correspond one to one
 pub record GroupsAlike (R : ℕ → ℕ → Type 0) (g other : Group) : Type 0 where
