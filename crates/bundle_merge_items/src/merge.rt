@@ -3,7 +3,7 @@
 use crate::context::Contexts;
 use crate::error::MergeError;
 use crate::given::names_of;
-use crate::module::{add_module, add_stmt};
+use crate::module::{add_item, add_module, add_stmt};
 use crate::names::Names;
 use crate::outside::{add_external, add_helper};
 use crate::part::BundleParts;
@@ -68,7 +68,7 @@ fn add_items<'a>(
         add_block(alloc, bundle, names, block, items)?;
     }
     for specifier in bundle.linking.external_stars() {
-        items.body.push(export_star(alloc, *specifier)?)?;
+        add_item(items, export_star(alloc, *specifier)?)?;
     }
     add_exports(alloc, bundle, names, items)
 }
@@ -184,7 +184,7 @@ fn add_exports<'a>(
     };
     let pairs = linked_pairs(alloc, bundle, names, entry)?;
     if !pairs.is_empty() {
-        items.body.push(export_list(alloc, &pairs)?)?;
+        add_item(items, export_list(alloc, &pairs)?)?;
     }
     Ok(())
 }

@@ -33,7 +33,7 @@ pub(crate) fn add_module<'a>(
 // Adds the statement that holds the `import.meta` of a module as it is, if it is there already.
 fn add_written(alloc: Global, part: &Part<'_, '_>, items: &mut Module) -> Result<(), AllocError> {
     for item in part.written_items() {
-        items.body.push(rebuild_item(alloc, item, &[])?)?;
+        add_item(items, rebuild_item(alloc, item, &[])?)?;
     }
     Ok(())
 }
@@ -163,16 +163,27 @@ fn add_stated<'a>(
         rewrites: body.rewrites.get(first..).unwrap_or(&[]),
         meta: body.meta,
     };
-    if let Some(stmt) = stated_item(alloc, item, rewriting, default)? {
-        stmts.push(stmt)?;
+    match stated_item(alloc, item, rewriting, default)? {
+        Some(stmt) => add_own(stmts, stmt),
+        None => Ok(()),
     }
+}
+
+// Adds an own statement.
+fn add_own(stmts: &mut Vec<Stmt>, stmt: Stmt) -> Result<(), AllocError> {
+    stmts.push(stmt)?;
+    Ok(())
+}
+
+/// Adds an item.
+pub(crate) fn add_item(items: &mut Module, item: ModuleItem) -> Result<(), AllocError> {
+    items.body.push(item)?;
     Ok(())
 }
 
 /// Adds a statement.
 pub(crate) fn add_stmt(items: &mut Module, stmt: Stmt) -> Result<(), AllocError> {
-    items.body.push(ModuleItem::Stmt(stmt))?;
-    Ok(())
+    add_item(items, ModuleItem::Stmt(stmt))
 }
 
 // Adds statements.

@@ -1,7 +1,7 @@
 //! The items by which a bundle gets what does not stand in it as it was written: imports of externals, the helper that
 //! load functions are made by, and the statements by which modules load CommonJS modules.
 
-use crate::module::add_stmt;
+use crate::module::{add_item, add_stmt};
 use crate::names::{Label, Names};
 use bundle_link_tables::Taken;
 use bundle_link_targets::{External, Loaded, Target};
@@ -26,9 +26,9 @@ pub(crate) fn add_external<'a>(
     if external.whole {
         let taken = Taken::Whole;
         let name = names.target(Target::External { specifier, taken });
-        items.body.push(import_whole(alloc, specifier, name)?)?;
+        add_item(items, import_whole(alloc, specifier, name)?)?;
     } else if external.names.is_empty() {
-        items.body.push(import_bare(alloc, specifier)?)?;
+        add_item(items, import_bare(alloc, specifier)?)?;
     }
     Ok(())
 }
@@ -41,10 +41,7 @@ fn add_named_import<'a>(
     items: &mut Module,
 ) -> Result<(), AllocError> {
     let pairs = external_pairs(alloc, names, external)?;
-    items
-        .body
-        .push(import_names(alloc, external.specifier, &pairs)?)?;
-    Ok(())
+    add_item(items, import_names(alloc, external.specifier, &pairs)?)
 }
 
 // The names of an external that are meant, with what stands for them.
