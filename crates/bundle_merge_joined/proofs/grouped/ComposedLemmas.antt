@@ -64,17 +64,20 @@ between : (whole mid named : List Item) →
 between whole mid named pairs same x z at =
     let found = zip-at (Pair whole mid) (top_items whole) (top_items mid) at.at x pairs at.here in
     let clear : slice_get (top_items (cleared mid)) at.at ≡ Some (cleared_top found.0) =
-        ap (λ l. slice_get l at.at) (top_items-cleared mid)
-        ∙ (slice_get-map cleared_top (top_items mid) at.at
-        ∙ ap (λ (o : Option TopItem). option_map cleared_top o) found.1) in
+    ap (λ l. slice_get l at.at) (top_items-cleared mid)
+    ∙ (slice_get-map cleared_top (top_items mid) at.at
+    ∙ ap (λ (o : Option TopItem). option_map cleared_top o) found.1) in
     record {
       one = found.0;
       two = cleared_top found.0;
       edited = record { at = at.at; here = at.here; there = found.1 };
       clear = record { at = at.at; here = found.1; there = clear };
       last =
-          record { at = at.at; here = at.there;
-              there = ap (λ (l : List Item). slice_get (top_items l) at.at) same ∙ clear };
+          record {
+            at = at.at;
+            here = at.there;
+            there = ap (λ (l : List Item). slice_get (top_items l) at.at) same ∙ clear;
+          };
     }
 
 record AllBetween (whole mid named : List Item) (xs zs : List TopItem) : Type 0 where
@@ -94,9 +97,13 @@ all-between whole mid named each (x ∷ xs) [] zip = absurd zip
 all-between whole mid named each (x ∷ xs) (z ∷ zs) zip =
     let first : Between whole mid named x z = each x z zip.0 in
     let later : AllBetween whole mid named xs zs = all-between whole mid named each xs zs zip.1 in
-    record { ones = first.one ∷ later.ones; twos = first.two ∷ later.twos;
-        edited = (first.edited, later.edited); clear = (first.clear, later.clear);
-        last = (first.last, later.last) }
+    record {
+      ones = first.one ∷ later.ones;
+      twos = first.two ∷ later.twos;
+      edited = (first.edited, later.edited);
+      clear = (first.clear, later.clear);
+      last = (first.last, later.last);
+    }
 
 -- ---- NAMED: a good order of items of merged modules is one of the same items when they are named
 module _ (f : ℕ) {inside made : List Item} {rest : List Change} (named : List Item)
@@ -128,28 +135,27 @@ module _ (f : ℕ) {inside made : List Item} {rest : List Change} (named : List 
     len = keeps.alike.len ∙ ap length same-denotations;
     same =
         λ i j. subst (λ (ds : List Denoted). (slice_get (denotations ByContext Es whole) i
-            ≡ slice_get (denotations ByContext Es whole) j) ↔ (slice_get ds i ≡ slice_get ds j))
-            same-denotations (keeps.alike.same i j);
+        ≡ slice_get (denotations ByContext Es whole) j) ↔ (slice_get ds i ≡ slice_get ds j))
+        same-denotations (keeps.alike.same i j);
     globals =
         λ i x. subst (λ (ds : List Denoted). (slice_get (denotations ByContext Es whole) i
-            ≡ Some (Global x)) ↔ (slice_get ds i ≡ Some (Global x))) same-denotations
-            (keeps.alike.globals i x);
+        ≡ Some (Global x)) ↔ (slice_get ds i ≡ Some (Global x))) same-denotations
+        (keeps.alike.globals i x);
   }
 
   pub named-good_order : (items its : List TopItem) → AllZip (AtOne whole named) items its →
       (owners : List (Option ℕ)) (order : List ℕ) →
       IsGoodOrder (group_of ByContext Top whole items owners) order
-          ↔ IsGoodOrder (group_of BySymbol Top named its owners) order
+      ↔ IsGoodOrder (group_of BySymbol Top named its owners) order
   named-good_order items its zip owners order =
       let all : AllBetween whole mid named items its =
-          all-between whole mid named
-          (between whole mid named (module-paired f f edits) same-cleared) items its zip in
+      all-between whole mid named
+      (between whole mid named (module-paired f f edits) same-cleared) items its zip in
       let first = renamed-good_order ByContext BySymbol f edits alike-mid ways objects
-          (record { unbound = λ n o e d. refl }) items all.ones all.edited owners owners
-          (owners-refl owners) order in
+      (record { unbound = λ n o e d. refl }) items all.ones all.edited owners owners
+      (owners-refl owners) order in
       let second = cleared-good_order mid all.ones all.twos all.clear owners order in
-      let third = cleared-good_order named its all.twos all.last owners order in
-      (
+      let third = cleared-good_order named its all.twos all.last owners order in (
         λ good. third.1 (subst
             (λ (t : List Item). IsGoodOrder (group_of BySymbol Top t all.twos owners) order)
             (sym same-cleared) (second.0 (first.0 good))),
@@ -165,8 +171,8 @@ pub merged-good_order : (all whole : List Item) → Whole all → IsResolved Es 
     AllZip (StandsInBoth (node 0 h.Module all) whole) (top_items (node 0 h.Module all)) its →
     (owners its_owners : List (Option ℕ)) → OwnersAlike owners its_owners → (order : List ℕ) →
     IsGoodOrder (group_of_items all owners) order
-        ↔ IsGoodOrder (group_of ByContext Top whole its its_owners) order
+    ↔ IsGoodOrder (group_of ByContext Top whole its its_owners) order
 merged-good_order all whole nodes resolved ways own its zip owners its_owners of_one order =
     let told : IsTold whole = resolved-told whole resolved ways own in
     placed-good_order (node 0 h.Module all) whole (told-alone 0 all whole nodes its zip told) told
-        (top_items (node 0 h.Module all)) its zip owners its_owners of_one order
+    (top_items (node 0 h.Module all)) its zip owners its_owners of_one order

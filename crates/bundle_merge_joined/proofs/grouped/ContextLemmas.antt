@@ -25,22 +25,26 @@ use Rattle.bundle_merge_joined.proofs.joined.Bindings.{scope_in, context_in}
 -- what an identifier declares in this way
 abbrev pub declares_so : Reading → Occurrence → Way → Declared
 declares_so reading o way =
-    record { place = o.place; name = name_of reading o.sym o.ctxt; by = way;
-        scopes = scopes_around Es o.path }
+    record {
+      place = o.place;
+      name = name_of reading o.sym o.ctxt;
+      by = way;
+      scopes = scopes_around Es o.path;
+    }
 
 declaration-so : (reading : Reading) (o : Occurrence) (way : Way) → is_binding o.role ≡ true →
     way_of o.path ≡ Some way → declaration_of reading Es o ≡ Some (declares_so reading o way)
 declaration-so reading o way binds is =
     ap (λ b. cond b (declared_by o.place (name_of reading o.sym o.ctxt) (scopes_around Es o.path)
-        (way_of o.path)) None) binds
+    (way_of o.path)) None) binds
     ∙ ap (λ (w : Option Way). declared_by o.place (name_of reading o.sym o.ctxt)
-        (scopes_around Es o.path) w) is
+    (scopes_around Es o.path) w) is
 
 pub declaration-none : (reading : Reading) (o : Occurrence) → is_binding o.role ≡ false →
     declaration_of reading Es o ≡ None
 declaration-none reading o refers =
     ap (λ b. cond b (declared_by o.place (name_of reading o.sym o.ctxt) (scopes_around Es o.path)
-        (way_of o.path)) None) refers
+    (way_of o.path)) None) refers
 
 -- an identifier that declares
 pub record Declares (reading : Reading) (o : Occurrence) (d : Declared) : Type 0 where
@@ -55,7 +59,7 @@ declares-from reading o d e = by (is_binding o.role) (way_of o.path) refl refl e
   where
     by : (b : Bool) (w : Option Way) → is_binding o.role ≡ b → way_of o.path ≡ w →
         cond b (declared_by o.place (name_of reading o.sym o.ctxt) (scopes_around Es o.path) w)
-            None ≡ Some d →
+        None ≡ Some d →
         Declares reading o d
     by true (Some way) binds is e =
         record { binds = binds; way = way; is = is; so = sym (same_Some _ d e) }
@@ -90,29 +94,29 @@ get-cases (Some y) xs zero x e = inl e
 get-cases (Some y) xs (suc n) x e = inr (n, e)
 
 pub any-declared : (reading : Reading) (f : Declared → Bool) (items : List Item) (spot : Spot)
-        (n : ℕ) (o : Occurrence) (d : Declared) →
+    (n : ℕ) (o : Occurrence) (d : Declared) →
     slice_get (occurrences_from spot items) n ≡ Some o → declaration_of reading Es o ≡ Some d →
     f d ≡ true → list_any f (declared_from reading Es spot items) ≡ true
 any-declared reading f [] spot n o d e is t = absurd (none-some o e)
 any-declared reading f (x ∷ items) spot n o d e is t =
     by (get-cases (occurrence_of spot x) (occurrences_from (past spot x) items) n o e)
-        (λ m later. any-declared reading f items (past spot x) m o d later is t)
+    (λ m later. any-declared reading f items (past spot x) m o d later is t)
   where
     by : (occurrence_of spot x ≡ Some o)
-            ⊎ ((m : ℕ) × (slice_get (occurrences_from (past spot x) items) m ≡ Some o)) →
+        ⊎ ((m : ℕ) × (slice_get (occurrences_from (past spot x) items) m ≡ Some o)) →
         ((m : ℕ) → slice_get (occurrences_from (past spot x) items) m ≡ Some o →
-            list_any f (declared_from reading Es (past spot x) items) ≡ true) →
+        list_any f (declared_from reading Es (past spot x) items) ≡ true) →
         list_any f (declared_from reading Es spot (x ∷ items)) ≡ true
     by (inl here) ih =
         any-here f (declared_at reading Es spot x items)
-            (declared_from reading Es (past spot x) items) d
+        (declared_from reading Es (past spot x) items) d
         (ap (λ b. cond b (Some (nameless_default Es spot.place))
-            (option_and_then (declaration_of reading Es) (occurrence_of spot x)))
-            (no_name x spot items o here)
-            ∙ (ap (option_and_then (declaration_of reading Es)) here ∙ is)) t
+        (option_and_then (declaration_of reading Es) (occurrence_of spot x)))
+        (no_name x spot items o here)
+        ∙ (ap (option_and_then (declaration_of reading Es)) here ∙ is)) t
     by (inr later) ih =
         any-later f (declared_at reading Es spot x items)
-            (declared_from reading Es (past spot x) items) (ih later.0 later.1)
+        (declared_from reading Es (past spot x) items) (ih later.0 later.1)
 
 -- what is found among the declarations is that of an identifier, where the test passes no nameless
 -- default
@@ -142,34 +146,40 @@ pub found-declared : (reading : Reading) (f : Declared → Bool) →
 found-declared reading f nameless [] spot e = absurd (false≢true e)
 found-declared reading f nameless (x ∷ items) spot e =
     by (is_nameless_default x items) (occurrence_of spot x) refl
-        (λ t. found-declared reading f nameless items (past spot x) t) e
+    (λ t. found-declared reading f nameless items (past spot x) t) e
   where
     later : (list_any f (declared_from reading Es (past spot x) items) ≡ true →
-            FoundAt reading f (past spot x) items) →
+        FoundAt reading f (past spot x) items) →
         list_any f (declared_from reading Es (past spot x) items) ≡ true →
         FoundAt reading f spot (x ∷ items)
     later ih t =
         let found = ih t in
         let at = get-later (occurrence_of spot x) (occurrences_from (past spot x) items) found.at
-            found.name found.there in
-        record { at = at.0; name = found.name; there = at.1; declared = found.declared;
-            is = found.is; passes = found.passes }
+        found.name found.there in
+        record {
+          at = at.0;
+          name = found.name;
+          there = at.1;
+          declared = found.declared;
+          is = found.is;
+          passes = found.passes;
+        }
 
     here : (o : Occurrence) (d : Declared) (b : Bool) → occurrence_of spot x ≡ Some o →
         declaration_of reading Es o ≡ Some d → f d ≡ b →
         (list_any f (declared_from reading Es (past spot x) items) ≡ true →
-            FoundAt reading f (past spot x) items) →
+        FoundAt reading f (past spot x) items) →
         (b || list_any f (declared_from reading Es (past spot x) items)) ≡ true →
         FoundAt reading f spot (x ∷ items)
     here o d true there is passes ih t =
         let at = get-first (occurrence_of spot x) (occurrences_from (past spot x) items) o there in
-            record { at = at.0; name = o; there = at.1; declared = d; is = is; passes = passes }
+        record { at = at.0; name = o; there = at.1; declared = d; is = is; passes = passes }
     here o d false there is passes ih t = later ih t
 
     maybe : (o : Occurrence) (d : Option Declared) → occurrence_of spot x ≡ Some o →
         declaration_of reading Es o ≡ d →
         (list_any f (declared_from reading Es (past spot x) items) ≡ true →
-            FoundAt reading f (past spot x) items) →
+        FoundAt reading f (past spot x) items) →
         list_any f (cons_option d (declared_from reading Es (past spot x) items)) ≡ true →
         FoundAt reading f spot (x ∷ items)
     maybe o None there is ih t = later ih t
@@ -177,15 +187,15 @@ found-declared reading f nameless (x ∷ items) spot e =
 
     by : (b : Bool) (o : Option Occurrence) → occurrence_of spot x ≡ o →
         (list_any f (declared_from reading Es (past spot x) items) ≡ true →
-            FoundAt reading f (past spot x) items) →
+        FoundAt reading f (past spot x) items) →
         list_any f (cons_option
-            (cond b (Some (nameless_default Es spot.place))
-            (option_and_then (declaration_of reading Es) o))
-            (declared_from reading Es (past spot x) items)) ≡ true →
+        (cond b (Some (nameless_default Es spot.place))
+        (option_and_then (declaration_of reading Es) o))
+        (declared_from reading Es (past spot x) items)) ≡ true →
         FoundAt reading f spot (x ∷ items)
     by true o there ih t =
         later ih (ap (λ b. b || list_any f (declared_from reading Es (past spot x) items))
-            (sym (nameless spot.place)) ∙ t)
+        (sym (nameless spot.place)) ∙ t)
     by false None there ih t = later ih t
     by false (Some o) there ih t = maybe o (declaration_of reading Es o) there refl ih t
 
@@ -194,7 +204,7 @@ agrees : (a b : Name) → names_agree a b ≡ true →
     (a.sym ≡ b.sym) × (contexts_agree a.ctxt b.ctxt ≡ true)
 agrees a b t =
     let p = and_parts (bytes_eq a.sym b.sym) (contexts_agree a.ctxt b.ctxt) t in
-        ((bytes_eq-Decides a.sym b.sym).0 p.0, p.1)
+    ((bytes_eq-Decides a.sym b.sym).0 p.0, p.1)
 
 module _ (tree : List Item) where
   abbrev all : List Declared
@@ -215,21 +225,21 @@ module _ (tree : List Item) where
       is_written_in all scope (name_of ByContext o.sym o.ctxt) ≡ true → Written scope o
   written-by scope o t =
       let found : FoundAt ByContext
-          (λ d. has_identifier d && is_declared_in all scope (name_of ByContext o.sym o.ctxt) d)
-          start tree = found-declared ByContext
-          (λ d. has_identifier d && is_declared_in all scope (name_of ByContext o.sym o.ctxt) d)
-          (λ place. refl) tree start t in
+      (λ d. has_identifier d && is_declared_in all scope (name_of ByContext o.sym o.ctxt) d)
+      start tree = found-declared ByContext
+      (λ d. has_identifier d && is_declared_in all scope (name_of ByContext o.sym o.ctxt) d)
+      (λ place. refl) tree start t in
       let declares : Declares ByContext found.name found.declared =
-          declares-from ByContext found.name found.declared found.is in
+      declares-from ByContext found.name found.declared found.is in
       let p = and_parts (has_identifier found.declared)
-          (is_declared_in all scope (name_of ByContext o.sym o.ctxt) found.declared) found.passes
-              in
+      (is_declared_in all scope (name_of ByContext o.sym o.ctxt) found.declared) found.passes
+      in
       let q = and_parts (same_scope (home_of all found.declared) scope)
-          (names_agree found.declared.name (name_of ByContext o.sym o.ctxt)) p.1 in
+      (names_agree found.declared.name (name_of ByContext o.sym o.ctxt)) p.1 in
       let names = agrees (name_of ByContext found.name.sym found.name.ctxt)
-          (name_of ByContext o.sym o.ctxt)
-          (ap (λ (d : Declared). names_agree d.name (name_of ByContext o.sym o.ctxt))
-          (sym declares.so) ∙ q.1) in
+      (name_of ByContext o.sym o.ctxt)
+      (ap (λ (d : Declared). names_agree d.name (name_of ByContext o.sym o.ctxt))
+      (sym declares.so) ∙ q.1) in
       record {
         at = found.at;
         name = found.name;
@@ -248,50 +258,50 @@ module _ (tree : List Item) where
       is_written_in all scope (name_of ByContext o.sym o.ctxt) ≡ true
   written-to scope o p m way there binds is home same =
       any-declared ByContext
-          (λ d. has_identifier d && is_declared_in all scope (name_of ByContext o.sym o.ctxt) d)
-          tree start m p (declares_so ByContext p way) there
-          (declaration-so ByContext p way binds is)
+      (λ d. has_identifier d && is_declared_in all scope (name_of ByContext o.sym o.ctxt) d)
+      tree start m p (declares_so ByContext p way) there
+      (declaration-so ByContext p way binds is)
       (and_from (same_scope (home_of all (declares_so ByContext p way)) scope)
-          (names_agree (name_of ByContext p.sym p.ctxt) (name_of ByContext o.sym o.ctxt)) home
+      (names_agree (name_of ByContext p.sym p.ctxt) (name_of ByContext o.sym o.ctxt)) home
       (and_from (bytes_eq p.sym o.sym) (p.ctxt == o.ctxt)
-          ((bytes_eq-Decides p.sym o.sym).1 (sym same.0)) (eq-eqb p.ctxt o.ctxt (sym same.1))))
+      ((bytes_eq-Decides p.sym o.sym).1 (sym same.0)) (eq-eqb p.ctxt o.ctxt (sym same.1))))
 
   -- ---- what is declared at the top
   home-is : (p : Occurrence) (top : IsTopBinding p) →
       home_of all (declares_so ByContext p top.way) ≡ Top
   home-is p top =
       ap scope_in (is_top-of
-          (Bound (home_of all (declares_so ByContext p top.way)) (name_of ByContext p.sym p.ctxt))
-          (home-top all (declares_so ByContext p top.way) p.path refl ∙ top.top)).1
+      (Bound (home_of all (declares_so ByContext p top.way)) (name_of ByContext p.sym p.ctxt))
+      (home-top all (declares_so ByContext p top.way) p.path refl ∙ top.top)).1
 
   pub top-denotes : (p : Occurrence) → IsTopBinding p →
       denoted_of ByContext Es all p ≡ Bound Top (name_of ByContext p.sym p.ctxt)
   top-denotes p top =
       ap (own_or_found all
-          (denoted_in ByContext all (scopes_around Es p.path) (name_of ByContext p.sym p.ctxt)))
-          (declaration-so ByContext p top.way top.binds top.is)
+      (denoted_in ByContext all (scopes_around Es p.path) (name_of ByContext p.sym p.ctxt)))
+      (declaration-so ByContext p top.way top.binds top.is)
       ∙ ap (λ (s : Scope). Bound s (name_of ByContext p.sym p.ctxt)) (home-is p top)
 
   -- what is declared where it stands
   own-denotes : (o : Occurrence) (way : Way) → is_binding o.role ≡ true →
       way_of o.path ≡ Some way →
       denoted_of ByContext Es all o
-          ≡ Bound (home_of all (declares_so ByContext o way)) (name_of ByContext o.sym o.ctxt)
+      ≡ Bound (home_of all (declares_so ByContext o way)) (name_of ByContext o.sym o.ctxt)
   own-denotes o way binds is =
       ap (own_or_found all
-          (denoted_in ByContext all (scopes_around Es o.path) (name_of ByContext o.sym o.ctxt)))
-          (declaration-so ByContext o way binds is)
+      (denoted_in ByContext all (scopes_around Es o.path) (name_of ByContext o.sym o.ctxt)))
+      (declaration-so ByContext o way binds is)
 
   -- what is referred to
   referred : (o : Occurrence) → is_binding o.role ≡ false →
       denoted_of ByContext Es all o
-          ≡ written_or_implied all (scopes_around Es o.path) (name_of ByContext o.sym o.ctxt)
-          (find (λ scope. is_written_in all scope (name_of ByContext o.sym o.ctxt))
-          (scopes_around Es o.path))
+      ≡ written_or_implied all (scopes_around Es o.path) (name_of ByContext o.sym o.ctxt)
+      (find (λ scope. is_written_in all scope (name_of ByContext o.sym o.ctxt))
+      (scopes_around Es o.path))
   referred o refers =
       ap (own_or_found all
-          (denoted_in ByContext all (scopes_around Es o.path) (name_of ByContext o.sym o.ctxt)))
-          (declaration-none ByContext o refers)
+      (denoted_in ByContext all (scopes_around Es o.path) (name_of ByContext o.sym o.ctxt)))
+      (declaration-none ByContext o refers)
 
   find-top : (f : Scope → Bool) → ((kind : ScopeKind) (b : ℕ) → f (Inner kind b) ≡ false) →
       f Top ≡ true → (path : List Around) → find f (scopes_around Es path) ≡ Some Top
@@ -304,7 +314,7 @@ module _ (tree : List Item) where
       by None ih = ih
       by (Some kind) ih =
           ap (λ b. cond b (Some (Inner kind node.begins)) (find f (scopes_around Es outer)))
-              (inner kind node.begins)
+          (inner kind node.begins)
           ∙ ih
 
   module _ (apart : TopsApart tree) (ways : HasWays tree) where
@@ -313,15 +323,18 @@ module _ (tree : List Item) where
         is_written_in all (Inner kind b) (name_of ByContext o.sym o.ctxt) ≡ false
     inner-unwritten m o p there top same kind b = false_from_ne_true _ (λ t.
         let w : Written (Inner kind b) o = written-by (Inner kind b) o t in
-        let its : IsTopBinding w.name = apart.apart w.at m w.name p w.there there w.binds (w.same.0
-            ∙ same.0, w.same.1 ∙ same.1) top in
+        let its : IsTopBinding w.name = apart.apart w.at m w.name p w.there there w.binds (
+          w.same.0
+              ∙ same.0,
+          w.same.1 ∙ same.1,
+        ) top in
         let ways_same : its.way ≡ w.way = same_Some its.way w.way (sym its.is ∙ w.is) in
         let home : same_scope (home_of all (declares_so ByContext w.name its.way)) (Inner kind b)
-            ≡ true = ap (λ (y : Way). same_scope (home_of all (declares_so ByContext w.name y))
-            (Inner kind b)) ways_same ∙ w.home in
+        ≡ true = ap (λ (y : Way). same_scope (home_of all (declares_so ByContext w.name y))
+        (Inner kind b)) ways_same ∙ w.home in
         let order : 1 ≡ b + 2 =
-            eqb-true 1 (b + 2)
-            (ap (λ (s : Scope). same_scope s (Inner kind b)) (sym (home-is w.name its)) ∙ home) in
+        eqb-true 1 (b + 2)
+        (ap (λ (s : Scope). same_scope s (Inner kind b)) (sym (home-is w.name its)) ∙ home) in
         omega (arith, order))
 
     refers-top : (m : ℕ) (o p : Occurrence) → slice_get (occurrences tree) m ≡ Some p →
@@ -331,9 +344,9 @@ module _ (tree : List Item) where
         referred o refers
         ∙ ap (written_or_implied all (scopes_around Es o.path) (name_of ByContext o.sym o.ctxt))
         (find-top (λ scope. is_written_in all scope (name_of ByContext o.sym o.ctxt))
-            (inner-unwritten m o p there top same)
+        (inner-unwritten m o p there top same)
         (written-to Top o p m top.way there top.binds top.is
-            (ap (λ (s : Scope). same_scope s Top) (home-is p top)) same) o.path)
+        (ap (λ (s : Scope). same_scope s Top) (home-is p top)) same) o.path)
 
     name-same : (o p : Occurrence) → SameIdent o p →
         name_of ByContext o.sym o.ctxt ≡ name_of ByContext p.sym p.ctxt
@@ -358,21 +371,21 @@ module _ (tree : List Item) where
 
     ident-of : (o p : Occurrence) (scope : Scope) →
         ◌≡◌ {A = Denoted} (Bound scope (name_of ByContext o.sym o.ctxt))
-            (Bound Top (name_of ByContext p.sym p.ctxt)) →
+        (Bound Top (name_of ByContext p.sym p.ctxt)) →
         SameIdent o p
     ident-of o p scope e = (ap denoted_symbol e, same_Some o.ctxt p.ctxt (ap context_in e))
 
     implied-not : (o p : Occurrence) (scopes : List Scope) →
         implied all scopes (name_of ByContext o.sym o.ctxt)
-            ≡ Bound Top (name_of ByContext p.sym p.ctxt) →
+        ≡ Bound Top (name_of ByContext p.sym p.ctxt) →
         ⊥
     implied-not o p scopes e =
         by (is_unresolved (Some o.ctxt))
-            (find (λ scope. is_implied_in all scope (name_of ByContext o.sym o.ctxt)) scopes) e
+        (find (λ scope. is_implied_in all scope (name_of ByContext o.sym o.ctxt)) scopes) e
       where
         by : (b : Bool) (s : Option Scope) →
             cond b (Global o.sym) (bound_in (without_context (name_of ByContext o.sym o.ctxt)) s)
-                ≡ Bound Top (name_of ByContext p.sym p.ctxt) →
+            ≡ Bound Top (name_of ByContext p.sym p.ctxt) →
             ⊥
         by true s e = cc
         by false None e = cc
@@ -386,7 +399,7 @@ module _ (tree : List Item) where
       where
         found : (s : Option Scope) →
             written_or_implied all (scopes_around Es o.path) (name_of ByContext o.sym o.ctxt) s
-                ≡ Bound Top (name_of ByContext p.sym p.ctxt) →
+            ≡ Bound Top (name_of ByContext p.sym p.ctxt) →
             SameIdent o p
         found None f = absurd (implied-not o p (scopes_around Es o.path) f)
         found (Some scope) f = ident-of o p scope f
@@ -394,7 +407,7 @@ module _ (tree : List Item) where
         by : (b : Bool) → is_binding o.role ≡ b → SameIdent o p
         by true binds =
             let way = ways.way n o here binds in
-                ident-of o p _ (sym (own-denotes o way.0 binds way.1) ∙ (e ∙ top-denotes p top))
+            ident-of o p _ (sym (own-denotes o way.0 binds way.1) ∙ (e ∙ top-denotes p top))
         by false refers = found _ (sym (referred o refers) ∙ (e ∙ top-denotes p top))
 
   -- ---- the global `Object`
@@ -403,7 +416,7 @@ module _ (tree : List Item) where
         is_written_in all scope (name_of ByContext o.sym o.ctxt) ≡ false
     unwritten o one scope =
         false_from_ne_true _ (λ t. let w : Written scope o = written-by scope o t in
-            own.own w.at w.name w.there w.binds (w.same.1 ∙ one))
+        own.own w.at w.name w.there w.binds (w.same.1 ∙ one))
 
     find-none : (f : Scope → Bool) → ((s : Scope) → f s ≡ false) → (scopes : List Scope) →
         find f scopes ≡ None
@@ -416,18 +429,18 @@ module _ (tree : List Item) where
     unbound-denotes n o here one =
         referred o (false_from_ne_true (is_binding o.role) (λ binds. own.own n o here binds one))
         ∙ (ap (written_or_implied all (scopes_around Es o.path) (name_of ByContext o.sym o.ctxt))
-            (find-none (λ scope. is_written_in all scope (name_of ByContext o.sym o.ctxt))
-            (unwritten o one) (scopes_around Es o.path))
+        (find-none (λ scope. is_written_in all scope (name_of ByContext o.sym o.ctxt))
+        (unwritten o one) (scopes_around Es o.path))
         ∙ ap (λ b. cond b (Global o.sym)
-            (bound_in (without_context (name_of ByContext o.sym o.ctxt))
-            (find (λ scope. is_implied_in all scope (name_of ByContext o.sym o.ctxt))
-            (scopes_around Es o.path)))) (eq-eqb o.ctxt 1 one))
+        (bound_in (without_context (name_of ByContext o.sym o.ctxt))
+        (find (λ scope. is_implied_in all scope (name_of ByContext o.sym o.ctxt))
+        (scopes_around Es o.path)))) (eq-eqb o.ctxt 1 one))
 
     -- an identifier is the global `Object` by its symbol and context alone
     pub object-told : (n : ℕ) (o : Occurrence) → slice_get (occurrences tree) n ≡ Some o →
         (is_global_named (codes "Object") (Some (denoted_of ByContext Es all o))
-            && is_of_nothing ByContext (Some o))
-            ≡ (bytes_eq (codes "Object") o.sym && (o.ctxt == 1))
+        && is_of_nothing ByContext (Some o))
+        ≡ (bytes_eq (codes "Object") o.sym && (o.ctxt == 1))
     object-told n o here = by (o.ctxt == 1) refl
       where
         and-none : (b : Bool) → (b && false) ≡ false
@@ -436,10 +449,10 @@ module _ (tree : List Item) where
 
         by : (b : Bool) → (o.ctxt == 1) ≡ b →
             (is_global_named (codes "Object") (Some (denoted_of ByContext Es all o)) && b)
-                ≡ (bytes_eq (codes "Object") o.sym && b)
+            ≡ (bytes_eq (codes "Object") o.sym && b)
         by true one =
             ap (λ (d : Denoted). is_global_named (codes "Object") (Some d) && true)
-                (unbound-denotes n o here (eqb-true o.ctxt 1 one))
+            (unbound-denotes n o here (eqb-true o.ctxt 1 one))
         by false other =
             and-none (is_global_named (codes "Object") (Some (denoted_of ByContext Es all o)))
             ∙ sym (and-none (bytes_eq (codes "Object") o.sym))

@@ -21,7 +21,7 @@ use Rattle.bundle_merge_joined.proofs.grouped.WholeLemmas.{Whole, nothing, hole,
 -- ---- what is edited is whole, before and after
 whole-key : (is_proto : Bool) (x : Text) →
     Whole (if is_proto then h.Open 0 h.ComputedPropName ∷ h.Open 0 (h.Str x None) ∷ h.Close
-        ∷ h.Close ∷ [] else plain_key x)
+    ∷ h.Close ∷ [] else plain_key x)
 whole-key true x = inner 0 h.ComputedPropName (inner 0 (h.Str x None) nothing)
 whole-key false x = inner 0 (h.IdentName x) nothing
 
@@ -35,17 +35,17 @@ whole-either true one two = one
 whole-either false one two = two
 
 whole-place : (around : Surrounding) (change : Option Change) (field : ℕ) (x : Text) (ctxt : ℕ)
-        (role : Role) →
+    (role : Role) →
     Whole (in_its_place around change field x ctxt role)
 whole-place Anywhere change field x ctxt role = whole-renamed change field x ctxt role
 whole-place InObject change field x ctxt role =
     whole-either (spells_out change)
-        (inner field h.KeyValueProp (joined (whole-key _ x) (whole-renamed change 1 x ctxt role)))
-        (whole-renamed change field x ctxt role)
+    (inner field h.KeyValueProp (joined (whole-key _ x) (whole-renamed change 1 x ctxt role)))
+    (whole-renamed change field x ctxt role)
 whole-place InSpecifier change field x ctxt role =
     whole-either (spells_out change)
-        (joined (whole-renamed change field x ctxt role) (name 1 x 0 r.Word))
-        (whole-renamed change field x ctxt role)
+    (joined (whole-renamed change field x ctxt role) (name 1 x 0 r.Word))
+    (whole-renamed change field x ctxt role)
 
 pub whole-binding : (change : Option Change) (field : ℕ) (x : Text) (ctxt : ℕ) (role : Role) →
     Whole (binding change field x ctxt role)
@@ -53,7 +53,7 @@ whole-binding change field x ctxt role =
     inner field h.BindingIdent (whole-renamed change 0 x ctxt role)
 
 pub whole-pattern : (change : Option Change) (x : Text) (ctxt : ℕ) (role : Role) {made : List Item}
-        →
+    →
     Whole made → Whole (pattern_in_its_place change x ctxt role made)
 whole-pattern change x ctxt role {made = []} whole = whole-binding change 1 x ctxt role
 whole-pattern change x ctxt role {made = first ∷ more} whole =
@@ -81,11 +81,11 @@ whole-after (Name around {changes = changes} field x ctxt role occurs) =
 whole-after (Inside field head plain one) = inner field head (whole-after one)
 whole-after (Shorthand {changes = changes} field x ctxt role occurs one) =
     whole-either (spells_out (next changes))
-        (inner field h.KeyValuePatProp
-        (joined (inner 0 (h.IdentName x) nothing)
-        (whole-pattern (next changes) x ctxt role (whole-after one))))
-        (inner field h.AssignPatProp
-        (joined (whole-binding (next changes) 0 x ctxt role) (whole-after one)))
+    (inner field h.KeyValuePatProp
+    (joined (inner 0 (h.IdentName x) nothing)
+    (whole-pattern (next changes) x ctxt role (whole-after one))))
+    (inner field h.AssignPatProp
+    (joined (whole-binding (next changes) 0 x ctxt role) (whole-after one)))
 
 -- ---- what lies directly in a node, before and after
 pub zip-append : {X Y : Type 0} (R : X → Y → Type 0) (xs xs' : List X) (ys ys' : List Y) →
@@ -107,27 +107,27 @@ pub data Keeps : Surrounding → Type 0 where
 
 parts-renamed : (change : Option Change) (field : ℕ) (x : Text) (ctxt : ℕ) (role : Role) →
     AllZip PartAlike ((h.Ident field x ctxt role ∷ []) ∷ [])
-        (side_by_side zero (renamed change field x ctxt role ∷ []))
+    (side_by_side zero (renamed change field x ctxt role ∷ []))
 parts-renamed None field x ctxt role = (record { field = refl; word = refl }, tt)
 parts-renamed (Some change) field x ctxt role = (record { field = refl; word = refl }, tt)
 
 parts-in : {around : Surrounding} → Keeps around →
     (b : Bool) (change : Option Change) (field : ℕ) (x : Text) (ctxt : ℕ) (role : Role) →
     AllZip PartAlike ((h.Ident field x ctxt role ∷ []) ∷ [])
-        (side_by_side zero
-        (if b then node field h.KeyValueProp (key_in_object x ++ renamed change 1 x ctxt role ∷ [])
-        else renamed change field x ctxt role ∷ []))
+    (side_by_side zero
+    (if b then node field h.KeyValueProp (key_in_object x ++ renamed change 1 x ctxt role ∷ [])
+    else renamed change field x ctxt role ∷ []))
 parts-in keeps false change field x ctxt role = parts-renamed change field x ctxt role
 parts-in keeps true change field x ctxt role =
     subst (λ l. AllZip PartAlike ((h.Ident field x ctxt role ∷ []) ∷ []) l)
-        (sym (beside-node field h.KeyValueProp
-        (joined (whole-key _ x) (whole-renamed change 1 x ctxt role)) []))
-        (record { field = refl; word = refl }, tt)
+    (sym (beside-node field h.KeyValueProp
+    (joined (whole-key _ x) (whole-renamed change 1 x ctxt role)) []))
+    (record { field = refl; word = refl }, tt)
 
 parts-place : (around : Surrounding) → Keeps around →
     (change : Option Change) (field : ℕ) (x : Text) (ctxt : ℕ) (role : Role) →
     AllZip PartAlike ((h.Ident field x ctxt role ∷ []) ∷ [])
-        (side_by_side zero (in_its_place around change field x ctxt role))
+    (side_by_side zero (in_its_place around change field x ctxt role))
 parts-place Anywhere keeps change field x ctxt role = parts-renamed change field x ctxt role
 parts-place InObject keeps change field x ctxt role =
     parts-in keeps (spells_out change) change field x ctxt role
@@ -137,31 +137,31 @@ parts-place InSpecifier keeps change field x ctxt role = elim keeps [ ]
 one-part : (field : ℕ) (one two : Head) {inside made : List Item} → Whole inside → Whole made →
     plain_word (node field one inside) ≡ plain_word (node field two made) →
     AllZip PartAlike (side_by_side zero (node field one inside))
-        (side_by_side zero (node field two made))
+    (side_by_side zero (node field two made))
 one-part field one two {inside = inside} {made = made} whole whole_made word =
     subst (λ l. AllZip PartAlike l (side_by_side zero (node field two made)))
-        (sym (beside-node field one whole []))
+    (sym (beside-node field one whole []))
     (subst (λ l. AllZip PartAlike (node field one inside ∷ []) l)
-        (sym (beside-node field two whole_made [])) (record { field = refl; word = word }, tt))
+    (sym (beside-node field two whole_made [])) (record { field = refl; word = word }, tt))
 
 parts-short : (b : Bool) (change : Option Change) (field : ℕ) (x : Text) (ctxt : ℕ) (role : Role)
-        {default made : List Item} →
+    {default made : List Item} →
     Whole default → Whole made →
     AllZip PartAlike (side_by_side zero
-        (node field h.AssignPatProp (binding None 0 x ctxt role ++ default)))
-        (side_by_side zero
-        (if b then node field h.KeyValuePatProp
-        (plain_key x ++ pattern_in_its_place change x ctxt role made) else node field
-        h.AssignPatProp (binding change 0 x ctxt role ++ made)))
+    (node field h.AssignPatProp (binding None 0 x ctxt role ++ default)))
+    (side_by_side zero
+    (if b then node field h.KeyValuePatProp
+    (plain_key x ++ pattern_in_its_place change x ctxt role made) else node field
+    h.AssignPatProp (binding change 0 x ctxt role ++ made)))
 parts-short true change field x ctxt role whole whole_made =
     one-part field h.AssignPatProp h.KeyValuePatProp
-        (joined (whole-binding None 0 x ctxt role) whole)
-        (joined (inner 0 (h.IdentName x) nothing) (whole-pattern change x ctxt role whole_made))
-        refl
+    (joined (whole-binding None 0 x ctxt role) whole)
+    (joined (inner 0 (h.IdentName x) nothing) (whole-pattern change x ctxt role whole_made))
+    refl
 parts-short false change field x ctxt role whole whole_made =
     one-part field h.AssignPatProp h.AssignPatProp
-        (joined (whole-binding None 0 x ctxt role) whole)
-        (joined (whole-binding change 0 x ctxt role) whole_made) refl
+    (joined (whole-binding None 0 x ctxt role) whole)
+    (joined (whole-binding change 0 x ctxt role) whole_made) refl
 
 pub parts-alike : {around : Surrounding} {changes rest : List Change} {before after : List Item} →
     Edits around changes before after rest → Keeps around →
@@ -170,12 +170,12 @@ parts-alike Nothing keeps = tt
 parts-alike (Joined {first = first} {made_first = made_first} {second = second}
     {made_second = made_second} one two) keeps =
     subst (λ l. AllZip PartAlike l (side_by_side zero (made_first ++ made_second)))
-        (sym (beside (whole-before one) second))
+    (sym (beside (whole-before one) second))
     (subst (λ l. AllZip PartAlike (side_by_side zero first ++ side_by_side zero second) l)
-        (sym (beside (whole-after one) made_second))
+    (sym (beside (whole-after one) made_second))
     (zip-append PartAlike (side_by_side zero first) (side_by_side zero second)
-        (side_by_side zero made_first) (side_by_side zero made_second) (parts-alike one keeps)
-        (parts-alike two keeps)))
+    (side_by_side zero made_first) (side_by_side zero made_second) (parts-alike one keeps)
+    (parts-alike two keeps)))
 parts-alike (Hole field) keeps = (record { field = refl; word = refl }, tt)
 parts-alike (Word field x ctxt role plain) keeps = (record { field = refl; word = refl }, tt)
 parts-alike (Name around {changes = changes} field x ctxt role occurs) keeps =
@@ -184,7 +184,7 @@ parts-alike (Inside field head plain one) keeps =
     one-part field head head (whole-before one) (whole-after one) refl
 parts-alike (Shorthand {changes = changes} field x ctxt role occurs one) keeps =
     parts-short (spells_out (next changes)) (next changes) field x ctxt role (whole-before one)
-        (whole-after one)
+    (whole-after one)
 
 -- those in the second field
 second-alike : (ones twos : List (List Item)) → AllZip PartAlike ones twos →
@@ -198,7 +198,7 @@ second-alike (one ∷ ones) (two ∷ twos) zip =
     by : (b c : Bool) → b ≡ c →
         AllZip PartAlike (filter (begins_in 1) ones) (filter (begins_in 1) twos) →
         AllZip PartAlike (cond b (one ∷ filter (begins_in 1) ones) (filter (begins_in 1) ones))
-            (cond c (two ∷ filter (begins_in 1) twos) (filter (begins_in 1) twos))
+        (cond c (two ∷ filter (begins_in 1) twos) (filter (begins_in 1) twos))
     by true true e more = (zip.0, more)
     by false false e more = more
     by true false e more = absurd cc
@@ -225,9 +225,9 @@ seconds : (field : ℕ) (head : Head) {changes rest : List Change} {inside made 
 seconds field head {inside = inside} {made = made} edits =
     second-alike (parts (node field head inside)) (parts (node field head made))
     (subst (λ l. AllZip PartAlike l (parts (node field head made)))
-        (sym (parts-node field head (whole-before edits)))
+    (sym (parts-node field head (whole-before edits)))
     (subst (λ l. AllZip PartAlike (side_by_side zero inside) l)
-        (sym (parts-node field head (whole-after edits))) (parts-alike edits anywhere)))
+    (sym (parts-node field head (whole-after edits))) (parts-alike edits anywhere)))
 
 pub word-moved : (field field' : ℕ) {changes rest : List Change} {inside made : List Item} →
     Edits Anywhere changes inside made rest →
@@ -242,7 +242,7 @@ word-alike field edits = first-word _ _ (seconds field h.MemberExpr edits)
 pub empty-alike : (field : ℕ) {changes rest : List Change} {inside made : List Item} →
     Edits Anywhere changes inside made rest →
     is_nothing (n.in_field 1 (node field h.VarDeclarator inside))
-        ≡ is_nothing (n.in_field 1 (node field h.VarDeclarator made))
+    ≡ is_nothing (n.in_field 1 (node field h.VarDeclarator made))
 empty-alike field edits = none-alike _ _ (seconds field h.VarDeclarator edits)
 
 -- ---- how edited elements begin
@@ -261,7 +261,7 @@ pub data Begin : List Item → List Item → Type 0 where
   named : (f f' : ℕ) (x x' : Text) (c c' : ℕ) (role : Role) {more more' : List Item} →
       Begin (h.Ident f x c role ∷ more) (h.Ident f' x' c' role ∷ more')
   member : (f f' : ℕ) (more more' : List Item) {changes rest : List Change}
-          {inside made tail tail' : List Item} →
+      {inside made tail tail' : List Item} →
       Edits Anywhere changes inside made rest → tail ≡ inside ++ h.Close ∷ more →
       tail' ≡ made ++ h.Close ∷ more' →
       Begin (h.Open f h.MemberExpr ∷ tail) (h.Open f' h.MemberExpr ∷ tail')
@@ -275,8 +275,8 @@ begin-joined (named f f' x x' c c' role) two = named f f' x x' c c' role
 begin-joined {ys = ys} {ys' = ys'} (member f f' more more' {inside = inside} {made = made} edits e
     e') two =
     member f f' (more ++ ys) (more' ++ ys') edits (ap (λ (l : List Item). l ++ ys) e
-        ∙ append_assoc inside (h.Close ∷ more) ys) (ap (λ (l : List Item). l ++ ys') e'
-        ∙ append_assoc made (h.Close ∷ more') ys')
+    ∙ append_assoc inside (h.Close ∷ more) ys) (ap (λ (l : List Item). l ++ ys') e'
+    ∙ append_assoc made (h.Close ∷ more') ys')
 begin-joined (other x x' o o') two = other x x' o o'
 
 begin-renamed : (change : Option Change) (field : ℕ) (x : Text) (ctxt : ℕ) (role : Role) →
@@ -292,11 +292,11 @@ begin-inside field h.MemberExpr edits = member field field [] [] edits refl refl
 begin-inside field head edits = other (h.Open field head) (h.Open field head) refl refl
 
 begin-short : (b : Bool) (change : Option Change) (field : ℕ) (x : Text) (ctxt : ℕ) (role : Role)
-        (default made : List Item) →
+    (default made : List Item) →
     Begin (node field h.AssignPatProp (binding None 0 x ctxt role ++ default))
-        (if b then node field h.KeyValuePatProp
-        (plain_key x ++ pattern_in_its_place change x ctxt role made) else node field
-        h.AssignPatProp (binding change 0 x ctxt role ++ made))
+    (if b then node field h.KeyValuePatProp
+    (plain_key x ++ pattern_in_its_place change x ctxt role made) else node field
+    h.AssignPatProp (binding change 0 x ctxt role ++ made))
 begin-short true change field x ctxt role default made = other _ _ refl refl
 begin-short false change field x ctxt role default made = other _ _ refl refl
 
@@ -363,7 +363,7 @@ module _ (before after : List Item) (test_before test_after : ℕ → Bool) wher
     pub here : drop sb.place before ≡ rb
     pub its : drop sa.place after ≡ ra
     pub tests : AllZip (λ (o p : Occurrence). test_before o.place ≡ test_after p.place)
-            (occurrences_from sb rb) (occurrences_from sa ra)
+        (occurrences_from sb rb) (occurrences_from sa ra)
 
   module _ (of_before : OfNames before test_before) (of_after : OfNames after test_after) where
     -- the tests at the first elements
@@ -391,21 +391,21 @@ module _ (before after : List Item) (test_before test_after : ℕ → Bool) wher
 
     -- what calls, and of what
     pub callee : (sb sa : Spot) (xb xa : List Item) {changes rest : List Change}
-            {inside made : List Item} →
+        {inside made : List Item} →
         Edits Anywhere changes inside made rest →
         Here sb sa (inside ++ h.Close ∷ xb) (made ++ h.Close ∷ xa) →
         (is_text (codes "assign") (property_of (node_at before sb.place))
-            && test_before (sb.place + 1))
-            ≡ (is_text (codes "assign") (property_of (node_at after sa.place))
-            && test_after (sa.place + 1))
+        && test_before (sb.place + 1))
+        ≡ (is_text (codes "assign") (property_of (node_at after sa.place))
+        && test_after (sa.place + 1))
     callee sb sa xb xa edits at = by (begin edits so) at
       where
         neither : property_of (node_at before sb.place) ≡ None →
             property_of (node_at after sa.place) ≡ None →
             (is_text (codes "assign") (property_of (node_at before sb.place))
-                && test_before (sb.place + 1))
-                ≡ (is_text (codes "assign") (property_of (node_at after sa.place))
-                && test_after (sa.place + 1))
+            && test_before (sb.place + 1))
+            ≡ (is_text (codes "assign") (property_of (node_at after sa.place))
+            && test_after (sa.place + 1))
         neither e e' =
             ap (λ t. is_text (codes "assign") t && test_before (sb.place + 1)) e
             ∙ sym (ap (λ t. is_text (codes "assign") t && test_after (sa.place + 1)) e')
@@ -413,57 +413,57 @@ module _ (before after : List Item) (test_before test_after : ℕ → Bool) wher
         by : {rb ra : List Item} → Begin rb ra →
             Here sb sa (rb ++ h.Close ∷ xb) (ra ++ h.Close ∷ xa) →
             (is_text (codes "assign") (property_of (node_at before sb.place))
-                && test_before (sb.place + 1))
-                ≡ (is_text (codes "assign") (property_of (node_at after sa.place))
-                && test_after (sa.place + 1))
+            && test_before (sb.place + 1))
+            ≡ (is_text (codes "assign") (property_of (node_at after sa.place))
+            && test_after (sa.place + 1))
         by empty at =
             neither (no-word before sb.place h.Close xb at.here refl)
-                (no-word after sa.place h.Close xa at.its refl)
+            (no-word after sa.place h.Close xa at.its refl)
         by (named f f' x x' c c' role) at =
             neither (no-word before sb.place _ _ at.here refl)
-                (no-word after sa.place _ _ at.its refl)
+            (no-word after sa.place _ _ at.its refl)
         by (other x x' {more = more} {more' = more'} o o') at =
             neither (no-word before sb.place x (more ++ h.Close ∷ xb) at.here
-                (other-no_member x o))
-                (no-word after sa.place x' (more' ++ h.Close ∷ xa) at.its (other-no_member x' o'))
+            (other-no_member x o))
+            (no-word after sa.place x' (more' ++ h.Close ∷ xa) at.its (other-no_member x' o'))
         by (member f f' more more' {inside = inside} {made = made} {tail = tail} {tail' = tail'}
             edits e e') at =
             let one : tail ++ h.Close ∷ xb ≡ inside ++ h.Close ∷ (more ++ h.Close ∷ xb) =
-                ap (λ (l : List Item). l ++ h.Close ∷ xb) e
-                ∙ append_assoc inside (h.Close ∷ more) (h.Close ∷ xb) in
+            ap (λ (l : List Item). l ++ h.Close ∷ xb) e
+            ∙ append_assoc inside (h.Close ∷ more) (h.Close ∷ xb) in
             let two : tail' ++ h.Close ∷ xa ≡ made ++ h.Close ∷ (more' ++ h.Close ∷ xa) =
-                ap (λ (l : List Item). l ++ h.Close ∷ xa) e'
-                ∙ append_assoc made (h.Close ∷ more') (h.Close ∷ xa) in
+            ap (λ (l : List Item). l ++ h.Close ∷ xa) e'
+            ∙ append_assoc made (h.Close ∷ more') (h.Close ∷ xa) in
             let here : drop sb.place before ≡ h.Open f h.MemberExpr
-                ∷ (inside ++ h.Close ∷ (more ++ h.Close ∷ xb)) = at.here
-                ∙ ap (λ (l : List Item). h.Open f h.MemberExpr ∷ l) one in
+            ∷ (inside ++ h.Close ∷ (more ++ h.Close ∷ xb)) = at.here
+            ∙ ap (λ (l : List Item). h.Open f h.MemberExpr ∷ l) one in
             let its : drop sa.place after ≡ h.Open f' h.MemberExpr
-                ∷ (made ++ h.Close ∷ (more' ++ h.Close ∷ xa)) = at.its
-                ∙ ap (λ (l : List Item). h.Open f' h.MemberExpr ∷ l) two in
+            ∷ (made ++ h.Close ∷ (more' ++ h.Close ∷ xa)) = at.its
+            ∙ ap (λ (l : List Item). h.Open f' h.MemberExpr ∷ l) two in
             let word : property_of (node_at before sb.place)
-                ≡ property_of (node_at after sa.place) =
+            ≡ property_of (node_at after sa.place) =
             ap property_of (node_at-is before sb.place f h.MemberExpr (whole-before edits)
-                (more ++ h.Close ∷ xb) here)
+            (more ++ h.Close ∷ xb) here)
             ∙ (word-moved f f' edits
-                ∙ sym (ap property_of
-                (node_at-is after sa.place f' h.MemberExpr (whole-after edits)
-                (more' ++ h.Close ∷ xa) its))) in
+            ∙ sym (ap property_of
+            (node_at-is after sa.place f' h.MemberExpr (whole-after edits)
+            (more' ++ h.Close ∷ xa) its))) in
             let deeper : Here (past sb (h.Open f h.MemberExpr)) (past sa (h.Open f' h.MemberExpr))
-                (inside ++ h.Close ∷ (more ++ h.Close ∷ xb))
-                (made ++ h.Close ∷ (more' ++ h.Close ∷ xa)) = record {
+            (inside ++ h.Close ∷ (more ++ h.Close ∷ xb))
+            (made ++ h.Close ∷ (more' ++ h.Close ∷ xa)) = record {
               here = drop-next sb.place before (h.Open f h.MemberExpr) _ here;
               its = drop-next sa.place after (h.Open f' h.MemberExpr) _ its;
               tests =
                   subst (λ (l : List Item). AllZip (λ (o p : Occurrence). test_before o.place
-                      ≡ test_after p.place) (occurrences_from (past sb (h.Open f h.MemberExpr)) l)
-                      (occurrences_from (past sa (h.Open f' h.MemberExpr))
-                      (made ++ h.Close ∷ (more' ++ h.Close ∷ xa)))) one
-              (subst (λ (l : List Item). AllZip (λ (o p : Occurrence). test_before o.place
+                  ≡ test_after p.place) (occurrences_from (past sb (h.Open f h.MemberExpr)) l)
+                  (occurrences_from (past sa (h.Open f' h.MemberExpr))
+                  (made ++ h.Close ∷ (more' ++ h.Close ∷ xa)))) one
+                  (subst (λ (l : List Item). AllZip (λ (o p : Occurrence). test_before o.place
                   ≡ test_after p.place)
                   (occurrences_from (past sb (h.Open f h.MemberExpr)) (tail ++ h.Close ∷ xb))
                   (occurrences_from (past sa (h.Open f' h.MemberExpr)) l)) two at.tests);
             } in
             ap (λ t. is_text (codes "assign") t && test_before (sb.place + 1)) word
             ∙ ap (λ b. is_text (codes "assign") (property_of (node_at after sa.place)) && b)
-                (first-tests (past sb (h.Open f h.MemberExpr)) (past sa (h.Open f' h.MemberExpr))
-                (more ++ h.Close ∷ xb) (more' ++ h.Close ∷ xa) (begin edits so) deeper)
+            (first-tests (past sb (h.Open f h.MemberExpr)) (past sa (h.Open f' h.MemberExpr))
+            (more ++ h.Close ∷ xb) (more' ++ h.Close ∷ xa) (begin edits so) deeper)

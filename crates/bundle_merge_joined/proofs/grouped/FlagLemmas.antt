@@ -44,13 +44,13 @@ either-parameters false kind b e = ap (λ x. x || false) e
 
 same-parameters : (c : Bool) (b a : ℕ) →
     list_any is_parameters (scope_at b (cond c None (Some Parameters)))
-        ≡ list_any is_parameters (scope_at a (cond c None (Some Parameters)))
+    ≡ list_any is_parameters (scope_at a (cond c None (Some Parameters)))
 same-parameters true b a = refl
 same-parameters false b a = refl
 
 pub makes-parameters : (head : Head) (b a field : ℕ) (p q : List Around) →
     list_any is_parameters (scope_at b (kind_of_scope head field p))
-        ≡ list_any is_parameters (scope_at a (kind_of_scope head field q))
+    ≡ list_any is_parameters (scope_at a (kind_of_scope head field q))
 makes-parameters h.BlockStmt b a field p q =
     ap (λ x. x || false) (block-parameters p b) ∙ sym (ap (λ x. x || false) (block-parameters q a))
 makes-parameters h.GetterProp b a field p q = same-parameters (field == 0) b a
@@ -82,9 +82,9 @@ module _ (before after : List Item) (test_before test_after : ℕ → Bool) wher
   ends-alike outside = refl
   ends-alike (same head b a field {p = p} {q = q} node outer) =
       ap (λ x. ((is_chain_step head field || is_parenthesis head) && x)
-          || is_assigned (around head b field ∷ p)) (ends-alike outer)
+      || is_assigned (around head b field ∷ p)) (ends-alike outer)
       ∙ ap (λ x. ((is_chain_step head field || is_parenthesis head) && ends_chain q) || x)
-          (assigned-alike (same head b a field node outer))
+      (assigned-alike (same head b a field node outer))
   ends-alike (pair b a field word outer) = refl
   ends-alike (key b a word outer) = assigned-alike outer
   ends-alike (defaulted b a o field one two outer) =
@@ -94,9 +94,9 @@ module _ (before after : List Item) (test_before test_after : ℕ → Bool) wher
   roots-alike outside = refl
   roots-alike (same head b a field {p = p} {q = q} node outer) =
       ap (λ x. (is_chain_step head field && x) || (is_parenthesis head && roots_chain p))
-          (ends-alike outer)
+      (ends-alike outer)
       ∙ ap (λ x. (is_chain_step head field && ends_chain q) || (is_parenthesis head && x))
-          (roots-alike outer)
+      (roots-alike outer)
   roots-alike (pair b a field word outer) = refl
   roots-alike (key b a word outer) = refl
   roots-alike (defaulted b a o field one two outer) = refl
@@ -114,11 +114,11 @@ module _ (before after : List Item) (test_before test_after : ℕ → Bool) wher
   function-alike (same head b a field {p = p} {q = q} node outer) =
       any-append is_parameters (scope_at b (kind_of_scope head field p)) (scopes_around Es p)
       ∙ (ap (λ x. x || list_any is_parameters (scopes_around Es p))
-          (makes-parameters head b a field p q)
+      (makes-parameters head b a field p q)
       ∙ (ap (λ x. list_any is_parameters (scope_at a (kind_of_scope head field q)) || x)
-          (function-alike outer)
+      (function-alike outer)
       ∙ sym (any-append is_parameters (scope_at a (kind_of_scope head field q))
-          (scopes_around Es q))))
+      (scopes_around Es q))))
   function-alike (pair b a field word outer) = function-alike outer
   function-alike (key b a word outer) = function-alike outer
   function-alike (defaulted b a o field one two outer) = function-alike outer
@@ -141,9 +141,9 @@ module _ (before after : List Item) (test_before test_after : ℕ → Bool) wher
   empty-alike outside = refl
   empty-alike (same head b a field {p = p} {q = q} node outer) =
       ap (λ x. x || (not (is_declarator head) && has_no_value before p))
-          (and-agree (is_declarator head) _ _ node.empty)
+      (and-agree (is_declarator head) _ _ node.empty)
       ∙ ap (λ x. (is_declarator head && is_nothing (in_field 1 (node_at after a)))
-          || (not (is_declarator head) && x)) (empty-alike outer)
+      || (not (is_declarator head) && x)) (empty-alike outer)
   empty-alike (pair b a field word outer) = empty-alike outer
   empty-alike (key b a word outer) = empty-alike outer
   empty-alike (defaulted b a o field one two outer) = empty-alike outer
@@ -159,13 +159,13 @@ module _ (before after : List Item) (test_before test_after : ℕ → Bool) wher
   in_assign-alike outside = refl
   in_assign-alike (same head b a field {p = p} {q = q} node outer) =
       ap (λ x. x || is_in_assign_of test_before before p)
-          (assign-agree (is_call_head head) (field == 1)
-          (is_text (codes "assign") (property_of (node_at before (b + 1)))) (test_before (b + 2))
-          (is_text (codes "assign") (property_of (node_at after (a + 1)))) (test_after (a + 2))
-          node.assign)
+      (assign-agree (is_call_head head) (field == 1)
+      (is_text (codes "assign") (property_of (node_at before (b + 1)))) (test_before (b + 2))
+      (is_text (codes "assign") (property_of (node_at after (a + 1)))) (test_after (a + 2))
+      node.assign)
       ∙ ap (λ x. (((is_call_head head && (field == 1))
-          && is_text (codes "assign") (property_of (node_at after (a + 1)))) && test_after (a + 2))
-          || x) (in_assign-alike outer)
+      && is_text (codes "assign") (property_of (node_at after (a + 1)))) && test_after (a + 2))
+      || x) (in_assign-alike outer)
   in_assign-alike (pair b a field word outer) = in_assign-alike outer
   in_assign-alike (key b a word outer) = in_assign-alike outer
   in_assign-alike (defaulted b a o field one two outer) = in_assign-alike outer
@@ -185,7 +185,7 @@ module _ (before after : List Item) (test_before test_after : ℕ → Bool) wher
       no_read (field == 0) _ one ∙ sym (no_read (field == 0) _ two)
 
 pub flags-alike : (before after : List Item) (test_before test_after : ℕ → Bool)
-        (o its : Occurrence) →
+    (o its : Occurrence) →
     NameAlike before after test_before test_after o its →
     SameFlags before after test_before test_after o its
 flags-alike before after test_before test_after o its name = record {
@@ -196,11 +196,11 @@ flags-alike before after test_before test_after o its name = record {
   chain = roots-alike before after test_before test_after name.path;
   prototype =
       ap (λ x. x && is_in_assign_of test_before before o.path)
-          (prototype_read-alike before after test_before test_after name.path)
+      (prototype_read-alike before after test_before test_after name.path)
       ∙ ap (λ x. is_prototype_read after its.path && x)
-          (in_assign-alike before after test_before test_after name.path);
+      (in_assign-alike before after test_before test_after name.path);
   valueless =
       ap (λ x. is_binding x && has_no_value before o.path) name.role
       ∙ ap (λ x. is_binding its.role && x)
-          (empty-alike before after test_before test_after name.path);
+      (empty-alike before after test_before test_after name.path);
 }

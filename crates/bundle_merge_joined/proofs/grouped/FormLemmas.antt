@@ -19,7 +19,7 @@ use Rattle.bundle_merge_joined.specs.grouped.Paths as path
 use Rattle.bundle_merge_joined.specs.grouped.Forms.{FormAlike, outside, in_module, same, pair, key, defaulted, Under, out, below, deeper, is_top_first}
 
 pub form-path : {before after : List Item} {test_before test_after : ℕ → Bool} {p q : List Around}
-        →
+    →
     PathAlike before after test_before test_after p q → FormAlike p q
 form-path path.outside = outside
 form-path (path.same head b a field node outer) = same head b a field (form-path outer)
@@ -159,29 +159,29 @@ takes-alike ByWrapper kind b a = refl
 from-alike : (way : Way) (o : Option ScopeKind) (b a : ℕ) (xs ys : List Scope) →
     is_top_first (from_taker way xs) ≡ is_top_first (from_taker way ys) →
     is_top_first (from_taker way (scope_at b o ++ xs))
-        ≡ is_top_first (from_taker way (scope_at a o ++ ys))
+    ≡ is_top_first (from_taker way (scope_at a o ++ ys))
 from-alike way None b a xs ys e = e
 from-alike way (Some kind) b a xs ys e =
     ap (λ t. is_top_first (cond t (Inner kind b ∷ xs) (from_taker way xs)))
-        (takes-alike way kind b a)
+    (takes-alike way kind b a)
     ∙ by (takes way (Inner kind a))
   where
     by : (t : Bool) →
         is_top_first (cond t (Inner kind b ∷ xs) (from_taker way xs))
-            ≡ is_top_first (cond t (Inner kind a ∷ ys) (from_taker way ys))
+        ≡ is_top_first (cond t (Inner kind a ∷ ys) (from_taker way ys))
     by true = refl
     by false = e
 
 pub top_first-alike : (way : Way) {p q : List Around} → FormAlike p q →
     is_top_first (from_taker way (scopes_around Es p))
-        ≡ is_top_first (from_taker way (scopes_around Es q))
+    ≡ is_top_first (from_taker way (scopes_around Es q))
 top_first-alike way outside = refl
 top_first-alike way (in_module b field) = refl
 top_first-alike way (same head b a field {p = p} {q = q} outer) =
     ap (λ (o : Option ScopeKind). is_top_first
-        (from_taker way (scope_at b o ++ scopes_around Es p))) (scope-alike head field outer)
+    (from_taker way (scope_at b o ++ scopes_around Es p))) (scope-alike head field outer)
     ∙ from-alike way (kind_of_scope head field q) b a (scopes_around Es p) (scopes_around Es q)
-        (top_first-alike way outer)
+    (top_first-alike way outer)
 top_first-alike way (pair b a field outer) = top_first-alike way outer
 top_first-alike way (key b a outer) = top_first-alike way outer
 top_first-alike way (defaulted b a o field outer) = top_first-alike way outer
@@ -215,12 +215,12 @@ no_top : (all : List Declared) (scope : Scope) (d : Declared) →
 no_top all scope d e =
     let found = any-true (is_parameter scope d.name) all e in
     let p = and_parts ((is_parameters (taker found.0) || is_wrapper (taker found.0))
-        && same_scope (taker found.0) scope) _ found.1 in
+    && same_scope (taker found.0) scope) _ found.1 in
     let q = and_parts (is_parameters (taker found.0) || is_wrapper (taker found.0))
-        (same_scope (taker found.0) scope) p.0 in
+    (same_scope (taker found.0) scope) p.0 in
     ne_eqb (scope_order scope) 1
-        (λ f. parameter-order (taker found.0) q.0
-        (eqb-true (scope_order (taker found.0)) (scope_order scope) q.1 ∙ f))
+    (λ f. parameter-order (taker found.0) q.0
+    (eqb-true (scope_order (taker found.0)) (scope_order scope) q.1 ∙ f))
 
 -- what takes a name in a module is no top where it has parameters beside it
 beside-top : (way : Way) (p : List Around) (scope : Scope) →
@@ -238,21 +238,21 @@ beside-top way (node ∷ outer) scope e =
     inner : (t : Bool) (kind : ScopeKind) (rest : List Scope) →
         (parameters_of rest ≡ Some scope → is_top_first rest ≡ false) →
         parameters_of (cond t (Inner kind node.begins ∷ scopes_around Es outer) rest)
-            ≡ Some scope →
+        ≡ Some scope →
         is_top_first (cond t (Inner kind node.begins ∷ scopes_around Es outer) rest) ≡ false
     inner true kind rest ih e = refl
     inner false kind rest ih e = ih e
 
     by : (o : Option ScopeKind) →
         (parameters_of (from_taker way (scopes_around Es outer)) ≡ Some scope →
-            is_top_first (from_taker way (scopes_around Es outer)) ≡ false) →
+        is_top_first (from_taker way (scopes_around Es outer)) ≡ false) →
         parameters_of (from_taker way (scope_at node.begins o ++ scopes_around Es outer))
-            ≡ Some scope →
+        ≡ Some scope →
         is_top_first (from_taker way (scope_at node.begins o ++ scopes_around Es outer)) ≡ false
     by None ih e = ih e
     by (Some kind) ih e =
         inner (takes way (Inner kind node.begins)) kind (from_taker way (scopes_around Es outer))
-            ih e
+        ih e
 
 pub home-top : (all : List Declared) (d : Declared) (p : List Around) →
     d.scopes ≡ scopes_around Es p →
@@ -268,7 +268,7 @@ home-top all d p e = by (joins_parameter d.by)
     either scope f true g =
         no_top all scope d g
         ∙ sym (ap (λ l. is_top_first (from_taker d.by l)) e
-            ∙ beside-top d.by p scope (ap (λ l. parameters_of (from_taker d.by l)) (sym e) ∙ f))
+        ∙ beside-top d.by p scope (ap (λ l. parameters_of (from_taker d.by l)) (sym e) ∙ f))
     either scope f false g = none
 
     beside : (o : Option Scope) → parameters_of (from_taker d.by d.scopes) ≡ o →
@@ -278,7 +278,7 @@ home-top all d p e = by (joins_parameter d.by)
 
     by : (b : Bool) →
         same_scope (cond b (home_beside all d (parameters_of (from_taker d.by d.scopes)))
-            (taker d)) Top ≡ is_top_first (from_taker d.by d.scopes)
+        (taker d)) Top ≡ is_top_first (from_taker d.by d.scopes)
     by true = beside (parameters_of (from_taker d.by d.scopes)) refl
     by false = none
 
@@ -286,16 +286,20 @@ home-top all d p e = by (joins_parameter d.by)
 pub binding-top : (reading : Reading) (all : List Declared) (o : Occurrence) (way : Way) →
     is_binding o.role ≡ true → way_of o.path ≡ Some way →
     is_of_scope Top (denoted_of reading Es all o)
-        ≡ is_top_first (from_taker way (scopes_around Es o.path))
+    ≡ is_top_first (from_taker way (scopes_around Es o.path))
 binding-top reading all o way binds is =
     let found : Denoted = denoted_in reading all (scopes_around Es o.path)
-        (name_of reading o.sym o.ctxt) in
+    (name_of reading o.sym o.ctxt) in
     ap (λ b. is_of_scope Top
-        (own_or_found all found
-        (cond b (declared_by o.place (name_of reading o.sym o.ctxt) (scopes_around Es o.path)
-        (way_of o.path)) None))) binds
+    (own_or_found all found
+    (cond b (declared_by o.place (name_of reading o.sym o.ctxt) (scopes_around Es o.path)
+    (way_of o.path)) None))) binds
     ∙ (ap (λ (w : Option Way). is_of_scope Top
-        (own_or_found all found
-        (declared_by o.place (name_of reading o.sym o.ctxt) (scopes_around Es o.path) w))) is
-    ∙ home-top all (record { place = o.place; name = name_of reading o.sym o.ctxt; by = way;
-        scopes = scopes_around Es o.path }) o.path refl)
+    (own_or_found all found
+    (declared_by o.place (name_of reading o.sym o.ctxt) (scopes_around Es o.path) w))) is
+    ∙ home-top all (record {
+      place = o.place;
+      name = name_of reading o.sym o.ctxt;
+      by = way;
+      scopes = scopes_around Es o.path;
+    }) o.path refl)

@@ -45,13 +45,17 @@ module _ (reading : Reading) (top : Scope) (tree : List Item) (items : List TopI
       by None at h = absurd (none-some m h)
       by (Some row) at h =
           let item = get-map
-              (λ item. map (mention_of reading tree (mentioned reading top tree items) item)
-              (occurrences item.items)) items s row at in
+          (λ item. map (mention_of reading tree (mentioned reading top tree items) item)
+          (occurrences item.items)) items s row at in
           let name = get-map (mention_of reading tree (mentioned reading top tree items) item.0)
-              (occurrences item.0.items) i m (ap (λ (l : List Mention). slice_get l i) (sym item.2)
-              ∙ h) in
-          record { item = item.0; name = name.0;
-              stands = record { item_there = item.1; there = name.1 }; is = name.2 }
+          (occurrences item.0.items) i m (ap (λ (l : List Mention). slice_get l i) (sym item.2)
+          ∙ h) in
+          record {
+            item = item.0;
+            name = name.0;
+            stands = record { item_there = item.1; there = name.1 };
+            is = name.2;
+          }
 
 module _ (reading : Reading) (top : Scope) (tree : List Item) (items : List TopItem)
     (its_reading : Reading) (its_top : Scope) (its_tree : List Item) (its : List TopItem)
@@ -65,13 +69,19 @@ module _ (reading : Reading) (top : Scope) (tree : List Item) (items : List TopI
 
   flags : (item other : TopItem) (o p : Occurrence) →
       SameFlags item.items other.items (object_in reading tree item)
-          (object_in its_reading its_tree other) o p →
+      (object_in its_reading its_tree other) o p →
       IsSameButTop (mention_of reading tree tops item o)
-          (mention_of its_reading its_tree its_tops other p)
+      (mention_of its_reading its_tree its_tops other p)
   flags item other o p same =
-      record { declares = same.declares; later = same.later; assigned = same.assigned;
-          argument = same.argument; chain = same.chain; prototype = same.prototype;
-          valueless = same.valueless }
+      record {
+        declares = same.declares;
+        later = same.later;
+        assigned = same.assigned;
+        argument = same.argument;
+        chain = same.chain;
+        prototype = same.prototype;
+        valueless = same.valueless;
+      }
 
   denote : (s i t j : ℕ) (a b c d : Mention) → Behind reading top tree items owners s i a →
       Behind reading top tree items owners t j b →
@@ -80,52 +90,51 @@ module _ (reading : Reading) (top : Scope) (tree : List Item) (items : List TopI
       DenoteOne a b ↔ DenoteOne c d
   denote s i t j a b c d at_a at_b at_c at_d declares =
       let both = correspond.tops s i t j at_a.item at_b.item at_c.item at_d.item at_a.name
-          at_b.name at_c.name at_d.name at_a.stands at_b.stands at_c.stands at_d.stands
-          (ap (λ (m : Mention). m.declares) (sym at_b.is) ∙ declares) in
-      (
+      at_b.name at_c.name at_d.name at_a.stands at_b.stands at_c.stands at_d.stands
+      (ap (λ (m : Mention). m.declares) (sym at_b.is) ∙ declares) in (
         λ one.
             let top_one = denote_one-to reading top tree items at_a.item at_b.item at_a.name
-                at_b.name (subst (λ (m : Mention). DenoteOne m
-                (mention_of reading tree tops at_b.item at_b.name)) at_a.is
-                (subst (λ (m : Mention). DenoteOne a m) at_b.is one)) in
+            at_b.name (subst (λ (m : Mention). DenoteOne m
+            (mention_of reading tree tops at_b.item at_b.name)) at_a.is
+            (subst (λ (m : Mention). DenoteOne a m) at_b.is one)) in
             let found = denote_one-from its_reading its_top its_tree its s i t j at_c.item
-                at_d.item at_c.name at_d.name at_c.stands at_d.stands (both.0 top_one) in
+            at_d.item at_c.name at_d.name at_c.stands at_d.stands (both.0 top_one) in
             subst (λ (m : Mention). DenoteOne m d) (sym at_c.is)
-                (subst (λ (m : Mention). DenoteOne
-                (mention_of its_reading its_tree its_tops at_c.item at_c.name) m) (sym at_d.is)
-                found),
+            (subst (λ (m : Mention). DenoteOne
+            (mention_of its_reading its_tree its_tops at_c.item at_c.name) m) (sym at_d.is)
+            found),
         λ one.
             let top_one = denote_one-to its_reading its_top its_tree its at_c.item at_d.item
-                at_c.name at_d.name
-                (subst (λ (m : Mention). DenoteOne m
-                (mention_of its_reading its_tree its_tops at_d.item at_d.name)) at_c.is
-                (subst (λ (m : Mention). DenoteOne c m) at_d.is one)) in
+            at_c.name at_d.name
+            (subst (λ (m : Mention). DenoteOne m
+            (mention_of its_reading its_tree its_tops at_d.item at_d.name)) at_c.is
+            (subst (λ (m : Mention). DenoteOne c m) at_d.is one)) in
             let found = denote_one-from reading top tree items s i t j at_a.item at_b.item
-                at_a.name at_b.name at_a.stands at_b.stands (both.1 top_one) in
+            at_a.name at_b.name at_a.stands at_b.stands (both.1 top_one) in
             subst (λ (m : Mention). DenoteOne m b) (sym at_a.is)
-                (subst (λ (m : Mention). DenoteOne
-                (mention_of reading tree tops at_a.item at_a.name) m) (sym at_b.is) found),
+            (subst (λ (m : Mention). DenoteOne
+            (mention_of reading tree tops at_a.item at_a.name) m) (sym at_b.is) found),
       )
 
   pub group_of-alike : GroupsAlike (group_of reading top tree items owners)
-          (group_of its_reading its_top its_tree its its_owners)
+      (group_of its_reading its_top its_tree its its_owners)
   group_of-alike = record {
     owners = of_one;
     items = zip-map (ItemsAlike reading tree its_reading its_tree) (AllZip IsSameButTop) _ _
-    (λ item other zip. zip-map (SameFlags item.items other.items (object_in reading tree item)
+        (λ item other zip. zip-map (SameFlags item.items other.items (object_in reading tree item)
         (object_in its_reading its_tree other)) IsSameButTop (mention_of reading tree tops item)
         (mention_of its_reading its_tree its_tops other) (flags item other)
         (occurrences item.items) (occurrences other.items) zip)
-    items its correspond.alike;
+        items its correspond.alike;
     same = λ s i t j a b c d at_a at_b at_c at_d declares.
         denote s i t j a b c d (behind reading top tree items owners s i a at_a)
-            (behind reading top tree items owners t j b at_b)
-            (behind its_reading its_top its_tree its its_owners s i c at_c)
-            (behind its_reading its_top its_tree its its_owners t j d at_d) declares;
+        (behind reading top tree items owners t j b at_b)
+        (behind its_reading its_top its_tree its its_owners s i c at_c)
+        (behind its_reading its_top its_tree its its_owners t j d at_d) declares;
   }
 
   -- an order of items is good exactly if it is of those that correspond
   pub good_order-corresponds : (order : List ℕ) →
       IsGoodOrder (group_of reading top tree items owners) order
-          ↔ IsGoodOrder (group_of its_reading its_top its_tree its its_owners) order
+      ↔ IsGoodOrder (group_of its_reading its_top its_tree its its_owners) order
   good_order-corresponds order = IsGoodOrder-alike _ _ group_of-alike order

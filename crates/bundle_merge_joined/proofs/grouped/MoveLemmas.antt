@@ -63,18 +63,24 @@ module _ (R : ℕ → ℕ → Type 0) (to : (a b c : ℕ) → R a b → R a c �
           let p = owner-at one two zip s (Some both.0) both.1 in
           let q = owner-at one two zip t (Some both.0) both.2 in
           let n = module-to p.0 both.0 p.2 in
-          let k = module-to q.0 both.0 q.2 in
-          (n.0, p.1 ∙ ap (λ (o : Option ℕ). Some o) n.1, q.1
-              ∙ ap (λ (o : Option ℕ). Some o) (k.1
-              ∙ ap (λ (x : ℕ). Some x) (to both.0 k.0 n.0 k.2 n.2))),
+          let k = module-to q.0 both.0 q.2 in (
+            n.0,
+            p.1 ∙ ap (λ (o : Option ℕ). Some o) n.1,
+            q.1
+                ∙ ap (λ (o : Option ℕ). Some o) (k.1
+                ∙ ap (λ (x : ℕ). Some x) (to both.0 k.0 n.0 k.2 n.2)),
+          ),
       λ both.
           let p = owner-back one two zip s (Some both.0) both.1 in
           let q = owner-back one two zip t (Some both.0) both.2 in
           let n = module-back p.0 both.0 p.2 in
-          let k = module-back q.0 both.0 q.2 in
-          (n.0, p.1 ∙ ap (λ (o : Option ℕ). Some o) n.1, q.1
-              ∙ ap (λ (o : Option ℕ). Some o) (k.1
-              ∙ ap (λ (x : ℕ). Some x) (from both.0 k.0 n.0 k.2 n.2))),
+          let k = module-back q.0 both.0 q.2 in (
+            n.0,
+            p.1 ∙ ap (λ (o : Option ℕ). Some o) n.1,
+            q.1
+                ∙ ap (λ (o : Option ℕ). Some o) (k.1
+                ∙ ap (λ (x : ℕ). Some x) (from both.0 k.0 n.0 k.2 n.2)),
+          ),
     );
   }
 
@@ -92,13 +98,16 @@ context-in tree item rest here i o e =
     by None at f = absurd (none-some o f)
     by (Some x) at f =
         let there : slice_get tree (item.start + o.place) ≡ Some x =
-            sym (slice_get-drop item.start tree o.place)
-            ∙ (ap (λ (l : List Item). slice_get l o.place) here
-            ∙ get-left item.items rest o.place x at) in
+        sym (slice_get-drop item.start tree o.place)
+        ∙ (ap (λ (l : List Item). slice_get l o.place) here
+        ∙ get-left item.items rest o.place x at) in
         let found = other-spot (spot_before item.items o.place)
-            (spot_before tree (item.start + o.place)) x o f in
-        (found.0, ap (option_and_then (occurrence_of (spot_before tree (item.start + o.place))))
-            there ∙ found.1, found.3)
+        (spot_before tree (item.start + o.place)) x o f in (
+          found.0,
+          ap (option_and_then (occurrence_of (spot_before tree (item.start + o.place))))
+              there ∙ found.1,
+          found.3,
+        )
 
 nothing-same : (reading : Reading) (o p : Occurrence) → p.ctxt ≡ o.ctxt →
     is_of_nothing reading (Some p) ≡ is_of_nothing reading (Some o)
@@ -124,31 +133,31 @@ module _ (move : Denoted → Denoted) (reading : Reading) (top its_top : Scope)
       let is : o ≡ p = same-name x.items x'.items it.same i o p e e' in
       let here = context-in tree x it.here.0 it.here.1 i o e in
       let there = context-in its_tree x' it.there.0 it.there.1 i o
-          (ap (λ (l : List Item). slice_get (occurrences l) i) (sym it.same) ∙ e) in
+      (ap (λ (l : List Item). slice_get (occurrences l) i) (sym it.same) ∙ e) in
       let unbound : is_of_nothing reading (occurrence_at its_tree (x'.start + o.place))
-          ≡ is_of_nothing reading (occurrence_at tree (x.start + o.place)) =
+      ≡ is_of_nothing reading (occurrence_at tree (x.start + o.place)) =
       ap (is_of_nothing reading) there.1
       ∙ (nothing-same reading here.0 there.0 (there.2 ∙ sym here.2)
-          ∙ ap (is_of_nothing reading) (sym here.1)) in
+      ∙ ap (is_of_nothing reading) (sym here.1)) in
       let denoted : is_global_named (codes "Object") (denoted_in reading its_tree x' o)
-          ≡ is_global_named (codes "Object") (denoted_in reading tree x o) =
-          ap (λ (d : Option Denoted). is_global_named (codes "Object") d) (it.denotes i o e)
-          ∙ global-moved (denoted_in reading tree x o)
-          (λ d f. occurs s i x o d (record { item_there = at; there = e }) f) in
+      ≡ is_global_named (codes "Object") (denoted_in reading tree x o) =
+      ap (λ (d : Option Denoted). is_global_named (codes "Object") d) (it.denotes i o e)
+      ∙ global-moved (denoted_in reading tree x o)
+      (λ d f. occurs s i x o d (record { item_there = at; there = e }) f) in
       sym (ap (λ b. b && is_of_nothing reading (occurrence_at its_tree (x'.start + o.place)))
-          denoted ∙ ap (λ b. is_global_named (codes "Object") (denoted_in reading tree x o)
-          && b) unbound)
+      denoted ∙ ap (λ b. is_global_named (codes "Object") (denoted_in reading tree x o)
+      && b) unbound)
       ∙ ap (λ (q : Occurrence). is_object_at reading its_tree (x'.start + q.place)) is
 
   item-moved : (s : ℕ) (x x' : TopItem) → slice_get items s ≡ Some x →
       IsMoved move reading tree its_tree x x' → ItemsAlike reading tree reading its_tree x x'
   item-moved s x x' at it =
       subst (λ (l : List Item). IsPlaced its_tree (record { start = x'.start; items = l }) →
-          ObjectsAlike reading tree reading its_tree x (record { start = x'.start; items = l }) →
-          ItemsAlike reading tree reading its_tree x (record { start = x'.start; items = l }))
-          it.same
+      ObjectsAlike reading tree reading its_tree x (record { start = x'.start; items = l }) →
+      ItemsAlike reading tree reading its_tree x (record { start = x'.start; items = l }))
+      it.same
       (λ placed objects. moved-alike reading tree reading its_tree x.start x'.start x.items
-          (record { rest = it.here.0; is = it.here.1 }) placed objects)
+      (record { rest = it.here.0; is = it.here.1 }) placed objects)
       (record { rest = it.there.0; is = it.there.1 }) (objects-moved s x x' at it)
 
   zip-each : {X Y : Type 0} (R S : X → Y → Type 0) (xs : List X) (ys : List Y) → AllZip R xs ys →
@@ -168,28 +177,27 @@ module _ (move : Denoted → Denoted) (reading : Reading) (top its_top : Scope)
   moved-correspond = record {
     alike =
         zip-each (IsMoved move reading tree its_tree) (ItemsAlike reading tree reading its_tree)
-            items its zip item-moved;
+        items its zip item-moved;
     tops = λ s i t j x y x' y' o p o' p' at_o at_p at_o' at_p' binds.
         let moved_at : (k : ℕ) (u u' : TopItem) → slice_get items k ≡ Some u →
-            slice_get its k ≡ Some u' → IsMoved move reading tree its_tree u u' =
+        slice_get its k ≡ Some u' → IsMoved move reading tree its_tree u u' =
         λ k u u' e e'. let found = zip-at (IsMoved move reading tree its_tree) items its k u zip
-            e in subst (λ (z : TopItem). IsMoved move reading tree its_tree u z)
-            (same_Some found.0 u' (sym found.1 ∙ e')) found.2 in
+        e in subst (λ (z : TopItem). IsMoved move reading tree its_tree u z)
+        (same_Some found.0 u' (sym found.1 ∙ e')) found.2 in
         let one : IsMoved move reading tree its_tree x x' =
-            moved_at s x x' at_o.item_there at_o'.item_there in
+        moved_at s x x' at_o.item_there at_o'.item_there in
         let two : IsMoved move reading tree its_tree y y' =
-            moved_at t y y' at_p.item_there at_p'.item_there in
+        moved_at t y y' at_p.item_there at_p'.item_there in
         let o_is : o ≡ o' = same-name x.items x'.items one.same i o o' at_o.there at_o'.there in
         let p_is : p ≡ p' = same-name y.items y'.items two.same j p p' at_p.there at_p'.there in
         let to_o : denoted_in reading its_tree x' o'
-            ≡ option_map move (denoted_in reading tree x o) =
-            ap (λ (q : Occurrence). denoted_in reading its_tree x' q) (sym o_is)
-            ∙ one.denotes i o at_o.there in
+        ≡ option_map move (denoted_in reading tree x o) =
+        ap (λ (q : Occurrence). denoted_in reading its_tree x' q) (sym o_is)
+        ∙ one.denotes i o at_o.there in
         let to_p : denoted_in reading its_tree y' p'
-            ≡ option_map move (denoted_in reading tree y p) =
-            ap (λ (q : Occurrence). denoted_in reading its_tree y' q) (sym p_is)
-            ∙ two.denotes j p at_p.there in
-        (
+        ≡ option_map move (denoted_in reading tree y p) =
+        ap (λ (q : Occurrence). denoted_in reading its_tree y' q) (sym p_is)
+        ∙ two.denotes j p at_p.there in (
           λ both.
               let first = occurs s i x o both.one at_o both.first in
               let second = occurs t j y p both.two at_p both.second in
@@ -207,7 +215,7 @@ module _ (move : Denoted → Denoted) (reading : Reading) (top its_top : Scope)
               let first = occurs s i x o c.0 at_o c.1 in
               let second = occurs t j y p d.0 at_p d.1 in
               let top_one : is_of_scope top c.0 ≡ true = sym (moves.tops c.0 first)
-                  ∙ (ap (is_of_scope its_top) (sym c.2) ∙ both.of_top) in
+              ∙ (ap (is_of_scope its_top) (sym c.2) ∙ both.of_top) in
               record {
                 one = c.0;
                 two = d.0;
@@ -217,7 +225,7 @@ module _ (move : Denoted → Denoted) (reading : Reading) (top its_top : Scope)
                 same =
                     sym (moves.same c.0 d.0 first second top_one)
                     ∙ (ap (λ (z : Denoted). same_denoted z (move d.0)) (sym c.2)
-                        ∙ (ap (λ (z : Denoted). same_denoted both.one z) (sym d.2) ∙ both.same));
+                    ∙ (ap (λ (z : Denoted). same_denoted both.one z) (sym d.2) ∙ both.same));
               },
         );
   }
@@ -226,7 +234,7 @@ module _ (move : Denoted → Denoted) (reading : Reading) (top its_top : Scope)
   pub moved-good_order : (owners its_owners : List (Option ℕ)) → OwnersAlike owners its_owners →
       (order : List ℕ) →
       IsGoodOrder (group_of reading top tree items owners) order
-          ↔ IsGoodOrder (group_of reading its_top its_tree its its_owners) order
+      ↔ IsGoodOrder (group_of reading its_top its_tree its its_owners) order
   moved-good_order owners its_owners of_one order =
       good_order-corresponds reading top tree items reading its_top its_tree its owners its_owners
-          of_one moved-correspond order
+      of_one moved-correspond order

@@ -44,9 +44,9 @@ unders-outer : (t s : Spot) → Unders t s → (m : ℕ) →
     Under (in_field m (outer_path t.path)) (in_field m (outer_path s.path))
 unders-outer t s paths m =
     under-field m (subst (λ (p : List Around). Under p (outer_path s.path))
-        (outer-in_field 0 t.path)
-        (subst (λ (q : List Around). Under (outer_path (in_field 0 t.path)) q)
-        (outer-in_field 0 s.path) (under-outer (paths 0))))
+    (outer-in_field 0 t.path)
+    (subst (λ (q : List Around). Under (outer_path (in_field 0 t.path)) q)
+    (outer-in_field 0 s.path) (under-outer (paths 0))))
 
 -- what is found behind the one spot is found behind the other, a number of places further on
 pub record Found (base : ℕ) (s : Spot) (xs : List Item) (i : ℕ) (o : Occurrence) : Type 0 where
@@ -59,33 +59,78 @@ pub record Found (base : ℕ) (s : Spot) (xs : List Item) (i : ℕ) (o : Occurre
   pub path : Under o.path name.path
 
 occurs-found : (base : ℕ) (t s : Spot) (field : ℕ) (x : List ℕ) (ctxt : ℕ) (role : Role)
-        (xs : List Item) (i : ℕ) (o : Occurrence) →
+    (xs : List Item) (i : ℕ) (o : Occurrence) →
     s.place ≡ base + t.place → Under (in_field field t.path) (in_field field s.path) →
     ((j : ℕ) → slice_get (occurrences_from (past t (h.Ident field x ctxt role)) xs) j ≡ Some o →
-        Found base (past s (h.Ident field x ctxt role)) xs j o) →
+    Found base (past s (h.Ident field x ctxt role)) xs j o) →
     slice_get (occurrences_from t (h.Ident field x ctxt role ∷ xs)) i ≡ Some o →
     Found base s (h.Ident field x ctxt role ∷ xs) i o
 occurs-found base t s field x ctxt r.Word xs i o places path ih e =
-    let f = ih i e in record { name = f.name; there = f.there; place = f.place; sym = f.sym;
-        ctxt = f.ctxt; role = f.role; path = f.path }
+    let f = ih i e in record {
+      name = f.name;
+      there = f.there;
+      place = f.place;
+      sym = f.sym;
+      ctxt = f.ctxt;
+      role = f.role;
+      path = f.path;
+    }
 occurs-found base t s field x ctxt r.Binding xs zero o places path ih e =
     let is = same_Some _ o e in
     subst (λ (p : Occurrence). Found base s (h.Ident field x ctxt r.Binding ∷ xs) zero p) is
-    (record { name = record { place = s.place; sym = x; ctxt = ctxt; role = r.Binding;
-        path = in_field field s.path }; there = refl; place = places; sym = refl; ctxt = refl;
-        role = refl; path = path })
+    (record {
+      name = record {
+        place = s.place;
+        sym = x;
+        ctxt = ctxt;
+        role = r.Binding;
+        path = in_field field s.path;
+      };
+      there = refl;
+      place = places;
+      sym = refl;
+      ctxt = refl;
+      role = refl;
+      path = path;
+    })
 occurs-found base t s field x ctxt r.Binding xs (suc i) o places path ih e =
-    let f = ih i e in record { name = f.name; there = f.there; place = f.place; sym = f.sym;
-        ctxt = f.ctxt; role = f.role; path = f.path }
+    let f = ih i e in record {
+      name = f.name;
+      there = f.there;
+      place = f.place;
+      sym = f.sym;
+      ctxt = f.ctxt;
+      role = f.role;
+      path = f.path;
+    }
 occurs-found base t s field x ctxt r.Reference xs zero o places path ih e =
     let is = same_Some _ o e in
     subst (λ (p : Occurrence). Found base s (h.Ident field x ctxt r.Reference ∷ xs) zero p) is
-    (record { name = record { place = s.place; sym = x; ctxt = ctxt; role = r.Reference;
-        path = in_field field s.path }; there = refl; place = places; sym = refl; ctxt = refl;
-        role = refl; path = path })
+    (record {
+      name = record {
+        place = s.place;
+        sym = x;
+        ctxt = ctxt;
+        role = r.Reference;
+        path = in_field field s.path;
+      };
+      there = refl;
+      place = places;
+      sym = refl;
+      ctxt = refl;
+      role = refl;
+      path = path;
+    })
 occurs-found base t s field x ctxt r.Reference xs (suc i) o places path ih e =
-    let f = ih i e in record { name = f.name; there = f.there; place = f.place; sym = f.sym;
-        ctxt = f.ctxt; role = f.role; path = f.path }
+    let f = ih i e in record {
+      name = f.name;
+      there = f.there;
+      place = f.place;
+      sym = f.sym;
+      ctxt = f.ctxt;
+      role = f.role;
+      path = f.path;
+    }
 
 pub found-behind : (base : ℕ) (xs : List Item) (t s : Spot) (i : ℕ) (o : Occurrence) →
     s.place ≡ base + t.place → Unders t s → slice_get (occurrences_from t xs) i ≡ Some o →
@@ -93,23 +138,44 @@ pub found-behind : (base : ℕ) (xs : List Item) (t s : Spot) (i : ℕ) (o : Occ
 found-behind base [] t s i o places paths e = absurd (none-some o e)
 found-behind base (h.Open field head ∷ xs) t s i o places paths e =
     let f = found-behind base xs (past t (h.Open field head)) (past s (h.Open field head)) i o
-        (omega (arith, places)) (λ m. deeper head t.place s.place m (paths field)) e in
-    record { name = f.name; there = f.there; place = f.place; sym = f.sym; ctxt = f.ctxt;
-        role = f.role; path = f.path }
+    (omega (arith, places)) (λ m. deeper head t.place s.place m (paths field)) e in
+    record {
+      name = f.name;
+      there = f.there;
+      place = f.place;
+      sym = f.sym;
+      ctxt = f.ctxt;
+      role = f.role;
+      path = f.path;
+    }
 found-behind base (h.Ident field x ctxt role ∷ xs) t s i o places paths e =
     occurs-found base t s field x ctxt role xs i o places (paths field)
-        (λ j. found-behind base xs (past t (h.Ident field x ctxt role))
-        (past s (h.Ident field x ctxt role)) j o (omega (arith, places)) paths) e
+    (λ j. found-behind base xs (past t (h.Ident field x ctxt role))
+    (past s (h.Ident field x ctxt role)) j o (omega (arith, places)) paths) e
 found-behind base (h.Hole field ∷ xs) t s i o places paths e =
     let f = found-behind base xs (past t (h.Hole field)) (past s (h.Hole field)) i o
-        (omega (arith, places)) paths e in
-    record { name = f.name; there = f.there; place = f.place; sym = f.sym; ctxt = f.ctxt;
-        role = f.role; path = f.path }
+    (omega (arith, places)) paths e in
+    record {
+      name = f.name;
+      there = f.there;
+      place = f.place;
+      sym = f.sym;
+      ctxt = f.ctxt;
+      role = f.role;
+      path = f.path;
+    }
 found-behind base (h.Close ∷ xs) t s i o places paths e =
     let f = found-behind base xs (past t h.Close) (past s h.Close) i o (omega (arith, places))
-        (unders-outer t s paths) e in
-    record { name = f.name; there = f.there; place = f.place; sym = f.sym; ctxt = f.ctxt;
-        role = f.role; path = f.path }
+    (unders-outer t s paths) e in
+    record {
+      name = f.name;
+      there = f.there;
+      place = f.place;
+      sym = f.sym;
+      ctxt = f.ctxt;
+      role = f.role;
+      path = f.path;
+    }
 
 -- ---- among the identifiers of the tree
 -- how many identifiers stand before a place
@@ -137,26 +203,26 @@ listed-in tree item direct i o e =
     let s : Spot = fold past start (take item.start tree) in
     let first = filled item.items i o e in
     let len : length (take item.start tree) ≡ item.start =
-        length-before item.start tree first.0 (first.1 ++ direct.rest) (direct.is
-        ∙ ap (λ (l : List Item). l ++ direct.rest) first.2) in
+    length-before item.start tree first.0 (first.1 ++ direct.rest) (direct.is
+    ∙ ap (λ (l : List Item). l ++ direct.rest) first.2) in
     let place : s.place ≡ item.start = fold-place start (take item.start tree)
-        ∙ (ap (λ n. 0 + n) len ∙ (let same : 0 + item.start ≡ item.start = omega arith in same)) in
+    ∙ (ap (λ n. 0 + n) len ∙ (let same : 0 + item.start ≡ item.start = omega arith in same)) in
     let f : Found item.start s item.items i o = found-behind item.start item.items start s i o
-        (place ∙ (let same : item.start ≡ item.start + 0 = omega arith in same))
-        (λ m. direct.under m) e in
+    (place ∙ (let same : item.start ≡ item.start + 0 = omega arith in same))
+    (λ m. direct.under m) e in
     let whole : occurrences tree ≡ occurrences_from start (take item.start tree)
-        ++ (occurrences_from s item.items ++ occurrences_from (fold past s item.items) direct.rest)
-        =
+    ++ (occurrences_from s item.items ++ occurrences_from (fold past s item.items) direct.rest)
+    =
     ap (λ (l : List Item). occurrences l) (sym (take-append-drop item.start tree))
     ∙ (occurrences-append start (take item.start tree) (drop item.start tree)
     ∙ ap (λ l. occurrences_from start (take item.start tree) ++ l)
-        (ap (occurrences_from s) direct.is ∙ occurrences-append s item.items direct.rest)) in
+    (ap (occurrences_from s) direct.is ∙ occurrences-append s item.items direct.rest)) in
     let there : slice_get (occurrences tree) (count_before tree item.start + i) ≡ Some f.name =
     ap (λ l. slice_get l (count_before tree item.start + i)) whole
     ∙ (get-behind (occurrences_from start (take item.start tree)) (occurrences_from s item.items
-        ++ occurrences_from (fold past s item.items) direct.rest) i
+    ++ occurrences_from (fold past s item.items) direct.rest) i
     ∙ get-left (occurrences_from s item.items)
-        (occurrences_from (fold past s item.items) direct.rest) i f.name f.there) in
+    (occurrences_from (fold past s item.items) direct.rest) i f.name f.there) in
     record {
       name = f.name;
       there = there;
@@ -171,23 +237,23 @@ listed-in tree item direct i o e =
 
 -- what it denotes
 pub denotes-listed : (reading : Reading) (tree : List Item) (item : TopItem) (i : ℕ)
-        (o : Occurrence) (it : Listed tree item i o) →
+    (o : Occurrence) (it : Listed tree item i o) →
     denoted_in reading tree item o
-        ≡ Some (denoted_of reading Es (declared reading Es tree) it.name)
+    ≡ Some (denoted_of reading Es (declared reading Es tree) it.name)
 denotes-listed reading tree item i o it =
     ap (λ (p : Option Occurrence). option_map (denoted_of reading Es (declared reading Es tree)) p)
-        it.at
+    it.at
 
 pub object-listed : (reading : Reading) (tree : List Item) (item : TopItem) (i : ℕ)
-        (o : Occurrence) (it : Listed tree item i o) →
+    (o : Occurrence) (it : Listed tree item i o) →
     is_object_at reading tree (item.start + o.place)
-        ≡ (is_global_named (codes "Object")
-        (Some (denoted_of reading Es (declared reading Es tree) it.name))
-        && is_of_nothing reading (Some it.name))
+    ≡ (is_global_named (codes "Object")
+    (Some (denoted_of reading Es (declared reading Es tree) it.name))
+    && is_of_nothing reading (Some it.name))
 object-listed reading tree item i o it =
     ap (λ (p : Option Occurrence). is_global_named (codes "Object")
-        (option_map (denoted_of reading Es (declared reading Es tree)) p)
-        && is_of_nothing reading p) it.at
+    (option_map (denoted_of reading Es (declared reading Es tree)) p)
+    && is_of_nothing reading p) it.at
 
 pub as-listed : (reading : Reading) (tree : List Item) (n : ℕ) (name : Occurrence) →
     slice_get (occurrences tree) n ≡ Some name →
@@ -195,4 +261,4 @@ pub as-listed : (reading : Reading) (tree : List Item) (n : ℕ) (name : Occurre
 as-listed reading tree n name e =
     slice_get-map (denoted_of reading Es (declared reading Es tree)) (occurrences tree) n
     ∙ ap (λ (p : Option Occurrence). option_map (denoted_of reading Es (declared reading Es tree))
-        p) e
+    p) e

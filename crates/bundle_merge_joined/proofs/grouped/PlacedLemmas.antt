@@ -60,19 +60,19 @@ no_object : (reading : Reading) (tree : List Item) (place : ℕ) → occurrence_
     is_object_at reading tree place ≡ false
 no_object reading tree place e =
     ap (λ (o : Option Occurrence). is_global_named (codes "Object")
-        (option_map (denoted_of reading Es (declared reading Es tree)) o)
-        && is_of_nothing reading o) e
+    (option_map (denoted_of reading Es (declared reading Es tree)) o)
+    && is_of_nothing reading o) e
 
 pub of_names : (reading : Reading) (tree : List Item) (item : TopItem) → IsPlaced tree item →
     OfNames item.items (object_in reading tree item)
 of_names reading tree item placed = record {
   none = λ place x rest e unnamed.
       let at : slice_get tree (item.start + place) ≡ Some x =
-          drop-get (item.start + place) tree x (rest ++ placed.rest)
-          (drop-more item.start place tree item.items placed.rest x rest placed.is e) in
+      drop-get (item.start + place) tree x (rest ++ placed.rest)
+      (drop-more item.start place tree item.items placed.rest x rest placed.is e) in
       no_object reading tree (item.start + place)
-          (ap (option_and_then (occurrence_of (spot_before tree (item.start + place)))) at
-          ∙ no_occurrence (spot_before tree (item.start + place)) x unnamed);
+      (ap (option_and_then (occurrence_of (spot_before tree (item.start + place)))) at
+      ∙ no_occurrence (spot_before tree (item.start + place)) x unnamed);
 }
 
 -- ---- the same item
@@ -107,10 +107,10 @@ module _ (item : List Item) (test_before test_after : ℕ → Bool)
       by true named =
           let o = named-occurs (spot_before item place) x named in
           let listed = occurrence_at-listed item place o.0
-              (ap (option_and_then (occurrence_of (spot_before item place)))
-              (drop-get place item x rest e) ∙ o.1) in
+          (ap (option_and_then (occurrence_of (spot_before item place)))
+          (drop-get place item x rest e) ∙ o.1) in
           let at : place ≡ o.0.place = (let zero_place : place ≡ 0 + place = omega arith in
-              zero_place) ∙ (sym (spot-place start place item x rest e) ∙ sym o.2) in
+          zero_place) ∙ (sym (spot-place start place item x rest e) ∙ sym o.2) in
           ap test_before at ∙ (tests listed.0 o.0 listed.1 ∙ sym (ap test_after at))
 
   either-none : (b : Bool) → ◌≡◌ {A = Option Text} (if b then None else None) None
@@ -122,7 +122,7 @@ module _ (item : List Item) (test_before test_after : ℕ → Bool)
   last-word zero [] e = refl
   last-word zero (h.Open field head ∷ w) e =
       ap (λ (l : List Item). property_of
-          (first_or_nothing (side_by_side zero (h.Open field head ∷ l)))) e
+      (first_or_nothing (side_by_side zero (h.Open field head ∷ l)))) e
       ∙ either-none (is_member head)
   last-word zero (h.Ident field x ctxt role ∷ w) e = refl
   last-word zero (h.Hole field ∷ w) e = refl
@@ -132,24 +132,24 @@ module _ (item : List Item) (test_before test_after : ℕ → Bool)
 
   calls-agree : (begins : ℕ) →
       (is_text (codes "assign") (property_of (node_at item (begins + 1)))
-          && test_before (begins + 2))
-          ≡ (is_text (codes "assign") (property_of (node_at item (begins + 1)))
-          && test_after (begins + 2))
+      && test_before (begins + 2))
+      ≡ (is_text (codes "assign") (property_of (node_at item (begins + 1)))
+      && test_after (begins + 2))
   calls-agree begins = by (drop (begins + 2) item) refl
     where
       by : (l : List Item) → drop (begins + 2) item ≡ l →
           (is_text (codes "assign") (property_of (node_at item (begins + 1)))
-              && test_before (begins + 2))
-              ≡ (is_text (codes "assign") (property_of (node_at item (begins + 1)))
-              && test_after (begins + 2))
+          && test_before (begins + 2))
+          ≡ (is_text (codes "assign") (property_of (node_at item (begins + 1)))
+          && test_after (begins + 2))
       by (x ∷ rest) e =
           ap (λ b. is_text (codes "assign") (property_of (node_at item (begins + 1))) && b)
-              (tests-at (begins + 2) x rest e)
+          (tests-at (begins + 2) x rest e)
       by [] e =
           let none : property_of (node_at item (begins + 1)) ≡ None =
-              last-word (begins + 1) item
-              (ap (λ n. drop n item) (let same : suc (begins + 1) ≡ begins + 2 = omega arith in
-              same) ∙ e) in
+          last-word (begins + 1) item
+          (ap (λ n. drop n item) (let same : suc (begins + 1) ≡ begins + 2 = omega arith in
+          same) ∙ e) in
           ap (λ t. is_text (codes "assign") t && test_before (begins + 2)) none
           ∙ sym (ap (λ t. is_text (codes "assign") t && test_after (begins + 2)) none)
 
@@ -164,12 +164,12 @@ module _ (item : List Item) (test_before test_after : ℕ → Bool)
   in_assign-agree [] = refl
   in_assign-agree (node ∷ outer) =
       ap (λ b. b || is_in_assign_of test_before item outer)
-          (three (is_call_head node.head) (node.field == 1)
-          (is_text (codes "assign") (property_of (node_at item (node.begins + 1))))
-          (test_before (node.begins + 2)) (test_after (node.begins + 2)) (calls-agree node.begins))
+      (three (is_call_head node.head) (node.field == 1)
+      (is_text (codes "assign") (property_of (node_at item (node.begins + 1))))
+      (test_before (node.begins + 2)) (test_after (node.begins + 2)) (calls-agree node.begins))
       ∙ ap (λ b. (((is_call_head node.head && (node.field == 1))
-          && is_text (codes "assign") (property_of (node_at item (node.begins + 1))))
-          && test_after (node.begins + 2)) || b) (in_assign-agree outer)
+      && is_text (codes "assign") (property_of (node_at item (node.begins + 1))))
+      && test_after (node.begins + 2)) || b) (in_assign-agree outer)
 
   same-flags : (o : Occurrence) → SameFlags item item test_before test_after o o
   same-flags o = record {
@@ -188,19 +188,19 @@ module _ (item : List Item) (test_before test_after : ℕ → Bool)
 
 -- an item that stands elsewhere
 pub moved-alike : (reading : Reading) (tree : List Item) (its_reading : Reading)
-        (its_tree : List Item) (start its_start : ℕ) (items : List Item) →
+    (its_tree : List Item) (start its_start : ℕ) (items : List Item) →
     IsPlaced tree (record { start = start; items = items }) →
     IsPlaced its_tree (record { start = its_start; items = items }) →
     ObjectsAlike reading tree its_reading its_tree (record { start = start; items = items })
-        (record { start = its_start; items = items }) →
+    (record { start = its_start; items = items }) →
     ItemsAlike reading tree its_reading its_tree (record { start = start; items = items })
-        (record { start = its_start; items = items })
+    (record { start = its_start; items = items })
 moved-alike reading tree its_reading its_tree start its_start items placed its_placed objects =
     let item : TopItem = record { start = start; items = items } in
     let its : TopItem = record { start = its_start; items = items } in
     same-all items (object_in reading tree item) (object_in its_reading its_tree its)
-        (of_names reading tree item placed) (of_names its_reading its_tree its its_placed)
-        (λ i o e. objects i o o e e) (occurrences items)
+    (of_names reading tree item placed) (of_names its_reading its_tree its its_placed)
+    (λ i o e. objects i o o e e) (occurrences items)
 
 -- ---- an item of which identifiers change
 
@@ -257,38 +257,38 @@ roles-renamed (Some change) f g x ctxt r.Reference = refl
 
 roles-key : (proto : Bool) (x : Text) (rest : List Item) →
     roles ((if proto then h.Open 0 h.ComputedPropName ∷ h.Open 0 (h.Str x None) ∷ h.Close ∷ h.Close
-        ∷ [] else plain_key x) ++ rest) ≡ roles rest
+    ∷ [] else plain_key x) ++ rest) ≡ roles rest
 unfolding roles
 roles-key true x rest = refl
 roles-key false x rest = refl
 
 roles-object : (b : Bool) (change : Option Change) (field : ℕ) (x : Text) (ctxt : ℕ) (role : Role)
-        →
+    →
     roles (h.Ident field x ctxt role ∷ [])
-        ≡ roles (if b then node field h.KeyValueProp
-        (key_in_object x ++ renamed change 1 x ctxt role ∷ []) else renamed change field x ctxt
-        role ∷ [])
+    ≡ roles (if b then node field h.KeyValueProp
+    (key_in_object x ++ renamed change 1 x ctxt role ∷ []) else renamed change field x ctxt
+    role ∷ [])
 roles-object true change field x ctxt role =
     roles-renamed change field 1 x ctxt role
     ∙ (sym (roles-key _ x (renamed change 1 x ctxt role ∷ []))
-        ∙ sym (roles-node field h.KeyValueProp (key_in_object x ++ renamed change 1 x ctxt role
-        ∷ [])))
+    ∙ sym (roles-node field h.KeyValueProp (key_in_object x ++ renamed change 1 x ctxt role
+    ∷ [])))
 roles-object false change field x ctxt role = roles-renamed change field field x ctxt role
 
 roles-specifier : (b : Bool) (change : Option Change) (field : ℕ) (x : Text) (ctxt : ℕ)
-        (role : Role) →
+    (role : Role) →
     roles (h.Ident field x ctxt role ∷ [])
-        ≡ roles (if b then renamed change field x ctxt role ∷ h.Ident 1 x 0 r.Word
-        ∷ [] else renamed change field x ctxt role ∷ [])
+    ≡ roles (if b then renamed change field x ctxt role ∷ h.Ident 1 x 0 r.Word
+    ∷ [] else renamed change field x ctxt role ∷ [])
 unfolding roles
 roles-specifier true change field x ctxt role =
     roles-renamed change field field x ctxt role
     ∙ (sym (append-nil (roles (renamed change field x ctxt role ∷ [])))
-        ∙ sym (roles-append (renamed change field x ctxt role ∷ []) (h.Ident 1 x 0 r.Word ∷ [])))
+    ∙ sym (roles-append (renamed change field x ctxt role ∷ []) (h.Ident 1 x 0 r.Word ∷ [])))
 roles-specifier false change field x ctxt role = roles-renamed change field field x ctxt role
 
 roles-place : (around : Surrounding) (change : Option Change) (field : ℕ) (x : Text) (ctxt : ℕ)
-        (role : Role) →
+    (role : Role) →
     roles (h.Ident field x ctxt role ∷ []) ≡ roles (in_its_place around change field x ctxt role)
 roles-place Anywhere change field x ctxt role = roles-renamed change field field x ctxt role
 roles-place InObject change field x ctxt role =
@@ -298,16 +298,16 @@ roles-place InSpecifier change field x ctxt role =
 
 -- a name in a pattern before others
 roles-binding : (change : Option Change) (f : ℕ) (x : Text) (ctxt : ℕ) (role : Role)
-        (d made : List Item) →
+    (d made : List Item) →
     roles d ≡ roles made →
     roles (binding None 0 x ctxt role ++ d) ≡ roles (binding change f x ctxt role ++ made)
 roles-binding change f x ctxt role d made e =
     roles-append (binding None 0 x ctxt role) d
     ∙ (ap (λ l. l ++ roles d) (roles-node 0 h.BindingIdent (h.Ident 0 x ctxt role ∷ [])
-        ∙ (roles-renamed change 0 0 x ctxt role
-        ∙ sym (roles-node f h.BindingIdent (renamed change 0 x ctxt role ∷ []))))
+    ∙ (roles-renamed change 0 0 x ctxt role
+    ∙ sym (roles-node f h.BindingIdent (renamed change 0 x ctxt role ∷ []))))
     ∙ (ap (λ l. roles (binding change f x ctxt role) ++ l) e
-        ∙ sym (roles-append (binding change f x ctxt role) made)))
+    ∙ sym (roles-append (binding change f x ctxt role) made)))
 
 roles-pattern : (change : Option Change) (x : Text) (ctxt : ℕ) (role : Role) (d made : List Item) →
     roles d ≡ roles made →
@@ -320,22 +320,22 @@ roles-pattern change x ctxt role d (one ∷ more) e =
     ∙ sym (roles-node 1 h.AssignPat (binding change 0 x ctxt role ++ one ∷ more))
 
 roles-short : (b : Bool) (change : Option Change) (field : ℕ) (x : Text) (ctxt : ℕ) (role : Role)
-        (d made : List Item) →
+    (d made : List Item) →
     roles d ≡ roles made →
     roles (node field h.AssignPatProp (binding None 0 x ctxt role ++ d))
-        ≡ roles (if b then node field h.KeyValuePatProp
-        (plain_key x ++ pattern_in_its_place change x ctxt role made) else node field
-        h.AssignPatProp (binding change 0 x ctxt role ++ made))
+    ≡ roles (if b then node field h.KeyValuePatProp
+    (plain_key x ++ pattern_in_its_place change x ctxt role made) else node field
+    h.AssignPatProp (binding change 0 x ctxt role ++ made))
 roles-short true change field x ctxt role d made e =
     roles-node field h.AssignPatProp (binding None 0 x ctxt role ++ d)
     ∙ (roles-pattern change x ctxt role d made e
-        ∙ (sym (roles-key false x (pattern_in_its_place change x ctxt role made))
-        ∙ sym (roles-node field h.KeyValuePatProp
-        (plain_key x ++ pattern_in_its_place change x ctxt role made))))
+    ∙ (sym (roles-key false x (pattern_in_its_place change x ctxt role made))
+    ∙ sym (roles-node field h.KeyValuePatProp
+    (plain_key x ++ pattern_in_its_place change x ctxt role made))))
 roles-short false change field x ctxt role d made e =
     roles-node field h.AssignPatProp (binding None 0 x ctxt role ++ d)
     ∙ (roles-binding change 0 x ctxt role d made e
-        ∙ sym (roles-node field h.AssignPatProp (binding change 0 x ctxt role ++ made)))
+    ∙ sym (roles-node field h.AssignPatProp (binding change 0 x ctxt role ++ made)))
 
 -- the roles stay
 pub roles-edited : {around : Surrounding} {changes rest : List Change} {before after : List Item} →
@@ -345,8 +345,8 @@ roles-edited (Joined {first = first} {made_first = made_first} {second = second}
     {made_second = made_second} one two) =
     roles-append first second
     ∙ (ap (λ l. l ++ roles second) (roles-edited one)
-        ∙ (ap (λ l. roles made_first ++ l) (roles-edited two)
-        ∙ sym (roles-append made_first made_second)))
+    ∙ (ap (λ l. roles made_first ++ l) (roles-edited two)
+    ∙ sym (roles-append made_first made_second)))
 roles-edited (Hole field) = refl
 roles-edited (Word field x ctxt role plain) = refl
 roles-edited (Name around {changes = changes} field x ctxt role occurs) =
@@ -356,15 +356,15 @@ roles-edited (Inside field head {inside = inside} {made = made} plain one) =
 roles-edited (Shorthand {changes = changes} field x ctxt role {default = d} {made = made} occurs
     one) =
     roles-short (spells_out (next changes)) (next changes) field x ctxt role d made
-        (roles-edited one)
+    (roles-edited one)
 
 -- the identifiers of an edited list correspond
 pub names-edited : {changes rest : List Change} {before after : List Item}
-        (test_before test_after : ℕ → Bool) →
+    (test_before test_after : ℕ → Bool) →
     OfNames before test_before → OfNames after test_after →
     Edits Anywhere changes before after rest →
     ((i : ℕ) (o p : Occurrence) → slice_get (occurrences before) i ≡ Some o →
-        slice_get (occurrences after) i ≡ Some p → test_before o.place ≡ test_after p.place) →
+    slice_get (occurrences after) i ≡ Some p → test_before o.place ≡ test_after p.place) →
     AllZip (NameAlike before after test_before test_after) (occurrences before) (occurrences after)
 names-edited {before = before} {after = after} test_before test_after of_before of_after edits
     tests =
@@ -374,11 +374,11 @@ names-edited {before = before} {after = after} test_before test_after of_before 
       its = sym (append-nil after);
       tests =
           subst (λ (l : List Item). AllZip (λ (o p : Occurrence). test_before o.place
-              ≡ test_after p.place) (occurrences l) (occurrences (after ++ [])))
-              (sym (append-nil before))
-      (subst (λ (l : List Item). AllZip (λ (o p : Occurrence). test_before o.place
+          ≡ test_after p.place) (occurrences l) (occurrences (after ++ [])))
+          (sym (append-nil before))
+          (subst (λ (l : List Item). AllZip (λ (o p : Occurrence). test_before o.place
           ≡ test_after p.place) (occurrences before) (occurrences l)) (sym (append-nil after))
-      (zip-from (λ (o p : Occurrence). test_before o.place ≡ test_after p.place)
+          (zip-from (λ (o p : Occurrence). test_before o.place ≡ test_after p.place)
           (occurrences before) (occurrences after) (roles-count start before
           ∙ (ap length (roles-edited edits) ∙ sym (roles-count start after))) tests));
     })
@@ -386,17 +386,17 @@ names-edited {before = before} {after = after} test_before test_after of_before 
 
 -- an item of which identifiers change, wherever the two stand
 pub edited-alike : (reading : Reading) (tree : List Item) (its_reading : Reading)
-        (its_tree : List Item) (item its : TopItem) {changes : List Change} →
+    (its_tree : List Item) (item its : TopItem) {changes : List Change} →
     Edited changes item.items its.items → IsPlaced tree item → IsPlaced its_tree its →
     ObjectsAlike reading tree its_reading its_tree item its →
     ItemsAlike reading tree its_reading its_tree item its
 edited-alike reading tree its_reading its_tree item its edited placed its_placed objects =
     AllZip-weaker (NameAlike item.items its.items (object_in reading tree item)
-        (object_in its_reading its_tree its))
-        (SameFlags item.items its.items (object_in reading tree item)
-        (object_in its_reading its_tree its))
-        (flags-alike item.items its.items (object_in reading tree item)
-        (object_in its_reading its_tree its)) (occurrences item.items) (occurrences its.items)
+    (object_in its_reading its_tree its))
+    (SameFlags item.items its.items (object_in reading tree item)
+    (object_in its_reading its_tree its))
+    (flags-alike item.items its.items (object_in reading tree item)
+    (object_in its_reading its_tree its)) (occurrences item.items) (occurrences its.items)
     (names-edited (object_in reading tree item) (object_in its_reading its_tree its)
-        (of_names reading tree item placed) (of_names its_reading its_tree its its_placed)
-        edited.by objects)
+    (of_names reading tree item placed) (of_names its_reading its_tree its its_placed)
+    edited.by objects)

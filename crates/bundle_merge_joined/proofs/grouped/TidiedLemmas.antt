@@ -51,21 +51,26 @@ property-tidied : (items : List Item) (place : ℕ) →
 property-tidied items place =
     sym (property_at (tidied items) place)
     ∙ (ap (λ (l : List Item). property_of (node_at l place)) (cleared-tidied items)
-        ∙ property_at items place)
+    ∙ property_at items place)
 
 nothing-tidied : (items : List Item) (place : ℕ) →
     is_nothing (n.in_field 1 (node_at (tidied items) place))
-        ≡ is_nothing (n.in_field 1 (node_at items place))
+    ≡ is_nothing (n.in_field 1 (node_at items place))
 nothing-tidied items place =
     sym (nothing_at (tidied items) place)
     ∙ (ap (λ (l : List Item). is_nothing (n.in_field 1 (node_at l place))) (cleared-tidied items)
-        ∙ nothing_at items place)
+    ∙ nothing_at items place)
 
 -- ---- identifiers
 abbrev tidy_occurrence : Occurrence → Occurrence
 tidy_occurrence o =
-    record { place = o.place; sym = o.sym; ctxt = o.ctxt; role = o.role;
-        path = cleared_path o.path }
+    record {
+      place = o.place;
+      sym = o.sym;
+      ctxt = o.ctxt;
+      role = o.role;
+      path = cleared_path o.path;
+    }
 
 -- (a private lemma of bundle_rules too)
 field-cleared : (field : ℕ) (path : List Around) →
@@ -84,29 +89,39 @@ past-tidied spot h.Close = past-cleared spot h.Close
 
 occurrence-tidied : (spot : Spot) (x : Item) →
     occurrence_of (cleared_spot spot) (tidy_item x)
-        ≡ option_map tidy_occurrence (occurrence_of spot x)
+    ≡ option_map tidy_occurrence (occurrence_of spot x)
 occurrence-tidied spot (h.Open field head) = refl
 occurrence-tidied spot (h.Ident field x ctxt r.Word) = refl
 occurrence-tidied spot (h.Ident field x ctxt r.Binding) =
-    λ i. Some (record { place = spot.place; sym = x; ctxt = ctxt; role = r.Binding;
-        path = field-cleared field spot.path i })
+    λ i. Some (record {
+      place = spot.place;
+      sym = x;
+      ctxt = ctxt;
+      role = r.Binding;
+      path = field-cleared field spot.path i;
+    })
 occurrence-tidied spot (h.Ident field x ctxt r.Reference) =
-    λ i. Some (record { place = spot.place; sym = x; ctxt = ctxt; role = r.Reference;
-        path = field-cleared field spot.path i })
+    λ i. Some (record {
+      place = spot.place;
+      sym = x;
+      ctxt = ctxt;
+      role = r.Reference;
+      path = field-cleared field spot.path i;
+    })
 occurrence-tidied spot (h.Hole field) = refl
 occurrence-tidied spot h.Close = refl
 
 from-tidied : (spot : Spot) (items : List Item) →
     occurrences_from (cleared_spot spot) (tidied items)
-        ≡ map tidy_occurrence (occurrences_from spot items)
+    ≡ map tidy_occurrence (occurrences_from spot items)
 from-tidied spot [] = refl
 from-tidied spot (x ∷ items) =
     (λ i. cons_option (occurrence-tidied spot x i)
-        (occurrences_from (past-tidied spot x i) (tidied items)))
+    (occurrences_from (past-tidied spot x i) (tidied items)))
     ∙ (ap (cons_option (option_map tidy_occurrence (occurrence_of spot x)))
-        (from-tidied (past spot x) items)
-        ∙ cons_option-map tidy_occurrence (occurrence_of spot x)
-        (occurrences_from (past spot x) items))
+    (from-tidied (past spot x) items)
+    ∙ cons_option-map tidy_occurrence (occurrence_of spot x)
+    (occurrences_from (past spot x) items))
 
 occurrences-tidied : (items : List Item) →
     occurrences (tidied items) ≡ map tidy_occurrence (occurrences items)
@@ -131,7 +146,7 @@ behind-tidied spot (x ∷ items) =
 
 option-tidied : (spot : Spot) (x : Option Item) →
     option_and_then (occurrence_of (cleared_spot spot)) (option_map tidy_item x)
-        ≡ option_map tidy_occurrence (option_and_then (occurrence_of spot) x)
+    ≡ option_map tidy_occurrence (option_and_then (occurrence_of spot) x)
 option-tidied spot None = refl
 option-tidied spot (Some x) = occurrence-tidied spot x
 
@@ -139,8 +154,8 @@ at-tidied : (items : List Item) (place : ℕ) →
     occurrence_at (tidied items) place ≡ option_map tidy_occurrence (occurrence_at items place)
 at-tidied items place =
     (λ i. option_and_then
-        (occurrence_of ((ap (fold past start) (take-tidied place items)
-        ∙ behind-tidied start (take place items)) i)) (get-tidied items place i))
+    (occurrence_of ((ap (fold past start) (take-tidied place items)
+    ∙ behind-tidied start (take place items)) i)) (get-tidied items place i))
     ∙ option-tidied (spot_before items place) (slice_get items place)
 
 -- ---- how they are declared
@@ -166,7 +181,7 @@ declarator-noted : (path : List Around) →
 declarator-noted [] = refl
 declarator-noted (node ∷ outer) =
     of_head (λ it. way_of_variable it (cleared_path outer))
-        (λ meta. (refl, refl, refl, λ kind. refl)) node.head
+    (λ meta. (refl, refl, refl, λ kind. refl)) node.head
     ∙ variable-noted node.head outer
 
 in-noted : (head : Head) (outer : List Around) →
@@ -180,20 +195,20 @@ way-noted : (path : List Around) → way_of (cleared_path path) ≡ way_of path
 way-noted [] = refl
 way-noted (node ∷ outer) =
     λ i. cond (of_head is_pattern (λ meta. (refl, refl, refl, λ kind. refl)) node.head i)
-        (way-noted outer i)
-        ((of_head (λ it. way_in it (cleared_path outer)) (λ meta. (refl, refl, refl, λ kind. refl))
-        node.head ∙ in-noted node.head outer) i)
+    (way-noted outer i)
+    ((of_head (λ it. way_in it (cleared_path outer)) (λ meta. (refl, refl, refl, λ kind. refl))
+    node.head ∙ in-noted node.head outer) i)
 
 declaration-tidied : (o : Occurrence) →
     declaration_of ByContext Es (tidy_occurrence o) ≡ declaration_of ByContext Es o
 declaration-tidied o =
     λ i. cond (is_binding o.role)
-        (declared_by o.place (name_of ByContext o.sym o.ctxt) (scopes_around-cleared Es o.path i)
-        (way-noted o.path i)) None
+    (declared_by o.place (name_of ByContext o.sym o.ctxt) (scopes_around-cleared Es o.path i)
+    (way-noted o.path i)) None
 
 option-declares : (o : Option Occurrence) →
     option_and_then (declaration_of ByContext Es) (option_map tidy_occurrence o)
-        ≡ option_and_then (declaration_of ByContext Es) o
+    ≡ option_and_then (declaration_of ByContext Es) o
 option-declares None = refl
 option-declares (Some o) = declaration-tidied o
 
@@ -247,27 +262,27 @@ nameless-tidied h.Close rest = refl
 
 declared-tidied : (spot : Spot) (items : List Item) →
     declared_from ByContext Es (cleared_spot spot) (tidied items)
-        ≡ declared_from ByContext Es spot items
+    ≡ declared_from ByContext Es spot items
 declared-tidied spot [] = refl
 declared-tidied spot (x ∷ items) =
     (λ i. cons_option (cond (nameless-tidied x items i) (Some (nameless_default Es spot.place))
-        ((ap (option_and_then (declaration_of ByContext Es)) (occurrence-tidied spot x)
-        ∙ option-declares (occurrence_of spot x)) i))
-        (declared_from ByContext Es (past-tidied spot x i) (tidied items)))
+    ((ap (option_and_then (declaration_of ByContext Es)) (occurrence-tidied spot x)
+    ∙ option-declares (occurrence_of spot x)) i))
+    (declared_from ByContext Es (past-tidied spot x i) (tidied items)))
     ∙ ap (cons_option (declared_at ByContext Es spot x items))
-        (declared-tidied (past spot x) items)
+    (declared-tidied (past spot x) items)
 
 -- ---- what they denote
 denoted_of-tidied : (all : List Declared) (o : Occurrence) →
     denoted_of ByContext Es all (tidy_occurrence o) ≡ denoted_of ByContext Es all o
 denoted_of-tidied all o =
     λ i. own_or_found all
-        (denoted_in ByContext all (scopes_around-cleared Es o.path i)
-        (name_of ByContext o.sym o.ctxt)) (declaration-tidied o i)
+    (denoted_in ByContext all (scopes_around-cleared Es o.path i)
+    (name_of ByContext o.sym o.ctxt)) (declaration-tidied o i)
 
 option-denotes : (all : List Declared) (o : Option Occurrence) →
     option_map (denoted_of ByContext Es all) (option_map tidy_occurrence o)
-        ≡ option_map (denoted_of ByContext Es all) o
+    ≡ option_map (denoted_of ByContext Es all) o
 option-denotes all None = refl
 option-denotes all (Some o) = ap (λ (d : Denoted). Some d) (denoted_of-tidied all o)
 
@@ -275,7 +290,7 @@ pub denoted-tidied : (tree : List Item) (place : ℕ) →
     denoted_at ByContext Es (tidied tree) place ≡ denoted_at ByContext Es tree place
 denoted-tidied tree place =
     (λ i. option_map (denoted_of ByContext Es (declared-tidied start tree i))
-        (at-tidied tree place i))
+    (at-tidied tree place i))
     ∙ option-denotes (declared ByContext Es tree) (occurrence_at tree place)
 
 nothing-bound : (o : Option Occurrence) →
@@ -287,8 +302,8 @@ object-tidied : (tree : List Item) (place : ℕ) →
     is_object_at ByContext (tidied tree) place ≡ is_object_at ByContext tree place
 object-tidied tree place =
     λ i. is_global_named (codes "Object") (denoted-tidied tree place i)
-        && (ap (is_of_nothing ByContext) (at-tidied tree place)
-        ∙ nothing-bound (occurrence_at tree place)) i
+    && (ap (is_of_nothing ByContext) (at-tidied tree place)
+    ∙ nothing-bound (occurrence_at tree place)) i
 
 -- ---- items
 first-tidied : (x : Item) (nodes : List (List Item)) →
@@ -312,13 +327,13 @@ sides-tidied zero (h.Ident field x ctxt role ∷ rest) =
     let is = ident-tidied field x ctxt role in
     ap (λ (y : Item). side_by_side zero (y ∷ tidied rest)) is.1
     ∙ (ap (λ (l : List (List Item)). (h.Ident field x is.0 role ∷ []) ∷ l) (sides-tidied zero rest)
-        ∙ ap (λ (y : Item). (y ∷ []) ∷ map tidied (side_by_side zero rest)) (sym is.1))
+    ∙ ap (λ (y : Item). (y ∷ []) ∷ map tidied (side_by_side zero rest)) (sym is.1))
 sides-tidied (suc depth) (h.Ident field x ctxt role ∷ rest) =
     let is = ident-tidied field x ctxt role in
     ap (λ (y : Item). side_by_side (suc depth) (y ∷ tidied rest)) is.1
     ∙ (ap (put_first (h.Ident field x is.0 role)) (sides-tidied (suc depth) rest)
-        ∙ (ap (λ (y : Item). put_first y (map tidied (side_by_side (suc depth) rest))) (sym is.1)
-        ∙ first-tidied (h.Ident field x ctxt role) (side_by_side (suc depth) rest)))
+    ∙ (ap (λ (y : Item). put_first y (map tidied (side_by_side (suc depth) rest))) (sym is.1)
+    ∙ first-tidied (h.Ident field x ctxt role) (side_by_side (suc depth) rest)))
 sides-tidied zero (h.Hole field ∷ rest) =
     ap (λ (l : List (List Item)). (h.Hole field ∷ []) ∷ l) (sides-tidied zero rest)
 sides-tidied (suc depth) (h.Hole field ∷ rest) =
@@ -347,31 +362,31 @@ placed-tidied : (start : ℕ) (nodes : List (List Item)) →
 placed-tidied from [] = refl
 placed-tidied from (node ∷ more) =
     λ i. record { start = from; items = tidied node }
-        ∷ (ap (λ k. placed (from + k) (map tidied more)) (length-tidied node)
-        ∙ placed-tidied (from + length node) more) i
+    ∷ (ap (λ k. placed (from + k) (map tidied more)) (length-tidied node)
+    ∙ placed-tidied (from + length node) more) i
 
 at_one-tidied : (tree : List Item) (item its : TopItem) → AtOne tree (tidied tree) item its →
     its ≡ tidied_top item
 at_one-tidied tree item its one =
     same_Some its (tidied_top item) (sym one.there
-        ∙ (ap (λ l. slice_get l one.at) (ap (placed 1) (parts-tidied tree)
-        ∙ placed-tidied 1 (parts tree))
-        ∙ (slice_get-map tidied_top (top_items tree) one.at
-        ∙ ap (λ (o : Option TopItem). option_map tidied_top o) one.here)))
+    ∙ (ap (λ l. slice_get l one.at) (ap (placed 1) (parts-tidied tree)
+    ∙ placed-tidied 1 (parts tree))
+    ∙ (slice_get-map tidied_top (top_items tree) one.at
+    ∙ ap (λ (o : Option TopItem). option_map tidied_top o) one.here)))
 
 item-tidied : (tree : List Item) (item : TopItem) →
     ItemsAlike ByContext tree ByContext (tidied tree) item (tidied_top item)
 item-tidied tree item =
     let R : Occurrence → Occurrence →
-        Type 0 = SameFlags item.items (tidied item.items) (object_in ByContext tree item)
-        (object_in ByContext (tidied tree) (tidied_top item)) in
+    Type 0 = SameFlags item.items (tidied item.items) (object_in ByContext tree item)
+    (object_in ByContext (tidied tree) (tidied_top item)) in
     subst (λ l. AllZip R (occurrences item.items) l) (sym (occurrences-tidied item.items))
     (zip-same R tidy_occurrence
-        (λ o. flags-noted item.items (tidied item.items) (property-tidied item.items)
-        (nothing-tidied item.items) (object_in ByContext tree item)
-        (object_in ByContext (tidied tree) (tidied_top item))
-        (λ place. object-tidied tree (item.start + place)) o (tidy_occurrence o) refl refl)
-        (occurrences item.items))
+    (λ o. flags-noted item.items (tidied item.items) (property-tidied item.items)
+    (nothing-tidied item.items) (object_in ByContext tree item)
+    (object_in ByContext (tidied tree) (tidied_top item))
+    (λ place. object-tidied tree (item.start + place)) o (tidy_occurrence o) refl refl)
+    (occurrences item.items))
 
 items-tidied : (tree : List Item) (items its : List TopItem) →
     AllZip (AtOne tree (tidied tree)) items its →
@@ -379,10 +394,11 @@ items-tidied : (tree : List Item) (items its : List TopItem) →
 items-tidied tree [] [] zip = tt
 items-tidied tree [] (y ∷ its) zip = absurd zip
 items-tidied tree (x ∷ items) [] zip = absurd zip
-items-tidied tree (x ∷ items) (y ∷ its) zip =
-    (subst (λ (z : TopItem). ItemsAlike ByContext tree ByContext (tidied tree) x z)
-        (sym (at_one-tidied tree x y zip.0)) (item-tidied tree x),
-        items-tidied tree items its zip.1)
+items-tidied tree (x ∷ items) (y ∷ its) zip = (
+  subst (λ (z : TopItem). ItemsAlike ByContext tree ByContext (tidied tree) x z)
+      (sym (at_one-tidied tree x y zip.0)) (item-tidied tree x),
+  items-tidied tree items its zip.1,
+)
 
 module _ (tree : List Item) (items its : List TopItem)
     (zip : AllZip (AtOne tree (tidied tree)) items its) where
@@ -392,34 +408,46 @@ module _ (tree : List Item) (items its : List TopItem)
   denoted-same s i x x' o o' at at' =
       let found = zip-at (AtOne tree (tidied tree)) items its s x zip at.item_there in
       let is : x' ≡ tidied_top x = same_Some x' found.0 (sym at'.item_there ∙ found.1)
-          ∙ at_one-tidied tree x found.0 found.2 in
+      ∙ at_one-tidied tree x found.0 found.2 in
       let name : o' ≡ tidy_occurrence o = same_Some o' (tidy_occurrence o) (sym at'.there
-          ∙ (ap (λ (y : TopItem). slice_get (occurrences y.items) i) is
-          ∙ (ap (λ l. slice_get l i) (occurrences-tidied x.items)
-          ∙ (slice_get-map tidy_occurrence (occurrences x.items) i
-          ∙ ap (λ (q : Option Occurrence). option_map tidy_occurrence q) at.there)))) in
+      ∙ (ap (λ (y : TopItem). slice_get (occurrences y.items) i) is
+      ∙ (ap (λ l. slice_get l i) (occurrences-tidied x.items)
+      ∙ (slice_get-map tidy_occurrence (occurrences x.items) i
+      ∙ ap (λ (q : Option Occurrence). option_map tidy_occurrence q) at.there)))) in
       ap (λ (y : TopItem). denoted_at ByContext Es (tidied tree) (y.start + o'.place)) is
       ∙ (ap (λ (q : Occurrence). denoted_at ByContext Es (tidied tree) (x.start + q.place)) name
-          ∙ denoted-tidied tree (x.start + o.place))
+      ∙ denoted-tidied tree (x.start + o.place))
 
   pub tidied-correspond : Correspond ByContext Top tree items ByContext Top (tidied tree) its
   tidied-correspond = record {
     alike = items-tidied tree items its zip;
     tops = λ s i t j x y x' y' o p o' p' at_o at_p at_o' at_p' binds.
         let one = denoted-same s i x x' o o' at_o at_o' in
-        let two = denoted-same t j y y' p p' at_p at_p' in
-        (
-          λ both. record { one = both.one; two = both.two; first = one ∙ both.first; second = two
-              ∙ both.second; of_top = both.of_top; same = both.same },
-          λ both. record { one = both.one; two = both.two; first = sym one ∙ both.first;
-              second = sym two ∙ both.second; of_top = both.of_top; same = both.same },
+        let two = denoted-same t j y y' p p' at_p at_p' in (
+          λ both. record {
+            one = both.one;
+            two = both.two;
+            first = one ∙ both.first;
+            second = two
+                ∙ both.second;
+            of_top = both.of_top;
+            same = both.same;
+          },
+          λ both. record {
+            one = both.one;
+            two = both.two;
+            first = sym one ∙ both.first;
+            second = sym two ∙ both.second;
+            of_top = both.of_top;
+            same = both.same;
+          },
         );
   }
 
   -- TIDIED: an order is good exactly if it is when notes are taken off
   pub tidied-good_order : (owners : List (Option ℕ)) (order : List ℕ) →
       IsGoodOrder (group_of ByContext Top tree items owners) order
-          ↔ IsGoodOrder (group_of ByContext Top (tidied tree) its owners) order
+      ↔ IsGoodOrder (group_of ByContext Top (tidied tree) its owners) order
   tidied-good_order owners order =
       good_order-corresponds ByContext Top tree items ByContext Top (tidied tree) its owners owners
-          (owners-refl owners) tidied-correspond order
+      (owners-refl owners) tidied-correspond order

@@ -33,24 +33,24 @@ same_context-refl (Some a) = eq-eqb a a refl
 pub same-refl : (d : Denoted) → same_denoted d d ≡ true
 same-refl (Bound scope name) =
     and_from (same_scope scope scope && bytes_eq name.sym name.sym)
-        (same_context name.ctxt name.ctxt)
-        (and_from (same_scope scope scope) (bytes_eq name.sym name.sym)
-        (eq-eqb (scope_order scope) (scope_order scope) refl)
-        ((bytes_eq-Decides name.sym name.sym).1 refl)) (same_context-refl name.ctxt)
+    (same_context name.ctxt name.ctxt)
+    (and_from (same_scope scope scope) (bytes_eq name.sym name.sym)
+    (eq-eqb (scope_order scope) (scope_order scope) refl)
+    ((bytes_eq-Decides name.sym name.sym).1 refl)) (same_context-refl name.ctxt)
 same-refl (Global x) = (bytes_eq-Decides x x).1 refl
 
 -- both are told apart from others alike
 pub same-agree : (d e x : Denoted) → same_denoted d e ≡ true → same_denoted d x ≡ same_denoted e x
 same-agree (Bound scope name) (Bound other its) (Bound third one) t =
     let p = and_parts (same_scope scope other && bytes_eq name.sym its.sym)
-        (same_context name.ctxt its.ctxt) t in
+    (same_context name.ctxt its.ctxt) t in
     let q = and_parts (same_scope scope other) (bytes_eq name.sym its.sym) p.0 in
     ap (λ n. ((n == scope_order third) && bytes_eq name.sym one.sym)
-        && same_context name.ctxt one.ctxt) (eqb-true (scope_order scope) (scope_order other) q.0)
+    && same_context name.ctxt one.ctxt) (eqb-true (scope_order scope) (scope_order other) q.0)
     ∙ (ap (λ (s : List ℕ). (same_scope other third && bytes_eq s one.sym)
-        && same_context name.ctxt one.ctxt) ((bytes_eq-Decides name.sym its.sym).0 q.1)
+    && same_context name.ctxt one.ctxt) ((bytes_eq-Decides name.sym its.sym).0 q.1)
     ∙ ap (λ (c : Option ℕ). (same_scope other third && bytes_eq its.sym one.sym)
-        && same_context c one.ctxt) (same_context-is name.ctxt its.ctxt p.1))
+    && same_context c one.ctxt) (same_context-is name.ctxt its.ctxt p.1))
 same-agree (Bound scope name) (Bound other its) (Global z) t = refl
 same-agree (Bound scope name) (Global y) x t = absurd (false≢true t)
 same-agree (Global w) (Bound other its) x t = absurd (false≢true t)
@@ -65,7 +65,7 @@ pub same-scope : (top : Scope) (d e : Denoted) → same_denoted d e ≡ true →
     is_of_scope top d ≡ is_of_scope top e
 same-scope top (Bound scope name) (Bound other its) t =
     let p = and_parts (same_scope scope other && bytes_eq name.sym its.sym)
-        (same_context name.ctxt its.ctxt) t in
+    (same_context name.ctxt its.ctxt) t in
     let q = and_parts (same_scope scope other) (bytes_eq name.sym its.sym) p.0 in
     ap (λ n. n == scope_order top) (eqb-true (scope_order scope) (scope_order other) q.0)
 same-scope top (Bound scope name) (Global y) t = absurd (false≢true t)
@@ -149,9 +149,14 @@ kept-from {X} p (y ∷ xs) x has = by (p y) refl (kept-from p xs x) has
     by : (b : Bool) → p y ≡ b → (Has X (filter p xs) x → Has X xs x × (p x ≡ true)) →
         Has X (cond b (y ∷ filter p xs) (filter p xs)) x → Has X (y ∷ xs) x × (p x ≡ true)
     by true e ih has =
-        elim (has-cases has)
-            [ inl same ↦ (subst (λ (z : X). Has X (y ∷ xs) z) same (here y xs), ap p (sym same)
-            ∙ e) | inr rest ↦ later ih rest ]
+        elim (has-cases has) [
+          | inl same ↦ (
+            subst (λ (z : X). Has X (y ∷ xs) z) same (here y xs),
+            ap p (sym same)
+                ∙ e,
+          )
+          | inr rest ↦ later ih rest
+        ]
     by false e ih has = later ih has
 
 -- ---- each once
@@ -177,9 +182,12 @@ once-keeps (x ∷ rest) d has = by (has-cases has) (once-keeps rest d)
     kept : (t : Denoted) → Has Denoted (each_denoted_once rest) t → same_denoted d t ≡ true →
         (b : Bool) → same_denoted x t ≡ b → Like (each_denoted_once (x ∷ rest)) d
     kept t has is true e = (x, here x _, same-agree d t x is ∙ same-sym x t e)
-    kept t has is false e =
-        (t, there x (has-kept (λ other. not (same_denoted x other)) has
-            (not_from_false (same_denoted x t) e)), is)
+    kept t has is false e = (
+      t,
+      there x (has-kept (λ other. not (same_denoted x other)) has
+          (not_from_false (same_denoted x t) e)),
+      is,
+    )
 
     by : (x ≡ d) ⊎ Has Denoted rest d → (Has Denoted rest d → Like (each_denoted_once rest) d) →
         Like (each_denoted_once (x ∷ rest)) d
@@ -193,8 +201,11 @@ pub position-there : (p : Denoted → Bool) (xs : List Denoted) (x : Denoted) �
 position-there p xs x has t =
     let at = at-has has in
     elim (cases_lt (position_or_len p xs) (length xs)) [
-      | inl l ↦ (position_or_len p xs, ap (λ b. cond b (Some (position_or_len p xs)) None)
-          (lt-ltb (position_or_len p xs) (length xs) l))
+      | inl l ↦ (
+        position_or_len p xs,
+        ap (λ b. cond b (Some (position_or_len p xs)) None)
+            (lt-ltb (position_or_len p xs) (length xs) l),
+      )
       | inr g ↦ absurd (true≢false (sym t
           ∙ (ap p (sym (get_or_from_slice_get xs at.0 x x at.1))
           ∙ fails_before_first p xs at.0 x (let inside = slice_get_within xs at.0 x at.1 in
@@ -219,15 +230,15 @@ module _ (reading : Reading) (top : Scope) (tree : List Item) (items : List TopI
   abbrev all : List Denoted
   all =
       flat_map (λ (item : TopItem). filter_map (denoted_in reading tree item)
-          (occurrences item.items)) items
+      (occurrences item.items)) items
 
   -- what an identifier denotes is among what all do
   listed : (s i : ℕ) (item : TopItem) (o : Occurrence) (d : Denoted) → Stands items s i item o →
       denoted_in reading tree item o ≡ Some d → Has Denoted all d
   listed s i item o d at e =
       has-flat (λ (item : TopItem). filter_map (denoted_in reading tree item)
-          (occurrences item.items)) items s item d at.item_there
-          (has-chosen (denoted_in reading tree item) (occurrences item.items) i o d at.there e)
+      (occurrences item.items)) items s item d at.item_there
+      (has-chosen (denoted_in reading tree item) (occurrences item.items) i o d at.there e)
 
   pub denote_one-to : (x y : TopItem) (o p : Occurrence) →
       DenoteOne (mention_of reading tree tops x o) (mention_of reading tree tops y p) →
@@ -247,8 +258,8 @@ module _ (reading : Reading) (top : Scope) (tree : List Item) (items : List TopI
           let its = position-is (same_denoted e) tops k g in
           let is : its.0 ≡ at.0 = same_Some its.0 at.0 (sym its.2 ∙ at.2) in
           let here : is_of_scope top at.0 ≡ true =
-              (kept-from (is_of_scope top) all at.0
-              (once-from (filter (is_of_scope top) all) at.0 at.1)).1 in
+          (kept-from (is_of_scope top) all at.0
+          (once-from (filter (is_of_scope top) all) at.0 at.1)).1 in
           record {
             one = d;
             two = e;
@@ -264,13 +275,14 @@ module _ (reading : Reading) (top : Scope) (tree : List Item) (items : List TopI
       DenoteOne (mention_of reading tree tops x o) (mention_of reading tree tops y p)
   denote_one-from s i t j x y o p at its both =
       let like : Like tops both.one = once-keeps (filter (is_of_scope top) all) both.one
-          (has-kept (is_of_scope top) (listed s i x o both.one at both.first) both.of_top) in
-      let k = position-there (same_denoted both.one) tops like.0 like.1 like.2 in
-      (k.0,
-      ap (λ (d : Option Denoted). option_and_then (λ (x : Denoted). position (same_denoted x) tops)
-          d) both.first
-      ∙ k.1,
-      ap (λ (d : Option Denoted). option_and_then (λ (x : Denoted). position (same_denoted x) tops)
-          d) both.second
-      ∙ (sym (position-agree (same_denoted both.one) (same_denoted both.two) tops
-          (λ z. same-agree both.one both.two z both.same)) ∙ k.1))
+      (has-kept (is_of_scope top) (listed s i x o both.one at both.first) both.of_top) in
+      let k = position-there (same_denoted both.one) tops like.0 like.1 like.2 in (
+        k.0,
+        ap (λ (d : Option Denoted). option_and_then (λ (x : Denoted). position (same_denoted x) tops)
+            d) both.first
+            ∙ k.1,
+        ap (λ (d : Option Denoted). option_and_then (λ (x : Denoted). position (same_denoted x) tops)
+            d) both.second
+            ∙ (sym (position-agree (same_denoted both.one) (same_denoted both.two) tops
+            (λ z. same-agree both.one both.two z both.same)) ∙ k.1),
+      )

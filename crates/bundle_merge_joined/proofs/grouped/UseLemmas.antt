@@ -27,15 +27,15 @@ use Rattle.bundle_merge_joined.proofs.grouped.CoverLemmas.{module-direct}
 -- ---- globals have context 1 (`HasContexts.globals`)
 pub objects-from_globals : (tree : List Item) →
     ((place : ℕ) (o : Occurrence) (x : List ℕ) → occurrence_at tree place ≡ Some o →
-        denoted_at ByContext Es tree place ≡ Some (Global x) → o.ctxt ≡ 1) →
+    denoted_at ByContext Es tree place ≡ Some (Global x) → o.ctxt ≡ 1) →
     HasObjects ByContext tree
 objects-from_globals tree globals = record {
   unbound = λ n o e d.
       let at : occurrence_at tree o.place ≡ Some o = occurrences-at tree n o e in
       eq-eqb o.ctxt 1 (globals o.place o (codes "Object") at
-          (ap (λ (p : Option Occurrence). option_map
-          (denoted_of ByContext Es (declared ByContext Es tree)) p) at
-          ∙ ap (λ (x : Denoted). Some x) d));
+      (ap (λ (p : Option Occurrence). option_map
+      (denoted_of ByContext Es (declared ByContext Es tree)) p) at
+      ∙ ap (λ (x : Denoted). Some x) d));
 }
 
 -- ---- the items of a block alone (`group_of_items`), and where they stand among the merged
@@ -55,7 +55,7 @@ nodes-sides none = refl
 nodes-sides (more {one = one} {ones = ones} whole single nodes) =
     beside whole (flat ones)
     ∙ (ap (λ (l : List (List Item)). l ++ side_by_side zero (flat ones)) single
-        ∙ ap (λ (l : List (List Item)). one ∷ l) (nodes-sides nodes))
+    ∙ ap (λ (l : List (List Item)). one ∷ l) (nodes-sides nodes))
 
 -- this item, whose elements are these, is one of a tree
 pub record IsItemOf (tree : List Item) (list : List Item) (item : TopItem) : Type 0 where
@@ -66,30 +66,34 @@ pub record IsItemOf (tree : List Item) (list : List Item) (item : TopItem) : Typ
 stand-all : (f : ℕ) (inside alone : List Item) → Whole inside →
     (start : ℕ) (lists : List (List Item)) (its : List TopItem) →
     ((k : ℕ) (item : TopItem) → slice_get (placed start lists) k ≡ Some item → IsDirect alone item)
-        →
+    →
     AllZip (IsItemOf (node f h.Module inside)) lists its →
     AllZip (StandsInBoth alone (node f h.Module inside)) (placed start lists) its
 stand-all f inside alone whole start [] [] direct zip = tt
 stand-all f inside alone whole start [] (y ∷ its) direct zip = absurd zip
 stand-all f inside alone whole start (x ∷ lists) [] direct zip = absurd zip
-stand-all f inside alone whole start (x ∷ lists) (y ∷ its) direct zip =
-    (record { same = sym zip.0.is; here = direct 0 _ refl;
-        there = module-direct f whole zip.0.at y zip.0.there },
-    stand-all f inside alone whole (start + length x) lists its (λ k item e. direct (suc k) item e)
-        zip.1)
+stand-all f inside alone whole start (x ∷ lists) (y ∷ its) direct zip = (
+  record {
+    same = sym zip.0.is;
+    here = direct 0 _ refl;
+    there = module-direct f whole zip.0.at y zip.0.there;
+  },
+  stand-all f inside alone whole (start + length x) lists its (λ k item e. direct (suc k) item e)
+      zip.1,
+)
 
 pub block-stands : (f : ℕ) (inside : List Item) → Whole inside → (lists : List (List Item)) →
     AreNodes lists → (its : List TopItem) → AllZip (IsItemOf (node f h.Module inside)) lists its →
     AllZip (StandsInBoth (tree_of_items (flat lists)) (node f h.Module inside))
-        (top_items (tree_of_items (flat lists))) its
+    (top_items (tree_of_items (flat lists))) its
 block-stands f inside whole lists nodes its zip =
     let items : top_items (tree_of_items (flat lists)) ≡ placed 1 lists =
-        ap (placed 1) (parts-node 0 h.Module (nodes-whole nodes) ∙ nodes-sides nodes) in
+    ap (placed 1) (parts-node 0 h.Module (nodes-whole nodes) ∙ nodes-sides nodes) in
     subst (λ l. AllZip (StandsInBoth (tree_of_items (flat lists)) (node f h.Module inside)) l its)
-        (sym items)
+    (sym items)
     (stand-all f inside (tree_of_items (flat lists)) whole 1 lists its
-        (λ k item e. module-direct 0 (nodes-whole nodes) k item (ap (λ l. slice_get l k) items
-        ∙ e)) zip)
+    (λ k item e. module-direct 0 (nodes-whole nodes) k item (ap (λ l. slice_get l k) items
+    ∙ e)) zip)
 
 pub block-whole : (lists : List (List Item)) → AreNodes lists → Whole (flat lists)
 block-whole lists nodes = nodes-whole nodes
@@ -141,12 +145,12 @@ function-moves = record { tops = tops; same = same; object = object }
         same_denoted (into_function d) (into_function e) ≡ same_denoted d e
     same (Bound scope name) (Bound other its) inside its_inside top =
         ap (λ b. (b && bytes_eq name.sym its.sym) && same_context name.ctxt its.ctxt)
-            (scopes-into scope other top its its_inside)
+        (scopes-into scope other top its its_inside)
     same (Bound scope name) (Global y) inside its_inside top = refl
     same (Global x) e inside its_inside top = absurd (false≢true top)
 
     object : (d : Denoted) → BeginsInside d →
         is_global_named (codes "Object") (Some (into_function d))
-            ≡ is_global_named (codes "Object") (Some d)
+        ≡ is_global_named (codes "Object") (Some d)
     object (Bound scope name) inside = refl
     object (Global x) inside = refl

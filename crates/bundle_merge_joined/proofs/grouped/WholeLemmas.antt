@@ -45,25 +45,25 @@ deeper (hole field) depth rest = refl
 deeper (name field x ctxt role) depth rest = refl
 deeper (inner field head {inside = inside} whole) depth rest =
     ap (λ (l : List Item). put_first (h.Open field head) (side_by_side (suc (suc depth)) l))
-        (append_assoc inside (h.Close ∷ []) rest)
+    (append_assoc inside (h.Close ∷ []) rest)
     ∙ (ap (put_first (h.Open field head)) (deeper whole (suc depth) (h.Close ∷ rest))
     ∙ ap (put_first (h.Open field head))
-        (sym (put_all-append inside (h.Close ∷ []) (side_by_side (suc depth) rest))))
+    (sym (put_all-append inside (h.Close ∷ []) (side_by_side (suc depth) rest))))
 deeper (joined {xs = xs} {ys = ys} one two) depth rest =
     ap (side_by_side (suc depth)) (append_assoc xs ys rest)
     ∙ (deeper one depth (ys ++ rest)
-        ∙ (ap (put_all xs) (deeper two depth rest)
-        ∙ sym (put_all-append xs ys (side_by_side (suc depth) rest))))
+    ∙ (ap (put_all xs) (deeper two depth rest)
+    ∙ sym (put_all-append xs ys (side_by_side (suc depth) rest))))
 
 -- one node before others
 pub beside-node : (field : ℕ) (head : Head) {inside : List Item} → Whole inside →
     (rest : List Item) →
     side_by_side zero (h.Open field head ∷ (inside ++ h.Close ∷ rest)) ≡ node field head inside
-        ∷ side_by_side zero rest
+    ∷ side_by_side zero rest
 beside-node field head {inside = inside} whole rest =
     ap (put_first (h.Open field head)) (deeper whole zero (h.Close ∷ rest))
     ∙ ap (put_first (h.Open field head))
-        (put_all-cons inside (h.Close ∷ []) (side_by_side zero rest))
+    (put_all-cons inside (h.Close ∷ []) (side_by_side zero rest))
 
 pub beside : {xs : List Item} → Whole xs → (rest : List Item) →
     side_by_side zero (xs ++ rest) ≡ side_by_side zero xs ++ side_by_side zero rest
@@ -72,10 +72,10 @@ beside (hole field) rest = refl
 beside (name field x ctxt role) rest = refl
 beside (inner field head {inside = inside} whole) rest =
     ap (λ (l : List Item). side_by_side zero (h.Open field head ∷ l))
-        (append_assoc inside (h.Close ∷ []) rest)
+    (append_assoc inside (h.Close ∷ []) rest)
     ∙ (beside-node field head whole rest
-        ∙ ap (λ (l : List (List Item)). l ++ side_by_side zero rest)
-        (sym (beside-node field head whole [])))
+    ∙ ap (λ (l : List (List Item)). l ++ side_by_side zero rest)
+    (sym (beside-node field head whole [])))
 beside (joined {xs = xs} {ys = ys} one two) rest =
     ap (side_by_side zero) (append_assoc xs ys rest)
     ∙ (beside one (ys ++ rest)
@@ -112,10 +112,10 @@ keeps (hole field) spot n = refl
 keeps (name field x ctxt role) spot n = refl
 keeps (inner field head {inside = inside} whole) spot n =
     ap (λ (s : Spot). in_field n s.path)
-        (fold-append past (past spot (h.Open field head)) inside (h.Close ∷ []))
+    (fold-append past (past spot (h.Open field head)) inside (h.Close ∷ []))
     ∙ (ap (in_field n)
-        (sym (outer-in_field 0 (fold past (past spot (h.Open field head)) inside).path)
-        ∙ ap outer_path (keeps whole (past spot (h.Open field head)) 0))
+    (sym (outer-in_field 0 (fold past (past spot (h.Open field head)) inside).path)
+    ∙ ap outer_path (keeps whole (past spot (h.Open field head)) 0))
     ∙ field-twice n field spot.path)
 keeps (joined {xs = xs} {ys = ys} one two) spot n =
     ap (λ (s : Spot). in_field n s.path) (fold-append past spot xs ys)

@@ -33,22 +33,22 @@ module _ (R : ℕ → ℕ → Type 0) (one : IsOneToOne R) where
   same-alike wrappers wrappers = refl
   same-alike tops (inners {a = a} {b = b} r) =
       both-alike 1 (b + 2) 1 (a + 2) (λ e. absurd (omega (arith, e)))
-          (λ e. absurd (omega (arith, e)))
+      (λ e. absurd (omega (arith, e)))
   same-alike wrappers (inners {a = a} {b = b} r) =
       both-alike 0 (b + 2) 0 (a + 2) (λ e. absurd (omega (arith, e)))
-          (λ e. absurd (omega (arith, e)))
+      (λ e. absurd (omega (arith, e)))
   same-alike (inners {a = a} {b = b} r) tops =
       both-alike (b + 2) 1 (a + 2) 1 (λ e. absurd (omega (arith, e)))
-          (λ e. absurd (omega (arith, e)))
+      (λ e. absurd (omega (arith, e)))
   same-alike (inners {a = a} {b = b} r) wrappers =
       both-alike (b + 2) 0 (a + 2) 0 (λ e. absurd (omega (arith, e)))
-          (λ e. absurd (omega (arith, e)))
+      (λ e. absurd (omega (arith, e)))
   same-alike (inners {a = a} {b = b} r) (inners {a = c} {b = d} q) =
       both-alike (b + 2) (d + 2) (a + 2) (c + 2)
       (λ e. let same : b ≡ d = omega (arith, e) in
-          let back = one.other a c d (subst (R a) same r) q in ap (λ n. n + 2) back)
+      let back = one.other a c d (subst (R a) same r) q in ap (λ n. n + 2) back)
       (λ e. let same : a ≡ c = omega (arith, e) in
-          let there = one.one c b d (subst (λ n. R n b) same r) q in ap (λ n. n + 2) there)
+      let there = one.one c b d (subst (λ n. R n b) same r) q in ap (λ n. n + 2) there)
 
   cond-alike : (b c : Bool) → c ≡ b → {s t u v : Scope} → ScopesAlike R s t → ScopesAlike R u v →
       ScopesAlike R (cond b s u) (cond c t v)
@@ -67,13 +67,13 @@ module _ (R : ℕ → ℕ → Type 0) (one : IsOneToOne R) where
   from_taker-alike way (s ∷ ss) [] z = absurd z
   from_taker-alike way (s ∷ ss) (t ∷ ts) z =
       subst (λ b. AllZip (ScopesAlike R) (cond (takes way s) (s ∷ ss) (from_taker way ss))
-          (cond b (t ∷ ts) (from_taker way ts)))
-          (sym (test-alike (takes way) (λ f s. takes-relocated f way s) z.0))
-          (by_test (takes way s) (from_taker-alike way ss ts z.1))
+      (cond b (t ∷ ts) (from_taker way ts)))
+      (sym (test-alike (takes way) (λ f s. takes-relocated f way s) z.0))
+      (by_test (takes way s) (from_taker-alike way ss ts z.1))
     where
       by_test : (b : Bool) → AllZip (ScopesAlike R) (from_taker way ss) (from_taker way ts) →
           AllZip (ScopesAlike R) (cond b (s ∷ ss) (from_taker way ss))
-              (cond b (t ∷ ts) (from_taker way ts))
+          (cond b (t ∷ ts) (from_taker way ts))
       by_test true ih = z
       by_test false ih = ih
 
@@ -113,13 +113,13 @@ module _ (R : ℕ → ℕ → Type 0) (one : IsOneToOne R) where
       AllZip (ScopesAlike R) (from_taker d.by d.scopes) (from_taker e.by e.scopes)
   takers-alike d e a =
       subst (λ way. AllZip (ScopesAlike R) (from_taker d.by d.scopes) (from_taker way e.scopes))
-          (sym a.by) (from_taker-alike d.by d.scopes e.scopes a.scopes)
+      (sym a.by) (from_taker-alike d.by d.scopes e.scopes a.scopes)
 
   taker-alike : (d e : Declared) → DeclaredAlike R d e → ScopesAlike R (taker d) (taker e)
   taker-alike d e a =
       or_top-alike (nearest (from_taker d.by d.scopes)) (nearest (from_taker e.by e.scopes))
-          (nearest-alike (from_taker d.by d.scopes) (from_taker e.by e.scopes)
-          (takers-alike d e a))
+      (nearest-alike (from_taker d.by d.scopes) (from_taker e.by e.scopes)
+      (takers-alike d e a))
 
   -- tests over declarations
   any-zipped : (p q : Declared → Bool) → ((d e : Declared) → DeclaredAlike R d e → q e ≡ p d) →
@@ -136,8 +136,8 @@ module _ (R : ℕ → ℕ → Type 0) (one : IsOneToOne R) where
   parameter-alike x name d e a =
       let taken = taker-alike d e a in
       λ i. (test-alike is_parameters is_parameters-relocated taken i
-          || test-alike is_wrapper is_wrapper-relocated taken i) && same-alike taken x i
-          && names_agree (a.name i) name
+      || test-alike is_wrapper is_wrapper-relocated taken i) && same-alike taken x i
+      && names_agree (a.name i) name
 
   module _ (ds es : List Declared) (z : AllZip (DeclaredAlike R) ds es) where
     beside-alike : (d e : Declared) → DeclaredAlike R d e → (s t : Option Scope) →
@@ -148,8 +148,8 @@ module _ (R : ℕ → ℕ → Type 0) (one : IsOneToOne R) where
     beside-alike d e a (Some s) (Some t) x =
         cond-alike (list_any (is_parameter s d.name) ds) (list_any (is_parameter t e.name) es)
         (ap (λ name. list_any (is_parameter t name) es) a.name
-            ∙ any-zipped (is_parameter s d.name) (is_parameter t d.name) (parameter-alike x d.name)
-            ds es z)
+        ∙ any-zipped (is_parameter s d.name) (is_parameter t d.name) (parameter-alike x d.name)
+        ds es z)
         x (taker-alike d e a)
 
     -- HOMES correspond
@@ -158,9 +158,9 @@ module _ (R : ℕ → ℕ → Type 0) (one : IsOneToOne R) where
     home-alike d e a =
         cond-alike (joins_parameter d.by) (joins_parameter e.by) (ap joins_parameter a.by)
         (beside-alike d e a (parameters_of (from_taker d.by d.scopes))
-            (parameters_of (from_taker e.by e.scopes))
-            (parameters-alike (from_taker d.by d.scopes) (from_taker e.by e.scopes)
-            (takers-alike d e a)))
+        (parameters_of (from_taker e.by e.scopes))
+        (parameters-alike (from_taker d.by d.scopes) (from_taker e.by e.scopes)
+        (takers-alike d e a)))
         (taker-alike d e a)
 
     declared-alike : {s t : Scope} → ScopesAlike R s t → (name : Name) (d e : Declared) →
@@ -172,37 +172,37 @@ module _ (R : ℕ → ℕ → Type 0) (one : IsOneToOne R) where
         declares es t name ≡ declares ds s name
     declares-alike {s = s} {t = t} x name =
         any-zipped (is_declared_in ds s name) (is_declared_in es t name) (declared-alike x name) ds
-            es z
+        es z
 
     pub written-alike : {s t : Scope} → ScopesAlike R s t → (name : Name) →
         is_written_in es t name ≡ is_written_in ds s name
     written-alike {s = s} {t = t} x name =
         any-zipped (λ d. has_identifier d && is_declared_in ds s name d)
-            (λ e. has_identifier e && is_declared_in es t name e)
-            (λ d e a. λ i. is_some (a.name i).ctxt && declared-alike x name d e a i) ds es z
+        (λ e. has_identifier e && is_declared_in es t name e)
+        (λ d e a. λ i. is_some (a.name i).ctxt && declared-alike x name d e a i) ds es z
 
     binds-alike : {s t : Scope} → ScopesAlike R s t → (name : Name) →
         binds es t name ≡ binds ds s name
     binds-alike x name =
         λ i. declares-alike x name i
-            || (is_arguments name.sym
-            && (test-alike is_function is_function-relocated x i
-            && not (declares-alike x (record { sym = codes "arguments"; ctxt = None }) i)))
+        || (is_arguments name.sym
+        && (test-alike is_function is_function-relocated x i
+        && not (declares-alike x (record { sym = codes "arguments"; ctxt = None }) i)))
 
     implied-alike : {s t : Scope} → ScopesAlike R s t → (name : Name) →
         is_implied_in es t name ≡ is_implied_in ds s name
     implied-alike x name =
         λ i. (declares-alike x (without_context name) i
-            && not (written-alike x (without_context name) i))
-            || (is_arguments name.sym && test-alike is_function is_function-relocated x i)
+        && not (written-alike x (without_context name) i))
+        || (is_arguments name.sym && test-alike is_function is_function-relocated x i)
 
     -- inner names are the same
     pub inner_name-alike : (name : Name) → is_inner_name es name ≡ is_inner_name ds name
     inner_name-alike name =
         any-zipped (λ d. not (is_top (home_of ds d)) && names_agree d.name name)
-            (λ e. not (is_top (home_of es e)) && names_agree e.name name)
-            (λ d e a. λ i. not (test-alike is_top is_top-relocated (home-alike d e a) i)
-            && names_agree (a.name i) name) ds es z
+        (λ e. not (is_top (home_of es e)) && names_agree e.name name)
+        (λ d e a. λ i. not (test-alike is_top is_top-relocated (home-alike d e a) i)
+        && names_agree (a.name i) name) ds es z
 
     found-alike : (p q : Scope → Bool) → ((s t : Scope) → ScopesAlike R s t → q t ≡ p s) →
         (ss ts : List Scope) → AllZip (ScopesAlike R) ss ts → BothAlike R (find p ss) (find q ts)
@@ -211,7 +211,7 @@ module _ (R : ℕ → ℕ → Type 0) (one : IsOneToOne R) where
     found-alike p q same (s ∷ ss) [] x = absurd x
     found-alike p q same (s ∷ ss) (t ∷ ts) x =
         subst (λ b. BothAlike R (cond (p s) (Some s) (find p ss)) (cond b (Some t) (find q ts)))
-            (sym (same s t x.0)) (by_test (p s) (found-alike p q same ss ts x.1))
+        (sym (same s t x.0)) (by_test (p s) (found-alike p q same ss ts x.1))
       where
         by_test : (b : Bool) → BothAlike R (find p ss) (find q ts) →
             BothAlike R (cond b (Some s) (find p ss)) (cond b (Some t) (find q ts))
@@ -230,27 +230,27 @@ module _ (R : ℕ → ℕ → Type 0) (one : IsOneToOne R) where
         DenotedAlike R (denoted_by_symbol ds ss name) (denoted_by_symbol es ts name)
     by_symbol-alike ss ts x name =
         bound-alike name (find (λ s. binds ds s name) ss) (find (λ t. binds es t name) ts)
-            (found-alike (λ s. binds ds s name) (λ t. binds es t name)
-            (λ s t y. binds-alike y name) ss ts x)
+        (found-alike (λ s. binds ds s name) (λ t. binds es t name)
+        (λ s t y. binds-alike y name) ss ts x)
 
     pub by_context-alike : (ss ts : List Scope) → AllZip (ScopesAlike R) ss ts → (name : Name) →
         DenotedAlike R (denoted_by_context ds ss name) (denoted_by_context es ts name)
     by_context-alike ss ts x name =
         by_found (find (λ s. is_written_in ds s name) ss) (find (λ t. is_written_in es t name) ts)
-            (found-alike (λ s. is_written_in ds s name) (λ t. is_written_in es t name)
-            (λ s t y. written-alike y name) ss ts x)
+        (found-alike (λ s. is_written_in ds s name) (λ t. is_written_in es t name)
+        (λ s t y. written-alike y name) ss ts x)
       where
         by_context : (b : Bool) →
             DenotedAlike R (cond b (Global name.sym)
-                (bound_in (without_context name) (find (λ s. is_implied_in ds s name) ss)))
-                (cond b (Global name.sym)
-                (bound_in (without_context name) (find (λ t. is_implied_in es t name) ts)))
+            (bound_in (without_context name) (find (λ s. is_implied_in ds s name) ss)))
+            (cond b (Global name.sym)
+            (bound_in (without_context name) (find (λ t. is_implied_in es t name) ts)))
         by_context true = globals
         by_context false =
             bound-alike (without_context name) (find (λ s. is_implied_in ds s name) ss)
-                (find (λ t. is_implied_in es t name) ts)
-                (found-alike (λ s. is_implied_in ds s name) (λ t. is_implied_in es t name)
-                (λ s t y. implied-alike y name) ss ts x)
+            (find (λ t. is_implied_in es t name) ts)
+            (found-alike (λ s. is_implied_in ds s name) (λ t. is_implied_in es t name)
+            (λ s t y. implied-alike y name) ss ts x)
 
         by_found : (s t : Option Scope) → BothAlike R s t →
             DenotedAlike R (written_or_implied ds ss name s) (written_or_implied es ts name t)
@@ -271,51 +271,59 @@ module _ (R : ℕ → ℕ → Type 0) (one : IsOneToOne R) where
         DenotedAlike R (denoted_of reading kind ds o) (denoted_of reading kind es u)
     denoted-alike reading kind o u a =
         subst (λ d. DenotedAlike R (denoted_of reading kind ds o) d)
-            (λ i. own_or_found es
-            (denoted_in reading es (scopes_around kind u.path)
-            (name_of reading (sym a.symbol i) (sym a.ctxt i)))
-            (cond (is_binding (sym a.stands.role i))
-            (declared_by u.place (name_of reading (sym a.symbol i) (sym a.ctxt i))
-            (scopes_around kind u.path) (sym a.stands.way i)) None))
+        (λ i. own_or_found es
+        (denoted_in reading es (scopes_around kind u.path)
+        (name_of reading (sym a.symbol i) (sym a.ctxt i)))
+        (cond (is_binding (sym a.stands.role i))
+        (declared_by u.place (name_of reading (sym a.symbol i) (sym a.ctxt i))
+        (scopes_around kind u.path) (sym a.stands.way i)) None))
         (by_role (is_binding o.role) (way_of o.path))
       where
         by_role : (b : Bool) (way : Option Way) →
             DenotedAlike R (own_or_found ds
-                (denoted_in reading ds (scopes_around kind o.path) (name_of reading o.sym o.ctxt))
-                (cond b (declared_by o.place (name_of reading o.sym o.ctxt)
-                (scopes_around kind o.path) way) None))
-                (own_or_found es (denoted_in reading es (scopes_around kind u.path)
-                (name_of reading o.sym o.ctxt))
-                (cond b (declared_by u.place (name_of reading o.sym o.ctxt)
-                (scopes_around kind u.path) way) None))
+            (denoted_in reading ds (scopes_around kind o.path) (name_of reading o.sym o.ctxt))
+            (cond b (declared_by o.place (name_of reading o.sym o.ctxt)
+            (scopes_around kind o.path) way) None))
+            (own_or_found es (denoted_in reading es (scopes_around kind u.path)
+            (name_of reading o.sym o.ctxt))
+            (cond b (declared_by u.place (name_of reading o.sym o.ctxt)
+            (scopes_around kind u.path) way) None))
         by_role false way =
             in-alike reading (scopes_around kind o.path) (scopes_around kind u.path)
-                a.stands.scopes (name_of reading o.sym o.ctxt)
+            a.stands.scopes (name_of reading o.sym o.ctxt)
         by_role true None =
             in-alike reading (scopes_around kind o.path) (scopes_around kind u.path)
-                a.stands.scopes (name_of reading o.sym o.ctxt)
+            a.stands.scopes (name_of reading o.sym o.ctxt)
         by_role true (Some way) =
             bindings (home-alike
-                (record { place = o.place; name = name_of reading o.sym o.ctxt; by = way;
-                scopes = scopes_around kind o.path })
-                (record { place = u.place; name = name_of reading o.sym o.ctxt; by = way;
-                scopes = scopes_around kind u.path })
-                (record { name = refl; by = refl; scopes = a.stands.scopes }))
+            (record {
+              place = o.place;
+              name = name_of reading o.sym o.ctxt;
+              by = way;
+              scopes = scopes_around kind o.path;
+            })
+            (record {
+              place = u.place;
+              name = name_of reading o.sym o.ctxt;
+              by = way;
+              scopes = scopes_around kind u.path;
+            })
+            (record { name = refl; by = refl; scopes = a.stands.scopes }))
 
     -- a reference that is given another name denotes what that name denotes there
     pub changed-alike : (reading : Reading) (kind : ModuleKind) (o u : Occurrence) →
         StandsAlike R kind o u → is_binding o.role ≡ false →
         DenotedAlike R (denoted_in reading ds (scopes_around kind o.path)
-            (name_of reading u.sym u.ctxt)) (denoted_of reading kind es u)
+        (name_of reading u.sym u.ctxt)) (denoted_of reading kind es u)
     changed-alike reading kind o u a refers =
         subst (DenotedAlike R
-            (denoted_in reading ds (scopes_around kind o.path) (name_of reading u.sym u.ctxt)))
+        (denoted_in reading ds (scopes_around kind o.path) (name_of reading u.sym u.ctxt)))
         (sym (ap (λ b. own_or_found es
-            (denoted_in reading es (scopes_around kind u.path) (name_of reading u.sym u.ctxt))
-            (cond b (declared_by u.place (name_of reading u.sym u.ctxt) (scopes_around kind u.path)
-            (way_of u.path)) None)) (ap is_binding a.role ∙ refers)))
+        (denoted_in reading es (scopes_around kind u.path) (name_of reading u.sym u.ctxt))
+        (cond b (declared_by u.place (name_of reading u.sym u.ctxt) (scopes_around kind u.path)
+        (way_of u.path)) None)) (ap is_binding a.role ∙ refers)))
         (in-alike reading (scopes_around kind o.path) (scopes_around kind u.path) a.scopes
-            (name_of reading u.sym u.ctxt))
+        (name_of reading u.sym u.ctxt))
 
 -- A tree that was rewritten declares alike.
 module _ (R : ℕ → ℕ → Type 0) where
@@ -324,36 +332,36 @@ module _ (R : ℕ → ℕ → Type 0) where
   follows-declared done = tt
   follows-declared (changed {o = o} {u = u} {os = os} {us = us} stands refers rest) =
       subst (λ d. AllZip (DeclaredAlike R) (cons_option d (declared_by_names os))
-          (declared_by_names (u ∷ us))) (sym (declaration-none ByContext o refers))
+      (declared_by_names (u ∷ us))) (sym (declaration-none ByContext o refers))
       (subst (λ d. AllZip (DeclaredAlike R) (declared_by_names os)
-          (cons_option d (declared_by_names us)))
-          (sym (declaration-none ByContext u (ap is_binding stands.role ∙ refers)))
-          (follows-declared rest))
+      (cons_option d (declared_by_names us)))
+      (sym (declaration-none ByContext u (ap is_binding stands.role ∙ refers)))
+      (follows-declared rest))
   follows-declared (added {u = u} {os = os} {us = us} refers rest) =
       subst (λ d. AllZip (DeclaredAlike R) (declared_by_names os)
-          (cons_option d (declared_by_names us))) (sym (declaration-none ByContext u refers))
-          (follows-declared rest)
+      (cons_option d (declared_by_names us))) (sym (declaration-none ByContext u refers))
+      (follows-declared rest)
   follows-declared (dropped {o = o} {os = os} {us = us} refers rest) =
       subst (λ d. AllZip (DeclaredAlike R) (cons_option d (declared_by_names os))
-          (declared_by_names us)) (sym (declaration-none ByContext o refers))
-          (follows-declared rest)
+      (declared_by_names us)) (sym (declaration-none ByContext o refers))
+      (follows-declared rest)
   follows-declared (kept {o = o} {u = u} {os = os} {us = us} seen rest) =
       subst (λ d. AllZip (DeclaredAlike R) (declared_by_names (o ∷ os))
-          (cons_option d (declared_by_names us)))
-          (λ i. cond (is_binding (sym seen.stands.role i))
-          (declared_by u.place (name_of ByContext (sym seen.symbol i) (sym seen.ctxt i))
-          (scopes_around Es u.path) (sym seen.stands.way i)) None)
+      (cons_option d (declared_by_names us)))
+      (λ i. cond (is_binding (sym seen.stands.role i))
+      (declared_by u.place (name_of ByContext (sym seen.symbol i) (sym seen.ctxt i))
+      (scopes_around Es u.path) (sym seen.stands.way i)) None)
       (by_role (is_binding o.role) (way_of o.path) (follows-declared rest))
     where
       by_role : (b : Bool) (way : Option Way) →
           AllZip (DeclaredAlike R) (declared_by_names os) (declared_by_names us) →
           AllZip (DeclaredAlike R)
-              (cons_option (cond b
-              (declared_by o.place (name_of ByContext o.sym o.ctxt) (scopes_around Es o.path) way)
-              None) (declared_by_names os))
-              (cons_option (cond b
-              (declared_by u.place (name_of ByContext o.sym o.ctxt) (scopes_around Es u.path) way)
-              None) (declared_by_names us))
+          (cons_option (cond b
+          (declared_by o.place (name_of ByContext o.sym o.ctxt) (scopes_around Es o.path) way)
+          None) (declared_by_names os))
+          (cons_option (cond b
+          (declared_by u.place (name_of ByContext o.sym o.ctxt) (scopes_around Es u.path) way)
+          None) (declared_by_names us))
       by_role false way ih = ih
       by_role true None ih = ih
       by_role true (Some way) ih =
@@ -368,23 +376,23 @@ module _ (R : ℕ → ℕ → Type 0) (one : IsOneToOne R) (before after : List 
   declared-follow : AllZip (DeclaredAlike R) (own_declared before) (own_declared after)
   declared-follow =
       subst (λ ds. AllZip (DeclaredAlike R) ds (own_declared after))
-          (sym (declared-item before named))
-          (subst (AllZip (DeclaredAlike R)
-          (declared_by_names (occurrences (tree_of_items before))))
-          (sym (declared-item after after_named)) (follows-declared R follows))
+      (sym (declared-item before named))
+      (subst (AllZip (DeclaredAlike R)
+      (declared_by_names (occurrences (tree_of_items before))))
+      (sym (declared-item after after_named)) (follows-declared R follows))
 
   pub kept-denotes : (o u : Occurrence) → SeenAlike R Es o u →
       DenotedAlike R (own_denoted before o) (own_denoted after u)
   kept-denotes o u seen =
       denoted-alike R one (own_declared before) (own_declared after) declared-follow ByContext Es o
-          u seen
+      u seen
 
   pub changed-denotes : (o u : Occurrence) → StandsAlike R Es o u → is_binding o.role ≡ false →
       DenotedAlike R (denoted_by_context (own_declared before) (scopes_around Es o.path)
-          (name_of ByContext u.sym u.ctxt)) (own_denoted after u)
+      (name_of ByContext u.sym u.ctxt)) (own_denoted after u)
   changed-denotes o u stands refers =
       changed-alike R one (own_declared before) (own_declared after) declared-follow ByContext Es o
-          u stands refers
+      u stands refers
 
   pub same-inner_names : (name : Name) →
       is_inner_name (own_declared after) name ≡ is_inner_name (own_declared before) name

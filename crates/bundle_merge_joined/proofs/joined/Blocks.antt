@@ -58,12 +58,12 @@ housed item i o e = by_item (slice_get item o.place) refl (occurrences-at item i
     by_item None at is = absurd (none-some o is)
     by_item (Some x) at is =
         let it = other-spot (spot_before item o.place)
-            (spot_before (tree_of_items item) (suc o.place)) x o is in
+        (spot_before (tree_of_items item) (suc o.place)) x o is in
         record {
           u = it.0;
           at =
               ap (option_and_then (occurrence_of (spot_before (tree_of_items item) (suc o.place))))
-                  (get-left item (h.Close ∷ []) o.place x at)
+              (get-left item (h.Close ∷ []) o.place x at)
               ∙ it.1;
           symbol = it.2;
           ctxt = it.3;
@@ -78,7 +78,7 @@ listed-at item o it = occurrence_at-listed (tree_of_items item) (suc o.place) it
 abbrev in_whole : List (List Item) → ℕ → List Item → Occurrence → Denoted
 in_whole items m item u =
     denoted_in_whole (is_top_name items (its_name u)) (offset items m) (its_name u)
-        (own_denoted item u)
+    (own_denoted item u)
 
 denotes-in : (items : List (List Item)) → AllOf IsWhole items → AllOf IsNamed items →
     (top : TopItem) → (placed : IsPlaced items top) → (o : Occurrence) →
@@ -87,7 +87,7 @@ denotes-in : (items : List (List Item)) → AllOf IsWhole items → AllOf IsName
 denotes-in items whole named top placed o it =
     let start = placed.start in
     let place : top.start + o.place ≡ suc (offset items placed.m + o.place) =
-        omega (arith, start) in
+    omega (arith, start) in
     ap (denoted_at ByContext Es (joined items)) place
     ∙ denoted-joined items whole named placed.m top.items placed.there o.place it.below
     ∙ ap (option_map (in_whole items placed.m top.items)) it.at
@@ -121,17 +121,17 @@ pair item o t u k l (written (Inner kind begins) at is) more =
     neither (ne_eqb _ _ (λ same. omega (arith, same))) (ne_eqb _ _ (λ same. omega (arith, same)))
 pair item o true u k l (implicit scope at other fun) more =
     subst (λ u. Pair (its_name o) true
-        (denoted_in_whole true k (its_name o) (Bound scope (without_context (its_name o))))
-        (denoted_in_whole u l (its_name o) (Bound scope (without_context (its_name o)))))
-        (sym (more refl)) (both (its_name o))
+    (denoted_in_whole true k (its_name o) (Bound scope (without_context (its_name o))))
+    (denoted_in_whole u l (its_name o) (Bound scope (without_context (its_name o)))))
+    (sym (more refl)) (both (its_name o))
 pair item o false true k l (implicit scope at other fun) more =
     second (inner-top k scope (without_context (its_name o)) fun) refl
 pair item o false false k l (implicit scope at other fun) more =
     neither (inner-top k scope (without_context (its_name o)) fun)
-        (inner-top l scope (without_context (its_name o)) fun)
+    (inner-top l scope (without_context (its_name o)) fun)
 pair item o true u k l unbound more =
     subst (λ u. Pair (its_name o) true (denoted_in_whole true k (its_name o) (Global o.sym))
-        (denoted_in_whole u l (its_name o) (Global o.sym))) (sym (more refl)) (both (its_name o))
+    (denoted_in_whole u l (its_name o) (Global o.sym))) (sym (more refl)) (both (its_name o))
 pair item o false true k l unbound more = second refl refl
 pair item o false false k l unbound more = neither refl refl
 
@@ -139,7 +139,7 @@ pair item o false false k l unbound more = neither refl refl
 from-view : (item : List Item) (o : Occurrence) {d : Denoted} → Viewed item o d →
     is_written d ≡ true →
     (scope : Scope) × (d ≡ Bound scope (its_name o))
-        × (is_written_in (own_declared item) scope (its_name o) ≡ true)
+    × (is_written_in (own_declared item) scope (its_name o) ≡ true)
 from-view item o (written scope at is) e = (scope, refl, is)
 from-view item o (implicit scope at other fun) e = absurd (false≢true e)
 from-view item o unbound e = absurd (false≢true e)
@@ -147,19 +147,19 @@ from-view item o unbound e = absurd (false≢true e)
 own-written : (item : List Item) → IsNamed item → (o : Occurrence) → IsListedIn item o →
     is_binding o.role ≡ true → (way_of o.path ≡ None → ⊥) →
     (scope : Scope) × (own_denoted item o ≡ Bound scope (its_name o))
-        × (is_written_in (own_declared item) scope (its_name o) ≡ true)
+    × (is_written_in (own_declared item) scope (its_name o) ≡ true)
 own-written item named o listed binds some =
     from-view item o (viewed item named o listed)
-        (ap (λ b. is_written
-        (own_or_found (own_declared item)
-        (denoted_by_context (own_declared item) (scopes_around Es o.path) (its_name o))
-        (cond b (declared_by o.place (its_name o) (scopes_around Es o.path) (way_of o.path))
-        None))) binds ∙ by_way (way_of o.path) some)
+    (ap (λ b. is_written
+    (own_or_found (own_declared item)
+    (denoted_by_context (own_declared item) (scopes_around Es o.path) (its_name o))
+    (cond b (declared_by o.place (its_name o) (scopes_around Es o.path) (way_of o.path))
+    None))) binds ∙ by_way (way_of o.path) some)
   where
     by_way : (way : Option Way) → (way ≡ None → ⊥) →
         is_written (own_or_found (own_declared item)
-            (denoted_by_context (own_declared item) (scopes_around Es o.path) (its_name o))
-            (declared_by o.place (its_name o) (scopes_around Es o.path) way)) ≡ true
+        (denoted_by_context (own_declared item) (scopes_around Es o.path) (its_name o))
+        (declared_by o.place (its_name o) (scopes_around Es o.path) way)) ≡ true
     by_way None absent = absurd (absent refl)
     by_way (Some way) absent = refl
 
@@ -168,18 +168,18 @@ all-top : (tree : List Item) (tops : List TopItem) (x : Denoted) →
     Contains (mentioned ByContext Top tree tops) x → is_of_scope Top x ≡ true
 all-top tree tops x there =
     ((Contains-filter (is_of_scope Top)
-        (flat_map (λ item. filter_map (denoted_in ByContext tree item) (occurrences item.items))
-        tops) x).0 (once-from
-        (filter (is_of_scope Top)
-        (flat_map (λ item. filter_map (denoted_in ByContext tree item) (occurrences item.items))
-        tops)) x there)).1
+    (flat_map (λ item. filter_map (denoted_in ByContext tree item) (occurrences item.items))
+    tops) x).0 (once-from
+    (filter (is_of_scope Top)
+    (flat_map (λ item. filter_map (denoted_in ByContext tree item) (occurrences item.items))
+    tops)) x there)).1
 
 in-filter_map : {A : Type 0} (f : A → Option Denoted) (xs : List A) (i : ℕ) (x : A) (d : Denoted) →
     slice_get xs i ≡ Some x → f x ≡ Some d → Contains (filter_map f xs) d
 in-filter_map f [] i x d at is = absurd (none-some x at)
 in-filter_map f (y ∷ xs) zero x d at is =
     subst (λ o. Contains (cons_option o (filter_map f xs)) d) (sym (ap f (same_Some y x at) ∙ is))
-        ((Contains-cons d (filter_map f xs) d).1 (inl refl))
+    ((Contains-cons d (filter_map f xs) d).1 (inl refl))
 in-filter_map f (y ∷ xs) (suc i) x d at is = by_first (f y) (in-filter_map f xs i x d at is)
   where
     by_first : (first : Option Denoted) → Contains (filter_map f xs) d →
@@ -188,31 +188,33 @@ in-filter_map f (y ∷ xs) (suc i) x d at is = by_first (f y) (in-filter_map f x
     by_first (Some e) there = (Contains-cons e (filter_map f xs) d).1 (inr there)
 
 in-flat_map : (f : TopItem → List Denoted) (tops : List TopItem) (s : ℕ) (top : TopItem)
-        (d : Denoted) →
+    (d : Denoted) →
     slice_get tops s ≡ Some top → Contains (f top) d → Contains (flat_map f tops) d
 in-flat_map f [] s top d at there = absurd (none-some top at)
 in-flat_map f (x ∷ tops) zero top d at there =
     Contains-append_left (f x) (flat_map f tops) d
-        (subst (λ t. Contains (f t) d) (sym (same_Some x top at)) there)
+    (subst (λ t. Contains (f t) d) (sym (same_Some x top at)) there)
 in-flat_map f (x ∷ tops) (suc s) top d at there =
     Contains-append_right (f x) (flat_map f tops) d (in-flat_map f tops s top d at there)
 
 in-mentioned : (tree : List Item) (tops : List TopItem) (s i : ℕ) (top : TopItem) (o : Occurrence)
-        (name : Name) →
+    (name : Name) →
     slice_get tops s ≡ Some top → slice_get (occurrences top.items) i ≡ Some o →
     denoted_in ByContext tree top o ≡ Some (Bound Top name) →
     Contains (mentioned ByContext Top tree tops) (Bound Top name)
 in-mentioned tree tops s i top o name at there denotes =
     once-keeps (filter (is_of_scope Top)
-        (flat_map (λ item. filter_map (denoted_in ByContext tree item) (occurrences item.items))
-        tops)) name
+    (flat_map (λ item. filter_map (denoted_in ByContext tree item) (occurrences item.items))
+    tops)) name
     ((Contains-filter (is_of_scope Top)
-        (flat_map (λ item. filter_map (denoted_in ByContext tree item) (occurrences item.items))
-        tops) (Bound Top name)).1
-    (in-flat_map (λ item. filter_map (denoted_in ByContext tree item) (occurrences item.items))
-        tops s top (Bound Top name) at
-        (in-filter_map (denoted_in ByContext tree top) (occurrences top.items) i o (Bound Top name)
-        there denotes), refl))
+    (flat_map (λ item. filter_map (denoted_in ByContext tree item) (occurrences item.items))
+    tops) (Bound Top name)).1 (
+      in-flat_map (λ item. filter_map (denoted_in ByContext tree item) (occurrences item.items))
+          tops s top (Bound Top name) at
+          (in-filter_map (denoted_in ByContext tree top) (occurrences top.items) i o (Bound Top name)
+          there denotes),
+      refl,
+    ))
 
 -- what is not of the top has no number
 no-position : (tree : List Item) (tops : List TopItem) (d : Denoted) → is_of_scope Top d ≡ false →
@@ -221,7 +223,7 @@ no-position tree tops d other =
     position-none (same_denoted d) (mentioned ByContext Top tree tops) (λ x there same.
     let top = is_top-of x (all-top tree tops x there) in
     false≢true (sym other
-        ∙ ap (is_of_scope Top) (same-top top.0 d (ap (same_denoted d) (sym top.1) ∙ same))))
+    ∙ ap (is_of_scope Top) (same-top top.0 d (ap (same_denoted d) (sym top.1) ∙ same))))
 
 -- A call of `Object.assign`.
 
@@ -249,22 +251,22 @@ assign-same : (test other : ℕ → Bool) (item : List Item) →
 assign-same test other item same [] = refl
 assign-same test other item same (node ∷ outer) =
     ap (λ b. b || is_in_assign_of test item outer)
-        (by_text (property_of (node_at item (node.begins + 1))) refl
-        (is_call_head node.head && node.field == 1))
+    (by_text (property_of (node_at item (node.begins + 1))) refl
+    (is_call_head node.head && node.field == 1))
     ∙ ap (λ b. (is_call_head node.head && node.field == 1
-        && is_text (codes "assign") (property_of (node_at item (node.begins + 1)))
-        && other (node.begins + 2)) || b) (assign-same test other item same outer)
+    && is_text (codes "assign") (property_of (node_at item (node.begins + 1)))
+    && other (node.begins + 2)) || b) (assign-same test other item same outer)
   where
     by_text : (x : Option (List ℕ)) → property_of (node_at item (node.begins + 1)) ≡ x →
         (front : Bool) →
         (front && is_text (codes "assign") x && test (node.begins + 2))
-            ≡ (front && is_text (codes "assign") x && other (node.begins + 2))
+        ≡ (front && is_text (codes "assign") x && other (node.begins + 2))
     by_text None e true = refl
     by_text None e false = refl
     by_text (Some y) e front =
         let within = property-within item (node.begins + 1) y e in
-            ap (λ b. front && bytes_eq (codes "assign") y && b)
-            (same (node.begins + 2) (omega (arith, within)))
+        ap (λ b. front && bytes_eq (codes "assign") y && b)
+        (same (node.begins + 2) (omega (arith, within)))
 
 -- The global `Object`.
 
@@ -278,17 +280,17 @@ object_told items m item (Some u) =
 object-at : (items : List (List Item)) → AllOf IsWhole items → AllOf IsNamed items →
     (top : TopItem) → (placed : IsPlaced items top) → (p : ℕ) → p < length top.items →
     is_object_at ByContext (joined items) (top.start + p)
-        ≡ object_told items placed.m top.items (occurrence_at (tree_of_items top.items) (suc p))
+    ≡ object_told items placed.m top.items (occurrence_at (tree_of_items top.items) (suc p))
 object-at items whole named top placed p lt =
     ap (is_object_at ByContext (joined items)) place
     ∙ ap (λ d. is_global_named (codes "Object") d
-        && is_of_nothing ByContext
-        (occurrence_at (joined items) (suc (offset items placed.m + p))))
-        (denoted-joined items whole named placed.m top.items placed.there p lt)
+    && is_of_nothing ByContext
+    (occurrence_at (joined items) (suc (offset items placed.m + p))))
+    (denoted-joined items whole named placed.m top.items placed.there p lt)
     ∙ ap (λ o. is_global_named (codes "Object")
-        (option_map (in_whole items placed.m top.items)
-        (occurrence_at (tree_of_items top.items) (suc p))) && is_of_nothing ByContext o)
-        (occurrence-placed items whole placed.m top.items placed.there p lt)
+    (option_map (in_whole items placed.m top.items)
+    (occurrence_at (tree_of_items top.items) (suc p))) && is_of_nothing ByContext o)
+    (occurrence-placed items whole placed.m top.items placed.there p lt)
     ∙ by_occurrence (occurrence_at (tree_of_items top.items) (suc p))
   where
     place : top.start + p ≡ suc (offset items placed.m + p)
@@ -296,18 +298,18 @@ object-at items whole named top placed p lt =
 
     by_occurrence : (o : Option Occurrence) →
         (is_global_named (codes "Object") (option_map (in_whole items placed.m top.items) o)
-            && is_of_nothing ByContext (option_map (moved_occurrence (offset items placed.m)) o))
-            ≡ object_told items placed.m top.items o
+        && is_of_nothing ByContext (option_map (moved_occurrence (offset items placed.m)) o))
+        ≡ object_told items placed.m top.items o
     by_occurrence None = refl
     by_occurrence (Some u) = refl
 
 -- it is the same in two wholes, if in both or in neither some item declares it
 object-same : (items others : List (List Item)) (m n : ℕ) (item : List Item) → IsNamed item →
     is_top_name others (name_of ByContext (codes "Object") 1)
-        ≡ is_top_name items (name_of ByContext (codes "Object") 1) →
+    ≡ is_top_name items (name_of ByContext (codes "Object") 1) →
     (p : ℕ) →
     object_told items m item (occurrence_at (tree_of_items item) p)
-        ≡ object_told others n item (occurrence_at (tree_of_items item) p)
+    ≡ object_told others n item (occurrence_at (tree_of_items item) p)
 object-same items others m n item named object p =
     by_occurrence (occurrence_at (tree_of_items item) p) refl
   where
@@ -318,26 +320,26 @@ object-same items others m n item named object p =
 
     by_view : (u : Occurrence) {d : Denoted} → Viewed item u d → (u.ctxt == 1) ≡ true →
         is_global_named (codes "Object")
-            (Some (denoted_in_whole (is_top_name items (its_name u)) (offset items m) (its_name u)
-            d)) ≡ is_global_named (codes "Object")
-            (Some (denoted_in_whole (is_top_name others (its_name u)) (offset others n)
-            (its_name u) d))
+        (Some (denoted_in_whole (is_top_name items (its_name u)) (offset items m) (its_name u)
+        d)) ≡ is_global_named (codes "Object")
+        (Some (denoted_in_whole (is_top_name others (its_name u)) (offset others n)
+        (its_name u) d))
     by_view u (written scope at is) one = refl
     by_view u (implicit scope at other fun) one = absurd (false≢true (sym other ∙ one))
     by_view u unbound one = by_symbol (bytes_eq (codes "Object") u.sym) refl
       where
         is_no : (t : Bool) → bytes_eq (codes "Object") u.sym ≡ false →
             is_global_named (codes "Object")
-                (Some (cond t (Bound Top (its_name u)) (Global u.sym))) ≡ false
+            (Some (cond t (Bound Top (its_name u)) (Global u.sym))) ≡ false
         is_no true e = refl
         is_no false e = e
 
         by_symbol : (b : Bool) → bytes_eq (codes "Object") u.sym ≡ b →
             is_global_named (codes "Object")
-                (Some (cond (is_top_name items (its_name u)) (Bound Top (its_name u))
-                (Global u.sym))) ≡ is_global_named (codes "Object")
-                (Some (cond (is_top_name others (its_name u)) (Bound Top (its_name u))
-                (Global u.sym)))
+            (Some (cond (is_top_name items (its_name u)) (Bound Top (its_name u))
+            (Global u.sym))) ≡ is_global_named (codes "Object")
+            (Some (cond (is_top_name others (its_name u)) (Bound Top (its_name u))
+            (Global u.sym)))
         by_symbol false e =
             is_no (is_top_name items (its_name u)) e
             ∙ sym (is_no (is_top_name others (its_name u)) e)
@@ -345,15 +347,15 @@ object-same items others m n item named object p =
             let symbol : codes "Object" ≡ u.sym = (bytes_eq-Decides (codes "Object") u.sym).0 e in
             let ctxt : 1 ≡ u.ctxt = sym (eqb-true u.ctxt 1 one) in
             let name : name_of ByContext (codes "Object") 1 ≡ its_name u =
-                λ i. name_of ByContext (symbol i) (ctxt i) in
+            λ i. name_of ByContext (symbol i) (ctxt i) in
             let same : is_top_name items (its_name u) ≡ is_top_name others (its_name u) =
-                ap (is_top_name items) (sym name) ∙ sym object ∙ ap (is_top_name others) name in
+            ap (is_top_name items) (sym name) ∙ sym object ∙ ap (is_top_name others) name in
             ap (λ t. is_global_named (codes "Object")
-                (Some (cond t (Bound Top (its_name u)) (Global u.sym)))) same
+            (Some (cond t (Bound Top (its_name u)) (Global u.sym)))) same
 
     by_context : (u : Occurrence) → IsListedIn item u → (b : Bool) → (u.ctxt == 1) ≡ b →
         (is_global_named (codes "Object") (Some (in_whole items m item u)) && b)
-            ≡ (is_global_named (codes "Object") (Some (in_whole others n item u)) && b)
+        ≡ (is_global_named (codes "Object") (Some (in_whole others n item u)) && b)
     by_context u listed true one = ap (λ g. g && true) (by_view u (viewed item named u listed) one)
     by_context u listed false one =
         fails (is_global_named (codes "Object") (Some (in_whole items m item u)))
@@ -376,61 +378,63 @@ beside : (tops its : List TopItem) →
     (n : ℕ) × (slice_get its s ≡ Some (record { start = n; items = top.items }))
 beside tops its same s top at =
     let found = get-map (λ (top : TopItem). top.items) its s top.items
-        (ap (λ l. slice_get l s) (sym same) ∙ map-get (λ (top : TopItem). top.items) tops s top at)
-        in
-    (found.0.start, found.1
-        ∙ (λ i. Some (record { start = found.0.start; items = sym found.2 i })))
+    (ap (λ l. slice_get l s) (sym same) ∙ map-get (λ (top : TopItem). top.items) tops s top at)
+    in (
+      found.0.start,
+      found.1
+          ∙ (λ i. Some (record { start = found.0.start; items = sym found.2 i })),
+    )
 
 -- a mention of a group is one of an identifier of an item
 pub record MentionOf (tree : List Item) (tops : List TopItem) (s i : ℕ) (x : Mention) : Type 0
-    where
-  pub top : TopItem
-  pub at : slice_get tops s ≡ Some top
-  pub o : Occurrence
-  pub there : slice_get (occurrences top.items) i ≡ Some o
-  pub is : x ≡ mention_of ByContext tree (mentioned ByContext Top tree tops) top o
+  where
+    pub top : TopItem
+    pub at : slice_get tops s ≡ Some top
+    pub o : Occurrence
+    pub there : slice_get (occurrences top.items) i ≡ Some o
+    pub is : x ≡ mention_of ByContext tree (mentioned ByContext Top tree tops) top o
 
 mention-found : (tree : List Item) (tops : List TopItem) (owners : List (Option ℕ)) (s i : ℕ)
-        (x : Mention) →
+    (x : Mention) →
     mention_at (group_of ByContext Top tree tops owners) s i ≡ Some x → MentionOf tree tops s i x
 mention-found tree tops owners s i x e =
     by_item (slice_get
-        (map (λ item. map (mention_of ByContext tree (mentioned ByContext Top tree tops) item)
-        (occurrences item.items)) tops) s) refl e
+    (map (λ item. map (mention_of ByContext tree (mentioned ByContext Top tree tops) item)
+    (occurrences item.items)) tops) s) refl e
   where
     by_item : (mentions : Option (List Mention)) →
         slice_get (map (λ item. map
-            (mention_of ByContext tree (mentioned ByContext Top tree tops) item)
-            (occurrences item.items)) tops) s ≡ mentions →
+        (mention_of ByContext tree (mentioned ByContext Top tree tops) item)
+        (occurrences item.items)) tops) s ≡ mentions →
         option_and_then (λ (m : List Mention). slice_get m i) mentions ≡ Some x →
         MentionOf tree tops s i x
     by_item None at is = absurd (none-some x is)
     by_item (Some mentions) at is =
         let it = get-map (λ item. map
-            (mention_of ByContext tree (mentioned ByContext Top tree tops) item)
-            (occurrences item.items)) tops s mentions at in
+        (mention_of ByContext tree (mentioned ByContext Top tree tops) item)
+        (occurrences item.items)) tops s mentions at in
         let o = get-map (mention_of ByContext tree (mentioned ByContext Top tree tops) it.0)
-            (occurrences it.0.items) i x (ap (λ m. slice_get m i) (sym it.2) ∙ is) in
+        (occurrences it.0.items) i x (ap (λ m. slice_get m i) (sym it.2) ∙ is) in
         record { top = it.0; at = it.1; o = o.0; there = o.1; is = o.2 }
 
 mention-there : (tree : List Item) (tops : List TopItem) (owners : List (Option ℕ)) (s i : ℕ)
-        (top : TopItem) (o : Occurrence) →
+    (top : TopItem) (o : Occurrence) →
     slice_get tops s ≡ Some top → slice_get (occurrences top.items) i ≡ Some o →
     mention_at (group_of ByContext Top tree tops owners) s i
-        ≡ Some (mention_of ByContext tree (mentioned ByContext Top tree tops) top o)
+    ≡ Some (mention_of ByContext tree (mentioned ByContext Top tree tops) top o)
 mention-there tree tops owners s i top o at there =
     ap (option_and_then (λ (m : List Mention). slice_get m i))
-        (map-get (λ item. map (mention_of ByContext tree (mentioned ByContext Top tree tops) item)
-        (occurrences item.items)) tops s top at)
+    (map-get (λ item. map (mention_of ByContext tree (mentioned ByContext Top tree tops) item)
+    (occurrences item.items)) tops s top at)
     ∙ map-get (mention_of ByContext tree (mentioned ByContext Top tree tops) top)
-        (occurrences top.items) i o there
+    (occurrences top.items) i o there
 
 -- the number of what an identifier denotes
 number-is : (tree : List Item) (tops : List TopItem) (top : TopItem) (o : Occurrence) (d : Denoted)
-        →
+    →
     denoted_in ByContext tree top o ≡ Some d →
     (mention_of ByContext tree (mentioned ByContext Top tree tops) top o).top
-        ≡ position (same_denoted d) (mentioned ByContext Top tree tops)
+    ≡ position (same_denoted d) (mentioned ByContext Top tree tops)
 number-is tree tops top o d e =
     ap (option_and_then (λ d. position (same_denoted d) (mentioned ByContext Top tree tops))) e
 
@@ -443,19 +447,19 @@ name_in (Global x) = record { sym = x; ctxt = None }
 top-told_by : (item : List Item) (o : Occurrence) (name : Name) (t : Bool) (k : ℕ) {d : Denoted} →
     Viewed item o d → denoted_in_whole t k (its_name o) d ≡ Bound Top name →
     (its_name o ≡ name)
-        × (((is_written d ≡ false) × (t ≡ true))
-        ⊎ (is_written_in (own_declared item) Top name ≡ true))
+    × (((is_written d ≡ false) × (t ≡ true))
+    ⊎ (is_written_in (own_declared item) Top name ≡ true))
 top-told_by item o name t k (written Wrapper at is) e = absurd at
 top-told_by item o name t k (written Top at is) e =
     let same = ap name_in e in
-        (same, inr (ap (is_written_in (own_declared item) Top) (sym same) ∙ is))
+    (same, inr (ap (is_written_in (own_declared item) Top) (sym same) ∙ is))
 top-told_by item o name t k (written (Inner kind begins) at is) e =
     absurd (false≢true (sym (top-no k (Inner kind begins) (its_name o) refl)
-        ∙ ap (is_of_scope Top) e))
+    ∙ ap (is_of_scope Top) e))
 top-told_by item o name true k (implicit scope at other fun) e = (ap name_in e, inl (refl, refl))
 top-told_by item o name false k (implicit scope at other fun) e =
     absurd (false≢true (sym (inner-top k scope (without_context (its_name o)) fun)
-        ∙ ap (is_of_scope Top) e))
+    ∙ ap (is_of_scope Top) e))
 top-told_by item o name true k unbound e = (ap name_in e, inl (refl, refl))
 top-told_by item o name false k unbound e = absurd (false≢true (ap (is_of_scope Top) e))
 
@@ -480,7 +484,7 @@ module _ (items others : List (List Item)) (whole : AllOf IsWhole items)
   abbrev pub Corresponds : ℕ → ℕ → Type 0
   Corresponds b c =
       (d : Denoted) × (position (same_denoted d) ms ≡ Some b)
-          × (position (same_denoted d) ns ≡ Some c)
+      × (position (same_denoted d) ns ≡ Some c)
 
   abbrev twin : ℕ → TopItem → TopItem
   twin n top = record { start = n; items = top.items }
@@ -492,82 +496,82 @@ module _ (items others : List (List Item)) (whole : AllOf IsWhole items)
       let top = picked.all found.0 found.1 found.2 in
       let other = beside tops its picked.same top.0 top.1 top.2 in
       let placed = all-at (IsPlaced others) its top.0 (twin other.0 top.1) picked.its_placed
-          other.1 in
+      other.1 in
       list_any-here (λ item. is_written_in (own_declared item) Top name) others placed.m
-          top.1.items placed.there (ap (λ item. is_written_in (own_declared item) Top name) top.3
-          ∙ found.3)
+      top.1.items placed.there (ap (λ item. is_written_in (own_declared item) Top name) top.3
+      ∙ found.3)
 
   -- an identifier that binds, with the number of a binding of the second top
   module _ (t j : ℕ) (top : TopItem) (o : Occurrence) (at : slice_get its t ≡ Some top)
       (there : slice_get (occurrences top.items) j ≡ Some o) (binds : is_binding o.role ≡ true)
-      where
-    its_home : Housed top.items o
-    its_home = housed top.items j o there
+    where
+      its_home : Housed top.items o
+      its_home = housed top.items j o there
 
-    its_place : IsPlaced others top
-    its_place = all-at (IsPlaced others) its t top picked.its_placed at
+      its_place : IsPlaced others top
+      its_place = all-at (IsPlaced others) its t top picked.its_placed at
 
-    its_first : (m : ℕ) × (slice_get items m ≡ Some top.items)
-    its_first =
-        let back = beside its tops (sym picked.same) t top at in
-            let first = all-at (IsPlaced items) tops t (twin back.0 top) picked.placed back.1 in
-            (first.m, first.there)
+      its_first : (m : ℕ) × (slice_get items m ≡ Some top.items)
+      its_first =
+          let back = beside its tops (sym picked.same) t top at in
+          let first = all-at (IsPlaced items) tops t (twin back.0 top) picked.placed back.1 in
+          (first.m, first.there)
 
-    its_listed : IsListedIn top.items its_home.u
-    its_listed = listed-at top.items o its_home
+      its_listed : IsListedIn top.items its_home.u
+      its_listed = listed-at top.items o its_home
 
-    its_named : IsNamed top.items
-    its_named = all-at IsNamed others its_place.m top.items other_named its_place.there
+      its_named : IsNamed top.items
+      its_named = all-at IsNamed others its_place.m top.items other_named its_place.there
 
-    its_denoted : denoted_in ByContext (joined others) top o
-            ≡ Some (in_whole others its_place.m top.items its_home.u)
-    its_denoted = denotes-in others other_whole other_named top its_place o its_home
+      its_denoted : denoted_in ByContext (joined others) top o
+          ≡ Some (in_whole others its_place.m top.items its_home.u)
+      its_denoted = denotes-in others other_whole other_named top its_place o its_home
 
-    its_binding : is_binding its_home.u.role ≡ true
-    its_binding = ap is_binding its_home.role ∙ binds
+      its_binding : is_binding its_home.u.role ≡ true
+      its_binding = ap is_binding its_home.role ∙ binds
 
-    declared-first : (name : Name) (c : ℕ) → position (same_denoted (Bound Top name)) ns ≡ Some c →
-        (mention_of ByContext (joined others) ns top o).top ≡ Some c →
-        is_top_name items name ≡ false → ⊥
-    declared-first name c number its_number none =
-        by_kind told.1 (let back = beside its tops (sym picked.same) t top at in
-            binds_own t (twin back.0 top) back.1 its_home.u its_listed its_binding)
-      where
-        told : (its_name its_home.u ≡ name)
-                × (((is_written (own_denoted top.items its_home.u) ≡ false)
-                × (is_top_name others (its_name its_home.u) ≡ true))
-                ⊎ (is_written_in (own_declared top.items) Top name ≡ true))
-        told =
-            top-told_by top.items its_home.u name (is_top_name others (its_name its_home.u))
-                (offset others its_place.m) (viewed top.items its_named its_home.u its_listed)
-            (position-one ns (all-top (joined others) its)
-                (in_whole others its_place.m top.items its_home.u) (Bound Top name) c
-            (sym (number-is (joined others) its top o
-                (in_whole others its_place.m top.items its_home.u) its_denoted)
-                ∙ its_number) number)
+      declared-first : (name : Name) (c : ℕ) → position (same_denoted (Bound Top name)) ns ≡ Some c →
+          (mention_of ByContext (joined others) ns top o).top ≡ Some c →
+          is_top_name items name ≡ false → ⊥
+      declared-first name c number its_number none =
+          by_kind told.1 (let back = beside its tops (sym picked.same) t top at in
+          binds_own t (twin back.0 top) back.1 its_home.u its_listed its_binding)
+        where
+          told : (its_name its_home.u ≡ name)
+              × (((is_written (own_denoted top.items its_home.u) ≡ false)
+              × (is_top_name others (its_name its_home.u) ≡ true))
+              ⊎ (is_written_in (own_declared top.items) Top name ≡ true))
+          told =
+              top-told_by top.items its_home.u name (is_top_name others (its_name its_home.u))
+              (offset others its_place.m) (viewed top.items its_named its_home.u its_listed)
+              (position-one ns (all-top (joined others) its)
+              (in_whole others its_place.m top.items its_home.u) (Bound Top name) c
+              (sym (number-is (joined others) its top o
+              (in_whole others its_place.m top.items its_home.u) its_denoted)
+              ∙ its_number) number)
 
-        by_way : (is_written (own_denoted top.items its_home.u) ≡ false)
-                × (is_top_name others (its_name its_home.u) ≡ true) →
-            (way_of its_home.u.path ≡ None → ⊥)
-                ⊎ (is_top_name others (its_name its_home.u) ≡ true →
-                is_top_name items (its_name its_home.u) ≡ true) →
-            ⊥
-        by_way is (inl some) =
-            let own = own-written top.items its_named its_home.u its_listed its_binding some in
-                false≢true (sym is.0 ∙ ap is_written own.1)
-        by_way is (inr own) =
-            false≢true (sym none ∙ ap (is_top_name items) (sym told.0) ∙ own is.1)
+          by_way : (is_written (own_denoted top.items its_home.u) ≡ false)
+              × (is_top_name others (its_name its_home.u) ≡ true) →
+              (way_of its_home.u.path ≡ None → ⊥)
+              ⊎ (is_top_name others (its_name its_home.u) ≡ true →
+              is_top_name items (its_name its_home.u) ≡ true) →
+              ⊥
+          by_way is (inl some) =
+              let own = own-written top.items its_named its_home.u its_listed its_binding some in
+              false≢true (sym is.0 ∙ ap is_written own.1)
+          by_way is (inr own) =
+              false≢true (sym none ∙ ap (is_top_name items) (sym told.0) ∙ own is.1)
 
-        by_kind : ((is_written (own_denoted top.items its_home.u) ≡ false)
-                × (is_top_name others (its_name its_home.u) ≡ true))
-                ⊎ (is_written_in (own_declared top.items) Top name ≡ true) →
-            (way_of its_home.u.path ≡ None → ⊥)
-                ⊎ (is_top_name others (its_name its_home.u) ≡ true →
-                is_top_name items (its_name its_home.u) ≡ true) →
-            ⊥
-        by_kind (inl is) way = by_way is way
-        by_kind (inr is) way =
-            false≢true (sym (own-top items its_first.0 top.items name its_first.1 none) ∙ is)
+          by_kind : ((is_written (own_denoted top.items its_home.u) ≡ false)
+              × (is_top_name others (its_name its_home.u) ≡ true))
+              ⊎ (is_written_in (own_declared top.items) Top name ≡ true) →
+              (way_of its_home.u.path ≡ None → ⊥)
+              ⊎ (is_top_name others (its_name its_home.u) ≡ true →
+              is_top_name items (its_name its_home.u) ≡ true) →
+              ⊥
+          by_kind (inl is) way = by_way is way
+          by_kind (inr is) way =
+              false≢true (sym (own-top items its_first.0 top.items name its_first.1 none) ∙ is)
 
   -- a name that no item of the first whole declares is declared by none of these items
   loose-second : (name : Name) (c : ℕ) → is_top_name items name ≡ false →
@@ -576,7 +580,7 @@ module _ (items others : List (List Item)) (whole : AllOf IsWhole items)
   loose-second name c none number t (j, y, d) =
       let it = mention-found (joined others) its owners t j y d.there in
       declared-first t j it.top it.o it.at it.there (sym (ap (λ (m : Mention). m.declares) it.is)
-          ∙ d.declares) name c number (sym (ap (λ (m : Mention). m.top) it.is) ∙ d.denotes) none
+      ∙ d.declares) name c number (sym (ap (λ (m : Mention). m.top) it.is) ∙ d.denotes) none
 
   -- two mentions of one identifier
   module _ (s i : ℕ) (top : TopItem) (n : ℕ) (o : Occurrence) (at : slice_get tops s ≡ Some top)
@@ -598,54 +602,54 @@ module _ (items others : List (List Item)) (whole : AllOf IsWhole items)
         denoted_in ByContext (joined others) (twin n top) o ≡ Some e →
         Pair (its_name at_home.u) (is_top_name items (its_name at_home.u)) d e →
         TopsAlike Corresponds first_group second_group (position (same_denoted d) ms)
-            (position (same_denoted e) ns)
+        (position (same_denoted e) ns)
     numbers d e one two (both name) =
         let first = position-there (same_denoted (Bound Top name)) ms (Bound Top name)
-            (in-mentioned (joined items) tops s i top o name at there one) (same-refl name) in
+        (in-mentioned (joined items) tops s i top o name at there one) (same-refl name) in
         let second = position-there (same_denoted (Bound Top name)) ns (Bound Top name)
-            (in-mentioned (joined others) its s i (twin n top) o name its_at there two)
-            (same-refl name) in
+        (in-mentioned (joined others) its s i (twin n top) o name its_at there two)
+        (same-refl name) in
         subst (λ x. TopsAlike Corresponds first_group second_group x
-            (position (same_denoted (Bound Top name)) ns)) (sym first.1)
-            (subst (TopsAlike Corresponds first_group second_group (Some first.0)) (sym second.1)
-            (same_top (Bound Top name, first.1, second.1)))
+        (position (same_denoted (Bound Top name)) ns)) (sym first.1)
+        (subst (TopsAlike Corresponds first_group second_group (Some first.0)) (sym second.1)
+        (same_top (Bound Top name, first.1, second.1)))
     numbers d e one two (neither other its_other) =
         subst (λ x. TopsAlike Corresponds first_group second_group x
-            (position (same_denoted e) ns)) (sym (no-position (joined items) tops d other))
-            (subst (TopsAlike Corresponds first_group second_group None)
-            (sym (no-position (joined others) its e its_other)) (loose tt tt))
+        (position (same_denoted e) ns)) (sym (no-position (joined items) tops d other))
+        (subst (TopsAlike Corresponds first_group second_group None)
+        (sym (no-position (joined others) its e its_other)) (loose tt tt))
     numbers d e one two (second other none) =
         let number = position-there (same_denoted (Bound Top (its_name at_home.u))) ns
-            (Bound Top (its_name at_home.u))
-            (in-mentioned (joined others) its s i (twin n top) o (its_name at_home.u) its_at there
-            two) (same-refl (its_name at_home.u)) in
+        (Bound Top (its_name at_home.u))
+        (in-mentioned (joined others) its s i (twin n top) o (its_name at_home.u) its_at there
+        two) (same-refl (its_name at_home.u)) in
         subst (λ x. TopsAlike Corresponds first_group second_group x
-            (position (same_denoted (Bound Top (its_name at_home.u))) ns))
-            (sym (no-position (joined items) tops d other))
-            (subst (TopsAlike Corresponds first_group second_group None) (sym number.1)
-            (loose tt (loose-second (its_name at_home.u) number.0 none number.1)))
+        (position (same_denoted (Bound Top (its_name at_home.u))) ns))
+        (sym (no-position (joined items) tops d other))
+        (subst (TopsAlike Corresponds first_group second_group None) (sym number.1)
+        (loose tt (loose-second (its_name at_home.u) number.0 none number.1)))
 
     alike : MentionsAlike Corresponds first_group second_group
-            (mention_of ByContext (joined items) ms top o)
-            (mention_of ByContext (joined others) ns (twin n top) o)
+        (mention_of ByContext (joined items) ms top o)
+        (mention_of ByContext (joined others) ns (twin n top) o)
     alike = record {
       top =
           let one = denotes-in items whole named top placed o at_home in
           let two = denotes-in others other_whole other_named (twin n top) other_placed o at_home
-              in
+          in
           subst (λ x. TopsAlike Corresponds first_group second_group x
-              (mention_of ByContext (joined others) ns (twin n top) o).top)
-              (sym (number-is (joined items) tops top o _ one))
+          (mention_of ByContext (joined others) ns (twin n top) o).top)
+          (sym (number-is (joined items) tops top o _ one))
           (subst (TopsAlike Corresponds first_group second_group
-              (position (same_denoted (in_whole items placed.m top.items at_home.u)) ms))
-              (sym (number-is (joined others) its (twin n top) o _ two))
+          (position (same_denoted (in_whole items placed.m top.items at_home.u)) ms))
+          (sym (number-is (joined others) its (twin n top) o _ two))
           (numbers (in_whole items placed.m top.items at_home.u)
-              (in_whole others other_placed.m top.items at_home.u) one two
+          (in_whole others other_placed.m top.items at_home.u) one two
           (pair top.items at_home.u (is_top_name items (its_name at_home.u))
-              (is_top_name others (its_name at_home.u)) (offset items placed.m)
-              (offset others other_placed.m)
-              (viewed top.items item_named at_home.u (listed-at top.items o at_home))
-              (more (its_name at_home.u)))));
+          (is_top_name others (its_name at_home.u)) (offset items placed.m)
+          (offset others other_placed.m)
+          (viewed top.items item_named at_home.u (listed-at top.items o at_home))
+          (more (its_name at_home.u)))));
       same = record {
         declares = refl;
         later = refl;
@@ -654,13 +658,13 @@ module _ (items others : List (List Item)) (whole : AllOf IsWhole items)
         chain = refl;
         prototype =
             ap (λ b. is_prototype_read top.items o.path && b)
-                (assign-same (λ place. is_object_at ByContext (joined items) (top.start + place))
-                (λ place. is_object_at ByContext (joined others) (n + place)) top.items
+            (assign-same (λ place. is_object_at ByContext (joined items) (top.start + place))
+            (λ place. is_object_at ByContext (joined others) (n + place)) top.items
             (λ p lt. object-at items whole named top placed p lt
-                ∙ object-same items others placed.m other_placed.m top.items item_named
-                    picked.object
-                (suc p) ∙ sym (object-at others other_whole other_named (twin n top) other_placed p
-                lt)) o.path);
+            ∙ object-same items others placed.m other_placed.m top.items item_named
+            picked.object
+            (suc p) ∙ sym (object-at others other_whole other_named (twin n top) other_placed p
+            lt)) o.path);
         valueless = refl;
       };
     }
@@ -671,33 +675,39 @@ module _ (items others : List (List Item)) (whole : AllOf IsWhole items)
     owners = refl;
     size =
         length-map tops (λ item. map (mention_of ByContext (joined items) ms item)
-            (occurrences item.items))
+        (occurrences item.items))
         ∙ sym (length-map tops (λ (top : TopItem). top.items)) ∙ ap length picked.same
         ∙ length-map its (λ (top : TopItem). top.items)
         ∙ sym (length-map its
-            (λ item. map (mention_of ByContext (joined others) ns item) (occurrences item.items)));
+        (λ item. map (mention_of ByContext (joined others) ns item) (occurrences item.items)));
     there = λ s i x e.
         let it = mention-found (joined items) tops owners s i x e in
-        let other = beside tops its picked.same s it.top it.at in
-        (_, mention-there (joined others) its owners s i (twin other.0 it.top) it.o other.1
-            it.there, subst (λ x. MentionsAlike Corresponds first_group second_group x
-            (mention_of ByContext (joined others) ns (twin other.0 it.top) it.o)) (sym it.is)
-            (alike s i it.top other.0 it.o it.at other.1 it.there));
+        let other = beside tops its picked.same s it.top it.at in (
+          _,
+          mention-there (joined others) its owners s i (twin other.0 it.top) it.o other.1
+              it.there,
+          subst (λ x. MentionsAlike Corresponds first_group second_group x
+              (mention_of ByContext (joined others) ns (twin other.0 it.top) it.o)) (sym it.is)
+              (alike s i it.top other.0 it.o it.at other.1 it.there),
+        );
     back = λ s i y e.
         let it = mention-found (joined others) its owners s i y e in
-        let other = beside its tops (sym picked.same) s it.top it.at in
-        (_, mention-there (joined items) tops owners s i (twin other.0 it.top) it.o other.1
-            it.there, subst (MentionsAlike Corresponds first_group second_group
-            (mention_of ByContext (joined items) ms (twin other.0 it.top) it.o)) (sym it.is)
-            (alike s i (twin other.0 it.top) it.top.start it.o other.1 it.at it.there));
+        let other = beside its tops (sym picked.same) s it.top it.at in (
+          _,
+          mention-there (joined items) tops owners s i (twin other.0 it.top) it.o other.1
+              it.there,
+          subst (MentionsAlike Corresponds first_group second_group
+              (mention_of ByContext (joined items) ms (twin other.0 it.top) it.o)) (sym it.is)
+              (alike s i (twin other.0 it.top) it.top.start it.o other.1 it.at it.there),
+        );
     one =
         λ b c d x y. same_Some c d (sym x.2
-            ∙ ap (λ e. position (same_denoted e) ns)
-            (position-one ms (all-top (joined items) tops) x.0 y.0 b x.1 y.1) ∙ y.2);
+        ∙ ap (λ e. position (same_denoted e) ns)
+        (position-one ms (all-top (joined items) tops) x.0 y.0 b x.1 y.1) ∙ y.2);
     other_one =
         λ b c d x y. same_Some c d (sym x.1
-            ∙ ap (λ e. position (same_denoted e) ms)
-            (position-one ns (all-top (joined others) its) x.0 y.0 b x.2 y.2) ∙ y.1);
+        ∙ ap (λ e. position (same_denoted e) ms)
+        (position-one ns (all-top (joined others) its) x.0 y.0 b x.2 y.2) ∙ y.1);
   }
 
   -- an order that is good for the items of a block by itself is good for them in the whole bundle

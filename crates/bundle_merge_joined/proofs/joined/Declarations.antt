@@ -36,7 +36,7 @@ kind_of_scope-moved k _ field outer = refl
 
 scope_at-moved : (k begins : ℕ) (kind : Option ScopeKind) (rest : List Scope) →
     scope_at (moved k begins) kind ++ map (moved_scope k) rest
-        ≡ map (moved_scope k) (scope_at begins kind ++ rest)
+    ≡ map (moved_scope k) (scope_at begins kind ++ rest)
 scope_at-moved k begins None rest = refl
 scope_at-moved k begins (Some kind) rest = refl
 
@@ -51,9 +51,9 @@ pub scopes_around-moved : (k : ℕ) (kind : ModuleKind) (path : List Around) →
 scopes_around-moved k kind [] = outermost-moved k kind
 scopes_around-moved k kind (node ∷ outer) =
     (λ i. scope_at (moved k node.begins) (kind_of_scope-moved k node.head node.field outer i)
-        ++ scopes_around-moved k kind outer i)
+    ++ scopes_around-moved k kind outer i)
     ∙ scope_at-moved k node.begins (kind_of_scope node.head node.field outer)
-        (scopes_around kind outer)
+    (scopes_around kind outer)
 
 -- Ways.
 
@@ -94,19 +94,19 @@ way_of-moved k (node ∷ outer) =
 -- what an identifier declares
 pub declaration-moved : (k : ℕ) (o : Occurrence) →
     declaration_of ByContext Es (moved_occurrence k o)
-        ≡ option_map (moved_declared k) (declaration_of ByContext Es o)
+    ≡ option_map (moved_declared k) (declaration_of ByContext Es o)
 declaration-moved k o =
     (λ i. cond (is_binding o.role)
-        (declared_by (o.place + k) (name_of ByContext o.sym o.ctxt)
-        (scopes_around-moved k Es o.path i) (way_of-moved k o.path i)) None)
+    (declared_by (o.place + k) (name_of ByContext o.sym o.ctxt)
+    (scopes_around-moved k Es o.path i) (way_of-moved k o.path i)) None)
     ∙ by_role (is_binding o.role) (way_of o.path)
   where
     by_role : (b : Bool) (way : Option Way) →
         cond b (declared_by (o.place + k) (name_of ByContext o.sym o.ctxt)
-            (map (moved_scope k) (scopes_around Es o.path)) way) None
-            ≡ option_map (moved_declared k)
-            (cond b (declared_by o.place (name_of ByContext o.sym o.ctxt) (scopes_around Es o.path)
-            way) None)
+        (map (moved_scope k) (scopes_around Es o.path)) way) None
+        ≡ option_map (moved_declared k)
+        (cond b (declared_by o.place (name_of ByContext o.sym o.ctxt) (scopes_around Es o.path)
+        way) None)
     by_role true None = refl
     by_role true (Some way) = refl
     by_role false way = refl
@@ -127,16 +127,16 @@ pub declared-named : (s : Spot) (xs : List Item) → AreNamed xs →
 declared-named s [] named = refl
 declared-named s (x ∷ xs) named =
     ap (λ b. cons_option
-        (cond b (Some (nameless_default Es s.place))
-        (option_and_then (declaration_of ByContext Es) (occurrence_of s x)))
-        (declared_from ByContext Es (past s x) xs)) named.0
+    (cond b (Some (nameless_default Es s.place))
+    (option_and_then (declaration_of ByContext Es) (occurrence_of s x)))
+    (declared_from ByContext Es (past s x) xs)) named.0
     ∙ ap (cons_option (option_and_then (declaration_of ByContext Es) (occurrence_of s x)))
-        (declared-named (past s x) xs named.1)
+    (declared-named (past s x) xs named.1)
     ∙ by_occurrence (occurrence_of s x) (occurrences_from (past s x) xs)
   where
     by_occurrence : (o : Option Occurrence) (os : List Occurrence) →
         cons_option (option_and_then (declaration_of ByContext Es) o) (declared_by_names os)
-            ≡ declared_by_names (cons_option o os)
+        ≡ declared_by_names (cons_option o os)
     by_occurrence None os = refl
     by_occurrence (Some o) os = refl
 
@@ -174,7 +174,7 @@ pub named-flat : (items : List (List Item)) → AllOf IsNamed items →
 named-flat [] named = (refl, tt)
 named-flat (item ∷ more) named =
     subst AreNamed (sym (append_assoc item (flat more) (h.Close ∷ [])))
-        (named-append item (flat more ++ h.Close ∷ []) named.0 (named-flat more named.1))
+    (named-append item (flat more ++ h.Close ∷ []) named.0 (named-flat more named.1))
 
 pub declared-item : (item : List Item) → IsNamed item →
     own_declared item ≡ declared_by_names (occurrences (tree_of_items item))
@@ -223,33 +223,33 @@ default-moved k a b m = λ i. nameless_default Es (m.place i)
 moved-declarations : (k depth : ℕ) (xs ys : List Item) (a b : Spot) → AreMoved k a b →
     open_behind depth xs ≡ Some 0 →
     declared_from ByContext Es b (xs ++ ys)
-        ≡ map (moved_declared k) (declared_from ByContext Es a (xs ++ h.Close ∷ []))
-        ++ declared_from ByContext Es (fold past b xs) ys
+    ≡ map (moved_declared k) (declared_from ByContext Es a (xs ++ h.Close ∷ []))
+    ++ declared_from ByContext Es (fold past b xs) ys
 moved-declarations k depth [] ys a b m e = refl
 moved-declarations k depth (x ∷ xs) ys a b m e =
     let next = rest-open x xs depth 0 e in
     ap (λ t. cons_option
-        (cond t (Some (nameless_default Es b.place))
-        (option_and_then (declaration_of ByContext Es) (occurrence_of b x)))
-        (declared_from ByContext Es (past b x) (xs ++ ys)))
-        (default-first x xs ys (h.Close ∷ []) depth e)
+    (cond t (Some (nameless_default Es b.place))
+    (option_and_then (declaration_of ByContext Es) (occurrence_of b x)))
+    (declared_from ByContext Es (past b x) (xs ++ ys)))
+    (default-first x xs ys (h.Close ∷ []) depth e)
     ∙ ap (λ o. cons_option o (declared_from ByContext Es (past b x) (xs ++ ys)))
-        (first (is_nameless_default x (xs ++ h.Close ∷ [])) (occurrence_of a x))
+    (first (is_nameless_default x (xs ++ h.Close ∷ [])) (occurrence_of a x))
     ∙ ap (cons_option (option_map (moved_declared k)
-        (cond (is_nameless_default x (xs ++ h.Close ∷ [])) (Some (nameless_default Es a.place))
-        (option_and_then (declaration_of ByContext Es) (occurrence_of a x)))))
-        (moved-declarations k next.0 xs ys (past a x) (past b x) (moved-past k a b m x) next.1)
+    (cond (is_nameless_default x (xs ++ h.Close ∷ [])) (Some (nameless_default Es a.place))
+    (option_and_then (declaration_of ByContext Es) (occurrence_of a x)))))
+    (moved-declarations k next.0 xs ys (past a x) (past b x) (moved-past k a b m x) next.1)
     ∙ joins (cond (is_nameless_default x (xs ++ h.Close ∷ [])) (Some (nameless_default Es a.place))
-        (option_and_then (declaration_of ByContext Es) (occurrence_of a x)))
-        (declared_from ByContext Es (past a x) (xs ++ h.Close ∷ []))
-        (declared_from ByContext Es (fold past (past b x) xs) ys)
+    (option_and_then (declaration_of ByContext Es) (occurrence_of a x)))
+    (declared_from ByContext Es (past a x) (xs ++ h.Close ∷ []))
+    (declared_from ByContext Es (fold past (past b x) xs) ys)
   where
     first : (t : Bool) (o : Option Occurrence) →
         cond t (Some (nameless_default Es b.place))
-            (option_and_then (declaration_of ByContext Es) (occurrence_of b x))
-            ≡ option_map (moved_declared k)
-            (cond t (Some (nameless_default Es a.place))
-            (option_and_then (declaration_of ByContext Es) (occurrence_of a x)))
+        (option_and_then (declaration_of ByContext Es) (occurrence_of b x))
+        ≡ option_map (moved_declared k)
+        (cond t (Some (nameless_default Es a.place))
+        (option_and_then (declaration_of ByContext Es) (occurrence_of a x)))
     first true o = ap Some (default-moved k a b m)
     first false o =
         ap (option_and_then (declaration_of ByContext Es)) (moved-occurrence k a b m x)
@@ -257,13 +257,13 @@ moved-declarations k depth (x ∷ xs) ys a b m e =
       where
         by_occurrence : (o : Option Occurrence) →
             option_and_then (declaration_of ByContext Es) (option_map (moved_occurrence k) o)
-                ≡ option_map (moved_declared k) (option_and_then (declaration_of ByContext Es) o)
+            ≡ option_map (moved_declared k) (option_and_then (declaration_of ByContext Es) o)
         by_occurrence None = refl
         by_occurrence (Some o) = declaration-moved k o
 
     joins : (o : Option Declared) (xs ys : List Declared) →
         cons_option (option_map (moved_declared k) o) (map (moved_declared k) xs ++ ys)
-            ≡ map (moved_declared k) (cons_option o xs) ++ ys
+        ≡ map (moved_declared k) (cons_option o xs) ++ ys
     joins None xs ys = refl
     joins (Some d) xs ys = refl
 
@@ -271,14 +271,14 @@ moved-declarations k depth (x ∷ xs) ys a b m e =
 all-declarations : (k : ℕ) (s : Spot) → IsAt k s → (items : List (List Item)) →
     AllOf IsWhole items →
     declared_from ByContext Es s (flat items ++ h.Close ∷ [])
-        ≡ each_moved moved_declared own_declared k items
+    ≡ each_moved moved_declared own_declared k items
 all-declarations k s at [] whole = refl
 all-declarations k s at (item ∷ more) whole =
     ap (declared_from ByContext Es s) (append_assoc item (flat more) (h.Close ∷ []))
     ∙ moved-declarations k 0 item (flat more ++ h.Close ∷ []) inside s (moved-start k s at) whole.0
     ∙ ap (λ rest. map (moved_declared k) (own_declared item) ++ rest)
-        (all-declarations (k + length item) (fold past s item) (at-behind k s at item whole.0) more
-        whole.1)
+    (all-declarations (k + length item) (fold past s item) (at-behind k s at item whole.0) more
+    whole.1)
 
 pub declared-joined : (items : List (List Item)) → AllOf IsWhole items →
     own_declared (flat items) ≡ each_moved moved_declared own_declared 0 items

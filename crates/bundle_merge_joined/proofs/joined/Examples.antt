@@ -63,14 +63,14 @@ named_arguments = declares_in 0 v.Var (codes "arguments") 5
 
 -- by itself the name denotes the function's own `arguments`
 inner_by_itself : denotations ByContext Es (tree_of_items calls) ≡ Bound Top (with (codes "f") 2)
-        ∷ Bound (Inner Parameters 3) (plain (codes "arguments")) ∷ []
+    ∷ Bound (Inner Parameters 3) (plain (codes "arguments")) ∷ []
 inner_by_itself = refl
 
 -- and in the whole the other item's: so a note that it is an inner one needs that no item declares
 -- it at its top
 top_in_the_whole : denotations ByContext Es (joined (calls ∷ named_arguments ∷ []))
-        ≡ Bound Top (with (codes "f") 2) ∷ Bound Top (with (codes "arguments") 5)
-        ∷ Bound Top (with (codes "arguments") 5) ∷ []
+    ≡ Bound Top (with (codes "f") 2) ∷ Bound Top (with (codes "arguments") 5)
+    ∷ Bound Top (with (codes "arguments") 5) ∷ []
 top_in_the_whole = refl
 
 -- `x#2; x#3;`, whose names other items declare
@@ -84,9 +84,9 @@ not_by_itself resolved =
 
 -- though in the whole they are told apart
 apart_in_the_whole : denotations ByContext Es
-        (joined (two_names ∷ declares_in 0 v.Let (codes "x") 2 ∷ declares_in 0 v.Let (codes "x") 3
-        ∷ [])) ≡ Bound Top (with (codes "x") 2) ∷ Bound Top (with (codes "x") 3)
-        ∷ Bound Top (with (codes "x") 2) ∷ Bound Top (with (codes "x") 3) ∷ []
+    (joined (two_names ∷ declares_in 0 v.Let (codes "x") 2 ∷ declares_in 0 v.Let (codes "x") 3
+    ∷ [])) ≡ Bound Top (with (codes "x") 2) ∷ Bound Top (with (codes "x") 3)
+    ∷ Bound Top (with (codes "x") 2) ∷ Bound Top (with (codes "x") 3) ∷ []
 apart_in_the_whole = refl
 
 -- An identifier that binds where nothing declares it, with a name that another block declares: it
@@ -100,15 +100,15 @@ abbrev top_and_declares : Group → List (List (Option ℕ × Bool))
 top_and_declares g = map (map (λ (m : Mention). (m.top, m.declares))) g.items
 
 stray_alone : top_and_declares (group_of ByContext Top (joined (stray ∷ reads (codes "x") 5 ∷ []))
-        (placed 1 (stray ∷ reads (codes "x") 5 ∷ [])) []) ≡ ((None, true) ∷ [])
-        ∷ ((None, false) ∷ []) ∷ []
+    (placed 1 (stray ∷ reads (codes "x") 5 ∷ [])) []) ≡ ((None, true) ∷ [])
+    ∷ ((None, false) ∷ []) ∷ []
 stray_alone = refl
 
 stray_in_the_whole : top_and_declares
-        (group_of ByContext Top
-        (joined (stray ∷ reads (codes "x") 5 ∷ declares_in 0 v.Let (codes "x") 5 ∷ []))
-        (placed 1 (stray ∷ reads (codes "x") 5 ∷ [])) []) ≡ ((Some 0, true) ∷ [])
-        ∷ ((Some 0, false) ∷ []) ∷ []
+    (group_of ByContext Top
+    (joined (stray ∷ reads (codes "x") 5 ∷ declares_in 0 v.Let (codes "x") 5 ∷ []))
+    (placed 1 (stray ∷ reads (codes "x") 5 ∷ [])) []) ≡ ((Some 0, true) ∷ [])
+    ∷ ((Some 0, false) ∷ []) ∷ []
 stray_in_the_whole = refl
 
 -- What is asked of items is no contradiction: `x#2;` and `let x#2;` are told apart, so the whole
@@ -125,14 +125,14 @@ outer_at : (m : ℕ) (item : List Item) (o : Occurrence) → slice_get two_items
     IsListedIn item o → IsOuter item o
 outer_at zero item o at listed =
     subst (λ item. IsListedIn item o → IsOuter item o) (same_Some (reads (codes "x") 2) item at)
-        first listed
+    first listed
   where
     first : IsListedIn (reads (codes "x") 2) o → IsOuter (reads (codes "x") 2) o
     first (zero, there) = subst (IsOuter (reads (codes "x") 2)) (same_Some _ o there) (refl, refl)
     first (suc i, there) = absurd (none-some o there)
 outer_at (suc zero) item o at listed =
     subst (λ item. IsListedIn item o → IsOuter item o)
-        (same_Some (declares_in 0 v.Let (codes "x") 2) item at) second listed
+    (same_Some (declares_in 0 v.Let (codes "x") 2) item at) second listed
   where
     second : IsListedIn (declares_in 0 v.Let (codes "x") 2) o →
         IsOuter (declares_in 0 v.Let (codes "x") 2) o
@@ -144,20 +144,24 @@ outer_at (suc (suc m)) item o at listed = absurd (none-some item at)
 told_apart : AreToldApart two_items
 told_apart = record {
   inside =
-      λ m item at. record { same = λ a b listed its_listed is.
-          absurd (true≢false (sym is ∙ (outer_at m item a at listed).0)) };
+      λ m item at. record {
+        same = λ a b listed its_listed is.
+            absurd (true≢false (sym is ∙ (outer_at m item a at listed).0));
+      };
   known =
       λ m item o at listed denotes not_top.
-          absurd (true≢false (sym (outer_at m item o at listed).1 ∙ not_top));
+      absurd (true≢false (sym (outer_at m item o at listed).1 ∙ not_top));
   others =
       λ m n item other a b ne at there listed its_listed is same. true≢false (sym is
-          ∙ (outer_at m item a at listed).0);
+      ∙ (outer_at m item a at listed).0);
   own_arguments =
       λ m item o at listed not_top denotes.
-          absurd (true≢false (sym (outer_at m item o at listed).1 ∙ not_top));
+      absurd (true≢false (sym (outer_at m item o at listed).1 ∙ not_top));
 }
 
 two_are_resolved : IsResolved Es (joined two_items)
 two_are_resolved =
-    resolved-by_contexts two_items (refl, (refl, tt)) ((refl, (refl, (refl, (refl, tt)))),
-        ((refl, (refl, (refl, (refl, (refl, (refl, (refl, (refl, tt)))))))), tt)) told_apart
+    resolved-by_contexts two_items (refl, (refl, tt)) (
+      (refl, (refl, (refl, (refl, tt)))),
+      ((refl, (refl, (refl, (refl, (refl, (refl, (refl, (refl, tt)))))))), tt),
+    ) told_apart

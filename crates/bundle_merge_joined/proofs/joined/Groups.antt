@@ -21,9 +21,10 @@ zip-both R [] [] there back = tt
 zip-both R [] (y ∷ ys) there back = let it = back 0 y refl in absurd (none-some it.0 it.1)
 zip-both R (x ∷ xs) [] there back = let it = there 0 x refl in absurd (none-some it.0 it.1)
 zip-both {B = B} R (x ∷ xs) (y ∷ ys) there back =
-    let it = there 0 x refl in
-    (subst (λ (z : B). R x z) (sym (same_Some y it.0 it.1)) it.2,
-        zip-both R xs ys (λ i. there (suc i)) (λ i. back (suc i)))
+    let it = there 0 x refl in (
+      subst (λ (z : B). R x z) (sym (same_Some y it.0 it.1)) it.2,
+      zip-both R xs ys (λ i. there (suc i)) (λ i. back (suc i)),
+    )
 
 -- the other way round
 tops-flipped : (R : ℕ → ℕ → Type 0) (g other : Group) {x y : Option ℕ} → TopsAlike R g other x y →
@@ -45,7 +46,7 @@ flipped R g other a = record {
       λ s i y at. let it = a.back s i y at in (it.0, it.1, mentions-flipped R g other it.0 y it.2);
   back =
       λ s i x at. let it = a.there s i x at in
-          (it.0, it.1, mentions-flipped R g other x it.0 it.2);
+      (it.0, it.1, mentions-flipped R g other x it.0 it.2);
   one = a.other_one;
   other_one = a.one;
 }
@@ -62,8 +63,8 @@ module _ (R : ℕ → ℕ → Type 0) (g other : Group) (a : GroupsAlike R g oth
       MentionsAlike R g other x y
   beside s i x y at there =
       let it = a.there s i x at in
-          subst (λ (z : Mention). MentionsAlike R g other x z)
-          (same_Some it.0 y (sym it.1 ∙ there)) it.2
+      subst (λ (z : Mention). MentionsAlike R g other x z)
+      (same_Some it.0 y (sym it.1 ∙ there)) it.2
 
   -- two that denote one binding, which one of them declares, do so in the other
   one-there : (s i t j : ℕ) (x y its_x its_y : Mention) → mention_at g s i ≡ Some x →
@@ -71,26 +72,29 @@ module _ (R : ℕ → ℕ → Type 0) (g other : Group) (a : GroupsAlike R g oth
       mention_at other t j ≡ Some its_y → y.declares ≡ true → DenoteOne x y → DenoteOne its_x its_y
   one-there s i t j x y its_x its_y at_x at_y there_x there_y declares (b, top_x, top_y) =
       let own : Declares g t b =
-          (j, y, record { there = at_y; denotes = top_y; declares = declares }) in
+      (j, y, record { there = at_y; denotes = top_y; declares = declares }) in
       let first = top-found R g other b t own (beside s i x its_x at_x there_x).top top_x in
-      let second = top-found R g other b t own (beside t j y its_y at_y there_y).top top_y in
-      (first.0, first.1, second.1
-          ∙ ap (λ (n : ℕ). Some n) (a.one b second.0 first.0 second.2 first.2))
+      let second = top-found R g other b t own (beside t j y its_y at_y there_y).top top_y in (
+        first.0,
+        first.1,
+        second.1
+            ∙ ap (λ (n : ℕ). Some n) (a.one b second.0 first.0 second.2 first.2),
+      )
 
   -- the mentions of one item
   in-row : (h : Group) (s i : ℕ) (row : List Mention) → slice_get h.items s ≡ Some row →
       mention_at h s i ≡ slice_get row i
   in-row h s i row e =
       ap (λ (rows : Option (List Mention)). option_and_then (λ (m : List Mention). slice_get m i)
-          rows) e
+      rows) e
 
   rows-alike : (s : ℕ) (row its : List Mention) → slice_get g.items s ≡ Some row →
       slice_get other.items s ≡ Some its → AllZip IsSameButTop row its
   rows-alike s row its e f =
       zip-both IsSameButTop row its (λ i x at. let it = a.there s i x (in-row g s i row e ∙ at) in
-          (it.0, sym (in-row other s i its f) ∙ it.1, it.2.same))
-          (λ i y at. let it = a.back s i y (in-row other s i its f ∙ at) in
-          (it.0, sym (in-row g s i row e) ∙ it.1))
+      (it.0, sym (in-row other s i its f) ∙ it.1, it.2.same))
+      (λ i y at. let it = a.back s i y (in-row other s i its f ∙ at) in
+      (it.0, sym (in-row g s i row e) ∙ it.1))
 
 module _ (R : ℕ → ℕ → Type 0) (g other : Group) (a : GroupsAlike R g other) where
   alike : AreAlike g other

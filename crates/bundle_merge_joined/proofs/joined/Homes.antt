@@ -56,7 +56,7 @@ or_top-in P at_top (Some scope) has = has
 pub taker-in : (P : Scope → Type 0) → P Top → (d : Declared) → AllOf P d.scopes → P (taker d)
 taker-in P at_top d all =
     or_top-in P at_top (nearest (from_taker d.by d.scopes))
-        (nearest-in P (from_taker d.by d.scopes) (from_taker-in P d.by d.scopes all))
+    (nearest-in P (from_taker d.by d.scopes) (from_taker-in P d.by d.scopes all))
 
 pub home-in : (P : Scope → Type 0) → P Top → (all : List Declared) (d : Declared) →
     AllOf P d.scopes → P (home_of all d)
@@ -74,7 +74,7 @@ home-in P at_top all d has = by_joins (joins_parameter d.by)
         P (cond b (home_beside all d (parameters_of (from_taker d.by d.scopes))) (taker d))
     by_joins true =
         by_parameter (parameters_of (from_taker d.by d.scopes))
-            (parameters-in P (from_taker d.by d.scopes) (from_taker-in P d.by d.scopes has))
+        (parameters-in P (from_taker d.by d.scopes) (from_taker-in P d.by d.scopes has))
     by_joins false = taker-in P at_top d has
 
 -- Parameters.
@@ -107,27 +107,27 @@ pub other-parameter : (low high other last : ℕ) → (high ≤ other) ⊎ (last
     is_parameter scope name d ≡ false
 other-parameter low high other last sides scope at name d is =
     no_parameter (taker d) scope (names_agree d.name name) (λ inner. same-sym (taker d) scope
-        ∙ apart low high other last sides scope (taker d) at (taker-in (IsIn other last) tt d is)
-        inner)
+    ∙ apart low high other last sides scope (taker d) at (taker-in (IsIn other last) tt d is)
+    inner)
   where
     same-sym : (s t : Scope) → same_scope s t ≡ same_scope t s
     same-sym s t =
         both-alike (scope_order s) (scope_order t) (scope_order t) (scope_order s) (λ e. sym e)
-            (λ e. sym e)
+        (λ e. sym e)
 
 parameter-moved : (k : ℕ) (scope : Scope) (name : Name) (d : Declared) →
     is_parameter (moved_scope k scope) name (moved_declared k d) ≡ is_parameter scope name d
 parameter-moved k scope name d =
     ap (λ t. (is_parameters t || is_wrapper t) && same_scope t (moved_scope k scope)
-        && names_agree d.name name) (taker-moved k d)
+    && names_agree d.name name) (taker-moved k d)
     ∙ ap (λ b. (b || is_wrapper (moved_scope k (taker d)))
-        && same_scope (moved_scope k (taker d)) (moved_scope k scope) && names_agree d.name name)
-        (is_parameters-relocated (moved k) (taker d))
+    && same_scope (moved_scope k (taker d)) (moved_scope k scope) && names_agree d.name name)
+    (is_parameters-relocated (moved k) (taker d))
     ∙ ap (λ b. (is_parameters (taker d) || b)
-        && same_scope (moved_scope k (taker d)) (moved_scope k scope) && names_agree d.name name)
-        (is_wrapper-relocated (moved k) (taker d))
+    && same_scope (moved_scope k (taker d)) (moved_scope k scope) && names_agree d.name name)
+    (is_wrapper-relocated (moved k) (taker d))
     ∙ ap (λ b. (is_parameters (taker d) || is_wrapper (taker d)) && b && names_agree d.name name)
-        (same-moved k (taker d) scope)
+    (same-moved k (taker d) scope)
 
 -- An item that stands between others.
 module _ (before own after : List Declared) (k n last : ℕ)
@@ -147,10 +147,10 @@ module _ (before own after : List Declared) (k n last : ℕ)
   any-own p q fails_before fails_after same =
       any-append q before (map (moved_declared k) own ++ after)
       ∙ ap (λ b. b || list_any q (map (moved_declared k) own ++ after))
-          (any-none (IsDeclaredIn 1 (1 + k)) q fails_before before in_before)
+      (any-none (IsDeclaredIn 1 (1 + k)) q fails_before before in_before)
       ∙ any-append q (map (moved_declared k) own) after
       ∙ ap (λ b. list_any q (map (moved_declared k) own) || b)
-          (any-none (IsDeclaredIn (1 + n + k) last) q fails_after after in_after)
+      (any-none (IsDeclaredIn (1 + n + k) last) q fails_after after in_after)
       ∙ or_false (list_any q (map (moved_declared k) own))
       ∙ any-map (IsDeclaredIn 1 (1 + n)) p q (moved_declared k) same own in_own
     where
@@ -160,13 +160,13 @@ module _ (before own after : List Declared) (k n last : ℕ)
 
   any-parameter : (scope : Scope) (name : Name) → IsIn 1 (1 + n) scope →
       list_any (is_parameter (moved_scope k scope) name) all_of
-          ≡ list_any (is_parameter scope name) own
+      ≡ list_any (is_parameter scope name) own
   any-parameter scope name at =
       any-own (is_parameter scope name) (is_parameter (moved_scope k scope) name)
       (λ d is. other-parameter (1 + k) (1 + n + k) 1 (1 + k) (inr (omega arith))
-          (moved_scope k scope) (in-moved k (1 + n) scope at) name d is)
+      (moved_scope k scope) (in-moved k (1 + n) scope at) name d is)
       (λ d is. other-parameter (1 + k) (1 + n + k) (1 + n + k) last (inl (omega arith))
-          (moved_scope k scope) (in-moved k (1 + n) scope at) name d is)
+      (moved_scope k scope) (in-moved k (1 + n) scope at) name d is)
       (λ d is. parameter-moved k scope name d)
 
   -- HOMES: the scope to which a name belongs is that in the item by itself, moved
@@ -174,38 +174,38 @@ module _ (before own after : List Declared) (k n last : ℕ)
       home_of all_of (moved_declared k d) ≡ moved_scope k (home_of own d)
   home-moved d is =
       ap (λ scopes. cond (joins_parameter d.by)
-          (home_beside all_of (moved_declared k d) (parameters_of scopes))
-          (taker (moved_declared k d))) (from_taker-relocated (moved k) d.by d.scopes)
+      (home_beside all_of (moved_declared k d) (parameters_of scopes))
+      (taker (moved_declared k d))) (from_taker-relocated (moved k) d.by d.scopes)
       ∙ ap (λ beside. cond (joins_parameter d.by) (home_beside all_of (moved_declared k d) beside)
-          (taker (moved_declared k d)))
-          (parameters_of-relocated (moved k) (from_taker d.by d.scopes))
+      (taker (moved_declared k d)))
+      (parameters_of-relocated (moved k) (from_taker d.by d.scopes))
       ∙ by_joins (joins_parameter d.by)
     where
       by_beside : (beside : Option Scope) → HasIn (IsIn 1 (1 + n)) beside →
           home_beside all_of (moved_declared k d) (option_map (moved_scope k) beside)
-              ≡ moved_scope k (home_beside own d beside)
+          ≡ moved_scope k (home_beside own d beside)
       by_beside None has = taker-moved k d
       by_beside (Some scope) has =
           ap (λ b. cond b (moved_scope k scope) (taker (moved_declared k d)))
-              (any-parameter scope d.name has)
+          (any-parameter scope d.name has)
           ∙ by_found (list_any (is_parameter scope d.name) own)
         where
           by_found : (b : Bool) →
               cond b (moved_scope k scope) (taker (moved_declared k d))
-                  ≡ moved_scope k (cond b scope (taker d))
+              ≡ moved_scope k (cond b scope (taker d))
           by_found true = refl
           by_found false = taker-moved k d
 
       by_joins : (b : Bool) →
           cond b (home_beside all_of (moved_declared k d)
-              (option_map (moved_scope k) (parameters_of (from_taker d.by d.scopes))))
-              (taker (moved_declared k d))
-              ≡ moved_scope k (cond b
-              (home_beside own d (parameters_of (from_taker d.by d.scopes))) (taker d))
+          (option_map (moved_scope k) (parameters_of (from_taker d.by d.scopes))))
+          (taker (moved_declared k d))
+          ≡ moved_scope k (cond b
+          (home_beside own d (parameters_of (from_taker d.by d.scopes))) (taker d))
       by_joins true =
           by_beside (parameters_of (from_taker d.by d.scopes))
-              (parameters-in (IsIn 1 (1 + n)) (from_taker d.by d.scopes)
-              (from_taker-in (IsIn 1 (1 + n)) d.by d.scopes is))
+          (parameters-in (IsIn 1 (1 + n)) (from_taker d.by d.scopes)
+          (from_taker-in (IsIn 1 (1 + n)) d.by d.scopes is))
       by_joins false = taker-moved k d
 
   -- whether an identifier declares a name in a scope of the item
@@ -213,18 +213,18 @@ module _ (before own after : List Declared) (k n last : ℕ)
       is_written_in all_of (moved_scope k scope) name ≡ is_written_in own scope name
   written-own scope name at inner =
       any-own (λ d. has_identifier d && is_declared_in own scope name d)
-          (λ d. has_identifier d && is_declared_in all_of (moved_scope k scope) name d)
+      (λ d. has_identifier d && is_declared_in all_of (moved_scope k scope) name d)
       (λ d is. outside d
-          (apart 1 (1 + k) (1 + k) (1 + n + k) (inl (omega arith)) (home_of all_of d)
-          (moved_scope k scope) (home-in (IsIn 1 (1 + k)) tt all_of d is)
-          (in-moved k (1 + n) scope at) (is_top-relocated (moved k) scope ∙ inner)))
+      (apart 1 (1 + k) (1 + k) (1 + n + k) (inl (omega arith)) (home_of all_of d)
+      (moved_scope k scope) (home-in (IsIn 1 (1 + k)) tt all_of d is)
+      (in-moved k (1 + n) scope at) (is_top-relocated (moved k) scope ∙ inner)))
       (λ d is. outside d (apart (1 + n + k) last (1 + k) (1 + n + k) (inr (omega arith))
-          (home_of all_of d) (moved_scope k scope) (home-in (IsIn (1 + n + k) last) tt all_of d is)
-          (in-moved k (1 + n) scope at) (is_top-relocated (moved k) scope ∙ inner)))
+      (home_of all_of d) (moved_scope k scope) (home-in (IsIn (1 + n + k) last) tt all_of d is)
+      (in-moved k (1 + n) scope at) (is_top-relocated (moved k) scope ∙ inner)))
       (λ d is. ap (λ home. has_identifier d
-          && (same_scope home (moved_scope k scope) && names_agree d.name name)) (home-moved d is)
-          ∙ ap (λ b. has_identifier d && (b && names_agree d.name name))
-          (same-moved k (home_of own d) scope))
+      && (same_scope home (moved_scope k scope) && names_agree d.name name)) (home-moved d is)
+      ∙ ap (λ b. has_identifier d && (b && names_agree d.name name))
+      (same-moved k (home_of own d) scope))
     where
       fails : (x y : Bool) → (x && (false && y)) ≡ false
       fails true y = refl
@@ -232,7 +232,7 @@ module _ (before own after : List Declared) (k n last : ℕ)
 
       outside : (d : Declared) → same_scope (home_of all_of d) (moved_scope k scope) ≡ false →
           (has_identifier d && (same_scope (home_of all_of d) (moved_scope k scope)
-              && names_agree d.name name)) ≡ false
+          && names_agree d.name name)) ≡ false
       outside d e =
           ap (λ b. has_identifier d && (b && names_agree d.name name)) e
           ∙ fails (has_identifier d) (names_agree d.name name)
@@ -240,10 +240,10 @@ module _ (before own after : List Declared) (k n last : ℕ)
   -- whether an identifier of the item declares a name at the top
   pub written-top : (name : Name) →
       list_any (λ d. has_identifier d && is_declared_in all_of Top name d)
-          (map (moved_declared k) own) ≡ is_written_in own Top name
+      (map (moved_declared k) own) ≡ is_written_in own Top name
   written-top name =
       any-map (IsDeclaredIn 1 (1 + n)) (λ d. has_identifier d && is_declared_in own Top name d)
-          (λ d. has_identifier d && is_declared_in all_of Top name d) (moved_declared k)
+      (λ d. has_identifier d && is_declared_in all_of Top name d) (moved_declared k)
       (λ d is. ap (λ home. has_identifier d && (same_scope home Top && names_agree d.name name))
-          (home-moved d is) ∙ ap (λ b. has_identifier d && (b && names_agree d.name name))
-          (same-moved k (home_of own d) Top)) own in_own
+      (home-moved d is) ∙ ap (λ b. has_identifier d && (b && names_agree d.name name))
+      (same-moved k (home_of own d) Top)) own in_own

@@ -52,28 +52,28 @@ pub record IsOfItem (items : List (List Item)) (a : Occurrence) : Type 0 where
 
 found-in : (k : ℕ) (items : List (List Item)) (i : ℕ) (a : Occurrence) →
     slice_get (each_moved moved_occurrence (λ item. occurrences (tree_of_items item)) k items) i
-        ≡ Some a →
+    ≡ Some a →
     (m : ℕ) × (item : List Item) × (slice_get items m ≡ Some item) × (j : ℕ) × (o : Occurrence)
-        × (slice_get (occurrences (tree_of_items item)) j ≡ Some o)
-        × (a ≡ moved_occurrence (k + offset items m) o)
+    × (slice_get (occurrences (tree_of_items item)) j ≡ Some o)
+    × (a ≡ moved_occurrence (k + offset items m) o)
 found-in k [] i a e = absurd (none-some a e)
 found-in k (item ∷ more) i a e =
     by_side (get-append (map (moved_occurrence k) (occurrences (tree_of_items item)))
-        (each_moved moved_occurrence (λ i. occurrences (tree_of_items i)) (k + length item) more) i
-        a e) (λ j f. found-in (k + length item) more j a f)
+    (each_moved moved_occurrence (λ i. occurrences (tree_of_items i)) (k + length item) more) i
+    a e) (λ j f. found-in (k + length item) more j a f)
   where
     by_side : (slice_get (map (moved_occurrence k) (occurrences (tree_of_items item))) i ≡ Some a)
-            ⊎ ((j : ℕ) × (slice_get
-            (each_moved moved_occurrence (λ i. occurrences (tree_of_items i)) (k + length item)
-            more) j ≡ Some a))
+        ⊎ ((j : ℕ) × (slice_get
+        (each_moved moved_occurrence (λ i. occurrences (tree_of_items i)) (k + length item)
+        more) j ≡ Some a))
         → ((j : ℕ) → slice_get (each_moved moved_occurrence (λ i. occurrences (tree_of_items i))
-            (k + length item) more) j ≡ Some a → (m : ℕ) × (one : List Item)
-            × (slice_get more m ≡ Some one) × (j : ℕ) × (o : Occurrence)
-            × (slice_get (occurrences (tree_of_items one)) j ≡ Some o)
-            × (a ≡ moved_occurrence (k + length item + offset more m) o))
+        (k + length item) more) j ≡ Some a → (m : ℕ) × (one : List Item)
+        × (slice_get more m ≡ Some one) × (j : ℕ) × (o : Occurrence)
+        × (slice_get (occurrences (tree_of_items one)) j ≡ Some o)
+        × (a ≡ moved_occurrence (k + length item + offset more m) o))
         → (m : ℕ) × (one : List Item) × (slice_get (item ∷ more) m ≡ Some one) × (j : ℕ)
-            × (o : Occurrence) × (slice_get (occurrences (tree_of_items one)) j ≡ Some o)
-            × (a ≡ moved_occurrence (k + offset (item ∷ more) m) o)
+        × (o : Occurrence) × (slice_get (occurrences (tree_of_items one)) j ≡ Some o)
+        × (a ≡ moved_occurrence (k + offset (item ∷ more) m) o)
     by_side (inl here) ih =
         let found = get-map (moved_occurrence k) (occurrences (tree_of_items item)) i a here in
         let n : k ≡ k + 0 = omega arith in
@@ -82,39 +82,55 @@ found-in k (item ∷ more) i a e =
         let found = ih later.0 later.1 in
         let both = length-append item (flat (take found.0 more)) in
         let n : k + length item + offset more found.0 ≡ k + offset (item ∷ more) (suc found.0) =
-            omega (arith, both) in
-        (suc found.0, found.1, found.2, found.3, found.4, found.5, found.6
-            ∙ ap (λ n. moved_occurrence n found.4) n)
+        omega (arith, both) in (
+          suc found.0,
+          found.1,
+          found.2,
+          found.3,
+          found.4,
+          found.5,
+          found.6
+              ∙ ap (λ n. moved_occurrence n found.4) n,
+        )
 
 pub occurrence-of-item : (items : List (List Item)) → AllOf IsWhole items →
     (p : ℕ) (a : Occurrence) → occurrence_at (joined items) p ≡ Some a → IsOfItem items a
 occurrence-of-item items whole p a e =
     let listed = occurrence_at-listed (joined items) p a e in
     let found = found-in 0 items listed.0 a
-        (ap (λ os. slice_get os listed.0) (sym (occurrences-joined items whole)) ∙ listed.1) in
+    (ap (λ os. slice_get os listed.0) (sym (occurrences-joined items whole)) ∙ listed.1) in
     let n : 0 + offset items found.0 ≡ offset items found.0 = omega arith in
-    record { m = found.0; item = found.1; there = found.2; j = found.3; o = found.4; at = found.5;
-        is = found.6 ∙ ap (λ n. moved_occurrence n found.4) n }
+    record {
+      m = found.0;
+      item = found.1;
+      there = found.2;
+      j = found.3;
+      o = found.4;
+      at = found.5;
+      is = found.6 ∙ ap (λ n. moved_occurrence n found.4) n;
+    }
 
 -- and an occurrence of an item is one of the whole
 listed-in : (k : ℕ) (items : List (List Item)) (m : ℕ) (item : List Item) (j : ℕ) (o : Occurrence)
-        →
+    →
     slice_get items m ≡ Some item → slice_get (occurrences (tree_of_items item)) j ≡ Some o →
     (i : ℕ) × (slice_get (each_moved moved_occurrence (λ item. occurrences (tree_of_items item)) k
-        items) i ≡ Some (moved_occurrence (k + offset items m) o))
+    items) i ≡ Some (moved_occurrence (k + offset items m) o))
 listed-in k [] m item j o at there = absurd (none-some item at)
 listed-in k (x ∷ items) zero item j o at there =
-    let n : k ≡ k + 0 = omega arith in
-    (j, get-left (map (moved_occurrence k) (occurrences (tree_of_items x)))
-        (each_moved moved_occurrence (λ i. occurrences (tree_of_items i)) (k + length x) items) j
-        (moved_occurrence k o) (map-get (moved_occurrence k) (occurrences (tree_of_items x)) j o
-        (ap (λ i. slice_get (occurrences (tree_of_items i)) j) (same_Some x item at) ∙ there))
-        ∙ ap (λ n. Some (moved_occurrence n o)) n)
+    let n : k ≡ k + 0 = omega arith in (
+      j,
+      get-left (map (moved_occurrence k) (occurrences (tree_of_items x)))
+          (each_moved moved_occurrence (λ i. occurrences (tree_of_items i)) (k + length x) items) j
+          (moved_occurrence k o) (map-get (moved_occurrence k) (occurrences (tree_of_items x)) j o
+          (ap (λ i. slice_get (occurrences (tree_of_items i)) j) (same_Some x item at) ∙ there))
+          ∙ ap (λ n. Some (moved_occurrence n o)) n,
+    )
 listed-in k (x ∷ items) (suc m) item j o at there =
     let rest = listed-in (k + length x) items m item j o at there in
     let more = get-right (map (moved_occurrence k) (occurrences (tree_of_items x)))
-        (each_moved moved_occurrence (λ i. occurrences (tree_of_items i)) (k + length x) items)
-        rest.0 (moved_occurrence (k + length x + offset items m) o) rest.1 in
+    (each_moved moved_occurrence (λ i. occurrences (tree_of_items i)) (k + length x) items)
+    rest.0 (moved_occurrence (k + length x + offset items m) o) rest.1 in
     let both = length-append x (flat (take m items)) in
     let n : k + length x + offset items m ≡ k + offset (x ∷ items) (suc m) = omega (arith, both) in
     (more.0, more.1 ∙ ap (λ n. Some (moved_occurrence n o)) n)
@@ -125,7 +141,9 @@ pub occurrence-in-whole : (items : List (List Item)) → AllOf IsWhole items →
     (p : ℕ) × (occurrence_at (joined items) p ≡ Some (moved_occurrence (offset items m) o))
 occurrence-in-whole items whole m item j o at there =
     let found = listed-in 0 items m item j o at there in
-    let n : 0 + offset items m ≡ offset items m = omega arith in
-    (_, occurrences-at (joined items) found.0 (moved_occurrence (offset items m) o)
-        (ap (λ os. slice_get os found.0) (occurrences-joined items whole) ∙ found.1
-        ∙ ap (λ n. Some (moved_occurrence n o)) n))
+    let n : 0 + offset items m ≡ offset items m = omega arith in (
+      _,
+      occurrences-at (joined items) found.0 (moved_occurrence (offset items m) o)
+          (ap (λ os. slice_get os found.0) (occurrences-joined items whole) ∙ found.1
+          ∙ ap (λ n. Some (moved_occurrence n o)) n),
+    )

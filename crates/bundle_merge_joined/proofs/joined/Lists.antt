@@ -95,7 +95,7 @@ pub get-behind : {A : Type 0} (xs ys : List A) (p : ℕ) →
 get-behind [] ys p = let n : 0 + p ≡ p = omega arith in ap (slice_get ys) n
 get-behind (x ∷ xs) ys p =
     let n : length (x ∷ xs) + p ≡ suc (length xs + p) = omega arith in
-        ap (slice_get (x ∷ (xs ++ ys))) n ∙ get-behind xs ys p
+    ap (slice_get (x ∷ (xs ++ ys))) n ∙ get-behind xs ys p
 
 pub get-first : {A : Type 0} (before after : List A) (x : A) →
     slice_get (before ++ x ∷ after) (length before) ≡ Some x
@@ -115,18 +115,18 @@ map-get f xs i x e = slice_get-map f xs i ∙ ap (option_map f) e
 
 -- what is told of items that stand before others, and of those
 pub each-append : {A : Type 0} (move : ℕ → A → A) (tell : List Item → List A)
-        (before more : List (List Item)) (k : ℕ) →
+    (before more : List (List Item)) (k : ℕ) →
     each_moved move tell k (before ++ more) ≡ each_moved move tell k before
-        ++ each_moved move tell (k + length (flat before)) more
+    ++ each_moved move tell (k + length (flat before)) more
 each-append move tell [] more k =
     let n : k ≡ k + 0 = omega arith in ap (λ k. each_moved move tell k more) n
 each-append move tell (item ∷ before) more k =
     ap (λ rest. map (move k) (tell item) ++ rest)
-        (each-append move tell before more (k + length item))
+    (each-append move tell before more (k + length item))
     ∙ ap (λ n. map (move k) (tell item)
-        ++ (each_moved move tell (k + length item) before ++ each_moved move tell n more)) further
+    ++ (each_moved move tell (k + length item) before ++ each_moved move tell n more)) further
     ∙ sym (append_assoc (map (move k) (tell item)) (each_moved move tell (k + length item) before)
-        (each_moved move tell (k + length (item ++ flat before)) more))
+    (each_moved move tell (k + length (item ++ flat before)) more))
   where
     further : k + length item + length (flat before) ≡ k + length (item ++ flat before)
     further = let both = length-append item (flat before) in omega (arith, both)

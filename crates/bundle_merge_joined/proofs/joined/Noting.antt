@@ -22,28 +22,28 @@ use Rattle.bundle_merge_joined.proofs.joined.Resolved.{resolved}
 told-found : (f : Occurrence → Option Declared) (p : Declared → Bool) (os : List Occurrence) →
     list_any p (filter_map f os) ≡ true →
     (i : ℕ) × (o : Occurrence) × (d : Declared) × (slice_get os i ≡ Some o) × (f o ≡ Some d)
-        × (p d ≡ true)
+    × (p d ≡ true)
 told-found f p [] e = absurd (false≢true e)
 told-found f p (x ∷ os) e = by_first (f x) refl e (told-found f p os)
   where
     later : (i : ℕ) × (o : Occurrence) × (d : Declared) × (slice_get os i ≡ Some o)
-            × (f o ≡ Some d) × (p d ≡ true) →
+        × (f o ≡ Some d) × (p d ≡ true) →
         (i : ℕ) × (o : Occurrence) × (d : Declared) × (slice_get (x ∷ os) i ≡ Some o)
-            × (f o ≡ Some d) × (p d ≡ true)
+        × (f o ≡ Some d) × (p d ≡ true)
     later it = (suc it.0, it.1, it.2, it.3, it.4, it.5)
 
     by_first : (first : Option Declared) → f x ≡ first →
         list_any p (cons_option first (filter_map f os)) ≡ true →
         (list_any p (filter_map f os) ≡ true → (i : ℕ) × (o : Occurrence) × (d : Declared)
-            × (slice_get os i ≡ Some o) × (f o ≡ Some d) × (p d ≡ true)) →
+        × (slice_get os i ≡ Some o) × (f o ≡ Some d) × (p d ≡ true)) →
         (i : ℕ) × (o : Occurrence) × (d : Declared) × (slice_get (x ∷ os) i ≡ Some o)
-            × (f o ≡ Some d) × (p d ≡ true)
+        × (f o ≡ Some d) × (p d ≡ true)
     by_first None is any ih = later (ih any)
     by_first (Some d) is any ih = by_test (p d) refl any
       where
         by_test : (b : Bool) → p d ≡ b → (b || list_any p (filter_map f os)) ≡ true →
             (i : ℕ) × (o : Occurrence) × (d : Declared) × (slice_get (x ∷ os) i ≡ Some o)
-                × (f o ≡ Some d) × (p d ≡ true)
+            × (f o ≡ Some d) × (p d ≡ true)
         by_test true passes any = (0, x, d, refl, is, passes)
         by_test false passes any = later (ih any)
 
@@ -64,10 +64,11 @@ module _ (item : List Item) (named : IsNamed item) where
   -- what an identifier that declares denotes
   by-way : (a : Occurrence) (d : Declared) → declaration_of ByContext Es a ≡ Some d →
       (d.name ≡ its_name a) × (own_denoted item a ≡ Bound (home_of (own_declared item) d) d.name)
-  by-way a d is =
-      (by_role (is_binding a.role) (way_of a.path) is,
-          ap (own_or_found (own_declared item)
-          (denoted_by_context (own_declared item) (scopes_around Es a.path) (its_name a))) is)
+  by-way a d is = (
+    by_role (is_binding a.role) (way_of a.path) is,
+    ap (own_or_found (own_declared item)
+        (denoted_by_context (own_declared item) (scopes_around Es a.path) (its_name a))) is,
+  )
     where
       by_role : (b : Bool) (way : Option Way) →
           cond b (declared_by a.place (its_name a) (scopes_around Es a.path) way) None ≡ Some d →
@@ -90,19 +91,19 @@ module _ (item : List Item) (named : IsNamed item) where
   declaring : (name : Name) → is_inner_name (own_declared item) name ≡ true → Declares item name
   declaring name e =
       let it = told-found (declaration_of ByContext Es)
-          (λ d. not (is_top (home_of (own_declared item) d)) && names_agree d.name name)
-          (occurrences (tree_of_items item))
-          (ap (list_any (λ d. not (is_top (home_of (own_declared item) d))
-          && names_agree d.name name)) (sym (declared-item item named)) ∙ e) in
+      (λ d. not (is_top (home_of (own_declared item) d)) && names_agree d.name name)
+      (occurrences (tree_of_items item))
+      (ap (list_any (λ d. not (is_top (home_of (own_declared item) d))
+      && names_agree d.name name)) (sym (declared-item item named)) ∙ e) in
       let parts = and_parts (not (is_top (home_of (own_declared item) it.2)))
-          (names_agree it.2.name name) it.5 in
+      (names_agree it.2.name name) it.5 in
       let way = by-way it.1 it.2 it.4 in
       record {
         a = it.1;
         listed = (it.0, it.3);
         inner =
             not-top it.1 (viewed item named it.1 (it.0, it.3)) (home_of (own_declared item) it.2)
-                it.2.name way.1 (not-true (is_top (home_of (own_declared item) it.2)) parts.0);
+            it.2.name way.1 (not-true (is_top (home_of (own_declared item) it.2)) parts.0);
         written = ap is_written way.1 ∙ ap (λ (n : Name). is_some n.ctxt) way.0;
         agrees = ap (λ n. names_agree n name) (sym way.0) ∙ parts.1;
       }
@@ -114,7 +115,7 @@ module _ (item : List Item) (named : IsNamed item) where
 same-ident : (a b : Occurrence) → names_agree (its_name a) (its_name b) ≡ true → SameIdent a b
 same-ident a b e =
     let parts = and_parts (bytes_eq a.sym b.sym) (a.ctxt == b.ctxt) e in
-        ((bytes_eq-Decides a.sym b.sym).0 parts.0, eqb-true a.ctxt b.ctxt parts.1)
+    ((bytes_eq-Decides a.sym b.sym).0 parts.0, eqb-true a.ctxt b.ctxt parts.1)
 
 -- NOTING: each occurrence has its note.
 module _ (items : List (List Item)) (named : AllOf IsNamed items) (told : AreToldApart items)
@@ -126,9 +127,9 @@ module _ (items : List (List Item)) (named : AllOf IsNamed items) (told : AreTol
   of-inner : Declares item (its_name o) → IsNoted items item o
   of-inner d =
       let same = ((told.inside m item at).same d.a o d.listed listed d.inner).0
-          (same-ident d.a o d.agrees) in
+      (same-ident d.a o d.agrees) in
       inner (ap is_inner (sym same) ∙ d.inner)
-          (λ unwritten. absurd (false≢true (sym unwritten ∙ ap is_written (sym same) ∙ d.written)))
+      (λ unwritten. absurd (false≢true (sym unwritten ∙ ap is_written (sym same) ∙ d.written)))
 
   of-rest : {d : Denoted} → Viewed item o d → own_denoted item o ≡ d →
       is_inner_name (own_declared item) (its_name o) ≡ false →
@@ -138,7 +139,7 @@ module _ (items : List (List Item)) (named : AllOf IsNamed items) (told : AreTol
       absurd (false≢true (sym (own-top items m item (its_name o) at not_top) ∙ is))
   of-rest (written (Inner kind begins) in_range is) e not_inner not_top =
       absurd (false≢true (sym not_inner
-          ∙ inner-declared (own_declared item) kind begins (its_name o) is))
+      ∙ inner-declared (own_declared item) kind begins (its_name o) is))
   of-rest (implicit Wrapper in_range other fun) e not_inner not_top = absurd in_range
   of-rest (implicit Top in_range other fun) e not_inner not_top = absurd (false≢true fun)
   of-rest (implicit (Inner kind begins) in_range other fun) e not_inner not_top =
@@ -149,7 +150,7 @@ module _ (items : List (List Item)) (named : AllOf IsNamed items) (told : AreTol
   pub note-of : IsNoted items item o
   note-of =
       by_inner (is_inner_name (own_declared item) (its_name o)) refl
-          (is_top_name items (its_name o)) refl
+      (is_top_name items (its_name o)) refl
     where
       by_inner : (b : Bool) → is_inner_name (own_declared item) (its_name o) ≡ b → (t : Bool) →
           is_top_name items (its_name o) ≡ t → IsNoted items item o
@@ -160,8 +161,12 @@ module _ (items : List (List Item)) (named : AllOf IsNamed items) (told : AreTol
 pub told-apart : (items : List (List Item)) → AllOf IsNamed items → AreToldApart items →
     AreApart items
 told-apart items named told =
-    record { noted = λ m item o at listed. note-of items named told m item o at listed;
-        inside = told.inside; others = told.others; own_arguments = told.own_arguments }
+    record {
+      noted = λ m item o at listed. note-of items named told m item o at listed;
+      inside = told.inside;
+      others = told.others;
+      own_arguments = told.own_arguments;
+    }
 
 -- the whole is resolved
 pub resolved-by_contexts : (items : List (List Item)) → AllOf IsWhole items → AllOf IsNamed items →

@@ -58,22 +58,30 @@ moved-past k a b m (h.Open field head) = record {
   own = omega arith;
   path =
       λ f. ap (λ n. record { head = head; begins = n; field = f } ∷ in_field field b.path) begins
-          ∙ ap (λ rest. record { head = head; begins = moved k a.place; field = f } ∷ rest)
-          (m.path field);
+      ∙ ap (λ rest. record { head = head; begins = moved k a.place; field = f } ∷ rest)
+      (m.path field);
   deep =
       λ is. ap (λ n. record { head = head; begins = n; field = 0 } ∷ in_field field b.path) begins
-          ∙ ap (λ rest. record { head = head; begins = moved k a.place; field = 0 } ∷ rest)
-          (m.path field);
+      ∙ ap (λ rest. record { head = head; begins = moved k a.place; field = 0 } ∷ rest)
+      (m.path field);
 }
   where
     begins : b.place ≡ moved k a.place
     begins = m.place ∙ sym (moved-from k a.place m.own)
 moved-past k a b m (h.Ident field symbol ctxt role) =
-    record { place = let is = m.place in omega (arith, is); own = omega arith; path = m.path;
-        deep = m.deep }
+    record {
+      place = let is = m.place in omega (arith, is);
+      own = omega arith;
+      path = m.path;
+      deep = m.deep;
+    }
 moved-past k a b m (h.Hole field) =
-    record { place = let is = m.place in omega (arith, is); own = omega arith; path = m.path;
-        deep = m.deep }
+    record {
+      place = let is = m.place in omega (arith, is);
+      own = omega arith;
+      path = m.path;
+      deep = m.deep;
+    }
 moved-past k a b m h.Close = record {
   place = let is = m.place in omega (arith, is);
   own = omega arith;
@@ -91,11 +99,21 @@ pub moved-occurrence : (k : ℕ) (a b : Spot) → AreMoved k a b → (x : Item) 
     occurrence_of b x ≡ option_map (moved_occurrence k) (occurrence_of a x)
 moved-occurrence k a b m (h.Open field head) = refl
 moved-occurrence k a b m (h.Ident field symbol ctxt r.Binding) =
-    λ i. Some (record { place = m.place i; sym = symbol; ctxt = ctxt; role = r.Binding;
-        path = m.path field i })
+    λ i. Some (record {
+      place = m.place i;
+      sym = symbol;
+      ctxt = ctxt;
+      role = r.Binding;
+      path = m.path field i;
+    })
 moved-occurrence k a b m (h.Ident field symbol ctxt r.Reference) =
-    λ i. Some (record { place = m.place i; sym = symbol; ctxt = ctxt; role = r.Reference;
-        path = m.path field i })
+    λ i. Some (record {
+      place = m.place i;
+      sym = symbol;
+      ctxt = ctxt;
+      role = r.Reference;
+      path = m.path field i;
+    })
 moved-occurrence k a b m (h.Ident field symbol ctxt r.Word) = refl
 moved-occurrence k a b m (h.Hole field) = refl
 moved-occurrence k a b m h.Close = refl
@@ -111,7 +129,7 @@ moved-occurrences k [] a b m = refl
 moved-occurrences k (x ∷ xs) a b m =
     ap (λ o. cons_option o (occurrences_from (past b x) xs)) (moved-occurrence k a b m x)
     ∙ ap (cons_option (option_map (moved_occurrence k) (occurrence_of a x)))
-        (moved-occurrences k xs (past a x) (past b x) (moved-past k a b m x))
+    (moved-occurrences k xs (past a x) (past b x) (moved-past k a b m x))
     ∙ cons_option-map (moved_occurrence k) (occurrence_of a x) (occurrences_from (past a x) xs)
 
 -- the module's node lies below so many others
@@ -147,7 +165,7 @@ below-behind [] depth last s e b = subst (λ o. IsBelow o s.path) (same_number d
     same_number m n is = cc
 below-behind (h.Open field head ∷ xs) depth last s e b =
     below-behind xs (suc depth) last (past s (h.Open field head)) e
-        (below-in_field depth field s.path b)
+    (below-in_field depth field s.path b)
 below-behind (h.Ident field symbol ctxt role ∷ xs) depth last s e b =
     below-behind xs depth last (past s (h.Ident field symbol ctxt role)) e b
 below-behind (h.Hole field ∷ xs) depth last s e b =
@@ -163,8 +181,12 @@ pub record IsAt (k : ℕ) (s : Spot) : Type 0 where
 
 pub moved-start : (k : ℕ) (s : Spot) → IsAt k s → AreMoved k inside s
 moved-start k s at =
-    record { place = at.place; own = omega arith; path = same s.path at.below;
-        deep = λ is. absurd is }
+    record {
+      place = at.place;
+      own = omega arith;
+      path = same s.path at.below;
+      deep = λ is. absurd is;
+    }
   where
     same : (path : List Around) → IsBelow 0 path → (field : ℕ) →
         in_field field path ≡ moved_path k (in_field field inside.path)
@@ -182,16 +204,24 @@ at-behind k s at item whole = record {
 -- the same identifier at another spot
 pub other-spot : (s t : Spot) (x : Item) (o : Occurrence) → occurrence_of s x ≡ Some o →
     (u : Occurrence) × (occurrence_of t x ≡ Some u) × (u.sym ≡ o.sym) × (u.ctxt ≡ o.ctxt)
-        × (u.role ≡ o.role)
+    × (u.role ≡ o.role)
 other-spot s t (h.Open field head) o e = absurd (none-some o e)
 other-spot s t (h.Ident field symbol ctxt r.Binding) o e =
-    let same = same_Some _ o e in
-        (_, refl, ap (λ (x : Occurrence). x.sym) same, ap (λ (x : Occurrence). x.ctxt) same,
-        ap (λ (x : Occurrence). x.role) same)
+    let same = same_Some _ o e in (
+      _,
+      refl,
+      ap (λ (x : Occurrence). x.sym) same,
+      ap (λ (x : Occurrence). x.ctxt) same,
+      ap (λ (x : Occurrence). x.role) same,
+    )
 other-spot s t (h.Ident field symbol ctxt r.Reference) o e =
-    let same = same_Some _ o e in
-        (_, refl, ap (λ (x : Occurrence). x.sym) same, ap (λ (x : Occurrence). x.ctxt) same,
-        ap (λ (x : Occurrence). x.role) same)
+    let same = same_Some _ o e in (
+      _,
+      refl,
+      ap (λ (x : Occurrence). x.sym) same,
+      ap (λ (x : Occurrence). x.ctxt) same,
+      ap (λ (x : Occurrence). x.role) same,
+    )
 other-spot s t (h.Ident field symbol ctxt r.Word) o e = absurd (none-some o e)
 other-spot s t (h.Hole field) o e = absurd (none-some o e)
 other-spot s t h.Close o e = absurd (none-some o e)
@@ -209,23 +239,23 @@ item-occurrences item =
 all-occurrences : (k : ℕ) (s : Spot) → IsAt k s → (items : List (List Item)) →
     AllOf IsWhole items →
     occurrences_from s (flat items)
-        ≡ each_moved moved_occurrence (λ item. occurrences (tree_of_items item)) k items
+    ≡ each_moved moved_occurrence (λ item. occurrences (tree_of_items item)) k items
 all-occurrences k s at [] whole = refl
 all-occurrences k s at (item ∷ more) whole =
     occurrences-append s item (flat more)
     ∙ ap (λ os. os ++ occurrences_from (fold past s item) (flat more))
-        (moved-occurrences k item inside s (moved-start k s at)
-        ∙ ap (map (moved_occurrence k)) (sym (item-occurrences item)))
+    (moved-occurrences k item inside s (moved-start k s at)
+    ∙ ap (map (moved_occurrence k)) (sym (item-occurrences item)))
     ∙ ap (λ os. map (moved_occurrence k) (occurrences (tree_of_items item)) ++ os)
-        (all-occurrences (k + length item) (fold past s item) (at-behind k s at item whole.0) more
-        whole.1)
+    (all-occurrences (k + length item) (fold past s item) (at-behind k s at item whole.0) more
+    whole.1)
 
 pub first-at : IsAt 0 inside
 first-at = record { place = refl; below = (refl, refl) }
 
 pub occurrences-joined : (items : List (List Item)) → AllOf IsWhole items →
     occurrences (joined items)
-        ≡ each_moved moved_occurrence (λ item. occurrences (tree_of_items item)) 0 items
+    ≡ each_moved moved_occurrence (λ item. occurrences (tree_of_items item)) 0 items
 occurrences-joined items whole =
     item-occurrences (flat items) ∙ all-occurrences 0 inside first-at items whole
 
@@ -234,8 +264,8 @@ occurrences-joined items whole =
 path-behind : (k : ℕ) (xs ys zs : List Item) (depth last : ℕ) (a b : Spot) → AreMoved k a b →
     IsBelow depth a.path → open_behind depth xs ≡ Some last → (p : ℕ) → p < length xs →
     path_to_option (fold past b (take p (xs ++ ys))).path (slice_get (xs ++ ys) p)
-        ≡ moved_path k (path_to_option (fold past a (take p (xs ++ zs))).path
-        (slice_get (xs ++ zs) p))
+    ≡ moved_path k (path_to_option (fold past a (take p (xs ++ zs))).path
+    (slice_get (xs ++ zs) p))
 path-behind k [] ys zs depth last a b m below e p lt = absurd (omega (arith, lt))
 path-behind k (h.Open field head ∷ xs) ys zs depth last a b m below e zero lt = m.path field
 path-behind k (h.Ident field symbol ctxt role ∷ xs) ys zs depth last a b m below e zero lt =
@@ -246,27 +276,27 @@ path-behind k (h.Close ∷ xs) ys zs (suc depth) last a b m below e zero lt =
     m.deep (below-deep depth a.path below)
 path-behind k (h.Open field head ∷ xs) ys zs depth last a b m below e (suc p) lt =
     path-behind k xs ys zs (suc depth) last (past a (h.Open field head))
-        (past b (h.Open field head)) (moved-past k a b m (h.Open field head))
-        (below-in_field depth field a.path below) e p (omega (arith, lt))
+    (past b (h.Open field head)) (moved-past k a b m (h.Open field head))
+    (below-in_field depth field a.path below) e p (omega (arith, lt))
 path-behind k (h.Ident field symbol ctxt role ∷ xs) ys zs depth last a b m below e (suc p) lt =
     path-behind k xs ys zs depth last (past a (h.Ident field symbol ctxt role))
-        (past b (h.Ident field symbol ctxt role))
-        (moved-past k a b m (h.Ident field symbol ctxt role)) below e p (omega (arith, lt))
+    (past b (h.Ident field symbol ctxt role))
+    (moved-past k a b m (h.Ident field symbol ctxt role)) below e p (omega (arith, lt))
 path-behind k (h.Hole field ∷ xs) ys zs depth last a b m below e (suc p) lt =
     path-behind k xs ys zs depth last (past a (h.Hole field)) (past b (h.Hole field))
-        (moved-past k a b m (h.Hole field)) below e p (omega (arith, lt))
+    (moved-past k a b m (h.Hole field)) below e p (omega (arith, lt))
 path-behind k (h.Close ∷ xs) ys zs zero last a b m below e (suc p) lt = absurd (none-some last e)
 path-behind k (h.Close ∷ xs) ys zs (suc depth) last a b m below e (suc p) lt =
     path-behind k xs ys zs depth last (past a h.Close) (past b h.Close)
-        (moved-past k a b m h.Close) (below-outer depth a.path below) e p (omega (arith, lt))
+    (moved-past k a b m h.Close) (below-outer depth a.path below) e p (omega (arith, lt))
 
 -- an occurrence in an item
 occurrence-behind : (k : ℕ) (xs ys zs : List Item) (a b : Spot) → AreMoved k a b → (p : ℕ) →
     p < length xs →
     option_and_then (occurrence_of (fold past b (take p (xs ++ ys)))) (slice_get (xs ++ ys) p)
-        ≡ option_map (moved_occurrence k)
-        (option_and_then (occurrence_of (fold past a (take p (xs ++ zs))))
-        (slice_get (xs ++ zs) p))
+    ≡ option_map (moved_occurrence k)
+    (option_and_then (occurrence_of (fold past a (take p (xs ++ zs))))
+    (slice_get (xs ++ zs) p))
 occurrence-behind k [] ys zs a b m p lt = absurd (omega (arith, lt))
 occurrence-behind k (x ∷ xs) ys zs a b m zero lt = moved-occurrence k a b m x
 occurrence-behind k (x ∷ xs) ys zs a b m (suc p) lt =
@@ -278,7 +308,7 @@ take-behind : (xs ys : List Item) (p : ℕ) (s : Spot) →
 take-behind [] ys p s = let n : 0 + p ≡ p = omega arith in ap (λ n. fold past s (take n ys)) n
 take-behind (x ∷ xs) ys p s =
     let n : length (x ∷ xs) + p ≡ suc (length xs + p) = omega arith in
-        ap (λ n. fold past s (take n (x ∷ (xs ++ ys)))) n ∙ take-behind xs ys p (past s x)
+    ap (λ n. fold past s (take n (x ∷ (xs ++ ys)))) n ∙ take-behind xs ys p (past s x)
 
 -- the items before one of them, and what stands behind
 pub flat-append : (before more : List (List Item)) →
@@ -306,8 +336,8 @@ pub at-item : (before : List (List Item)) → AllOf IsWhole before →
     IsAt (length (flat before)) (fold past inside (flat before))
 at-item before whole =
     let at = at-behind 0 inside first-at (flat before) (whole-flat before whole) in
-        let n : 0 + length (flat before) ≡ length (flat before) = omega arith in
-        subst (λ k. IsAt k (fold past inside (flat before))) n at
+    let n : 0 + length (flat before) ≡ length (flat before) = omega arith in
+    subst (λ k. IsAt k (fold past inside (flat before))) n at
 
 module _ (before after : List (List Item)) (item : List Item) (whole : AllOf IsWhole before) where
   abbrev further : ℕ
@@ -324,39 +354,39 @@ module _ (before after : List (List Item)) (item : List Item) (whole : AllOf IsW
 
   spot-is : (p : ℕ) →
       spot_before (joined (before ++ item ∷ after)) (suc (further + p))
-          ≡ fold past (fold past inside (flat before)) (take p (item ++ behind))
+      ≡ fold past (fold past inside (flat before)) (take p (item ++ behind))
   spot-is p =
       ap (λ rest. fold past inside (take (further + p) rest)) inside-whole
       ∙ take-behind (flat before) (item ++ behind) p inside
 
   item-is : (p : ℕ) →
       slice_get (joined (before ++ item ∷ after)) (suc (further + p))
-          ≡ slice_get (item ++ behind) p
+      ≡ slice_get (item ++ behind) p
   item-is p =
       ap (λ rest. slice_get rest (further + p)) inside-whole
       ∙ get-behind (flat before) (item ++ behind) p
 
   pub path_at-joined : IsWhole item → (p : ℕ) → p < length item →
       path_at (joined (before ++ item ∷ after)) (suc (further + p))
-          ≡ moved_path further (path_at (tree_of_items item) (suc p))
+      ≡ moved_path further (path_at (tree_of_items item) (suc p))
   path_at-joined balanced p lt =
       ap (λ (s : Spot). path_to_option s.path
-          (slice_get (joined (before ++ item ∷ after)) (suc (further + p)))) (spot-is p)
+      (slice_get (joined (before ++ item ∷ after)) (suc (further + p)))) (spot-is p)
       ∙ ap (path_to_option
-          (fold past (fold past inside (flat before)) (take p (item ++ behind))).path) (item-is p)
+      (fold past (fold past inside (flat before)) (take p (item ++ behind))).path) (item-is p)
       ∙ path-behind further item behind (h.Close ∷ []) 0 0 inside (fold past inside (flat before))
-          (moved-start further (fold past inside (flat before)) (at-item before whole))
-          (refl, refl) balanced p lt
+      (moved-start further (fold past inside (flat before)) (at-item before whole))
+      (refl, refl) balanced p lt
 
   pub occurrence_at-joined : (p : ℕ) → p < length item →
       occurrence_at (joined (before ++ item ∷ after)) (suc (further + p))
-          ≡ option_map (moved_occurrence further) (occurrence_at (tree_of_items item) (suc p))
+      ≡ option_map (moved_occurrence further) (occurrence_at (tree_of_items item) (suc p))
   occurrence_at-joined p lt =
       ap (λ s. option_and_then (occurrence_of s)
-          (slice_get (joined (before ++ item ∷ after)) (suc (further + p)))) (spot-is p)
+      (slice_get (joined (before ++ item ∷ after)) (suc (further + p)))) (spot-is p)
       ∙ ap (option_and_then
-          (occurrence_of (fold past (fold past inside (flat before)) (take p (item ++ behind)))))
-          (item-is p)
+      (occurrence_of (fold past (fold past inside (flat before)) (take p (item ++ behind)))))
+      (item-is p)
       ∙ occurrence-behind further item behind (h.Close ∷ []) inside
-          (fold past inside (flat before))
-          (moved-start further (fold past inside (flat before)) (at-item before whole)) p lt
+      (fold past inside (flat before))
+      (moved-start further (fold past inside (flat before)) (at-item before whole)) p lt

@@ -46,7 +46,7 @@ scope_at-in : (low high : ℕ) (node : Around) → IsNodeIn low high node → (o
     AllOf (IsIn low high) (scope_at node.begins (kind_of_scope node.head node.field outer))
 scope_at-in low high node (inl is) outer =
     subst (λ head. AllOf (IsIn low high)
-        (scope_at node.begins (kind_of_scope head node.field outer))) (sym is) tt
+    (scope_at node.begins (kind_of_scope head node.field outer))) (sym is) tt
 scope_at-in low high node (inr is) outer = by_kind (kind_of_scope node.head node.field outer)
   where
     by_kind : (kind : Option ScopeKind) → AllOf (IsIn low high) (scope_at node.begins kind)
@@ -58,8 +58,8 @@ pub scopes-in : (low high : ℕ) (path : List Around) → AllOf (IsNodeIn low hi
 scopes-in low high [] all = (tt, tt)
 scopes-in low high (node ∷ outer) all =
     all-append (IsIn low high) (scope_at node.begins (kind_of_scope node.head node.field outer))
-        (scopes_around Es outer) (scope_at-in low high node all.0 outer)
-        (scopes-in low high outer all.1)
+    (scopes_around Es outer) (scope_at-in low high node all.0 outer)
+    (scopes-in low high outer all.1)
 
 -- the nodes around the spots of a list
 field-in : (low high field : ℕ) (path : List Around) → AllOf (IsNodeIn low high) path →
@@ -83,12 +83,13 @@ past-in low s x is = (let from = is.0 in omega (arith, from), by_item x)
         AllOf (IsNodeIn low (s.place + 1)) path
     wider path all =
         all-more (IsNodeIn low s.place) (IsNodeIn low (s.place + 1))
-            (node-wider low s.place (s.place + 1) (omega arith)) path all
+        (node-wider low s.place (s.place + 1) (omega arith)) path all
 
     by_item : (x : Item) → AllOf (IsNodeIn low (s.place + 1)) (past s x).path
-    by_item (h.Open field head) =
-        (inr (is.0, omega arith),
-            wider (in_field field s.path) (field-in low s.place field s.path is.1))
+    by_item (h.Open field head) = (
+      inr (is.0, omega arith),
+      wider (in_field field s.path) (field-in low s.place field s.path is.1),
+    )
     by_item (h.Ident field symbol ctxt role) = wider s.path is.1
     by_item (h.Hole field) = wider s.path is.1
     by_item h.Close = wider (outer_path s.path) (outer-in low s.place s.path is.1)
@@ -101,9 +102,9 @@ spot-in : (low high : ℕ) (s : Spot) (field : ℕ) → IsSpotIn low s → s.pla
     AllOf (IsIn low high) (scopes_around Es (in_field field s.path))
 spot-in low high s field is le =
     scopes-in low high (in_field field s.path)
-        (field-in low high field s.path
-        (all-more (IsNodeIn low s.place) (IsNodeIn low high) (node-wider low s.place high le)
-        s.path is.1))
+    (field-in low high field s.path
+    (all-more (IsNodeIn low s.place) (IsNodeIn low high) (node-wider low s.place high le)
+    s.path is.1))
 
 occurrences-in : (low high : ℕ) (xs : List Item) (s : Spot) → IsSpotIn low s →
     s.place + length xs ≤ high → AllOf (IsOccurrenceIn low high) (occurrences_from s xs)
@@ -129,8 +130,8 @@ pub item-in : (item : List Item) →
     AllOf (IsOccurrenceIn 1 (1 + length item)) (occurrences (tree_of_items item))
 item-in item =
     subst (AllOf (IsOccurrenceIn 1 (1 + length item))) (sym (item-occurrences item))
-        (occurrences-in 1 (1 + length item) item inside (omega arith, (inl refl, tt))
-        (omega arith))
+    (occurrences-in 1 (1 + length item) item inside (omega arith, (inl refl, tt))
+    (omega arith))
 
 -- what is declared in scopes that are in the range
 abbrev pub IsDeclaredIn : ℕ → ℕ → Declared → Type 0
@@ -139,7 +140,7 @@ IsDeclaredIn low high d = AllOf (IsIn low high) d.scopes
 declaration-in : (low high : ℕ) (s : Spot) (x : Item) → IsSpotIn low s → s.place ≤ high →
     (rest : List Declared) → AllOf (IsDeclaredIn low high) rest →
     AllOf (IsDeclaredIn low high)
-        (cons_option (option_and_then (declaration_of ByContext Es) (occurrence_of s x)) rest)
+    (cons_option (option_and_then (declaration_of ByContext Es) (occurrence_of s x)) rest)
 declaration-in low high s (h.Open field head) is le rest all = all
 declaration-in low high s (h.Ident field symbol ctxt r.Reference) is le rest all = all
 declaration-in low high s (h.Ident field symbol ctxt r.Word) is le rest all = all
@@ -150,8 +151,8 @@ declaration-in low high s (h.Ident field symbol ctxt r.Binding) is le rest all =
   where
     by_way : (way : Option Way) →
         AllOf (IsDeclaredIn low high)
-            (cons_option (declared_by s.place (name_of ByContext symbol ctxt)
-            (scopes_around Es (in_field field s.path)) way) rest)
+        (cons_option (declared_by s.place (name_of ByContext symbol ctxt)
+        (scopes_around Es (in_field field s.path)) way) rest)
     by_way None = all
     by_way (Some way) = (spot-in low high s field is le, all)
 
@@ -161,19 +162,19 @@ declarations-in : (low high : ℕ) (xs : List Item) (s : Spot) → IsSpotIn low 
 declarations-in low high [] s is le = tt
 declarations-in low high (x ∷ xs) s is le =
     by_default (is_nameless_default x (xs ++ h.Close ∷ []))
-        (declarations-in low high xs (past s x) (past-in low s x is) (omega (arith, le)))
+    (declarations-in low high xs (past s x) (past-in low s x is) (omega (arith, le)))
   where
     by_default : (b : Bool) →
         AllOf (IsDeclaredIn low high) (declared_from ByContext Es (past s x) (xs ++ h.Close ∷ []))
-            →
+        →
         AllOf (IsDeclaredIn low high)
-            (cons_option (cond b (Some (nameless_default Es s.place))
-            (option_and_then (declaration_of ByContext Es) (occurrence_of s x)))
-            (declared_from ByContext Es (past s x) (xs ++ h.Close ∷ [])))
+        (cons_option (cond b (Some (nameless_default Es s.place))
+        (option_and_then (declaration_of ByContext Es) (occurrence_of s x)))
+        (declared_from ByContext Es (past s x) (xs ++ h.Close ∷ [])))
     by_default true all = ((tt, tt), all)
     by_default false all =
         declaration-in low high s x is (omega (arith, le))
-            (declared_from ByContext Es (past s x) (xs ++ h.Close ∷ [])) all
+        (declared_from ByContext Es (past s x) (xs ++ h.Close ∷ [])) all
 
 pub declared-in : (item : List Item) → AllOf (IsDeclaredIn 1 (1 + length item)) (own_declared item)
 declared-in item =
@@ -186,7 +187,7 @@ in-moved k high Wrapper is = is
 in-moved k high Top is = tt
 in-moved k high (Inner kind begins) is =
     let from = is.0 in let to = is.1 in let at = moved-from k begins is.0 in
-        (omega (arith, from, at), omega (arith, to, at))
+    (omega (arith, from, at), omega (arith, to, at))
 
 pub declared-in_moved : (k high : ℕ) (d : Declared) → IsDeclaredIn 1 high d →
     IsDeclaredIn (1 + k) (high + k) (moved_declared k d)
@@ -202,17 +203,17 @@ each-in k high (item ∷ more) le =
     let first : 1 + length item + k ≤ high = omega (arith, le, both) in
     let later : 1 + (k + length item) + length (flat more) ≤ high = omega (arith, le, both) in
     all-append (IsDeclaredIn (1 + k) high) (map (moved_declared k) (own_declared item))
-        (each_moved moved_declared own_declared (k + length item) more)
+    (each_moved moved_declared own_declared (k + length item) more)
     (all-map (IsDeclaredIn 1 (1 + length item)) (IsDeclaredIn (1 + k) high) (moved_declared k)
-        (λ d is. all-more (IsIn (1 + k) (1 + length item + k)) (IsIn (1 + k) high)
-        (in-wider (1 + k) (1 + length item + k) (1 + k) high (omega arith) first)
-        (map (moved_scope k) d.scopes) (declared-in_moved k (1 + length item) d is))
-        (own_declared item) (declared-in item))
+    (λ d is. all-more (IsIn (1 + k) (1 + length item + k)) (IsIn (1 + k) high)
+    (in-wider (1 + k) (1 + length item + k) (1 + k) high (omega arith) first)
+    (map (moved_scope k) d.scopes) (declared-in_moved k (1 + length item) d is))
+    (own_declared item) (declared-in item))
     (all-more (IsDeclaredIn (1 + (k + length item)) high) (IsDeclaredIn (1 + k) high)
-        (λ d is. all-more (IsIn (1 + (k + length item)) high) (IsIn (1 + k) high)
-        (in-wider (1 + (k + length item)) high (1 + k) high (omega arith) (omega arith)) d.scopes
-        is) (each_moved moved_declared own_declared (k + length item) more)
-        (each-in (k + length item) high more later))
+    (λ d is. all-more (IsIn (1 + (k + length item)) high) (IsIn (1 + k) high)
+    (in-wider (1 + (k + length item)) high (1 + k) high (omega arith) (omega arith)) d.scopes
+    is) (each_moved moved_declared own_declared (k + length item) more)
+    (each-in (k + length item) high more later))
 
 -- Scopes of ranges that do not meet are different, but for the top.
 pub apart : (low high other last : ℕ) → (high ≤ other) ⊎ (last ≤ low) → (s t : Scope) →
@@ -237,7 +238,7 @@ both-alike a b c d there back = by_second (c == d) refl
     by_second true is = eq-eqb a b (back (eqb-true c d is))
     by_second false is =
         false_from_ne_true (a == b)
-            (λ same. false≢true (sym is ∙ eq-eqb c d (there (eqb-true a b same))))
+        (λ same. false≢true (sym is ∙ eq-eqb c d (there (eqb-true a b same))))
 
 both-fail : (a b c d : ℕ) → (a ≢ b) → (c ≢ d) → (a == b) ≡ (c == d)
 both-fail a b c d first second =
@@ -266,5 +267,5 @@ same-moved k (Inner kind begins) Top =
     both-fail (moved k begins + 2) 1 (begins + 2) 1 (λ e. omega (arith, e)) (λ e. omega (arith, e))
 same-moved k (Inner kind begins) (Inner which other) =
     both-alike (moved k begins + 2) (moved k other + 2) (begins + 2) (other + 2)
-        (λ e. let same = moved-same k begins other (omega (arith, e)) in omega (arith, same))
-        (λ e. let same : begins ≡ other = omega (arith, e) in ap (λ n. moved k n + 2) same)
+    (λ e. let same = moved-same k begins other (omega (arith, e)) in omega (arith, same))
+    (λ e. let same : begins ≡ other = omega (arith, e) in ap (λ n. moved k n + 2) same)

@@ -100,14 +100,14 @@ pub from_taker-relocated : (f : ℕ → ℕ) (way : Way) (scopes : List Scope) �
 from_taker-relocated f way [] = refl
 from_taker-relocated f way (scope ∷ outer) =
     ap (λ b. cond b (relocated f scope ∷ map (relocated f) outer)
-        (from_taker way (map (relocated f) outer))) (takes-relocated f way scope)
+    (from_taker way (map (relocated f) outer))) (takes-relocated f way scope)
     ∙ by_first (takes way scope) (from_taker-relocated f way outer)
   where
     by_first : (b : Bool) →
         from_taker way (map (relocated f) outer) ≡ map (relocated f) (from_taker way outer) →
         cond b (relocated f scope ∷ map (relocated f) outer)
-            (from_taker way (map (relocated f) outer))
-            ≡ map (relocated f) (cond b (scope ∷ outer) (from_taker way outer))
+        (from_taker way (map (relocated f) outer))
+        ≡ map (relocated f) (cond b (scope ∷ outer) (from_taker way outer))
     by_first true ih = refl
     by_first false ih = ih
 

@@ -41,8 +41,8 @@ same-by_symbol : (d e : Denoted) → same_denoted d e ≡ true →
     same_denoted (by_symbol d) (by_symbol e) ≡ true
 same-by_symbol (Bound scope name) (Bound other its) e =
     and_from (same_scope scope other && bytes_eq name.sym its.sym) true
-        (and_parts (same_scope scope other && bytes_eq name.sym its.sym)
-        (same_context name.ctxt its.ctxt) e).0 refl
+    (and_parts (same_scope scope other && bytes_eq name.sym its.sym)
+    (same_context name.ctxt its.ctxt) e).0 refl
 same-by_symbol (Bound scope name) (Global x) e = e
 same-by_symbol (Global x) (Bound scope name) e = e
 same-by_symbol (Global x) (Global y) e = e
@@ -57,14 +57,14 @@ same-known : (K : Table) (x y : List ℕ) (d e : Denoted) → DenotesOf K d → 
     IsFor x d → IsFor y e → same_denoted d e ≡ true → d ≡ e
 same-known K x y (Bound s m) (Bound t n) known other is its e =
     let parts = and_parts (same_scope s t && bytes_eq m.sym n.sym) (same_context m.ctxt n.ctxt) e
-        in
+    in
     let more = and_parts (same_scope s t) (bytes_eq m.sym n.sym) parts.0 in
     let scopes : s ≡ t =
-        same-of K s t known other (eqb-true (scope_order s) (scope_order t) more.0) in
+    same-of K s t known other (eqb-true (scope_order s) (scope_order t) more.0) in
     let symbols : m.sym ≡ n.sym = (bytes_eq-Decides m.sym n.sym).0 more.1 in
     let names : m ≡ n = is
-        ∙ ap plain (sym (ap (λ (k : Name). k.sym) is) ∙ symbols ∙ ap (λ (k : Name). k.sym) its)
-        ∙ sym its in
+    ∙ ap plain (sym (ap (λ (k : Name). k.sym) is) ∙ symbols ∙ ap (λ (k : Name). k.sym) its)
+    ∙ sym its in
     λ i. Bound (scopes i) (names i)
 same-known K x y (Bound s m) (Global z) known other is its e = absurd (false≢true e)
 same-known K x y (Global w) (Bound t n) known other is its e = absurd (false≢true e)
@@ -84,19 +84,21 @@ module _ (kind : ModuleKind) (before after : List Item)
   its-symbol : (d s : Denoted) → Beside d s → s ≡ by_symbol d
   its-symbol d s x =
       same_Some s (by_symbol d) (sym x.there ∙ ap (λ ds. slice_get ds x.i) (sym resolution.same)
-          ∙ map-get by_symbol (denotations ByContext kind after) x.i d x.here)
+      ∙ map-get by_symbol (denotations ByContext kind after) x.i d x.here)
 
   known-by_symbol : (i : ℕ) (s : Denoted) →
       slice_get (denotations BySymbol kind before) i ≡ Some s →
       (x : List ℕ) × DenotesOf (kind_in start before) s × IsFor x s
   known-by_symbol i s e =
       let it = get-map (denoted_of BySymbol kind (declared BySymbol kind before))
-          (occurrences before) i s e in
-      (it.0.sym, subst (DenotesOf (kind_in start before)) (sym it.2)
-          (denoted-known (kind_in start before) kind (declared BySymbol kind before) it.0
-          (occurrences-known before i it.0 it.1)),
-          subst (IsFor it.0.sym) (sym it.2)
-          (denoted-for kind (declared BySymbol kind before) it.0))
+      (occurrences before) i s e in (
+        it.0.sym,
+        subst (DenotesOf (kind_in start before)) (sym it.2)
+            (denoted-known (kind_in start before) kind (declared BySymbol kind before) it.0
+            (occurrences-known before i it.0 it.1)),
+        subst (IsFor it.0.sym) (sym it.2)
+            (denoted-for kind (declared BySymbol kind before) it.0),
+      )
 
   agree : (d s e t : Denoted) → Beside d s → Beside e t → same_denoted s t ≡ same_denoted d e
   agree d s e t x y = iff (same_denoted s t) (same_denoted d e) forward backward
@@ -106,10 +108,10 @@ module _ (kind : ModuleKind) (before after : List Item)
           let one = known-by_symbol x.i s x.there in
           let two = known-by_symbol y.i t y.there in
           let equal : s ≡ t =
-              same-known (kind_in start before) one.0 two.0 s t one.1 two.1 one.2 two.2 same in
+          same-known (kind_in start before) one.0 two.0 s t one.1 two.1 one.2 two.2 same in
           let alike : d ≡ e =
-              same_Some d e (sym x.here
-              ∙ resolution.one x.i y.i (x.there ∙ ap Some equal ∙ sym y.there) ∙ y.here) in
+          same_Some d e (sym x.here
+          ∙ resolution.one x.i y.i (x.there ∙ ap Some equal ∙ sym y.there) ∙ y.here) in
           ap (same_denoted d) (sym alike) ∙ same-refl d
 
       backward : same_denoted d e ≡ true → same_denoted s t ≡ true
@@ -130,35 +132,37 @@ module _ (kind : ModuleKind) (before after : List Item)
           occurrence_at after p ≡ None → AtPlace p
       by_before None e none =
           neither (ap (option_map (denoted_of ByContext kind (declared ByContext kind after)))
-              none) (ap (option_map (denoted_of BySymbol kind (declared BySymbol kind before))) e)
+          none) (ap (option_map (denoted_of BySymbol kind (declared BySymbol kind before))) e)
       by_before (Some o) e none =
           let listed = occurrence_at-listed before p o e in
           let other = get-map (λ (o : Occurrence). o.place) (occurrences after) listed.0 o.place
-              (ap (λ l. slice_get l listed.0) same_places
-              ∙ map-get (λ (o : Occurrence). o.place) (occurrences before) listed.0 o listed.1) in
+          (ap (λ l. slice_get l listed.0) same_places
+          ∙ map-get (λ (o : Occurrence). o.place) (occurrences before) listed.0 o listed.1) in
           let place : other.0.place ≡ p = sym other.2 ∙ its-place before p o e in
           absurd (none-some other.0 (sym none ∙ ap (occurrence_at after) (sym place)
-              ∙ occurrences-at after listed.0 other.0 other.1))
+          ∙ occurrences-at after listed.0 other.0 other.1))
 
       by_after : (o : Option Occurrence) → occurrence_at after p ≡ o → AtPlace p
       by_after None e = by_before (occurrence_at before p) refl e
       by_after (Some o) e =
           let listed = occurrence_at-listed after p o e in
           let other = get-map (λ (o : Occurrence). o.place) (occurrences before) listed.0 o.place
-              (ap (λ l. slice_get l listed.0) (sym same_places)
-              ∙ map-get (λ (o : Occurrence). o.place) (occurrences after) listed.0 o listed.1) in
+          (ap (λ l. slice_get l listed.0) (sym same_places)
+          ∙ map-get (λ (o : Occurrence). o.place) (occurrences after) listed.0 o listed.1) in
           let place : other.0.place ≡ p = sym other.2 ∙ its-place after p o e in
           let there : occurrence_at before p ≡ Some other.0 = ap (occurrence_at before) (sym place)
-              ∙ occurrences-at before listed.0 other.0 other.1 in
+          ∙ occurrences-at before listed.0 other.0 other.1 in
           both (denoted_of ByContext kind (declared ByContext kind after) o)
-              (denoted_of BySymbol kind (declared BySymbol kind before) other.0)
+          (denoted_of BySymbol kind (declared BySymbol kind before) other.0)
           (ap (option_map (denoted_of ByContext kind (declared ByContext kind after))) e)
           (ap (option_map (denoted_of BySymbol kind (declared BySymbol kind before))) there)
-          (record { i = listed.0;
-              here = map-get (denoted_of ByContext kind (declared ByContext kind after))
-              (occurrences after) listed.0 o listed.1;
-              there = map-get (denoted_of BySymbol kind (declared BySymbol kind before))
-              (occurrences before) listed.0 other.0 other.1 })
+          (record {
+            i = listed.0;
+            here = map-get (denoted_of ByContext kind (declared ByContext kind after))
+                (occurrences after) listed.0 o listed.1;
+            there = map-get (denoted_of BySymbol kind (declared BySymbol kind before))
+                (occurrences before) listed.0 other.0 other.1;
+          })
 
   abbrev pub resolved_view : View
   resolved_view = record { tree = after; kind = kind; reading = ByContext }
@@ -168,7 +172,7 @@ module _ (kind : ModuleKind) (before after : List Item)
 
   told-zipped : (n : ℕ) (xs ys : List Item) → length xs ≡ length ys →
       AllZip Beside (filter_map (denoted resolved_view) (taken_from n xs))
-          (filter_map (denoted first_view) (taken_from n ys))
+      (filter_map (denoted first_view) (taken_from n ys))
   told-zipped n [] [] e = tt
   told-zipped n [] (y ∷ ys) e = absurd (omega (arith, e))
   told-zipped n (x ∷ xs) [] e = absurd (omega (arith, e))
@@ -177,42 +181,42 @@ module _ (kind : ModuleKind) (before after : List Item)
     where
       by_place : AtPlace n →
           AllZip Beside (filter_map (denoted resolved_view) (taken_from (suc n) xs))
-              (filter_map (denoted first_view) (taken_from (suc n) ys)) →
+          (filter_map (denoted first_view) (taken_from (suc n) ys)) →
           AllZip Beside (cons_option (denoted_at ByContext kind after n)
-              (filter_map (denoted resolved_view) (taken_from (suc n) xs)))
-              (cons_option (denoted_at BySymbol kind before n)
-              (filter_map (denoted first_view) (taken_from (suc n) ys)))
+          (filter_map (denoted resolved_view) (taken_from (suc n) xs)))
+          (cons_option (denoted_at BySymbol kind before n)
+          (filter_map (denoted first_view) (taken_from (suc n) ys)))
       by_place (neither one two) ih =
           subst (λ o. AllZip Beside
-              (cons_option o (filter_map (denoted resolved_view) (taken_from (suc n) xs)))
-              (cons_option (denoted_at BySymbol kind before n)
-              (filter_map (denoted first_view) (taken_from (suc n) ys)))) (sym one)
-              (subst (λ o. AllZip Beside
-              (filter_map (denoted resolved_view) (taken_from (suc n) xs))
-              (cons_option o (filter_map (denoted first_view) (taken_from (suc n) ys)))) (sym two)
-              ih)
+          (cons_option o (filter_map (denoted resolved_view) (taken_from (suc n) xs)))
+          (cons_option (denoted_at BySymbol kind before n)
+          (filter_map (denoted first_view) (taken_from (suc n) ys)))) (sym one)
+          (subst (λ o. AllZip Beside
+          (filter_map (denoted resolved_view) (taken_from (suc n) xs))
+          (cons_option o (filter_map (denoted first_view) (taken_from (suc n) ys)))) (sym two)
+          ih)
       by_place (both d s one two x) ih =
           subst (λ o. AllZip Beside
-              (cons_option o (filter_map (denoted resolved_view) (taken_from (suc n) xs)))
-              (cons_option (denoted_at BySymbol kind before n)
-              (filter_map (denoted first_view) (taken_from (suc n) ys)))) (sym one)
-              (subst (λ o. AllZip Beside
-              (d ∷ filter_map (denoted resolved_view) (taken_from (suc n) xs))
-              (cons_option o (filter_map (denoted first_view) (taken_from (suc n) ys)))) (sym two)
-              (x, ih))
+          (cons_option o (filter_map (denoted resolved_view) (taken_from (suc n) xs)))
+          (cons_option (denoted_at BySymbol kind before n)
+          (filter_map (denoted first_view) (taken_from (suc n) ys)))) (sym one)
+          (subst (λ o. AllZip Beside
+          (d ∷ filter_map (denoted resolved_view) (taken_from (suc n) xs))
+          (cons_option o (filter_map (denoted first_view) (taken_from (suc n) ys)))) (sym two)
+          (x, ih))
 
   -- NUMBERS: the numbers of the bindings inside are the same
   pub resolved-number : (from n : ℕ) (xs ys : List Item) → length xs ≡ length ys →
       (d s : Denoted) → Beside d s →
       position (same_denoted s) (inner_bindings first_view from (taken_from n ys))
-          ≡ position (same_denoted d) (inner_bindings resolved_view from (taken_from n xs))
+      ≡ position (same_denoted d) (inner_bindings resolved_view from (taken_from n xs))
   resolved-number from n xs ys len d s x =
       position-zipped Beside agree d s x (inner_bindings resolved_view from (taken_from n xs))
-          (inner_bindings first_view from (taken_from n ys))
+      (inner_bindings first_view from (taken_from n ys))
       (once-zipped Beside agree
-          (filter (is_inside from) (filter_map (denoted resolved_view) (taken_from n xs)))
-          (filter (is_inside from) (filter_map (denoted first_view) (taken_from n ys)))
+      (filter (is_inside from) (filter_map (denoted resolved_view) (taken_from n xs)))
+      (filter (is_inside from) (filter_map (denoted first_view) (taken_from n ys)))
       (filter-zipped Beside agree (is_inside from) (is_inside from)
-          (λ d s x. ap (is_inside from) (its-symbol d s x) ∙ inside-by_symbol from d)
-          (filter_map (denoted resolved_view) (taken_from n xs))
-          (filter_map (denoted first_view) (taken_from n ys)) (told-zipped n xs ys len)))
+      (λ d s x. ap (is_inside from) (its-symbol d s x) ∙ inside-by_symbol from d)
+      (filter_map (denoted resolved_view) (taken_from n xs))
+      (filter_map (denoted first_view) (taken_from n ys)) (told-zipped n xs ys len)))

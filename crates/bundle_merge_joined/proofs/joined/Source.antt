@@ -36,7 +36,7 @@ kinds-from s (x ∷ xs) = by_default (is_nameless_default x xs) (kinds-from (pas
   where
     by_item : (x : Item) (rest : List Declared) → AllOf IsNamedOrDefault rest →
         AllOf IsNamedOrDefault
-            (cons_option (option_and_then (declaration_of ByContext Es) (occurrence_of s x)) rest)
+        (cons_option (option_and_then (declaration_of ByContext Es) (occurrence_of s x)) rest)
     by_item (h.Open field head) rest all = all
     by_item (h.Ident field symbol ctxt r.Reference) rest all = all
     by_item (h.Ident field symbol ctxt r.Word) rest all = all
@@ -47,16 +47,16 @@ kinds-from s (x ∷ xs) = by_default (is_nameless_default x xs) (kinds-from (pas
       where
         by_way : (way : Option Way) →
             AllOf IsNamedOrDefault
-                (cons_option (declared_by s.place (name_of ByContext symbol ctxt)
-                (scopes_around Es (in_field field s.path)) way) rest)
+            (cons_option (declared_by s.place (name_of ByContext symbol ctxt)
+            (scopes_around Es (in_field field s.path)) way) rest)
         by_way None = all
         by_way (Some way) = (inl refl, all)
 
     by_default : (b : Bool) → AllOf IsNamedOrDefault (declared_from ByContext Es (past s x) xs) →
         AllOf IsNamedOrDefault
-            (cons_option (cond b (Some (nameless_default Es s.place))
-            (option_and_then (declaration_of ByContext Es) (occurrence_of s x)))
-            (declared_from ByContext Es (past s x) xs))
+        (cons_option (cond b (Some (nameless_default Es s.place))
+        (option_and_then (declaration_of ByContext Es) (occurrence_of s x)))
+        (declared_from ByContext Es (past s x) xs))
     by_default true all = (inr refl, all)
     by_default false all = by_item x (declared_from ByContext Es (past s x) xs) all
 
@@ -65,9 +65,9 @@ pub plain-by-symbol : (item : List Item) (name : Name) →
     bytes_eq (codes "default") name.sym ≡ false → IsPlain (own_declared item) name
 plain-by-symbol item name other scope =
     ap (λ b. (declares (own_declared item) scope (without_context name) && not b)
-        || (is_arguments name.sym && is_function scope)) same
+    || (is_arguments name.sym && is_function scope)) same
     ∙ never (declares (own_declared item) scope (without_context name))
-        (is_arguments name.sym && is_function scope)
+    (is_arguments name.sym && is_function scope)
   where
     fails : (a b c : Bool) → (a && (b && (false && c))) ≡ (b && (false && c))
     fails true b c = refl
@@ -79,25 +79,25 @@ plain-by-symbol item name other scope =
 
     at : (d : Declared) → IsNamedOrDefault d →
         (has_identifier d && is_declared_in (own_declared item) scope (without_context name) d)
-            ≡ is_declared_in (own_declared item) scope (without_context name) d
+        ≡ is_declared_in (own_declared item) scope (without_context name) d
     at d (inl is) =
         ap (λ b. b && is_declared_in (own_declared item) scope (without_context name) d) is
     at d (inr is) =
         ap (λ b. has_identifier d
-            && (same_scope (home_of (own_declared item) d) scope
-            && (b && contexts_agree d.name.ctxt None))) (none d is)
+        && (same_scope (home_of (own_declared item) d) scope
+        && (b && contexts_agree d.name.ctxt None))) (none d is)
         ∙ fails (has_identifier d) (same_scope (home_of (own_declared item) d) scope)
-            (contexts_agree d.name.ctxt None)
+        (contexts_agree d.name.ctxt None)
         ∙ sym (ap (λ b. same_scope (home_of (own_declared item) d) scope
-            && (b && contexts_agree d.name.ctxt None)) (none d is))
+        && (b && contexts_agree d.name.ctxt None)) (none d is))
 
     same : is_written_in (own_declared item) scope (without_context name)
-            ≡ declares (own_declared item) scope (without_context name)
+        ≡ declares (own_declared item) scope (without_context name)
     same =
         any-same IsNamedOrDefault (is_declared_in (own_declared item) scope (without_context name))
-            (λ d. has_identifier d
-            && is_declared_in (own_declared item) scope (without_context name) d) at
-            (own_declared item) (kinds-from start (tree_of_items item))
+        (λ d. has_identifier d
+        && is_declared_in (own_declared item) scope (without_context name) d) at
+        (own_declared item) (kinds-from start (tree_of_items item))
 
     never : (a b : Bool) → ((a && not a) || b) ≡ b
     never true b = refl
@@ -117,16 +117,16 @@ module _ (items : List (List Item)) (whole : AllOf IsWhole items) where
 
   pub denotes-in_module : (m : ℕ) (item : List Item) (o : Occurrence) → OneOf m item o →
       in_module m o ≡ denoted_in_whole (is_top_name items (its_name o)) (offset items m)
-          (its_name o) (own_denoted item o)
+      (its_name o) (own_denoted item o)
   denotes-in_module m item o x =
       let e = split-at items m item x.there in
       subst (λ its. IsPlain (own_declared (flat its)) (its_name o) →
-          denoted_of ByContext Es (own_declared (flat its)) (moved_occurrence (offset items m) o)
-          ≡ denoted_in_whole (is_top_name its (its_name o)) (offset items m) (its_name o)
-          (own_denoted item o)) e
+      denoted_of ByContext Es (own_declared (flat its)) (moved_occurrence (offset items m) o)
+      ≡ denoted_in_whole (is_top_name its (its_name o)) (offset items m) (its_name o)
+      (own_denoted item o)) e
       (λ safe. denotes-plain (take m items) (drop (suc m) items) item
-          (subst (AllOf IsWhole) (sym e) whole) o (within item o x.listed) safe
-          (plain-by-symbol item (its_name o) x.no_default))
+      (subst (AllOf IsWhole) (sym e) whole) o (within item o x.listed) safe
+      (plain-by-symbol item (its_name o) x.no_default))
       (plain-by-symbol (flat items) (its_name o) x.no_default)
 
   -- what stands at a place of a statement
@@ -134,23 +134,23 @@ module _ (items : List (List Item)) (whole : AllOf IsWhole items) where
       ((o : Occurrence) → IsListedIn item o → bytes_eq (codes "default") o.sym ≡ false) → (p : ℕ) →
       p < length item →
       denoted_at ByContext Es (joined items) (suc (offset items m + p))
-          ≡ option_map (λ o. denoted_in_whole (is_top_name items (its_name o)) (offset items m)
-          (its_name o) (own_denoted item o)) (occurrence_at (tree_of_items item) (suc p))
+      ≡ option_map (λ o. denoted_in_whole (is_top_name items (its_name o)) (offset items m)
+      (its_name o) (own_denoted item o)) (occurrence_at (tree_of_items item) (suc p))
   denoted-in_module m item at no_default p lt =
       ap (option_map (denoted_of ByContext Es (own_declared (flat items))))
-          (occurrence-placed items whole m item at p lt)
+      (occurrence-placed items whole m item at p lt)
       ∙ by_occurrence (occurrence_at (tree_of_items item) (suc p)) refl
     where
       by_occurrence : (o : Option Occurrence) → occurrence_at (tree_of_items item) (suc p) ≡ o →
           option_map (denoted_of ByContext Es (own_declared (flat items)))
-              (option_map (moved_occurrence (offset items m)) o)
-              ≡ option_map (λ o. denoted_in_whole (is_top_name items (its_name o)) (offset items m)
-              (its_name o) (own_denoted item o)) o
+          (option_map (moved_occurrence (offset items m)) o)
+          ≡ option_map (λ o. denoted_in_whole (is_top_name items (its_name o)) (offset items m)
+          (its_name o) (own_denoted item o)) o
       by_occurrence None there = refl
       by_occurrence (Some o) there =
           let listed = occurrence_at-listed (tree_of_items item) (suc p) o there in
-              ap Some (denotes-in_module m item o
-              (record { there = at; listed = listed; no_default = no_default o listed }))
+          ap Some (denotes-in_module m item o
+          (record { there = at; listed = listed; no_default = no_default o listed }))
 
   pub its-view : (m : ℕ) (item : List Item) (o : Occurrence) → OneOf m item o →
       Viewed item o (own_denoted item o)
@@ -177,11 +177,11 @@ module _ (items : List (List Item)) (whole : AllOf IsWhole items) where
   pub inner-in_module : (m : ℕ) (item : List Item) (o : Occurrence) → OneOf m item o →
       is_inner (in_module m o) ≡ true →
       (is_inner (own_denoted item o) ≡ true)
-          × (in_module m o ≡ moved_denoted (offset items m) (own_denoted item o))
+      × (in_module m o ≡ moved_denoted (offset items m) (own_denoted item o))
   inner-in_module m item o x is =
       let e = denotes-in_module m item o x in
       let back = inner-back (is_top_name items (its_name o)) (offset items m) (its_name o)
-          (own_denoted item o) (ap is_inner (sym e) ∙ is) in
+      (own_denoted item o) (ap is_inner (sym e) ∙ is) in
       (back.0, e ∙ back.1)
 
   -- and the other way round, but for an `arguments` that the top of the module declares
@@ -191,7 +191,7 @@ module _ (items : List (List Item)) (whole : AllOf IsWhole items) where
   inner-by_itself m item o x unless =
       denotes-in_module m item o x
       ∙ inner-told (is_top_name items (its_name o)) (offset items m) (its_name o)
-          (own_denoted item o) unless
+      (own_denoted item o) unless
 
   -- RESOLVED: in a module that is resolved, inner bindings of statements are told apart, in each
   -- by itself and from those of others.
@@ -209,13 +209,14 @@ module _ (items : List (List Item)) (whole : AllOf IsWhole items) where
         let p = places m item a x in
         let q = places n other b y in
         let it = resolved.same p.0 q.0 (moved_occurrence (offset items m) a)
-            (moved_occurrence (offset items n) b) p.1 q.1 in
+        (moved_occurrence (offset items n) b) p.1 q.1 in
         let one : denoted_at ByContext Es (joined items) p.0 ≡ Some (in_module m a) =
-            ap (option_map (denoted_of ByContext Es (own_declared (flat items)))) p.1 in
+        ap (option_map (denoted_of ByContext Es (own_declared (flat items)))) p.1 in
         let two : denoted_at ByContext Es (joined items) q.0 ≡ Some (in_module n b) =
-            ap (option_map (denoted_of ByContext Es (own_declared (flat items)))) q.1 in
-        (λ same. same_Some _ _ (sym one ∙ it.0 same ∙ two),
-            λ same. it.1 (one ∙ ap Some same ∙ sym two))
+        ap (option_map (denoted_of ByContext Es (own_declared (flat items)))) q.1 in (
+          λ same. same_Some _ _ (sym one ∙ it.0 same ∙ two),
+          λ same. it.1 (one ∙ ap Some same ∙ sym two),
+        )
 
     pub same-inside : (m : ℕ) (item : List Item) (a b : Occurrence) → OneOf m item a →
         OneOf m item b → is_inner (own_denoted item a) ≡ true →
@@ -229,26 +230,26 @@ module _ (items : List (List Item)) (whole : AllOf IsWhole items) where
         forward same =
             let equal = (alike-in_module m m item item a b x y).0 same in
             let back = inner-in_module m item b y (ap is_inner (sym equal ∙ first)
-                ∙ inner-moved (offset items m) (own_denoted item a) is) in
+            ∙ inner-moved (offset items m) (own_denoted item a) is) in
             moved-back (offset items m) (own_denoted item a) (own_denoted item b) (sym first
-                ∙ equal ∙ back.1) is back.0
+            ∙ equal ∙ back.1) is back.0
 
         backward : own_denoted item a ≡ own_denoted item b → SameIdent a b
         backward same =
             let its : is_inner (own_denoted item b) ≡ true = ap is_inner (sym same) ∙ is in
             (alike-in_module m m item item a b x y).1 (first
-                ∙ ap (moved_denoted (offset items m)) same
-                ∙ sym (inner-by_itself m item b y (unless m item b y its)))
+            ∙ ap (moved_denoted (offset items m)) same
+            ∙ sym (inner-by_itself m item b y (unless m item b y its)))
 
     pub others-apart : (m n : ℕ) (item other : List Item) (a b : Occurrence) → m ≢ n →
         OneOf m item a → OneOf n other b → is_inner (own_denoted item a) ≡ true → SameIdent a b → ⊥
     others-apart m n item other a b ne x y is same =
         far (offset items m) (offset items n) (length item) (length other) one.begins two.begins
-            one.above one.below two.above two.below (by_order (cases_lt m n))
+        one.above one.below two.above two.below (by_order (cases_lt m n))
         (sym (moved-from (offset items m) one.begins one.above)
-            ∙ ap position_of (sym (ap (moved_denoted (offset items m)) one.is) ∙ sym first ∙ equal
-            ∙ back.1 ∙ ap (moved_denoted (offset items n)) two.is)
-            ∙ moved-from (offset items n) two.begins two.above)
+        ∙ ap position_of (sym (ap (moved_denoted (offset items m)) one.is) ∙ sym first ∙ equal
+        ∙ back.1 ∙ ap (moved_denoted (offset items n)) two.is)
+        ∙ moved-from (offset items n) two.begins two.above)
       where
         first : in_module m a ≡ moved_denoted (offset items m) (own_denoted item a)
         first = inner-by_itself m item a x (unless m item a x is)
@@ -257,10 +258,10 @@ module _ (items : List (List Item)) (whole : AllOf IsWhole items) where
         equal = (alike-in_module m n item other a b x y).0 same
 
         back : (is_inner (own_denoted other b) ≡ true)
-                × (in_module n b ≡ moved_denoted (offset items n) (own_denoted other b))
+            × (in_module n b ≡ moved_denoted (offset items n) (own_denoted other b))
         back =
             inner-in_module n other b y (ap is_inner (sym equal ∙ first)
-                ∙ inner-moved (offset items m) (own_denoted item a) is)
+            ∙ inner-moved (offset items m) (own_denoted item a) is)
 
         one : InnerOf item a (own_denoted item a)
         one = inner-of item a (its-view m item a x) is
@@ -270,7 +271,7 @@ module _ (items : List (List Item)) (whole : AllOf IsWhole items) where
 
         by_order : (m < n) ⊎ (n ≤ m) →
             (offset items m + length item ≤ offset items n)
-                ⊎ (offset items n + length other ≤ offset items m)
+            ⊎ (offset items n + length other ≤ offset items m)
         by_order (inl lt) = inl (offset-later items m n item other lt x.there y.there)
         by_order (inr le) =
             inr (offset-later items n m other item (omega (arith, le, ne)) y.there x.there)

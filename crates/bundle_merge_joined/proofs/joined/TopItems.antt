@@ -46,10 +46,10 @@ pub single-node : (field : ℕ) (head : Head) (within : List Item) → IsWhole w
     IsSingle (h.Open field head ∷ (within ++ h.Close ∷ []))
 single-node field head within whole rest =
     ap (λ list. put_first (h.Open field head) (side_by_side 1 list))
-        (append_assoc within (h.Close ∷ []) rest)
+    (append_assoc within (h.Close ∷ []) rest)
     ∙ ap (put_first (h.Open field head)) (inside-node within 0 0 whole (h.Close ∷ rest))
     ∙ ap (put_first (h.Open field head))
-        (put_all-cons within (h.Close ∷ []) (side_by_side zero rest))
+    (put_all-cons within (h.Close ∷ []) (side_by_side zero rest))
 
 -- PARTS: the nodes of a whole are its items.
 pub parts-joined : (items : List (List Item)) → AllOf IsSingle items → parts (joined items) ≡ items
@@ -71,8 +71,8 @@ placed-behind items before (item ∷ more) e = (
     there = ap (λ its. slice_get its (length before)) (sym e) ∙ get-first before more item;
     start =
         ap (λ list. suc (length (flat list)))
-            (sym (take_at before (item ∷ more) (length before) refl)
-            ∙ ap (take (length before)) e);
+        (sym (take_at before (item ∷ more) (length before) refl)
+        ∙ ap (take (length before)) e);
   },
   subst (λ n. AllOf (IsPlaced items) (placed n more)) further
       (placed-behind items (before ++ item ∷ []) more (append_assoc before (item ∷ []) more ∙ e)),
@@ -81,8 +81,8 @@ placed-behind items before (item ∷ more) e = (
     further : suc (length (flat (before ++ item ∷ []))) ≡ suc (length (flat before)) + length item
     further =
         let one = ap length (flat-append before (item ∷ [])) in
-            let both = length-append (flat before) (item ++ []) in
-            let own = length-append item [] in omega (arith, one, both, own)
+        let both = length-append (flat before) (item ++ []) in
+        let own = length-append item [] in omega (arith, one, both, own)
 
 pub placed-joined : (items : List (List Item)) → AllOf (IsPlaced items) (placed 1 items)
 placed-joined items = placed-behind items [] items refl
@@ -114,16 +114,22 @@ pub order-of-block : (block others : List (List Item)) → AllOf IsSingle block 
     AllOf IsWhole others → AllOf IsNamed others → (its : List TopItem) →
     AllOf (IsPlaced others) its → map (λ (top : TopItem). top.items) its ≡ block →
     is_top_name others (name_of ByContext (codes "Object") 1)
-        ≡ is_top_name block (name_of ByContext (codes "Object") 1) →
+    ≡ is_top_name block (name_of ByContext (codes "Object") 1) →
     (owners : List (Option ℕ)) (order : List ℕ) →
     IsGoodOrder (group_of_items (flat block) owners) order →
     IsGoodOrder (group_of ByContext Top (joined others) its owners) order
 order-of-block block others single whole named ways other_whole other_named its placed_its same
     object owners order good =
     order-joined block others whole named other_whole other_named (placed 1 block) its
-    (record { placed = placed-joined block; its_placed = placed_its; same = placed-items 1 block
-        ∙ sym same; all = placed-at 1 block; object = object })
+    (record {
+      placed = placed-joined block;
+      its_placed = placed_its;
+      same = placed-items 1 block
+          ∙ sym same;
+      all = placed-at 1 block;
+      object = object;
+    })
     (λ s top at. all-at (BindsOwn block others) block s top.items ways (items-at 1 block s top at))
-        owners order
+    owners order
     (subst (λ tops. IsGoodOrder (group_of ByContext Top (joined block) tops owners) order)
-        (top_items-joined block single) good)
+    (top_items-joined block single) good)

@@ -19,17 +19,17 @@ module _ (x : List ℕ) (c : ℕ) (es : List Declared) where
   pub home-added : (d : Declared) → home_of (load_declared x c ∷ es) d ≡ home_of es d
   home-added d =
       ap (λ home. cond (joins_parameter d.by) home (taker d))
-          (beside-added d (parameters_of (from_taker d.by d.scopes)))
+      (beside-added d (parameters_of (from_taker d.by d.scopes)))
 
   pub written-added : (name : Name) → names_agree (load_declared x c).name name ≡ false →
       (s : Scope) → is_written_in (load_declared x c ∷ es) s name ≡ is_written_in es s name
   written-added name other s =
       ap₂ (λ (a : Bool) (b : Bool). a || b) (ap (λ b. same_scope Top s && b) other
-          ∙ never (same_scope Top s))
+      ∙ never (same_scope Top s))
       (list_any-same (λ d. has_identifier d && is_declared_in es s name d)
-          (λ d. has_identifier d && is_declared_in (load_declared x c ∷ es) s name d)
-          (λ d. ap (λ home. has_identifier d && (same_scope home s && names_agree d.name name))
-          (home-added d)) es)
+      (λ d. has_identifier d && is_declared_in (load_declared x c ∷ es) s name d)
+      (λ d. ap (λ home. has_identifier d && (same_scope home s && names_agree d.name name))
+      (home-added d)) es)
     where
       never : (b : Bool) → (b && false) ≡ false
       never true = refl
@@ -40,21 +40,21 @@ module _ (x : List ℕ) (c : ℕ) (es : List Declared) where
       denoted_by_context (load_declared x c ∷ es) scopes name ≡ denoted_by_context es scopes name
   denoted-added each name other scopes =
       ap (written_or_implied (load_declared x c ∷ es) scopes name)
-          (find_agree (λ s. is_written_in (load_declared x c ∷ es) s name)
-          (λ s. is_written_in es s name) (written-added name other) scopes)
+      (find_agree (λ s. is_written_in (load_declared x c ∷ es) s name)
+      (λ s. is_written_in es s name) (written-added name other) scopes)
       ∙ by_found (find (λ s. is_written_in es s name) scopes)
     where
       implied-added : implied (load_declared x c ∷ es) scopes name ≡ implied es scopes name
       implied-added =
           ap (λ o. cond (is_unresolved name.ctxt) (Global name.sym)
-              (bound_in (without_context name) o))
-              (find_agree (λ s. is_implied_in (load_declared x c ∷ es) s name)
-              (λ s. is_implied_in es s name)
-              (λ s. nothing-implied (load_declared x c ∷ es) (refl, each) s name
-              ∙ sym (nothing-implied es each s name)) scopes)
+          (bound_in (without_context name) o))
+          (find_agree (λ s. is_implied_in (load_declared x c ∷ es) s name)
+          (λ s. is_implied_in es s name)
+          (λ s. nothing-implied (load_declared x c ∷ es) (refl, each) s name
+          ∙ sym (nothing-implied es each s name)) scopes)
 
       by_found : (o : Option Scope) →
           written_or_implied (load_declared x c ∷ es) scopes name o
-              ≡ written_or_implied es scopes name o
+          ≡ written_or_implied es scopes name o
       by_found None = implied-added
       by_found (Some s) = refl

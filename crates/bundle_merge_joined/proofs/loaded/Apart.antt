@@ -28,7 +28,7 @@ use Rattle.bundle_merge_joined.proofs.joined.Bindings.{bound-global}
 -- Whole nodes.
 
 closed : {L : Ident → Type 0} {depth : ℕ} {xs ys : List Item} (w : Turned L depth xs ys) (n k : ℕ)
-        (tail : List Item) →
+    (tail : List Item) →
     n ≡ depth + k → open_behind n (ys ++ tail) ≡ open_behind k tail
 closed over n k tail e = ap (λ q. open_behind q tail) (let same : n ≡ k = omega (arith, e) in same)
 closed (begun own rest) n k tail e = closed rest (suc n) k tail (omega (arith, e))
@@ -80,19 +80,19 @@ arguments-bound ds o is = by (declares_or_not Cjs o)
     found (Some s) at same = bound-global same
     found None at same =
         found-last (λ s. binds ds s (plain o.sym)) (chain-around o.path)
-            (ap (λ x. binds ds Wrapper (plain x)) (ap denoted_symbol same) ∙ wrapper-arguments ds)
-            at
+        (ap (λ x. binds ds Wrapper (plain x)) (ap denoted_symbol same) ∙ wrapper-arguments ds)
+        at
 
     by : DeclaresOrNot Cjs o → ⊥
     by (DoesNot never) =
         found (find (λ s. binds ds s (plain o.sym)) (scopes_around Cjs o.path)) refl
-            (sym (ap (own_or_found ds
-            (denoted_in BySymbol ds (scopes_around Cjs o.path) (plain o.sym)))
-            (never BySymbol o.ctxt)) ∙ is)
+        (sym (ap (own_or_found ds
+        (denoted_in BySymbol ds (scopes_around Cjs o.path) (plain o.sym)))
+        (never BySymbol o.ctxt)) ∙ is)
     by (Does way known own later) =
         bound-global (sym (ap
-            (own_or_found ds (denoted_in BySymbol ds (scopes_around Cjs o.path) (plain o.sym)))
-            own) ∙ is)
+        (own_or_found ds (denoted_in BySymbol ds (scopes_around Cjs o.path) (plain o.sym)))
+        own) ∙ is)
 
 module _ {L : Ident → Type 0} {xs ys : List Item} (t : Turned L zero xs ys) (g : Numbering)
     (load helper m e : Ident) (its : IsLoaded g t load m e) (items : List (List Item))
@@ -105,7 +105,7 @@ module _ {L : Ident → Type 0} {xs ys : List Item} (t : Turned L zero xs ys) (g
       find is_function (scopes_around Es o.path) ≡ None
   own-arguments o (i, at) unseen free =
       absurd (by i (sym (ap (λ os. slice_get os i) (occurrences-item t g load helper m e its))
-          ∙ at))
+      ∙ at))
     where
       of_known : (q : Occurrence) → q ≡ o → is_top_name items (its_name q) ≡ true → ⊥
       of_known q same seen =
@@ -119,14 +119,14 @@ module _ {L : Ident → Type 0} {xs ys : List Item} (t : Turned L zero xs ys) (g
       of_name : NamedHere t g load helper m e its o → ⊥
       of_name (of_kept i q there stands keeps beside) =
           arguments-bound (module_declared xs) q
-              (kept (denoted_of BySymbol Cjs (module_declared xs) q) (own_denoted item o) beside
-              free)
+          (kept (denoted_of BySymbol Cjs (module_declared xs) q) (own_denoted item o) beside
+          free)
       of_name (of_changed q stands refers calls) =
           of_known o refl (known.called_known (o.sym, o.ctxt) calls).0
 
       by : (i : ℕ) →
           slice_get (load_name load ∷ helper_name helper ∷ parameter_name 13 12 11 m
-              ∷ parameter_name 18 17 16 e ∷ body_names ys) i ≡ Some o →
+          ∷ parameter_name 18 17 16 e ∷ body_names ys) i ≡ Some o →
           ⊥
       by zero at = of_known (load_name load) (same_Some (load_name load) o at) known.load_known
       by (suc zero) at =

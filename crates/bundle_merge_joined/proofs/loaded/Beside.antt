@@ -20,26 +20,26 @@ module _ (R : ℕ → ℕ → Type 0) (frame : IsFrame R) where
   same-beside wrapper wrapper = refl
   same-beside top (inner {a = a} {b = b} r) =
       let far = frame.inside a b r in
-          both-alike 23 (b + 2) 1 (a + 2) (λ e. absurd (omega (arith, e, far)))
-          (λ e. absurd (omega (arith, e)))
+      both-alike 23 (b + 2) 1 (a + 2) (λ e. absurd (omega (arith, e, far)))
+      (λ e. absurd (omega (arith, e)))
   same-beside wrapper (inner {a = a} {b = b} r) =
       let far = frame.inside a b r in
-          both-alike 12 (b + 2) 0 (a + 2) (λ e. absurd (omega (arith, e, far)))
-          (λ e. absurd (omega (arith, e)))
+      both-alike 12 (b + 2) 0 (a + 2) (λ e. absurd (omega (arith, e, far)))
+      (λ e. absurd (omega (arith, e)))
   same-beside (inner {a = a} {b = b} r) top =
       let far = frame.inside a b r in
-          both-alike (b + 2) 23 (a + 2) 1 (λ e. absurd (omega (arith, e, far)))
-          (λ e. absurd (omega (arith, e)))
+      both-alike (b + 2) 23 (a + 2) 1 (λ e. absurd (omega (arith, e, far)))
+      (λ e. absurd (omega (arith, e)))
   same-beside (inner {a = a} {b = b} r) wrapper =
       let far = frame.inside a b r in
-          both-alike (b + 2) 12 (a + 2) 0 (λ e. absurd (omega (arith, e, far)))
-          (λ e. absurd (omega (arith, e)))
+      both-alike (b + 2) 12 (a + 2) 0 (λ e. absurd (omega (arith, e, far)))
+      (λ e. absurd (omega (arith, e)))
   same-beside (inner {a = a} {b = b} r) (inner {a = c} {b = d} q) =
       both-alike (b + 2) (d + 2) (a + 2) (c + 2)
       (λ e. let same : b ≡ d = omega (arith, e) in let there : a ≡ c = sym (frame.back a b r)
-          ∙ (ap frame.from same ∙ frame.back c d q) in ap (λ n. n + 2) there)
+      ∙ (ap frame.from same ∙ frame.back c d q) in ap (λ n. n + 2) there)
       (λ e. let same : a ≡ c = omega (arith, e) in
-          let there = frame.one c b d (subst (λ n. R n b) same r) q in ap (λ n. n + 2) there)
+      let there = frame.one c b d (subst (λ n. R n b) same r) q in ap (λ n. n + 2) there)
 
   -- nothing belongs to a scope around the function
   pub outer-beside : {s t : Scope} → Beside R s t →
@@ -47,11 +47,12 @@ module _ (R : ℕ → ℕ → Type 0) (frame : IsFrame R) where
   outer-beside top = (refl, refl)
   outer-beside wrapper = (refl, refl)
   outer-beside (inner {a = a} {b = b} r) =
-      let far = frame.inside a b r in
-      (both-alike (b + 2) 1 0 1 (λ e. absurd (omega (arith, e, far)))
-          (λ e. absurd (omega (arith, e))),
-          both-alike (b + 2) 11 0 1 (λ e. absurd (omega (arith, e, far)))
-          (λ e. absurd (omega (arith, e))))
+      let far = frame.inside a b r in (
+        both-alike (b + 2) 1 0 1 (λ e. absurd (omega (arith, e, far)))
+            (λ e. absurd (omega (arith, e))),
+        both-alike (b + 2) 11 0 1 (λ e. absurd (omega (arith, e, far)))
+            (λ e. absurd (omega (arith, e))),
+      )
 
   -- tests
   parameters-beside : {s t : Scope} → Beside R s t →
@@ -60,7 +61,7 @@ module _ (R : ℕ → ℕ → Type 0) (frame : IsFrame R) where
   parameters-beside wrapper = refl
   parameters-beside (inner {kind = kind} {a = a} {b = b} r) =
       ap₂ (λ (x : Bool) (y : Bool). x || y) (is_parameters-relocated (λ n. b) (Inner kind a))
-          (is_wrapper-relocated (λ n. b) (Inner kind a))
+      (is_wrapper-relocated (λ n. b) (Inner kind a))
 
   pub function-beside : {s t : Scope} → Beside R s t → is_function t ≡ is_function s
   function-beside top = refl
@@ -87,16 +88,16 @@ module _ (R : ℕ → ℕ → Type 0) (frame : IsFrame R) where
   taken-framed ByWrapper outside own taken = absurd (false≢true (sym own))
   taken-framed way (within {kind = kind} {a = a} {b = b} {ss = ss} {ts = ts} r framed) own taken =
       subst (λ t. Framed R
-          (cond (takes way (Inner kind a)) (Inner kind a ∷ ss) (from_taker way ss))
-          (cond t (Inner kind b ∷ ts) (from_taker way ts)))
-          (sym (takes-relocated (λ n. b) way (Inner kind a)))
+      (cond (takes way (Inner kind a)) (Inner kind a ∷ ss) (from_taker way ss))
+      (cond t (Inner kind b ∷ ts) (from_taker way ts)))
+      (sym (takes-relocated (λ n. b) way (Inner kind a)))
       (by (takes way (Inner kind a)) taken (λ further. taken-framed way framed own further))
     where
       by : (t : Bool) → is_some (nearest (cond t (Inner kind a ∷ ss) (from_taker way ss))) ≡ true →
           (is_some (nearest (from_taker way ss)) ≡ true →
-              Framed R (from_taker way ss) (from_taker way ts)) →
+          Framed R (from_taker way ss) (from_taker way ts)) →
           Framed R (cond t (Inner kind a ∷ ss) (from_taker way ss))
-              (cond t (Inner kind b ∷ ts) (from_taker way ts))
+          (cond t (Inner kind b ∷ ts) (from_taker way ts))
       by true is rest = within r framed
       by false is rest = rest is
 
@@ -124,7 +125,7 @@ module _ (R : ℕ → ℕ → Type 0) (frame : IsFrame R) where
       Framed R (from_taker d.by d.scopes) (from_taker e.by e.scopes)
   seat d e s =
       subst (λ way. Framed R (from_taker d.by d.scopes) (from_taker way e.scopes)) (sym s.by)
-          (taken-framed d.by s.scopes s.own s.taken)
+      (taken-framed d.by s.scopes s.own s.taken)
 
   taker-beside : {d e : Declared} → DeclaredBeside R d e → Beside R (taker d) (taker e)
   taker-beside (of_wrapper place x) = wrapper
@@ -161,7 +162,7 @@ module _ (R : ℕ → ℕ → Type 0) (frame : IsFrame R) where
   parameter-beside x name d e one =
       let taken = taker-beside one in
       λ i. (parameters-beside taken i && same-beside taken x i)
-          && names_agree (name-beside one i) name
+      && names_agree (name-beside one i) name
 
   module _ {ds es : List Declared} (all : AllBeside R ds es) where
     -- HOMES
@@ -179,8 +180,8 @@ module _ (R : ℕ → ℕ → Type 0) (frame : IsFrame R) where
         by (both {s = p} {t = q} x) =
             cond-beside (list_any (is_parameter p d.name) ds) (list_any (is_parameter q e.name) es)
             (ap (λ name. list_any (is_parameter q name) es) s.name
-                ∙ any-beside (is_parameter p d.name) (is_parameter q d.name)
-                (parameter-beside x d.name) all)
+            ∙ any-beside (is_parameter p d.name) (is_parameter q d.name)
+            (parameter-beside x d.name) all)
             x (first-framed (seat d e s))
 
     declared-beside : {s t : Scope} → Beside R s t → (name : Name) (d e : Declared) →
@@ -192,33 +193,36 @@ module _ (R : ℕ → ℕ → Type 0) (frame : IsFrame R) where
         declares es t name ≡ declares ds s name
     declares-beside {s = s} {t = t} x name =
         any-beside (is_declared_in ds s name) (is_declared_in es t name) (declared-beside x name)
-            all
+        all
 
     pub binds-beside : {s t : Scope} → Beside R s t → (name : Name) →
         binds es t name ≡ binds ds s name
     binds-beside x name =
         λ i. declares-beside x name i
-            || (is_arguments name.sym
-            && (function-beside x i
-            && not (declares-beside x (record { sym = codes "arguments"; ctxt = None }) i)))
+        || (is_arguments name.sym
+        && (function-beside x i
+        && not (declares-beside x (record { sym = codes "arguments"; ctxt = None }) i)))
 
     -- around the function nothing is bound
     pub declares-outer : (name : Name) →
         (declares es Top name ≡ false) × (declares es (Inner FunctionName 9) name ≡ false)
-    declares-outer name =
-        (none-beside (is_declared_in es Top name)
-            (λ d e one. ap (λ b. b && names_agree e.name name) (outer-beside (home-beside one)).0)
-            all, none-beside (is_declared_in es (Inner FunctionName 9) name)
-            (λ d e one. ap (λ b. b && names_agree e.name name) (outer-beside (home-beside one)).1)
-            all)
+    declares-outer name = (
+      none-beside (is_declared_in es Top name)
+          (λ d e one. ap (λ b. b && names_agree e.name name) (outer-beside (home-beside one)).0)
+          all,
+      none-beside (is_declared_in es (Inner FunctionName 9) name)
+          (λ d e one. ap (λ b. b && names_agree e.name name) (outer-beside (home-beside one)).1)
+          all,
+    )
 
     binds-outer : (name : Name) →
         (binds es Top name ≡ false) × (binds es (Inner FunctionName 9) name ≡ false)
-    binds-outer name =
-        (ap₂ (λ (a : Bool) (b : Bool). a || b) (declares-outer name).0
-            (never (is_arguments name.sym)),
-            ap₂ (λ (a : Bool) (b : Bool). a || b) (declares-outer name).1
-            (never (is_arguments name.sym)))
+    binds-outer name = (
+      ap₂ (λ (a : Bool) (b : Bool). a || b) (declares-outer name).0
+          (never (is_arguments name.sym)),
+      ap₂ (λ (a : Bool) (b : Bool). a || b) (declares-outer name).1
+          (never (is_arguments name.sym)),
+    )
       where
         never : (b : Bool) → (b && false) ≡ false
         never true = refl
@@ -229,35 +233,35 @@ module _ (R : ℕ → ℕ → Type 0) (frame : IsFrame R) where
         BothBeside R (find (λ s. binds ds s name) ss) (find (λ t. binds es t name) ts)
     found-beside outside name =
         subst (BothBeside R (find (λ s. binds ds s name) (Top ∷ Wrapper ∷ []))) (sym there)
-            (by (binds ds Top name) (binds ds Wrapper name))
+        (by (binds ds Top name) (binds ds Wrapper name))
       where
         by : (a b : Bool) →
             BothBeside R (cond a (Some Top) (cond b (Some Wrapper) None))
-                (cond a (Some (Inner FunctionBody 21)) (cond b (Some (Inner Parameters 10)) None))
+            (cond a (Some (Inner FunctionBody 21)) (cond b (Some (Inner Parameters 10)) None))
         by true b = both top
         by false true = both wrapper
         by false false = neither
 
         there : find (λ t. binds es t name) (Inner FunctionBody 21 ∷ Inner Parameters 10
-                ∷ Inner FunctionName 9 ∷ Top ∷ [])
-                ≡ cond (binds ds Top name) (Some (Inner FunctionBody 21))
-                (cond (binds ds Wrapper name) (Some (Inner Parameters 10)) None)
+            ∷ Inner FunctionName 9 ∷ Top ∷ [])
+            ≡ cond (binds ds Top name) (Some (Inner FunctionBody 21))
+            (cond (binds ds Wrapper name) (Some (Inner Parameters 10)) None)
         there =
             λ i. cond (binds-beside top name i) (Some (Inner FunctionBody 21))
-                (cond (binds-beside wrapper name i) (Some (Inner Parameters 10))
-                (cond ((binds-outer name).1 i) (Some (Inner FunctionName 9))
-                (cond ((binds-outer name).0 i) (Some Top) None)))
+            (cond (binds-beside wrapper name i) (Some (Inner Parameters 10))
+            (cond ((binds-outer name).1 i) (Some (Inner FunctionName 9))
+            (cond ((binds-outer name).0 i) (Some Top) None)))
     found-beside (within {kind = kind} {a = a} {b = b} {ss = ss} {ts = ts} r framed) name =
         subst (λ t. BothBeside R
-            (cond (binds ds (Inner kind a) name) (Some (Inner kind a))
-            (find (λ s. binds ds s name) ss))
-            (cond t (Some (Inner kind b)) (find (λ t. binds es t name) ts)))
-            (sym (binds-beside (inner r) name))
+        (cond (binds ds (Inner kind a) name) (Some (Inner kind a))
+        (find (λ s. binds ds s name) ss))
+        (cond t (Some (Inner kind b)) (find (λ t. binds es t name) ts)))
+        (sym (binds-beside (inner r) name))
         (by (binds ds (Inner kind a) name) (found-beside framed name))
       where
         by : (t : Bool) →
             BothBeside R (find (λ s. binds ds s name) ss) (find (λ t. binds es t name) ts) →
             BothBeside R (cond t (Some (Inner kind a)) (find (λ s. binds ds s name) ss))
-                (cond t (Some (Inner kind b)) (find (λ t. binds es t name) ts))
+            (cond t (Some (Inner kind b)) (find (λ t. binds es t name) ts))
         by true ih = both (inner r)
         by false ih = ih

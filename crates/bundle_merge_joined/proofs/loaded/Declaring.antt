@@ -65,8 +65,8 @@ module _ (reading : Reading) (kind : ModuleKind) where
 
   joins : (o : Option Occurrence) (os : List Occurrence) (ds : List Declared) →
       cons_option (option_and_then (declaration_of reading kind) o)
-          (declared_by_names reading kind os ++ ds)
-          ≡ declared_by_names reading kind (cons_option o os) ++ ds
+      (declared_by_names reading kind os ++ ds)
+      ≡ declared_by_names reading kind (cons_option o os) ++ ds
   joins None os ds = refl
   joins (Some o) os ds =
       cons-append (declaration_of reading kind o) (declared_by_names reading kind os) ds
@@ -74,31 +74,31 @@ module _ (reading : Reading) (kind : ModuleKind) where
   one-more : (s : Spot) (x : Item) (xs tail : List Item) →
       is_nameless_default x (xs ++ tail) ≡ false →
       declared_from reading kind (past s x) (xs ++ tail)
-          ≡ declared_by_names reading kind (occurrences_from (past s x) xs)
-          ++ declared_from reading kind (fold past (past s x) xs) tail →
+      ≡ declared_by_names reading kind (occurrences_from (past s x) xs)
+      ++ declared_from reading kind (fold past (past s x) xs) tail →
       declared_from reading kind s ((x ∷ xs) ++ tail)
-          ≡ declared_by_names reading kind (occurrences_from s (x ∷ xs))
-          ++ declared_from reading kind (fold past s (x ∷ xs)) tail
+      ≡ declared_by_names reading kind (occurrences_from s (x ∷ xs))
+      ++ declared_from reading kind (fold past s (x ∷ xs)) tail
   one-more s x xs tail no_default ih =
       ap (λ b. cons_option
-          (cond b (Some (nameless_default kind s.place))
-          (option_and_then (declaration_of reading kind) (occurrence_of s x)))
-          (declared_from reading kind (past s x) (xs ++ tail))) no_default
+      (cond b (Some (nameless_default kind s.place))
+      (option_and_then (declaration_of reading kind) (occurrence_of s x)))
+      (declared_from reading kind (past s x) (xs ++ tail))) no_default
       ∙ (ap (cons_option (option_and_then (declaration_of reading kind) (occurrence_of s x))) ih
       ∙ joins (occurrence_of s x) (occurrences_from (past s x) xs)
-          (declared_from reading kind (fold past (past s x) xs) tail))
+      (declared_from reading kind (fold past (past s x) xs) tail))
 
   pub declared-own : (s : Spot) (xs tail : List Item) → AreOwn xs →
       declared_from reading kind s (xs ++ tail)
-          ≡ declared_by_names reading kind (occurrences_from s xs)
-          ++ declared_from reading kind (fold past s xs) tail
+      ≡ declared_by_names reading kind (occurrences_from s xs)
+      ++ declared_from reading kind (fold past s xs) tail
   declared-own s [] tail own = refl
   declared-own s (h.Open field head ∷ xs) tail own =
       one-more s (h.Open field head) xs tail (not-default head field (xs ++ tail) own.0)
-          (declared-own (past s (h.Open field head)) xs tail own.1)
+      (declared-own (past s (h.Open field head)) xs tail own.1)
   declared-own s (h.Ident field x ctxt role ∷ xs) tail own =
       one-more s (h.Ident field x ctxt role) xs tail refl
-          (declared-own (past s (h.Ident field x ctxt role)) xs tail own)
+      (declared-own (past s (h.Ident field x ctxt role)) xs tail own)
   declared-own s (h.Hole field ∷ xs) tail own =
       one-more s (h.Hole field) xs tail refl (declared-own (past s (h.Hole field)) xs tail own)
   declared-own s (h.Close ∷ xs) tail own =
@@ -119,7 +119,7 @@ put-pair (pair one) all = more one all
 abbrev pub AreTaken : List Occurrence → Type 0
 AreTaken os =
     Each (λ (o : Occurrence). (d : Declared) → declaration_of BySymbol Cjs o ≡ Some d → IsTaken d)
-        os
+    os
 
 module _ (R : ℕ → ℕ → Type 0) (g : Numbering) (ds : List Declared) where
   pair-kept : (o u : Occurrence) → StandsBeside R o u → u.sym ≡ o.sym →
@@ -132,7 +132,7 @@ module _ (R : ℕ → ℕ → Type 0) (g : Numbering) (ds : List Declared) where
           PairBeside R (declaration_of BySymbol Cjs o) (declaration_of BySymbol Es u)
       to there here it =
           subst (λ p. PairBeside R p (declaration_of BySymbol Es u)) (sym there)
-              (subst (PairBeside R _) (sym here) it)
+          (subst (PairBeside R _) (sym here) it)
 
       none_by : (b : Bool) → ◌≡◌ {A = Option Declared} (cond b None None) None
       none_by true = refl
@@ -142,36 +142,41 @@ module _ (R : ℕ → ℕ → Type 0) (g : Numbering) (ds : List Declared) where
           PairBeside R (declaration_of BySymbol Cjs o) (declaration_of BySymbol Es u)
       go true role (Some way) is =
           let there : declaration_of BySymbol Cjs o ≡ Some (there_declared o way) =
-              ap (λ b. cond b (declared_by o.place (plain o.sym) (scopes_around Cjs o.path)
-              (way_of o.path)) None) role
-              ∙ ap (declared_by o.place (plain o.sym) (scopes_around Cjs o.path)) is in
+          ap (λ b. cond b (declared_by o.place (plain o.sym) (scopes_around Cjs o.path)
+          (way_of o.path)) None) role
+          ∙ ap (declared_by o.place (plain o.sym) (scopes_around Cjs o.path)) is in
           let here : declaration_of BySymbol Es u ≡ Some (here_declared u o.sym way) =
           ap (λ b. cond b (declared_by u.place (plain u.sym) (scopes_around Es u.path)
-              (way_of u.path)) None) (ap is_binding stands.role ∙ role)
+          (way_of u.path)) None) (ap is_binding stands.role ∙ role)
           ∙ (ap (declared_by u.place (plain u.sym) (scopes_around Es u.path)) (stands.way ∙ is)
-              ∙ ap (λ x. Some (here_declared u x way)) symbol) in
+          ∙ ap (λ x. Some (here_declared u x way)) symbol) in
           to there here (pair
-              (of_body (record { name = refl; by = refl; scopes = stands.scopes;
-              own = stands.own way is; taken = taken (there_declared o way) there })))
+          (of_body (record {
+            name = refl;
+            by = refl;
+            scopes = stands.scopes;
+            own = stands.own way is;
+            taken = taken (there_declared o way) there;
+          })))
       go true role None is =
           to (ap (λ w. cond (is_binding o.role)
-              (declared_by o.place (plain o.sym) (scopes_around Cjs o.path) w) None) is
-              ∙ none_by (is_binding o.role))
-              (ap (λ w. cond (is_binding u.role)
-              (declared_by u.place (plain u.sym) (scopes_around Es u.path) w) None) (stands.way
-              ∙ is) ∙ none_by (is_binding u.role)) no_pair
+          (declared_by o.place (plain o.sym) (scopes_around Cjs o.path) w) None) is
+          ∙ none_by (is_binding o.role))
+          (ap (λ w. cond (is_binding u.role)
+          (declared_by u.place (plain u.sym) (scopes_around Es u.path) w) None) (stands.way
+          ∙ is) ∙ none_by (is_binding u.role)) no_pair
       go false role w is =
           to (ap (λ b. cond b
-              (declared_by o.place (plain o.sym) (scopes_around Cjs o.path) (way_of o.path)) None)
-              role) (ap (λ b. cond b
-              (declared_by u.place (plain u.sym) (scopes_around Es u.path) (way_of u.path)) None)
-              (ap is_binding stands.role ∙ role)) no_pair
+          (declared_by o.place (plain o.sym) (scopes_around Cjs o.path) (way_of o.path)) None)
+          role) (ap (λ b. cond b
+          (declared_by u.place (plain u.sym) (scopes_around Es u.path) (way_of u.path)) None)
+          (ap is_binding stands.role ∙ role)) no_pair
 
   no-declaration : (reading : Reading) (kind : ModuleKind) (o : Occurrence) →
       is_binding o.role ≡ false → declaration_of reading kind o ≡ None
   no-declaration reading kind o role =
       ap (λ b. cond b (declared_by o.place (name_of reading o.sym o.ctxt)
-          (scopes_around kind o.path) (way_of o.path)) None) role
+      (scopes_around kind o.path) (way_of o.path)) None) role
 
   pub declared-follow : {L : Ident → Type 0} {os us : List Occurrence} → Follows L R g ds os us →
       AreTaken os →
@@ -179,25 +184,25 @@ module _ (R : ℕ → ℕ → Type 0) (g : Numbering) (ds : List Declared) where
   declared-follow done taken = none
   declared-follow (kept {o = o} {u = u} {os = os} stands keeps rest) taken =
       put-pair (pair-kept o u stands keeps.symbol (taken zero o refl))
-          (declared-follow rest
-          (each-rest (λ (o : Occurrence). (d : Declared) → declaration_of BySymbol Cjs o ≡ Some d →
-          IsTaken d) o os taken))
+      (declared-follow rest
+      (each-rest (λ (o : Occurrence). (d : Declared) → declaration_of BySymbol Cjs o ≡ Some d →
+      IsTaken d) o os taken))
   declared-follow (changed {o = o} {u = u} {os = os} {us = us} stands refers is rest) taken =
       subst (λ p. AllBeside R (cons_option p (declared_by_names BySymbol Cjs os))
-          (declared_by_names BySymbol Es (u ∷ us))) (sym (no-declaration BySymbol Cjs o refers))
+      (declared_by_names BySymbol Es (u ∷ us))) (sym (no-declaration BySymbol Cjs o refers))
       (subst (λ q. AllBeside R (declared_by_names BySymbol Cjs os)
-          (cons_option q (declared_by_names BySymbol Es us)))
-          (sym (no-declaration BySymbol Es u (ap is_binding stands.role ∙ refers)))
+      (cons_option q (declared_by_names BySymbol Es us)))
+      (sym (no-declaration BySymbol Es u (ap is_binding stands.role ∙ refers)))
       (declared-follow rest
-          (each-rest (λ (o : Occurrence). (d : Declared) → declaration_of BySymbol Cjs o ≡ Some d →
-          IsTaken d) o os taken)))
+      (each-rest (λ (o : Occurrence). (d : Declared) → declaration_of BySymbol Cjs o ≡ Some d →
+      IsTaken d) o os taken)))
 
 module _ (R : ℕ → ℕ → Type 0) (frame : IsFrame R) (g : Numbering) {ds es : List Declared}
     (all : AllBeside R ds es) (plainly : Each IsBySymbol es) where
   lift-kept : (o u : Occurrence) → StandsBeside R o u → KeepsName g ds o u →
       ((d : Declared) → declaration_of BySymbol Cjs o ≡ Some d → IsTaken d) →
       declaration_of ByContext Es u
-          ≡ option_map (lifted (moved_numbering frame.from g) es) (declaration_of BySymbol Es u)
+      ≡ option_map (lifted (moved_numbering frame.from g) es) (declaration_of BySymbol Es u)
   lift-kept o u stands keeps taken = go (is_binding o.role) refl (way_of o.path) refl
     where
       none_by : (b : Bool) → ◌≡◌ {A = Option Declared} (cond b None None) None
@@ -206,31 +211,31 @@ module _ (R : ℕ → ℕ → Type 0) (frame : IsFrame R) (g : Numbering) {ds es
 
       go : (b : Bool) → is_binding o.role ≡ b → (w : Option Way) → way_of o.path ≡ w →
           declaration_of ByContext Es u
-              ≡ option_map (lifted (moved_numbering frame.from g) es)
-              (declaration_of BySymbol Es u)
+          ≡ option_map (lifted (moved_numbering frame.from g) es)
+          (declaration_of BySymbol Es u)
       go true role (Some way) is =
           let mine = declares-own R frame g all plainly o u stands keeps taken way role is in
-              mine.declares_here
-              ∙ (ap Some mine.lifts
-              ∙ sym (ap (option_map (lifted (moved_numbering frame.from g) es))
-              mine.declares_plainly))
+          mine.declares_here
+          ∙ (ap Some mine.lifts
+          ∙ sym (ap (option_map (lifted (moved_numbering frame.from g) es))
+          mine.declares_plainly))
       go true role None is =
           ap (λ w. cond (is_binding u.role)
-              (declared_by u.place (with u.sym u.ctxt) (scopes_around Es u.path) w) None)
-              (stands.way ∙ is)
+          (declared_by u.place (with u.sym u.ctxt) (scopes_around Es u.path) w) None)
+          (stands.way ∙ is)
           ∙ (none_by (is_binding u.role)
           ∙ sym (ap (option_map (lifted (moved_numbering frame.from g) es))
-              (ap (λ w. cond (is_binding u.role)
-              (declared_by u.place (plain u.sym) (scopes_around Es u.path) w) None) (stands.way
-              ∙ is) ∙ none_by (is_binding u.role))))
+          (ap (λ w. cond (is_binding u.role)
+          (declared_by u.place (plain u.sym) (scopes_around Es u.path) w) None) (stands.way
+          ∙ is) ∙ none_by (is_binding u.role))))
       go false role w is =
           let refers : is_binding u.role ≡ false = ap is_binding stands.role ∙ role in
-              no-declaration R g ds ByContext Es u refers
-              ∙ sym (ap (option_map (lifted (moved_numbering frame.from g) es))
-              (no-declaration R g ds BySymbol Es u refers))
+          no-declaration R g ds ByContext Es u refers
+          ∙ sym (ap (option_map (lifted (moved_numbering frame.from g) es))
+          (no-declaration R g ds BySymbol Es u refers))
 
   put-lift : (lift : Declared → Declared) {p : Option Declared} (q : Option Declared)
-          {xs : List Declared} (ys : List Declared) →
+      {xs : List Declared} (ys : List Declared) →
       p ≡ option_map lift q → xs ≡ map lift ys → cons_option p xs ≡ map lift (cons_option q ys)
   put-lift lift {p = p} q {xs = xs} ys first rest = ap₂ cons_option first rest ∙ by q
     where
@@ -242,20 +247,20 @@ module _ (R : ℕ → ℕ → Type 0) (frame : IsFrame R) (g : Numbering) {ds es
   pub lifts-follow : {L : Ident → Type 0} {os us : List Occurrence} → Follows L R g ds os us →
       AreTaken os →
       declared_by_names ByContext Es us
-          ≡ map (lifted (moved_numbering frame.from g) es) (declared_by_names BySymbol Es us)
+      ≡ map (lifted (moved_numbering frame.from g) es) (declared_by_names BySymbol Es us)
   lifts-follow done taken = refl
   lifts-follow (kept {o = o} {u = u} {os = os} {us = us} stands keeps rest) taken =
       put-lift (lifted (moved_numbering frame.from g) es) (declaration_of BySymbol Es u)
-          (declared_by_names BySymbol Es us) (lift-kept o u stands keeps (taken zero o refl))
-          (lifts-follow rest
-          (each-rest (λ (o : Occurrence). (d : Declared) → declaration_of BySymbol Cjs o ≡ Some d →
-          IsTaken d) o os taken))
+      (declared_by_names BySymbol Es us) (lift-kept o u stands keeps (taken zero o refl))
+      (lifts-follow rest
+      (each-rest (λ (o : Occurrence). (d : Declared) → declaration_of BySymbol Cjs o ≡ Some d →
+      IsTaken d) o os taken))
   lifts-follow (changed {o = o} {u = u} {os = os} {us = us} stands refers is rest) taken =
       let its : is_binding u.role ≡ false = ap is_binding stands.role ∙ refers in
       put-lift (lifted (moved_numbering frame.from g) es) (declaration_of BySymbol Es u)
-          (declared_by_names BySymbol Es us) (no-declaration R g ds ByContext Es u its
-          ∙ sym (ap (option_map (lifted (moved_numbering frame.from g) es))
-          (no-declaration R g ds BySymbol Es u its)))
+      (declared_by_names BySymbol Es us) (no-declaration R g ds ByContext Es u its
+      ∙ sym (ap (option_map (lifted (moved_numbering frame.from g) es))
+      (no-declaration R g ds BySymbol Es u its)))
       (lifts-follow rest
-          (each-rest (λ (o : Occurrence). (d : Declared) → declaration_of BySymbol Cjs o ≡ Some d →
-          IsTaken d) o os taken))
+      (each-rest (λ (o : Occurrence). (d : Declared) → declaration_of BySymbol Cjs o ≡ Some d →
+      IsTaken d) o os taken))

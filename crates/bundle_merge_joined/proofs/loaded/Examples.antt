@@ -47,59 +47,63 @@ name_statement x c = h.Open 0 h.ExprStmt ∷ h.Ident 0 x c Reference ∷ h.Close
 
 -- `arguments;` denotes the wrapper's in the module
 arguments_there : denotations BySymbol Cjs (tree_of_items (name_statement (codes "arguments") 0))
-        ≡ Bound Wrapper (plain (codes "arguments")) ∷ []
+    ≡ Bound Wrapper (plain (codes "arguments")) ∷ []
 arguments_there = refl
 
 -- with the local context it denotes the function's in the item
 arguments_here : denotations ByContext Es
-        (tree_of_items (items_of (name_statement (codes "arguments") 7)))
-        ≡ Bound Top (with (codes "load") 9) ∷ Global (codes "helper")
-        ∷ Bound (Inner Parameters 10) (with (codes "module") 7)
-        ∷ Bound (Inner Parameters 10) (with (codes "exports") 7)
-        ∷ Bound (Inner Parameters 10) (plain (codes "arguments")) ∷ []
+    (tree_of_items (items_of (name_statement (codes "arguments") 7)))
+    ≡ Bound Top (with (codes "load") 9) ∷ Global (codes "helper")
+    ∷ Bound (Inner Parameters 10) (with (codes "module") 7)
+    ∷ Bound (Inner Parameters 10) (with (codes "exports") 7)
+    ∷ Bound (Inner Parameters 10) (plain (codes "arguments")) ∷ []
 arguments_here = refl
 
 -- with the context of globals it would denote a global
 arguments_lost : denotations ByContext Es
-        (tree_of_items (items_of (name_statement (codes "arguments") 1)))
-        ≡ Bound Top (with (codes "load") 9) ∷ Global (codes "helper")
-        ∷ Bound (Inner Parameters 10) (with (codes "module") 7)
-        ∷ Bound (Inner Parameters 10) (with (codes "exports") 7) ∷ Global (codes "arguments") ∷ []
+    (tree_of_items (items_of (name_statement (codes "arguments") 1)))
+    ≡ Bound Top (with (codes "load") 9) ∷ Global (codes "helper")
+    ∷ Bound (Inner Parameters 10) (with (codes "module") 7)
+    ∷ Bound (Inner Parameters 10) (with (codes "exports") 7) ∷ Global (codes "arguments") ∷ []
 arguments_lost = refl
 
 -- `var x;` or `let x;`
 abbrev variable : VarDeclKind → List ℕ → ℕ → List Item
 variable kind x c =
     h.Open 0 (h.VarDecl kind no_notes) ∷ h.Open 1 h.VarDeclarator ∷ h.Open 0 h.BindingIdent
-        ∷ h.Ident 0 x c Binding ∷ h.Close ∷ h.Close ∷ h.Close ∷ []
+    ∷ h.Ident 0 x c Binding ∷ h.Close ∷ h.Close ∷ h.Close ∷ []
 
 -- `var exports;` is the parameter, in the module and in the item; `var other;` belongs to the top
 -- and to the body
 joins_there : denotations BySymbol Cjs
-        (tree_of_items (variable Var (codes "exports") 0 ++ variable Var (codes "other") 0))
-        ≡ Bound Wrapper (plain (codes "exports")) ∷ Bound Top (plain (codes "other")) ∷ []
+    (tree_of_items (variable Var (codes "exports") 0 ++ variable Var (codes "other") 0))
+    ≡ Bound Wrapper (plain (codes "exports")) ∷ Bound Top (plain (codes "other")) ∷ []
 joins_there = refl
 
 joins_here : denotations ByContext Es
-        (tree_of_items (items_of (variable Var (codes "exports") 7
-        ++ variable Var (codes "other") 7))) ≡ Bound Top (with (codes "load") 9)
-        ∷ Global (codes "helper") ∷ Bound (Inner Parameters 10) (with (codes "module") 7)
-        ∷ Bound (Inner Parameters 10) (with (codes "exports") 7)
-        ∷ Bound (Inner Parameters 10) (with (codes "exports") 7)
-        ∷ Bound (Inner FunctionBody 21) (with (codes "other") 7) ∷ []
+    (tree_of_items (items_of (variable Var (codes "exports") 7
+    ++ variable Var (codes "other") 7))) ≡ Bound Top (with (codes "load") 9)
+    ∷ Global (codes "helper") ∷ Bound (Inner Parameters 10) (with (codes "module") 7)
+    ∷ Bound (Inner Parameters 10) (with (codes "exports") 7)
+    ∷ Bound (Inner Parameters 10) (with (codes "exports") 7)
+    ∷ Bound (Inner FunctionBody 21) (with (codes "other") 7) ∷ []
 joins_here = refl
 
 -- `let exports;` would be a second binding of one symbol and context; it is doubled
 let_doubled : first_doubled Cjs (tree_of_items (variable Let (codes "exports") 0))
-        ≡ Some (record { place = 4; name = plain (codes "exports"); by = ByLet;
-        scopes = Top ∷ Wrapper ∷ [] })
+    ≡ Some (record {
+      place = 4;
+      name = plain (codes "exports");
+      by = ByLet;
+      scopes = Top ∷ Wrapper ∷ [];
+    })
 let_doubled = refl
 
 let_twice : denotations ByContext Es (tree_of_items (items_of (variable Let (codes "exports") 7)))
-        ≡ Bound Top (with (codes "load") 9) ∷ Global (codes "helper")
-        ∷ Bound (Inner Parameters 10) (with (codes "module") 7)
-        ∷ Bound (Inner Parameters 10) (with (codes "exports") 7)
-        ∷ Bound (Inner FunctionBody 21) (with (codes "exports") 7) ∷ []
+    ≡ Bound Top (with (codes "load") 9) ∷ Global (codes "helper")
+    ∷ Bound (Inner Parameters 10) (with (codes "module") 7)
+    ∷ Bound (Inner Parameters 10) (with (codes "exports") 7)
+    ∷ Bound (Inner FunctionBody 21) (with (codes "exports") 7) ∷ []
 let_twice = refl
 
 -- What is asked can be met: `arguments;`.
@@ -108,7 +112,7 @@ abbrev no_loads : Ident → Type 0
 no_loads i = ⊥
 
 abbrev turned : Turned no_loads zero (name_statement (codes "arguments") 0)
-        (name_statement (codes "arguments") 7)
+    (name_statement (codes "arguments") 7)
 turned = begun refl (named refl (ended over))
 
 -- the local context, and one for each inner scope
@@ -136,7 +140,7 @@ wrapped Top m same = absurd (not-top same)
 wrapped (Inner kind a) m same = absurd (not-inner same)
 
 gives : GivesLocal 7 contexts (tree_of_items (name_statement (codes "arguments") 0))
-        (with (codes "load") 9)
+    (with (codes "load") 9)
 gives = record {
   top = λ x. refl;
   wrapper = λ x. refl;
@@ -144,7 +148,7 @@ gives = record {
   inner_own = λ i kind a m at. absurd (not-inner (only i (Bound (Inner kind a) m) at));
   inner_one =
       λ i j kind other a b m n at there numbers.
-          absurd (not-inner (only i (Bound (Inner kind a) m) at));
+      absurd (not-inner (only i (Bound (Inner kind a) m) at));
   not_load = λ i s m at. wrapped s m (only i (Bound s m) at);
   load_other = λ x. no-one x;
 }
@@ -172,10 +176,10 @@ can_be_loaded = record {
     taken : Each IsTaken (module_declared (name_statement (codes "arguments") 0))
     taken zero d at =
         ap (λ (e : Declared). is_some (nearest (from_taker e.by e.scopes)))
-            (sym (same_Some _ d at))
+        (sym (same_Some _ d at))
     taken (suc zero) d at =
         ap (λ (e : Declared). is_some (nearest (from_taker e.by e.scopes)))
-            (sym (same_Some _ d at))
+        (sym (same_Some _ d at))
     taken (suc (suc j)) d at = absurd (none-some d at)
 
 -- All premises together can be met: `exports; require('b');`, where module b has the load function
@@ -187,19 +191,19 @@ calls_b i = i ≡ (codes "load", 10)
 abbrev call_there : List Item
 call_there =
     h.Open 0 h.ExprStmt ∷ h.Open 0 h.CallExpr ∷ h.Ident 0 (codes "require") 0 Reference
-        ∷ h.Open 1 (h.ExprOrSpread false) ∷ h.Open 0 (h.Str (codes "b") None) ∷ h.Close ∷ h.Close
-        ∷ h.Close ∷ h.Close ∷ []
+    ∷ h.Open 1 (h.ExprOrSpread false) ∷ h.Open 0 (h.Str (codes "b") None) ∷ h.Close ∷ h.Close
+    ∷ h.Close ∷ h.Close ∷ []
 
 abbrev call_here : List Item
 call_here =
     h.Open 0 h.ExprStmt ∷ h.Open 0 h.CallExpr ∷ h.Ident 0 (codes "load") 10 Reference ∷ h.Close
-        ∷ h.Close ∷ []
+    ∷ h.Close ∷ []
 
 abbrev pieces : Pieced calls_b (name_statement (codes "exports") 0 ∷ call_there ∷ [])
-        (name_statement (codes "exports") 7 ∷ call_here ∷ [])
+    (name_statement (codes "exports") 7 ∷ call_here ∷ [])
 pieces =
     one_more (begun refl (named refl (ended over)))
-        (one_more (begun refl (called refl (ended over))) no_more)
+    (one_more (begun refl (called refl (ended over))) no_more)
 
 abbrev both_there : List Item
 both_there = name_statement (codes "exports") 0 ++ call_there
@@ -232,8 +236,8 @@ strangely : (x : List ℕ) (c : ℕ) → names_agree (with (codes "exports") 7) 
 strangely x c other i s m at =
     let same = bound_wrapper i s m at in
     (λ k. names_agree (with (ap denoted_symbol (sym same) k)
-        (contexts (scope_order (ap scope_in (sym same) k)) (ap denoted_symbol (sym same) k)))
-        (with x c))
+    (contexts (scope_order (ap scope_in (sym same) k)) (ap denoted_symbol (sym same) k)))
+    (with x c))
     ∙ other
 
 gives_both : GivesLocal 7 contexts (tree_of_items both_there) (with (codes "load") 9)
@@ -244,12 +248,12 @@ gives_both = record {
   inner_own = λ i kind a m at. absurd (only_wrapper (bound_wrapper i (Inner kind a) m at));
   inner_one =
       λ i j kind other a b m n at there numbers.
-          absurd (only_wrapper (bound_wrapper i (Inner kind a) m at));
+      absurd (only_wrapper (bound_wrapper i (Inner kind a) m at));
   not_load =
       λ i s m at. let same = bound_wrapper i s m at in
-          λ k. names_agree (with (codes "load") 9)
-          (with (ap denoted_symbol (sym same) k)
-          (contexts (scope_order (ap scope_in (sym same) k)) (ap denoted_symbol (sym same) k)));
+      λ k. names_agree (with (codes "load") 9)
+      (with (ap denoted_symbol (sym same) k)
+      (contexts (scope_order (ap scope_in (sym same) k)) (ap denoted_symbol (sym same) k)));
   load_other = λ x. never (bytes_eq (codes "load") x);
 }
   where
@@ -268,7 +272,7 @@ both_taken (suc zero) d at =
 both_taken (suc (suc j)) d at = absurd (none-some d at)
 
 abbrev both_loaded : IsLoaded contexts (together pieces) (codes "load", 9) (codes "module", 7)
-        (codes "exports", 7)
+    (codes "exports", 7)
 both_loaded = record {
   has = (inl (refl, refl), tt);
   taken = both_taken;
@@ -282,12 +286,12 @@ both_loaded = record {
 abbrev whole : List (List Item)
 whole =
     items_of (name_statement (codes "exports") 7 ++ call_here)
-        ∷ (variable Var (codes "helper") 8 ++ variable Var (codes "load") 10) ∷ []
+    ∷ (variable Var (codes "helper") 8 ++ variable Var (codes "load") 10) ∷ []
 
 strange : (x : List ℕ) (c : ℕ) → names_agree (with (codes "exports") 7) (with x c) ≡ false →
     names_agree (with (codes "module") 7) (with x c) ≡ false →
     IsStrange (together pieces) contexts (codes "load", 9) (codes "helper", 8) (codes "module", 7)
-        (codes "exports", 7) both_loaded x c
+    (codes "exports", 7) both_loaded x c
 strange x c first second = record {
   bindings = λ i o s k at is. strangely x c first i s k (by i at is);
   its_module = second;
@@ -305,7 +309,7 @@ strange x c first second = record {
     by (suc (suc i)) at is = absurd (none-some _ at)
 
 both_known : AreKnown (together pieces) contexts (codes "load", 9) (codes "helper", 8)
-        (codes "module", 7) (codes "exports", 7) both_loaded whole
+    (codes "module", 7) (codes "exports", 7) both_loaded whole
 both_known = record {
   load_known = refl;
   load_strange = strange (codes "load") 9 refl refl;
@@ -316,7 +320,7 @@ both_known = record {
   own_names = own;
   global_strange =
       λ x. strange x 1 (never (bytes_eq (codes "exports") x))
-          (never (bytes_eq (codes "module") x));
+      (never (bytes_eq (codes "module") x));
 }
   where
     never : (b : Bool) → (b && false) ≡ false
@@ -325,27 +329,28 @@ both_known = record {
 
     called : (name : Ident) → name ≡ (codes "load", 10) →
         (is_top_name whole (with name.0 name.1) ≡ true)
-            × IsStrange (together pieces) contexts (codes "load", 9) (codes "helper", 8)
-            (codes "module", 7) (codes "exports", 7) both_loaded name.0 name.1
-            × (is_arguments name.0 ≡ false)
-    called name is =
-        (ap (λ (i : Ident). is_top_name whole (with i.0 i.1)) is,
-        strange name.0 name.1
-            (ap (λ (i : Ident). names_agree (with (codes "exports") 7) (with i.0 i.1)) is)
-            (ap (λ (i : Ident). names_agree (with (codes "module") 7) (with i.0 i.1)) is),
-        ap (λ (i : Ident). is_arguments i.0) is)
+        × IsStrange (together pieces) contexts (codes "load", 9) (codes "helper", 8)
+        (codes "module", 7) (codes "exports", 7) both_loaded name.0 name.1
+        × (is_arguments name.0 ≡ false)
+    called name is = (
+      ap (λ (i : Ident). is_top_name whole (with i.0 i.1)) is,
+      strange name.0 name.1
+          (ap (λ (i : Ident). names_agree (with (codes "exports") 7) (with i.0 i.1)) is)
+          (ap (λ (i : Ident). names_agree (with (codes "module") 7) (with i.0 i.1)) is),
+      ap (λ (i : Ident). is_arguments i.0) is,
+    )
 
     own : (i : ℕ) (o : Occurrence) → slice_get (module_names both_there) i ≡ Some o →
         is_top_name whole (with o.sym
-            (context_of contexts (denoted_of BySymbol Cjs (module_declared both_there) o))) ≡ false
+        (context_of contexts (denoted_of BySymbol Cjs (module_declared both_there) o))) ≡ false
     own zero o at =
         ap (λ (q : Occurrence). is_top_name whole
-            (with q.sym (context_of contexts
-            (denoted_of BySymbol Cjs (module_declared both_there) q)))) (sym (same_Some _ o at))
+        (with q.sym (context_of contexts
+        (denoted_of BySymbol Cjs (module_declared both_there) q)))) (sym (same_Some _ o at))
     own (suc zero) o at =
         ap (λ (q : Occurrence). is_top_name whole
-            (with q.sym (context_of contexts
-            (denoted_of BySymbol Cjs (module_declared both_there) q)))) (sym (same_Some _ o at))
+        (with q.sym (context_of contexts
+        (denoted_of BySymbol Cjs (module_declared both_there) q)))) (sym (same_Some _ o at))
     own (suc (suc i)) o at = absurd (none-some o at)
 
 -- and what follows is that the names of the item are right
@@ -354,4 +359,4 @@ noted : (o : Occurrence) →
     IsNoted whole (items_of (name_statement (codes "exports") 7 ++ call_here)) o
 noted o there =
     all-noted (together pieces) contexts (codes "load", 9) (codes "helper", 8) (codes "module", 7)
-        (codes "exports", 7) both_loaded whole both_known o there
+    (codes "exports", 7) both_loaded whole both_known o there

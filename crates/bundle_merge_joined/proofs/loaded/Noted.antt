@@ -40,22 +40,22 @@ declared-name u d is = by (is_binding u.role) refl (way_of u.path) refl
         d.name ≡ with u.sym u.ctxt
     by true role (Some way) at =
         ap (λ (q : Declared). q.name)
-            (sym (same_Some _ d
-            (sym (ap (λ b. cond b
-            (declared_by u.place (with u.sym u.ctxt) (scopes_around Es u.path) (way_of u.path))
-            None) role ∙ ap (declared_by u.place (with u.sym u.ctxt) (scopes_around Es u.path)) at)
-            ∙ is)))
+        (sym (same_Some _ d
+        (sym (ap (λ b. cond b
+        (declared_by u.place (with u.sym u.ctxt) (scopes_around Es u.path) (way_of u.path))
+        None) role ∙ ap (declared_by u.place (with u.sym u.ctxt) (scopes_around Es u.path)) at)
+        ∙ is)))
     by true role None at =
         absurd (none-some d
-            (sym (ap (λ b. cond b
-            (declared_by u.place (with u.sym u.ctxt) (scopes_around Es u.path) (way_of u.path))
-            None) role ∙ ap (declared_by u.place (with u.sym u.ctxt) (scopes_around Es u.path)) at)
-            ∙ is))
+        (sym (ap (λ b. cond b
+        (declared_by u.place (with u.sym u.ctxt) (scopes_around Es u.path) (way_of u.path))
+        None) role ∙ ap (declared_by u.place (with u.sym u.ctxt) (scopes_around Es u.path)) at)
+        ∙ is))
     by false role w at =
         absurd (none-some d
-            (sym (ap (λ b. cond b
-            (declared_by u.place (with u.sym u.ctxt) (scopes_around Es u.path) (way_of u.path))
-            None) role) ∙ is))
+        (sym (ap (λ b. cond b
+        (declared_by u.place (with u.sym u.ctxt) (scopes_around Es u.path) (way_of u.path))
+        None) role) ∙ is))
 
 module _ {L : Ident → Type 0} {xs ys : List Item} (w : Turned L zero xs ys) (g : Numbering)
     (load helper m e : Ident) (its : IsLoaded g w load m e) where
@@ -63,20 +63,20 @@ module _ {L : Ident → Type 0} {xs ys : List Item} (w : Turned L zero xs ys) (g
   item = load_item load helper m e ys
 
   pub occurrences-item : occurrences (tree_of_items item) ≡ load_name load ∷ helper_name helper
-          ∷ parameter_name 13 12 11 m ∷ parameter_name 18 17 16 e ∷ body_names ys
+      ∷ parameter_name 13 12 11 m ∷ parameter_name 18 17 16 e ∷ body_names ys
   occurrences-item =
       ap (λ os. load_name load ∷ helper_name helper ∷ parameter_name 13 12 11 m
-          ∷ parameter_name 18 17 16 e ∷ os)
+      ∷ parameter_name 18 17 16 e ∷ os)
       (ap (occurrences_from body_start) (append_assoc ys back_items (h.Close ∷ []))
-          ∙ (occurrences-append body_start ys (back_items ++ h.Close ∷ [])
-          ∙ append-nil (body_names ys)))
+      ∙ (occurrences-append body_start ys (back_items ++ h.Close ∷ [])
+      ∙ append-nil (body_names ys)))
 
   -- each name of the body is one of the module's
   pub data NamedHere (u : Occurrence) : Type 0 where
     of_kept : (i : ℕ) (o : Occurrence) → slice_get (module_names xs) i ≡ Some o →
         StandsBeside (Goes w 1 22) o u → KeepsName g (module_declared xs) o u →
         DenotedBeside (Goes w 1 22) g (module_declared xs)
-            (denoted_of BySymbol Cjs (module_declared xs) o) (own_denoted item u) →
+        (denoted_of BySymbol Cjs (module_declared xs) o) (own_denoted item u) →
         NamedHere u
     of_changed : (o : Occurrence) → StandsBeside (Goes w 1 22) o u → is_binding o.role ≡ false →
         L (u.sym, u.ctxt) → NamedHere u
@@ -87,7 +87,7 @@ module _ {L : Ident → Type 0} {xs ys : List Item} (w : Turned L zero xs ys) (g
       by : {os us : List Occurrence} → Follows L (Goes w 1 22) g (module_declared xs) os us →
           (j : ℕ) → slice_get us j ≡ Some u →
           ((i : ℕ) (o : Occurrence) → slice_get os i ≡ Some o →
-              (k : ℕ) × (slice_get (module_names xs) k ≡ Some o)) →
+          (k : ℕ) × (slice_get (module_names xs) k ≡ Some o)) →
           NamedHere u
       by done j at there = absurd (none-some u at)
       by (kept {o = o} {u = first} stands keeps rest) zero at there =
@@ -96,11 +96,11 @@ module _ {L : Ident → Type 0} {xs ys : List Item} (w : Turned L zero xs ys) (g
           let its_keeps = subst (KeepsName g (module_declared xs) o) same keeps in
           let listed = there zero o refl in
           of_kept listed.0 o listed.1 its_stands its_keeps
-              (kept-there w g load helper m e its listed.0 o u listed.1 its_stands its_keeps)
+          (kept-there w g load helper m e its listed.0 o u listed.1 its_stands its_keeps)
       by (kept stands keeps rest) (suc j) at there = by rest j at (λ i o is. there (suc i) o is)
       by (changed {o = o} {u = first} stands refers is rest) zero at there =
           of_changed o (subst (StandsBeside (Goes w 1 22) o) (same_Some first u at) stands) refers
-              (subst (λ (q : Occurrence). L (q.sym, q.ctxt)) (same_Some first u at) is)
+          (subst (λ (q : Occurrence). L (q.sym, q.ctxt)) (same_Some first u at) is)
       by (changed stands refers is rest) (suc j) at there =
           by rest j at (λ i o is. there (suc i) o is)
 
@@ -125,27 +125,27 @@ module _ {L : Ident → Type 0} {xs ys : List Item} (w : Turned L zero xs ys) (g
       found : is_inner_name (own_declared item) (with x c) ≡ true → ⊥
       found is =
           let it = list_any-found (λ d. not (is_top (home_of (own_declared item) d))
-              && names_agree d.name (with x c)) (own_declared item) is in
+          && names_agree d.name (with x c)) (own_declared item) is in
           let parts = and_parts (not (is_top (home_of (own_declared item) it.1))) _ it.3 in
           by it.0 it.1 (sym (ap (λ ds. slice_get ds it.0) (declared-body w load helper m e))
-              ∙ it.2) parts.0 parts.1
+          ∙ it.2) parts.0 parts.1
         where
           by : (j : ℕ) (d : Declared) →
               slice_get (load_declared load.0 load.1 ∷ parameter_named 13 m ∷ parameter_named 18 e
-                  ∷ declared_by_names ByContext Es (body_names ys)) j ≡ Some d →
+              ∷ declared_by_names ByContext Es (body_names ys)) j ≡ Some d →
               not (is_top (home_of (own_declared item) d)) ≡ true →
               names_agree d.name (with x c) ≡ true → ⊥
           by zero d at inside agrees =
               false≢true (ap (λ e. not (is_top (home_of (own_declared item) e)))
-                  (same_Some (load_declared load.0 load.1) d at) ∙ inside)
+              (same_Some (load_declared load.0 load.1) d at) ∙ inside)
           by (suc zero) d at inside agrees =
               false≢true (sym strange.its_module
-                  ∙ (ap (λ (q : Declared). names_agree q.name (with x c))
-                  (same_Some (parameter_named 13 m) d at) ∙ agrees))
+              ∙ (ap (λ (q : Declared). names_agree q.name (with x c))
+              (same_Some (parameter_named 13 m) d at) ∙ agrees))
           by (suc (suc zero)) d at inside agrees =
               false≢true (sym strange.its_exports
-                  ∙ (ap (λ (q : Declared). names_agree q.name (with x c))
-                  (same_Some (parameter_named 18 e) d at) ∙ agrees))
+              ∙ (ap (λ (q : Declared). names_agree q.name (with x c))
+              (same_Some (parameter_named 18 e) d at) ∙ agrees))
           by (suc (suc (suc j))) d at inside agrees =
               let it = picked (declaration_of ByContext Es) (body_names ys) j d at in
               of_name it.1 d it.3 (named-here it.0 it.1 it.2) agrees
@@ -154,18 +154,18 @@ module _ {L : Ident → Type 0} {xs ys : List Item} (w : Turned L zero xs ys) (g
                   NamedHere u → names_agree d.name (with x c) ≡ true → ⊥
               of_name u d is (of_changed o stands refers calls) agrees =
                   none-some d (sym (ap
-                      (λ b. cond b (declared_by u.place (with u.sym u.ctxt)
-                      (scopes_around Es u.path) (way_of u.path)) None) (ap is_binding stands.role
-                      ∙ refers)) ∙ is)
+                  (λ b. cond b (declared_by u.place (with u.sym u.ctxt)
+                  (scopes_around Es u.path) (way_of u.path)) None) (ap is_binding stands.role
+                  ∙ refers)) ∙ is)
               of_name u d is (of_kept i o there stands keeps beside) agrees =
                   go (denoted_of BySymbol Cjs (module_declared xs) o) (own_denoted item u) refl
-                      refl beside
+                  refl beside
                 where
                   its_own : own_denoted item u ≡ Bound (home_of (own_declared item) d) d.name
                   its_own =
                       ap (own_or_found (own_declared item)
-                          (denoted_in ByContext (own_declared item) (scopes_around Es u.path)
-                          (with u.sym u.ctxt))) is
+                      (denoted_in ByContext (own_declared item) (scopes_around Es u.path)
+                      (with u.sym u.ctxt))) is
 
                   go : (a b : Denoted) → denoted_of BySymbol Cjs (module_declared xs) o ≡ a →
                       own_denoted item u ≡ b →
@@ -175,11 +175,11 @@ module _ {L : Ident → Type 0} {xs ys : List Item} (w : Turned L zero xs ys) (g
                       let symbol : y ≡ d.name.sym = ap denoted_symbol (sym second ∙ its_own) in
                       let name : d.name ≡ with u.sym u.ctxt = declared-name u d is in
                       let number : u.ctxt ≡ g (scope_order s) y = keeps.ctxt
-                          ∙ ap (context_of g) first in
+                      ∙ ap (context_of g) first in
                       false≢true (sym (strange.bindings i o s (plain y) there first)
-                          ∙ (ap (λ (k : Name). names_agree k (with x c))
-                          (λ k. with ((symbol ∙ ap (λ (q : Name). q.sym) name) k) (sym number k))
-                          ∙ (ap (λ (k : Name). names_agree k (with x c)) (sym name) ∙ agrees)))
+                      ∙ (ap (λ (k : Name). names_agree k (with x c))
+                      (λ k. with ((symbol ∙ ap (λ (q : Name). q.sym) name) k) (sym number k))
+                      ∙ (ap (λ (k : Name). names_agree k (with x c)) (sym name) ∙ agrees)))
 
   -- NOTED: where the items of a bundle know the function and what it calls at their tops, and none
   -- of the module's own names there
@@ -191,10 +191,10 @@ module _ {L : Ident → Type 0} {xs ys : List Item} (w : Turned L zero xs ys) (g
     pub helper_other : is_arguments helper.0 ≡ false
     pub called_known : (name : Ident) → L name →
         (is_top_name items (with name.0 name.1) ≡ true) × IsStrange name.0 name.1
-            × (is_arguments name.0 ≡ false)
+        × (is_arguments name.0 ≡ false)
     pub own_names : (i : ℕ) (o : Occurrence) → slice_get (module_names xs) i ≡ Some o →
         is_top_name items (with o.sym
-            (context_of g (denoted_of BySymbol Cjs (module_declared xs) o))) ≡ false
+        (context_of g (denoted_of BySymbol Cjs (module_declared xs) o))) ≡ false
     pub global_strange : (x : List ℕ) → IsStrange x 1
 
   pub beside-inner : {s t : Scope} → (k : Name) → Beside (Goes w 1 22) s t →
@@ -212,7 +212,7 @@ module _ {L : Ident → Type 0} {xs ys : List Item} (w : Turned L zero xs ys) (g
     note-kept : (i : ℕ) (o u : Occurrence) → slice_get (module_names xs) i ≡ Some o →
         KeepsName g (module_declared xs) o u →
         DenotedBeside (Goes w 1 22) g (module_declared xs)
-            (denoted_of BySymbol Cjs (module_declared xs) o) (own_denoted item u) →
+        (denoted_of BySymbol Cjs (module_declared xs) o) (own_denoted item u) →
         IsNoted items item u
     note-kept i o u at keeps beside =
         by (denoted_of BySymbol Cjs (module_declared xs) o) (own_denoted item u) refl refl beside
@@ -228,7 +228,7 @@ module _ {L : Ident → Type 0} {xs ys : List Item} (w : Turned L zero xs ys) (g
         by a b first second globals =
             let one : u.ctxt ≡ 1 = keeps.ctxt ∙ ap (context_of g) first in
             n.free one not_top (ap (λ c. is_inner_name (own_declared item) (with u.sym c)) one
-                ∙ strange-outside u.sym 1 (known.global_strange u.sym))
+            ∙ strange-outside u.sym 1 (known.global_strange u.sym))
         by a b first second (bindings near) =
             n.inner (ap is_inner second ∙ beside-inner _ near) (λ unwritten. not_top)
 
@@ -238,28 +238,28 @@ module _ {L : Ident → Type 0} {xs ys : List Item} (w : Turned L zero xs ys) (g
       where
         by : (i : ℕ) →
             slice_get (load_name load ∷ helper_name helper ∷ parameter_name 13 12 11 m
-                ∷ parameter_name 18 17 16 e ∷ body_names ys) i ≡ Some o →
+            ∷ parameter_name 18 17 16 e ∷ body_names ys) i ≡ Some o →
             IsNoted items item o
         by zero at =
             subst (IsNoted items item) (same_Some (load_name load) o at)
-                (n.top_name known.load_known (strange-outside load.0 load.1 known.load_strange))
+            (n.top_name known.load_known (strange-outside load.0 load.1 known.load_strange))
         by (suc zero) at =
             subst (IsNoted items item) (same_Some (helper_name helper) o at)
-                (n.top_name known.helper_known
-                (strange-outside helper.0 helper.1 known.helper_strange))
+            (n.top_name known.helper_known
+            (strange-outside helper.0 helper.1 known.helper_strange))
         by (suc (suc zero)) at =
             subst (IsNoted items item) (same_Some (parameter_name 13 12 11 m) o at)
-                (note-parameter 13 12 11 m)
+            (note-parameter 13 12 11 m)
         by (suc (suc (suc zero))) at =
             subst (IsNoted items item) (same_Some (parameter_name 18 17 16 e) o at)
-                (note-parameter 18 17 16 e)
+            (note-parameter 18 17 16 e)
         by (suc (suc (suc (suc j)))) at = of_name (named-here j o at)
           where
             of_name : NamedHere o → IsNoted items item o
             of_name (of_kept i q there stands keeps beside) = note-kept i q o there keeps beside
             of_name (of_changed q stands refers calls) =
                 let its = known.called_known (o.sym, o.ctxt) calls in
-                    n.top_name its.0 (strange-outside o.sym o.ctxt its.1)
+                n.top_name its.0 (strange-outside o.sym o.ctxt its.1)
 
   named-own : (zs tail : List Item) → AreOwn zs → AreNamed tail → AreNamed (zs ++ tail)
   named-own [] tail own rest = rest
@@ -271,14 +271,72 @@ module _ {L : Ident → Type 0} {xs ys : List Item} (w : Turned L zero xs ys) (g
 
   -- no default without a name
   pub item-named : IsNamed item
-  item-named =
-      (refl, (refl, (refl,
-          (refl, (refl, (refl,
-          (refl, (refl, (refl,
-          (refl, (refl, (refl, (refl, (refl, (refl, (refl, (refl, (refl, (refl, (refl, (refl,
-      subst AreNamed (sym (append_assoc ys back_items (h.Close ∷ [])))
-          (named-own ys (back_items ++ h.Close ∷ []) (own-after w)
-          (refl, (refl, (refl, (refl, (refl, (refl, (refl, (refl, tt))))))))))))))))))))))))))))))
+  item-named = (
+    refl,
+    (
+      refl,
+      (
+        refl,
+        (
+          refl,
+          (
+            refl,
+            (
+              refl,
+              (
+                refl,
+                (
+                  refl,
+                  (
+                    refl,
+                    (
+                      refl,
+                      (
+                        refl,
+                        (
+                          refl,
+                          (
+                            refl,
+                            (
+                              refl,
+                              (
+                                refl,
+                                (
+                                  refl,
+                                  (
+                                    refl,
+                                    (
+                                      refl,
+                                      (
+                                        refl,
+                                        (
+                                          refl,
+                                          (
+                                            refl,
+                                            subst AreNamed (sym (append_assoc ys back_items (h.Close ∷ [])))
+                                                (named-own ys (back_items ++ h.Close ∷ []) (own-after w)
+                                                (refl, (refl, (refl, (refl, (refl, (refl, (refl, (refl, tt))))))))),
+                                          ),
+                                        ),
+                                      ),
+                                    ),
+                                  ),
+                                ),
+                              ),
+                            ),
+                          ),
+                        ),
+                      ),
+                    ),
+                  ),
+                ),
+              ),
+            ),
+          ),
+        ),
+      ),
+    ),
+  )
 
   -- a strange name that refers denotes nothing inside
   pub strange-own : (x : List ℕ) (c : ℕ) → IsStrange x c → is_arguments x ≡ false →
@@ -286,13 +344,13 @@ module _ {L : Ident → Type 0} {xs ys : List Item} (w : Turned L zero xs ys) (g
       is_inner (own_denoted item u) ≡ false
   strange-own x c strange other u symbol ctxt refers =
       ap (λ d. is_inner (own_or_found (own_declared item)
-          (denoted_by_context (own_declared item) (scopes_around Es u.path) (with u.sym u.ctxt))
-          d)) (ap (λ b. cond b (declared_by u.place (with u.sym u.ctxt) (scopes_around Es u.path)
-          (way_of u.path)) None) refers)
+      (denoted_by_context (own_declared item) (scopes_around Es u.path) (with u.sym u.ctxt))
+      d)) (ap (λ b. cond b (declared_by u.place (with u.sym u.ctxt) (scopes_around Es u.path)
+      (way_of u.path)) None) refers)
       ∙ ((λ k. is_inner (denoted_by_context (own_declared item) (scopes_around Es u.path)
-          (with (symbol k) (ctxt k))))
+      (with (symbol k) (ctxt k))))
       ∙ by (find (λ scope. is_written_in (own_declared item) scope (with x c))
-          (scopes_around Es u.path)) refl)
+      (scopes_around Es u.path)) refl)
     where
       none_implied : (scope : Scope) → is_implied_in (own_declared item) scope (with x c) ≡ false
       none_implied scope =
@@ -301,25 +359,25 @@ module _ {L : Ident → Type 0} {xs ys : List Item} (w : Turned L zero xs ys) (g
 
       unbound : (b : Bool) →
           is_inner (cond b (Global x)
-              (bound_in (plain x)
-              (find (λ scope. is_implied_in (own_declared item) scope (with x c))
-              (scopes_around Es u.path)))) ≡ false
+          (bound_in (plain x)
+          (find (λ scope. is_implied_in (own_declared item) scope (with x c))
+          (scopes_around Es u.path)))) ≡ false
       unbound true = refl
       unbound false =
           ap (λ o. is_inner (bound_in (plain x) o))
-              (find-none (λ scope. is_implied_in (own_declared item) scope (with x c)) none_implied
-              (scopes_around Es u.path))
+          (find-none (λ scope. is_implied_in (own_declared item) scope (with x c)) none_implied
+          (scopes_around Es u.path))
 
       by : (o : Option Scope) →
           find (λ scope. is_written_in (own_declared item) scope (with x c))
-              (scopes_around Es u.path) ≡ o →
+          (scopes_around Es u.path) ≡ o →
           is_inner (written_or_implied (own_declared item) (scopes_around Es u.path) (with x c) o)
-              ≡ false
+          ≡ false
       by None is = unbound (is_unresolved (Some c))
       by (Some Wrapper) is = refl
       by (Some Top) is = refl
       by (Some (Inner kind begins)) is =
           let written = find-passes (λ scope. is_written_in (own_declared item) scope (with x c))
-              (scopes_around Es u.path) (Inner kind begins) is in
+          (scopes_around Es u.path) (Inner kind begins) is in
           absurd (false≢true (sym (strange-outside x c strange)
-              ∙ inner-declared (own_declared item) kind begins (with x c) written))
+          ∙ inner-declared (own_declared item) kind begins (with x c) written))

@@ -13,10 +13,12 @@ pub both_once : (R : Denoted → Denoted → Type 0) → IsOneToOne R → (xs ys
 both_once R one [] [] all = tt
 both_once R one [] (y ∷ ys) all = absurd all
 both_once R one (x ∷ xs) [] all = absurd all
-both_once R one (x ∷ xs) (y ∷ ys) all =
-    (all.0, both_filtered R (λ other. not (same_denoted x other))
-        (λ other. not (same_denoted y other)) (λ a b its. ap not (one x a y b all.0 its))
-        (each_denoted_once xs) (each_denoted_once ys) (both_once R one xs ys all.1))
+both_once R one (x ∷ xs) (y ∷ ys) all = (
+  all.0,
+  both_filtered R (λ other. not (same_denoted x other))
+      (λ other. not (same_denoted y other)) (λ a b its. ap not (one x a y b all.0 its))
+      (each_denoted_once xs) (each_denoted_once ys) (both_once R one xs ys all.1),
+)
 
 -- what is inside
 pub inside_zip : (R : Denoted → Denoted → Type 0) (p q : Denoted → Bool) (ds es : List Denoted) →

@@ -22,7 +22,7 @@ module _ (R : ℕ → ℕ → Type 0) (frame : IsFrame R) (g : Numbering) (ds : 
       its_context s x ≡ its_context u x
   context-same s u x e =
       λ i. cond (list_any (λ (d : Declared). (scope_order (home_of ds d) == e i)
-          && names_agree d.name (plain x)) ds) (Some (g (e i) x)) None
+      && names_agree d.name (plain x)) ds) (Some (g (e i) x)) None
 
   -- ONE TO ONE
   pub denoted-one : (a b x y : Denoted) → DenotedBeside R g ds a x → DenotedBeside R g ds b y →
@@ -34,28 +34,28 @@ module _ (R : ℕ → ℕ → Type 0) (frame : IsFrame R) (g : Numbering) (ds : 
       (bindings {s = u} {t = v} {x = n} second) =
       by (same_scope s u) refl (bytes_eq m n) refl
       ∙ ap (λ q. q && bytes_eq m n && same_context (its_context s m) (its_context u n))
-          (sym (same-beside R frame first second))
+      (sym (same-beside R frame first second))
     where
       by : (q : Bool) → same_scope s u ≡ q → (r : Bool) → bytes_eq m n ≡ r →
           (same_scope s u && bytes_eq m n && true)
-              ≡ (same_scope s u && bytes_eq m n
-              && same_context (its_context s m) (its_context u n))
+          ≡ (same_scope s u && bytes_eq m n
+          && same_context (its_context s m) (its_context u n))
       by false e r name =
           ap (λ q. q && bytes_eq m n && true) e
           ∙ sym (ap (λ q. q && bytes_eq m n && same_context (its_context s m) (its_context u n)) e)
       by true e false name =
           ap (λ r. same_scope s u && r && true) name
           ∙ (none_of (same_scope s u) (same_context (its_context s m) (its_context u n))
-              ∙ sym (ap (λ r. same_scope s u && r
-              && same_context (its_context s m) (its_context u n)) name))
+          ∙ sym (ap (λ r. same_scope s u && r
+          && same_context (its_context s m) (its_context u n)) name))
         where
           none_of : (p q : Bool) → (p && false && true) ≡ (p && false && q)
           none_of true q = refl
           none_of false q = refl
       by true e true name =
           let same : same_context (its_context s m) (its_context u n) ≡ true =
-              ap (λ c. same_context (its_context s m) c)
-              (sym (ap (its_context u) (same_symbol m n name))
-              ∙ sym (context-same s u m (same_order s u e)))
-              ∙ same_context-refl (its_context s m) in
+          ap (λ c. same_context (its_context s m) c)
+          (sym (ap (its_context u) (same_symbol m n name))
+          ∙ sym (context-same s u m (same_order s u e)))
+          ∙ same_context-refl (its_context s m) in
           ap (λ t. same_scope s u && bytes_eq m n && t) (sym same)

@@ -46,24 +46,24 @@ no-imports (top ∷ tops) is =
   where
     by : (b : Bool) → begins_with is_module_declaration top.items ≡ b →
         (b || list_any (λ (top : TopItem). begins_with is_module_declaration top.items) tops)
-            ≡ false →
+        ≡ false →
         (list_any (λ (top : TopItem). begins_with is_module_declaration top.items) tops ≡ false →
-            flat_map (λ (top : TopItem). imports_of_item top.items) tops ≡ []) →
+        flat_map (λ (top : TopItem). imports_of_item top.items) tops ≡ []) →
         imports_of_item top.items ++ flat_map (λ (top : TopItem). imports_of_item top.items) tops
-            ≡ []
+        ≡ []
     by true e none rest = absurd (false≢true (sym none))
     by false e none rest =
         ap (λ its. its ++ flat_map (λ (top : TopItem). imports_of_item top.items) tops)
-            (no-import top.items e)
+        (no-import top.items e)
         ∙ rest none
 
 pub script-imports : (tree : List Item) → is_script tree ≡ true → imports_of tree ≡ []
 script-imports tree is =
     no-imports (top_items tree)
-        (not-true (list_any (λ (top : TopItem). begins_with is_module_declaration top.items)
-        (top_items tree)) (and_parts
-        (not (list_any (λ (top : TopItem). begins_with is_module_declaration top.items)
-        (top_items tree))) _ is).0)
+    (not-true (list_any (λ (top : TopItem). begins_with is_module_declaration top.items)
+    (top_items tree)) (and_parts
+    (not (list_any (λ (top : TopItem). begins_with is_module_declaration top.items)
+    (top_items tree))) _ is).0)
 
 -- so a name of its top stands for what it declares
 pub stands-declared : (p : Program) (c : ℕ) (x : Text) (t : Target) → imports p c ≡ [] →
@@ -96,9 +96,11 @@ passes r (x ∷ xs) = by (r x) refl (passes r xs)
 
 all-once : (P : Denoted → Type 0) (xs : List Denoted) → AllOf P xs → AllOf P (each_denoted_once xs)
 all-once P [] all = tt
-all-once P (x ∷ xs) all =
-    (all.0, all-filter P (λ other. not (same_denoted x other)) (each_denoted_once xs)
-        (all-once P xs all.1))
+all-once P (x ∷ xs) all = (
+  all.0,
+  all-filter P (λ other. not (same_denoted x other)) (each_denoted_once xs)
+      (all-once P xs all.1),
+)
 
 all-get : (P : Denoted → Type 0) (xs : List Denoted) (i : ℕ) (d : Denoted) → AllOf P xs →
     i < length xs → P (get_or xs i d)
@@ -127,11 +129,11 @@ pub found-inside : (d : Denoted) (all : List Denoted) (k : ℕ) →
     is_inside 0 d ≡ true
 found-inside d all k found =
     let it = position-Some (same_denoted d) (each_denoted_once (filter (is_inside 0) all)) k d
-        found in
+    found in
     same-inside d (get_or (each_denoted_once (filter (is_inside 0) all)) k d) it.1
-        (all-get (λ e. is_inside 0 e ≡ true) (each_denoted_once (filter (is_inside 0) all)) k d
-        (all-once (λ e. is_inside 0 e ≡ true) (filter (is_inside 0) all)
-        (passes (is_inside 0) all)) it.0)
+    (all-get (λ e. is_inside 0 e ≡ true) (each_denoted_once (filter (is_inside 0) all)) k d
+    (all-once (λ e. is_inside 0 e ≡ true) (filter (is_inside 0) all)
+    (passes (is_inside 0) all)) it.0)
 
 -- IN THE MODULE: what a name means by the definitions
 pub named-as : (p : Program) (c : ℕ) (all : List Denoted) → IsCommonJs p c →
@@ -145,8 +147,8 @@ named-as p c all is d (Known l) (n.outside none stands) = by d l stands
         NamedAs c (each_denoted_once (filter (is_inside 0) all)) d (Known l)
     by d l (n.at_top {x = x} {t = t} its) =
         subst (λ q. NamedAs c (each_denoted_once (filter (is_inside 0) all)) (Bound Top (plain x))
-            (Known (Of q))) (sym (stands-declared p c x t (script-imports (tree_of p c) is.script)
-            its)) of_top
+        (Known (Of q))) (sym (stands-declared p c x t (script-imports (tree_of p c) is.script)
+        its)) of_top
     by d l n.parameter = of_wrapper
 named-as p c all is d (Unbound x) n.unbound = unbound
 
@@ -155,8 +157,8 @@ named-as p c all is d (Unbound x) n.unbound = unbound
 -- a statement of such a module states itself, and an empty one nothing
 pub stated-own : (start field : ℕ) (head : Head) (rest : List Item) → is_module_head head ≡ false →
     (stated start (h.Open field head ∷ rest) ≡ [])
-        ⊎ (stated start (h.Open field head ∷ rest) ≡ taken_from start (h.Open field head ∷ rest)
-        ∷ [])
+    ⊎ (stated start (h.Open field head ∷ rest) ≡ taken_from start (h.Open field head ∷ rest)
+    ∷ [])
 stated-own start field (h.ImportDecl meta) rest own = absurd (false≢true (sym own))
 stated-own start field (h.NamedExport meta) rest own = absurd (false≢true (sym own))
 stated-own start field (h.ExportAll meta) rest own = absurd (false≢true (sym own))

@@ -85,14 +85,14 @@ no-top Wrapper = refl
 no-top Top = refl
 no-top (Inner kind a) =
     ap (λ b. (is_parameters (Inner kind a) || is_wrapper (Inner kind a)) && b)
-        (inner-order kind a 1 (omega arith))
+    (inner-order kind a 1 (omega arith))
     ∙ and_right (is_parameters (Inner kind a) || is_wrapper (Inner kind a)) false refl
 
 no-parameter : (name : Name) (ds : List Declared) → list_any (is_parameter Top name) ds ≡ false
 no-parameter name [] = refl
 no-parameter name (d ∷ ds) =
     ap₂ (λ (a : Bool) (b : Bool). (a && names_agree d.name name) || b) (no-top (taker d))
-        (no-parameter name ds)
+    (no-parameter name ds)
 
 -- where an inner scope takes a name, it belongs to an inner scope
 abbrev IsInner : Scope → Type 0
@@ -104,7 +104,7 @@ inner-home : (ds : List Declared) (d : Declared) (kind : ScopeKind) (a : ℕ) (t
     Chain ts → from_taker d.by d.scopes ≡ Inner kind a ∷ ts → IsInner (home_of ds d)
 inner-home ds d kind a ts chain is =
     subst (λ fs. IsInner (cond (joins_parameter d.by) (home_beside ds d (parameters_of fs))
-        (unwrap_or (nearest fs) Top))) (sym is) (by (joins_parameter d.by) (of_kind kind chain))
+    (unwrap_or (nearest fs) Top))) (sym is) (by (joins_parameter d.by) (of_kind kind chain))
   where
     its_taker : IsInner (taker d)
     its_taker = subst (λ fs. IsInner (unwrap_or (nearest fs) Top)) (sym is) tt
@@ -150,7 +150,7 @@ place-behind : (s : Spot) (xs : List Item) (i : ℕ) (o : Occurrence) →
 place-behind s [] i o at = absurd (none-some o at)
 place-behind s (x ∷ xs) i o at =
     by (occurrence_of s x) (occurrence_place s x) i at
-        (λ j is. let ih = place-behind (past s x) xs j o is in omega (arith, ih))
+    (λ j is. let ih = place-behind (past s x) xs j o is in omega (arith, ih))
   where
     by : (p : Option Occurrence) → ((o : Occurrence) → p ≡ Some o → o.place ≡ s.place) → (i : ℕ) →
         slice_get (cons_option p (occurrences_from (past s x) xs)) i ≡ Some o →
@@ -173,12 +173,16 @@ module _ {L : Ident → Type 0} {xs ys : List Item} (w : Turned L zero xs ys)
 
   pub wrapper-listed : (x : List ℕ) → IsParameterName x →
       (j : ℕ) × (slice_get ds j ≡ Some (wrapper_parameter x))
-  wrapper-listed x (inl is) =
-      (0, ap (λ list. slice_get list 0) (declared-module w)
-          ∙ ap (λ y. Some (wrapper_parameter y)) (sym is))
-  wrapper-listed x (inr is) =
-      (1, ap (λ list. slice_get list 1) (declared-module w)
-          ∙ ap (λ y. Some (wrapper_parameter y)) (sym is))
+  wrapper-listed x (inl is) = (
+    0,
+    ap (λ list. slice_get list 0) (declared-module w)
+        ∙ ap (λ y. Some (wrapper_parameter y)) (sym is),
+  )
+  wrapper-listed x (inr is) = (
+    1,
+    ap (λ list. slice_get list 1) (declared-module w)
+        ∙ ap (λ y. Some (wrapper_parameter y)) (sym is),
+  )
 
   -- what is declared by an identifier, at its place
   pub record IsOwnName (d : Declared) : Type 0 where
@@ -196,19 +200,24 @@ module _ {L : Ident → Type 0} {xs ys : List Item} (w : Turned L zero xs ys)
           DeclaresOrNot Cjs o → IsOwnName d
       own o place is (DoesNot never) = absurd (none-some d (sym (never BySymbol o.ctxt) ∙ is))
       own o place is (Does way known its later) =
-          record { o = o; way = way; known = known;
-              is = same_Some d (declaration_by_way Cjs o way) (sym is ∙ its); place = place }
+          record {
+            o = o;
+            way = way;
+            known = known;
+            is = same_Some d (declaration_by_way Cjs o way) (sym is ∙ its);
+            place = place;
+          }
 
       by : (j : ℕ) →
           slice_get (wrapper_parameter (codes "module") ∷ wrapper_parameter (codes "exports")
-              ∷ declared_by_names BySymbol Cjs (module_names xs)) j ≡ Some d →
+          ∷ declared_by_names BySymbol Cjs (module_names xs)) j ≡ Some d →
           ((x : List ℕ) × IsParameterName x × (d ≡ wrapper_parameter x)) ⊎ IsOwnName d
       by zero at = inl (codes "module", inl refl, sym (same_Some _ d at))
       by (suc zero) at = inl (codes "exports", inr refl, sym (same_Some _ d at))
       by (suc (suc j)) at =
           let it = picked (declaration_of BySymbol Cjs) (module_names xs) j d at in
-              inr (own it.1 (place-behind module_start xs it.0 it.1 it.2) it.3
-              (declares_or_not Cjs it.1))
+          inr (own it.1 (place-behind module_start xs it.0 it.1 it.2) it.3
+          (declares_or_not Cjs it.1))
 
   -- UNDOUBLED: the top binds no parameter's name
   pub top-free : (x : List ℕ) → IsParameterName x → declares ds Top (plain x) ≡ false
@@ -216,13 +225,13 @@ module _ {L : Ident → Type 0} {xs ys : List Item} (w : Turned L zero xs ys)
       let it = list_any-found (is_declared_in ds Top (plain x)) ds holds in
       let parts = and_parts (same_scope (home_of ds it.1) Top) _ it.3 in
       from it.0 it.1 it.2 parts.0 (sym (names_agree-by_symbol it.1.name (plain x) refl) ∙ parts.1)
-          (sources it.0 it.1 it.2))
+      (sources it.0 it.1 it.2))
     where
       same_name : (d : Declared) → bytes_eq d.name.sym x ≡ true →
           names_agree (plain x) d.name ≡ true
       same_name d symbol =
           and_from (bytes_eq x d.name.sym) _
-              ((bytes_eq-Decides x d.name.sym).1 (sym (same_symbol d.name.sym x symbol))) refl
+          ((bytes_eq-Decides x d.name.sym).1 (sym (same_symbol d.name.sym x symbol))) refl
 
       lexical : (j : ℕ) (d : Declared) → slice_get ds j ≡ Some d → IsOwnName d →
           bytes_eq d.name.sym x ≡ true → from_taker d.by d.scopes ≡ Top ∷ Wrapper ∷ [] →
@@ -231,22 +240,22 @@ module _ {L : Ident → Type 0} {xs ys : List Item} (w : Turned L zero xs ys)
           let first = wrapper-listed x which in
           let far : 1 ≤ d.place = subst (λ (e : Declared). 1 ≤ e.place) (sym own.is) own.place in
           let known : is_identified d.by ≡ true = ap (λ (e : Declared). is_identified e.by) own.is
-              ∙ own.known in
+          ∙ own.known in
           let excluded : excludes d (wrapper_parameter x) ≡ true =
           or_left (is_lexical d && stands_beside d (wrapper_parameter x)) _
-              (and_from (is_lexical d) _ (ap (stands_once d.by) is
-              ∙ once d.by known takes_it joins)
-              (or_right (same_scope Wrapper (taker d)) _
-              (ap (λ fs. same_scope Wrapper (group_of fs)) is))) in
+          (and_from (is_lexical d) _ (ap (stands_once d.by) is
+          ∙ once d.by known takes_it joins)
+          (or_right (same_scope Wrapper (taker d)) _
+          (ap (λ fs. same_scope Wrapper (group_of fs)) is))) in
           let clashes : clash (wrapper_parameter x) d ≡ true =
           and_from (names_agree (plain x) d.name && not (0 == d.place)) _
-              (and_from (names_agree (plain x) d.name) _ (same_name d symbol)
-              (ap not (ne_eqb 0 d.place (λ e. omega (arith, e, far)))))
-              (or_right (excludes (wrapper_parameter x) d) _ excluded) in
+          (and_from (names_agree (plain x) d.name) _ (same_name d symbol)
+          (ap not (ne_eqb 0 d.place (λ e. omega (arith, e, far)))))
+          (or_right (excludes (wrapper_parameter x) d) _ excluded) in
           let doubled : is_doubled ds d ≡ true =
-              list_any-here (λ earlier. nat_lt earlier.place d.place && clash earlier d) ds first.0
-              (wrapper_parameter x) first.1
-              (and_from (nat_lt 0 d.place) _ (le-leb 1 d.place far) clashes) in
+          list_any-here (λ earlier. nat_lt earlier.place d.place && clash earlier d) ds first.0
+          (wrapper_parameter x) first.1
+          (and_from (nat_lt 0 d.place) _ (le-leb 1 d.place far) clashes) in
           false≢true (sym (find-failed (is_doubled ds) ds undoubled j d at) ∙ doubled)
 
       from : (j : ℕ) (d : Declared) → slice_get ds j ≡ Some d →
@@ -256,8 +265,8 @@ module _ {L : Ident → Type 0} {xs ys : List Item} (w : Turned L zero xs ys)
           false≢true (ap (λ (e : Declared). same_scope (home_of ds e) Top) (sym is) ∙ home)
       from j d at home symbol (inr own) =
           go (from_taker d.by d.scopes) refl
-              (subst (λ (e : Declared). TakenIn e.by (from_taker e.by e.scopes)) (sym own.is)
-              (taken-in own.way own.known (chain-around own.o.path)))
+          (subst (λ (e : Declared). TakenIn e.by (from_taker e.by e.scopes)) (sym own.is)
+          (taken-in own.way own.known (chain-around own.o.path)))
         where
           top_home : takes d.by Top ≡ true → from_taker d.by d.scopes ≡ Top ∷ Wrapper ∷ [] →
               (b : Bool) → joins_parameter d.by ≡ b → ⊥
@@ -265,13 +274,13 @@ module _ {L : Ident → Type 0} {xs ys : List Item} (w : Turned L zero xs ys)
           top_home takes is true joins =
               let first = wrapper-listed x which in
               let beside : list_any (is_parameter Wrapper d.name) ds ≡ true =
-                  list_any-here (is_parameter Wrapper d.name) ds first.0 (wrapper_parameter x)
-                  first.1 (same_name d symbol) in
+              list_any-here (is_parameter Wrapper d.name) ds first.0 (wrapper_parameter x)
+              first.1 (same_name d symbol) in
               let wrapped : home_of ds d ≡ Wrapper =
               ap (λ b. cond b (home_beside ds d (parameters_of (from_taker d.by d.scopes)))
-                  (taker d)) joins
+              (taker d)) joins
               ∙ (ap (λ fs. home_beside ds d (parameters_of fs)) is
-                  ∙ ap (λ b. cond b Wrapper (taker d)) beside) in
+              ∙ ap (λ b. cond b Wrapper (taker d)) beside) in
               false≢true (ap (λ home. same_scope home Top) (sym wrapped) ∙ home)
 
           go : (ts : List Scope) → from_taker d.by d.scopes ≡ ts → TakenIn d.by ts → ⊥
@@ -279,22 +288,22 @@ module _ {L : Ident → Type 0} {xs ys : List Item} (w : Turned L zero xs ys)
           go ts is (by_top takes) = top_home takes is (joins_parameter d.by) refl
           go ts is (by_inner {kind = kind} {a = a} {ts = more} chain) =
               false≢true (sym (inner-not (home_of ds d) (inner-home ds d kind a more chain is)).0
-                  ∙ home)
+              ∙ home)
 
   -- what is listed
   listed-occurrence : (i : ℕ) (d : Denoted) →
       slice_get (denotations BySymbol Cjs (tree_of_items xs)) i ≡ Some d →
       (o : Occurrence) × (slice_get (occurrences (tree_of_items xs)) i ≡ Some o)
-          × (denoted_of BySymbol Cjs ds o ≡ d)
+      × (denoted_of BySymbol Cjs ds o ≡ d)
   listed-occurrence i d at =
       by (slice_get (occurrences (tree_of_items xs)) i) refl
-          (sym (slice_get-map (denoted_of BySymbol Cjs ds) (occurrences (tree_of_items xs)) i)
-          ∙ at)
+      (sym (slice_get-map (denoted_of BySymbol Cjs ds) (occurrences (tree_of_items xs)) i)
+      ∙ at)
     where
       by : (p : Option Occurrence) → slice_get (occurrences (tree_of_items xs)) i ≡ p →
           option_map (denoted_of BySymbol Cjs ds) p ≡ Some d →
           (o : Occurrence) × (slice_get (occurrences (tree_of_items xs)) i ≡ Some o)
-              × (denoted_of BySymbol Cjs ds o ≡ d)
+          × (denoted_of BySymbol Cjs ds o ≡ d)
       by None is same = absurd (none-some d same)
       by (Some o) is same = (o, is, same_Some (denoted_of BySymbol Cjs ds o) d same)
 
@@ -303,7 +312,7 @@ module _ {L : Ident → Type 0} {xs ys : List Item} (w : Turned L zero xs ys)
       declaration_of BySymbol Cjs o ≡ Some d → (j : ℕ) × (slice_get ds j ≡ Some d)
   listed-declared i o at d is =
       each-occurrence (λ d. (j : ℕ) × (slice_get ds j ≡ Some d)) BySymbol Cjs (tree_of_items xs)
-          (λ j d at. (j, at)) i o at d is
+      (λ j d at. (j, at)) i o at d is
 
   top-function : (x : List ℕ) → binds ds Top (plain x) ≡ declares ds Top (plain x)
   top-function x = by (declares ds Top (plain x)) (is_arguments x)
@@ -328,30 +337,30 @@ module _ {L : Ident → Type 0} {xs ys : List Item} (w : Turned L zero xs ys)
           let top : s ≡ Top = ap scope_in same in
           let symbol : x ≡ m.sym = ap denoted_symbol same in
           subst (λ y. declares ds Top (plain y) ≡ true) symbol (sym (top-function x)
-              ∙ (ap (λ u. binds ds u (plain x)) (sym top)
-              ∙ find-passes (λ s. binds ds s (plain x)) ss s is))
+          ∙ (ap (λ u. binds ds u (plain x)) (sym top)
+          ∙ find-passes (λ s. binds ds s (plain x)) ss s is))
 
       by : (o : Occurrence) → slice_get (occurrences (tree_of_items xs)) i ≡ Some o →
           denoted_of BySymbol Cjs ds o ≡ Bound Top m → DeclaresOrNot Cjs o →
           declares ds Top (plain m.sym) ≡ true
       by o here is (DoesNot never) =
           found o.sym (scopes_around Cjs o.path)
-              (find (λ s. binds ds s (plain o.sym)) (scopes_around Cjs o.path)) refl
-              (sym (ap (own_or_found ds
-              (denoted_in BySymbol ds (scopes_around Cjs o.path) (plain o.sym)))
-              (never BySymbol o.ctxt)) ∙ is)
+          (find (λ s. binds ds s (plain o.sym)) (scopes_around Cjs o.path)) refl
+          (sym (ap (own_or_found ds
+          (denoted_in BySymbol ds (scopes_around Cjs o.path) (plain o.sym)))
+          (never BySymbol o.ctxt)) ∙ is)
       by o here is (Does way known own later) =
           let d : Declared = declaration_by_way Cjs o way in
           let listed = listed-declared i o here d own in
           let same : Bound (home_of ds d) (plain o.sym) ≡ Bound Top m =
-              sym (ap (own_or_found ds
-              (denoted_in BySymbol ds (scopes_around Cjs o.path) (plain o.sym))) own) ∙ is in
+          sym (ap (own_or_found ds
+          (denoted_in BySymbol ds (scopes_around Cjs o.path) (plain o.sym))) own) ∙ is in
           let top : home_of ds d ≡ Top = ap scope_in same in
           let symbol : o.sym ≡ m.sym = ap denoted_symbol same in
           list_any-here (is_declared_in ds Top (plain m.sym)) ds listed.0 d listed.1
-              (and_from (same_scope (home_of ds d) Top) _ (ap (λ s. same_scope s Top) top)
-              (names_agree-by_symbol (plain o.sym) (plain m.sym) refl
-              ∙ (bytes_eq-Decides o.sym m.sym).1 symbol))
+          (and_from (same_scope (home_of ds d) Top) _ (ap (λ s. same_scope s Top) top)
+          (names_agree-by_symbol (plain o.sym) (plain m.sym) refl
+          ∙ (bytes_eq-Decides o.sym m.sym).1 symbol))
 
   found-chain : (p : Scope → Bool) {ss : List Scope} → Chain ss → find p ss ≡ Some Wrapper →
       p Top ≡ false
@@ -380,8 +389,8 @@ module _ {L : Ident → Type 0} {xs ys : List Item} (w : Turned L zero xs ys)
       same_scope (taker d) Wrapper ≡ false
   taker-apart j d at own =
       go (from_taker d.by d.scopes) refl
-          (subst (λ (e : Declared). TakenIn e.by (from_taker e.by e.scopes)) (sym own.is)
-          (taken-in own.way own.known (chain-around own.o.path)))
+      (subst (λ (e : Declared). TakenIn e.by (from_taker e.by e.scopes)) (sym own.is)
+      (taken-in own.way own.known (chain-around own.o.path)))
     where
       go : (ts : List Scope) → from_taker d.by d.scopes ≡ ts → TakenIn d.by ts →
           same_scope (taker d) Wrapper ≡ false
@@ -398,7 +407,7 @@ module _ {L : Ident → Type 0} {xs ys : List Item} (w : Turned L zero xs ys)
   joined name bare holds =
       let it = list_any-found (is_parameter Wrapper name) ds holds in
       let whole = and_parts ((is_parameters (taker it.1) || is_wrapper (taker it.1))
-          && same_scope (taker it.1) Wrapper) _ it.3 in
+      && same_scope (taker it.1) Wrapper) _ it.3 in
       let parts = and_parts (is_parameters (taker it.1) || is_wrapper (taker it.1)) _ whole.0 in
       by it.0 it.1 it.2 parts.1 whole.1 (sources it.0 it.1 it.2)
     where
@@ -409,8 +418,8 @@ module _ {L : Ident → Type 0} {xs ys : List Item} (w : Turned L zero xs ys)
       by j d at same agrees (inr own) = absurd (false≢true (sym (taker-apart j d at own) ∙ same))
       by j d at same agrees (inl (y, its, is)) =
           let symbol : bytes_eq y name.sym ≡ true =
-              (and_parts (bytes_eq y name.sym) _
-              (ap (λ (e : Declared). names_agree e.name name) (sym is) ∙ agrees)).0 in
+          (and_parts (bytes_eq y name.sym) _
+          (ap (λ (e : Declared). names_agree e.name name) (sym is) ∙ agrees)).0 in
           subst IsParameterName (same_symbol y name.sym symbol) its
 
   -- a binding of the wrapper has no name that the top declares
@@ -419,7 +428,7 @@ module _ {L : Ident → Type 0} {xs ys : List Item} (w : Turned L zero xs ys)
       declares ds Top (plain m.sym) ≡ false
   bound-wrapper i m at =
       let it = listed-occurrence i (Bound Wrapper m) at in
-          by it.0 it.1 it.2 (declares_or_not Cjs it.0)
+      by it.0 it.1 it.2 (declares_or_not Cjs it.0)
     where
       found : (x : List ℕ) {ss : List Scope} → Chain ss → (p : Option Scope) →
           find (λ s. binds ds s (plain x)) ss ≡ p → bound_in (plain x) p ≡ Bound Wrapper m →
@@ -429,7 +438,7 @@ module _ {L : Ident → Type 0} {xs ys : List Item} (w : Turned L zero xs ys)
           let wrapped : s ≡ Wrapper = ap scope_in same in
           let symbol : x ≡ m.sym = ap denoted_symbol same in
           subst (λ y. declares ds Top (plain y) ≡ false) symbol (sym (top-function x)
-              ∙ found-chain (λ s. binds ds s (plain x)) chain (is ∙ ap Some wrapped))
+          ∙ found-chain (λ s. binds ds s (plain x)) chain (is ∙ ap Some wrapped))
 
       own-name : (o : Occurrence) (way : Way) → is_identified way ≡ true →
           declaration_of BySymbol Cjs o ≡ Some (declaration_by_way Cjs o way) →
@@ -437,7 +446,7 @@ module _ {L : Ident → Type 0} {xs ys : List Item} (w : Turned L zero xs ys)
           home_of ds (declaration_by_way Cjs o way) ≡ Wrapper → IsParameterName o.sym
       own-name o way known own here home =
           go (from_taker way (scopes_around Cjs o.path)) refl
-              (taken-in way known (chain-around o.path))
+          (taken-in way known (chain-around o.path))
         where
           d : Declared
           d = declaration_by_way Cjs o way
@@ -449,40 +458,40 @@ module _ {L : Ident → Type 0} {xs ys : List Item} (w : Turned L zero xs ys)
               TakenIn way ts → IsParameterName o.sym
           go ts is nobody =
               let listed = listed-declared i o here (declaration_by_way Cjs o way) own in
-                  absurd (false≢true (ap (λ fs. is_some (nearest fs)) (sym is)
-                  ∙ taken listed.0 (declaration_by_way Cjs o way) listed.1))
+              absurd (false≢true (ap (λ fs. is_some (nearest fs)) (sym is)
+              ∙ taken listed.0 (declaration_by_way Cjs o way) listed.1))
           go ts is (by_inner {kind = kind} {a = a} {ts = rest} chain) =
               absurd (subst IsInner home
-                  (inner-home ds (declaration_by_way Cjs o way) kind a rest chain is))
+              (inner-home ds (declaration_by_way Cjs o way) kind a rest chain is))
           go ts is (by_top takes_it) = joins (joins_parameter way) refl
             where
               its_home : cond (joins_parameter way)
-                      (cond (list_any (is_parameter Wrapper (plain o.sym)) ds) Wrapper Top) Top
-                      ≡ Wrapper
+                  (cond (list_any (is_parameter Wrapper (plain o.sym)) ds) Wrapper Top) Top
+                  ≡ Wrapper
               its_home =
                   sym ((λ k. cond (joins_parameter way)
-                      (home_beside ds (declaration_by_way Cjs o way) (parameters_of (is k)))
-                      (unwrap_or (nearest (is k)) Top))
-                      ∙ ap (λ s. cond (joins_parameter way)
-                      (cond (list_any (is_parameter Wrapper (plain o.sym)) ds) Wrapper s) Top)
-                      (ap (λ fs. unwrap_or (nearest fs) Top) is))
+                  (home_beside ds (declaration_by_way Cjs o way) (parameters_of (is k)))
+                  (unwrap_or (nearest (is k)) Top))
+                  ∙ ap (λ s. cond (joins_parameter way)
+                  (cond (list_any (is_parameter Wrapper (plain o.sym)) ds) Wrapper s) Top)
+                  (ap (λ fs. unwrap_or (nearest fs) Top) is))
                   ∙ home
 
               joins : (b : Bool) → joins_parameter way ≡ b → IsParameterName o.sym
               joins false e =
                   absurd (top-wrapper
-                      (sym (ap (λ b. cond b
-                      (cond (list_any (is_parameter Wrapper (plain o.sym)) ds) Wrapper Top) Top) e)
-                      ∙ its_home))
+                  (sym (ap (λ b. cond b
+                  (cond (list_any (is_parameter Wrapper (plain o.sym)) ds) Wrapper Top) Top) e)
+                  ∙ its_home))
               joins true e =
                   beside (list_any (is_parameter Wrapper (plain o.sym)) ds) refl
-                      (sym (ap (λ b. cond b
-                      (cond (list_any (is_parameter Wrapper (plain o.sym)) ds) Wrapper Top) Top) e)
-                      ∙ its_home)
+                  (sym (ap (λ b. cond b
+                  (cond (list_any (is_parameter Wrapper (plain o.sym)) ds) Wrapper Top) Top) e)
+                  ∙ its_home)
                 where
                   beside : (b : Bool) → list_any (is_parameter Wrapper (plain o.sym)) ds ≡ b →
                       cond (list_any (is_parameter Wrapper (plain o.sym)) ds) Wrapper Top
-                          ≡ Wrapper →
+                      ≡ Wrapper →
                       IsParameterName o.sym
                   beside true its same = joined (plain o.sym) refl its
                   beside false its same =
@@ -493,18 +502,18 @@ module _ {L : Ident → Type 0} {xs ys : List Item} (w : Turned L zero xs ys)
           declares ds Top (plain m.sym) ≡ false
       by o here is (DoesNot never) =
           found o.sym (chain-around o.path)
-              (find (λ s. binds ds s (plain o.sym)) (scopes_around Cjs o.path)) refl
-              (sym (ap (own_or_found ds
-              (denoted_in BySymbol ds (scopes_around Cjs o.path) (plain o.sym)))
-              (never BySymbol o.ctxt)) ∙ is)
+          (find (λ s. binds ds s (plain o.sym)) (scopes_around Cjs o.path)) refl
+          (sym (ap (own_or_found ds
+          (denoted_in BySymbol ds (scopes_around Cjs o.path) (plain o.sym)))
+          (never BySymbol o.ctxt)) ∙ is)
       by o here is (Does way known own later) =
           let same : Bound (home_of ds (declaration_by_way Cjs o way)) (plain o.sym)
-              ≡ Bound Wrapper m =
-              sym (ap (own_or_found ds
-              (denoted_in BySymbol ds (scopes_around Cjs o.path) (plain o.sym))) own) ∙ is in
+          ≡ Bound Wrapper m =
+          sym (ap (own_or_found ds
+          (denoted_in BySymbol ds (scopes_around Cjs o.path) (plain o.sym))) own) ∙ is in
           let symbol : o.sym ≡ m.sym = ap denoted_symbol same in
           top-free m.sym (subst IsParameterName symbol
-              (own-name o way known own here (ap scope_in same)))
+          (own-name o way known own here (ap scope_in same)))
 
   -- THE CONTEXTS of the linker tell the names of a CommonJS module apart, though the top and the
   -- wrapper share one
@@ -532,7 +541,7 @@ module _ {L : Ident → Type 0} {xs ys : List Item} (w : Turned L zero xs ys)
           m.sym ≡ n.sym → ⊥
       never i j m n at there same =
           false≢true (sym (ap (λ y. declares ds Top (plain y)) same ∙ bound-wrapper j n there)
-              ∙ bound-top i m at)
+          ∙ bound-top i m at)
 
       apart : (i j : ℕ) (s t : Scope) (m n : Name) →
           slice_get (denotations BySymbol Cjs (tree_of_items xs)) i ≡ Some (Bound s m) →
@@ -574,10 +583,10 @@ module _ {L : Ident → Type 0} {xs ys : List Item} (w : Turned L zero xs ys)
       of-parameter same = cc
   not-both c g i m at k l (wrapper_entry j n there) same x is =
       false≢true (sym (ap (λ y. declares ds Top (plain y)) (sym same) ∙ bound-wrapper j n there)
-          ∙ bound-top i m at)
+      ∙ bound-top i m at)
   not-both c g i m at k l (parameter_entry y which) same x is =
       false≢true (sym (ap (λ z. declares ds Top (plain z)) (sym same) ∙ top-free y which)
-          ∙ bound-top i m at)
+      ∙ bound-top i m at)
 
   abbrev text_of : Label → List ℕ
   text_of (Of (IsDeclared d x)) = x
@@ -596,20 +605,20 @@ module _ {L : Ident → Type 0} {xs ys : List Item} (w : Turned L zero xs ys)
           ap (λ (i : Ident). Of (IsDeclared c i.0)) same
       by k l (top_entry i m at) j other (wrapper_entry q n there) same =
           absurd (not-both c g i m at (n.sym, g 0 n.sym) (Parameter c n.sym)
-              (wrapper_entry q n there) (ap (λ (i : Ident). i.0) (sym same)) n.sym refl)
+          (wrapper_entry q n there) (ap (λ (i : Ident). i.0) (sym same)) n.sym refl)
       by k l (top_entry i m at) j other (parameter_entry x which) same =
           absurd (not-both c g i m at (x, g 0 x) (Parameter c x) (parameter_entry x which)
-              (ap (λ (i : Ident). i.0) (sym same)) x refl)
+          (ap (λ (i : Ident). i.0) (sym same)) x refl)
       by k l (wrapper_entry i m at) j other (top_entry q n there) same =
           absurd (not-both c g q n there (m.sym, g 0 m.sym) (Parameter c m.sym)
-              (wrapper_entry i m at) (ap (λ (i : Ident). i.0) same) m.sym refl)
+          (wrapper_entry i m at) (ap (λ (i : Ident). i.0) same) m.sym refl)
       by k l (wrapper_entry i m at) j other (wrapper_entry q n there) same =
           ap (λ (i : Ident). Parameter c i.0) same
       by k l (wrapper_entry i m at) j other (parameter_entry x which) same =
           ap (λ (i : Ident). Parameter c i.0) same
       by k l (parameter_entry y its) j other (top_entry q n there) same =
           absurd (not-both c g q n there (y, g 0 y) (Parameter c y) (parameter_entry y its)
-              (ap (λ (i : Ident). i.0) same) y refl)
+          (ap (λ (i : Ident). i.0) same) y refl)
       by k l (parameter_entry y its) j other (wrapper_entry q n there) same =
           ap (λ (i : Ident). Parameter c i.0) same
       by k l (parameter_entry y its) j other (parameter_entry x which) same =

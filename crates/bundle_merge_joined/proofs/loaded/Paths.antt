@@ -16,7 +16,7 @@ use Rattle.bundle_merge_joined.specs.loaded.Paths.{SameHead, same, noted, PathBe
 -- a test of heads that does not see notes
 head-same : {A : Type 0} (test : Head → A) →
     ((kind : VarDeclKind) (meta its : _) → test (h.VarDecl kind its) ≡ test (h.VarDecl kind meta))
-        →
+    →
     {head other : Head} → SameHead head other → test other ≡ test head
 head-same test alike same = refl
 head-same test alike (noted {kind = kind} {meta = meta} {its = its}) = alike kind meta its
@@ -82,7 +82,7 @@ module _ (R : ℕ → ℕ → Type 0) where
   way_of-beside (at_top field its) = refl
   way_of-beside (in_node {head = head} {old = old} {new = new} own alike goes path) =
       head-same (λ head. cond (is_pattern head) (way_of new) (way_in head new))
-          (λ kind meta its. refl) alike
+      (λ kind meta its. refl) alike
       ∙ λ i. cond (is_pattern head) (way_of-beside path i) (way_in-beside path head i)
 
   -- SCOPES
@@ -92,9 +92,9 @@ module _ (R : ℕ → ℕ → Type 0) where
   scopes-beside (in_node {field = field} {a = a} {b = b} {head = head} {other = other} {old = old}
       {new = new} own alike goes path) =
       subst (λ k. Framed R (scope_at a (kind_of_scope head field old) ++ scopes_around Cjs old)
-          (scope_at b k ++ scopes_around Es new))
+      (scope_at b k ++ scopes_around Es new))
       (sym (head-same (λ head. kind_of_scope head field new) (λ kind meta its. refl) alike
-          ∙ kind_of_scope-beside path head field))
+      ∙ kind_of_scope-beside path head field))
       (by (kind_of_scope head field old) (scopes-beside path))
     where
       by : (k : Option ScopeKind) → Framed R (scopes_around Cjs old) (scopes_around Es new) →

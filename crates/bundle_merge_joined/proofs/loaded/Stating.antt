@@ -58,15 +58,19 @@ denoted-in P at_last ds o all = by (declares_or_not Cjs o)
     by : DeclaresOrNot Cjs o → P (scope_in (denoted_of BySymbol Cjs ds o))
     by (DoesNot never) =
         subst (λ d. P (scope_in
-            (own_or_found ds (denoted_in BySymbol ds (scopes_around Cjs o.path) (plain o.sym)) d)))
-            (sym (never BySymbol o.ctxt))
-            (found (find (λ s. binds ds s (plain o.sym)) (scopes_around Cjs o.path)) refl)
+        (own_or_found ds (denoted_in BySymbol ds (scopes_around Cjs o.path) (plain o.sym)) d)))
+        (sym (never BySymbol o.ctxt))
+        (found (find (λ s. binds ds s (plain o.sym)) (scopes_around Cjs o.path)) refl)
     by (Does way known is later) =
         subst (λ d. P (scope_in
-            (own_or_found ds (denoted_in BySymbol ds (scopes_around Cjs o.path) (plain o.sym)) d)))
-            (sym is) (home-in P at_last ds
-            (record { place = o.place; name = plain o.sym; by = way;
-            scopes = scopes_around Cjs o.path }) all)
+        (own_or_found ds (denoted_in BySymbol ds (scopes_around Cjs o.path) (plain o.sym)) d)))
+        (sym is) (home-in P at_last ds
+        (record {
+          place = o.place;
+          name = plain o.sym;
+          by = way;
+          scopes = scopes_around Cjs o.path;
+        }) all)
 
 -- inner scopes go somewhere
 abbrev GoesIn : (ℕ → ℕ → Type 0) → Scope → Type 0
@@ -99,7 +103,7 @@ pub record IsPart {L : Ident → Type 0} {xs ys : List Item} (w : Turned L zero 
 
 -- all of them
 pub whole-part : {L : Ident → Type 0} {xs ys : List Item} (w : Turned L zero xs ys) (g : Numbering)
-        (load m e : Ident) →
+    (load m e : Ident) →
     IsLoaded g w load m e → IsPart w g w module_start body_start
 whole-part w g load m e its = record {
   path = at_top 0 0;
@@ -111,8 +115,8 @@ whole-part w g load m e its = record {
 
 -- the first of them, and the rest
 pub first-part : {L : Ident → Type 0} {xs ys : List Item} (w : Turned L zero xs ys) (g : Numbering)
-        {x y more after : List Item} (wx : Turned L zero x y) (rest : Turned L zero more after)
-        (s t : Spot) →
+    {x y more after : List Item} (wx : Turned L zero x y) (rest : Turned L zero more after)
+    (s t : Spot) →
     IsPart w g (turned-append wx rest) s t → IsPart w g wx s t
 first-part {xs = xs} w g {x = x} {more = more} wx rest s t part = record {
   path = part.path;
@@ -120,28 +124,28 @@ first-part {xs = xs} w g {x = x} {more = more} wx rest s t part = record {
   has = has-first g (module_declared xs) wx rest s part.has;
   listed =
       λ j o at. part.listed j o (ap (λ os. slice_get os j) (occurrences-append s x more)
-          ∙ get-left (occurrences_from s x) (occurrences_from (fold past s x) more) j o at);
+      ∙ get-left (occurrences_from s x) (occurrences_from (fold past s x) more) j o at);
   far = part.far;
 }
 
 pub next-part : {L : Ident → Type 0} {xs ys : List Item} (w : Turned L zero xs ys) (g : Numbering)
-        {x y more after : List Item} (wx : Turned L zero x y) (rest : Turned L zero more after)
-        (s t : Spot) →
+    {x y more after : List Item} (wx : Turned L zero x y) (rest : Turned L zero more after)
+    (s t : Spot) →
     IsPart w g (turned-append wx rest) s t → IsPart w g rest (fold past s x) (fold past t y)
 next-part {xs = xs} w g {x = x} {y = y} {more = more} wx rest s t part = record {
   path =
       path-behind (Goes w 1 22) wx s t part.path
-          (λ a b there. part.goes a b (goes-first wx rest s.place t.place a b there));
+      (λ a b there. part.goes a b (goes-first wx rest s.place t.place a b there));
   goes =
       λ a b there. part.goes a b
-          (goes-second wx rest s.place t.place a b
-          (subst (λ n. Goes rest n (t.place + length y) a b) (fold-place s x)
-          (subst (λ n. Goes rest (fold past s x).place n a b) (fold-place t y) there)));
+      (goes-second wx rest s.place t.place a b
+      (subst (λ n. Goes rest n (t.place + length y) a b) (fold-place s x)
+      (subst (λ n. Goes rest (fold past s x).place n a b) (fold-place t y) there)));
   has = has-second g (module_declared xs) wx rest s part.has;
   listed =
       λ j o at. let it = get-right (occurrences_from s x) (occurrences_from (fold past s x) more) j
-          o at in part.listed it.0 o (ap (λ os. slice_get os it.0) (occurrences-append s x more)
-          ∙ it.1);
+      o at in part.listed it.0 o (ap (λ os. slice_get os it.0) (occurrences-append s x more)
+      ∙ it.1);
   far = let place = fold-place t y in let before = part.far in omega (arith, place, before);
 }
 
@@ -164,8 +168,8 @@ module _ {L : Ident → Type 0} {xs ys : List Item} (w : Turned L zero xs ys) (g
   pub part-follows : Follows L In g ds (occurrences_from s x) (occurrences_from t y)
   part-follows =
       follows-turned In g ds wx s t (at-any {R = R} {S = In} part.path)
-          (λ a b there. let far = goes-from wx s.place t.place a b there in
-          (far.0, far.1, part.goes a b there)) part.has
+      (λ a b there. let far = goes-from wx s.place t.place a b there in
+      (far.0, far.1, part.goes a b there)) part.has
 
   part-index : (j : ℕ) (o : Occurrence) → slice_get (occurrences_from s x) j ≡ Some o →
       (i : ℕ) × (slice_get (module_names xs) i ≡ Some o)
@@ -173,8 +177,12 @@ module _ {L : Ident → Type 0} {xs ys : List Item} (w : Turned L zero xs ys) (g
 
   part-stands : (o u : Occurrence) → StandsBeside In o u → StandsBeside R o u
   part-stands o u stands =
-      record { role = stands.role; way = stands.way;
-          scopes = widen (λ a b there. there.2) stands.scopes; own = stands.own }
+      record {
+        role = stands.role;
+        way = stands.way;
+        scopes = widen (λ a b there. there.2) stands.scopes;
+        own = stands.own;
+      }
 
   far-enough : 22 ≤ t.place
   far-enough = part.far
@@ -182,8 +190,8 @@ module _ {L : Ident → Type 0} {xs ys : List Item} (w : Turned L zero xs ys) (g
   not-inside : (n : ℕ) → n < 22 → nat_le t.place n ≡ false
   not-inside n small =
       let far = far-enough in
-          false_from_ne_true (nat_le t.place n) (λ is. let le = leb-true t.place n is in
-          omega (arith, le, small, far))
+      false_from_ne_true (nat_le t.place n) (λ is. let le = leb-true t.place n is in
+      omega (arith, le, small, far))
 
   -- what is inside the statement in the module is inside in the item
   near : (o u : Occurrence) → StandsBeside In o u →
@@ -191,7 +199,7 @@ module _ {L : Ident → Type 0} {xs ys : List Item} (w : Turned L zero xs ys) (g
       is_inside 0 (denoted_of BySymbol Cjs ds o) ≡ is_inside t.place (own_denoted item u)
   near o u stands beside =
       by (denoted_of BySymbol Cjs ds o) (own_denoted item u) beside
-          (denoted-in (GoesIn In) tt ds o (framed-in stands.scopes))
+      (denoted-in (GoesIn In) tt ds o (framed-in stands.scopes))
     where
       by : (a b : Denoted) → DenotedBeside R g ds a b → GoesIn In (scope_in a) →
           is_inside 0 a ≡ is_inside t.place b
@@ -226,38 +234,41 @@ module _ {L : Ident → Type 0} {xs ys : List Item} (w : Turned L zero xs ys) (g
         Becomes (denoted_of BySymbol Cjs ds o) (own_denoted item u)
     kept-pair o u stands keeps =
         kept-there w g load helper m e its stands.1.0 o u stands.1.1 (part-stands o u stands.0)
-            keeps
+        keeps
 
     -- one by one: inside in one exactly if inside in the other
     pair-inside : (o u : Occurrence) (meant : Meant) → Stands o u → Tells o u meant →
         (is_inside 0 (denoted_of BySymbol Cjs ds o) ≡ is_inside t.place (own_denoted item u))
-            × (is_inside 0 (denoted_of BySymbol Cjs ds o) ≡ true →
-            Becomes (denoted_of BySymbol Cjs ds o) (own_denoted item u))
+        × (is_inside 0 (denoted_of BySymbol Cjs ds o) ≡ true →
+        Becomes (denoted_of BySymbol Cjs ds o) (own_denoted item u))
     pair-inside o u meant stands (told_kept keeps named) =
         let beside = kept-pair o u stands keeps in (near o u stands.0 beside, λ is. beside)
     pair-inside o u meant stands (told_load calls refers out there) =
-        let facts = known.called_known (ident_of u) calls in
-        (out ∙ sym (outside-there (own_denoted item u)
-            (strange-own w g load helper m e its u.sym u.ctxt facts.1 facts.2 u refl refl refers)),
-            λ is. absurd (false≢true (sym out ∙ is)))
+        let facts = known.called_known (ident_of u) calls in (
+          out ∙ sym (outside-there (own_denoted item u)
+              (strange-own w g load helper m e its u.sym u.ctxt facts.1 facts.2 u refl refl refers)),
+          λ is. absurd (false≢true (sym out ∙ is)),
+        )
 
     all-inside : {os us : List Occurrence} → Follows L In g ds os us → (meants : List Meant) →
         ((j : ℕ) (o : Occurrence) → slice_get os j ≡ Some o →
-            (i : ℕ) × (slice_get (module_names xs) i ≡ Some o)) →
+        (i : ℕ) × (slice_get (module_names xs) i ≡ Some o)) →
         AreTold table L c g ds inner0 os us meants →
         AllZip (λ d v. (is_inside 0 d ≡ is_inside t.place v)
-            × (is_inside 0 d ≡ true → Becomes d v)) (map (denoted_of BySymbol Cjs ds) os)
-            (map (own_denoted item) us)
+        × (is_inside 0 d ≡ true → Becomes d v)) (map (denoted_of BySymbol Cjs ds) os)
+        (map (own_denoted item) us)
     all-inside done [] at told = tt
     all-inside done (meant ∷ meants) at told = absurd told
     all-inside (kept stands keeps rest) [] at told = absurd told
-    all-inside (kept {o = o} {u = u} stands keeps rest) (meant ∷ meants) at told =
-        (pair-inside o u meant (stands, at zero o refl) told.0,
-            all-inside rest meants (λ j q is. at (suc j) q is) told.1)
+    all-inside (kept {o = o} {u = u} stands keeps rest) (meant ∷ meants) at told = (
+      pair-inside o u meant (stands, at zero o refl) told.0,
+      all-inside rest meants (λ j q is. at (suc j) q is) told.1,
+    )
     all-inside (changed stands refers is rest) [] at told = absurd told
-    all-inside (changed {o = o} {u = u} stands refers is rest) (meant ∷ meants) at told =
-        (pair-inside o u meant (stands, at zero o refl) told.0,
-            all-inside rest meants (λ j q is. at (suc j) q is) told.1)
+    all-inside (changed {o = o} {u = u} stands refers is rest) (meant ∷ meants) at told = (
+      pair-inside o u meant (stands, at zero o refl) told.0,
+      all-inside rest meants (λ j q is. at (suc j) q is) told.1,
+    )
 
     -- one name
     module _ (inner1 : List Denoted) (numbers : (d v : Denoted) → Becomes d v →
@@ -278,92 +289,94 @@ module _ {L : Ident → Type 0} {xs ys : List Item} (w : Turned L zero xs ys) (g
           IsFor o.sym d → NameNoted items table item t.place inner1 u meant
       name-kept o u d (Inside n) (one_inside found inside) stands keeps is beside at_hand its_for =
           is_one_inside (must-be-inner d (own_denoted item u) beside
-              (λ z global. false≢true (sym (ap (is_inside 0) global) ∙ inside)))
-              (λ unwritten. not-top stands.1.0 o u stands.1.1 keeps) (sym at_hand ∙ inside)
-              (sym (numbers d (own_denoted item u) beside) ∙ found)
+          (λ z global. false≢true (sym (ap (is_inside 0) global) ∙ inside)))
+          (λ unwritten. not-top stands.1.0 o u stands.1.1 keeps) (sym at_hand ∙ inside)
+          (sym (numbers d (own_denoted item u) beside) ∙ found)
       name-kept o u d (Known l) (of_top {x = z}) stands keeps is beside at_hand its_for =
           let symbol : z ≡ u.sym = ap (λ (k : Name). k.sym) its_for ∙ sym keeps.symbol in
           let number : g 1 z ≡ u.ctxt = sym (keeps.ctxt ∙ ap (context_of g) is) in
           is_known (sym at_hand)
-              (labelled_inner (must-be-inner (Bound Top (plain z)) (own_denoted item u) beside
-              (λ y global. bound-global global))
-              (λ unwritten. not-top stands.1.0 o u stands.1.1 keeps)
+          (labelled_inner (must-be-inner (Bound Top (plain z)) (own_denoted item u) beside
+          (λ y global. bound-global global))
+          (λ unwritten. not-top stands.1.0 o u stands.1.1 keeps)
           (subst (λ (i : Ident). Contains table (i, Of (IsDeclared c z)))
-              (λ k. (symbol k, number k)) (tabled.tops stands.1.0 o z stands.1.1 is)))
+          (λ k. (symbol k, number k)) (tabled.tops stands.1.0 o z stands.1.1 is)))
       name-kept o u d (Known l) (of_wrapper {x = z}) stands keeps is beside at_hand its_for =
           let symbol : z ≡ u.sym = ap (λ (k : Name). k.sym) its_for ∙ sym keeps.symbol in
           let number : g 0 z ≡ u.ctxt = sym (keeps.ctxt ∙ ap (context_of g) is) in
           is_known (sym at_hand)
-              (labelled_inner (must-be-inner (Bound Wrapper (plain z)) (own_denoted item u) beside
-              (λ y global. bound-global global))
-              (λ unwritten. not-top stands.1.0 o u stands.1.1 keeps)
+          (labelled_inner (must-be-inner (Bound Wrapper (plain z)) (own_denoted item u) beside
+          (λ y global. bound-global global))
+          (λ unwritten. not-top stands.1.0 o u stands.1.1 keeps)
           (subst (λ (i : Ident). Contains table (i, Parameter c z)) (λ k. (symbol k, number k))
-              (tabled.wrapped stands.1.0 o z stands.1.1 is)))
+          (tabled.wrapped stands.1.0 o z stands.1.1 is)))
       name-kept o u d (Unbound z) unbound stands keeps is beside at_hand its_for =
           let symbol : u.sym ≡ z = keeps.symbol ∙ sym its_for in
           let one : u.ctxt ≡ 1 = keeps.ctxt ∙ ap (context_of g) is in
           subst (λ y. NameNoted items table item t.place inner1 u (Unbound y)) symbol
           (is_free one (not-top stands.1.0 o u stands.1.1 keeps)
-              (ap (λ n. is_inner_name (own_declared item) (with u.sym n)) one
-              ∙ strange-outside w g load helper m e its u.sym 1 (known.global_strange u.sym)))
+          (ap (λ n. is_inner_name (own_declared item) (with u.sym n)) one
+          ∙ strange-outside w g load helper m e its u.sym 1 (known.global_strange u.sym)))
 
       name-noted : (o u : Occurrence) (meant : Meant) → Stands o u → Tells o u meant →
           NameNoted items table item t.place inner1 u meant
       name-noted o u meant stands (told_kept keeps named) =
           let beside = kept-pair o u stands keeps in
           name-kept o u (denoted_of BySymbol Cjs ds o) meant named stands keeps refl beside
-              (near o u stands.0 beside) (denoted-for Cjs ds o)
+          (near o u stands.0 beside) (denoted-for Cjs ds o)
       name-noted o u meant stands (told_load calls refers out there) =
           let facts = known.called_known (ident_of u) calls in
           is_known (outside-there (own_denoted item u)
-              (strange-own w g load helper m e its u.sym u.ctxt facts.1 facts.2 u refl refl
-              refers)) (labelled_top facts.0
-              (strange-outside w g load helper m e its u.sym u.ctxt facts.1) there)
+          (strange-own w g load helper m e its u.sym u.ctxt facts.1 facts.2 u refl refl
+          refers)) (labelled_top facts.0
+          (strange-outside w g load helper m e its u.sym u.ctxt facts.1) there)
 
       all-noted : {os us : List Occurrence} → Follows L In g ds os us → (meants : List Meant) →
           ((j : ℕ) (o : Occurrence) → slice_get os j ≡ Some o →
-              (i : ℕ) × (slice_get (module_names xs) i ≡ Some o)) →
+          (i : ℕ) × (slice_get (module_names xs) i ≡ Some o)) →
           AreTold table L c g ds inner0 os us meants →
           AllZip (NameNoted items table item t.place inner1) us meants
       all-noted done [] at told = tt
       all-noted done (meant ∷ meants) at told = absurd told
       all-noted (kept stands keeps rest) [] at told = absurd told
-      all-noted (kept {o = o} {u = u} stands keeps rest) (meant ∷ meants) at told =
-          (name-noted o u meant (stands, at zero o refl) told.0,
-              all-noted rest meants (λ j q is. at (suc j) q is) told.1)
+      all-noted (kept {o = o} {u = u} stands keeps rest) (meant ∷ meants) at told = (
+        name-noted o u meant (stands, at zero o refl) told.0,
+        all-noted rest meants (λ j q is. at (suc j) q is) told.1,
+      )
       all-noted (changed stands refers is rest) [] at told = absurd told
-      all-noted (changed {o = o} {u = u} stands refers is rest) (meant ∷ meants) at told =
-          (name-noted o u meant (stands, at zero o refl) told.0,
-              all-noted rest meants (λ j q is. at (suc j) q is) told.1)
+      all-noted (changed {o = o} {u = u} stands refers is rest) (meant ∷ meants) at told = (
+        name-noted o u meant (stands, at zero o refl) told.0,
+        all-noted rest meants (λ j q is. at (suc j) q is) told.1,
+      )
 
   -- THE STATEMENT: noted in the module, it is noted in the item of the load function, by itself
   pub statement-noted : (items : List (List Item)) → AreKnown w g load helper m e its items →
       (table : Table) (c : ℕ) → AreTabled table c g xs L → (meants : List Meant) →
       AreTold table L c g ds
-          (each_denoted_once
-          (filter (is_inside 0) (map (denoted_of BySymbol Cjs ds) (occurrences_from s x))))
-          (occurrences_from s x) (occurrences_from t y) meants →
+      (each_denoted_once
+      (filter (is_inside 0) (map (denoted_of BySymbol Cjs ds) (occurrences_from s x))))
+      (occurrences_from s x) (occurrences_from t y) meants →
       AllZip (NameNoted items table item t.place
-          (each_denoted_once
-          (filter (is_inside t.place) (map (own_denoted item) (occurrences_from t y)))))
-          (occurrences_from t y) meants
+      (each_denoted_once
+      (filter (is_inside t.place) (map (own_denoted item) (occurrences_from t y)))))
+      (occurrences_from t y) meants
   statement-noted items known table c tabled meants told =
       let inner0 : List Denoted =
-          each_denoted_once (filter (is_inside 0)
-          (map (denoted_of BySymbol Cjs ds) (occurrences_from s x))) in
+      each_denoted_once (filter (is_inside 0)
+      (map (denoted_of BySymbol Cjs ds) (occurrences_from s x))) in
       let inner1 : List Denoted =
-          each_denoted_once (filter (is_inside t.place)
-          (map (own_denoted item) (occurrences_from t y))) in
+      each_denoted_once (filter (is_inside t.place)
+      (map (own_denoted item) (occurrences_from t y))) in
       all-noted items known table c tabled inner0 inner1
       (λ d v beside. numbers_agree (DenotedBeside R g ds)
-          (λ a b p q. denoted-one R (turned-frame w) g ds a b p q)
-          (filter (is_inside 0) (map (denoted_of BySymbol Cjs ds) (occurrences_from s x)))
-          (filter (is_inside t.place) (map (own_denoted item) (occurrences_from t y)))
+      (λ a b p q. denoted-one R (turned-frame w) g ds a b p q)
+      (filter (is_inside 0) (map (denoted_of BySymbol Cjs ds) (occurrences_from s x)))
+      (filter (is_inside t.place) (map (own_denoted item) (occurrences_from t y)))
       (inside_zip (DenotedBeside R g ds) (is_inside 0) (is_inside t.place)
-          (map (denoted_of BySymbol Cjs ds) (occurrences_from s x))
-          (map (own_denoted item) (occurrences_from t y))
-          (all-inside items known table c tabled inner0 part-follows meants part-index told)) d v
-          beside)
+      (map (denoted_of BySymbol Cjs ds) (occurrences_from s x))
+      (map (own_denoted item) (occurrences_from t y))
+      (all-inside items known table c tabled inner0 part-follows meants part-index told)) d v
+      beside)
       part-follows meants part-index told
 
   -- the bindings inside are called as in the module
@@ -374,7 +387,7 @@ module _ {L : Ident → Type 0} {xs ys : List Item} (w : Turned L zero xs ys) (g
   symbols-same (a ∷ olds) [] all = absurd all
   symbols-same (a ∷ olds) (b ∷ bs) all =
       ap₂ (λ (p : List ℕ) (ps : List (List ℕ)). p ∷ ps) (one a b all.0)
-          (symbols-same olds bs all.1)
+      (symbols-same olds bs all.1)
     where
       one : (a b : Denoted) → DenotedBeside R g ds a b → denoted_symbol b ≡ denoted_symbol a
       one a b globals = refl
@@ -383,22 +396,22 @@ module _ {L : Ident → Type 0} {xs ys : List Item} (w : Turned L zero xs ys) (g
   pub inner-symbols : (items : List (List Item)) → AreKnown w g load helper m e its items →
       (table : Table) (c : ℕ) → AreTabled table c g xs L → (meants : List Meant) →
       AreTold table L c g ds
-          (each_denoted_once
-          (filter (is_inside 0) (map (denoted_of BySymbol Cjs ds) (occurrences_from s x))))
-          (occurrences_from s x) (occurrences_from t y) meants →
+      (each_denoted_once
+      (filter (is_inside 0) (map (denoted_of BySymbol Cjs ds) (occurrences_from s x))))
+      (occurrences_from s x) (occurrences_from t y) meants →
       map denoted_symbol
-          (each_denoted_once
-          (filter (is_inside t.place) (map (own_denoted item) (occurrences_from t y))))
-          ≡ map denoted_symbol
-          (each_denoted_once
-          (filter (is_inside 0) (map (denoted_of BySymbol Cjs ds) (occurrences_from s x))))
+      (each_denoted_once
+      (filter (is_inside t.place) (map (own_denoted item) (occurrences_from t y))))
+      ≡ map denoted_symbol
+      (each_denoted_once
+      (filter (is_inside 0) (map (denoted_of BySymbol Cjs ds) (occurrences_from s x))))
   inner-symbols items known table c tabled meants told =
       let here : List Denoted = map (denoted_of BySymbol Cjs ds) (occurrences_from s x) in
       let there : List Denoted = map (own_denoted item) (occurrences_from t y) in
       symbols-same (each_denoted_once (filter (is_inside 0) here))
-          (each_denoted_once (filter (is_inside t.place) there))
+      (each_denoted_once (filter (is_inside t.place) there))
       (both_once (DenotedBeside R g ds) (λ a b p q. denoted-one R (turned-frame w) g ds a b p q)
-          (filter (is_inside 0) here) (filter (is_inside t.place) there)
+      (filter (is_inside 0) here) (filter (is_inside t.place) there)
       (inside_zip (DenotedBeside R g ds) (is_inside 0) (is_inside t.place) here there
-          (all-inside items known table c tabled (each_denoted_once (filter (is_inside 0) here))
-          part-follows meants part-index told)))
+      (all-inside items known table c tabled (each_denoted_once (filter (is_inside 0) here))
+      part-follows meants part-index told)))

@@ -29,21 +29,21 @@ taken-more way (node ∷ outer) taken =
   where
     one : (b : Bool) (s : Scope) →
         is_some (nearest (cond b (s ∷ scopes_around Es outer)
-            (from_taker way (scopes_around Es outer)))) ≡ true →
+        (from_taker way (scopes_around Es outer)))) ≡ true →
         (is_some (nearest (from_taker way (scopes_around Es outer))) ≡ true →
-            is_some (nearest (from_taker way (scopes_around Cjs outer))) ≡ true) →
+        is_some (nearest (from_taker way (scopes_around Cjs outer))) ≡ true) →
         is_some (nearest (cond b (s ∷ scopes_around Cjs outer)
-            (from_taker way (scopes_around Cjs outer)))) ≡ true
+        (from_taker way (scopes_around Cjs outer)))) ≡ true
     one true s is rest = refl
     one false s is rest = rest is
 
     by : (k : Option ScopeKind) →
         is_some (nearest (from_taker way (scope_at node.begins k ++ scopes_around Es outer)))
-            ≡ true →
+        ≡ true →
         (is_some (nearest (from_taker way (scopes_around Es outer))) ≡ true →
-            is_some (nearest (from_taker way (scopes_around Cjs outer))) ≡ true) →
+        is_some (nearest (from_taker way (scopes_around Cjs outer))) ≡ true) →
         is_some (nearest (from_taker way (scope_at node.begins k ++ scopes_around Cjs outer)))
-            ≡ true
+        ≡ true
     by None is rest = rest is
     by (Some kind) is rest =
         one (takes way (Inner kind node.begins)) (Inner kind node.begins) is rest
@@ -57,30 +57,34 @@ taken-name o d taken is = by (is_binding o.role) refl (way_of o.path) refl
     declares : (kind : ModuleKind) → is_binding o.role ≡ true → (w : Option Way) →
         way_of o.path ≡ w →
         declaration_of BySymbol kind o
-            ≡ declared_by o.place (plain o.sym) (scopes_around kind o.path) w
+        ≡ declared_by o.place (plain o.sym) (scopes_around kind o.path) w
     declares kind role w at =
         ap (λ b. cond b (declared_by o.place (plain o.sym) (scopes_around kind o.path)
-            (way_of o.path)) None) role
+        (way_of o.path)) None) role
         ∙ ap (declared_by o.place (plain o.sym) (scopes_around kind o.path)) at
 
     by : (b : Bool) → is_binding o.role ≡ b → (w : Option Way) → way_of o.path ≡ w → IsTaken d
     by false role w at =
         absurd (none-some d
-            (sym (ap (λ b. cond b
-            (declared_by o.place (plain o.sym) (scopes_around Cjs o.path) (way_of o.path)) None)
-            role) ∙ is))
+        (sym (ap (λ b. cond b
+        (declared_by o.place (plain o.sym) (scopes_around Cjs o.path) (way_of o.path)) None)
+        role) ∙ is))
     by true role None at = absurd (none-some d (sym (declares Cjs role None at) ∙ is))
     by true role (Some way) at =
         subst IsTaken (same_Some _ d (sym (declares Cjs role (Some way) at) ∙ is))
         (taken-more way o.path
-            (taken (record { place = o.place; name = plain o.sym; by = way;
-            scopes = scopes_around Es o.path }) (declares Es role (Some way) at)))
+        (taken (record {
+          place = o.place;
+          name = plain o.sym;
+          by = way;
+          scopes = scopes_around Es o.path;
+        }) (declares Es role (Some way) at)))
 
 -- TAKEN
 pub taken-by-es : (xs : List Item) → Each IsTaken (declared BySymbol Es (tree_of_items xs)) →
     Each IsTaken (module_declared xs)
 taken-by-es xs taken =
     each-declared IsTaken (λ (o : Occurrence). (d : Declared) → declaration_of BySymbol Es o
-        ≡ Some d → IsTaken d) BySymbol Cjs (λ x. refl) (λ place. refl)
-        (λ o d its is. taken-name o d its is) (tree_of_items xs)
+    ≡ Some d → IsTaken d) BySymbol Cjs (λ x. refl) (λ place. refl)
+    (λ o d its is. taken-name o d its is) (tree_of_items xs)
     (each-occurrence IsTaken BySymbol Es (tree_of_items xs) taken)

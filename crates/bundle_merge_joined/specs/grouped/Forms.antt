@@ -19,7 +19,7 @@ pub data FormAlike : List Around → List Around → Type 0 where
       FormAlike (around h.AssignPatProp b 0 ∷ p) (around h.KeyValuePatProp a 1 ∷ q)
   defaulted : (b a outer field : ℕ) {p q : List Around} → FormAlike p q →
       FormAlike (around h.AssignPatProp b field ∷ p) (around h.AssignPat a field
-          ∷ around h.KeyValuePatProp outer 1 ∷ q)
+      ∷ around h.KeyValuePatProp outer 1 ∷ q)
 
 -- the path in an item that stands alone, and that of the same item in a module
 pub data Under : List Around → List Around → Type 0 where

@@ -48,23 +48,23 @@ pub data PathAlike (before after : List Item) (test_before test_after : ℕ → 
       NodeAlike before after test_before test_after head b a →
       PathAlike before after test_before test_after p q →
       PathAlike before after test_before test_after (around head b field ∷ p)
-          (around head a field ∷ q)
+      (around head a field ∷ q)
   -- the pair that a shorthand of an object literal is spelled out with
   pair : (b a field : ℕ) {p q : List Around} → property_of (node_at before b) ≡ None →
       PathAlike before after test_before test_after (around h.ObjectLit b field ∷ p) q →
       PathAlike before after test_before test_after (around h.ObjectLit b field ∷ p)
-          (around h.KeyValueProp a 1 ∷ q)
+      (around h.KeyValueProp a 1 ∷ q)
   -- the pair that a shorthand property of a pattern is spelled out with, around the name: without
   -- a default value
   key : (b a : ℕ) {p q : List Around} → property_of (node_at before b) ≡ None →
       PathAlike before after test_before test_after p q →
       PathAlike before after test_before test_after (around h.AssignPatProp b 0 ∷ p)
-          (around h.KeyValuePatProp a 1 ∷ q)
+      (around h.KeyValuePatProp a 1 ∷ q)
   -- with a default value, around the name and around the value
   defaulted : (b a outer field : ℕ) {p q : List Around} → property_of (node_at before b) ≡ None →
       property_of (node_at after a) ≡ None → PathAlike before after test_before test_after p q →
       PathAlike before after test_before test_after (around h.AssignPatProp b field ∷ p)
-          (around h.AssignPat a field ∷ around h.KeyValuePatProp outer 1 ∷ q)
+      (around h.AssignPat a field ∷ around h.KeyValuePatProp outer 1 ∷ q)
 
 -- two identifiers correspond: they both bind or both refer, and the nodes around them are alike
 pub record NameAlike (before after : List Item) (test_before test_after : ℕ → Bool)

@@ -17,8 +17,8 @@ pub record IsPlaced (tree : List Item) (item : TopItem) : Type 0 where
 abbrev pub ObjectsAlike : Reading → List Item → Reading → List Item → TopItem → TopItem → Type 0
 ObjectsAlike reading tree its_reading its_tree item its =
     (i : ℕ) (o p : Occurrence) → slice_get (occurrences item.items) i ≡ Some o →
-        slice_get (occurrences its.items) i ≡ Some p → object_in reading tree item o.place
-        ≡ object_in its_reading its_tree its p.place
+    slice_get (occurrences its.items) i ≡ Some p → object_in reading tree item o.place
+    ≡ object_in its_reading its_tree its p.place
 
 -- the item stands directly in the module of its tree
 pub record IsDirect (tree : List Item) (item : TopItem) : Type 0 where

@@ -25,7 +25,7 @@ pub record TopsKept (reading : Reading) (tree : List Item) (its_reading : Readin
   pub top : (n : ℕ) (o p : Occurrence) → slice_get (occurrences tree) n ≡ Some o →
       slice_get (occurrences its_tree) n ≡ Some p → is_binding o.role ≡ true →
       is_of_scope Top (denoted_of reading Es (declared reading Es tree) o)
-          ≡ is_of_scope Top (denoted_of its_reading Es (declared its_reading Es its_tree) p)
+      ≡ is_of_scope Top (denoted_of its_reading Es (declared its_reading Es its_tree) p)
 
 -- item k of the one tree and item k of the other
 pub record AtOne (tree its_tree : List Item) (item its : TopItem) : Type 0 where

@@ -20,9 +20,9 @@ pub record SameFlags (before after : List Item) (test_before test_after : ℕ �
   pub argument : is_in_argument o.path ≡ is_in_argument its.path
   pub chain : roots_chain o.path ≡ roots_chain its.path
   pub prototype : (is_prototype_read before o.path && is_in_assign_of test_before before o.path)
-          ≡ (is_prototype_read after its.path && is_in_assign_of test_after after its.path)
+      ≡ (is_prototype_read after its.path && is_in_assign_of test_after after its.path)
   pub valueless : (is_binding o.role && has_no_value before o.path)
-          ≡ (is_binding its.role && has_no_value after its.path)
+      ≡ (is_binding its.role && has_no_value after its.path)
 
 -- whether the global `Object` stands at a place of an item
 abbrev pub object_in : Reading → List Item → TopItem → ℕ → Bool
@@ -32,7 +32,7 @@ object_in reading tree item place = is_object_at reading tree (item.start + plac
 abbrev pub ItemsAlike : Reading → List Item → Reading → List Item → TopItem → TopItem → Type 0
 ItemsAlike reading tree its_reading its_tree item its =
     AllZip (SameFlags item.items its.items (object_in reading tree item)
-        (object_in its_reading its_tree its)) (occurrences item.items) (occurrences its.items)
+    (object_in its_reading its_tree its)) (occurrences item.items) (occurrences its.items)
 
 -- two identifiers of items denote one binding of this scope
 pub record DenoteTop (reading : Reading) (top : Scope) (tree : List Item) (item : TopItem)
@@ -53,12 +53,12 @@ pub record Stands (items : List TopItem) (s i : ℕ) (item : TopItem) (o : Occur
 -- one top binding in the one tree exactly if those that stand for them do in the other
 pub record Correspond (reading : Reading) (top : Scope) (tree : List Item) (items : List TopItem)
     (its_reading : Reading) (its_top : Scope) (its_tree : List Item) (its : List TopItem) : Type 0
-    where
-  pub alike : AllZip (ItemsAlike reading tree its_reading its_tree) items its
-  pub tops : (s i t j : ℕ) (x y x' y' : TopItem) (o p o' p' : Occurrence) → Stands items s i x o →
-      Stands items t j y p → Stands its s i x' o' → Stands its t j y' p' →
-      is_binding p.role ≡ true →
-      DenoteTop reading top tree x o y p ↔ DenoteTop its_reading its_top its_tree x' o' y' p'
+  where
+    pub alike : AllZip (ItemsAlike reading tree its_reading its_tree) items its
+    pub tops : (s i t j : ℕ) (x y x' y' : TopItem) (o p o' p' : Occurrence) → Stands items s i x o →
+        Stands items t j y p → Stands its s i x' o' → Stands its t j y' p' →
+        is_binding p.role ≡ true →
+        DenoteTop reading top tree x o y p ↔ DenoteTop its_reading its_top its_tree x' o' y' p'
 
 -- the same item stands in two trees, and what its identifiers denote in the one is moved in the
 -- other

@@ -48,8 +48,13 @@ moved_path k path = map (moved_node k) path
 
 abbrev pub moved_occurrence : ℕ → Occurrence → Occurrence
 moved_occurrence k o =
-    record { place = o.place + k; sym = o.sym; ctxt = o.ctxt; role = o.role;
-        path = moved_path k o.path }
+    record {
+      place = o.place + k;
+      sym = o.sym;
+      ctxt = o.ctxt;
+      role = o.role;
+      path = moved_path k o.path;
+    }
 
 -- a scope whose node begins elsewhere
 abbrev pub relocated : (ℕ → ℕ) → Scope → Scope
@@ -104,5 +109,5 @@ abbrev pub denoted_in_turn : List (List Item) → ℕ → List (List Item) → L
 denoted_in_turn items k [] = []
 denoted_in_turn items k (item ∷ more) =
     map (λ o. denoted_in_whole (is_top_name items (name_of ByContext o.sym o.ctxt)) k
-        (name_of ByContext o.sym o.ctxt) (denoted_of ByContext Es (own_declared item) o))
-        (occurrences (tree_of_items item)) ++ denoted_in_turn items (k + length item) more
+    (name_of ByContext o.sym o.ctxt) (denoted_of ByContext Es (own_declared item) o))
+    (occurrences (tree_of_items item)) ++ denoted_in_turn items (k + length item) more

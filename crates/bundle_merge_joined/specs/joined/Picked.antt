@@ -19,7 +19,7 @@ pub record IsPlaced (items : List (List Item)) (top : TopItem) : Type 0 where
 abbrev pub BindsOwn : (items others : List (List Item)) → List Item → Type 0
 BindsOwn items others item =
     (o : Occurrence) → IsListedIn item o → is_binding o.role ≡ true → (way_of o.path ≡ None → ⊥)
-        ⊎ (is_top_name others (its_name o) ≡ true → is_top_name items (its_name o) ≡ true)
+    ⊎ (is_top_name others (its_name o) ≡ true → is_top_name items (its_name o) ≡ true)
 
 -- all the items of one whole, listed as they stand there and as they stand in another
 pub record ArePicked (items others : List (List Item)) (tops its : List TopItem) : Type 0 where
@@ -30,7 +30,7 @@ pub record ArePicked (items others : List (List Item)) (tops its : List TopItem)
       (s : ℕ) × (top : TopItem) × (slice_get tops s ≡ Some top) × (top.items ≡ item)
   -- no further item declares an `Object` with the context of what nothing binds
   pub object : is_top_name others (name_of ByContext (codes "Object") 1)
-          ≡ is_top_name items (name_of ByContext (codes "Object") 1)
+      ≡ is_top_name items (name_of ByContext (codes "Object") 1)
 
 -- an item is one node: it is one of a list of nodes, whatever follows it
 abbrev pub IsSingle : List Item → Type 0

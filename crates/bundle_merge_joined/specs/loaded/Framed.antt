@@ -22,7 +22,7 @@ pub data Beside (R : ℕ → ℕ → Type 0) : Scope → Scope → Type 0 where
 -- the scopes around a place of the module, and around that of the body
 pub data Framed (R : ℕ → ℕ → Type 0) : List Scope → List Scope → Type 0 where
   outside : Framed R (Top ∷ Wrapper ∷ []) (Inner FunctionBody 21 ∷ Inner Parameters 10
-          ∷ Inner FunctionName 9 ∷ Top ∷ [])
+      ∷ Inner FunctionName 9 ∷ Top ∷ [])
   within : {kind : ScopeKind} {a b : ℕ} {ss ts : List Scope} → R a b → Framed R ss ts →
       Framed R (Inner kind a ∷ ss) (Inner kind b ∷ ts)
 
@@ -36,8 +36,12 @@ is_module_way _ = false
 -- a parameter of the load function, by its symbol
 abbrev pub parameter : ℕ → List ℕ → Declared
 parameter place x =
-    record { place = place; name = record { sym = x; ctxt = None }; by = ByParameter;
-        scopes = Inner Parameters 10 ∷ Inner FunctionName 9 ∷ Top ∷ [] }
+    record {
+      place = place;
+      name = record { sym = x; ctxt = None };
+      by = ByParameter;
+      scopes = Inner Parameters 10 ∷ Inner FunctionName 9 ∷ Top ∷ [];
+    }
 
 -- a declaration of the module's statements that one of its scopes takes, and the one in the body
 pub record IsSeated (R : ℕ → ℕ → Type 0) (d e : Declared) : Type 0 where

@@ -23,8 +23,8 @@ load_item load helper m e made = front_items load helper m e ++ (made ++ back_it
 abbrev pub body_path : ℕ → List Around
 body_path field =
     around h.BlockStmt 21 field ∷ around (h.Function false false) 10 1 ∷ around h.FnExpr 9 1
-        ∷ around (h.ExprOrSpread false) 8 1 ∷ around h.CallExpr 6 1 ∷ around h.VarDeclarator 2 1
-        ∷ around (h.VarDecl Var no_notes) 1 1 ∷ around h.Module 0 0 ∷ []
+    ∷ around (h.ExprOrSpread false) 8 1 ∷ around h.CallExpr 6 1 ∷ around h.VarDeclarator 2 1
+    ∷ around (h.VarDecl Var no_notes) 1 1 ∷ around h.Module 0 0 ∷ []
 
 -- where the statements begin
 abbrev pub body_start : Spot
@@ -36,8 +36,12 @@ module_start = record { place = 1; path = around h.Module 0 0 ∷ [] }
 -- a parameter of the function, by symbol and context
 abbrev pub parameter_named : ℕ → Ident → Declared
 parameter_named place name =
-    record { place = place; name = record { sym = name.0; ctxt = Some name.1 }; by = ByParameter;
-        scopes = Inner Parameters 10 ∷ Inner FunctionName 9 ∷ Top ∷ [] }
+    record {
+      place = place;
+      name = record { sym = name.0; ctxt = Some name.1 };
+      by = ByParameter;
+      scopes = Inner Parameters 10 ∷ Inner FunctionName 9 ∷ Top ∷ [];
+    }
 
 -- what identifiers declare
 abbrev pub declared_by_names : Reading → ModuleKind → List Occurrence → List Declared
@@ -46,21 +50,36 @@ declared_by_names reading kind os = filter_map (declaration_of reading kind) os
 -- the names in front
 abbrev pub load_name : Ident → Occurrence
 load_name load =
-    record { place = 4; sym = load.0; ctxt = load.1; role = Binding;
-        path = around h.BindingIdent 3 0 ∷ around h.VarDeclarator 2 0
-        ∷ around (h.VarDecl Var no_notes) 1 1 ∷ around h.Module 0 0 ∷ [] }
+    record {
+      place = 4;
+      sym = load.0;
+      ctxt = load.1;
+      role = Binding;
+      path = around h.BindingIdent 3 0 ∷ around h.VarDeclarator 2 0
+          ∷ around (h.VarDecl Var no_notes) 1 1 ∷ around h.Module 0 0 ∷ [];
+    }
 
 abbrev pub helper_name : Ident → Occurrence
 helper_name helper =
-    record { place = 7; sym = helper.0; ctxt = helper.1; role = Reference;
-        path = around h.CallExpr 6 0 ∷ around h.VarDeclarator 2 1
-        ∷ around (h.VarDecl Var no_notes) 1 1 ∷ around h.Module 0 0 ∷ [] }
+    record {
+      place = 7;
+      sym = helper.0;
+      ctxt = helper.1;
+      role = Reference;
+      path = around h.CallExpr 6 0 ∷ around h.VarDeclarator 2 1
+          ∷ around (h.VarDecl Var no_notes) 1 1 ∷ around h.Module 0 0 ∷ [];
+    }
 
 -- a parameter, whose pattern begins at this place in a node that begins at that
 abbrev pub parameter_name : (place pattern begins : ℕ) → Ident → Occurrence
 parameter_name place pattern begins name =
-    record { place = place; sym = name.0; ctxt = name.1; role = Binding;
-        path = around h.BindingIdent pattern 0 ∷ around h.Param begins 0
-        ∷ around (h.Function false false) 10 0 ∷ around h.FnExpr 9 1
-        ∷ around (h.ExprOrSpread false) 8 1 ∷ around h.CallExpr 6 1 ∷ around h.VarDeclarator 2 1
-        ∷ around (h.VarDecl Var no_notes) 1 1 ∷ around h.Module 0 0 ∷ [] }
+    record {
+      place = place;
+      sym = name.0;
+      ctxt = name.1;
+      role = Binding;
+      path = around h.BindingIdent pattern 0 ∷ around h.Param begins 0
+          ∷ around (h.Function false false) 10 0 ∷ around h.FnExpr 9 1
+          ∷ around (h.ExprOrSpread false) 8 1 ∷ around h.CallExpr 6 1 ∷ around h.VarDeclarator 2 1
+          ∷ around (h.VarDecl Var no_notes) 1 1 ∷ around h.Module 0 0 ∷ [];
+    }

@@ -33,8 +33,10 @@ pub data DenotedBeside (R : ℕ → ℕ → Type 0) (g : Numbering) (ds : List D
   globals : {x : List ℕ} → DenotedBeside R g ds (Global x) (Global x)
   bindings : {s t : Scope} {x : List ℕ} → Beside R s t →
       DenotedBeside R g ds (Bound s (plain x))
-          (Bound t (record { sym = x;
-          ctxt = cond (declares ds s (plain x)) (Some (g (scope_order s) x)) None }))
+      (Bound t (record {
+        sym = x;
+        ctxt = cond (declares ds s (plain x)) (Some (g (scope_order s) x)) None;
+      }))
 
 -- an occurrence of the body stands where one of the module does
 pub record StandsBeside (R : ℕ → ℕ → Type 0) (o u : Occurrence) : Type 0 where

@@ -29,7 +29,7 @@ body_names ys = occurrences_from body_start ys
 abbrev pub function_declared : List Item → List Declared
 function_declared ys =
     parameter 13 (codes "module") ∷ parameter 18 (codes "exports")
-        ∷ declared_by_names BySymbol Es (body_names ys)
+    ∷ declared_by_names BySymbol Es (body_names ys)
 
 -- the contexts that the names get: those of the bindings that they denote in the module, by a
 -- numbering of its bindings; the parameters get theirs too; each declaration has a scope that

@@ -26,16 +26,16 @@ pub data Pieced (L : Ident → Type 0) : List (List Item) → List (List Item) �
 abbrev pub inner_there : List Declared → Spot → List Item → List Denoted
 inner_there ds s x =
     each_denoted_once (filter (is_inside 0)
-        (map (denoted_of BySymbol Cjs ds) (occurrences_from s x)))
+    (map (denoted_of BySymbol Cjs ds) (occurrences_from s x)))
 
 -- what is told of the names of all statements, in the module
 abbrev pub AllTold : (table : Table) {L : Ident → Type 0} (c : ℕ) (g : Numbering)
-        (ds : List Declared) {xs ys : List (List Item)} →
+    (ds : List Declared) {xs ys : List (List Item)} →
     Pieced L xs ys → (s t : Spot) → List (List Meant) → Type 0
 AllTold table c g ds no_more s t [] = ⊤
 AllTold table {L = L} c g ds (one_more {x = x} {y = y} w rest) s t (meants ∷ more) =
     AreTold table L c g ds (inner_there ds s x) (occurrences_from s x) (occurrences_from t y)
-        meants × AllTold table c g ds rest (fold past s x) (fold past t y) more
+    meants × AllTold table c g ds rest (fold past s x) (fold past t y) more
 AllTold table c g ds _ s t _ = ⊥
 
 -- what the names of a part of an item denote by itself, in turn
@@ -47,15 +47,15 @@ abbrev pub StatementNoted : List (List Item) → Table → List Item → Spot �
     Type 0
 StatementNoted items table item s part meants =
     AllZip (NameNoted items table item s.place
-        (each_denoted_once (filter (is_inside s.place) (own_from item s part))))
-        (occurrences_from s part) meants
+    (each_denoted_once (filter (is_inside s.place) (own_from item s part))))
+    (occurrences_from s part) meants
 
 abbrev pub StatementsNoted : List (List Item) → Table → List Item → Spot → List (List Item) →
     List (List Meant) → Type 0
 StatementsNoted items table item s [] [] = ⊤
 StatementsNoted items table item s (part ∷ parts) (meants ∷ more) =
     StatementNoted items table item s part meants
-        × StatementsNoted items table item (fold past s part) parts more
+    × StatementsNoted items table item (fold past s part) parts more
 StatementsNoted items table item s _ _ = ⊥
 
 -- what the names in front stand for

@@ -23,7 +23,7 @@ pub data Told (table : Table) (L : Ident → Type 0) (c : ℕ) (g : Numbering) (
 
 -- each in turn
 abbrev pub AreTold : (table : Table) (L : Ident → Type 0) (c : ℕ) (g : Numbering)
-        (ds : List Declared) (inner : List Denoted) →
+    (ds : List Declared) (inner : List Denoted) →
     List Occurrence → List Occurrence → List Meant → Type 0
 AreTold table L c g ds inner [] [] [] = ⊤
 AreTold table L c g ds inner (o ∷ os) (u ∷ us) (meant ∷ meants) =

@@ -27,10 +27,10 @@ pub data Turned (L : Ident → Type 0) : ℕ → List Item → List Item → Typ
       Turned L (suc depth) xs ys → Turned L depth (h.Open field head ∷ xs) (h.Open field head ∷ ys)
   -- notes may be cleared
   declares : {depth field : ℕ} {kind : VarDeclKind} {meta its : ExportMetadata} {xs ys : List Item}
-          →
+      →
       Turned L (suc depth) xs ys →
       Turned L depth (h.Open field (h.VarDecl kind meta) ∷ xs) (h.Open field (h.VarDecl kind its)
-          ∷ ys)
+      ∷ ys)
   ended : {depth : ℕ} {xs ys : List Item} → Turned L depth xs ys →
       Turned L (suc depth) (h.Close ∷ xs) (h.Close ∷ ys)
   -- a name keeps its symbol
@@ -43,12 +43,12 @@ pub data Turned (L : Ident → Type 0) : ℕ → List Item → List Item → Typ
       Turned L depth (h.Hole field ∷ xs) (h.Hole field ∷ ys)
   -- a literal call
   called : {depth field callee ctxt outer inner : ℕ} {x : Text} {load : Ident} {value : Text}
-          {raw : Option Text} {xs ys : List Item} →
+      {raw : Option Text} {xs ys : List Item} →
       L load → Turned L depth xs ys →
       Turned L depth (h.Open field h.CallExpr ∷ h.Ident callee x ctxt r.Reference
-          ∷ h.Open outer (h.ExprOrSpread false) ∷ h.Open inner (h.Str value raw) ∷ h.Close
-          ∷ h.Close ∷ h.Close ∷ xs) (h.Open field h.CallExpr ∷ h.Ident 0 load.0 load.1 r.Reference
-          ∷ h.Close ∷ ys)
+      ∷ h.Open outer (h.ExprOrSpread false) ∷ h.Open inner (h.Str value raw) ∷ h.Close
+      ∷ h.Close ∷ h.Close ∷ xs) (h.Open field h.CallExpr ∷ h.Ident 0 load.0 load.1 r.Reference
+      ∷ h.Close ∷ ys)
   -- an empty statement
   skipped : {field : ℕ} {xs ys : List Item} → Turned L zero xs ys →
       Turned L zero (h.Open field h.EmptyStmt ∷ h.Close ∷ xs) ys
@@ -85,7 +85,7 @@ abbrev pub FitsName : (L : Ident → Type 0) → Numbering → List Declared →
     Type 0
 FitsName L g ds o name =
     ((name.0 ≡ o.sym) × (name.1 ≡ context_of g (denoted_of BySymbol Cjs ds o)))
-        ⊎ ((is_binding o.role ≡ false) × L name)
+    ⊎ ((is_binding o.role ≡ false) × L name)
 
 -- so do these names in turn
 abbrev pub FitNames : (L : Ident → Type 0) → Numbering → List Declared → List Occurrence →
@@ -107,14 +107,16 @@ HasContexts g ds (ended rest) s = HasContexts g ds rest (past s h.Close)
 HasContexts {L = L} g ds (named {field = field} {ctxt = ctxt} {its = its} {x = x} {role = role} is
     rest) s =
     FitsName L g ds (occurrence_here s field x ctxt role) (x, its)
-        × HasContexts g ds rest (past s (h.Ident field x ctxt role))
+    × HasContexts g ds rest (past s (h.Ident field x ctxt role))
 HasContexts g ds (word {field = field} {ctxt = ctxt} {x = x} rest) s =
     HasContexts g ds rest (past s (h.Ident field x ctxt r.Word))
 HasContexts g ds (empty {field = field} rest) s = HasContexts g ds rest (past s (h.Hole field))
 HasContexts g ds (called {field = field} is rest) s =
     HasContexts g ds rest
-        (record { place = s.place + 7;
-        path = (past (past s (h.Open field h.CallExpr)) h.Close).path })
+    (record {
+      place = s.place + 7;
+      path = (past (past s (h.Open field h.CallExpr)) h.Close).path;
+    })
 HasContexts g ds (skipped {field = field} rest) s =
     HasContexts g ds rest (past (past s (h.Open field h.EmptyStmt)) h.Close)
 

@@ -21,7 +21,7 @@ pub record IsLiteral (inside : List Item) : Type 0 where
   pub value : Text
   pub raw : Option Text
   pub is : inside ≡ h.Ident callee x ctxt r.Reference ∷ h.Open outer (h.ExprOrSpread false)
-          ∷ h.Open inner (h.Str value raw) ∷ h.Close ∷ h.Close ∷ []
+      ∷ h.Open inner (h.Str value raw) ∷ h.Close ∷ h.Close ∷ []
 
 -- a step that keeps the symbol of its occurrence, so that nothing is spelled out
 pub record KeepsIt (step : Step) (x : Text) : Type 0 where
@@ -30,7 +30,7 @@ pub record KeepsIt (step : Step) (x : Text) : Type 0 where
 
 -- the walk does so
 abbrev pub IsFine : (L : Ident → Type 0) {around : Around} {work rest : Work}
-        {before made : List Item} →
+    {before made : List Item} →
     Rewrites around work before made rest → Type 0
 IsFine L Nothing = ⊤
 IsFine L (Joined first second) = IsFine L first × IsFine L second

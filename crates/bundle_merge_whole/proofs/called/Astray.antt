@@ -33,20 +33,20 @@ find-beside p q same named topped top e =
   where
     by : (t : Bool) → ◌≡◌ {A = Option Scope} (cond t (Some Top) None) None →
         ◌≡◌ {A = Option Scope}
-            (cond t (Some (Inner FunctionBody 6)) (cond (p (Inner Parameters 5)) (Some (Inner Parameters 5)) None))
-            (cond (p (Inner Parameters 5)) (Some (Inner Parameters 5)) None)
+        (cond t (Some (Inner FunctionBody 6)) (cond (p (Inner Parameters 5)) (Some (Inner Parameters 5)) None))
+        (cond (p (Inner Parameters 5)) (Some (Inner Parameters 5)) None)
     by true is = absurd (none-some Top (sym is))
     by false is = refl
 find-beside p q same named topped (inner {kind} {begins} {outer} positive fair) e =
     ap (λ (t : Bool). cond t (Some (Inner kind (begins + 6))) (find p (moved_scopes outer)))
-        (same (Inner kind begins) positive)
+    (same (Inner kind begins) positive)
     ∙ by (q (Inner kind begins)) e (λ further. find-beside p q same named topped fair further)
   where
     by : (t : Bool) → cond t (Some (Inner kind begins)) (find q outer) ≡ None →
         (find q outer ≡ None → find p (moved_scopes outer) ≡ cond (p (Inner Parameters 5)) (Some (Inner Parameters 5)) None)
-            →
+        →
         cond t (Some (Inner kind (begins + 6))) (find p (moved_scopes outer)) ≡
-            cond (p (Inner Parameters 5)) (Some (Inner Parameters 5)) None
+        cond (p (Inner Parameters 5)) (Some (Inner Parameters 5)) None
     by true is rest = absurd (none-some (Inner kind begins) (sym is))
     by false is rest = rest is
 
@@ -93,12 +93,12 @@ met-at e f met = subst (λ x. x) (λ i. AreMet (sym e i) (sym f i)) met
 by_symbol-met : {all : List Declared} → Every IsSeated all → {scopes : List Scope} →
     AreFair scopes → (name : Name) →
     AreMet (denoted_by_symbol all scopes name)
-        (denoted_by_symbol (map moved_declared all) (moved_scopes scopes) name)
+    (denoted_by_symbol (map moved_declared all) (moved_scopes scopes) name)
 by_symbol-met {all} seats {scopes} fair name = by (find (λ scope. binds all scope name) scopes) refl
   where
     by : (o : Option Scope) → find (λ scope. binds all scope name) scopes ≡ o →
         AreMet (denoted_by_symbol all scopes name)
-            (denoted_by_symbol (map moved_declared all) (moved_scopes scopes) name)
+        (denoted_by_symbol (map moved_declared all) (moved_scopes scopes) name)
     by None e =
         met-at (ap (bound_in name) e) (ap (bound_in name) (find-beside (λ scope. binds (map moved_declared all) scope name) (λ scope. binds all scope name) (λ s f. binds-moved seats s f name) (binds-side seats (Inner FunctionName 4) at_name refl name) (binds-side seats Top at_top refl name) fair e))
         (nowhere name (binds (map moved_declared all) (Inner Parameters 5) name) (binds-own seats name))
@@ -114,8 +114,8 @@ implied-met {all} seats {scopes} fair name = unresolved (is_unresolved name.ctxt
   where
     by : (o : Option Scope) → find (λ scope. is_implied_in all scope name) scopes ≡ o →
         AreMet
-            (bound_in (without_context name) (find (λ scope. is_implied_in all scope name) scopes))
-            (bound_in (without_context name) (find (λ scope. is_implied_in (map moved_declared all) scope name) (moved_scopes scopes)))
+        (bound_in (without_context name) (find (λ scope. is_implied_in all scope name) scopes))
+        (bound_in (without_context name) (find (λ scope. is_implied_in (map moved_declared all) scope name) (moved_scopes scopes)))
     by None e =
         met-at (ap (bound_in (without_context name)) e) (ap (bound_in (without_context name)) (find-beside (λ scope. is_implied_in (map moved_declared all) scope name) (λ scope. is_implied_in all scope name) (λ s f. implied-moved seats s f name) (implied-side seats (Inner FunctionName 4) at_name refl name) (implied-side seats Top at_top refl name) fair e))
         (nowhere (without_context name) (is_implied_in (map moved_declared all) (Inner Parameters 5) name) (implied-own seats name))
@@ -126,21 +126,21 @@ implied-met {all} seats {scopes} fair name = unresolved (is_unresolved name.ctxt
 
     unresolved : (t : Bool) →
         AreMet
-            (cond t (Global name.sym) (bound_in (without_context name) (find (λ scope. is_implied_in all scope name) scopes)))
-            (cond t (Global name.sym) (bound_in (without_context name) (find (λ scope. is_implied_in (map moved_declared all) scope name) (moved_scopes scopes))))
+        (cond t (Global name.sym) (bound_in (without_context name) (find (λ scope. is_implied_in all scope name) scopes)))
+        (cond t (Global name.sym) (bound_in (without_context name) (find (λ scope. is_implied_in (map moved_declared all) scope name) (moved_scopes scopes))))
     unresolved true = followed (Global name.sym)
     unresolved false = by (find (λ scope. is_implied_in all scope name) scopes) refl
 
 by_context-met : {all : List Declared} → Every IsSeated all → {scopes : List Scope} →
     AreFair scopes → (name : Name) →
     AreMet (denoted_by_context all scopes name)
-        (denoted_by_context (map moved_declared all) (moved_scopes scopes) name)
+    (denoted_by_context (map moved_declared all) (moved_scopes scopes) name)
 by_context-met {all} seats {scopes} fair name =
     by (find (λ scope. is_written_in all scope name) scopes) refl
   where
     by : (o : Option Scope) → find (λ scope. is_written_in all scope name) scopes ≡ o →
         AreMet (denoted_by_context all scopes name)
-            (denoted_by_context (map moved_declared all) (moved_scopes scopes) name)
+        (denoted_by_context (map moved_declared all) (moved_scopes scopes) name)
     by None e =
         met-at (ap (written_or_implied all scopes name) e) (ap (written_or_implied (map moved_declared all) (moved_scopes scopes) name) (find-beside (λ scope. is_written_in (map moved_declared all) scope name) (λ scope. is_written_in all scope name) (λ s f. written-moved seats s f name) (written-outer seats (Inner FunctionName 4) at_name name) (written-outer seats Top at_top name) fair e ∙ ap (λ t. cond t (Some (Inner Parameters 5)) None) (written-outer seats (Inner Parameters 5) at_parameters name)))
         (implied-met seats fair name)
@@ -152,7 +152,7 @@ by_context-met {all} seats {scopes} fair name =
 denoted_in-met : (reading : Reading) {all : List Declared} → Every IsSeated all →
     {scopes : List Scope} → AreFair scopes → (name : Name) →
     AreMet (denoted_in reading all scopes name)
-        (denoted_in reading (map moved_declared all) (moved_scopes scopes) name)
+    (denoted_in reading (map moved_declared all) (moved_scopes scopes) name)
 denoted_in-met BySymbol seats fair name = by_symbol-met seats fair name
 denoted_in-met ByContext seats fair name = by_context-met seats fair name
 
@@ -165,7 +165,7 @@ met-alike : {is_async : Bool} (reading : Reading) {all : List Declared} → Ever
     {o its : Option Occurrence} → AreAlike is_async o its →
     ((d : Declared) → option_and_then (declaration_of reading Es) o ≡ Some d → IsSeated d) →
     AreMetAt (option_map (denoted_of reading Es all) o)
-        (option_map (denoted_of reading Es (map moved_declared all)) its)
+    (option_map (denoted_of reading Es (map moved_declared all)) its)
 met-alike reading seats neither seated = nothing_met
 met-alike reading {all} seats (both {old} {new} place its x ctxt role at moved) seated =
     met
@@ -173,11 +173,11 @@ met-alike reading {all} seats (both {old} {new} place its x ctxt role at moved) 
   where
     by : (o : Option Declared) →
         declaration_of reading Es
-            (record { place = place; sym = x; ctxt = ctxt; role = role; path = old }) ≡
-            o →
+        (record { place = place; sym = x; ctxt = ctxt; role = role; path = old }) ≡
+        o →
         AreMet
-            (denoted_of reading Es all (record { place = place; sym = x; ctxt = ctxt; role = role; path = old }))
-            (denoted_of reading Es (map moved_declared all) (record { place = its; sym = x; ctxt = ctxt; role = role; path = new }))
+        (denoted_of reading Es all (record { place = place; sym = x; ctxt = ctxt; role = role; path = old }))
+        (denoted_of reading Es (map moved_declared all) (record { place = its; sym = x; ctxt = ctxt; role = role; path = new }))
     by None e =
         met-at (ap (own_or_found all (denoted_in reading all (scopes_around Es old) (name_of reading x ctxt))) e)
         (ap (own_or_found (map moved_declared all) (denoted_in reading (map moved_declared all) (scopes_around Es new) (name_of reading x ctxt))) (declaration-moved moved reading place its x ctxt role at ∙ ap (option_map moved_declared) e) ∙ ap (λ scopes. denoted_in reading (map moved_declared all) scopes (name_of reading x ctxt)) (scopes-moved moved))
@@ -191,7 +191,7 @@ met-alike reading {all} seats (both {old} {new} place its x ctxt role at moved) 
 pub met-twins : {reading : Reading} {is_async : Bool} {stmts after its : List Item} →
     AreTwins reading is_async stmts after its → (k : ℕ) → k < length stmts →
     AreMetAt (denoted_at reading Es (module_with stmts after) (suc k))
-        (denoted_at reading Es (call_with is_async stmts its) (suc k + 6))
+    (denoted_at reading Es (call_with is_async stmts its) (suc k + 6))
 met-twins {reading} {is_async} {stmts} {after} {its} twins k l =
     let s = shows is_async twins.statements after its k l in
     subst (λ x. x) (λ i. AreMetAt (denoted_at reading Es (module_with stmts after) (suc k)) (option_map (denoted_of reading Es (sym (declared-twins twins) i)) (occurrence_at (call_with is_async stmts its) (suc k + 6))))

@@ -56,7 +56,7 @@ key-bindless x = by (bytes_eq x (codes "__proto__")) (is_ascii_identifier x)
   where
     by : (t u : Bool) →
         Every IsBindless
-            (if t then h.Open 0 h.ComputedPropName ∷ h.Open 0 (h.Str x None) ∷ h.Close ∷ h.Close ∷ [] else (if u then plain_key x else h.Open 0 (h.Str x None) ∷ h.Close ∷ []))
+        (if t then h.Open 0 h.ComputedPropName ∷ h.Open 0 (h.Str x None) ∷ h.Close ∷ h.Close ∷ [] else (if u then plain_key x else h.Open 0 (h.Str x None) ∷ h.Close ∷ []))
     by true u = more tt (more tt (more tt (more tt none)))
     by false true = more tt (more tt none)
     by false false = more tt (more tt none)

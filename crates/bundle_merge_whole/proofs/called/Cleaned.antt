@@ -91,7 +91,7 @@ cleared-leaves = record {
       where
         by : (t u : Bool) →
             Every (IsLeft cleared_item)
-                (if t then h.Open 0 h.ComputedPropName ∷ h.Open 0 (h.Str x None) ∷ h.Close ∷ h.Close ∷ [] else (if u then plain_key x else h.Open 0 (h.Str x None) ∷ h.Close ∷ []))
+            (if t then h.Open 0 h.ComputedPropName ∷ h.Open 0 (h.Str x None) ∷ h.Close ∷ h.Close ∷ [] else (if u then plain_key x else h.Open 0 (h.Str x None) ∷ h.Close ∷ []))
         by true u = more refl (more refl (more refl (more refl none)))
         by false true = more refl (more refl none)
         by false false = more refl (more refl none)
@@ -111,7 +111,7 @@ tidy-leaves = record {
       where
         by : (t u : Bool) →
             Every (IsLeft tidy_item)
-                (if t then h.Open 0 h.ComputedPropName ∷ h.Open 0 (h.Str x None) ∷ h.Close ∷ h.Close ∷ [] else (if u then plain_key x else h.Open 0 (h.Str x None) ∷ h.Close ∷ []))
+            (if t then h.Open 0 h.ComputedPropName ∷ h.Open 0 (h.Str x None) ∷ h.Close ∷ h.Close ∷ [] else (if u then plain_key x else h.Open 0 (h.Str x None) ∷ h.Close ∷ []))
         by true u = more refl (more refl (more refl (more refl none)))
         by false true = more refl (more refl none)
         by false false = more refl (more refl none)
@@ -161,7 +161,7 @@ every-always each (x ∷ xs) = more (each x) (every-always each xs)
 cleared-by : (stmts : List Item) {back : List Item} → IsBack back → AreStatements zero stmts →
     module_with stmts (back ++ h.Close ∷ []) ≡ cleared (module_with stmts (back ++ h.Close ∷ [])) →
     wrapped (module_with stmts (back ++ h.Close ∷ [])) ≡
-        cleared (wrapped (module_with stmts (back ++ h.Close ∷ [])))
+    cleared (wrapped (module_with stmts (back ++ h.Close ∷ [])))
 cleared-by stmts nothing statements e =
     let each = every-rest (h.Open 0 h.Module ∷ []) (stmts ++ h.Close ∷ []) (each-cleared (module_with stmts (h.Close ∷ [])) e) in
     let is = wrapped-is (module_with stmts (h.Close ∷ [])) stmts [] (body-plain statements) in
@@ -176,7 +176,7 @@ cleared-by stmts (exports meta specifiers) statements e =
 tidied-by : (stmts : List Item) {back : List Item} → IsBack back → AreStatements zero stmts →
     module_with stmts (back ++ h.Close ∷ []) ≡ tidied (module_with stmts (back ++ h.Close ∷ [])) →
     wrapped (module_with stmts (back ++ h.Close ∷ [])) ≡
-        tidied (wrapped (module_with stmts (back ++ h.Close ∷ [])))
+    tidied (wrapped (module_with stmts (back ++ h.Close ∷ [])))
 tidied-by stmts nothing statements e =
     let each = every-rest (h.Open 0 h.Module ∷ []) (stmts ++ h.Close ∷ []) (each-tidied (module_with stmts (h.Close ∷ [])) e) in
     let is = wrapped-is (module_with stmts (h.Close ∷ [])) stmts [] (body-plain statements) in

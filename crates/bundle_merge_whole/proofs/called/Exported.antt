@@ -83,7 +83,7 @@ of-top ByContext all name =
   where
     unresolved : (t : Bool) →
         IsOfTop
-            (cond t (Global name.sym) (bound_in (without_context name) (find (λ scope. is_implied_in all scope name) (Top ∷ []))))
+        (cond t (Global name.sym) (bound_in (without_context name) (find (λ scope. is_implied_in all scope name) (Top ∷ []))))
     unresolved true = tt
     unresolved false =
         found-top (without_context name) (find (λ scope. is_implied_in all scope name) (Top ∷ []))
@@ -99,7 +99,7 @@ known : {tree : List Item} {reading : Reading} (labels : Labelling) {inner : Lis
     {d : Denoted} {meant : Meant} (l : Label) →
     NameMeans (bundle_sense tree reading labels) inner d meant → meant ≡ m.Known l →
     (scope : Scope) × (name : Known_as) × (d ≡ Bound scope name) ×
-        Contains labels (Bound scope name, l)
+    Contains labels (Bound scope name, l)
 known labels l (m.inside e) is = absurd cc
 known labels l (m.outside {scope} {name} {l = its} e stands) is = let same : its ≡ l = cc in (scope, name, refl, subst (λ k. Contains labels (Bound scope name, k)) same stands)
 known labels l m.unbound is = absurd cc
@@ -120,13 +120,13 @@ name-read : (tree : List Item) (reading : Reading) (labels : Labelling) {inner :
     (meta : ExportMetadata) (b g c f : ℕ) (y : Text) (ctxt : ℕ) (name : Option ExportedName)
     (x : Text) (t : Bool) (behind_it es : List Item) (some others : List Mark) (j n : ℕ) →
     IsAt tree j
-        (record { place = n; path = around h.ExportNamedSpecifier c f ∷ around (h.NamedExport meta) b 0 ∷ around h.Module 0 g ∷ [] })
-        ((name_items name ++ h.Close ∷ []) ++ behind_it) →
+    (record { place = n; path = around h.ExportNamedSpecifier c f ∷ around (h.NamedExport meta) b 0 ∷ around h.Module 0 g ∷ [] })
+    ((name_items name ++ h.Close ∷ []) ++ behind_it) →
     Means (bundle_sense tree reading labels) inner
-        (taken_from j ((name_items name ++ h.Close ∷ []) ++ es))
-        ((((if t then Word 1 x ∷ [] else string_marks 1 x) ++ Ends ∷ []) ++ some) ++ others) →
+    (taken_from j ((name_items name ++ h.Close ∷ []) ++ es))
+    ((((if t then Word 1 x ∷ [] else string_marks 1 x) ++ Ends ∷ []) ++ some) ++ others) →
     NameRead tree reading labels inner meta b g (record { sym = y; ctxt = ctxt; name = name }) x
-        behind_it es (some ++ others)
+    behind_it es (some ++ others)
 name-read tree reading labels meta b g c f y ctxt None x true behind_it es some others j n at means =
     let e = (meant-next (un-close tree reading labels j (around h.ExportNamedSpecifier c f) (around (h.NamedExport meta) b 0 ∷ around h.Module 0 g ∷ []) (at-path at) refl means)).0 in absurd cc
 name-read tree reading labels meta b g c f y ctxt None x false behind_it es some others j n at means =
@@ -158,13 +158,13 @@ specifier-read : (tree : List Item) (reading : Reading) (labels : Labelling) {in
     (meta : ExportMetadata) (b g : ℕ) (y : Text) (ctxt : ℕ) (name : Option ExportedName)
     (pair : NamedTarget) (behind_it es : List Item) (some others : List Mark) (j n f : ℕ) →
     IsAt tree j
-        (record { place = n; path = around (h.NamedExport meta) b f ∷ around h.Module 0 g ∷ [] })
-        (specifier_items (record { sym = y; ctxt = ctxt; name = name }) ++ behind_it) →
+    (record { place = n; path = around (h.NamedExport meta) b f ∷ around h.Module 0 g ∷ [] })
+    (specifier_items (record { sym = y; ctxt = ctxt; name = name }) ++ behind_it) →
     Means (bundle_sense tree reading labels) inner
-        (taken_from j (specifier_items (record { sym = y; ctxt = ctxt; name = name }) ++ es))
-        ((export_specifier pair ++ some) ++ others) →
+    (taken_from j (specifier_items (record { sym = y; ctxt = ctxt; name = name }) ++ es))
+    ((export_specifier pair ++ some) ++ others) →
     SpecifierRead tree reading labels inner meta b g (record { sym = y; ctxt = ctxt; name = name })
-        pair behind_it es (some ++ others)
+    pair behind_it es (some ++ others)
 specifier-read tree reading labels {inner} meta b g y ctxt name pair behind_it es some others j n f at means =
     let first = meant-next (un-open tree reading labels j 0 h.ExportNamedSpecifier (around (h.NamedExport meta) b 0) (around h.Module 0 g ∷ []) (at-path at) refl refl means) in
     let local = un-name tree reading labels (suc j) 0 y ctxt (around h.ExportNamedSpecifier n 0) (around (h.NamedExport meta) b 0 ∷ around h.Module 0 g ∷ []) (at-path (at-next at)) refl first.1 in
@@ -189,11 +189,11 @@ specifiers-read : (tree : List Item) (reading : Reading) (labels : Labelling) {i
     (meta : ExportMetadata) (b : ℕ) (g : ℕ) (specifiers : List Specifier) (pairs : List NamedTarget)
     (post : List Item) (j n f : ℕ) →
     IsAt tree j
-        (record { place = n; path = around (h.NamedExport meta) b f ∷ around h.Module 0 g ∷ [] })
-        (flat_map specifier_items specifiers ++ h.Close ∷ post) →
+    (record { place = n; path = around (h.NamedExport meta) b f ∷ around h.Module 0 g ∷ [] })
+    (flat_map specifier_items specifiers ++ h.Close ∷ post) →
     Means (bundle_sense tree reading labels) inner
-        (taken_from j (flat_map specifier_items specifiers ++ h.Close ∷ []))
-        (flat_map export_specifier pairs ++ Ends ∷ []) →
+    (taken_from j (flat_map specifier_items specifiers ++ h.Close ∷ []))
+    (flat_map export_specifier pairs ++ Ends ∷ []) →
     AllZip (Fits reading (declared reading Es tree) labels) specifiers pairs
 specifiers-read tree reading labels meta b g [] [] post j n f at means = tt
 specifiers-read tree reading labels meta b g [] (pair ∷ pairs) post j n f at means =
@@ -211,9 +211,9 @@ pub exports-read : (tree : List Item) (reading : Reading) (labels : Labelling)
     {inner : List Denoted} (meta : ExportMetadata) (g : ℕ) (specifiers : List Specifier)
     (pairs : List NamedTarget) (post : List Item) (j n : ℕ) →
     IsAt tree j (record { place = n; path = around h.Module 0 g ∷ [] })
-        (export_items meta specifiers ++ post) →
+    (export_items meta specifiers ++ post) →
     Means (bundle_sense tree reading labels) inner (taken_from j (export_items meta specifiers))
-        (export_list pairs) →
+    (export_list pairs) →
     AllZip (Fits reading (declared reading Es tree) labels) specifiers pairs
 exports-read tree reading labels meta g specifiers pairs post j n at means =
     let first = meant-next (un-open tree reading labels j 0 (h.NamedExport meta) (around h.Module 0 0) [] (at-path at) refl refl means) in
@@ -266,8 +266,8 @@ returned-denotes : {reading : Reading} {is_async : Bool} {stmts after its : List
     {labels : Labelling} {x : Text} {ctxt : ℕ} {t : Target} →
     (s : StandsFor reading (declared reading Es (module_with stmts after)) labels x ctxt t) →
     denoted_in reading (declared reading Es (call_with is_async stmts its))
-        (moved_scopes (Top ∷ [])) (name_of reading x ctxt) ≡
-        Bound (Inner FunctionBody 6) s.name
+    (moved_scopes (Top ∷ [])) (name_of reading x ctxt) ≡
+    Bound (Inner FunctionBody 6) s.name
 returned-denotes {reading} {is_async} {stmts} {after} {its} twins {x} {ctxt} s =
     ap (λ all. denoted_in reading all (moved_scopes (Top ∷ [])) (name_of reading x ctxt)) (declared-twins twins)
     ∙ denoted_in-moved reading (seats-twins twins) top (name_of reading x ctxt) (λ strays. let e = sym s.denotes ∙ strays in absurd cc)
@@ -278,13 +278,13 @@ key-mean : (tree : List Item) (reading : Reading) (labels : Labelling) {inner : 
     (k f : ℕ) (outer : List Around) (x : Text) (t u : Bool) (behind_it es : List Item)
     (marks : List Mark) (j n : ℕ) →
     IsAt tree j (record { place = n; path = around h.KeyValueProp k f ∷ outer })
-        ((if t then h.Open 0 h.ComputedPropName ∷ h.Open 0 (h.Str x None) ∷ h.Close ∷ h.Close ∷ [] else (if u then plain_key x else h.Open 0 (h.Str x None) ∷ h.Close ∷ [])) ++ behind_it)
-        →
+    ((if t then h.Open 0 h.ComputedPropName ∷ h.Open 0 (h.Str x None) ∷ h.Close ∷ h.Close ∷ [] else (if u then plain_key x else h.Open 0 (h.Str x None) ∷ h.Close ∷ [])) ++ behind_it)
+    →
     ((its at_it : ℕ) → IsAt tree its (record { place = at_it; path = around h.KeyValueProp k 0 ∷ outer }) behind_it → Means (bundle_sense tree reading labels) inner (taken_from its es) marks)
-        →
+    →
     Means (bundle_sense tree reading labels) inner
-        (taken_from j ((if t then h.Open 0 h.ComputedPropName ∷ h.Open 0 (h.Str x None) ∷ h.Close ∷ h.Close ∷ [] else (if u then plain_key x else h.Open 0 (h.Str x None) ∷ h.Close ∷ [])) ++ es))
-        ((if t then computed_key x else (if u then word_key x else string_marks 0 x)) ++ marks)
+    (taken_from j ((if t then h.Open 0 h.ComputedPropName ∷ h.Open 0 (h.Str x None) ∷ h.Close ∷ h.Close ∷ [] else (if u then plain_key x else h.Open 0 (h.Str x None) ∷ h.Close ∷ [])) ++ es))
+    ((if t then computed_key x else (if u then word_key x else string_marks 0 x)) ++ marks)
 key-mean tree reading labels k f outer x true u behind_it es marks j n at rest =
     mean-open tree reading labels j 0 h.ComputedPropName (around h.KeyValueProp k 0) outer (at-path at) refl refl
     (mean-open tree reading labels (suc j) 0 (h.Str x None) (around h.ComputedPropName n 0) (around h.KeyValueProp k 0 ∷ outer) (at-path (at-next at)) refl refl
@@ -305,7 +305,7 @@ name-means : (tree : List Item) (reading : Reading) (labels : Labelling) {inner 
     6 < start → Every (IsInsideOf start) inner → (name : Known_as) (l : Label) →
     Contains labels (Bound Top name, l) →
     NameMeans (bundle_sense tree reading (moved_labels labels)) inner
-        (Bound (Inner FunctionBody 6) name) (m.Known l)
+    (Bound (Inner FunctionBody 6) name) (m.Known l)
 name-means tree reading labels start past_body inside name l there =
     m.outside
     (position-none (same_denoted (Bound (Inner FunctionBody 6) name)) (every-map (body-outside start past_body name) inside))
@@ -318,14 +318,14 @@ property-mean : {reading : Reading} {is_async : Bool} {stmts after its : List It
     StandsFor reading (declared reading Es (module_with stmts after)) labels y ctxt t →
     (behind_it es : List Item) (marks : List Mark) (j n : ℕ) →
     IsAt (call_with is_async stmts its) j
-        (record { place = n; path = object_path is_async b f c 0 g })
-        (h.Open 0 h.KeyValueProp ∷ (returned_key x ++ h.Ident 1 y ctxt r.Reference ∷ h.Close ∷ behind_it))
-        →
+    (record { place = n; path = object_path is_async b f c 0 g })
+    (h.Open 0 h.KeyValueProp ∷ (returned_key x ++ h.Ident 1 y ctxt r.Reference ∷ h.Close ∷ behind_it))
+    →
     ((new at_new : ℕ) → IsAt (call_with is_async stmts its) new (record { place = at_new; path = object_path is_async b 0 c 0 g }) behind_it → Means (bundle_sense (call_with is_async stmts its) reading (moved_labels labels)) inner (taken_from new es) marks)
-        →
+    →
     Means (bundle_sense (call_with is_async stmts its) reading (moved_labels labels)) inner
-        (taken j (h.Open 0 h.KeyValueProp) ∷ taken_from (suc j) (returned_key x ++ h.Ident 1 y ctxt r.Reference ∷ h.Close ∷ es))
-        (Begins 0 h.KeyValueProp ∷ (key_marks x ++ Name 1 (m.Known (Of t)) ∷ Ends ∷ marks))
+    (taken j (h.Open 0 h.KeyValueProp) ∷ taken_from (suc j) (returned_key x ++ h.Ident 1 y ctxt r.Reference ∷ h.Close ∷ es))
+    (Begins 0 h.KeyValueProp ∷ (key_marks x ++ Name 1 (m.Known (Of t)) ∷ Ends ∷ marks))
 property-mean {reading} {is_async} {stmts} {after} {its} twins labels {inner} start past_body inside b c g f x y ctxt t stands behind_it es marks j n at rest =
     mean-open call reading (moved_labels labels) j 0 h.KeyValueProp (around h.ObjectLit b 0) (around h.ReturnStmt c 0 ∷ called_path is_async g) (at-path at) refl refl
     (key-mean call reading (moved_labels labels) n 0 (object_path is_async b 0 c 0 g) x (bytes_eq x (codes "__proto__")) (is_ascii_identifier x) (h.Ident 1 y ctxt r.Reference ∷ h.Close ∷ behind_it) (h.Ident 1 y ctxt r.Reference ∷ h.Close ∷ es) (Name 1 (m.Known (Of t)) ∷ Ends ∷ marks) (suc j) (n + 1) (at-next at) value)
@@ -335,11 +335,11 @@ property-mean {reading} {is_async} {stmts} {after} {its} twins labels {inner} st
 
     value : (k at_it : ℕ) →
         IsAt (call_with is_async stmts its) k
-            (record { place = at_it; path = around h.KeyValueProp n 0 ∷ object_path is_async b 0 c 0 g })
-            (h.Ident 1 y ctxt r.Reference ∷ h.Close ∷ behind_it) →
+        (record { place = at_it; path = around h.KeyValueProp n 0 ∷ object_path is_async b 0 c 0 g })
+        (h.Ident 1 y ctxt r.Reference ∷ h.Close ∷ behind_it) →
         Means (bundle_sense (call_with is_async stmts its) reading (moved_labels labels)) inner
-            (taken k (h.Ident 1 y ctxt r.Reference) ∷ taken (suc k) h.Close ∷ taken_from (suc (suc k)) es)
-            (Name 1 (m.Known (Of t)) ∷ Ends ∷ marks)
+        (taken k (h.Ident 1 y ctxt r.Reference) ∷ taken (suc k) h.Close ∷ taken_from (suc (suc k)) es)
+        (Name 1 (m.Known (Of t)) ∷ Ends ∷ marks)
     value k at_it there =
         mean-name (call_with is_async stmts its) reading (moved_labels labels) k 1 y ctxt r.Reference (around h.KeyValueProp n 1) (object_path is_async b 0 c 0 g) (at-path there) refl (Bound (Inner FunctionBody 6) stands.name) (m.Known (Of t))
         (ap (option_map (denoted_of reading Es (declared reading Es (call_with is_async stmts its)))) (at-occurrence there) ∙ ap Some (returned-denotes twins stands))
@@ -356,11 +356,11 @@ properties-mean : {reading : Reading} {is_async : Bool} {stmts after its : List 
     AllZip (Returns reading (declared reading Es (module_with stmts after)) labels) rs pairs →
     (post : List Item) (j n : ℕ) →
     IsAt (call_with is_async stmts its) j
-        (record { place = n; path = object_path is_async b f c 0 g })
-        (flat_map returned_property rs ++ h.Close ∷ h.Close ∷ post) →
+    (record { place = n; path = object_path is_async b f c 0 g })
+    (flat_map returned_property rs ++ h.Close ∷ h.Close ∷ post) →
     Means (bundle_sense (call_with is_async stmts its) reading (moved_labels labels)) inner
-        (taken_from j (flat_map returned_property rs ++ h.Close ∷ h.Close ∷ []))
-        (flat_map property pairs ++ Ends ∷ Ends ∷ [])
+    (taken_from j (flat_map returned_property rs ++ h.Close ∷ h.Close ∷ []))
+    (flat_map property pairs ++ Ends ∷ Ends ∷ [])
 properties-mean {reading} {is_async} {stmts} {after} {its} twins labels start past_body inside b c g f [] [] zip post j n at =
     mean-close (call_with is_async stmts its) reading (moved_labels labels) j (around h.ObjectLit b f) (around h.ReturnStmt c 0 ∷ called_path is_async g) (at-path at) refl
     (mean-close (call_with is_async stmts its) reading (moved_labels labels) (suc j) (around h.ReturnStmt c 0) (called_path is_async g) (at-path (at-next at)) refl m.finished)
@@ -376,14 +376,14 @@ properties-mean {reading} {is_async} {stmts} {after} {its} twins labels {inner} 
   where
     elements : (tail : List Item) →
         ((returned_key it.0 ++ h.Ident 1 it.1.0 it.1.1 r.Reference ∷ h.Close ∷ []) ++ flat_map returned_property rs)
-            ++ tail ≡
-            returned_key it.0 ++ h.Ident 1 it.1.0 it.1.1 r.Reference ∷ h.Close ∷
-                (flat_map returned_property rs ++ tail)
+        ++ tail ≡
+        returned_key it.0 ++ h.Ident 1 it.1.0 it.1.1 r.Reference ∷ h.Close ∷
+        (flat_map returned_property rs ++ tail)
     elements tail =
         append_assoc (returned_key it.0 ++ h.Ident 1 it.1.0 it.1.1 r.Reference ∷ h.Close ∷ [])
-            (flat_map returned_property rs) tail
+        (flat_map returned_property rs) tail
         ∙ append_assoc (returned_key it.0) (h.Ident 1 it.1.0 it.1.1 r.Reference ∷ h.Close ∷ [])
-            (flat_map returned_property rs ++ tail)
+        (flat_map returned_property rs ++ tail)
 
     marks : ◌≡◌ {A = List Mark}
         (key_marks it.0 ++ Name 1 (m.Known (Of pair.1)) ∷ Ends ∷ (flat_map property pairs ++ Ends ∷ Ends ∷ []))
@@ -399,9 +399,9 @@ pub object-means : {reading : Reading} {is_async : Bool} {stmts after its : List
     AllZip (Returns reading (declared reading Es (module_with stmts after)) labels) rs pairs →
     (post : List Item) (n : ℕ) →
     IsAt (call_with is_async stmts its) start (record { place = n; path = called_path is_async g })
-        (returned_object rs ++ post) →
+    (returned_object rs ++ post) →
     StatementMeans (bundle_sense (call_with is_async stmts its) reading (moved_labels labels)) start
-        (taken_from start (returned_object rs)) (return_object pairs)
+    (taken_from start (returned_object rs)) (return_object pairs)
 object-means {reading} {is_async} {stmts} {after} {its} twins labels start past_body g rs pairs zip post n at =
     subst (λ l. Means (bundle_sense (call_with is_async stmts its) reading (moved_labels labels)) inner (taken_from start (returned_object rs)) (Begins 0 h.ReturnStmt ∷ Begins 0 h.ObjectLit ∷ l)) (sym (append_assoc (flat_map property pairs) (Ends ∷ []) (Ends ∷ [])))
     (mean-open (call_with is_async stmts its) reading (moved_labels labels) start 0 h.ReturnStmt (around h.BlockStmt 6 0) (Rattle.bundle_rules.specs.Places.outer_path (called_path is_async 0)) (at-path at) refl refl
@@ -422,31 +422,31 @@ pair_of it = (exported it, (it.sym, it.ctxt))
 
 specifier-alone : (y : Text) (ctxt : ℕ) (name : Option ExportedName) (rest : List Item) →
     side_by_side zero (specifier_items (record { sym = y; ctxt = ctxt; name = name }) ++ rest) ≡
-        specifier_items (record { sym = y; ctxt = ctxt; name = name }) ∷ side_by_side zero rest
+    specifier_items (record { sym = y; ctxt = ctxt; name = name }) ∷ side_by_side zero rest
 specifier-alone y ctxt None rest = refl
 specifier-alone y ctxt (Some (word x its)) rest = refl
 specifier-alone y ctxt (Some (text x raw)) rest = refl
 
 specifier-pair : (y : Text) (ctxt : ℕ) (name : Option ExportedName) →
     exported_pair (specifier_items (record { sym = y; ctxt = ctxt; name = name })) ≡
-        pair_of (record { sym = y; ctxt = ctxt; name = name })
+    pair_of (record { sym = y; ctxt = ctxt; name = name })
 specifier-pair y ctxt None = refl
 specifier-pair y ctxt (Some (word x its)) = refl
 specifier-pair y ctxt (Some (text x raw)) = refl
 
 specifiers-sides : (specifiers : List Specifier) (post : List Item) →
     side_by_side zero (flat_map specifier_items specifiers ++ h.Close ∷ post) ≡
-        map specifier_items specifiers
+    map specifier_items specifiers
 specifiers-sides [] post = refl
 specifiers-sides (it ∷ specifiers) post =
     ap (side_by_side zero)
-        (append_assoc (specifier_items it) (flat_map specifier_items specifiers) (h.Close ∷ post))
+    (append_assoc (specifier_items it) (flat_map specifier_items specifiers) (h.Close ∷ post))
     ∙ specifier-alone it.sym it.ctxt it.name (flat_map specifier_items specifiers ++ h.Close ∷ post)
     ∙ ap (λ l. specifier_items it ∷ l) (specifiers-sides specifiers post)
 
 listed-pairs : (specifiers : List Specifier) →
     map exported_pair (filter (begins_in 0) (map specifier_items specifiers)) ≡
-        map pair_of specifiers
+    map pair_of specifiers
 listed-pairs [] = refl
 listed-pairs (it ∷ specifiers) =
     ap₂ (λ (pair : Text × Ident) (l : List (Text × Ident)). pair ∷ l)
@@ -468,7 +468,7 @@ names-fit : (reading : Reading) (all : List Declared) (labels : Labelling)
     (specifiers : List Specifier) (pairs : List NamedTarget) →
     AllZip (Fits reading all labels) specifiers pairs →
     map (λ (pair : NamedTarget). pair.0) pairs ≡
-        map (λ (pair : Text × Ident). pair.0) (map pair_of specifiers)
+    map (λ (pair : Text × Ident). pair.0) (map pair_of specifiers)
 names-fit reading all labels [] [] zip = refl
 names-fit reading all labels [] (pair ∷ pairs) zip = absurd zip
 names-fit reading all labels (it ∷ specifiers) [] zip = absurd zip

@@ -58,9 +58,9 @@ asked kept settings entry m n s e = by (is_external (program_of kept settings en
 
     led : (o : Option Name) →
         option_and_then
-            (λ file. option_and_then (number_in kept) (kept_file kept (record { file = file; specifier = s })))
-            o ≡
-            Some n →
+        (λ file. option_and_then (number_in kept) (kept_file kept (record { file = file; specifier = s })))
+        o ≡
+        Some n →
         (its : Name) × (slice_get kept.names n ≡ Some its)
     led None is = absurd (none-some n is)
     led (Some file) is = kept_to (kept_file kept (record { file = file; specifier = s })) is
@@ -129,7 +129,7 @@ stated-listless start (h.Close ∷ rest) is = more refl none
 
 all-listless : {tops : List TopItem} → Every (λ (top : TopItem). IsListless top.items) tops →
     Every (λ statement. begins_list statement ≡ false)
-        (flat_map (λ (top : TopItem). stated top.start top.items) tops)
+    (flat_map (λ (top : TopItem). stated top.start top.items) tops)
 all-listless none = none
 all-listless (more {x = top} here later) =
     every-join (stated-listless top.start top.items here) (all-listless later)

@@ -53,9 +53,9 @@ first-name field (node ∷ outer) x meant rest = by (is_object node.head)
   where
     by : (t : Bool) →
         first_is_list
-            ((if t then Begins field h.KeyValueProp ∷ ((if bytes_eq x (codes "__proto__") then computed_key x else word_key x) ++ Name 1 meant ∷ Ends ∷ []) else Name field meant ∷ []) ++ rest)
-            ≡
-            false
+        ((if t then Begins field h.KeyValueProp ∷ ((if bytes_eq x (codes "__proto__") then computed_key x else word_key x) ++ Name 1 meant ∷ Ends ∷ []) else Name field meant ∷ []) ++ rest)
+        ≡
+        false
     by true = refl
     by false = refl
 

@@ -82,7 +82,7 @@ met-item : {reading : Reading} {is_async : Bool} {stmts after its : List Item} �
     AreTwins reading is_async stmts after its → {item : TopItem} → IsSegment stmts item → (n : ℕ) →
     n < length item.items →
     Met (denoted_at reading Es (module_with stmts after) (item.start + n))
-        (denoted_at reading Es (call_with is_async stmts its) (item.start + 6 + n))
+    (denoted_at reading Es (call_with is_async stmts its) (item.start + 6 + n))
 met-item {reading} {is_async} {stmts} {after} {its} twins {item} s n l =
     let within : s.at + n < length stmts = segment-length s n l in
     let old : suc (s.at + n) ≡ item.start + n = omega (arith, s.start) in
@@ -122,8 +122,8 @@ met-names f g (more here later) = met-cons here (met-names f g later)
 each-met : {reading : Reading} {is_async : Bool} {stmts after its : List Item} →
     AreTwins reading is_async stmts after its → {item : TopItem} → IsSegment stmts item →
     Every
-        (λ o. Met (denoted_in reading (module_with stmts after) item o) (denoted_in reading (call_with is_async stmts its) (moved_item item) o))
-        (occurrences item.items)
+    (λ o. Met (denoted_in reading (module_with stmts after) item o) (denoted_in reading (call_with is_async stmts its) (moved_item item) o))
+    (occurrences item.items)
 each-met twins {item} s =
     every-map (λ (o : Occurrence) l. met-item twins s o.place l) (occurs-within item.items)
 
@@ -131,8 +131,8 @@ all-met : {reading : Reading} {is_async : Bool} {stmts after its : List Item} �
     AreTwins reading is_async stmts after its → {items : List TopItem} →
     Every (IsSegment stmts) items →
     AllMet
-        (flat_map (λ item. filter_map (denoted_in reading (module_with stmts after) item) (occurrences item.items)) items)
-        (flat_map (λ item. filter_map (denoted_in reading (call_with is_async stmts its) item) (occurrences item.items)) (map moved_item items))
+    (flat_map (λ item. filter_map (denoted_in reading (module_with stmts after) item) (occurrences item.items)) items)
+    (flat_map (λ item. filter_map (denoted_in reading (call_with is_async stmts its) item) (occurrences item.items)) (map moved_item items))
 all-met twins none = no_more
 all-met {reading} {is_async} {stmts} {after} {its} twins (more {x} here later) =
     met-append
@@ -148,7 +148,7 @@ of_scope-moved (Global x) fair = refl
 
 tops-filtered : {ds others : List Denoted} → AllMet ds others →
     filter (is_of_scope (Inner FunctionBody 6)) others ≡
-        map moved_denoted (filter (is_of_scope Top) ds)
+    map moved_denoted (filter (is_of_scope Top) ds)
 tops-filtered no_more = refl
 tops-filtered (one_more {ds} {others} (followed d) fair ms) =
     ap₂ (λ (t : Bool) (l : List Denoted). cond t (moved_denoted d ∷ l) l) (of_scope-moved d fair) (tops-filtered ms)
@@ -156,9 +156,9 @@ tops-filtered (one_more {ds} {others} (followed d) fair ms) =
   where
     by : (t : Bool) →
         cond t (moved_denoted d ∷ map moved_denoted (filter (is_of_scope Top) ds))
-            (map moved_denoted (filter (is_of_scope Top) ds)) ≡
-            map moved_denoted
-                (cond t (d ∷ filter (is_of_scope Top) ds) (filter (is_of_scope Top) ds))
+        (map moved_denoted (filter (is_of_scope Top) ds)) ≡
+        map moved_denoted
+        (cond t (d ∷ filter (is_of_scope Top) ds) (filter (is_of_scope Top) ds))
     by true = refl
     by false = refl
 tops-filtered (one_more (astray name) fair ms) = tops-filtered ms
@@ -181,7 +181,7 @@ top-bindings (Bound scope name ∷ ds) (more here later) =
   where
     by : (t : Bool) → Every IsTopBinding (filter (is_of_scope Top) ds) →
         Every IsTopBinding
-            (cond t (Bound scope name ∷ filter (is_of_scope Top) ds) (filter (is_of_scope Top) ds))
+        (cond t (Bound scope name ∷ filter (is_of_scope Top) ds) (filter (is_of_scope Top) ds))
     by true rest = more here rest
     by false rest = rest
 
@@ -189,7 +189,7 @@ pub mentioned-moved : {reading : Reading} {is_async : Bool} {stmts after its : L
     AreTwins reading is_async stmts after its → {items : List TopItem} →
     Every (IsSegment stmts) items →
     mentioned reading (Inner FunctionBody 6) (call_with is_async stmts its) (map moved_item items) ≡
-        map moved_denoted (mentioned reading Top (module_with stmts after) items)
+    map moved_denoted (mentioned reading Top (module_with stmts after) items)
 mentioned-moved twins each = let all = all-met twins each in ap each_denoted_once (tops-filtered all) ∙ once-moved (every-filter (is_of_scope Top) (fair-all all))
 
 top-binding-fair : (d : Denoted) → IsTopBinding d → IsFairly d
@@ -225,13 +225,13 @@ position-met tops each (astray name) fair =
 top-met : (tops : List Denoted) → Every IsTopBinding tops → {old new : Option Denoted} →
     Met old new →
     option_and_then (λ d. position (same_denoted d) (map moved_denoted tops)) new ≡
-        option_and_then (λ d. position (same_denoted d) tops) old
+    option_and_then (λ d. position (same_denoted d) tops) old
 top-met tops each m = by m.met_at m.fair
   where
     by : {old new : Option Denoted} → AreMetAt old new →
         ((d : Denoted) → old ≡ Some d → IsFairly d) →
         option_and_then (λ d. position (same_denoted d) (map moved_denoted tops)) new ≡
-            option_and_then (λ d. position (same_denoted d) tops) old
+        option_and_then (λ d. position (same_denoted d) tops) old
     by nothing_met fair = refl
     by (met {d} both_met) fair = position-met tops each both_met (fair d refl)
 
@@ -254,7 +254,7 @@ object-met : {reading : Reading} {is_async : Bool} {stmts after its : List Item}
     AreTwins reading is_async stmts after its → {item : TopItem} → IsSegment stmts item → (n : ℕ) →
     n < length item.items →
     is_object_at reading (call_with is_async stmts its) (item.start + 6 + n) ≡
-        is_object_at reading (module_with stmts after) (item.start + n)
+    is_object_at reading (module_with stmts after) (item.start + n)
 object-met {reading} {is_async} {stmts} {after} {its} twins {item} s n l =
     ap₂ (λ (a : Bool) (b : Bool). a && b) (is_global-met (codes "Object") refl (met-item twins s n l).met_at)
     (subst (λ x. x) (λ i. is_of_nothing reading (occurrence_at (call_with is_async stmts its) (new i)) ≡ is_of_nothing reading (occurrence_at (module_with stmts after) (old i))) (nothing-alike reading (occurrences-alike (shows is_async twins.statements after its (s.at + n) (segment-length s n l)))))
@@ -309,7 +309,7 @@ assigns-same f g items same (node ∷ outer) =
 
     by : (t : Bool) → (t ≡ true → f (node.begins + 2) ≡ g (node.begins + 2)) →
         (is_call_head node.head && node.field == 1 && t && f (node.begins + 2)) ≡
-            (is_call_head node.head && node.field == 1 && t && g (node.begins + 2))
+        (is_call_head node.head && node.field == 1 && t && g (node.begins + 2))
     by true e = ap (λ u. is_call_head node.head && node.field == 1 && true && u) (e refl)
     by false e =
         neither_call (is_call_head node.head) (node.field == 1) (f (node.begins + 2))
@@ -333,7 +333,7 @@ mention-moved : {reading : Reading} {is_async : Bool} {stmts after its : List It
     AreTwins reading is_async stmts after its → (tops : List Denoted) → Every IsTopBinding tops →
     {item : TopItem} → IsSegment stmts item → (o : Occurrence) → o.place < length item.items →
     mention_of reading (call_with is_async stmts its) (map moved_denoted tops) (moved_item item) o ≡
-        mention_of reading (module_with stmts after) tops item o
+    mention_of reading (module_with stmts after) tops item o
 mention-moved {reading} {is_async} {stmts} {after} {its} twins tops each {item} s o l =
     ap₂ (mention_with reading (module_with stmts after) item o) (top-met tops each (met-item twins s o.place l))
     (assigns-same (λ place. is_object_at reading (call_with is_async stmts its) (item.start + 6 + place)) (λ place. is_object_at reading (module_with stmts after) (item.start + place)) item.items (λ n within. object-met twins s n within) o.path)
@@ -343,9 +343,9 @@ mentions-moved : {reading : Reading} {is_async : Bool} {stmts after its : List I
     {item : TopItem} → IsSegment stmts item → {os : List Occurrence} →
     Every (λ (o : Occurrence). o.place < length item.items) os →
     map
-        (mention_of reading (call_with is_async stmts its) (map moved_denoted tops) (moved_item item))
-        os ≡
-        map (mention_of reading (module_with stmts after) tops item) os
+    (mention_of reading (call_with is_async stmts its) (map moved_denoted tops) (moved_item item))
+    os ≡
+    map (mention_of reading (module_with stmts after) tops item) os
 mentions-moved twins tops each s none = refl
 mentions-moved twins tops each s (more {x} here later) =
     ap₂ (λ (m : Mention) (ms : List Mention). m ∷ ms) (mention-moved twins tops each s x here)
@@ -355,11 +355,11 @@ items-moved : {reading : Reading} {is_async : Bool} {stmts after its : List Item
     AreTwins reading is_async stmts after its → (tops : List Denoted) → Every IsTopBinding tops →
     {items : List TopItem} → Every (IsSegment stmts) items →
     map
-        (λ item. map (mention_of reading (call_with is_async stmts its) (map moved_denoted tops) item) (occurrences item.items))
-        (map moved_item items) ≡
-        map
-            (λ item. map (mention_of reading (module_with stmts after) tops item) (occurrences item.items))
-            items
+    (λ item. map (mention_of reading (call_with is_async stmts its) (map moved_denoted tops) item) (occurrences item.items))
+    (map moved_item items) ≡
+    map
+    (λ item. map (mention_of reading (module_with stmts after) tops item) (occurrences item.items))
+    items
 items-moved twins tops each none = refl
 items-moved twins tops each (more {x} here later) =
     ap₂ (λ (m : List Mention) (ms : List (List Mention)). m ∷ ms)
@@ -371,8 +371,8 @@ pub group-moved : {reading : Reading} {is_async : Bool} {stmts after its : List 
     AreTwins reading is_async stmts after its → {items : List TopItem} →
     Every (IsSegment stmts) items → (owners : List (Option ℕ)) →
     group_of reading (Inner FunctionBody 6) (call_with is_async stmts its) (map moved_item items)
-        owners ≡
-        group_of reading Top (module_with stmts after) items owners
+    owners ≡
+    group_of reading Top (module_with stmts after) items owners
 group-moved {reading} {is_async} {stmts} {after} {its} twins {items} each owners =
     ap (λ l. record { items = l; owners = owners }) (
     ap (λ tops. map (λ item. map (mention_of reading (call_with is_async stmts its) tops item) (occurrences item.items)) (map moved_item items)) (mentioned-moved twins each)

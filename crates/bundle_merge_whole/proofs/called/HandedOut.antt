@@ -60,7 +60,7 @@ pub wrapped-bundle : (parties : Parties) (settings : Settings) (kept : Kept) (en
     IsMerged keyword_free local_context p parties.hooks merged →
     IsNamedAs p.settings.renames merged tree → IsWholeModule tree →
     IsBundleOf parties settings kept
-        (record { kind = Named entry.name; id = p.entry; tree = wrapped tree }) entry
+    (record { kind = Named entry.name; id = p.entry; tree = wrapped tree }) entry
 wrapped-bundle parties settings kept entry p its accepted listless form tree can is_clean not_doubled bundle merged is_merged named whole = record {
   its_kind = refl;
   p = p;

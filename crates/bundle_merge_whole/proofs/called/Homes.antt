@@ -110,10 +110,10 @@ from_taker-moved way (inner {kind} {begins} {outer} positive fair) is_inner take
     by : (t : Bool) →
         is_some (nearest (cond t (Inner kind begins ∷ outer) (from_taker way outer))) ≡ true →
         (is_some (nearest (from_taker way outer)) ≡ true → from_taker way (moved_scopes outer) ≡ moved_scopes (from_taker way outer))
-            →
+        →
         cond t (Inner kind (begins + 6) ∷ moved_scopes outer) (from_taker way (moved_scopes outer))
-            ≡
-            moved_scopes (cond t (Inner kind begins ∷ outer) (from_taker way outer))
+        ≡
+        moved_scopes (cond t (Inner kind begins ∷ outer) (from_taker way outer))
     by true is rest = refl
     by false is rest = rest is
 
@@ -258,7 +258,7 @@ moved_beside scopes = parameters_of (moved_scopes scopes)
 beside-moved : {all : List Declared} → Every IsSeated all → (d : Declared) → IsSeated d →
     {beside : Option Scope} → MaybeFair beside →
     home_beside (map moved_declared all) (moved_declared d) (option_map moved_scope beside) ≡
-        moved_scope (home_beside all d beside)
+    moved_scope (home_beside all d beside)
 beside-moved seats d seated no_scope = taker-moved d seated
 beside-moved {all} seats d seated (some_scope {s} fair) =
     ap₂ (λ (t : Bool) (x : Scope). cond t (moved_scope s) x) (any-map (is_parameter (moved_scope s) d.name) (is_parameter s d.name) moved_declared IsSeated (is_parameter-moved s fair d.name) seats) (taker-moved d seated)
@@ -272,7 +272,7 @@ beside-moved {all} seats d seated (some_scope {s} fair) =
 -- the top has no parameters, and neither has the function
 beside-outer : {all : List Declared} → Every IsSeated all → (d : Declared) → IsSeated d →
     home_beside (map moved_declared all) (moved_declared d) (Some (Inner Parameters 5)) ≡
-        moved_scope (taker d)
+    moved_scope (taker d)
 beside-outer seats d seated =
     ap₂ (λ (t : Bool) (x : Scope). cond t (Inner Parameters 5) x)
     (any-none (is_parameter (Inner Parameters 5) d.name) moved_declared IsSeated (is_parameter-outer (Inner Parameters 5) at_parameters d.name) seats)
@@ -285,7 +285,7 @@ nearest-fair (inner positive fair) = some_scope positive
 beside-taken : {all : List Declared} → Every IsSeated all → (d : Declared) → IsSeated d →
     {scopes : List Scope} → AreFair scopes →
     home_beside (map moved_declared all) (moved_declared d) (parameters_of (moved_scopes scopes)) ≡
-        moved_scope (home_beside all d (parameters_of scopes))
+    moved_scope (home_beside all d (parameters_of scopes))
 beside-taken seats d seated top = beside-outer seats d seated
 beside-taken {all} seats d seated (inner {kind = FunctionBody} positive fair) =
     ap (home_beside (map moved_declared all) (moved_declared d)) (nearest-moved fair)
@@ -300,9 +300,9 @@ home-moved {all} seats d seated =
   where
     by : (t : Bool) →
         cond t (moved_scope (home_beside all d (parameters_of (from_taker d.by d.scopes))))
-            (moved_scope (taker d)) ≡
-            moved_scope
-                (cond t (home_beside all d (parameters_of (from_taker d.by d.scopes))) (taker d))
+        (moved_scope (taker d)) ≡
+        moved_scope
+        (cond t (home_beside all d (parameters_of (from_taker d.by d.scopes))) (taker d))
     by true = refl
     by false = refl
 
@@ -334,7 +334,7 @@ home-fair all d seated = by (joins_parameter d.by)
 is_declared_in-moved : {all : List Declared} → Every IsSeated all → (s : Scope) → IsFair s →
     (name : Name) (d : Declared) → IsSeated d →
     is_declared_in (map moved_declared all) (moved_scope s) name (moved_declared d) ≡
-        is_declared_in all s name d
+    is_declared_in all s name d
 is_declared_in-moved {all} seats s fair name d seated =
     ap (λ (t : Scope). same_scope t (moved_scope s) && names_agree d.name name) (home-moved seats d seated)
     ∙ ap (λ (t : Bool). t && names_agree d.name name) (same-moved (home_of all d) s (home-fair all d seated) fair)
@@ -416,19 +416,19 @@ pub find-there : (p q : Scope → Bool) → ((s : Scope) → IsFair s → p (mov
     find p (moved_scopes scopes) ≡ Some (moved_scope s)
 find-there p q same top s e =
     ap
-        (λ (t : Bool). cond t (Some (Inner FunctionBody 6)) (cond (p (Inner Parameters 5)) (Some (Inner Parameters 5)) (cond (p (Inner FunctionName 4)) (Some (Inner FunctionName 4)) (cond (p Top) (Some Top) None))))
-        (same Top tt) ∙ by (q Top) e
+    (λ (t : Bool). cond t (Some (Inner FunctionBody 6)) (cond (p (Inner Parameters 5)) (Some (Inner Parameters 5)) (cond (p (Inner FunctionName 4)) (Some (Inner FunctionName 4)) (cond (p Top) (Some Top) None))))
+    (same Top tt) ∙ by (q Top) e
   where
     by : (t : Bool) → ◌≡◌ {A = Option Scope} (cond t (Some Top) None) (Some s) →
         cond t (Some (Inner FunctionBody 6))
-            (cond (p (Inner Parameters 5)) (Some (Inner Parameters 5)) (cond (p (Inner FunctionName 4)) (Some (Inner FunctionName 4)) (cond (p Top) (Some Top) None)))
-            ≡
-            Some (moved_scope s)
+        (cond (p (Inner Parameters 5)) (Some (Inner Parameters 5)) (cond (p (Inner FunctionName 4)) (Some (Inner FunctionName 4)) (cond (p Top) (Some Top) None)))
+        ≡
+        Some (moved_scope s)
     by true is = ap (option_map moved_scope) is
     by false is = absurd (none-some s is)
 find-there p q same (inner {kind} {begins} {outer} positive fair) s e =
     ap (λ (t : Bool). cond t (Some (Inner kind (begins + 6))) (find p (moved_scopes outer)))
-        (same (Inner kind begins) positive)
+    (same (Inner kind begins) positive)
     ∙ by (q (Inner kind begins)) e (λ further. find-there p q same fair s further)
   where
     by : (t : Bool) → cond t (Some (Inner kind begins)) (find q outer) ≡ Some s →
@@ -451,7 +451,7 @@ find-nowhere p q same outside top e =
     by false is = refl
 find-nowhere p q same outside (inner {kind} {begins} {outer} positive fair) e =
     ap (λ (t : Bool). cond t (Some (Inner kind (begins + 6))) (find p (moved_scopes outer)))
-        (same (Inner kind begins) positive)
+    (same (Inner kind begins) positive)
     ∙ by (q (Inner kind begins)) e (λ further. find-nowhere p q same outside fair further)
   where
     by : (t : Bool) → cond t (Some (Inner kind begins)) (find q outer) ≡ None →
@@ -474,7 +474,7 @@ by_symbol-moved : {all : List Declared} → Every IsSeated all → {scopes : Lis
     AreFair scopes → (name : Name) →
     (denoted_by_symbol all scopes name ≡ Global (codes "arguments") → ⊥) →
     denoted_by_symbol (map moved_declared all) (moved_scopes scopes) name ≡
-        moved_denoted (denoted_by_symbol all scopes name)
+    moved_denoted (denoted_by_symbol all scopes name)
 by_symbol-moved {all} seats {scopes} fair name apart =
     by (find (λ scope. binds all scope name) scopes) refl
   where
@@ -483,7 +483,7 @@ by_symbol-moved {all} seats {scopes} fair name apart =
 
     by : (o : Option Scope) → find (λ scope. binds all scope name) scopes ≡ o →
         denoted_by_symbol (map moved_declared all) (moved_scopes scopes) name ≡
-            moved_denoted (denoted_by_symbol all scopes name)
+        moved_denoted (denoted_by_symbol all scopes name)
     by None e =
         let other : is_arguments name.sym ≡ false = not_arguments name.sym (λ is. apart (ap (bound_in name) e ∙ is)) in
         ap (bound_in name) (find-nowhere (λ scope. binds (map moved_declared all) scope name) (λ scope. binds all scope name) (λ s f. binds-moved seats s f name) (λ s o. binds-outer seats s o name other) fair e)
@@ -495,7 +495,7 @@ by_symbol-moved {all} seats {scopes} fair name apart =
 implied_at-moved : {all : List Declared} → Every IsSeated all → {scopes : List Scope} →
     AreFair scopes → (name : Name) → (implied all scopes name ≡ Global (codes "arguments") → ⊥) →
     implied (map moved_declared all) (moved_scopes scopes) name ≡
-        moved_denoted (implied all scopes name)
+    moved_denoted (implied all scopes name)
 implied_at-moved {all} seats {scopes} fair name apart = unresolved (is_unresolved name.ctxt) refl
   where
     found : Option Scope → Denoted
@@ -506,10 +506,10 @@ implied_at-moved {all} seats {scopes} fair name apart = unresolved (is_unresolve
         →
         (o : Option Scope) → find (λ scope. is_implied_in all scope name) scopes ≡ o →
         bound_in (without_context name)
-            (find (λ scope. is_implied_in (map moved_declared all) scope name) (moved_scopes scopes))
-            ≡
-            moved_denoted
-                (bound_in (without_context name) (find (λ scope. is_implied_in all scope name) scopes))
+        (find (λ scope. is_implied_in (map moved_declared all) scope name) (moved_scopes scopes))
+        ≡
+        moved_denoted
+        (bound_in (without_context name) (find (λ scope. is_implied_in all scope name) scopes))
     resolved is None e =
         let other : is_arguments name.sym ≡ false = not_arguments name.sym (λ global. apart (is ∙ ap (bound_in (without_context name)) e ∙ global)) in
         ap (bound_in (without_context name)) (find-nowhere (λ scope. is_implied_in (map moved_declared all) scope name) (λ scope. is_implied_in all scope name) (λ s f. implied-moved seats s f name) (λ s o. implied-outer seats s o name other) fair e)
@@ -520,12 +520,12 @@ implied_at-moved {all} seats {scopes} fair name apart = unresolved (is_unresolve
 
     unresolved : (t : Bool) → is_unresolved name.ctxt ≡ t →
         implied (map moved_declared all) (moved_scopes scopes) name ≡
-            moved_denoted (implied all scopes name)
+        moved_denoted (implied all scopes name)
     unresolved true e =
         ap
-            (λ t. cond t (Global name.sym) (bound_in (without_context name) (find (λ scope. is_implied_in (map moved_declared all) scope name) (moved_scopes scopes))))
-            e ∙ sym
-            (ap (λ t. moved_denoted (cond t (Global name.sym) (bound_in (without_context name) (find (λ scope. is_implied_in all scope name) scopes)))) e)
+        (λ t. cond t (Global name.sym) (bound_in (without_context name) (find (λ scope. is_implied_in (map moved_declared all) scope name) (moved_scopes scopes))))
+        e ∙ sym
+        (ap (λ t. moved_denoted (cond t (Global name.sym) (bound_in (without_context name) (find (λ scope. is_implied_in all scope name) scopes)))) e)
     unresolved false e =
         ap (λ t. cond t (Global name.sym) (bound_in (without_context name) (find (λ scope. is_implied_in (map moved_declared all) scope name) (moved_scopes scopes)))) e
         ∙ resolved (ap (λ t. cond t (Global name.sym) (bound_in (without_context name) (find (λ scope. is_implied_in all scope name) scopes))) e) (find (λ scope. is_implied_in all scope name) scopes) refl
@@ -535,13 +535,13 @@ by_context-moved : {all : List Declared} → Every IsSeated all → {scopes : Li
     AreFair scopes → (name : Name) →
     (denoted_by_context all scopes name ≡ Global (codes "arguments") → ⊥) →
     denoted_by_context (map moved_declared all) (moved_scopes scopes) name ≡
-        moved_denoted (denoted_by_context all scopes name)
+    moved_denoted (denoted_by_context all scopes name)
 by_context-moved {all} seats {scopes} fair name apart =
     by (find (λ scope. is_written_in all scope name) scopes) refl
   where
     by : (o : Option Scope) → find (λ scope. is_written_in all scope name) scopes ≡ o →
         denoted_by_context (map moved_declared all) (moved_scopes scopes) name ≡
-            moved_denoted (denoted_by_context all scopes name)
+        moved_denoted (denoted_by_context all scopes name)
     by None e =
         ap (written_or_implied (map moved_declared all) (moved_scopes scopes) name) (find-nowhere (λ scope. is_written_in (map moved_declared all) scope name) (λ scope. is_written_in all scope name) (λ s f. written-moved seats s f name) (λ s o. written-outer seats s o name) fair e)
         ∙ implied_at-moved seats fair name (λ is. apart (ap (written_or_implied all scopes name) e ∙ is))
@@ -555,6 +555,6 @@ pub denoted_in-moved : (reading : Reading) {all : List Declared} → Every IsSea
     {scopes : List Scope} → AreFair scopes → (name : Name) →
     (denoted_in reading all scopes name ≡ Global (codes "arguments") → ⊥) →
     denoted_in reading (map moved_declared all) (moved_scopes scopes) name ≡
-        moved_denoted (denoted_in reading all scopes name)
+    moved_denoted (denoted_in reading all scopes name)
 denoted_in-moved BySymbol seats fair name apart = by_symbol-moved seats fair name apart
 denoted_in-moved ByContext seats fair name apart = by_context-moved seats fair name apart

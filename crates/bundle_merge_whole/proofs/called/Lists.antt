@@ -39,7 +39,7 @@ past-close moved = record { at = omega (arith, moved.at); positive = omega arith
 
 pub past-leaf : {is_async : Bool} {depth : ℕ} {s t : Spot} → IsMovedSpot is_async depth s t →
     IsMovedSpot is_async depth (record { place = s.place + 1; path = s.path })
-        (record { place = t.place + 1; path = t.path })
+    (record { place = t.place + 1; path = t.path })
 past-leaf moved = record { at = omega (arith, moved.at); positive = omega arith; path = moved.path }
 
 -- behind the statements
@@ -104,8 +104,8 @@ pub data AreAlike (is_async : Bool) : Option Occurrence → Option Occurrence �
   both : {depth : ℕ} {old new : List Around} (place its : ℕ) (x : List ℕ) (ctxt : ℕ) (role : Role) →
       its ≡ place + 6 → IsMoved is_async depth old new →
       AreAlike is_async
-          (Some (record { place = place; sym = x; ctxt = ctxt; role = role; path = old }))
-          (Some (record { place = its; sym = x; ctxt = ctxt; role = role; path = new }))
+      (Some (record { place = place; sym = x; ctxt = ctxt; role = role; path = old }))
+      (Some (record { place = its; sym = x; ctxt = ctxt; role = role; path = new }))
 
 pub occurrence-moved : {is_async : Bool} {depth : ℕ} {s t : Spot} → IsMovedSpot is_async depth s t →
     (x : Item) → AreAlike is_async (occurrence_of s x) (occurrence_of t x)
@@ -121,7 +121,7 @@ occurrence-moved moved h.Close = neither
 declared-alike : {is_async : Bool} (reading : Reading) {o its : Option Occurrence} →
     AreAlike is_async o its →
     option_and_then (declaration_of reading Es) its ≡
-        option_map moved_declared (option_and_then (declaration_of reading Es) o)
+    option_map moved_declared (option_and_then (declaration_of reading Es) o)
 declared-alike reading neither = refl
 declared-alike reading (both place its x ctxt role at moved) =
     declaration-moved moved reading place its x ctxt role at
@@ -136,7 +136,7 @@ pub declared-moved : {is_async : Bool} (reading : Reading) {depth : ℕ} {items 
     (after its : List Item) → declared_from reading Es (fold past s items) after ≡ [] →
     declared_from reading Es (fold past t items) its ≡ [] →
     declared_from reading Es t (items ++ its) ≡
-        map moved_declared (declared_from reading Es s (items ++ after))
+    map moved_declared (declared_from reading Es s (items ++ after))
 declared-moved reading over moved after its e f = f ∙ sym (ap (map moved_declared) e)
 declared-moved reading (begun {field} {head} {rest} plain name inner) {s} {t} moved after its e f =
     ap₂ (λ (o : Option Declared) (l : List Declared). cons_option o l) (open-declares reading t field head plain (rest ++ its)) (declared-moved reading inner (past-open moved field head plain) after its e f)
@@ -173,15 +173,15 @@ here-of {P = P} (Some y) xs each x e = subst P (same_Some y x e) (first y xs eac
 seat : {is_async : Bool} {depth : ℕ} {old new : List Around} → IsMoved is_async depth old new →
     (reading : Reading) (place : ℕ) (x : List ℕ) (ctxt : ℕ) (role : Role) (d : Declared) →
     declaration_of reading Es
-        (record { place = place; sym = x; ctxt = ctxt; role = role; path = old }) ≡
-        Some d →
+    (record { place = place; sym = x; ctxt = ctxt; role = role; path = old }) ≡
+    Some d →
     IsTaken d → IsSeated d
 seat {old} moved reading place x ctxt role d e taken =
     by (is_binding role) (way_of old) (way-plain moved) e
   where
     by : (t : Bool) (way : Option Way) → IsPlainWay way →
         cond t (declared_by place (name_of reading x ctxt) (scopes_around Es old) way) None ≡
-            Some d →
+        Some d →
         IsSeated d
     by false way plain is = absurd (none-some d is)
     by true None plain is = absurd (none-some d is)
@@ -223,8 +223,8 @@ pub declared-there : {is_async : Bool} (reading : Reading) {P : Declared → Typ
     (after : List Item) → Every P (declared_from reading Es s (items ++ after)) →
     (k : ℕ) (d : Declared) →
     option_and_then (declaration_of reading Es)
-        (option_and_then (occurrence_of (fold past s (take k items))) (slice_get items k)) ≡
-        Some d →
+    (option_and_then (occurrence_of (fold past s (take k items))) (slice_get items k)) ≡
+    Some d →
     P d
 declared-there reading over moved after each k d e = absurd (none-some d e)
 declared-there reading (begun {field} {head} {rest} plain name inner) {s} moved after each zero d e = absurd (none-some d e)
@@ -248,13 +248,13 @@ denoted_of-moved : {is_async : Bool} {depth : ℕ} {old new : List Around} →
     IsMoved is_async depth old new → (reading : Reading) {all : List Declared} →
     Every IsSeated all → (place its : ℕ) (x : List ℕ) (ctxt : ℕ) (role : Role) → its ≡ place + 6 →
     ((d : Declared) → declaration_of reading Es (record { place = place; sym = x; ctxt = ctxt; role = role; path = old }) ≡ Some d → IsSeated d)
-        →
+    →
     (Strays (denoted_of reading Es all (record { place = place; sym = x; ctxt = ctxt; role = role; path = old })) → ⊥)
-        →
+    →
     denoted_of reading Es (map moved_declared all)
-        (record { place = its; sym = x; ctxt = ctxt; role = role; path = new }) ≡
-        moved_denoted
-            (denoted_of reading Es all (record { place = place; sym = x; ctxt = ctxt; role = role; path = old }))
+    (record { place = its; sym = x; ctxt = ctxt; role = role; path = new }) ≡
+    moved_denoted
+    (denoted_of reading Es all (record { place = place; sym = x; ctxt = ctxt; role = role; path = old }))
 denoted_of-moved {old} {new} moved reading {all} seats place its x ctxt role at seated apart =
     by (declaration_of reading Es old_one) refl
   where
@@ -263,12 +263,12 @@ denoted_of-moved {old} {new} moved reading {all} seats place its x ctxt role at 
 
     by : (o : Option Declared) →
         declaration_of reading Es
-            (record { place = place; sym = x; ctxt = ctxt; role = role; path = old }) ≡
-            o →
+        (record { place = place; sym = x; ctxt = ctxt; role = role; path = old }) ≡
+        o →
         denoted_of reading Es (map moved_declared all)
-            (record { place = its; sym = x; ctxt = ctxt; role = role; path = new }) ≡
-            moved_denoted
-                (denoted_of reading Es all (record { place = place; sym = x; ctxt = ctxt; role = role; path = old }))
+        (record { place = its; sym = x; ctxt = ctxt; role = role; path = new }) ≡
+        moved_denoted
+        (denoted_of reading Es all (record { place = place; sym = x; ctxt = ctxt; role = role; path = old }))
     by None e =
         ap (own_or_found (map moved_declared all) (denoted_in reading (map moved_declared all) (scopes_around Es new) (name_of reading x ctxt))) (declaration-moved moved reading place its x ctxt role at ∙ ap (option_map moved_declared) e)
         ∙ ap (λ scopes. denoted_in reading (map moved_declared all) scopes (name_of reading x ctxt)) (scopes-moved moved)
@@ -284,7 +284,7 @@ pub denoted-alike : {is_async : Bool} (reading : Reading) {all : List Declared} 
     ((d : Declared) → option_and_then (declaration_of reading Es) o ≡ Some d → IsSeated d) →
     (option_map (denoted_of reading Es all) o ≡ Some (Global (codes "arguments")) → ⊥) →
     option_map (denoted_of reading Es (map moved_declared all)) its ≡
-        option_map moved_denoted (option_map (denoted_of reading Es all) o)
+    option_map moved_denoted (option_map (denoted_of reading Es all) o)
 denoted-alike reading seats neither seated apart = refl
 denoted-alike reading seats (both place its x ctxt role at moved) seated apart =
     ap Some

@@ -30,7 +30,7 @@ path_to-moved moved h.Close = moved
 pub paths-alike : {is_async : Bool} {stmts after its : List Item} {k : ℕ}
     (s : Shows is_async stmts after its k) →
     IsMoved is_async s.here.depth (path_at (module_with stmts after) (suc k))
-        (path_at (call_with is_async stmts its) (suc k + 6))
+    (path_at (call_with is_async stmts its) (suc k + 6))
 paths-alike {is_async} s =
     subst (λ x. x)
     (λ i. IsMoved is_async s.here.depth (path_to_option (sym s.old_spot i).path (sym s.old_item i)) (path_to_option (sym s.new_spot i).path (sym s.new_item i)))
@@ -62,7 +62,7 @@ drop-next (y ∷ xs) (suc b) x rest e = drop-next xs b x rest e
 -- what holds where each node begins holds of the nodes around each place
 roots-at : {P : Head → ℕ → Type 0} (stmts : List Item) →
     ((j depth field : ℕ) (head : Head) (rest : List Item) → drop j stmts ≡ h.Open field head ∷ rest → AreStatements depth (h.Open field head ∷ rest) → P head (suc j))
-        →
+    →
     {depth : ℕ} {items : List Item} → AreStatements depth items → (j : ℕ) → drop j stmts ≡ items →
     {s : Spot} → s.place ≡ suc j → Roots P depth s.path → (k : ℕ) → k < length items →
     (its : ℕ) × Roots P its (fold past s (take k items)).path × AreStatements its (drop k items)
@@ -116,7 +116,7 @@ named-within stmts j depth field rest e (begun plain name inner) =
 
 items-same : (is_async : Bool) (stmts after its : List Item) (j n : ℕ) → j + n < length stmts →
     slice_get (call_with is_async stmts its) (suc j + 6 + n) ≡
-        slice_get (module_with stmts after) (suc j + n)
+    slice_get (module_with stmts after) (suc j + n)
 items-same is_async stmts after its j n l =
     let new : suc j + 6 + n ≡ suc (j + n) + 6 = omega arith in
     let old : suc (j + n) ≡ suc j + n = omega arith in
@@ -137,22 +137,22 @@ pub other-head : {N : Type 0} (tree : List Item) (place field : ℕ) (node : Aro
     (outer : List Around) (head : Head) →
     is_shorthand_in_pattern head ≡ false →
     begin_marks {N = N} tree place field (node ∷ outer) head ≡
-        Begins
-            (if is_shorthand_in_pattern node.head && (node.field == 0) then (if has_default tree node.begins then 0 else 1) else field)
-            (cleared_head head) ∷ []
+    Begins
+    (if is_shorthand_in_pattern node.head && (node.field == 0) then (if has_default tree node.begins then 0 else 1) else field)
+    (cleared_head head) ∷ []
 other-head tree place field node outer h.AssignPatProp is = absurd (false≢true (sym is))
 other-head tree place field node outer _ is = refl
 
 key-moved : (a b : Bool) (field : ℕ) (node : Around) →
     (is_shorthand_in_pattern node.head ≡ true → a ≡ b) →
     (if is_shorthand_in_pattern node.head && (node.field == 0) then (if a then 0 else 1) else field)
-        ≡
-        (if is_shorthand_in_pattern node.head && (node.field == 0) then (if b then 0 else 1) else field)
+    ≡
+    (if is_shorthand_in_pattern node.head && (node.field == 0) then (if b then 0 else 1) else field)
 key-moved a b field node same = by (is_shorthand_in_pattern node.head) same
   where
     by : (t : Bool) → (t ≡ true → a ≡ b) →
         (if t && (node.field == 0) then (if a then 0 else 1) else field) ≡
-            (if t && (node.field == 0) then (if b then 0 else 1) else field)
+        (if t && (node.field == 0) then (if b then 0 else 1) else field)
     by true same = ap (λ u. if (node.field == 0) then (if u then 0 else 1) else field) (same refl)
     by false same = refl
 
@@ -162,7 +162,7 @@ other_marks-moved : {N : Type 0} (is_async : Bool) (stmts after its : List Item)
     Roots (SameDefault is_async stmts after its) other old → (head : Head) →
     is_shorthand_in_pattern head ≡ false →
     begin_marks {N = N} (call_with is_async stmts its) (place + 6) field new head ≡
-        begin_marks {N = N} (module_with stmts after) place field old head
+    begin_marks {N = N} (module_with stmts after) place field old head
 other_marks-moved {N} is_async stmts after its place field (outside at) roots head is =
     other-head {N = N} (call_with is_async stmts its) (place + 6) field (around h.BlockStmt 6 at) (outer_path (called_path is_async at)) head is ∙ sym (other-head {N = N} (module_with stmts after) place field (around h.Module 0 at) [] head is)
 other_marks-moved is_async stmts after its place field (within node known moved) (rooted _) head is = elim moved [ ]
@@ -176,9 +176,9 @@ pub begin_marks-moved : {N : Type 0} (is_async : Bool) (stmts after its : List I
     IsMoved is_async depth old new → {other : ℕ} →
     Roots (SameDefault is_async stmts after its) other old → (head : Head) →
     (is_shorthand_in_pattern head ≡ true → (slice_get (call_with is_async stmts its) (place + 6 + 2) ≡ slice_get (module_with stmts after) (place + 2)) × (has_default (call_with is_async stmts its) (place + 6) ≡ has_default (module_with stmts after) place))
-        →
+    →
     begin_marks {N = N} (call_with is_async stmts its) (place + 6) field new head ≡
-        begin_marks {N = N} (module_with stmts after) place field old head
+    begin_marks {N = N} (module_with stmts after) place field old head
 begin_marks-moved is_async stmts after its place field moved roots h.AssignPatProp own =
     ap₂
     (λ (x : Option Item) (t : Bool). Begins field h.KeyValuePatProp ∷ (word_key (symbol_of x) ++ (if t then Begins 1 h.AssignPat ∷ [] else [])))
@@ -191,7 +191,7 @@ pub end_marks-moved : {N : Type 0} (is_async : Bool) (stmts after its : List Ite
     IsMoved is_async depth old new → {other : ℕ} →
     Roots (SameDefault is_async stmts after its) other old →
     end_marks {N = N} (call_with is_async stmts its) new ≡
-        end_marks {N = N} (module_with stmts after) old
+    end_marks {N = N} (module_with stmts after) old
 end_marks-moved is_async stmts after its (outside field) roots = refl
 end_marks-moved is_async stmts after its (within node known moved) (rooted _) = elim moved [ ]
 end_marks-moved {N} is_async stmts after its (within node known moved) (deeper _ here outer) =
@@ -199,10 +199,10 @@ end_marks-moved {N} is_async stmts after its (within node known moved) (deeper _
   where
     by : (t : Bool) →
         (t ≡ true → has_default (call_with is_async stmts its) (node.begins + 6) ≡ has_default (module_with stmts after) node.begins)
-            →
+        →
         ◌≡◌ {A = List (MarkOf N)}
-            (if t && has_default (call_with is_async stmts its) (node.begins + 6) then Ends ∷ Ends ∷ [] else Ends ∷ [])
-            (if t && has_default (module_with stmts after) node.begins then Ends ∷ Ends ∷ [] else Ends ∷ [])
+        (if t && has_default (call_with is_async stmts its) (node.begins + 6) then Ends ∷ Ends ∷ [] else Ends ∷ [])
+        (if t && has_default (module_with stmts after) node.begins then Ends ∷ Ends ∷ [] else Ends ∷ [])
     by true same = ap (λ (u : Bool). if u then Ends ∷ Ends ∷ [] else Ends ∷ []) (same refl)
     by false same = refl
 
@@ -239,7 +239,7 @@ pub own-shorthand : (is_async : Bool) (stmts after its : List Item) (j depth fie
     drop j stmts ≡ h.Open field head ∷ rest → AreStatements depth (h.Open field head ∷ rest) →
     is_shorthand_in_pattern head ≡ true →
     (slice_get (call_with is_async stmts its) (suc j + 6 + 2) ≡ slice_get (module_with stmts after) (suc j + 2))
-        ×
-        (has_default (call_with is_async stmts its) (suc j + 6) ≡ has_default (module_with stmts after) (suc j))
+    ×
+    (has_default (call_with is_async stmts its) (suc j + 6) ≡ has_default (module_with stmts after) (suc j))
 own-shorthand is_async stmts after its j depth field h.AssignPatProp rest e statements is = let l : j + 4 < length stmts = named-within stmts j depth field rest e statements in (items-same is_async stmts after its j 2 (omega arith), ap (λ x. not (ends_at x)) (items-same is_async stmts after its j 4 l))
 own-shorthand is_async stmts after its j depth field _ rest e statements is = absurd (false≢true is)

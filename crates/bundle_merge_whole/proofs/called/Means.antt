@@ -72,7 +72,7 @@ denoted_in-fair ByContext all {scopes} fair name =
   where
     unresolved : (t : Bool) →
         IsFairly
-            (cond t (Global name.sym) (bound_in (without_context name) (find (λ scope. is_implied_in all scope name) scopes)))
+        (cond t (Global name.sym) (bound_in (without_context name) (find (λ scope. is_implied_in all scope name) scopes)))
     unresolved true = tt
     unresolved false =
         bound_in-fair (without_context name) (find (λ scope. is_implied_in all scope name) scopes)
@@ -95,7 +95,7 @@ denoted-fairly reading all (both {old} place its x ctxt role at moved) seated d 
   where
     by : (o : Option Declared) → ((d : Declared) → o ≡ Some d → IsSeated d) →
         IsFairly
-            (own_or_found all (denoted_in reading all (scopes_around Es old) (name_of reading x ctxt)) o)
+        (own_or_found all (denoted_in reading all (scopes_around Es old) (name_of reading x ctxt)) o)
     by None seats = denoted_in-fair reading all (scopes-fair moved) (name_of reading x ctxt)
     by (Some d) seats = home-fair all d (seats d refl)
 
@@ -137,7 +137,7 @@ IsPlain view e = denoted view e ≡ Some (Global (codes "arguments")) → ⊥
 pub occurrence-seated : {reading : Reading} {is_async : Bool} {stmts after its : List Item} →
     AreTwins reading is_async stmts after its → (k : ℕ) → k < length stmts → (d : Declared) →
     option_and_then (declaration_of reading Es) (occurrence_at (module_with stmts after) (suc k)) ≡
-        Some d →
+    Some d →
     IsSeated d
 occurrence-seated {reading} {is_async} {stmts} {after} {its} twins k l d e =
     declared-there reading twins.statements (start-moved is_async) after (seats-twins twins) k d
@@ -155,7 +155,7 @@ element-moved : {reading : Reading} {is_async : Bool} {stmts after its : List It
     AreTwins reading is_async stmts after its → (e : Element) → IsPlaced stmts e →
     IsPlain (old_view reading stmts after) e →
     denoted (new_view reading is_async stmts its) (moved_element e) ≡
-        option_map moved_denoted (denoted (old_view reading stmts after) e)
+    option_map moved_denoted (denoted (old_view reading stmts after) e)
 element-moved {stmts} twins e (placed_at k x there) plain =
     denoted-twins twins k (slice_get_within stmts k x there) plain
 
@@ -183,7 +183,7 @@ filter-map {A} {B} p q f P same (more {x} {xs} here later) =
   where
     by : (t : Bool) →
         cond t (f x ∷ map f (filter q xs)) (map f (filter q xs)) ≡
-            map f (cond t (x ∷ filter q xs) (filter q xs))
+        map f (cond t (x ∷ filter q xs) (filter q xs))
     by true = refl
     by false = refl
 
@@ -297,7 +297,7 @@ pub inner-moved : {reading : Reading} {is_async : Bool} {stmts after its : List 
     AreTwins reading is_async stmts after its → (start : ℕ) → 0 < start → {es : List Element} →
     Every (IsPlaced stmts) es → Every (IsPlain (old_view reading stmts after)) es →
     inner_bindings (new_view reading is_async stmts its) (start + 6) (map moved_element es) ≡
-        map moved_denoted (inner_bindings (old_view reading stmts after) start es)
+    map moved_denoted (inner_bindings (old_view reading stmts after) start es)
 inner-moved {reading} {is_async} {stmts} {after} {its} twins start positive {es} placed plain =
     let fair = each-fairly twins placed in
     ap (λ l. each_denoted_once (filter (is_inside (start + 6)) l)) (filter_map-moved (denoted (old_view reading stmts after)) (denoted (new_view reading is_async stmts its)) (every-both (λ e p q. element-moved twins e p q) placed plain))
@@ -324,7 +324,7 @@ inside-binding start (Bound scope name ∷ ds) =
   where
     by : (t : Bool) → Every IsNoGlobal (filter (is_inside start) ds) →
         Every IsNoGlobal
-            (cond t (Bound scope name ∷ filter (is_inside start) ds) (filter (is_inside start) ds))
+        (cond t (Bound scope name ∷ filter (is_inside start) ds) (filter (is_inside start) ds))
     by true rest = more tt rest
     by false rest = rest
 
@@ -355,15 +355,15 @@ name_mark-plain field (node ∷ outer) x meant rest each = by (is_object node.he
   where
     keyed : (t : Bool) →
         Every IsPlainMark
-            (((if t then computed_key x else word_key x) ++ Name 1 meant ∷ Ends ∷ []) ++ rest) →
+        (((if t then computed_key x else word_key x) ++ Name 1 meant ∷ Ends ∷ []) ++ rest) →
         IsPlainMeant meant
     keyed true (more _ (more _ (more _ (more _ (more here later))))) = here
     keyed false (more _ (more _ (more here later))) = here
 
     by : (t : Bool) →
         Every IsPlainMark
-            ((if t then Begins field h.KeyValueProp ∷ (object_key x ++ Name 1 meant ∷ Ends ∷ []) else Name field meant ∷ []) ++ rest)
-            →
+        ((if t then Begins field h.KeyValueProp ∷ (object_key x ++ Name 1 meant ∷ Ends ∷ []) else Name field meant ∷ []) ++ rest)
+        →
         IsPlainMeant meant
     by true (more _ later) = keyed (bytes_eq x (codes "__proto__")) later
     by false (more here later) = here
@@ -492,7 +492,7 @@ name-moved : (reading : Reading) (is_async : Bool) (stmts after its : List Item)
     Every IsFairly inner → {d : Denoted} {meant : Meant} → IsFairly d →
     NameMeans (bundle_sense (module_with stmts after) reading labels) inner d meant →
     NameMeans (bundle_sense (call_with is_async stmts its) reading (moved_labels labels))
-        (map moved_denoted inner) (moved_denoted d) meant
+    (map moved_denoted inner) (moved_denoted d) meant
 name-moved reading is_async stmts after its labels each {d} fair (m.inside e) =
     m.inside
     (position-map (same_denoted (moved_denoted d)) (same_denoted d) moved_denoted IsFairly (λ other its. same_denoted-moved d other fair its) each ∙ e)
@@ -508,9 +508,9 @@ begin-same : {reading : Reading} {is_async : Bool} {stmts after its : List Item}
     AreTwins reading is_async stmts after its → (place field : ℕ) (head : Head) →
     IsPlaced stmts (taken place (h.Open field head)) →
     begin_marks {N = Meant} (call_with is_async stmts its) (place + 6) field
-        (path_at (call_with is_async stmts its) (place + 6)) head ≡
-        begin_marks {N = Meant} (module_with stmts after) place field
-            (path_at (module_with stmts after) place) head
+    (path_at (call_with is_async stmts its) (place + 6)) head ≡
+    begin_marks {N = Meant} (module_with stmts after) place field
+    (path_at (module_with stmts after) place) head
 begin-same {reading} {is_async} {stmts} {after} {its} twins _ field head (placed_at k _ there) =
     let st = stands is_async twins.statements after its k (slice_get_within stmts k (h.Open field head) there) in
     let is : st.shows.here.x ≡ h.Open field head = same_Some _ _ (sym st.shows.here.there ∙ there) in
@@ -521,8 +521,8 @@ end-same : {reading : Reading} {is_async : Bool} {stmts after its : List Item} �
     AreTwins reading is_async stmts after its → (place : ℕ) (x : Item) →
     IsPlaced stmts (taken place x) →
     end_marks {N = Meant} (call_with is_async stmts its)
-        (path_at (call_with is_async stmts its) (place + 6)) ≡
-        end_marks {N = Meant} (module_with stmts after) (path_at (module_with stmts after) place)
+    (path_at (call_with is_async stmts its) (place + 6)) ≡
+    end_marks {N = Meant} (module_with stmts after) (path_at (module_with stmts after) place)
 end-same {reading} {is_async} {stmts} {after} {its} twins _ x (placed_at k _ there) =
     let st = stands is_async twins.statements after its k (slice_get_within stmts k x there) in
     end_marks-moved is_async stmts after its st.path st.roots
@@ -531,7 +531,7 @@ name-same : {reading : Reading} {is_async : Bool} {stmts after its : List Item} 
     AreTwins reading is_async stmts after its → (place : ℕ) (x : Item) →
     IsPlaced stmts (taken place x) → (field : ℕ) (sym : Text) (meant : Meant) →
     name_marks field (path_at (call_with is_async stmts its) (place + 6)) sym meant ≡
-        name_marks field (path_at (module_with stmts after) place) sym meant
+    name_marks field (path_at (module_with stmts after) place) sym meant
 name-same {reading} {is_async} {stmts} {after} {its} twins _ x (placed_at k _ there) field sym meant =
     let st = stands is_async twins.statements after its k (slice_get_within stmts k x there) in
     name_marks-moved st.path field sym meant
@@ -543,7 +543,7 @@ pub means-moved : {reading : Reading} {is_async : Bool} {stmts after its : List 
     Means (bundle_sense (module_with stmts after) reading labels) inner es marks →
     Every (IsPlaced stmts) es → Every (IsPlain (old_view reading stmts after)) es →
     Means (bundle_sense (call_with is_async stmts its) reading (moved_labels labels))
-        (map moved_denoted inner) (map moved_element es) marks
+    (map moved_denoted inner) (map moved_element es) marks
 means-moved twins labels each m.finished placed plain = m.finished
 means-moved twins labels each (m.replaced by e rest) placed plain = absurd e
 means-moved {reading} {is_async} {stmts} {after} {its} twins labels {inner} each (m.begun {place} {field} {head} {rest = others} {marks} e rest) (more here placed) (more _ plain) =
@@ -569,7 +569,7 @@ pub statement-moved : {reading : Reading} {is_async : Bool} {stmts after its : L
     StatementMeans (bundle_sense (module_with stmts after) reading labels) start es marks →
     Every (IsPlaced stmts) es → Every IsPlainMark marks →
     StatementMeans (bundle_sense (call_with is_async stmts its) reading (moved_labels labels))
-        (start + 6) (map moved_element es) marks
+    (start + 6) (map moved_element es) marks
 statement-moved {reading} {is_async} {stmts} {after} {its} twins labels start positive {es} {marks} means placed plain =
     let plainly = plain-elements reading stmts after labels (inner-bound (old_view reading stmts after) start es) means placed plain in
     subst (λ inner. Means (bundle_sense (call_with is_async stmts its) reading (moved_labels labels)) inner (map moved_element es) marks) (sym (inner-moved twins start positive placed plainly)) (means-moved twins labels (inner-fairly twins start placed) means placed plainly)

@@ -70,7 +70,7 @@ put_all-front (x ∷ xs) ys lists = ap (put_first x) (put_all-front xs ys lists)
 node-alone : (field : ℕ) (head : Head) {inside : List Item} → AreWhole zero inside →
     (rest : List Item) →
     side_by_side zero (h.Open field head ∷ (inside ++ h.Close ∷ rest)) ≡
-        (h.Open field head ∷ (inside ++ h.Close ∷ [])) ∷ side_by_side zero rest
+    (h.Open field head ∷ (inside ++ h.Close ∷ [])) ∷ side_by_side zero rest
 node-alone field head {inside} whole rest =
     ap (put_first (h.Open field head))
     (whole-inner whole zero (h.Close ∷ rest) ∙ put_all-front inside (h.Close ∷ []) (side_by_side zero rest))
@@ -98,7 +98,7 @@ key-whole x = by (bytes_eq x (codes "__proto__")) (is_ascii_identifier x)
   where
     by : (t u : Bool) →
         AreWhole zero
-            (if t then h.Open 0 h.ComputedPropName ∷ h.Open 0 (h.Str x None) ∷ h.Close ∷ h.Close ∷ [] else (if u then plain_key x else h.Open 0 (h.Str x None) ∷ h.Close ∷ []))
+        (if t then h.Open 0 h.ComputedPropName ∷ h.Open 0 (h.Str x None) ∷ h.Close ∷ h.Close ∷ [] else (if u then plain_key x else h.Open 0 (h.Str x None) ∷ h.Close ∷ []))
     by true u = w_begun (w_begun (w_ended (w_ended w_over)))
     by false true = w_begun (w_ended w_over)
     by false false = w_begun (w_ended w_over)
@@ -112,16 +112,16 @@ properties-whole pairs =
 -- the list of exports
 pub list-alone : (meta : ExportMetadata) (specifiers : List Specifier) (rest : List Item) →
     side_by_side zero (export_items meta specifiers ++ rest) ≡
-        export_items meta specifiers ∷ side_by_side zero rest
+    export_items meta specifiers ∷ side_by_side zero rest
 list-alone meta specifiers rest =
     ap (λ l. side_by_side zero (h.Open 0 (h.NamedExport meta) ∷ l))
-        (append_assoc (flat_map specifier_items specifiers) (h.Close ∷ []) rest)
+    (append_assoc (flat_map specifier_items specifiers) (h.Close ∷ []) rest)
     ∙ node-alone 0 (h.NamedExport meta) (specifiers-whole specifiers) rest
 
 -- the object that is returned
 object-alone : (pairs : List (Text × Ident)) (rest : List Item) →
     side_by_side zero (returned_object pairs ++ rest) ≡
-        returned_object pairs ∷ side_by_side zero rest
+    returned_object pairs ∷ side_by_side zero rest
 object-alone pairs rest =
     ap (λ l. side_by_side zero (h.Open 0 h.ReturnStmt ∷ h.Open 0 h.ObjectLit ∷ l)) (append_assoc properties (h.Close ∷ h.Close ∷ []) rest ∙ sym (append_assoc properties (h.Close ∷ []) (h.Close ∷ rest)))
     ∙ node-alone 0 h.ReturnStmt (w_begun (whole-close (properties-whole pairs))) rest
@@ -136,8 +136,8 @@ body-nodes : {lists : List (List Item)} → Every IsNoList lists → (others : L
 body-nodes none others = refl
 body-nodes (more {x = node} {xs = lists} here later) others =
     ap
-        (λ t. if t then returned_object (exported_pairs node) else node ++ function_body (lists ++ others))
-        here ∙ ap (λ l. node ++ l) (body-nodes later others)
+    (λ t. if t then returned_object (exported_pairs node) else node ++ function_body (lists ++ others))
+    here ∙ ap (λ l. node ++ l) (body-nodes later others)
     ∙ sym (append_assoc node (flat lists) (function_body others))
 
 pub body-plain : {stmts : List Item} → AreStatements zero stmts →
@@ -148,7 +148,7 @@ body-plain {stmts} statements =
 pub body-exports : {stmts : List Item} → AreStatements zero stmts →
     (meta : ExportMetadata) (specifiers : List Specifier) →
     function_body (side_by_side zero (stmts ++ (export_items meta specifiers ++ h.Close ∷ []))) ≡
-        stmts ++ returned_object (exported_pairs (export_items meta specifiers))
+    stmts ++ returned_object (exported_pairs (export_items meta specifiers))
 body-exports {stmts} statements meta specifiers =
     ap function_body (sides-append statements (export_items meta specifiers ++ h.Close ∷ []) ∙ ap (λ l. side_by_side zero stmts ++ l) (list-alone meta specifiers (h.Close ∷ [])))
     ∙ body-nodes (no-lists statements) (export_items meta specifiers ∷ [])
@@ -158,7 +158,7 @@ body-exports {stmts} statements meta specifiers =
 sides-followed : {stmts : List Item} → AreStatements zero stmts →
     (pairs : List (Text × Ident)) (rest : List Item) →
     side_by_side zero (stmts ++ (returned_object pairs ++ rest)) ≡
-        side_by_side zero stmts ++ returned_object pairs ∷ side_by_side zero rest
+    side_by_side zero stmts ++ returned_object pairs ∷ side_by_side zero rest
 sides-followed {stmts} statements pairs rest =
     sides-append statements (returned_object pairs ++ rest)
     ∙ ap (λ l. side_by_side zero stmts ++ l) (object-alone pairs rest)
@@ -166,7 +166,7 @@ sides-followed {stmts} statements pairs rest =
 -- the nodes of the body
 pub body-sides : {stmts : List Item} → AreStatements zero stmts → (pairs : List (Text × Ident)) →
     side_by_side zero (stmts ++ returned_object pairs) ≡
-        side_by_side zero stmts ++ returned_object pairs ∷ []
+    side_by_side zero stmts ++ returned_object pairs ∷ []
 body-sides {stmts} statements pairs =
     ap (λ l. side_by_side zero (stmts ++ l)) (sym (append-nil (returned_object pairs)))
     ∙ sides-followed statements pairs []

@@ -175,19 +175,19 @@ pub declaration-moved : {is_async : Bool} {depth : ℕ} {old new : List Around} 
     IsMoved is_async depth old new →
     (reading : Reading) (place its : ℕ) (x : List ℕ) (ctxt : ℕ) (role : Role) → its ≡ place + 6 →
     declaration_of reading Es
-        (record { place = its; sym = x; ctxt = ctxt; role = role; path = new }) ≡
-        option_map moved_declared
-            (declaration_of reading Es (record { place = place; sym = x; ctxt = ctxt; role = role; path = old }))
+    (record { place = its; sym = x; ctxt = ctxt; role = role; path = new }) ≡
+    option_map moved_declared
+    (declaration_of reading Es (record { place = place; sym = x; ctxt = ctxt; role = role; path = old }))
 declaration-moved {old} {new} moved reading place its x ctxt role at =
     (λ i. cond (is_binding role) (declared_by (at i) (name_of reading x ctxt) (scopes-moved moved i) (way-moved moved i)) None)
     ∙ by (is_binding role) (way_of old)
   where
     by : (t : Bool) (way : Option Way) →
         cond t
-            (declared_by (place + 6) (name_of reading x ctxt) (moved_scopes (scopes_around Es old)) way)
-            None ≡
-            option_map moved_declared
-                (cond t (declared_by place (name_of reading x ctxt) (scopes_around Es old) way) None)
+        (declared_by (place + 6) (name_of reading x ctxt) (moved_scopes (scopes_around Es old)) way)
+        None ≡
+        option_map moved_declared
+        (cond t (declared_by place (name_of reading x ctxt) (scopes_around Es old) way) None)
     by true None = refl
     by true (Some way) = refl
     by false way = refl

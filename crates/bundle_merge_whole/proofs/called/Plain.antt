@@ -56,7 +56,7 @@ key-plain x = by (bytes_eq x (codes "__proto__")) (j.is_ascii_identifier x)
   where
     by : (t u : Bool) →
         Every IsPlainMark
-            (if t then computed_key x else (if u then word_key x else j.string_marks 0 x))
+        (if t then computed_key x else (if u then word_key x else j.string_marks 0 x))
     by true u = more tt (more tt (more tt (more tt none)))
     by false true = more tt (more tt none)
     by false false = string-plain 0 x
@@ -189,7 +189,7 @@ name-plain field (node ∷ outer) x meant plain =
   where
     by : (t u : Bool) →
         Every IsPlainMark
-            (if t then Begins field h.KeyValueProp ∷ ((if u then computed_key x else word_key x) ++ Name 1 meant ∷ Ends ∷ []) else Name field meant ∷ [])
+        (if t then Begins field h.KeyValueProp ∷ ((if u then computed_key x else word_key x) ++ Name 1 meant ∷ Ends ∷ []) else Name field meant ∷ [])
     by true true = more tt (more tt (more tt (more tt (more tt (more plain (more tt none))))))
     by true false = more tt (more tt (more tt (more plain (more tt none))))
     by false u = more plain none
@@ -207,7 +207,7 @@ meant-plain (m.unbound {x}) apart = λ e. apart (ap Global e)
 -- where no free `arguments` is denoted none is meant
 pub marks-plain : {sense : Sense} →
     ((place : ℕ) → denoted_at sense.view.reading sense.view.kind sense.view.tree place ≡ Some (Global (codes "arguments")) → ⊥)
-        →
+    →
     {inner : List Denoted} {es : List Element} {marks : List Mark} → Means sense inner es marks →
     Every IsPlainMark marks
 marks-plain apart m.finished = none
@@ -283,7 +283,7 @@ occurrence-place tree place o e = by (slice_get tree place) refl e
 global-name : (kind : ModuleKind) (all : List Declared) (o : Occurrence) (x : Text) →
     denoted_of BySymbol kind all o ≡ Global x →
     (o.sym ≡ x) ×
-        (find (λ scope. binds all scope (name_of BySymbol o.sym o.ctxt)) (scopes_around kind o.path) ≡ None)
+    (find (λ scope. binds all scope (name_of BySymbol o.sym o.ctxt)) (scopes_around kind o.path) ≡ None)
 global-name kind all o x e = by (declaration_of BySymbol kind o) e
   where
     found : (s : Option Scope) → bound_in (name_of BySymbol o.sym o.ctxt) s ≡ Global x →
@@ -293,11 +293,11 @@ global-name kind all o x e = by (declaration_of BySymbol kind o) e
 
     by : (d : Option Declared) →
         own_or_found all
-            (denoted_in BySymbol all (scopes_around kind o.path) (name_of BySymbol o.sym o.ctxt)) d
-            ≡
-            Global x →
+        (denoted_in BySymbol all (scopes_around kind o.path) (name_of BySymbol o.sym o.ctxt)) d
+        ≡
+        Global x →
         (o.sym ≡ x) ×
-            (find (λ scope. binds all scope (name_of BySymbol o.sym o.ctxt)) (scopes_around kind o.path) ≡ None)
+        (find (λ scope. binds all scope (name_of BySymbol o.sym o.ctxt)) (scopes_around kind o.path) ≡ None)
     by None is =
         found
         (find (λ scope. binds all scope (name_of BySymbol o.sym o.ctxt)) (scopes_around kind o.path))
@@ -308,13 +308,13 @@ global-name kind all o x e = by (declaration_of BySymbol kind o) e
 denoted-occurs : (kind : ModuleKind) (tree : List Item) (place : ℕ) (d : Denoted) →
     denoted_at BySymbol kind tree place ≡ Some d →
     (o : Occurrence) × (occurrence_at tree place ≡ Some o) ×
-        (denoted_of BySymbol kind (declared BySymbol kind tree) o ≡ d)
+    (denoted_of BySymbol kind (declared BySymbol kind tree) o ≡ d)
 denoted-occurs kind tree place d e = by (occurrence_at tree place) refl e
   where
     by : (o : Option Occurrence) → occurrence_at tree place ≡ o →
         option_map (denoted_of BySymbol kind (declared BySymbol kind tree)) o ≡ Some d →
         (o : Occurrence) × (occurrence_at tree place ≡ Some o) ×
-            (denoted_of BySymbol kind (declared BySymbol kind tree) o ≡ d)
+        (denoted_of BySymbol kind (declared BySymbol kind tree) o ≡ d)
     by None there is = absurd (none-some d is)
     by (Some o) there is = (o, there, same_Some _ d is)
 

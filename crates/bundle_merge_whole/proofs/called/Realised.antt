@@ -61,7 +61,7 @@ own-plain {p} scene n reached own = by own.kind own.has_kind (λ apart. marks-pl
   where
     by : {marks : List Mark} (kind : ModuleKind) → HasKind p n kind →
         (((place : ℕ) → denoted_at BySymbol kind (tree_of p n) place ≡ Some (Global (codes "arguments")) → ⊥) → Every IsPlainMark marks)
-            →
+        →
         Every IsPlainMark marks
     by kind (is_es es) all =
         all (free-nowhere (tree_of p n) (codes "arguments") (no-arguments scene n reached es))

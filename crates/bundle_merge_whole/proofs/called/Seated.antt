@@ -66,9 +66,9 @@ held-own : (way : Way) (kind : ScopeKind) (node : Around) (outer : List Around) 
     is_some (nearest (from_taker way (scopes_around Es (node ∷ outer)))) ≡ true
 held-own way kind node outer e takes_it =
     ap (λ k. is_some (nearest (from_taker way (scope_at node.begins k ++ scopes_around Es outer))))
-        e ∙ ap
-        (λ t. is_some (nearest (cond t (Inner kind node.begins ∷ scopes_around Es outer) (from_taker way (scopes_around Es outer)))))
-        takes_it
+    e ∙ ap
+    (λ t. is_some (nearest (cond t (Inner kind node.begins ∷ scopes_around Es outer) (from_taker way (scopes_around Es outer)))))
+    takes_it
 
 -- Nodes that stand where they may.
 
@@ -112,12 +112,12 @@ held-loop (node ∷ outer) e =
 
 held-lexical : (way : Way) → takes way Top ≡ true → (path : List Around) →
     is_some (nearest (from_taker (cond (heads_loop path) ByLoop way) (scopes_around Es path))) ≡
-        true
+    true
 held-lexical way top path = by (heads_loop path) refl
   where
     by : (t : Bool) → heads_loop path ≡ t →
         is_some (nearest (from_taker (cond (heads_loop path) ByLoop way) (scopes_around Es path))) ≡
-            true
+        true
     by true e =
         ap (λ t. is_some (nearest (from_taker (cond t ByLoop way) (scopes_around Es path)))) e
         ∙ held-loop path e
@@ -193,36 +193,36 @@ held-in h.FnExpr begins field {outer} seated may no_key way e =
   where
     by : (t : Bool) → is_default outer ≡ t →
         is_some
-            (nearest (from_taker (cond (is_default outer) ByFunction ByFunctionName) (scopes_around Es (around h.FnExpr begins field ∷ outer))))
-            ≡
-            true
+        (nearest (from_taker (cond (is_default outer) ByFunction ByFunctionName) (scopes_around Es (around h.FnExpr begins field ∷ outer))))
+        ≡
+        true
     by true is =
         ap
-            (λ t. is_some (nearest (from_taker (cond t ByFunction ByFunctionName) (scopes_around Es (around h.FnExpr begins field ∷ outer)))))
-            is ∙ held-top ByFunction refl (around h.FnExpr begins field ∷ outer)
+        (λ t. is_some (nearest (from_taker (cond t ByFunction ByFunctionName) (scopes_around Es (around h.FnExpr begins field ∷ outer)))))
+        is ∙ held-top ByFunction refl (around h.FnExpr begins field ∷ outer)
     by false is =
         ap
-            (λ t. is_some (nearest (from_taker (cond t ByFunction ByFunctionName) (scopes_around Es (around h.FnExpr begins field ∷ outer)))))
-            is ∙ held-own ByFunctionName FunctionName (around h.FnExpr begins field) outer
-            (ap (λ t. cond t None (Some FunctionName)) is) refl
+        (λ t. is_some (nearest (from_taker (cond t ByFunction ByFunctionName) (scopes_around Es (around h.FnExpr begins field ∷ outer)))))
+        is ∙ held-own ByFunctionName FunctionName (around h.FnExpr begins field) outer
+        (ap (λ t. cond t None (Some FunctionName)) is) refl
 held-in h.ClassExpr begins field {outer} seated may no_key way e =
     held-way (around h.ClassExpr begins field ∷ outer) (cond (is_default outer) ByClass ByClassName)
     way e (by (is_default outer) refl)
   where
     by : (t : Bool) → is_default outer ≡ t →
         is_some
-            (nearest (from_taker (cond (is_default outer) ByClass ByClassName) (scopes_around Es (around h.ClassExpr begins field ∷ outer))))
-            ≡
-            true
+        (nearest (from_taker (cond (is_default outer) ByClass ByClassName) (scopes_around Es (around h.ClassExpr begins field ∷ outer))))
+        ≡
+        true
     by true is =
         ap
-            (λ t. is_some (nearest (from_taker (cond t ByClass ByClassName) (scopes_around Es (around h.ClassExpr begins field ∷ outer)))))
-            is ∙ held-top ByClass refl (around h.ClassExpr begins field ∷ outer)
+        (λ t. is_some (nearest (from_taker (cond t ByClass ByClassName) (scopes_around Es (around h.ClassExpr begins field ∷ outer)))))
+        is ∙ held-top ByClass refl (around h.ClassExpr begins field ∷ outer)
     by false is =
         ap
-            (λ t. is_some (nearest (from_taker (cond t ByClass ByClassName) (scopes_around Es (around h.ClassExpr begins field ∷ outer)))))
-            is ∙ held-own ByClassName ClassName (around h.ClassExpr begins field) outer
-            (ap (λ t. cond t None (Some ClassName)) is) refl
+        (λ t. is_some (nearest (from_taker (cond t ByClass ByClassName) (scopes_around Es (around h.ClassExpr begins field ∷ outer)))))
+        is ∙ held-own ByClassName ClassName (around h.ClassExpr begins field) outer
+        (ap (λ t. cond t None (Some ClassName)) is) refl
 held-in h.Param begins field {outer} seated may no_key way e =
     held-way (around h.Param begins field ∷ outer) ByParameter way e
     (held-at ByParameter (around h.Param begins field) outer (held-parameters seated may))
@@ -263,7 +263,7 @@ held-path (in_node {parent} {heads} {outer} node seated may) no_key way e =
     by : (t : Bool) → is_pattern node.head ≡ t →
         cond t (way_of outer) (way_in node.head outer) ≡ Some way →
         (is_pattern node.head ≡ true → way_of outer ≡ Some way → is_some (nearest (from_taker way (scopes_around Es outer))) ≡ true)
-            →
+        →
         is_some (nearest (from_taker way (scopes_around Es (node ∷ outer)))) ≡ true
     by true is its rest = held-at way node outer (rest is its)
     by false is its rest = held-in node.head node.begins node.field seated may no_key way its
@@ -292,9 +292,9 @@ taken-name reading s seated field x ctxt r.Binding may rest d e =
   where
     by : (o : Option Way) →
         ((way : Way) → o ≡ Some way → is_some (nearest (from_taker way (scopes_around Es (in_field field s.path)))) ≡ true)
-            →
+        →
         declared_by s.place (name_of reading x ctxt) (scopes_around Es (in_field field s.path)) o ≡
-            Some d →
+        Some d →
         IsTaken d
     by None held is = absurd (none-some d is)
     by (Some way) held is = record { taken = subst (λ (z : Declared). is_some (nearest (from_taker z.by z.scopes)) ≡ true) (same_Some _ d is) (held way refl) }
@@ -307,7 +307,7 @@ consed (Some x) xs here each = more (here x refl) each
 each-taken : (reading : Reading) {parent : Head} {xs : List Item} → AreIn parent xs →
     {heads : List Head} (s : Spot) → AreSeated (parent ∷ heads) s.path → (rest : List Item) →
     ((t : Spot) → AreSeated (parent ∷ heads) t.path → Every IsTaken (declared_from reading Es t rest))
-        →
+    →
     Every IsTaken (declared_from reading Es s (xs ++ rest))
 each-taken reading no_more s seated rest then = then s seated
 each-taken reading (a_name {field} {ctxt} {x} {role} {rest = more_items} may xs) s seated rest then =

@@ -184,7 +184,7 @@ placed-moved start (xs ∷ lists) = let n : start + 6 + length xs ≡ start + le
 
 pub placed-append : (start : ℕ) (lists others : List (List Item)) →
     placed start (lists ++ others) ≡
-        placed start lists ++ placed (start + length (flat lists)) others
+    placed start lists ++ placed (start + length (flat lists)) others
 placed-append start [] others = let n : start ≡ start + length {A = Item} [] = omega arith in ap (λ k. placed k others) n
 placed-append start (xs ∷ lists) others =
     let n : start + length xs + length (flat lists) ≡ start + length (xs ++ flat lists) = omega (arith, length-append xs (flat lists)) in

@@ -87,7 +87,7 @@ module-behind stmts after = record { left = drop-past stmts after; spot = ap (fo
 
 pub call-behind : (is_async : Bool) (stmts its : List Item) →
     IsAt (call_with is_async stmts its) (suc (length stmts) + 6)
-        (fold past (call_start is_async) stmts) its
+    (fold past (call_start is_async) stmts) its
 call-behind is_async stmts its =
     let n : suc (length stmts) + 6 ≡ suc (suc (suc (suc (suc (suc (suc (length stmts))))))) = omega arith in
     record {
@@ -117,8 +117,8 @@ name-plain : (field : ℕ) (path : List Around) (node : Around) (outer : List Ar
     name_marks field path x meant ≡ Name field meant ∷ []
 name-plain field path node outer e plain x meant =
     ap (λ p. name_marks field p x meant) e ∙ ap
-        (λ t. if t then Begins field h.KeyValueProp ∷ (Rattle.bundle_rules.specs.Marks.object_key x ++ Name 1 meant ∷ Ends ∷ []) else Name field meant ∷ [])
-        plain
+    (λ t. if t then Begins field h.KeyValueProp ∷ (Rattle.bundle_rules.specs.Marks.object_key x ++ Name 1 meant ∷ Ends ∷ []) else Name field meant ∷ [])
+    plain
 
 -- Meanings, from the front.
 
@@ -128,7 +128,7 @@ pub mean-open : (tree : List Item) (reading : Reading) (labels : Labelling) {inn
     is_shorthand_in_pattern head ≡ false → {es : List Element} {marks : List Mark} →
     Means (bundle_sense tree reading labels) inner es marks →
     Means (bundle_sense tree reading labels) inner (taken j (h.Open field head) ∷ es)
-        (Begins field (cleared_head head) ∷ marks)
+    (Begins field (cleared_head head) ∷ marks)
 mean-open tree reading labels {inner} j field head node outer e plain own {es} {marks} rest =
     subst
     (λ front. Means (bundle_sense tree reading labels) inner (taken j (h.Open field head) ∷ es) (front ++ marks))
@@ -154,7 +154,7 @@ pub mean-name : (tree : List Item) (reading : Reading) (labels : Labelling) {inn
     {es : List Element} {marks : List Mark} →
     Means (bundle_sense tree reading labels) inner es marks →
     Means (bundle_sense tree reading labels) inner (taken j (h.Ident field x ctxt role) ∷ es)
-        (Name field meant ∷ marks)
+    (Name field meant ∷ marks)
 mean-name tree reading labels {inner} j field x ctxt role node outer e plain d meant is means {es} {marks} rest = subst (λ front. Means (bundle_sense tree reading labels) inner (taken j (h.Ident field x ctxt role) ∷ es) (front ++ marks)) (name-plain field (path_at tree j) node outer e plain x meant) (m.named d meant is means rest)
 
 -- Meanings, taken apart.
@@ -194,7 +194,7 @@ pub un-name : (tree : List Item) (reading : Reading) (labels : Labelling) {inner
     path_at tree j ≡ node ∷ outer → is_object node.head ≡ false →
     {es : List Element} {marks : List Mark} →
     Means (bundle_sense tree reading labels) inner (taken j (h.Ident field x ctxt r.Reference) ∷ es)
-        marks →
+    marks →
     Named tree reading labels inner j field es marks
 un-name tree reading labels j field x ctxt node outer e plain (m.named {marks} d meant is means rest) = record {
   d = d;
@@ -208,7 +208,7 @@ pub un-word : (tree : List Item) (reading : Reading) (labels : Labelling) {inner
     (j field : ℕ) (x : Text) (ctxt : ℕ) →
     occurrence_at tree j ≡ None → {es : List Element} {marks : List Mark} →
     Means (bundle_sense tree reading labels) inner (taken j (h.Ident field x ctxt r.Word) ∷ es)
-        marks →
+    marks →
     Taken tree reading labels inner es (Word field x) marks
 un-word tree reading labels j field x ctxt none_there (m.named {marks} d meant is means rest) =
     absurd

@@ -38,7 +38,7 @@ seven k = omega arith
 
 pub call-spot : (is_async : Bool) (stmts its : List Item) (k : ℕ) → k ≤ length stmts →
     spot_before (call_with is_async stmts its) (suc k + 6) ≡
-        fold past (call_start is_async) (take k stmts)
+    fold past (call_start is_async) (take k stmts)
 call-spot is_async stmts its k l =
     ap (spot_before (call_with is_async stmts its)) (seven k)
     ∙ ap (fold past (call_start is_async)) (take-front stmts its k l)
@@ -77,7 +77,7 @@ shows is_async {stmts} statements after its k l =
 pub occurrences-alike : {is_async : Bool} {stmts after its : List Item} {k : ℕ} →
     Shows is_async stmts after its k →
     AreAlike is_async (occurrence_at (module_with stmts after) (suc k))
-        (occurrence_at (call_with is_async stmts its) (suc k + 6))
+    (occurrence_at (call_with is_async stmts its) (suc k + 6))
 occurrences-alike {is_async} {stmts} {after} {its} {k} s =
     subst (λ x. x)
     (λ i. AreAlike is_async (option_and_then (occurrence_of (sym s.old_spot i)) (sym s.old_item i)) (option_and_then (occurrence_of (sym s.new_spot i)) (sym s.new_item i)))
@@ -87,7 +87,7 @@ occurrences-alike {is_async} {stmts} {after} {its} {k} s =
 pub declared-twins : {reading : Reading} {is_async : Bool} {stmts after its : List Item} →
     AreTwins reading is_async stmts after its →
     declared reading Es (call_with is_async stmts its) ≡
-        map moved_declared (declared reading Es (module_with stmts after))
+    map moved_declared (declared reading Es (module_with stmts after))
 declared-twins {reading} {is_async} {stmts} {after} {its} twins =
     declared-moved reading twins.statements (start-moved is_async) after its twins.none_after
     twins.none_its
@@ -103,9 +103,9 @@ seats-twins {reading} {is_async} {stmts} {after} {its} twins =
 pub denoted-twins : {reading : Reading} {is_async : Bool} {stmts after its : List Item} →
     AreTwins reading is_async stmts after its → (k : ℕ) → k < length stmts →
     (denoted_at reading Es (module_with stmts after) (suc k) ≡ Some (Global (codes "arguments")) → ⊥)
-        →
+    →
     denoted_at reading Es (call_with is_async stmts its) (suc k + 6) ≡
-        option_map moved_denoted (denoted_at reading Es (module_with stmts after) (suc k))
+    option_map moved_denoted (denoted_at reading Es (module_with stmts after) (suc k))
 denoted-twins {reading} {is_async} {stmts} {after} {its} twins k l apart =
     let s = shows is_async twins.statements after its k l in
     ap (λ all. option_map (denoted_of reading Es all) (occurrence_at (call_with is_async stmts its) (suc k + 6))) (declared-twins twins)
@@ -113,8 +113,8 @@ denoted-twins {reading} {is_async} {stmts} {after} {its} twins k l apart =
   where
     seated : (d : Declared) →
         option_and_then (declaration_of reading Es)
-            (occurrence_at (module_with stmts after) (suc k)) ≡
-            Some d →
+        (occurrence_at (module_with stmts after) (suc k)) ≡
+        Some d →
         IsSeated d
     seated d e =
         declared-there reading twins.statements (start-moved is_async) after (seats-twins twins) k d

@@ -85,7 +85,7 @@ lexical-less d seated e =
 
 first-moved : (kind : ScopeKind) (begins : ℕ) {outer : List Scope} → AreFair outer →
     unwrap_or (nearest (moved_scopes outer)) (Inner kind (begins + 6)) ≡
-        moved_scope (unwrap_or (nearest outer) (Inner kind begins))
+    moved_scope (unwrap_or (nearest outer) (Inner kind begins))
 first-moved kind begins top = refl
 first-moved kind begins (inner positive fair) = refl
 
@@ -128,8 +128,8 @@ while-cons p x xs = by (p x)
 
 passed-less : (b : Declared) → IsSeated b → {scopes : List Scope} → AreFair scopes →
     list_any (same_scope (taker (moved_declared b)))
-        (take_while (λ scope. not (takes ByVar scope)) (moved_scopes scopes)) ≡
-        true →
+    (take_while (λ scope. not (takes ByVar scope)) (moved_scopes scopes)) ≡
+    true →
     list_any (same_scope (taker b)) (take_while (λ scope. not (takes ByVar scope)) scopes) ≡ true
 passed-less b seated top e = absurd (false≢true e)
 passed-less b seated (inner {kind} {begins} {outer} positive fair) e =
@@ -139,15 +139,15 @@ passed-less b seated (inner {kind} {begins} {outer} positive fair) e =
   where
     by : (t : Bool) →
         (list_any (same_scope (taker (moved_declared b))) (take_while (λ scope. not (takes ByVar scope)) (moved_scopes outer)) ≡ true → list_any (same_scope (taker b)) (take_while (λ scope. not (takes ByVar scope)) outer) ≡ true)
-            →
+        →
         list_any (same_scope (taker (moved_declared b)))
-            (cond (not t) (Inner kind (begins + 6) ∷ take_while (λ scope. not (takes ByVar scope)) (moved_scopes outer)) [])
-            ≡
-            true →
+        (cond (not t) (Inner kind (begins + 6) ∷ take_while (λ scope. not (takes ByVar scope)) (moved_scopes outer)) [])
+        ≡
+        true →
         list_any (same_scope (taker b))
-            (cond (not t) (Inner kind begins ∷ take_while (λ scope. not (takes ByVar scope)) outer) [])
-            ≡
-            true
+        (cond (not t) (Inner kind begins ∷ take_while (λ scope. not (takes ByVar scope)) outer) [])
+        ≡
+        true
     by true rest is = absurd (false≢true is)
     by false rest is =
         or-less (same_scope (taker (moved_declared b)) (Inner kind (begins + 6))) (list_any (same_scope (taker (moved_declared b))) (take_while (λ scope. not (takes ByVar scope)) (moved_scopes outer))) (same_scope (taker b) (Inner kind begins)) (list_any (same_scope (taker b)) (take_while (λ scope. not (takes ByVar scope)) outer))
@@ -156,11 +156,11 @@ passed-less b seated (inner {kind} {begins} {outer} positive fair) e =
 
 passes-by : (way : Way) (b : Declared) → IsSeated b → {scopes : List Scope} → AreFair scopes →
     (is_var way && list_any (same_scope (taker (moved_declared b))) (take_while (λ scope. not (takes way scope)) (moved_scopes scopes)))
-        ≡
-        true →
+    ≡
+    true →
     (is_var way && list_any (same_scope (taker b)) (take_while (λ scope. not (takes way scope)) scopes))
-        ≡
-        true
+    ≡
+    true
 passes-by ByVar b seated fair e = passed-less b seated fair e
 passes-by _ b seated fair e = absurd (false≢true e)
 
@@ -226,18 +226,18 @@ undoubled-by : (stmts : List Item) {back : List Item} → IsBack back → AreSta
     first_doubled Es (wrapped (module_with stmts (back ++ h.Close ∷ []))) ≡ None
 undoubled-by stmts nothing statements taken e =
     ap (first_doubled Es)
-        (wrapped-is (module_with stmts (h.Close ∷ [])) stmts [] (body-plain statements))
+    (wrapped-is (module_with stmts (h.Close ∷ [])) stmts [] (body-plain statements))
     ∙ undoubled-twins (twins-of statements nothing taken []) e
 undoubled-by stmts (exports meta specifiers) statements taken e =
     ap (first_doubled Es)
-        (wrapped-is (module_with stmts (export_items meta specifiers ++ h.Close ∷ [])) stmts (exported_pairs (export_items meta specifiers)) (body-exports statements meta specifiers))
+    (wrapped-is (module_with stmts (export_items meta specifiers ++ h.Close ∷ [])) stmts (exported_pairs (export_items meta specifiers)) (body-exports statements meta specifiers))
     ∙ undoubled-twins
-        (twins-of statements (exports meta specifiers) taken (exported_pairs (export_items meta specifiers)))
-        e
+    (twins-of statements (exports meta specifiers) taken (exported_pairs (export_items meta specifiers)))
+    e
 
 pub wrapped-undoubled : (tree : List Item) → CanBeCalled BySymbol tree →
     first_doubled Es tree ≡ None → first_doubled Es (wrapped tree) ≡ None
 wrapped-undoubled tree can e =
     ap (λ t. first_doubled Es (wrapped t)) can.is ∙ undoubled-by can.stmts can.ends can.statements
-        (subst (λ t. Every IsTaken (declared BySymbol Es t)) can.is can.taken)
-        (sym (ap (first_doubled Es) can.is) ∙ e)
+    (subst (λ t. Every IsTaken (declared BySymbol Es t)) can.is can.taken)
+    (sym (ap (first_doubled Es) can.is) ∙ e)

@@ -322,7 +322,7 @@ is_async_of stmts rs = awaits_outside (stmts ++ returned_object rs)
 
 call-is : (stmts : List Item) (rs : List (Text × Ident)) →
     function_front (is_async_of stmts rs) ++ ((stmts ++ returned_object rs) ++ function_back) ≡
-        call_with (is_async_of stmts rs) stmts (its_of rs)
+    call_with (is_async_of stmts rs) stmts (its_of rs)
 call-is stmts rs =
     ap (λ l. function_front (is_async_of stmts rs) ++ l)
     (append_assoc stmts (returned_object rs) function_back)
@@ -337,7 +337,7 @@ new-body {stmts} statements rs =
 
 has-body : {stmts : List Item} → AreStatements zero stmts → (rs : List (Text × Ident)) →
     HasBody AsCall (call_with (is_async_of stmts rs) stmts (its_of rs)) (Inner FunctionBody 6)
-        (new_items stmts rs)
+    (new_items stmts rs)
 has-body {stmts} statements rs =
     subst (λ x. x)
     (λ i. HasBody AsCall (call-is stmts rs i) (Inner FunctionBody 6) (new-body statements rs i))
@@ -402,7 +402,7 @@ finish-paired : {p : Program} {hooks : Hooks} {reading : Reading} {stmts after :
     {pairing : Pairing} {rs : List (Text × Ident)}
     (g : Given p hooks reading stmts after pairing rs) →
     IsPaired p hooks AsCall reading (call_with (is_async_of stmts rs) stmts (its_of rs))
-        (record { labels = moved_labels pairing.labels; top = Inner FunctionBody 6; body = new_items stmts rs; plan = g.plan ++ Exports ∷ [] })
+    (record { labels = moved_labels pairing.labels; top = Inner FunctionBody 6; body = new_items stmts rs; plan = g.plan ++ Exports ∷ [] })
 finish-paired {p} {hooks} {reading} {stmts} {after} {pairing} {rs} g = record {
   labels = labels-one pairing.labels g.paired.labels;
   body = has-body g.scene.twins.statements rs;
@@ -552,7 +552,7 @@ returned : {p : Program} {hooks : Hooks} {reading : Reading} {stmts after : List
     (labels : Labelling) (pairs : List NamedTarget) → AreLinked p p.entry pairs →
     AllZip (Returns reading (declared reading Es (module_with stmts after)) labels) rs pairs →
     Realises p hooks AsCall (new_bundle reading (is_async_of stmts rs) stmts (its_of rs) labels)
-        (last_item stmts rs) Exports
+    (last_item stmts rs) Exports
 returned {p} {hooks} {reading} {stmts} {after} rs twins labels pairs linked zip =
     let spots = spots-behind {is_async = is_async_of stmts rs} twins.statements in
     let past_body : 6 < suc (length stmts) + 6 = omega arith in
@@ -634,13 +634,13 @@ exports-bundle : {p : Program} {hooks : Hooks} (reading : Reading) (stmts : List
     form_of p.settings ≡ AsCall → IsFaultlessProgram p → StatesNoExports p →
     AreStatements zero stmts →
     Every IsTaken
-        (declared reading Es (module_with stmts (export_items meta specifiers ++ h.Close ∷ []))) →
+    (declared reading Es (module_with stmts (export_items meta specifiers ++ h.Close ∷ []))) →
     (pairing : Pairing) → pairing.top ≡ Top →
     pairing.body ≡ top_items (module_with stmts (export_items meta specifiers ++ h.Close ∷ [])) →
     IsPaired p hooks AsModule reading
-        (module_with stmts (export_items meta specifiers ++ h.Close ∷ [])) pairing →
+    (module_with stmts (export_items meta specifiers ++ h.Close ∷ [])) pairing →
     IsLaidOut p AsModule reading (module_with stmts (export_items meta specifiers ++ h.Close ∷ []))
-        pairing →
+    pairing →
     Exported p hooks reading stmts meta specifiers
 exports-bundle {p} {hooks} reading stmts meta specifiers form faultless filed statements taken pairing top body paired laid_out = record {
   pairs = read.pairs;

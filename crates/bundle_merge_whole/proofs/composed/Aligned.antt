@@ -52,7 +52,7 @@ zip-parts R [] ys (o ∷ others) more same all = absurd (omega (arith, same))
 zip-parts R (x ∷ xs) ys [] more same all = absurd (omega (arith, same))
 zip-parts R (x ∷ xs) ys (o ∷ others) more same all =
     let rest = zip-parts R xs ys others more (omega (arith, same)) all.1 in
-        ((all.0, rest.0), rest.1)
+    ((all.0, rest.0), rest.1)
 
 -- no name of these scopes is inside
 abbrev pub AreOutside : ℕ → List Scope → Type 0
@@ -175,15 +175,16 @@ module _ (reading other : Reading) (items others : List (List Item))
   abbrev Aligned : ℕ → ℕ → Scope → Type 0
   Aligned low high scope =
       (name its : Name) → is_inside low (Bound scope name) ≡ is_inside high
-          (Bound (placed_scope b.move scope) its)
+      (Bound (placed_scope b.move scope) its)
 
   inner-aligned : (low high : ℕ) (scopes : List Scope) → AllOf (IsScopeFrom low) scopes →
       AllOf (IsScopeFrom high) (map (placed_scope b.move) scopes) → AllOf (Aligned low high) scopes
   inner-aligned low high [] all its = tt
-  inner-aligned low high (scope ∷ scopes) all its =
-      (λ name other. scope-inside low scope all.0 name
-              ∙ sym (scope-inside high (placed_scope b.move scope) its.0 other),
-           inner-aligned low high scopes all.1 its.1)
+  inner-aligned low high (scope ∷ scopes) all its = (
+    λ name other. scope-inside low scope all.0 name
+        ∙ sym (scope-inside high (placed_scope b.move scope) its.0 other),
+    inner-aligned low high scopes all.1 its.1,
+  )
 
   outer-aligned : (low high : ℕ) (scopes : List Scope) → AreOutside low scopes →
       AreOutside high (map (placed_scope b.move) scopes) → AllOf (Aligned low high) scopes
@@ -205,24 +206,24 @@ module _ (reading other : Reading) (items others : List (List Item))
       HasScopes high its p → StandsIn b.move o p → IsAligned low high (denoted_here here o)
   aligned low high outer its same out its_out o p one two stands =
       let whole : map (placed_scope b.move) one.inner ++ map (placed_scope b.move) outer ≡ two.inner
-          ++ its =
-          sym (map-append (placed_scope b.move) one.inner outer)
-              ∙ ap (map (placed_scope b.move)) (sym one.is)
-              ∙ sym stands
-              ∙ two.is in
+      ++ its =
+      sym (map-append (placed_scope b.move) one.inner outer)
+      ∙ ap (map (placed_scope b.move)) (sym one.is)
+      ∙ sym stands
+      ∙ two.is in
       let lengths = ap length whole in
       let first =
-          length-append (map (placed_scope b.move) one.inner) (map (placed_scope b.move) outer) in
+      length-append (map (placed_scope b.move) one.inner) (map (placed_scope b.move) outer) in
       let second = length-append two.inner its in
       let mapped = length-map outer (placed_scope b.move) in
       let parts =
-          same-parts (map (placed_scope b.move) one.inner) (map (placed_scope b.move) outer)
-              two.inner its whole (omega (arith, lengths, first, second, mapped, same)) in
+      same-parts (map (placed_scope b.move) one.inner) (map (placed_scope b.move) outer)
+      two.inner its whole (omega (arith, lengths, first, second, mapped, same)) in
       of-aligned low high (denoted_here here o)
       (denoted-of (Aligned low high) (λ name other. refl) reading (declared reading Es (joined items)) o
       (subst (AllOf (Aligned low high)) (sym one.is) (all-append (Aligned low high) one.inner outer
       (inner-aligned low high one.inner one.all
-           (subst (AllOf (IsScopeFrom high)) (sym parts.0) two.all))
+      (subst (AllOf (IsScopeFrom high)) (sym parts.0) two.all))
       (outer-aligned low high outer out (subst (AreOutside high) (sym parts.1) its_out)))))
 
   -- parts, by their names
@@ -231,10 +232,10 @@ module _ (reading other : Reading) (items others : List (List Item))
       AllZip Corresponds (occurrences_from s (xs ++ ys)) (occurrences_from t (others ++ more)) →
       AllZip Corresponds (occurrences_from s xs) (occurrences_from t others)
       × AllZip Corresponds (occurrences_from (fold past s xs) ys)
-          (occurrences_from (fold past t others) more)
+      (occurrences_from (fold past t others) more)
   split s t xs ys others more same all =
       zip-parts Corresponds (occurrences_from s xs) (occurrences_from (fold past s xs) ys)
-          (occurrences_from t others) (occurrences_from (fold past t others) more)
+      (occurrences_from t others) (occurrences_from (fold past t others) more)
       (names-count xs s ∙ same ∙ sym (names-count others t))
       (subst (λ os. AllZip Corresponds os (occurrences_from t others ++ occurrences_from (fold past t others) more)) (occurrences-append s xs ys)
       (subst (AllZip Corresponds (occurrences_from s (xs ++ ys))) (occurrences-append t others more) all))
@@ -261,24 +262,24 @@ module _ (reading other : Reading) (items others : List (List Item))
               Contains (labels_of b.becomes (pair ∷ rest)) (b.becomes d, l)
           by_case ih (inl e) =
               (Contains-cons (b.becomes pair.0, pair.1) (labels_of b.becomes rest) (b.becomes d, l)).1
-                  (inl (λ i. (b.becomes (e i).0, (e i).1)))
+              (inl (λ i. (b.becomes (e i).0, (e i).1)))
           by_case ih (inr more) =
               (Contains-cons (b.becomes pair.0, pair.1) (labels_of b.becomes rest) (b.becomes d, l)).1
-                  (inr (ih more))
+              (inr (ih more))
 
   bound-turns : (l : Label) (d e : Denoted) → e ≡ b.becomes d → IsBoundAs labels l d →
       IsBoundAs its_labels l e
   bound-turns l d e is its =
       let bound = b.bindings its.scope its.name in
       let same : b.becomes d ≡ Bound (placed_scope b.move its.scope) bound.0 =
-          ap b.becomes its.is ∙ bound.1 in
+      ap b.becomes its.is ∙ bound.1 in
       record {
-          scope = placed_scope b.move its.scope;
-          name = bound.0;
-          is = is ∙ same;
-          labelled =
-              subst (λ x. Contains its_labels (x, l)) bound.1
-                  (label-turns l (Bound its.scope its.name) its.labelled)
+        scope = placed_scope b.move its.scope;
+        name = bound.0;
+        is = is ∙ same;
+        labelled =
+            subst (λ x. Contains its_labels (x, l)) bound.1
+            (label-turns l (Bound its.scope its.name) its.labelled);
       }
 
   module _ (low high : ℕ) (ds es : List Denoted) (all : AllZip (Renews Turns low high) ds es) where
@@ -292,9 +293,9 @@ module _ (reading other : Reading) (items others : List (List Item))
         position (same_denoted d) inner ≡ position (same_denoted e) its_inner
     same_number d e its =
         numbers_agree (Renews Turns low high) (λ x y v w one two. turns-one x y v w one.0 two.0)
-            (filter (is_inside low) ds) (filter (is_inside high) es)
-            (both_filtered (Renews Turns low high) (is_inside low) (is_inside high)
-                 (λ x y one. one.1) ds es all) d e its
+        (filter (is_inside low) ds) (filter (is_inside high) es)
+        (both_filtered (Renews Turns low high) (is_inside low) (is_inside high)
+        (λ x y one. one.1) ds es all) d e its
 
     one_turns : (d e : Denoted) (meant : Meant) → Renews Turns low high d e →
         AgreesWith labels inner low d meant → AgreesWith its_labels its_inner high e meant
@@ -320,11 +321,14 @@ module _ (reading other : Reading) (items others : List (List Item))
   renews low high outer its same out its_out [] [] one two all = tt
   renews low high outer its same out its_out [] (p ∷ ps) one two all = absurd all
   renews low high outer its same out its_out (o ∷ os) [] one two all = absurd all
-  renews low high outer its same out its_out (o ∷ os) (p ∷ ps) one two all =
-      (((all.0.denoted, all.0.is),
-               aligned low high outer its same out its_out o p one.0 two.0 all.0.scopes
-                  ∙ ap (is_inside high) (sym all.0.is)),
-           renews low high outer its same out its_out os ps one.1 two.1 all.1)
+  renews low high outer its same out its_out (o ∷ os) (p ∷ ps) one two all = (
+    (
+      (all.0.denoted, all.0.is),
+      aligned low high outer its same out its_out o p one.0 two.0 all.0.scopes
+          ∙ ap (is_inside high) (sym all.0.is),
+    ),
+    renews low high outer its same out its_out os ps one.1 two.1 all.1,
+  )
 
   -- a statement agrees after it as before
   pub statement_turns : (base its_base s t : Spot) → SpotsMatch base its_base →
@@ -339,30 +343,30 @@ module _ (reading other : Reading) (items others : List (List Item))
       let outer : List Scope = scopes_around Es base.path in
       let its : List Scope = scopes_around Es its_base.path in
       let os =
-          part-scopes s.place base.path outer match.same turned.nodes s
-              (record {
-                   inner = [];
-                   field = field;
-                   path_is = path_is;
-                   all = tt;
-                   above = omega arith
-               }) in
+      part-scopes s.place base.path outer match.same turned.nodes s
+      (record {
+        inner = [];
+        field = field;
+        path_is = path_is;
+        all = tt;
+        above = omega arith;
+      }) in
       let ps =
-          part-scopes t.place its_base.path its match.its_same turned.its_nodes t
-              (record {
-                   inner = [];
-                   field = its_field;
-                   path_is = its_is;
-                   all = tt;
-                   above = omega arith
-               }) in
+      part-scopes t.place its_base.path its match.its_same turned.its_nodes t
+      (record {
+        inner = [];
+        field = its_field;
+        path_is = its_is;
+        all = tt;
+        above = omega arith;
+      }) in
       let zip =
-          renews s.place t.place outer its match.size
-              (all-outside base.place s.place low outer match.below)
-              (all-outside its_base.place t.place high its match.its_below)
-              (occurrences_from s part) (occurrences_from t renamed) os ps all in
+      renews s.place t.place outer its match.size
+      (all-outside base.place s.place low outer match.below)
+      (all-outside its_base.place t.place high its match.its_below)
+      (occurrences_from s part) (occurrences_from t renamed) os ps all in
       all_turn s.place t.place (denoted_from here s part) (denoted_from there t renamed) zip
-          (denoted_from here s part) (denoted_from there t renamed) told.0 zip agree
+      (denoted_from here s part) (denoted_from there t renamed) told.0 zip agree
 
   -- so do statements, one after another
   pub statements_turn : (base its_base s t : Spot) → SpotsMatch base its_base →
@@ -391,8 +395,8 @@ module _ (reading other : Reading) (items others : List (List Item))
             its_behind.0
             (behind.1 ∙ ap (in_field behind.0) path_is ∙ field-twice behind.0 field base.path)
             (its_behind.1
-                 ∙ ap (in_field its_behind.0) its_is
-                 ∙ field-twice its_behind.0 its_field its_base.path) (omega (arith, low, place))
+            ∙ ap (in_field its_behind.0) its_is
+            ∙ field-twice its_behind.0 its_field its_base.path) (omega (arith, low, place))
             (omega (arith, high, its_place)) parts others turned.1 both.1 tolds agree.1,
       )
 
@@ -405,9 +409,10 @@ module _ (reading other : Reading) (items others : List (List Item))
   fronts_turn [] (p ∷ ps) all names agree = absurd all
   fronts_turn (o ∷ os) [] all names agree = absurd all
   fronts_turn (o ∷ os) (p ∷ ps) all [] agree = absurd agree
-  fronts_turn (o ∷ os) (p ∷ ps) all (l ∷ names) agree =
-      (bound-turns l (denoted_here here o) (denoted_here there p) all.0.is agree.0,
-           fronts_turn os ps all.1 names agree.1)
+  fronts_turn (o ∷ os) (p ∷ ps) all (l ∷ names) agree = (
+    bound-turns l (denoted_here here o) (denoted_here there p) all.0.is agree.0,
+    fronts_turn os ps all.1 names agree.1,
+  )
 
   -- an item
   item_turns : (s t : Spot) (field its_field : ℕ) → s.path ≡ in_field field module_path →
@@ -420,24 +425,24 @@ module _ (reading other : Reading) (items others : List (List Item))
       let own = same_field s.path in
       let its = same_field t.path in
       statement_turns s t s t (module-match s t field its_field path_is its_is) own.0 its.0 own.1
-          its.1 (omega arith) (omega arith) item renamed turned all told agree
+      its.1 (omega arith) (omega arith) item renamed turned all told agree
   item_turns s t field its_field path_is its_is {item = item} {renamed = renamed}
       (function_turned {front = front} {its_front = its_front} {names = names} {insides = insides}
-           {its = its} {tolds = tolds} back its_back turned is its_made fronts parts) all agree =
+      {its = its} {tolds = tolds} back its_back turned is its_made fronts parts) all agree =
       let made =
-          subst
-              (λ (l : List Item). AllZip Corresponds
-                   (occurrences_from s (front ++ (flat insides ++ back))) (occurrences_from t l))
-              its_made
-              (subst
-                   (λ (l : List Item). AllZip Corresponds (occurrences_from s l)
-                        (occurrences_from t renamed)) is all) in
+      subst
+      (λ (l : List Item). AllZip Corresponds
+      (occurrences_from s (front ++ (flat insides ++ back))) (occurrences_from t l))
+      its_made
+      (subst
+      (λ (l : List Item). AllZip Corresponds (occurrences_from s l)
+      (occurrences_from t renamed)) is all) in
       let one =
-          split s t front (flat insides ++ back) its_front (flat its ++ its_back) fronts.names
-              made in
+      split s t front (flat insides ++ back) its_front (flat its ++ its_back) fronts.names
+      made in
       let two =
-          split (fold past s front) (fold past t its_front) (flat insides) back (flat its) its_back
-              (flat-names insides its parts) one.1 in
+      split (fold past s front) (fold past t its_front) (flat insides) back (flat its) its_back
+      (flat-names insides its parts) one.1 in
       let own = same_field (fold past s front).path in
       let other = same_field (fold past t its_front).path in (
         fronts_turn (occurrences_from s front) (occurrences_from t its_front) one.0 names agree.0,
@@ -455,7 +460,7 @@ module _ (reading other : Reading) (items others : List (List Item))
   items_turn : (s t : Spot) (field its_field : ℕ) → s.path ≡ in_field field module_path →
       t.path ≡ in_field its_field module_path →
       (parts : List (List Item)) (noted : List Noted) (renamed : List (List Item))
-          (its : List Noted) → ItemsTurned parts noted renamed its →
+      (its : List Noted) → ItemsTurned parts noted renamed its →
       AllZip Corresponds (occurrences_from s (flat parts)) (occurrences_from t (flat renamed)) →
       ItemsAgree here labels s parts noted → ItemsAgree there its_labels t renamed its
   items_turn s t field its_field path_is its_is [] [] [] [] turned all agree = tt
@@ -479,8 +484,8 @@ module _ (reading other : Reading) (items others : List (List Item))
         items_turn (fold past s part) (fold past t item) behind.0 its_behind.0
             (behind.1 ∙ ap (in_field behind.0) path_is ∙ field-twice behind.0 field module_path)
             (its_behind.1
-                 ∙ ap (in_field its_behind.0) its_is
-                 ∙ field-twice its_behind.0 its_field module_path) parts noted renamed its turned.1
+            ∙ ap (in_field its_behind.0) its_is
+            ∙ field-twice its_behind.0 its_field module_path) parts noted renamed its turned.1
             both.1 agree.1,
       )
 
@@ -488,20 +493,21 @@ module _ (reading other : Reading) (items others : List (List Item))
   each-corresponds : (os ps : List Occurrence) → AllZip (StandsIn b.move) os ps →
       map (denoted_here there) ps ≡ map b.becomes (map (denoted_here here) os) →
       ((o : Occurrence) → Contains os o → Contains (denotations reading Es (joined items))
-           (denoted_here here o)) → AllZip Corresponds os ps
+      (denoted_here here o)) → AllZip Corresponds os ps
   each-corresponds [] [] stands are in_it = tt
   each-corresponds [] (p ∷ ps) stands are in_it = absurd stands
   each-corresponds (o ∷ os) [] stands are in_it = absurd stands
   each-corresponds (o ∷ os) (p ∷ ps) stands are in_it =
       let first : denoted_here there p ≡ b.becomes (denoted_here here o) = cc in
-      let later : map (denoted_here there) ps ≡ map b.becomes (map (denoted_here here) os) = cc in
-      (record {
-              scopes = stands.0;
-              is = first;
-              denoted = in_it o ((Contains-cons o os o).1 (inl refl))
-          },
-           each-corresponds os ps stands.1 later
-              (λ x c. in_it x ((Contains-cons o os x).1 (inr c))))
+      let later : map (denoted_here there) ps ≡ map b.becomes (map (denoted_here here) os) = cc in (
+        record {
+          scopes = stands.0;
+          is = first;
+          denoted = in_it o ((Contains-cons o os o).1 (inl refl));
+        },
+        each-corresponds os ps stands.1 later
+            (λ x c. in_it x ((Contains-cons o os x).1 (inr c))),
+      )
 
   -- a bundle: where names change and denote what corresponds, they agree with what is told of them
   pub bundle_turns : (noted its : List Noted) → ItemsTurned items noted others its →

@@ -86,13 +86,13 @@ module _ (P : Scope → Type 0) (top : P Top) where
       OfScope (denoted_by_context every scopes name)
   context-all every scopes all name =
       by_found (find (λ scope. is_written_in every scope name) scopes)
-          (find-all (λ scope. is_written_in every scope name) scopes all name)
+      (find-all (λ scope. is_written_in every scope name) scopes all name)
     where
       by_context : (b : Bool) →
           OfScope
-              (cond b (Global name.sym)
-                   (bound_in (without_context name)
-                        (find (λ scope. is_implied_in every scope name) scopes)))
+          (cond b (Global name.sym)
+          (bound_in (without_context name)
+          (find (λ scope. is_implied_in every scope name) scopes)))
       by_context true = tt
       by_context false =
           find-all (λ scope. is_implied_in every scope name) scopes all (without_context name)
@@ -117,20 +117,20 @@ module _ (P : Scope → Type 0) (top : P Top) where
 
       by_role : (b : Bool) (way : Option Way) →
           OfScope
-              (own_or_found every found
-                   (cond b
-                        (declared_by o.place (name_of reading o.sym o.ctxt)
-                             (scopes_around Es o.path) way) None))
+          (own_or_found every found
+          (cond b
+          (declared_by o.place (name_of reading o.sym o.ctxt)
+          (scopes_around Es o.path) way) None))
       by_role true None =
           read-all reading every (scopes_around Es o.path) all (name_of reading o.sym o.ctxt)
       by_role true (Some way) =
           home-has every
-              (record {
-                   place = o.place;
-                   name = name_of reading o.sym o.ctxt;
-                   by = way;
-                   scopes = scopes_around Es o.path
-               }) all
+          (record {
+            place = o.place;
+            name = name_of reading o.sym o.ctxt;
+            by = way;
+            scopes = scopes_around Es o.path;
+          }) all
       by_role false way =
           read-all reading every (scopes_around Es o.path) all (name_of reading o.sym o.ctxt)
 
@@ -172,13 +172,14 @@ module _ (low : ℕ) (outer : List Around) (scopes : List Scope)
   around-all (node ∷ inner) field all =
       let rest = around-all inner field all.1 in
       let first : List Scope =
-          scope_at node.begins
-              (kind_of_scope node.head node.field (inner ++ in_field field outer)) in
-      (first ++ rest.0,
-           ap (λ l. first ++ l) rest.1 ∙ sym (append_assoc first rest.0 scopes),
-           all-append (IsScopeFrom low) first rest.0
-              (kind-all node.begins all.0
-                   (kind_of_scope node.head node.field (inner ++ in_field field outer))) rest.2)
+      scope_at node.begins
+      (kind_of_scope node.head node.field (inner ++ in_field field outer)) in (
+        first ++ rest.0,
+        ap (λ l. first ++ l) rest.1 ∙ sym (append_assoc first rest.0 scopes),
+        all-append (IsScopeFrom low) first rest.0
+            (kind-all node.begins all.0
+            (kind_of_scope node.head node.field (inner ++ in_field field outer))) rest.2,
+      )
 
   -- one more field
   field-within : (field : ℕ) (path : List Around) (inner : List Around) (its : ℕ) →
@@ -208,13 +209,13 @@ module _ (low : ℕ) (outer : List Around) (scopes : List Scope)
     where
       own : (role : Role) →
           HasScopes low scopes
-              (record {
-                   place = s.place;
-                   sym = x;
-                   ctxt = c;
-                   role = role;
-                   path = in_field field s.path
-               })
+          (record {
+            place = s.place;
+            sym = x;
+            ctxt = c;
+            role = role;
+            path = in_field field s.path;
+          })
       own role =
           let its = name-scopes s field within in record { inner = its.0; is = its.1; all = its.2 }
 
@@ -226,38 +227,38 @@ module _ (low : ℕ) (outer : List Around) (scopes : List Scope)
       by_role r.Reference all = (own r.Reference, all)
   part-scopes (nodes.hole {field = field} more) s within =
       part-scopes more (past s (h.Hole field))
-          (record {
-               inner = within.inner;
-               field = within.field;
-               path_is = within.path_is;
-               all = within.all;
-               above = let le = within.above in omega (arith, le)
-           })
+      (record {
+        inner = within.inner;
+        field = within.field;
+        path_is = within.path_is;
+        all = within.all;
+        above = let le = within.above in omega (arith, le);
+      })
   part-scopes (nodes.node {field = field} {head = head} {inside = inside} {rest = rest} in_it more)
       s within =
       let le = within.above in
       let one = field-within field s.path within.inner within.field within.path_is within.all in
       let inner_all =
-          part-scopes in_it (past s (h.Open field head))
-              (record {
-                   inner = record { head = head; begins = s.place; field = 0 } ∷ one.0;
-                   field = one.1;
-                   path_is =
-                       ap (λ l. record { head = head; begins = s.place; field = 0 } ∷ l) one.2;
-                   all = (le, one.3);
-                   above = omega (arith, le)
-               }) in
+      part-scopes in_it (past s (h.Open field head))
+      (record {
+        inner = record { head = head; begins = s.place; field = 0 } ∷ one.0;
+        field = one.1;
+        path_is =
+            ap (λ l. record { head = head; begins = s.place; field = 0 } ∷ l) one.2;
+        all = (le, one.3);
+        above = omega (arith, le);
+      }) in
       let behind = place-behind inside s field head in
       let rest_all =
-          part-scopes more (spot-behind s field head inside)
-              (record {
-                   inner = one.0;
-                   field = one.1;
-                   path_is = path-behind in_it s field head ∙ one.2;
-                   all = one.3;
-                   above = omega (arith, le, behind)
-               }) in
+      part-scopes more (spot-behind s field head inside)
+      (record {
+        inner = one.0;
+        field = one.1;
+        path_is = path-behind in_it s field head ∙ one.2;
+        all = one.3;
+        above = omega (arith, le, behind);
+      }) in
       subst (AllOf (HasScopes low scopes))
-          (sym (occurrences_append (past s (h.Open field head)) inside (h.Close ∷ rest)))
-          (all-append (HasScopes low scopes) (occurrences_from (past s (h.Open field head)) inside)
-               (occurrences_from (spot-behind s field head inside) rest) inner_all rest_all)
+      (sym (occurrences_append (past s (h.Open field head)) inside (h.Close ∷ rest)))
+      (all-append (HasScopes low scopes) (occurrences_from (past s (h.Open field head)) inside)
+      (occurrences_from (spot-behind s field head inside) rest) inner_all rest_all)

@@ -109,22 +109,22 @@ module _ (before after : List Item) (resolved : IsResolved Es before) (names : H
   denotes : denotations BySymbol Es after ≡ denotations BySymbol Es made
   denotes =
       sym (denotations-cleared Es after)
-          ∙ ap (denotations BySymbol Es) clear
-          ∙ denotations-cleared Es made
+      ∙ ap (denotations BySymbol Es) clear
+      ∙ denotations-cleared Es made
 
   symbols_of : (l : List Item) →
       map (λ (o : Occurrence). o.sym) (occurrences (cleared l)) ≡ map (λ (o : Occurrence). o.sym)
-          (occurrences l)
+      (occurrences l)
   symbols_of l =
       ap (map (λ (o : Occurrence). o.sym)) (occurrences-cleared l) ∙ symbols-cleared (occurrences l)
 
   symbols : map (λ (o : Occurrence). o.sym) (occurrences made) ≡ map
-          (λ o. symbol_after numbers (denoted_of ByContext Es all o)) os
+      (λ o. symbol_after numbers (denoted_of ByContext Es all o)) os
   symbols =
       sym (symbols_of made)
-          ∙ ap (λ l. map (λ (o : Occurrence). o.sym) (occurrences l)) (sym clear)
-          ∙ symbols_of after
-          ∙ renamed.symbols
+      ∙ ap (λ l. map (λ (o : Occurrence). o.sym) (occurrences l)) (sym clear)
+      ∙ symbols_of after
+      ∙ renamed.symbols
 
   abbrev renamed_occurrences : List Occurrence
   renamed_occurrences = map (renamed_occurrence numbers all) os
@@ -132,19 +132,19 @@ module _ (before after : List Item) (resolved : IsResolved Es before) (names : H
   zip : AllZip (HasMoved move) renamed_occurrences (occurrences made)
   zip =
       zip-symbols move (renamed_occurrence numbers all)
-          (λ o. symbol_after numbers (denoted_of ByContext Es all o)) (λ o. refl) os
-          (occurrences made) (rebuilt-zipped before changes) symbols
+      (λ o. symbol_after numbers (denoted_of ByContext Es all o)) (λ o. refl) os
+      (occurrences made) (rebuilt-zipped before changes) symbols
 
   named_after : AreNamed made
   named_after = rebuilt-named before changes (all-named before names) plain
 
   -- the next two stand inside the proof of `capture` too, which hands on neither
   zip_declared : AllZip (IsMoved move) (renamed_all numbers all)
-          (declarations BySymbol (occurrences made))
+      (declarations BySymbol (occurrences made))
   zip_declared =
       subst (λ l. AllZip (IsMoved move) l (declarations BySymbol (occurrences made)))
-          (all-renamed before resolved names numbers renamed.right)
-          (declarations-moved move renamed_occurrences (occurrences made) zip)
+      (all-renamed before resolved names numbers renamed.right)
+      (declarations-moved move renamed_occurrences (occurrences made) zip)
 
   abbrev named_denoted : Denoted → Denoted
   named_denoted d = moved_denoted move (as_named numbers d)
@@ -152,30 +152,30 @@ module _ (before after : List Item) (resolved : IsResolved Es before) (names : H
   are : denotations BySymbol Es made ≡ map named_denoted (denotations ByContext Es before)
   are =
       ap (λ l. map (denoted_of BySymbol Es l) (occurrences made))
-          (declared-named BySymbol made named_after)
+      (declared-named BySymbol made named_after)
       ∙ map-zip (HasMoved move)
-          (λ o. moved_denoted move (denoted_of BySymbol Es (renamed_all numbers all) o))
-          (denoted_of BySymbol Es (declarations BySymbol (occurrences made)))
-          (λ o p m. denoted-moved move injective (renamed_all numbers all)
-               (declarations BySymbol (occurrences made)) zip_declared o p m) renamed_occurrences
-          (occurrences made) zip
+      (λ o. moved_denoted move (denoted_of BySymbol Es (renamed_all numbers all) o))
+      (denoted_of BySymbol Es (declarations BySymbol (occurrences made)))
+      (λ o p m. denoted-moved move injective (renamed_all numbers all)
+      (declarations BySymbol (occurrences made)) zip_declared o p m) renamed_occurrences
+      (occurrences made) zip
       ∙ map-twice (λ o. moved_denoted move (denoted_of BySymbol Es (renamed_all numbers all) o))
-          (renamed_occurrence numbers all) os
+      (renamed_occurrence numbers all) os
       ∙ map-congr
-          (λ o. moved_denoted move
-               (denoted_of BySymbol Es (renamed_all numbers all) (renamed_occurrence numbers all o)))
-          (λ o. named_denoted (denoted_of ByContext Es all o)) os
-          (λ o at. ap (moved_denoted move)
-               (named (table_in start before) numbers os all (setting before names numbers resolved renamed.right) o at).0)
+      (λ o. moved_denoted move
+      (denoted_of BySymbol Es (renamed_all numbers all) (renamed_occurrence numbers all o)))
+      (λ o. named_denoted (denoted_of ByContext Es all o)) os
+      (λ o at. ap (moved_denoted move)
+      (named (table_in start before) numbers os all (setting before names numbers resolved renamed.right) o at).0)
       ∙ sym (map-twice named_denoted (denoted_of ByContext Es all) os)
 
   sound : (d : Denoted) → Contains (denotations ByContext Es before) d → IsSound os all d
   sound d c =
       let from =
-              map-in (denoted_of ByContext Es all) os d
-                  (contains-in (denotations ByContext Es before) d c) in
-          subst (IsSound os all) (sym from.2)
-          (named (table_in start before) numbers os all (setting before names numbers resolved renamed.right) from.0 from.1).1
+      map-in (denoted_of ByContext Es all) os d
+      (contains-in (denotations ByContext Es before) d c) in
+      subst (IsSound os all) (sym from.2)
+      (named (table_in start before) numbers os all (setting before names numbers resolved renamed.right) from.0 from.1).1
 
   abbrev K : Table
   K = table_in start before
@@ -186,14 +186,14 @@ module _ (before after : List Item) (resolved : IsResolved Es before) (names : H
   moved-back (Bound s m) (Global y) e = absurd cc
   moved-back (Bound s m) (Bound t n) e =
       let scopes : moved move s ≡ moved move t = cc in
-          let its : m ≡ n = cc in λ i. Bound (moved-one move injective s t scopes i) (its i)
+      let its : m ≡ n = cc in λ i. Bound (moved-one move injective s t scopes i) (its i)
 
   one : (d e : Denoted) → Contains (denotations ByContext Es before) d →
       Contains (denotations ByContext Es before) e → named_denoted d ≡ named_denoted e → d ≡ e
   one d e at there is =
       as_named-one (table_in start before) numbers os all
-          (setting before names numbers resolved renamed.right) d e (sound d at) (sound e there)
-          (moved-back (as_named numbers d) (as_named numbers e) is)
+      (setting before names numbers resolved renamed.right) d e (sound d at) (sound e there)
+      (moved-back (as_named numbers d) (as_named numbers e) is)
 
   -- what is told to be the same afterwards is
   same-after : (d e : Denoted) → OfScope (InTable K) ([], refl) d →
@@ -201,13 +201,13 @@ module _ (before after : List Item) (resolved : IsResolved Es before) (names : H
       named_denoted d ≡ named_denoted e
   same-after (Bound s m) (Bound t n) at there is =
       let parts =
-          same-bound (moved move s) (moved move t) (heart.plain (symbol_after numbers (Bound s m)))
-              (heart.plain (symbol_after numbers (Bound t n))) is in
+      same-bound (moved move s) (moved move t) (heart.plain (symbol_after numbers (Bound s m)))
+      (heart.plain (symbol_after numbers (Bound t n))) is in
       let orders =
-          orders-one move injective s t
-              (ap scope_order (placed-same move s)
-                   ∙ parts.order
-                   ∙ sym (ap scope_order (placed-same move t))) in
+      orders-one move injective s t
+      (ap scope_order (placed-same move s)
+      ∙ parts.order
+      ∙ sym (ap scope_order (placed-same move t))) in
       let scopes = same-scopes K s t at there orders in
       λ i. Bound (moved move (scopes i)) (parts.names i)
   same-after (Bound s m) (Global y) at there is = absurd cc
@@ -221,28 +221,29 @@ module _ (before after : List Item) (resolved : IsResolved Es before) (names : H
     move = move;
     stands =
         stands-cleared move os (occurrences made) (occurrences after)
-            (rebuilt-zipped before changes)
-            (sym (occurrences-cleared after) ∙ ap occurrences clear ∙ occurrences-cleared made);
+        (rebuilt-zipped before changes)
+        (sym (occurrences-cleared after) ∙ ap occurrences clear ∙ occurrences-cleared made);
     are = denotes ∙ are;
     bindings =
-        λ scope name.
-            (heart.plain (symbol_after numbers (Bound scope name)),
-                 ap (λ s. Bound s (heart.plain (symbol_after numbers (Bound scope name))))
-                    (sym (placed-same move scope)));
+        λ scope name. (
+          heart.plain (symbol_after numbers (Bound scope name)),
+          ap (λ s. Bound s (heart.plain (symbol_after numbers (Bound scope name))))
+              (sym (placed-same move scope)),
+        );
     globals = λ x. refl;
     one = one;
     same =
         λ d e at there. same_bool (same_denoted d e)
-            (same_denoted (named_denoted d) (named_denoted e))
+        (same_denoted (named_denoted d) (named_denoted e))
         (λ is. ap (λ x. same_denoted (named_denoted d) (named_denoted x))
-                 (sym
-                      (same-is K d e (in-table ByContext before d at)
-                           (in-table ByContext before e there) is))
-             ∙ same-self (named_denoted d))
+        (sym
+        (same-is K d e (in-table ByContext before d at)
+        (in-table ByContext before e there) is))
+        ∙ same-self (named_denoted d))
         (λ is. ap (same_denoted d)
-                 (sym
-                      (one d e at there
-                           (same-after d e (in-table ByContext before d at)
-                                (in-table ByContext before e there) is)))
-             ∙ same-self d);
+        (sym
+        (one d e at there
+        (same-after d e (in-table ByContext before d at)
+        (in-table ByContext before e there) is)))
+        ∙ same-self d);
   }

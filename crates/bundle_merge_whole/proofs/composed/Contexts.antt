@@ -54,9 +54,9 @@ implied-symbol all scopes name = by_context (is_unresolved name.ctxt)
   where
     by_context : (b : Bool) →
         denoted_symbol
-            (cond b (Global name.sym)
-                 (bound_in (without_context name)
-                      (find (λ scope. is_implied_in all scope name) scopes))) ≡ name.sym
+        (cond b (Global name.sym)
+        (bound_in (without_context name)
+        (find (λ scope. is_implied_in all scope name) scopes))) ≡ name.sym
     by_context true = refl
     by_context false =
         bound-symbol (without_context name) (find (λ scope. is_implied_in all scope name) scopes)
@@ -72,11 +72,11 @@ own-symbol all o = by_declared (declaration_of ByContext Es o) refl
   where
     by_declared : (d : Option Declared) → declaration_of ByContext Es o ≡ d →
         denoted_symbol
-            (own_or_found all (denoted_by_context all (scopes_around Es o.path) (its_name o)) d) ≡
-            o.sym
+        (own_or_found all (denoted_by_context all (scopes_around Es o.path) (its_name o)) d) ≡
+        o.sym
     by_declared None is =
         found-symbol all (scopes_around Es o.path) (its_name o)
-            (find (λ scope. is_written_in all scope (its_name o)) (scopes_around Es o.path))
+        (find (λ scope. is_written_in all scope (its_name o)) (scopes_around Es o.path))
     by_declared (Some d) is = ap (λ (n : Name). n.sym) (declared-name o d is)
 
 -- each labelled binding is called as its label
@@ -88,8 +88,8 @@ pub outer-called : (tree : List Item) → IsResolved Es tree →
 outer-called tree resolved table spelled p list called scope name l c =
     let from = label-from tree resolved table (Bound scope name) l c in
     ap denoted_symbol (sym from.is)
-        ∙ own-symbol (declared ByContext Es tree) from.o
-        ∙ called (ident_of from.o) l from.its
+    ∙ own-symbol (declared ByContext Es tree) from.o
+    ∙ called (ident_of from.o) l from.its
 
 -- a global has the context 1
 pub global-one : (items : List (List Item)) → AllOf IsWhole items → AllOf IsNamed items →
@@ -99,18 +99,18 @@ global-one items whole named apart o of x e =
     let note = apart.noted of.m of.item of.o of.there (of.j, of.at) in
     ap (λ (a : Occurrence). a.ctxt) of.is
     ∙ by_note of.m of.item of.o of.there (of.j, of.at) x note
-        (sym (note-told items whole named of.m of.item of.there of.o (of.j, of.at) note)
-             ∙ ap (denoted_in_tree (joined items)) (sym of.is)
-             ∙ e)
+    (sym (note-told items whole named of.m of.item of.there of.o (of.j, of.at) note)
+    ∙ ap (denoted_in_tree (joined items)) (sym of.is)
+    ∙ e)
   where
     by_note : (m : ℕ) (item : List Item) (a : Occurrence) → slice_get items m ≡ Some item →
         IsListedIn item a → (x : Text) (note : IsNoted items item a) →
         noted_denoted (offset items m) note ≡ Global x → a.ctxt ≡ 1
     by_note m item a there listed x (inner is unless) e =
         let it =
-            inner-of item a (viewed item (all-at IsNamed items m item named there) a listed) is in
+        inner-of item a (viewed item (all-at IsNamed items m item named there) a listed) is in
         let both : Bound (Inner it.kind (moved (offset items m) it.begins)) it.name ≡ Global x =
-            sym (ap (moved_denoted (offset items m)) it.is) ∙ e in
+        sym (ap (moved_denoted (offset items m)) it.is) ∙ e in
         absurd cc
     by_note m item a there listed x (top_name top not_inner) e = absurd cc
     by_note m item a there listed x (free one not_top not_inner) e = one
@@ -120,29 +120,29 @@ pub has-contexts : (items : List (List Item)) → AllOf IsWhole items → AllOf 
     AreApart items → (resolved : IsResolved Es (joined items)) → (table : Table) (local : ℕ → ℕ) →
     HasModuleContexts local (joined items) table → (plan : List Cause) →
     HasContexts local
-        (labelled (joined items) ByContext (pairing_of (labels_in (joined items) table) items plan))
+    (labelled (joined items) ByContext (pairing_of (labels_in (joined items) table) items plan))
 has-contexts items whole named apart resolved table local its plan = record {
   declared = λ scope name m x c plain.
       let from =
-          label-from (joined items) resolved table (Bound scope name) (Of (IsDeclared m x)) c in
+      label-from (joined items) resolved table (Bound scope name) (Of (IsDeclared m x)) c in
       let at = its.declared (ident_of from.o) m x from.its plain in
       let same =
-          same-denoted (joined items) resolved from.o at.0 from.at
-              (contains-in (occurrences (joined items)) at.0 at.2) (sym at.3) in
+      same-denoted (joined items) resolved from.o at.0 from.at
+      (contains-in (occurrences (joined items)) at.0 at.2) (sym at.3) in
       let denotes : denoted_in_tree (joined items) at.0 ≡ Bound
-          (home_of (declared ByContext Es (joined items)) at.1) at.1.name =
-          ap
-              (own_or_found (declared ByContext Es (joined items))
-                   (denoted_by_context (declared ByContext Es (joined items))
-                        (scopes_around Es at.0.path) (its_name at.0))) at.4 in
+      (home_of (declared ByContext Es (joined items)) at.1) at.1.name =
+      ap
+      (own_or_found (declared ByContext Es (joined items))
+      (denoted_by_context (declared ByContext Es (joined items))
+      (scopes_around Es at.0.path) (its_name at.0))) at.4 in
       ap name_in (sym from.is ∙ same ∙ denotes)
-          ∙ ap (λ (n : Name). n.ctxt) (declared-name at.0 at.1 at.4)
-          ∙ ap (λ (i : Ident). Some i.1) at.3
-          ∙ ap Some (its.contexts (ident_of from.o) m x from.its plain);
+      ∙ ap (λ (n : Name). n.ctxt) (declared-name at.0 at.1 at.4)
+      ∙ ap (λ (i : Ident). Some i.1) at.3
+      ∙ ap Some (its.contexts (ident_of from.o) m x from.its plain);
   globals =
       λ place o x there denotes. global-one items whole named apart o
-          (occurrence-of-item items whole place o there) x
-          (same_Some _ _ (sym (ap (option_map (denoted_in_tree (joined items))) there) ∙ denotes));
+      (occurrence-of-item items whole place o there) x
+      (same_Some _ _ (sym (ap (option_map (denoted_in_tree (joined items))) there) ∙ denotes));
 }
   where
     name_in : Denoted → Option ℕ

@@ -47,7 +47,7 @@ node-names field head inside = let both = names-append inside (h.Close ∷ []) i
 
 -- each name of what is marked has a note, where all stand for themselves alone
 pub marked-names : {around : Around} {notes rest : List Note} {items : List Item}
-        {marks : List Mark} → Marked None around notes items marks rest → AreAlone notes →
+    {marks : List Mark} → Marked None around notes items marks rest → AreAlone notes →
     length (names_of items) + length rest ≡ length notes
 marked-names d.Nothing its = omega arith
 marked-names (d.Joined {first = first} {second = second} one two) its =
@@ -87,7 +87,7 @@ pub told-names : (item : List Item) (told : Told) → IsMarked item told →
     length (names_of item) ≡ length told.0
 told-names item told marked =
     let a = marked-names marked (alone_alone told.0) in
-        let b = length-alone told.0 in omega (arith, a, b)
+    let b = length-alone told.0 in omega (arith, a, b)
 
 -- Nodes.
 
@@ -132,11 +132,11 @@ items-both : {n m : ℕ} (xs ys : List Item) → AreSoMany n xs → AreSoMany m 
 items-both xs ys one two = record {
   here =
       λ more. let a = one.here (ys ++ more) in let b = two.here more in let e = ap (nodes_in 0)
-          (append_assoc xs ys more) in omega (arith, a, b, e);
+      (append_assoc xs ys more) in omega (arith, a, b, e);
   within =
       λ depth more. ap (nodes_in (suc depth)) (append_assoc xs ys more)
-          ∙ one.within depth (ys ++ more)
-          ∙ two.within depth more;
+      ∙ one.within depth (ys ++ more)
+      ∙ two.within depth more;
 }
 
 marks-both : {n m : ℕ} (xs ys : List Mark) → HaveSoMany n xs → HaveSoMany m ys →
@@ -144,11 +144,11 @@ marks-both : {n m : ℕ} (xs ys : List Mark) → HaveSoMany n xs → HaveSoMany 
 marks-both xs ys one two = record {
   here =
       λ more. let a = one.here (ys ++ more) in let b = two.here more in let e = ap (marks_in 0)
-          (append_assoc xs ys more) in omega (arith, a, b, e);
+      (append_assoc xs ys more) in omega (arith, a, b, e);
   within =
       λ depth more. ap (marks_in (suc depth)) (append_assoc xs ys more)
-          ∙ one.within depth (ys ++ more)
-          ∙ two.within depth more;
+      ∙ one.within depth (ys ++ more)
+      ∙ two.within depth more;
 }
 
 pub item-node : {n : ℕ} (field : ℕ) (head : Head) (inside : List Item) → AreSoMany n inside →
@@ -156,10 +156,10 @@ pub item-node : {n : ℕ} (field : ℕ) (head : Head) (inside : List Item) → A
 item-node field head inside one = record {
   here =
       λ more. let e = ap (nodes_in 1) (append_assoc inside (h.Close ∷ []) more)
-          ∙ one.within 0 (h.Close ∷ more) in omega (arith, e);
+      ∙ one.within 0 (h.Close ∷ more) in omega (arith, e);
   within =
       λ depth more. ap (nodes_in (suc (suc depth))) (append_assoc inside (h.Close ∷ []) more)
-          ∙ one.within (suc depth) (h.Close ∷ more);
+      ∙ one.within (suc depth) (h.Close ∷ more);
 }
 
 mark-node : {n : ℕ} (field : ℕ) (head : Head) (inside : List Mark) → HaveSoMany n inside →
@@ -167,10 +167,10 @@ mark-node : {n : ℕ} (field : ℕ) (head : Head) (inside : List Mark) → HaveS
 mark-node field head inside one = record {
   here =
       λ more. let e = ap (marks_in 1) (append_assoc inside (k.Ends ∷ []) more)
-          ∙ one.within 0 (k.Ends ∷ more) in omega (arith, e);
+      ∙ one.within 0 (k.Ends ∷ more) in omega (arith, e);
   within =
       λ depth more. ap (marks_in (suc (suc depth))) (append_assoc inside (k.Ends ∷ []) more)
-          ∙ one.within (suc depth) (k.Ends ∷ more);
+      ∙ one.within (suc depth) (k.Ends ∷ more);
 }
 
 marks-none : HaveSoMany 0 []
@@ -201,33 +201,33 @@ name-mark Anywhere field x meant = mark-name field meant
 name-mark InSpecifier field x meant = mark-name field meant
 name-mark InObject field x meant =
     subst (λ l. HaveSoMany 1 (k.Begins field h.KeyValueProp ∷ l))
-        (append_assoc (object_key x) (k.Name 1 meant ∷ []) (k.Ends ∷ []))
-        (mark-node field h.KeyValueProp (object_key x ++ k.Name 1 meant ∷ [])
-             (marks-both (object_key x) (k.Name 1 meant ∷ [])
-                  (key-one (bytes_eq x (codes "__proto__")) x) (mark-name 1 meant)))
+    (append_assoc (object_key x) (k.Name 1 meant ∷ []) (k.Ends ∷ []))
+    (mark-node field h.KeyValueProp (object_key x ++ k.Name 1 meant ∷ [])
+    (marks-both (object_key x) (k.Name 1 meant ∷ [])
+    (key-one (bytes_eq x (codes "__proto__")) x) (mark-name 1 meant)))
 
 short-marks : {n : ℕ} (field : ℕ) (x : Text) (meant : Meant) (default : List Item)
-        (marks : List Mark) → HaveSoMany n marks →
+    (marks : List Mark) → HaveSoMany n marks →
     HaveSoMany 1 (shorthand_marks field x meant default marks)
 short-marks field x meant [] marks many =
     subst (λ l. HaveSoMany 1 (k.Begins field h.KeyValuePatProp ∷ l))
-        (append_assoc (word_key x) (pattern_marks 1 meant) (k.Ends ∷ []))
-        (mark-node field h.KeyValuePatProp (word_key x ++ pattern_marks 1 meant)
-             (marks-both (word_key x) (pattern_marks 1 meant) (word-one x) (pattern-one 1 meant)))
+    (append_assoc (word_key x) (pattern_marks 1 meant) (k.Ends ∷ []))
+    (mark-node field h.KeyValuePatProp (word_key x ++ pattern_marks 1 meant)
+    (marks-both (word_key x) (pattern_marks 1 meant) (word-one x) (pattern-one 1 meant)))
 short-marks field x meant (first ∷ more) marks many =
     let inner : List Mark =
-        k.Begins 1 h.AssignPat ∷ ((pattern_marks 0 meant ++ marks) ++ k.Ends ∷ []) in
+    k.Begins 1 h.AssignPat ∷ ((pattern_marks 0 meant ++ marks) ++ k.Ends ∷ []) in
     let inner_is : inner ++ k.Ends ∷ [] ≡ k.Begins 1 h.AssignPat ∷
-        (pattern_marks 0 meant ++ (marks ++ k.Ends ∷ k.Ends ∷ [])) =
-        ap (λ l. k.Begins 1 h.AssignPat ∷ l)
-            (append_assoc (pattern_marks 0 meant ++ marks) (k.Ends ∷ []) (k.Ends ∷ [])
-                 ∙ append_assoc (pattern_marks 0 meant) marks (k.Ends ∷ k.Ends ∷ [])) in
+    (pattern_marks 0 meant ++ (marks ++ k.Ends ∷ k.Ends ∷ [])) =
+    ap (λ l. k.Begins 1 h.AssignPat ∷ l)
+    (append_assoc (pattern_marks 0 meant ++ marks) (k.Ends ∷ []) (k.Ends ∷ [])
+    ∙ append_assoc (pattern_marks 0 meant) marks (k.Ends ∷ k.Ends ∷ [])) in
     subst (λ l. HaveSoMany 1 (k.Begins field h.KeyValuePatProp ∷ l))
-        (append_assoc (word_key x) inner (k.Ends ∷ []) ∙ ap (λ l. word_key x ++ l) inner_is)
+    (append_assoc (word_key x) inner (k.Ends ∷ []) ∙ ap (λ l. word_key x ++ l) inner_is)
     (mark-node field h.KeyValuePatProp (word_key x ++ inner)
-         (marks-both (word_key x) inner (word-one x)
-              (mark-node 1 h.AssignPat (pattern_marks 0 meant ++ marks)
-                   (marks-both (pattern_marks 0 meant) marks (pattern-one 0 meant) many))))
+    (marks-both (word_key x) inner (word-one x)
+    (mark-node 1 h.AssignPat (pattern_marks 0 meant ++ marks)
+    (marks-both (pattern_marks 0 meant) marks (pattern-one 0 meant) many))))
 
 -- as many nodes as marks of nodes
 pub record Counted (items : List Item) (marks : List Mark) : Type 0 where
@@ -242,47 +242,47 @@ counted (d.Joined {first = first} {second = second} {marks = marks} {more = more
     let a = counted one its in
     let b = counted two (alone_left one its) in
     record {
-        n = a.n + b.n;
-        items_are = items-both first second a.items_are b.items_are;
-        marks_are = marks-both marks more a.marks_are b.marks_are
+      n = a.n + b.n;
+      items_are = items-both first second a.items_are b.items_are;
+      marks_are = marks-both marks more a.marks_are b.marks_are;
     }
 counted (d.Hole field) its = record {
   n = 1;
   items_are = record { here = λ more. omega arith; within = λ depth more. refl };
-  marks_are = record { here = λ more. omega arith; within = λ depth more. refl }
+  marks_are = record { here = λ more. omega arith; within = λ depth more. refl };
 }
 counted (d.Word field x c role is) its = record {
   n = 1;
   items_are = item-name field x c role;
-  marks_are = record { here = λ more. omega arith; within = λ depth more. refl }
+  marks_are = record { here = λ more. omega arith; within = λ depth more. refl };
 }
 counted (d.Name around {note = note} field x c role is) its = record {
   n = 1;
   items_are = item-name field x c role;
-  marks_are = name-mark around field x note.meant
+  marks_are = name-mark around field x note.meant;
 }
 counted (d.Inside field head {inside = inside} {marks = marks} stays one) its =
     let a = counted one its in
-        record {
-        n = 1;
-        items_are = item-node field head inside a.items_are;
-        marks_are = mark-node field _ marks a.marks_are
+    record {
+      n = 1;
+      items_are = item-node field head inside a.items_are;
+      marks_are = mark-node field _ marks a.marks_are;
     }
 counted
     (d.Kept field head first {inside = inside} {more = more} {marks = marks}
-         {more_marks = more_marks} keeps one two) its =
+    {more_marks = more_marks} keeps one two) its =
     let a = counted one its in
     let b = counted two (alone_left one its) in
     record {
       n = 1;
       items_are =
           item-node field head (node first h.MemberExpr inside ++ more)
-              (items-both (node first h.MemberExpr inside) more
-                   (item-node first h.MemberExpr inside a.items_are) b.items_are);
+          (items-both (node first h.MemberExpr inside) more
+          (item-node first h.MemberExpr inside a.items_are) b.items_are);
       marks_are =
           mark-node field _ (node_marks first h.MemberExpr marks ++ more_marks)
-              (marks-both (node_marks first h.MemberExpr marks) more_marks
-                   (mark-node first _ marks a.marks_are) b.marks_are);
+          (marks-both (node_marks first h.MemberExpr marks) more_marks
+          (mark-node first _ marks a.marks_are) b.marks_are);
     }
 counted (d.Shorthand {note = note} field x c role {default = default} {marks = marks} is one) its =
     let a = counted one its.1 in
@@ -290,9 +290,9 @@ counted (d.Shorthand {note = note} field x c role {default = default} {marks = m
       n = 1;
       items_are =
           item-node field h.AssignPatProp (binding None 0 x c role ++ default)
-              (items-both (binding None 0 x c role) default
-                   (item-node 0 h.BindingIdent (h.Ident 0 x c role ∷ []) (item-name 0 x c role))
-                   a.items_are);
+          (items-both (binding None 0 x c role) default
+          (item-node 0 h.BindingIdent (h.Ident 0 x c role ∷ []) (item-name 0 x c role))
+          a.items_are);
       marks_are = short-marks field x note.meant default marks a.marks_are;
     }
 counted (d.OfReads field count inside is) its = let e = its.0 in absurd cc
@@ -325,19 +325,21 @@ pub nodes-many : {xs : List Item} → AreNodes xs → (n : ℕ) × AreSoMany n x
 nodes-many nodes.nothing = (0, items-none)
 nodes-many (nodes.name {field = field} {ctxt = c} {sym = x} {role = role} {rest = rest} more) =
     let b = nodes-many more in
-        (1 + b.0, items-both (h.Ident field x c role ∷ []) rest (item-name field x c role) b.1)
+    (1 + b.0, items-both (h.Ident field x c role ∷ []) rest (item-name field x c role) b.1)
 nodes-many (nodes.hole {field = field} {rest = rest} more) =
-    let b = nodes-many more in
-        (1 + b.0,
-         items-both (h.Hole field ∷ []) rest
-            (record { here = λ more. omega arith; within = λ depth more. refl }) b.1)
+    let b = nodes-many more in (
+      1 + b.0,
+      items-both (h.Hole field ∷ []) rest
+          (record { here = λ more. omega arith; within = λ depth more. refl }) b.1,
+    )
 nodes-many (nodes.node {field = field} {head = head} {inside = inside} {rest = rest} in_it more) =
     let a = nodes-many in_it in
-    let b = nodes-many more in
-    (1 + b.0,
-         subst (AreSoMany (1 + b.0))
-            (ap (λ l. h.Open field head ∷ l) (append_assoc inside (h.Close ∷ []) rest))
-            (items-both (node field head inside) rest (item-node field head inside a.1) b.1))
+    let b = nodes-many more in (
+      1 + b.0,
+      subst (AreSoMany (1 + b.0))
+          (ap (λ l. h.Open field head ∷ l) (append_assoc inside (h.Close ∷ []) rest))
+          (items-both (node field head inside) rest (item-node field head inside a.1) b.1),
+    )
 
 none-left : {xs : List Item} → AreNodes xs → nodes_in 0 xs ≡ 0 → xs ≡ []
 none-left nodes.nothing e = refl
@@ -351,12 +353,12 @@ pub one-single : {xs : List Item} → AreNodes xs → nodes_in 0 xs ≡ 1 → Is
 one-single nodes.nothing e = absurd (omega (arith, e))
 one-single (nodes.name {field = field} {ctxt = c} {sym = x} {role = role} {rest = rest} more) e =
     let none = none-left more (omega (arith, e)) in
-        subst (λ l. IsSingle (h.Ident field x c role ∷ l)) (sym none) (single-name field x c role)
+    subst (λ l. IsSingle (h.Ident field x c role ∷ l)) (sym none) (single-name field x c role)
 one-single (nodes.hole {field = field} {rest = rest} more) e =
     let none = none-left more (omega (arith, e)) in
-        subst (λ l. IsSingle (h.Hole field ∷ l)) (sym none) (single-hole field)
+    subst (λ l. IsSingle (h.Hole field ∷ l)) (sym none) (single-hole field)
 one-single (nodes.node {field = field} {head = head} {inside = inside} {rest = rest} in_it more) e =
     let a = (nodes-many in_it).1.within 0 (h.Close ∷ rest) in
     let none = none-left more (omega (arith, a, e)) in
     subst (λ l. IsSingle (h.Open field head ∷ (inside ++ h.Close ∷ l))) (sym none)
-        (single-node field head inside (nodes-whole in_it))
+    (single-node field head inside (nodes-whole in_it))

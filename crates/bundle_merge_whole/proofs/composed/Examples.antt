@@ -18,7 +18,7 @@ use Rattle.bundle_merge_whole.specs.composed.Functions.{function_front, function
 abbrev a_constant : List Item
 a_constant =
     node 0 (h.VarDecl Const no_notes)
-        (node 1 h.VarDeclarator (node 0 h.BindingIdent (h.Ident 0 (codes "a") 5 Binding ∷ [])))
+    (node 1 h.VarDeclarator (node 0 h.BindingIdent (h.Ident 0 (codes "a") 5 Binding ∷ [])))
 
 abbrev a_block : List Item
 a_block =
@@ -28,8 +28,8 @@ a_block =
 abbrev a_helper : List Item
 a_helper =
     node 0 h.FnDecl
-        (h.Ident 0 (codes "helper") 3 Binding ∷ node 1 (h.Function false false)
-             (node 1 h.BlockStmt []))
+    (h.Ident 0 (codes "helper") 3 Binding ∷ node 1 (h.Function false false)
+    (node 1 h.BlockStmt []))
 
 abbrev its_first : List Item
 its_first = node 0 h.ExprStmt (h.Ident 0 (codes "exports") 10 Reference ∷ [])
@@ -37,12 +37,12 @@ its_first = node 0 h.ExprStmt (h.Ident 0 (codes "exports") 10 Reference ∷ [])
 abbrev its_second : List Item
 its_second =
     node 0 (h.VarDecl Let no_notes)
-        (node 1 h.VarDeclarator (node 0 h.BindingIdent (h.Ident 0 (codes "c") 11 Binding ∷ [])))
+    (node 1 h.VarDeclarator (node 0 h.BindingIdent (h.Ident 0 (codes "c") 11 Binding ∷ [])))
 
 abbrev a_function : List Item
 a_function =
     function_items no_notes (codes "load", 2) (codes "helper", 3) (codes "module", 9)
-        (codes "exports", 10) (its_first ++ (its_second ++ []))
+    (codes "exports", 10) (its_first ++ (its_second ++ []))
 
 abbrev items : List (List Item)
 items = a_constant ∷ a_block ∷ a_helper ∷ a_function ∷ []
@@ -50,42 +50,51 @@ items = a_constant ∷ a_block ∷ a_helper ∷ a_function ∷ []
 abbrev table : Table
 table =
     ((codes "a", 5), Of (Declared 0 (codes "a"))) ∷ ((codes "load", 2), Load 1) ∷
-        ((codes "helper", 3), Helper)
+    ((codes "helper", 3), Helper)
     ∷ ((codes "module", 9), Parameter 1 (codes "module")) ∷
-        ((codes "exports", 10), Parameter 1 (codes "exports")) ∷
-        ((codes "c", 11), Of (Declared 1 (codes "c"))) ∷ []
+    ((codes "exports", 10), Parameter 1 (codes "exports")) ∷
+    ((codes "c", 11), Of (Declared 1 (codes "c"))) ∷ []
 
 -- the constant is a name of the top
 constant_noted : ItemNoted items table a_constant
-        (AsWhole (Known (Of (Declared 0 (codes "a"))) ∷ [], []))
+    (AsWhole (Known (Of (Declared 0 (codes "a"))) ∷ [], []))
 constant_noted = (is_known refl (labelled_top refl refl (0, omega arith, refl)), tt)
 
 -- in the block there are an inner binding, a name of the top and a global
 block_noted : ItemNoted items table a_block
-        (AsWhole
-             (Inside 0 ∷ Inside 0 ∷ Known (Of (Declared 0 (codes "a"))) ∷ Unbound (codes "f") ∷ [],
-                  []))
+    (AsWhole (
+      Inside 0 ∷ Inside 0 ∷ Known (Of (Declared 0 (codes "a"))) ∷ Unbound (codes "f") ∷ [],
+      [],
+    ))
 block_noted = (
   is_one_inside refl (λ e. absurd cc) refl refl,
-  (is_one_inside refl (λ e. absurd cc) refl refl,
-       (is_known refl (labelled_top refl refl (0, omega arith, refl)),
-           (is_free refl refl refl, tt))),
+  (
+    is_one_inside refl (λ e. absurd cc) refl refl,
+    (
+      is_known refl (labelled_top refl refl (0, omega arith, refl)),
+      (is_free refl refl refl, tt),
+    ),
+  ),
 )
 
 -- in the function the names in front are of the top and inner ones; those of its statements that
 -- its body declares, and its parameters, are outside them
 function_noted : ItemNoted items table a_function
-        (AsFunction
-             (function_front no_notes (codes "load", 2) (codes "helper", 3) (codes "module", 9)
-                  (codes "exports", 10)) (function_names 1) (its_first ∷ its_second ∷ [])
-             ((Known (Parameter 1 (codes "exports")) ∷ [], []) ∷
-                  (Known (Of (Declared 1 (codes "c"))) ∷ [], []) ∷ []))
+    (AsFunction
+    (function_front no_notes (codes "load", 2) (codes "helper", 3) (codes "module", 9)
+    (codes "exports", 10)) (function_names 1) (its_first ∷ its_second ∷ [])
+    ((Known (Parameter 1 (codes "exports")) ∷ [], []) ∷
+    (Known (Of (Declared 1 (codes "c"))) ∷ [], []) ∷ []))
 function_noted = (
   (
     labelled_top refl refl (1, omega arith, refl),
-    (labelled_top refl refl (2, omega arith, refl),
-         (labelled_inner refl (λ e. absurd cc) (3, omega arith, refl),
-             (labelled_inner refl (λ e. absurd cc) (4, omega arith, refl), tt))),
+    (
+      labelled_top refl refl (2, omega arith, refl),
+      (
+        labelled_inner refl (λ e. absurd cc) (3, omega arith, refl),
+        (labelled_inner refl (λ e. absurd cc) (4, omega arith, refl), tt),
+      ),
+    ),
   ),
   (
     (is_known refl (labelled_inner refl (λ e. absurd cc) (4, omega arith, refl)), tt),

@@ -123,9 +123,9 @@ same-marks xs ys names marks e its = record {
   plain = sym (blank-plain ys) ∙ ap are_plain (sym e) ∙ blank-plain xs ∙ its.plain;
   its =
       sym (blank-marks ys names)
-          ∙ ap (λ l. plain_marks l names) (sym e)
-          ∙ blank-marks xs names
-          ∙ its.its;
+      ∙ ap (λ l. plain_marks l names) (sym e)
+      ∙ blank-marks xs names
+      ∙ its.its;
   long = sym (blank-length ys) ∙ ap length (sym e) ∙ blank-length xs ∙ its.long;
 }
 
@@ -144,11 +144,11 @@ outer-cleared (node ∷ outer) = refl
 past-blank : (s : Spot) (x : Item) → past (cleared_spot s) (blank x) ≡ cleared_spot (past s x)
 past-blank s (h.Open field head) =
     ap
-        (λ path.
-             record {
-                 place = s.place + 1;
-                 path = record { head = cleared_head head; begins = s.place; field = 0 } ∷ path
-             }) (sym (field-cleared field s.path))
+    (λ path.
+    record {
+      place = s.place + 1;
+      path = record { head = cleared_head head; begins = s.place; field = 0 } ∷ path;
+    }) (sym (field-cleared field s.path))
 past-blank s (h.Ident field x c r.Word) = refl
 past-blank s (h.Ident field x c r.Binding) = refl
 past-blank s (h.Ident field x c r.Reference) = refl
@@ -165,19 +165,19 @@ fold-blank (x ∷ xs) s =
 -- the scopes around, and where they begin
 scopes-blank : (xs : List Item) (s : Spot) (field : ℕ) →
     scopes_around Es (in_field field (fold past s xs).path) ≡ scopes_around Es
-        (in_field field (fold past (cleared_spot s) (blanks xs)).path)
+    (in_field field (fold past (cleared_spot s) (blanks xs)).path)
 scopes-blank xs s field =
     sym (scopes_around-cleared Es (in_field field (fold past s xs).path))
     ∙ ap (scopes_around Es)
-        (field-cleared field (fold past s xs).path
-             ∙ ap (λ (t : Spot). in_field field t.path) (sym (fold-blank xs s)))
+    (field-cleared field (fold past s xs).path
+    ∙ ap (λ (t : Spot). in_field field t.path) (sym (fold-blank xs s)))
 
 path-blank : (xs : List Item) (s : Spot) →
     scopes_around Es (fold past s xs).path ≡ scopes_around Es
-        (fold past (cleared_spot s) (blanks xs)).path
+    (fold past (cleared_spot s) (blanks xs)).path
 path-blank xs s =
     sym (scopes_around-cleared Es (fold past s xs).path)
-        ∙ ap (λ (t : Spot). scopes_around Es t.path) (sym (fold-blank xs s))
+    ∙ ap (λ (t : Spot). scopes_around Es t.path) (sym (fold-blank xs s))
 
 place-blank : (xs : List Item) (s : Spot) →
     (fold past s xs).place ≡ (fold past (cleared_spot s) (blanks xs)).place
@@ -192,25 +192,25 @@ spot-same s path e clean =
 abbrev pub skeleton : List Item
 skeleton =
     blanks
-        (function_front (record { injected = false; export_ctxt = None }) ([], 0) ([], 0) ([], 0)
-             ([], 0))
+    (function_front (record { injected = false; export_ctxt = None }) ([], 0) ([], 0) ([], 0)
+    ([], 0))
 
 abbrev at_module : ℕ → ℕ → Spot
 at_module place field = record { place = place; path = in_field field module_path }
 
 skeleton-scopes : (place field f : ℕ) →
     scopes_around Es (in_field f (fold past (at_module place field) skeleton).path) ≡ scopes_around
-        Es (fold past (at_module place field) skeleton).path
+    Es (fold past (at_module place field) skeleton).path
 skeleton-scopes place field f = refl
 
 skeleton-size : (place other field its : ℕ) →
     length (scopes_around Es (fold past (at_module place field) skeleton).path) ≡ length
-        (scopes_around Es (fold past (at_module other its) skeleton).path)
+    (scopes_around Es (fold past (at_module other its) skeleton).path)
 skeleton-size place other field its = refl
 
 skeleton-below : (place field : ℕ) →
     AllOf (IsScopeBelow (fold past (at_module place field) skeleton).place)
-        (scopes_around Es (fold past (at_module place field) skeleton).path)
+    (scopes_around Es (fold past (at_module place field) skeleton).path)
 skeleton-below place field = (omega arith, (omega arith, (omega arith, (tt, tt))))
 
 -- fronts that are the same without names stand at spots that match
@@ -220,46 +220,46 @@ fronts-turned front renamed one two = record {
   names = same-names front renamed (one ∙ sym two);
   spots = λ s t field its path_is its_is.
       let a : cleared_spot s ≡ at_module s.place field =
-          spot-same s (in_field field module_path) path_is refl in
+      spot-same s (in_field field module_path) path_is refl in
       let b : cleared_spot t ≡ at_module t.place its =
-          spot-same t (in_field its module_path) its_is refl in
+      spot-same t (in_field its module_path) its_is refl in
       let c : fold past (cleared_spot s) (blanks front) ≡ fold past (at_module s.place field)
-          skeleton =
-          ap₂ (λ (x : Spot) l. fold past x l) a one in
+      skeleton =
+      ap₂ (λ (x : Spot) l. fold past x l) a one in
       let d : fold past (cleared_spot t) (blanks renamed) ≡ fold past (at_module t.place its)
-          skeleton =
-          ap₂ (λ (x : Spot) l. fold past x l) b two in
+      skeleton =
+      ap₂ (λ (x : Spot) l. fold past x l) b two in
       record {
         same =
             λ f. scopes-blank front s f
-                ∙ ap (λ (x : Spot). scopes_around Es (in_field f x.path)) c
-                ∙ skeleton-scopes s.place field f
-                ∙ ap (λ (x : Spot). scopes_around Es x.path) (sym c)
-                ∙ sym (path-blank front s);
+            ∙ ap (λ (x : Spot). scopes_around Es (in_field f x.path)) c
+            ∙ skeleton-scopes s.place field f
+            ∙ ap (λ (x : Spot). scopes_around Es x.path) (sym c)
+            ∙ sym (path-blank front s);
         its_same =
             λ f. scopes-blank renamed t f
-                ∙ ap (λ (x : Spot). scopes_around Es (in_field f x.path)) d
-                ∙ skeleton-scopes t.place its f
-                ∙ ap (λ (x : Spot). scopes_around Es x.path) (sym d)
-                ∙ sym (path-blank renamed t);
+            ∙ ap (λ (x : Spot). scopes_around Es (in_field f x.path)) d
+            ∙ skeleton-scopes t.place its f
+            ∙ ap (λ (x : Spot). scopes_around Es x.path) (sym d)
+            ∙ sym (path-blank renamed t);
         size =
             ap length (path-blank front s)
-                ∙ ap (λ (x : Spot). length (scopes_around Es x.path)) c
-                ∙ skeleton-size s.place t.place field its
-                ∙ ap (λ (x : Spot). length (scopes_around Es x.path)) (sym d)
-                ∙ ap length (sym (path-blank renamed t));
+            ∙ ap (λ (x : Spot). length (scopes_around Es x.path)) c
+            ∙ skeleton-size s.place t.place field its
+            ∙ ap (λ (x : Spot). length (scopes_around Es x.path)) (sym d)
+            ∙ ap length (sym (path-blank renamed t));
         below =
             subst (λ n. AllOf (IsScopeBelow n) (scopes_around Es (fold past s front).path))
-                (ap (λ (x : Spot). x.place) (sym c) ∙ sym (place-blank front s))
-                (subst (AllOf (IsScopeBelow (fold past (at_module s.place field) skeleton).place))
-                     (ap (λ (x : Spot). scopes_around Es x.path) (sym c) ∙ sym (path-blank front s))
-                     (skeleton-below s.place field));
+            (ap (λ (x : Spot). x.place) (sym c) ∙ sym (place-blank front s))
+            (subst (AllOf (IsScopeBelow (fold past (at_module s.place field) skeleton).place))
+            (ap (λ (x : Spot). scopes_around Es x.path) (sym c) ∙ sym (path-blank front s))
+            (skeleton-below s.place field));
         its_below =
             subst (λ n. AllOf (IsScopeBelow n) (scopes_around Es (fold past t renamed).path))
-                (ap (λ (x : Spot). x.place) (sym d) ∙ sym (place-blank renamed t))
-                (subst (AllOf (IsScopeBelow (fold past (at_module t.place its) skeleton).place))
-                     (ap (λ (x : Spot). scopes_around Es x.path) (sym d)
-                          ∙ sym (path-blank renamed t)) (skeleton-below t.place its));
+            (ap (λ (x : Spot). x.place) (sym d) ∙ sym (place-blank renamed t))
+            (subst (AllOf (IsScopeBelow (fold past (at_module t.place its) skeleton).place))
+            (ap (λ (x : Spot). scopes_around Es x.path) (sym d)
+            ∙ sym (path-blank renamed t)) (skeleton-below t.place its));
       };
 }
 
@@ -275,7 +275,7 @@ front-marks c meta load helper own its = record { plain = refl; its = refl; long
 -- the function is its front, its body and its ends
 pub function-parts : (meta : ExportMetadata) (load helper own its : Ident) (body : List Item) →
     function_items meta load helper own its body ≡ function_front meta load helper own its ++
-        (body ++ function_ends)
+    (body ++ function_ends)
 function-parts meta load helper own its body =
     ap (λ l. function_front meta load helper own its ++ l) ends
   where
@@ -283,17 +283,17 @@ function-parts meta load helper own its body =
     one xs = append_assoc body xs (h.Close ∷ [])
 
     ends : ((((((body ++ h.Close ∷ []) ++ h.Close ∷ []) ++ h.Close ∷ []) ++ h.Close ∷ []) ++ h.Close
-                    ∷ []) ++ h.Close ∷ []) ++ h.Close ∷ [] ≡ body ++ function_ends
+        ∷ []) ++ h.Close ∷ []) ++ h.Close ∷ [] ≡ body ++ function_ends
     ends =
         ap
-            (λ l.
-                 (((((l ++ h.Close ∷ []) ++ h.Close ∷ []) ++ h.Close ∷ []) ++ h.Close ∷ []) ++
-                      h.Close ∷ [])) (one (h.Close ∷ []))
+        (λ l.
+        (((((l ++ h.Close ∷ []) ++ h.Close ∷ []) ++ h.Close ∷ []) ++ h.Close ∷ []) ++
+        h.Close ∷ [])) (one (h.Close ∷ []))
         ∙ ap (λ l. ((((l ++ h.Close ∷ []) ++ h.Close ∷ []) ++ h.Close ∷ []) ++ h.Close ∷ []))
-            (one (h.Close ∷ h.Close ∷ []))
+        (one (h.Close ∷ h.Close ∷ []))
         ∙ ap (λ l. (((l ++ h.Close ∷ []) ++ h.Close ∷ []) ++ h.Close ∷ []))
-            (one (h.Close ∷ h.Close ∷ h.Close ∷ []))
+        (one (h.Close ∷ h.Close ∷ h.Close ∷ []))
         ∙ ap (λ l. ((l ++ h.Close ∷ []) ++ h.Close ∷ []))
-            (one (h.Close ∷ h.Close ∷ h.Close ∷ h.Close ∷ []))
+        (one (h.Close ∷ h.Close ∷ h.Close ∷ h.Close ∷ []))
         ∙ ap (λ l. (l ++ h.Close ∷ [])) (one (h.Close ∷ h.Close ∷ h.Close ∷ h.Close ∷ h.Close ∷ []))
         ∙ one (h.Close ∷ h.Close ∷ h.Close ∷ h.Close ∷ h.Close ∷ h.Close ∷ [])

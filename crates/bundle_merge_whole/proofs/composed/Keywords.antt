@@ -37,7 +37,7 @@ call_of (o ∷ os) (p ∷ ps) x c =
 abbrev Same : List Occurrence → List Occurrence → Type 0
 Same os ps =
     (i j : ℕ) (a b p q : Occurrence) → slice_get os i ≡ Some a → slice_get os j ≡ Some b → slice_get
-        ps i ≡ Some p → slice_get ps j ≡ Some q → ident_of a ≡ ident_of b → ident_of p ≡ ident_of q
+    ps i ≡ Some p → slice_get ps j ≡ Some q → ident_of a ≡ ident_of b → ident_of p ≡ ident_of q
 
 call-at : (os ps : List Occurrence) → Same os ps → (i : ℕ) (o p : Occurrence) →
     slice_get os i ≡ Some o → slice_get ps i ≡ Some p → call_of os ps o.sym o.ctxt ≡ ident_of p
@@ -46,35 +46,35 @@ call-at [] ps same i o p at there = absurd (none-some o at)
 call-at (a ∷ os) [] same i o p at there = absurd (none-some p there)
 call-at (a ∷ os) (q ∷ ps) same i o p at there =
     by_test (ident_eq (ident_of a) (ident_of o)) refl i at there
-        (λ j one two. call-at os ps (λ n m b c d e. same (suc n) (suc m) b c d e) j o p one two)
+    (λ j one two. call-at os ps (λ n m b c d e. same (suc n) (suc m) b c d e) j o p one two)
   where
     by_test : (b : Bool) → ident_eq (ident_of a) (ident_of o) ≡ b → (i : ℕ) →
         slice_get (a ∷ os) i ≡ Some o → slice_get (q ∷ ps) i ≡ Some p →
         ((j : ℕ) → slice_get os j ≡ Some o → slice_get ps j ≡ Some p → call_of os ps o.sym o.ctxt ≡
-             ident_of p) →
+        ident_of p) →
         (if ident_eq (ident_of a) (ident_of o) then ident_of q else call_of os ps o.sym o.ctxt) ≡
-            ident_of p
+        ident_of p
     by_test true e i at there ih =
         ap (λ b. if b then ident_of q else call_of os ps o.sym o.ctxt) e
-            ∙ same 0 i a o q p refl at refl there (ident-same (ident_of a) (ident_of o) e)
+        ∙ same 0 i a o q p refl at refl there (ident-same (ident_of a) (ident_of o) e)
     by_test false e zero at there ih =
         absurd
-            (false≢true
-                 (sym e
-                      ∙ subst (λ i. ident_eq (ident_of a) i ≡ true) (ap ident_of (same_Some a o at))
-                          (ident-self (ident_of a))))
+        (false≢true
+        (sym e
+        ∙ subst (λ i. ident_eq (ident_of a) i ≡ true) (ap ident_of (same_Some a o at))
+        (ident-self (ident_of a))))
     by_test false e (suc j) at there ih =
         ap (λ b. if b then ident_of q else call_of os ps o.sym o.ctxt) e ∙ ih j at there
 
 map-at : (f : Occurrence → Ident) (os ps : List Occurrence) → length os ≡ length ps →
     ((i : ℕ) (o p : Occurrence) → slice_get os i ≡ Some o → slice_get ps i ≡ Some p → f o ≡ ident_of
-         p) → map ident_of ps ≡ map f os
+    p) → map ident_of ps ≡ map f os
 map-at f [] [] same at = refl
 map-at f [] (p ∷ ps) same at = absurd (omega (arith, same))
 map-at f (o ∷ os) [] same at = absurd (omega (arith, same))
 map-at f (o ∷ os) (p ∷ ps) same at =
     λ i. sym (at 0 o p refl refl) i ∷ map-at f os ps (omega (arith, same))
-        (λ j a b one two. at (suc j) a b one two) i
+    (λ j a b one two. at (suc j) a b one two) i
 
 -- What no identifier declares.
 
@@ -98,43 +98,43 @@ symbol-stays all each o = by_declared (declaration_of ByContext Es o) refl
     by_implied None e = refl
     by_implied (Some scope) e =
         let passes =
-            find-passes (λ scope. is_implied_in all scope (its_name o)) (scopes_around Es o.path)
-                scope e in
+        find-passes (λ scope. is_implied_in all scope (its_name o)) (scopes_around Es o.path)
+        scope e in
         keeps o.sym
-            (and_parts (is_arguments o.sym) (is_function scope) (sym (nothing-implied all each scope (its_name o)) ∙ passes)).0
+        (and_parts (is_arguments o.sym) (is_function scope) (sym (nothing-implied all each scope (its_name o)) ∙ passes)).0
 
     by_context : (b : Bool) →
         keyword_free_of o.sym
-            (cond b (Global o.sym)
-                 (bound_in (without_context (its_name o))
-                      (find (λ scope. is_implied_in all scope (its_name o))
-                           (scopes_around Es o.path)))) ≡ o.sym
+        (cond b (Global o.sym)
+        (bound_in (without_context (its_name o))
+        (find (λ scope. is_implied_in all scope (its_name o))
+        (scopes_around Es o.path)))) ≡ o.sym
     by_context true = refl
     by_context false =
         by_implied (find (λ scope. is_implied_in all scope (its_name o)) (scopes_around Es o.path))
-            refl
+        refl
 
     by_found : (found : Option Scope) →
         is_written_one (written_or_implied all (scopes_around Es o.path) (its_name o) found) ≡
-            false →
+        false →
         keyword_free_of o.sym (written_or_implied all (scopes_around Es o.path) (its_name o) found)
-            ≡ o.sym
+        ≡ o.sym
     by_found None unwritten = by_context (o.ctxt == 1)
     by_found (Some scope) unwritten = absurd (false≢true (sym unwritten))
 
     by_declared : (d : Option Declared) → declaration_of ByContext Es o ≡ d →
         is_written_one
-            (own_or_found all (denoted_by_context all (scopes_around Es o.path) (its_name o)) d) ≡
-            false →
+        (own_or_found all (denoted_by_context all (scopes_around Es o.path) (its_name o)) d) ≡
+        false →
         keyword_free_of o.sym
-            (own_or_found all (denoted_by_context all (scopes_around Es o.path) (its_name o)) d) ≡
-            o.sym
+        (own_or_found all (denoted_by_context all (scopes_around Es o.path) (its_name o)) d) ≡
+        o.sym
     by_declared None is unwritten =
         by_found (find (λ scope. is_written_in all scope (its_name o)) (scopes_around Es o.path))
-            unwritten
+        unwritten
     by_declared (Some d) is unwritten =
         absurd
-            (false≢true (sym unwritten ∙ ap (λ (n : Name). is_some n.ctxt) (declared-name o d is)))
+        (false≢true (sym unwritten ∙ ap (λ (n : Name). is_some n.ctxt) (declared-name o d is)))
 
 module _ (before after : List Item) (resolved : IsResolved Es before) (names : HasNamesOnly before)
     (rid : IsRidOfKeywords before after) where
@@ -150,8 +150,8 @@ module _ (before after : List Item) (resolved : IsResolved Es before) (names : H
   pub size : length os ≡ length ps
   size =
       sym (length-map os (denoted_in_tree before))
-          ∙ rid.free.alike.len
-          ∙ length-map ps (denoted_in_tree after)
+      ∙ rid.free.alike.len
+      ∙ length-map ps (denoted_in_tree after)
 
   -- what is denoted by number
   pub at-before : (i : ℕ) (o : Occurrence) → slice_get os i ≡ Some o →
@@ -168,10 +168,10 @@ module _ (before after : List Item) (resolved : IsResolved Es before) (names : H
   same i j a b p q at there its other e =
       let denoted = same-denoted before resolved a b (i, at) (j, there) e in
       let later =
-          (rid.free.alike.same i j).0
-              (at-before i a at ∙ ap Some denoted ∙ sym (at-before j b there)) in
+      (rid.free.alike.same i j).0
+      (at-before i a at ∙ ap Some denoted ∙ sym (at-before j b there)) in
       same-ident after rid.free.resolved p q (i, its) (j, other)
-          (same_Some _ _ (sym (at-after i p its) ∙ later ∙ at-after j q other))
+      (same_Some _ _ (sym (at-after i p its) ∙ later ∙ at-after j q other))
 
   back : (i j : ℕ) (a b p q : Occurrence) → slice_get os i ≡ Some a → slice_get os j ≡ Some b →
       slice_get ps i ≡ Some p → slice_get ps j ≡ Some q → ident_of p ≡ ident_of q →
@@ -179,10 +179,10 @@ module _ (before after : List Item) (resolved : IsResolved Es before) (names : H
   back i j a b p q at there its other e =
       let denoted = same-denoted after rid.free.resolved p q (i, its) (j, other) e in
       let was =
-          (rid.free.alike.same i j).1
-              (at-after i p its ∙ ap Some denoted ∙ sym (at-after j q other)) in
+      (rid.free.alike.same i j).1
+      (at-after i p its ∙ ap Some denoted ∙ sym (at-after j q other)) in
       same-ident before resolved a b (i, at) (j, there)
-          (same_Some _ _ (sym (at-before i a at) ∙ was ∙ at-before j b there))
+      (same_Some _ _ (sym (at-before i a at) ∙ was ∙ at-before j b there))
 
   pub call : Calling
   call = call_of os ps
@@ -198,23 +198,23 @@ module _ (before after : List Item) (resolved : IsResolved Es before) (names : H
   identified : AllOf HasIdentifier all
   identified =
       all-in HasIdentifier all
-          (λ i d at. names d (i, slice_get_within all i d at, get_or_from_slice_get all i d d at))
+      (λ i d at. names d (i, slice_get_within all i d at, get_or_from_slice_get all i d d at))
 
   -- the symbol and the context of what no identifier declares
   pub symbol-at : (i : ℕ) (o p : Occurrence) → slice_get os i ≡ Some o → slice_get ps i ≡ Some p →
       p.sym ≡ keyword_free_of o.sym (denoted_of ByContext Es all o)
   symbol-at i o p at there =
       let one : slice_get (map (λ (x : Occurrence). x.sym) ps) i ≡ Some p.sym =
-          slice_get-map (λ (x : Occurrence). x.sym) ps i
-              ∙ ap (option_map (λ (x : Occurrence). x.sym)) there in
+      slice_get-map (λ (x : Occurrence). x.sym) ps i
+      ∙ ap (option_map (λ (x : Occurrence). x.sym)) there in
       let two : slice_get (keyword_free_symbols before) i ≡ Some
-          (keyword_free_of o.sym (denoted_of ByContext Es all o)) =
-          slice_get-map (λ (x : Occurrence). keyword_free_of x.sym (denoted_of ByContext Es all x))
-                  os i
-              ∙ ap
-                  (option_map
-                       (λ (x : Occurrence). keyword_free_of x.sym (denoted_of ByContext Es all x)))
-                  at in
+      (keyword_free_of o.sym (denoted_of ByContext Es all o)) =
+      slice_get-map (λ (x : Occurrence). keyword_free_of x.sym (denoted_of ByContext Es all x))
+      os i
+      ∙ ap
+      (option_map
+      (λ (x : Occurrence). keyword_free_of x.sym (denoted_of ByContext Es all x)))
+      at in
       same_Some _ _ (sym one ∙ ap (λ l. slice_get l i) rid.free.symbols ∙ two)
 
   pub context-stays : (o p : Occurrence) → p.sym ≡ o.sym → IsTrue (has_right_context os o p) →
@@ -222,11 +222,11 @@ module _ (before after : List Item) (resolved : IsResolved Es before) (names : H
   context-stays o p same_symbol right =
       let e : bytes_eq o.sym p.sym ≡ true = (bytes_eq-Decides o.sym p.sym).1 (sym same_symbol) in
       eqb-true p.ctxt o.ctxt
-          (sym
-                   (ap
-                        (λ b. cond (not b && has_ident os p.sym o.ctxt)
-                             (is_unused_context os p.ctxt) (p.ctxt == o.ctxt)) e)
-               ∙ right)
+      (sym
+      (ap
+      (λ b. cond (not b && has_ident os p.sym o.ctxt)
+      (is_unused_context os p.ctxt) (p.ctxt == o.ctxt)) e)
+      ∙ right)
 
   pub faithful : IsFaithful call os all
   faithful = record {
@@ -234,19 +234,19 @@ module _ (before after : List Item) (resolved : IsResolved Es before) (names : H
         let p = as-long os ps at.0 o size at.1 in
         let r = as-long os ps there.0 q size there.1 in
         let e : ident_of p.0 ≡ ident_of r.0 =
-            sym (called at.0 o p.0 at.1 p.1)
-                ∙ (λ i. (symbols i, contexts i))
-                ∙ called there.0 q r.0 there.1 r.1 in
+        sym (called at.0 o p.0 at.1 p.1)
+        ∙ (λ i. (symbols i, contexts i))
+        ∙ called there.0 q r.0 there.1 r.1 in
         let was = back at.0 there.0 o q p.0 r.0 at.1 there.1 p.1 r.1 e in
         (ap (λ (x : Ident). x.0) was, ap (λ (x : Ident). x.1) was);
     stays = λ o at unwritten.
         let p = as-long os ps at.0 o size at.1 in
         let is = called at.0 o p.0 at.1 p.1 in
         let symbols : p.0.sym ≡ o.sym =
-            symbol-at at.0 o p.0 at.1 p.1 ∙ symbol-stays all identified o unwritten in
+        symbol-at at.0 o p.0 at.1 p.1 ∙ symbol-stays all identified o unwritten in
         let contexts : p.0.ctxt ≡ o.ctxt =
-            context-stays o p.0 symbols
-                (zip-at (λ old new. IsTrue (has_right_context os old new)) os ps rid.free.contexts
-                     at.0 o p.0 at.1 p.1) in
+        context-stays o p.0 symbols
+        (zip-at (λ old new. IsTrue (has_right_context os old new)) os ps rid.free.contexts
+        at.0 o p.0 at.1 p.1) in
         (ap (λ (x : Ident). x.0) is ∙ symbols, ap (λ (x : Ident). x.1) is ∙ contexts);
   }

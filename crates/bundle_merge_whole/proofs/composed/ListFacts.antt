@@ -36,7 +36,7 @@ zip-length R xs ys all = sym (AllZip-long R xs ys all)
 
 -- one more element of each, where both pass
 pub pick : {A B : Type 0} (R : A → B → Type 0) (b c : Bool) (x : A) (y : B) (xs : List A)
-        (ys : List B) → b ≡ c → (b ≡ true → R x y) → AllZip R xs ys →
+    (ys : List B) → b ≡ c → (b ≡ true → R x y) → AllZip R xs ys →
     AllZip R (cond b (x ∷ xs) xs) (cond c (y ∷ ys) ys)
 pick R true true x y xs ys same its all = (its refl, all)
 pick R false false x y xs ys same its all = all

@@ -45,49 +45,49 @@ close spec outer other post its follows b e =
 
 -- a name
 one-name : (change : Option Change) (field : ℕ) (x : Text) (k : ℕ) (role : Role) (outer : List Bool)
-        (b : Bool) (its : List Item) → Ends outer (is_occurrence role) its →
+    (b : Bool) (its : List Item) → Ends outer (is_occurrence role) its →
     Ends outer b (renamed change field x k role ∷ its)
 one-name None field x k role outer b its e = e
 one-name (Some change) field x k role outer b its e = e
 
 key-name : (computed : Bool) (change : Option Change) (x : Text) (k : ℕ) (role : Role)
-        (outer : List Bool) (its : List Item) → Ends outer false its →
+    (outer : List Bool) (its : List Item) → Ends outer false its →
     Ends (false ∷ outer) false
-        (((if computed then h.Open 0 h.ComputedPropName ∷ h.Open 0 (h.Str x None) ∷ h.Close ∷
-                     h.Close ∷ [] else plain_key x) ++ renamed change 1 x k role ∷ []) ++ h.Close ∷
-             its)
+    (((if computed then h.Open 0 h.ComputedPropName ∷ h.Open 0 (h.Str x None) ∷ h.Close ∷
+    h.Close ∷ [] else plain_key x) ++ renamed change 1 x k role ∷ []) ++ h.Close ∷
+    its)
 key-name true change x k role outer its e =
     one-name change 1 x k role (false ∷ outer) false (h.Close ∷ its) e
 key-name false change x k role outer its e =
     one-name change 1 x k role (false ∷ outer) false (h.Close ∷ its) e
 
 object-name : (spelled : Bool) (change : Option Change) (field : ℕ) (x : Text) (k : ℕ) (role : Role)
-        (outer : List Bool) (b : Bool) (its : List Item) → Ends outer (is_occurrence role) its →
+    (outer : List Bool) (b : Bool) (its : List Item) → Ends outer (is_occurrence role) its →
     Ends outer b
-        ((if spelled then node field h.KeyValueProp
-                 (key_in_object x ++ renamed change 1 x k role ∷ []) else renamed change field x k
-                 role ∷ []) ++ its)
+    ((if spelled then node field h.KeyValueProp
+    (key_in_object x ++ renamed change 1 x k role ∷ []) else renamed change field x k
+    role ∷ []) ++ its)
 object-name true change field x k role outer b its e =
     subst (λ l. Ends (false ∷ outer) false l)
-        (sym (append_assoc (key_in_object x ++ renamed change 1 x k role ∷ []) (h.Close ∷ []) its))
+    (sym (append_assoc (key_in_object x ++ renamed change 1 x k role ∷ []) (h.Close ∷ []) its))
     (key-name (bytes_eq x (codes "__proto__")) change x k role outer its
-         (at-false outer (is_occurrence role) its e))
+    (at-false outer (is_occurrence role) its e))
 object-name false change field x k role outer b its e = one-name change field x k role outer b its e
 
 specifier-name : (spelled : Bool) (change : Option Change) (field : ℕ) (x : Text) (k : ℕ)
-        (role : Role) (outer : List Bool) (b : Bool) (its : List Item) →
+    (role : Role) (outer : List Bool) (b : Bool) (its : List Item) →
     Ends outer (is_occurrence role) its →
     Ends outer b
-        ((if spelled then renamed change field x k role ∷ h.Ident 1 x 0 r.Word ∷ [] else renamed
-                 change field x k role ∷ []) ++ its)
+    ((if spelled then renamed change field x k role ∷ h.Ident 1 x 0 r.Word ∷ [] else renamed
+    change field x k role ∷ []) ++ its)
 specifier-name true change field x k role outer b its e =
     one-name change field x k role outer b (h.Ident 1 x 0 r.Word ∷ its)
-        (at-false outer (is_occurrence role) its e)
+    (at-false outer (is_occurrence role) its e)
 specifier-name false change field x k role outer b its e =
     one-name change field x k role outer b its e
 
 name-place : (around : Around) (change : Option Change) (field : ℕ) (x : Text) (k : ℕ) (role : Role)
-        (outer : List Bool) (b : Bool) (its : List Item) → Ends outer (is_occurrence role) its →
+    (outer : List Bool) (b : Bool) (its : List Item) → Ends outer (is_occurrence role) its →
     Ends outer b (in_its_place around change field x k role ++ its)
 name-place Anywhere change field x k role outer b its e =
     one-name change field x k role outer b its e
@@ -98,45 +98,45 @@ name-place InSpecifier change field x k role outer b its e =
 
 -- a name that is a pattern
 pattern-name : (change : Option Change) (field : ℕ) (x : Text) (k : ℕ) (role : Role)
-        (outer : List Bool) (its : List Item) → Ends outer false its →
+    (outer : List Bool) (its : List Item) → Ends outer false its →
     Ends outer false (binding change field x k role ++ its)
 pattern-name change field x k role outer its e =
     one-name change 0 x k role (false ∷ outer) false (h.Close ∷ its) e
 
 -- a shorthand property, where what is made of its default ends so
 pattern-place : (change : Option Change) (x : Text) (k : ℕ) (role : Role) (made : List Item)
-        (outer : List Bool) (its : List Item) →
+    (outer : List Bool) (its : List Item) →
     ((deep : List Bool) (more : List Item) → ((d : Bool) → Ends outer false its → Ends deep d more)
-         → Ends deep false (made ++ more)) →
+    → Ends deep false (made ++ more)) →
     Ends (false ∷ outer) false (pattern_in_its_place change x k role made ++ h.Close ∷ its)
 pattern-place change x k role [] outer its inner =
     pattern-name change 1 x k role (false ∷ outer) (h.Close ∷ its)
-        (inner (false ∷ outer) (h.Close ∷ its) (λ d e. e))
+    (inner (false ∷ outer) (h.Close ∷ its) (λ d e. e))
 pattern-place change x k role (first ∷ more) outer its inner =
     subst (Ends (false ∷ false ∷ outer) false)
-        (sym
-             (append_assoc (binding change 0 x k role ++ first ∷ more) (h.Close ∷ [])
-                  (h.Close ∷ its)))
+    (sym
+    (append_assoc (binding change 0 x k role ++ first ∷ more) (h.Close ∷ [])
+    (h.Close ∷ its)))
     (subst (Ends (false ∷ false ∷ outer) false) (sym (append_assoc (binding change 0 x k role) (first ∷ more) (h.Close ∷ h.Close ∷ its)))
     (pattern-name change 0 x k role (false ∷ false ∷ outer) ((first ∷ more) ++ h.Close ∷ h.Close ∷ its) (inner (false ∷ false ∷ outer) (h.Close ∷ h.Close ∷ its) (λ d e. e))))
 
 short-place : (spelled : Bool) (change : Option Change) (field : ℕ) (x : Text) (k : ℕ) (role : Role)
-        (made : List Item) (outer : List Bool) (b : Bool) (its : List Item) →
+    (made : List Item) (outer : List Bool) (b : Bool) (its : List Item) →
     ((deep : List Bool) (more : List Item) → ((d : Bool) → Ends outer false its → Ends deep d more)
-         → Ends deep false (made ++ more)) →
+    → Ends deep false (made ++ more)) →
     Ends outer b
-        ((if spelled then node field h.KeyValuePatProp
-                 (plain_key x ++ pattern_in_its_place change x k role made) else node field
-                 h.AssignPatProp (binding change 0 x k role ++ made)) ++ its)
+    ((if spelled then node field h.KeyValuePatProp
+    (plain_key x ++ pattern_in_its_place change x k role made) else node field
+    h.AssignPatProp (binding change 0 x k role ++ made)) ++ its)
 short-place true change field x k role made outer b its inner =
     subst (Ends (false ∷ outer) false)
-        (sym
-             (append_assoc (plain_key x ++ pattern_in_its_place change x k role made) (h.Close ∷ [])
-                  its))
+    (sym
+    (append_assoc (plain_key x ++ pattern_in_its_place change x k role made) (h.Close ∷ [])
+    its))
     (pattern-place change x k role made outer its inner)
 short-place false change field x k role made outer b its inner =
     subst (Ends (false ∷ outer) false)
-        (sym (append_assoc (binding change 0 x k role ++ made) (h.Close ∷ []) its))
+    (sym (append_assoc (binding change 0 x k role ++ made) (h.Close ∷ []) its))
     (subst (Ends (false ∷ outer) false) (sym (append_assoc (binding change 0 x k role) made (h.Close ∷ its)))
     (pattern-name change 0 x k role (false ∷ outer) (made ++ h.Close ∷ its) (inner (false ∷ outer) (h.Close ∷ its) (λ d e. e))))
 
@@ -148,11 +148,11 @@ ends-edited : {around : Around} {changes rest : List Change} {before made : List
 ends-edited c.Nothing outer other b post its follows e = follows b e
 ends-edited
     (c.Joined {first = first} {made_first = made_first} {second = second}
-         {made_second = made_second} one two) outer other b post its follows e =
+    {made_second = made_second} one two) outer other b post its follows e =
     subst (Ends other b) (sym (append_assoc made_first made_second its))
     (ends-edited one outer other b (second ++ post) (made_second ++ its)
-         (λ k f. ends-edited two outer other k post its follows f)
-         (subst (Ends outer b) (append_assoc first second post) e))
+    (λ k f. ends-edited two outer other k post its follows f)
+    (subst (Ends outer b) (append_assoc first second post) e))
 ends-edited (c.Hole field) outer other b post its follows e = follows false e
 ends-edited (c.Word field x k role plain) outer other b post its follows e =
     follows (is_occurrence role) e
@@ -166,19 +166,19 @@ ends-edited
     (c.Shorthand {changes = changes} field x k role {default = default} {made = made} occurs one)
     outer other b post its follows e =
     let whole : Ends (false ∷ outer) false
-        ((binding None 0 x k role ++ default) ++ h.Close ∷ post) =
-        subst (Ends (false ∷ outer) false)
-            (append_assoc (binding None 0 x k role ++ default) (h.Close ∷ []) post) e in
+    ((binding None 0 x k role ++ default) ++ h.Close ∷ post) =
+    subst (Ends (false ∷ outer) false)
+    (append_assoc (binding None 0 x k role ++ default) (h.Close ∷ []) post) e in
     let behind : Ends (false ∷ outer) false (default ++ h.Close ∷ post) =
-        subst (Ends (false ∷ outer) false)
-            (append_assoc (binding None 0 x k role) default (h.Close ∷ post)) whole in
+    subst (Ends (false ∷ outer) false)
+    (append_assoc (binding None 0 x k role) default (h.Close ∷ post)) whole in
     short-place (spells_out (next changes)) (next changes) field x k role made other b its
     (λ deep more f. ends-edited one (false ∷ outer) deep false (h.Close ∷ post) more
-         (λ d g. f d (follows false g)) behind)
+    (λ d g. f d (follows false g)) behind)
 
 pub lone-edited : {changes rest : List Change} {before made : List Item} →
     Edits Anywhere changes before made rest → HasNoLoneName before → HasNoLoneName made
 lone-edited {before = before} {made = made} edits lone =
     subst HasNoLoneName (append-nil made)
-        (ends-edited edits [] [] false [] [] (λ b e. e)
-             (subst HasNoLoneName (sym (append-nil before)) lone))
+    (ends-edited edits [] [] false [] [] (λ b e. e)
+    (subst HasNoLoneName (sym (append-nil before)) lone))

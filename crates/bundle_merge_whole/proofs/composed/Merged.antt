@@ -36,8 +36,8 @@ use Rattle.bundle_merge_whole.proofs.composed.Labels.{label-there}
 shifted : (a b k : ℕ) → nat_le (a + k) (b + k) ≡ nat_le a b
 shifted a b k =
     same_bool (nat_le (a + k) (b + k)) (nat_le a b)
-        (λ is. let l = leb-true (a + k) (b + k) is in le-leb a b (omega (arith, l)))
-        (λ is. let l = leb-true a b is in le-leb (a + k) (b + k) (omega (arith, l)))
+    (λ is. let l = leb-true (a + k) (b + k) is in le-leb a b (omega (arith, l)))
+    (λ is. let l = leb-true a b is in le-leb (a + k) (b + k) (omega (arith, l)))
 
 get-behind : (before after : List (List Item)) (item : List Item) →
     slice_get (before ++ item ∷ after) (length before) ≡ Some item
@@ -62,7 +62,7 @@ same_denoted-moved : (k : ℕ) (d e : Denoted) →
     same_denoted (moved_denoted k d) (moved_denoted k e) ≡ same_denoted d e
 same_denoted-moved k (Bound scope name) (Bound other its) =
     ap (λ b. b && bytes_eq name.sym its.sym && same_context name.ctxt its.ctxt)
-        (same-moved k scope other)
+    (same-moved k scope other)
 same_denoted-moved k (Bound scope name) (Global x) = refl
 same_denoted-moved k (Global x) (Bound scope name) = refl
 same_denoted-moved k (Global x) (Global y) = refl
@@ -88,7 +88,7 @@ outside-both : (begins k : ℕ) (d e : Denoted) → is_inside begins d ≡ false
     is_inside (begins + k) e ≡ false → AreAlike begins k d e
 outside-both begins k d e one two = record {
   same = one ∙ sym two;
-  moves = λ is. absurd (false≢true (sym one ∙ is))
+  moves = λ is. absurd (false≢true (sym one ∙ is));
 }
 
 module _ (items : List (List Item)) (table : Table) (whole : AllOf IsWhole items)
@@ -126,7 +126,7 @@ module _ (items : List (List Item)) (table : Table) (whole : AllOf IsWhole items
       scope = scope;
       name = name;
       is = refl;
-      labelled = c
+      labelled = c;
     }
     bound_as l (Global x) never c = absurd (never x refl)
 
@@ -134,24 +134,24 @@ module _ (items : List (List Item)) (table : Table) (whole : AllOf IsWhole items
         (x : List ℕ) → moved_denoted k d ≡ Global x → ⊥
     inner_global item o d it x e =
         let both : Bound (Inner it.kind (moved k it.begins)) it.name ≡ Global x = sym
-                (ap (moved_denoted k) it.is)
-            ∙ e in cc
+        (ap (moved_denoted k) it.is)
+        ∙ e in cc
 
     labelled_bound : (o : Occurrence) → IsListedIn item o → (l : Label) →
         IsLabelled items table item o l → StandsForLabel labels (in_whole o) l
     labelled_bound o listed l (labelled_top top not_inner c) =
         bound_as l (in_whole o)
-            (λ x e. let both : Bound Top (its_name o) ≡ Global x = sym
-                     (told_by o listed (top_name top not_inner))
-                 ∙ e in cc)
-            (label-there (joined items) resolved table (moved_occurrence k o)
-                 (in_occurrences o listed) l c)
+        (λ x e. let both : Bound Top (its_name o) ≡ Global x = sym
+        (told_by o listed (top_name top not_inner))
+        ∙ e in cc)
+        (label-there (joined items) resolved table (moved_occurrence k o)
+        (in_occurrences o listed) l c)
     labelled_bound o listed l (labelled_inner is unless c) =
         bound_as l (in_whole o)
-            (λ x e. inner_global item o (own_denoted item o) (inner_it o listed is) x
-                 (sym (told_by o listed (inner is unless)) ∙ e))
-            (label-there (joined items) resolved table (moved_occurrence k o)
-                 (in_occurrences o listed) l c)
+        (λ x e. inner_global item o (own_denoted item o) (inner_it o listed is) x
+        (sym (told_by o listed (inner is unless)) ∙ e))
+        (label-there (joined items) resolved table (moved_occurrence k o)
+        (in_occurrences o listed) l c)
 
     inner_alike : (begins : ℕ) (o : Occurrence) → IsListedIn item o →
         (is : is_inner (own_denoted item o) ≡ true) →
@@ -160,11 +160,11 @@ module _ (items : List (List Item)) (table : Table) (whole : AllOf IsWhole items
     inner_alike begins o listed is unless =
         let e = told_by o listed (inner is unless) in
         record {
-            same =
-                sym
-                    (ap (is_inside (begins + k)) e
-                         ∙ inside-moved item o begins k (own_denoted item o) (inner_it o listed is));
-            moves = λ its. e
+          same =
+              sym
+              (ap (is_inside (begins + k)) e
+              ∙ inside-moved item o begins k (own_denoted item o) (inner_it o listed is));
+          moves = λ its. e;
         }
 
     alike : (begins : ℕ) (its : List Denoted) (o : Occurrence) → IsListedIn item o →
@@ -176,28 +176,28 @@ module _ (items : List (List Item)) (table : Table) (whole : AllOf IsWhole items
         inner_alike begins o listed is unless
     alike begins its o listed meant (is_known out (labelled_top top not_inner c)) =
         outside-both begins k (own_denoted item o) (in_whole o) out
-            (ap (is_inside (begins + k)) (told_by o listed (top_name top not_inner)))
+        (ap (is_inside (begins + k)) (told_by o listed (top_name top not_inner)))
     alike begins its o listed meant (is_free one not_top not_inner) =
         outside-both begins k (own_denoted item o) (in_whole o)
-            (ap (is_inside begins)
-                 (free-own item o (viewed item (all-at IsNamed items m item named at) o listed) one
-                      not_inner (own-top items m item (its_name o) at not_top)))
-            (ap (is_inside (begins + k)) (told_by o listed (free one not_top not_inner)))
+        (ap (is_inside begins)
+        (free-own item o (viewed item (all-at IsNamed items m item named at) o listed) one
+        not_inner (own-top items m item (its_name o) at not_top)))
+        (ap (is_inside (begins + k)) (told_by o listed (free one not_top not_inner)))
 
     pub beside : (begins : ℕ) (its : List Denoted) (os : List Occurrence) →
         AllOf (IsListedIn item) os → (meants : List Meant) →
         AllZip (NameNoted items table item begins its) os meants →
         AllZip (Moves k) (filter (is_inside begins) (map (own_denoted item) os))
-            (filter (is_inside (begins + k)) (map in_whole os))
+        (filter (is_inside (begins + k)) (map in_whole os))
     beside begins its [] listed [] noted = tt
     beside begins its [] listed (meant ∷ meants) noted = absurd noted
     beside begins its (o ∷ os) listed [] noted = absurd noted
     beside begins its (o ∷ os) listed (meant ∷ meants) noted =
         let one = alike begins its o listed.0 meant noted.0 in
         pick (Moves k) (is_inside begins (own_denoted item o)) (is_inside (begins + k) (in_whole o))
-            (own_denoted item o) (in_whole o)
-            (filter (is_inside begins) (map (own_denoted item) os))
-            (filter (is_inside (begins + k)) (map in_whole os)) one.same one.moves
+        (own_denoted item o) (in_whole o)
+        (filter (is_inside begins) (map (own_denoted item) os))
+        (filter (is_inside (begins + k)) (map in_whole os)) one.same one.moves
         (beside begins its os listed.1 meants noted.1)
 
     module _ (begins : ℕ) (all : List Occurrence) where
@@ -210,16 +210,17 @@ module _ (items : List (List Item)) (table : Table) (whole : AllOf IsWhole items
       abbrev SameNumbers : Type 0
       SameNumbers =
           (d e : Denoted) → Moves k d e → position (same_denoted d) here ≡ position (same_denoted e)
-              there
+          there
 
       one_agrees : SameNumbers → (o : Occurrence) → IsListedIn item o → (meant : Meant) →
           NameNoted items table item begins here o meant →
           AgreesWith labels there (begins + k) (in_whole o) meant
       one_agrees same o listed meant (is_one_inside is unless within found) =
           sym (same (own_denoted item o) (in_whole o) (told_by o listed (inner is unless))) ∙ found
-      one_agrees same o listed meant (is_known {l = l} out its) =
-          (sym (alike begins here o listed (Known l) (is_known out its)).same ∙ out,
-               labelled_bound o listed l its)
+      one_agrees same o listed meant (is_known {l = l} out its) = (
+        sym (alike begins here o listed (Known l) (is_known out its)).same ∙ out,
+        labelled_bound o listed l its,
+      )
       one_agrees same o listed meant (is_free one not_top not_inner) =
           told_by o listed (free one not_top not_inner)
 
@@ -240,7 +241,7 @@ module _ (items : List (List Item)) (table : Table) (whole : AllOf IsWhole items
         denoted_from view b part ≡ map in_whole (occurrences_from a part)
     in_turn a b moves part =
         ap (map (denoted_here view)) (moved-occurrences k part a b moves)
-            ∙ map-twice (denoted_here view) (moved_occurrence k) (occurrences_from a part)
+        ∙ map-twice (denoted_here view) (moved_occurrence k) (occurrences_from a part)
 
     -- a statement of the item agrees
     statement_agrees : (a b : Spot) → AreMoved k a b → (part : List Item) →
@@ -250,7 +251,7 @@ module _ (items : List (List Item)) (table : Table) (whole : AllOf IsWhole items
     statement_agrees a b moves part listed told noted =
         let os : List Occurrence = occurrences_from a part in
         subst (λ place. AgreeInTurn labels place (denoted_from view b part) told.0)
-            (sym moves.place)
+        (sym moves.place)
         (subst (λ ds. AgreeInTurn labels (a.place + k) ds told.0) (sym (in_turn a b moves part))
         (all_agree a.place os (λ d e its. numbers_agree (Moves k) (moves-one k) (filter (is_inside a.place) (map (own_denoted item) os)) (filter (is_inside (a.place + k)) (map in_whole os)) (beside a.place (here a.place os) os listed told.0 noted) d e its) os listed told.0 noted))
 
@@ -264,10 +265,10 @@ module _ (items : List (List Item)) (table : Table) (whole : AllOf IsWhole items
         let both = subst (AllOf (IsListedIn item)) (occurrences-append a part (flat parts)) listed in (
           statement_agrees a b moves part
               (all-front (IsListedIn item) (occurrences_from a part)
-                   (occurrences_from (fold past a part) (flat parts)) both) told noted.0,
+              (occurrences_from (fold past a part) (flat parts)) both) told noted.0,
           statements_agree (fold past a part) (fold past b part) (moved-fold k a b moves part) parts
               (all-back (IsListedIn item) (occurrences_from a part)
-                   (occurrences_from (fold past a part) (flat parts)) both) tolds noted.1,
+              (occurrences_from (fold past a part) (flat parts)) both) tolds noted.1,
         )
 
     fronts_agree : (os : List Occurrence) → AllOf (IsListedIn item) os → (names : List Label) →
@@ -288,20 +289,20 @@ module _ (items : List (List Item)) (table : Table) (whole : AllOf IsWhole items
     item_agrees b moves listed (AsFunction front names insides tolds) made noted =
         let one = subst (λ l. AllOf (IsListedIn item) (occurrences_from inside l)) made.1 listed in
         let two =
-            subst (AllOf (IsListedIn item))
-                (occurrences-append inside front (flat insides ++ made.0)) one in
+        subst (AllOf (IsListedIn item))
+        (occurrences-append inside front (flat insides ++ made.0)) one in
         let behind : Spot = fold past inside front in
         let three =
-            all-back (IsListedIn item) (occurrences_from inside front)
-                (occurrences_from behind (flat insides ++ made.0)) two in
+        all-back (IsListedIn item) (occurrences_from inside front)
+        (occurrences_from behind (flat insides ++ made.0)) two in
         let four = subst (AllOf (IsListedIn item)) (occurrences-append behind (flat insides) made.0) three in (
           subst (λ ds. AllZip (StandsForLabel labels) ds names) (sym (in_turn inside b moves front))
               (fronts_agree (occurrences_from inside front)
-                   (all-front (IsListedIn item) (occurrences_from inside front)
-                        (occurrences_from behind (flat insides ++ made.0)) two) names noted.0),
+              (all-front (IsListedIn item) (occurrences_from inside front)
+              (occurrences_from behind (flat insides ++ made.0)) two) names noted.0),
           statements_agree behind (fold past b front) (moved-fold k inside b moves front) insides
               (all-front (IsListedIn item) (occurrences_from behind (flat insides))
-                   (occurrences_from (fold past behind (flat insides)) made.0) four) tolds noted.1,
+              (occurrences_from (fold past behind (flat insides)) made.0) four) tolds noted.1,
         )
 
   all_items : (before after : List (List Item)) → before ++ after ≡ items → (noted : List Noted) →
@@ -315,7 +316,7 @@ module _ (items : List (List Item)) (table : Table) (whole : AllOf IsWhole items
         noted.0,
     subst (λ s. ItemsAgree (view_of ByContext items) labels s after more) next
         (all_items (before ++ item ∷ []) after (append_assoc before (item ∷ []) after ∙ e) more
-             made.1 noted.1),
+        made.1 noted.1),
   )
     where
       at : slice_get items (length before) ≡ Some item
@@ -324,28 +325,28 @@ module _ (items : List (List Item)) (table : Table) (whole : AllOf IsWhole items
       far : length (flat before) ≡ offset items (length before)
       far =
           ap (λ l. length (flat l))
-              (sym (take-behind before (item ∷ after)) ∙ ap (take (length before)) e)
+          (sym (take-behind before (item ∷ after)) ∙ ap (take (length before)) e)
 
       moves : AreMoved (offset items (length before)) inside (fold past inside (flat before))
       moves =
           subst (λ n. AreMoved n inside (fold past inside (flat before))) far
-              (moved-start (length (flat before)) (fold past inside (flat before))
-                   (at-item before
-                        (all-front IsWhole before (item ∷ after)
-                             (subst (AllOf IsWhole) (sym e) whole))))
+          (moved-start (length (flat before)) (fold past inside (flat before))
+          (at-item before
+          (all-front IsWhole before (item ∷ after)
+          (subst (AllOf IsWhole) (sym e) whole))))
 
       listed : AllOf (IsListedIn item) (occurrences_from inside item)
       listed =
           subst (AllOf (IsListedIn item)) (item-occurrences item)
-              (all-in (IsListedIn item) (occurrences (tree_of_items item))
-                   (λ i o there. (i, there)))
+          (all-in (IsListedIn item) (occurrences (tree_of_items item))
+          (λ i o there. (i, there)))
 
       next : fold past inside (flat (before ++ item ∷ [])) ≡ fold past
-              (fold past inside (flat before)) item
+          (fold past inside (flat before)) item
       next =
           ap (fold past inside)
-                  (flat-append before (item ∷ []) ∙ ap (λ l. flat before ++ l) (append-nil item))
-              ∙ fold-append inside (flat before) item
+          (flat-append before (item ∷ []) ∙ ap (λ l. flat before ++ l) (append-nil item))
+          ∙ fold-append inside (flat before) item
 
   -- in the merged tree names denote, by symbol and context, what is told of them by identifiers
   pub merged_agrees : (noted : List Noted) → AllZip IsMadeOf items noted →

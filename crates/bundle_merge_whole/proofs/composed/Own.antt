@@ -28,15 +28,15 @@ use Rattle.bundle_merge_whole.specs.composed.Own.{OutsideNoted, out_known, out_f
 
 -- what is told of a statement
 abbrev pub told_of : {work : Work} {meta : Option Meant} {notes : List Note} {name : Ident}
-        {default : Meant} {source made : List Item} →
+    {default : Meant} {source made : List Item} →
     SameStated work meta notes name default source made → Told
 told_of same = (map (λ pair. pair.1) same.front ++ map meant_in same.entries, same.marks)
 
 -- what a walk makes of an own statement stands for its cause
 pub own-noted : (p : Program) (hooks : Hooks) (form : Form) (m k : ℕ) {work : Work}
-        {meta : Option Meant} {notes : List Note} {name : Ident} {default : Meant}
-        {source made : List Item} (same : SameStated work meta notes name default source made)
-        (statement : List Element) → slice_get (own_statements (tree_of p m)) k ≡ Some statement →
+    {meta : Option Meant} {notes : List Note} {name : Ident} {default : Meant}
+    {source made : List Item} (same : SameStated work meta notes name default source made)
+    (statement : List Element) → slice_get (own_statements (tree_of p m)) k ≡ Some statement →
     OwnMeaning p m statement same.marks →
     IsNotedFor p hooks form made (AsWhole (told_of same)) (bundle.Own m k)
 own-noted p hooks form m k same statement at means = as_whole same.result (own statement at means)
@@ -59,7 +59,7 @@ module _ (R : Denoted → Denoted → Type 0) (one : IsOneToOne R) (items : List
       (here ∙ sym (outside-not o meant out), λ it. absurd (false≢true (sym here ∙ it)))
 
   pub all-beside : (inner : List Denoted) (entries : List Entry) (ds : List Denoted)
-          (os : List Occurrence) → EntriesNoted R items table item inner entries ds os →
+      (os : List Occurrence) → EntriesNoted R items table item inner entries ds os →
       AreBeside R (is_inside 0) (is_inside 1) entries ds (map (own_denoted item) os)
   all-beside inner [] [] [] noted = tt
   all-beside inner [] [] (o ∷ os) noted = absurd noted
@@ -68,7 +68,7 @@ module _ (R : Denoted → Denoted → Type 0) (one : IsOneToOne R) (items : List
   all-beside inner (ByStep step note ∷ entries) (d ∷ ds) [] noted = absurd noted
   all-beside inner (ByStep step note ∷ entries) (d ∷ ds) (o ∷ os) noted =
       let its = made-beside inner d o note.meant noted.0 in
-          (its.0, its.1, all-beside inner entries ds os noted.1)
+      (its.0, its.1, all-beside inner entries ds os noted.1)
   all-beside inner (ByMeta ident meant ∷ entries) ds [] noted = absurd noted
   all-beside inner (ByMeta ident meant ∷ entries) ds (o ∷ os) noted =
       (outside-not o meant noted.0, all-beside inner entries ds os noted.1)
@@ -81,55 +81,55 @@ module _ (R : Denoted → Denoted → Type 0) (one : IsOneToOne R) (items : List
 
   module _ (inner its : List Denoted)
       (same : (d e : Denoted) → R d e → position (same_denoted d) inner ≡ position (same_denoted e) its)
-      where
-    made-noted : (d : Denoted) (o : Occurrence) (meant : Meant) →
-        MadeNoted R items table item inner d o meant → NameNoted items table item 1 its o meant
-    made-noted d o meant (made_inside found here is unless there becomes) =
-        is_one_inside is unless there (sym (same d (own_denoted item o) becomes) ∙ found)
-    made-noted d o meant (made_outside here out) = outside-noted its o meant out
+    where
+      made-noted : (d : Denoted) (o : Occurrence) (meant : Meant) →
+          MadeNoted R items table item inner d o meant → NameNoted items table item 1 its o meant
+      made-noted d o meant (made_inside found here is unless there becomes) =
+          is_one_inside is unless there (sym (same d (own_denoted item o) becomes) ∙ found)
+      made-noted d o meant (made_outside here out) = outside-noted its o meant out
 
-    entries-noted : (entries : List Entry) (ds : List Denoted) (os : List Occurrence) →
-        EntriesNoted R items table item inner entries ds os →
-        AllZip (NameNoted items table item 1 its) os (map meant_in entries)
-    entries-noted [] [] [] noted = tt
-    entries-noted [] [] (o ∷ os) noted = absurd noted
-    entries-noted [] (d ∷ ds) os noted = absurd noted
-    entries-noted (ByStep step note ∷ entries) [] os noted = absurd noted
-    entries-noted (ByStep step note ∷ entries) (d ∷ ds) [] noted = absurd noted
-    entries-noted (ByStep step note ∷ entries) (d ∷ ds) (o ∷ os) noted =
-        (made-noted d o note.meant noted.0, entries-noted entries ds os noted.1)
-    entries-noted (ByMeta ident meant ∷ entries) ds [] noted = absurd noted
-    entries-noted (ByMeta ident meant ∷ entries) ds (o ∷ os) noted =
-        (outside-noted its o meant noted.0, entries-noted entries ds os noted.1)
+      entries-noted : (entries : List Entry) (ds : List Denoted) (os : List Occurrence) →
+          EntriesNoted R items table item inner entries ds os →
+          AllZip (NameNoted items table item 1 its) os (map meant_in entries)
+      entries-noted [] [] [] noted = tt
+      entries-noted [] [] (o ∷ os) noted = absurd noted
+      entries-noted [] (d ∷ ds) os noted = absurd noted
+      entries-noted (ByStep step note ∷ entries) [] os noted = absurd noted
+      entries-noted (ByStep step note ∷ entries) (d ∷ ds) [] noted = absurd noted
+      entries-noted (ByStep step note ∷ entries) (d ∷ ds) (o ∷ os) noted =
+          (made-noted d o note.meant noted.0, entries-noted entries ds os noted.1)
+      entries-noted (ByMeta ident meant ∷ entries) ds [] noted = absurd noted
+      entries-noted (ByMeta ident meant ∷ entries) ds (o ∷ os) noted =
+          (outside-noted its o meant noted.0, entries-noted entries ds os noted.1)
 
-    front-noted : (fronts : List Occurrence) (meants : List Meant) (os : List Occurrence)
-            (more : List Meant) → AllZip (OutsideNoted items table item) fronts meants →
-        AllZip (NameNoted items table item 1 its) os more →
-        AllZip (NameNoted items table item 1 its) (fronts ++ os) (meants ++ more)
-    front-noted [] [] os more out rest = rest
-    front-noted [] (meant ∷ meants) os more out rest = absurd out
-    front-noted (o ∷ fronts) [] os more out rest = absurd out
-    front-noted (o ∷ fronts) (meant ∷ meants) os more out rest =
-        (outside-noted its o meant out.0, front-noted fronts meants os more out.1 rest)
+      front-noted : (fronts : List Occurrence) (meants : List Meant) (os : List Occurrence)
+          (more : List Meant) → AllZip (OutsideNoted items table item) fronts meants →
+          AllZip (NameNoted items table item 1 its) os more →
+          AllZip (NameNoted items table item 1 its) (fronts ++ os) (meants ++ more)
+      front-noted [] [] os more out rest = rest
+      front-noted [] (meant ∷ meants) os more out rest = absurd out
+      front-noted (o ∷ fronts) [] os more out rest = absurd out
+      front-noted (o ∷ fronts) (meant ∷ meants) os more out rest =
+          (outside-noted its o meant out.0, front-noted fronts meants os more out.1 rest)
 
   pub front-filtered : (fronts : List Occurrence) (meants : List Meant) (os : List Occurrence) →
       AllZip (OutsideNoted items table item) fronts meants →
       filter (is_inside 1) (map (own_denoted item) (fronts ++ os)) ≡ filter (is_inside 1)
-          (map (own_denoted item) os)
+      (map (own_denoted item) os)
   front-filtered [] [] os out = refl
   front-filtered [] (meant ∷ meants) os out = absurd out
   front-filtered (o ∷ fronts) [] os out = absurd out
   front-filtered (o ∷ fronts) (meant ∷ meants) os out =
       ap
-          (λ b. cond b
-               (own_denoted item o ∷ filter (is_inside 1) (map (own_denoted item) (fronts ++ os)))
-               (filter (is_inside 1) (map (own_denoted item) (fronts ++ os))))
-          (outside-not o meant out.0)
+      (λ b. cond b
+      (own_denoted item o ∷ filter (is_inside 1) (map (own_denoted item) (fronts ++ os)))
+      (filter (is_inside 1) (map (own_denoted item) (fronts ++ os))))
+      (outside-not o meant out.0)
       ∙ front-filtered fronts meants os out.1
 
   -- the names of what a walk makes are noted right
   pub names-noted : (front : List Meant) (entries : List Entry) (ds : List Denoted)
-          (front_os os : List Occurrence) → occurrences_from first_spot item ≡ front_os ++ os →
+      (front_os os : List Occurrence) → occurrences_from first_spot item ≡ front_os ++ os →
       AllZip (OutsideNoted items table item) front_os front →
       EntriesNoted R items table item (each_denoted_once (filter (is_inside 0) ds)) entries ds os →
       (told : Told) → told.0 ≡ front ++ map meant_in entries →
@@ -137,20 +137,20 @@ module _ (R : Denoted → Denoted → Type 0) (one : IsOneToOne R) (items : List
   names-noted front entries ds front_os os are out noted told told_is =
       let inner : List Denoted = each_denoted_once (filter (is_inside 0) ds) in
       let its : List Denoted =
-          each_denoted_once (filter (is_inside 1) (map (own_denoted item) (front_os ++ os))) in
+      each_denoted_once (filter (is_inside 1) (map (own_denoted item) (front_os ++ os))) in
       let beside =
-          inside_beside R (is_inside 0) (is_inside 1) entries ds (map (own_denoted item) os)
-              (all-beside inner entries ds os noted) in
+      inside_beside R (is_inside 0) (is_inside 1) entries ds (map (own_denoted item) os)
+      (all-beside inner entries ds os noted) in
       let same : (d e : Denoted) → R d e → position (same_denoted d) inner ≡ position
-          (same_denoted e) its = λ d e becomes.
+      (same_denoted e) its = λ d e becomes.
       numbers_agree R one (filter (is_inside 0) ds)
-          (filter (is_inside 1) (map (own_denoted item) os)) beside d e becomes
+      (filter (is_inside 1) (map (own_denoted item) os)) beside d e becomes
       ∙ ap (λ list. position (same_denoted e) (each_denoted_once list))
-          (sym (front-filtered front_os front os out)) in
+      (sym (front-filtered front_os front os out)) in
       subst
-          (λ meants. AllZip
-               (NameNoted items table item 1
-                    (each_denoted_once (filter (is_inside 1) (own_from item first_spot item))))
-               (occurrences_from first_spot item) meants) (sym told_is)
+      (λ meants. AllZip
+      (NameNoted items table item 1
+      (each_denoted_once (filter (is_inside 1) (own_from item first_spot item))))
+      (occurrences_from first_spot item) meants) (sym told_is)
       (subst (λ list. AllZip (NameNoted items table item 1 (each_denoted_once (filter (is_inside 1) (map (own_denoted item) list)))) list (front ++ map meant_in entries)) (sym are)
       (front-noted inner its same front_os front os (map meant_in entries) out (entries-noted inner its same entries ds os noted)))

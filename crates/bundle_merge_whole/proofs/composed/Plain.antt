@@ -52,15 +52,15 @@ end_plain_path : (tree : List Item) (path : List Around) → IsPlainPath path �
 end_plain_path tree [] plain = refl
 end_plain_path tree (node ∷ outer) plain =
     ap (λ b. if b && has_default tree node.begins then k.Ends ∷ k.Ends ∷ [] else k.Ends ∷ [])
-        plain.0
+    plain.0
 
 name_plain_path : (field : ℕ) (path : List Around) (x : Text) (meant : Meant) → IsPlainPath path →
     name_marks field path x meant ≡ k.Name field meant ∷ []
 name_plain_path field [] x meant plain = refl
 name_plain_path field (node ∷ outer) x meant plain =
     ap
-        (λ b. if b then k.Begins field h.KeyValueProp ∷
-             (object_key x ++ k.Name 1 meant ∷ k.Ends ∷ []) else k.Name field meant ∷ []) plain.1
+    (λ b. if b then k.Begins field h.KeyValueProp ∷
+    (object_key x ++ k.Name 1 meant ∷ k.Ends ∷ []) else k.Name field meant ∷ []) plain.1
 
 module _ (b : Labelled) where
   abbrev sense : Sense
@@ -73,21 +73,21 @@ module _ (b : Labelled) where
 
   -- an occurrence that stands for a label
   occurs : (s : Spot) (field : ℕ) (x : Text) (ctxt : ℕ) (role : Role) (more : List Item)
-          (o : Occurrence) → occurrence_of s (h.Ident field x ctxt role) ≡ Some o →
+      (o : Occurrence) → occurrence_of s (h.Ident field x ctxt role) ≡ Some o →
       IsAt b.tree s (h.Ident field x ctxt role ∷ more) → IsPlainPath s.path → (l : Label) →
       StandsForLabel b.labels (denoted_here sense.view o) l →
       (rest : List Element) (marks : List Mark) → Means sense [] rest marks →
       Means sense [] (taken s.place (h.Ident field x ctxt role) ∷ rest)
-          (k.Name field (Known l) ∷ marks)
+      (k.Name field (Known l) ∷ marks)
   occurs s field x ctxt role more o is at plain l its rest marks later =
       means_as sense [] refl
-          (ap (λ list. list ++ marks)
-               (ap (λ path. name_marks field path x (Known l)) (at-path at)
-                    ∙ name_plain_path field (in_field field s.path) x (Known l)
-                        (plain_field field s.path plain)))
+      (ap (λ list. list ++ marks)
+      (ap (λ path. name_marks field path x (Known l)) (at-path at)
+      ∙ name_plain_path field (in_field field s.path) x (Known l)
+      (plain_field field s.path plain)))
       (named (denoted_here sense.view o) (Known l)
-           (ap (option_map (denoted_here sense.view)) (occurrence_there at ∙ is))
-           (bound_means (denoted_here sense.view o) l its) later)
+      (ap (option_map (denoted_here sense.view)) (occurrence_there at ∙ is))
+      (bound_means (denoted_here sense.view o) l its) later)
 
   pub plain_means : (s : Spot) (xs tail : List Item) → IsAt b.tree s (xs ++ tail) →
       IsPlainPath s.path → are_plain xs ≡ true → (names : List Label) →
@@ -96,55 +96,55 @@ module _ (b : Labelled) where
   plain_means s [] tail at plain all names agree = finished
   plain_means s (h.Open field head ∷ xs) tail at plain all names agree =
       let one =
-          and_parts (not (is_shorthand_in_pattern head)) (not (is_object head) && are_plain xs)
-              all in
+      and_parts (not (is_shorthand_in_pattern head)) (not (is_object head) && are_plain xs)
+      all in
       let two = and_parts (not (is_object head)) (are_plain xs) one.1 in
       let short : is_shorthand_in_pattern head ≡ false =
-          not_is (is_shorthand_in_pattern head) one.0 in
+      not_is (is_shorthand_in_pattern head) one.0 in
       let object : is_object head ≡ false = not_is (is_object head) two.0 in
       let path = plain_field field s.path plain in
       let rest =
-          plain_means (past s (h.Open field head)) xs tail
-              (at-past (h.Open field head) (xs ++ tail) at) (short, object, path) two.1 names
-              agree in
+      plain_means (past s (h.Open field head)) xs tail
+      (at-past (h.Open field head) (xs ++ tail) at) (short, object, path) two.1 names
+      agree in
       means_as sense [] refl
       (ap (λ list. list ++ plain_marks xs names)
-           (ap (λ path. begin_marks b.tree s.place field path head) (at-path at)
-                ∙ begin_plain b.tree s.place field (in_field field s.path) head short
-                    (not_moved (in_field field s.path) path)))
+      (ap (λ path. begin_marks b.tree s.place field path head) (at-path at)
+      ∙ begin_plain b.tree s.place field (in_field field s.path) head short
+      (not_moved (in_field field s.path) path)))
       (begun (λ by none. none)
-           (subst (λ n. Means sense [] (taken_from n xs) (plain_marks xs names)) (add-one s.place)
-                rest))
+      (subst (λ n. Means sense [] (taken_from n xs) (plain_marks xs names)) (add-one s.place)
+      rest))
   plain_means s (h.Ident field x ctxt r.Word ∷ xs) tail at plain all names agree =
       word
-          (subst (λ n. Means sense [] (taken_from n xs) (plain_marks xs names)) (add-one s.place)
-               (plain_means (past s (h.Ident field x ctxt r.Word)) xs tail
-                    (at-past (h.Ident field x ctxt r.Word) (xs ++ tail) at) plain all names agree))
+      (subst (λ n. Means sense [] (taken_from n xs) (plain_marks xs names)) (add-one s.place)
+      (plain_means (past s (h.Ident field x ctxt r.Word)) xs tail
+      (at-past (h.Ident field x ctxt r.Word) (xs ++ tail) at) plain all names agree))
   plain_means s (h.Ident field x ctxt r.Binding ∷ xs) tail at plain all [] agree = absurd agree
   plain_means s (h.Ident field x ctxt r.Binding ∷ xs) tail at plain all (l ∷ names) agree =
       occurs s field x ctxt r.Binding (xs ++ tail) _ refl at plain l agree.0
-          (taken_from (suc s.place) xs) (plain_marks xs names)
+      (taken_from (suc s.place) xs) (plain_marks xs names)
       (subst (λ n. Means sense [] (taken_from n xs) (plain_marks xs names)) (add-one s.place)
-           (plain_means (past s (h.Ident field x ctxt r.Binding)) xs tail
-                (at-past (h.Ident field x ctxt r.Binding) (xs ++ tail) at) plain all names agree.1))
+      (plain_means (past s (h.Ident field x ctxt r.Binding)) xs tail
+      (at-past (h.Ident field x ctxt r.Binding) (xs ++ tail) at) plain all names agree.1))
   plain_means s (h.Ident field x ctxt r.Reference ∷ xs) tail at plain all [] agree = absurd agree
   plain_means s (h.Ident field x ctxt r.Reference ∷ xs) tail at plain all (l ∷ names) agree =
       occurs s field x ctxt r.Reference (xs ++ tail) _ refl at plain l agree.0
-          (taken_from (suc s.place) xs) (plain_marks xs names)
+      (taken_from (suc s.place) xs) (plain_marks xs names)
       (subst (λ n. Means sense [] (taken_from n xs) (plain_marks xs names)) (add-one s.place)
-           (plain_means (past s (h.Ident field x ctxt r.Reference)) xs tail
-                (at-past (h.Ident field x ctxt r.Reference) (xs ++ tail) at) plain all names
-                agree.1))
+      (plain_means (past s (h.Ident field x ctxt r.Reference)) xs tail
+      (at-past (h.Ident field x ctxt r.Reference) (xs ++ tail) at) plain all names
+      agree.1))
   plain_means s (h.Hole field ∷ xs) tail at plain all names agree =
       empty
-          (subst (λ n. Means sense [] (taken_from n xs) (plain_marks xs names)) (add-one s.place)
-               (plain_means (past s (h.Hole field)) xs tail (at-past (h.Hole field) (xs ++ tail) at)
-                    plain all names agree))
+      (subst (λ n. Means sense [] (taken_from n xs) (plain_marks xs names)) (add-one s.place)
+      (plain_means (past s (h.Hole field)) xs tail (at-past (h.Hole field) (xs ++ tail) at)
+      plain all names agree))
   plain_means s (h.Close ∷ xs) tail at plain all names agree =
       means_as sense [] refl
       (ap (λ list. list ++ plain_marks xs names)
-           (ap (end_marks b.tree) (at-path at) ∙ end_plain_path b.tree s.path plain))
+      (ap (end_marks b.tree) (at-path at) ∙ end_plain_path b.tree s.path plain))
       (ended
-           (subst (λ n. Means sense [] (taken_from n xs) (plain_marks xs names)) (add-one s.place)
-                (plain_means (past s h.Close) xs tail (at-past h.Close (xs ++ tail) at)
-                     (plain_outer s.path plain) all names agree)))
+      (subst (λ n. Means sense [] (taken_from n xs) (plain_marks xs names)) (add-one s.place)
+      (plain_means (past s h.Close) xs tail (at-past h.Close (xs ++ tail) at)
+      (plain_outer s.path plain) all names agree)))

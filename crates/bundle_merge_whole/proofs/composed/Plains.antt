@@ -42,9 +42,9 @@ pub plain-of : (items : List Item) → HasNoDefault items → ArePlain items
 plain-of [] none = tt
 plain-of (x ∷ items) none =
     let both =
-            and_parts (not (begins_default x)) (list_all (λ y. not (begins_default y)) items)
-                none in
-        (item-plain x items both.0, plain-of items both.1)
+    and_parts (not (begins_default x)) (list_all (λ y. not (begins_default y)) items)
+    none in
+    (item-plain x items both.0, plain-of items both.1)
 
 item-named : (x : Item) (rest : List Item) → not (begins_default x) ≡ true →
     is_nameless_default x rest ≡ false
@@ -63,15 +63,15 @@ named-of : (items : List Item) → HasNoDefault items → AreNamed items
 named-of [] none = tt
 named-of (x ∷ items) none =
     let both =
-            and_parts (not (begins_default x)) (list_all (λ y. not (begins_default y)) items)
-                none in
-        (item-named x items both.0, named-of items both.1)
+    and_parts (not (begins_default x)) (list_all (λ y. not (begins_default y)) items)
+    none in
+    (item-named x items both.0, named-of items both.1)
 
 none-both : (xs ys : List Item) → HasNoDefault xs → HasNoDefault ys → HasNoDefault (xs ++ ys)
 none-both xs ys one two =
     list_all-append (λ x. not (begins_default x)) xs ys
-        ∙ and_from (list_all (λ x. not (begins_default x)) xs)
-            (list_all (λ x. not (begins_default x)) ys) one two
+    ∙ and_from (list_all (λ x. not (begins_default x)) xs)
+    (list_all (λ x. not (begins_default x)) ys) one two
 
 none-flat : (items : List (List Item)) → AllOf HasNoDefault items → HasNoDefault (flat items)
 none-flat [] none = refl

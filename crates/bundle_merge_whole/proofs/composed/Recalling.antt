@@ -35,9 +35,10 @@ stands-recalled call move [] [] all = tt
 stands-recalled call move [] (p ∷ ps) all = absurd all
 stands-recalled call move (o ∷ os) [] all = absurd all
 stands-recalled call move (o ∷ os) (p ∷ ps) all =
-    let one : Recalls call move o p = all.0 in
-    (one.scopes ∙ sym (all-placed move (scopes_around Es o.path)),
-         stands-recalled call move os ps all.1)
+    let one : Recalls call move o p = all.0 in (
+      one.scopes ∙ sym (all-placed move (scopes_around Es o.path)),
+      stands-recalled call move os ps all.1,
+    )
 
 module _ (call : Calling) (before after : List Item) (names : HasNamesOnly before)
     (plain : ArePlain before)
@@ -66,33 +67,33 @@ module _ (call : Calling) (before after : List Item) (names : HasNamesOnly befor
   zip_declared : AllZip (IsRecalled call move os) all every
   zip_declared =
       subst (λ l. AllZip (IsRecalled call move os) l every) (sym (all-are before names))
-          (subst (AllZip (IsRecalled call move os) (declarations ByContext os))
-               (sym
-                    (declared-named ByContext after
-                         (named_after call before after names plain faithful same calls)))
-               (declarations-recalled call move os os (occurrences after) (λ o at. at) zipped))
+      (subst (AllZip (IsRecalled call move os) (declarations ByContext os))
+      (sym
+      (declared-named ByContext after
+      (named_after call before after names plain faithful same calls)))
+      (declarations-recalled call move os os (occurrences after) (λ o at. at) zipped))
 
   map-zip_in : (l ps : List Occurrence) → ((o : Occurrence) → IsIn l o → IsIn os o) →
       AllZip (Recalls call move) l ps →
       map (denoted_of ByContext Es every) ps ≡ map
-          (λ o. recalled_denoted call move (denoted_of ByContext Es all o)) l
+      (λ o. recalled_denoted call move (denoted_of ByContext Es all o)) l
   map-zip_in [] [] among all_zip = refl
   map-zip_in [] (p ∷ ps) among all_zip = absurd all_zip
   map-zip_in (o ∷ l) [] among all_zip = absurd all_zip
   map-zip_in (o ∷ l) (p ∷ ps) among all_zip =
       ap (λ d. d ∷ map (denoted_of ByContext Es every) ps)
-          (denoted-recalled call move injective os all every zip_declared faithful o p
-               (among o (0, refl)) all_zip.0)
+      (denoted-recalled call move injective os all every zip_declared faithful o p
+      (among o (0, refl)) all_zip.0)
       ∙ ap (λ ds. recalled_denoted call move (denoted_of ByContext Es all o) ∷ ds)
-          (map-zip_in l ps (λ q at. among q (suc at.0, at.1)) all_zip.1)
+      (map-zip_in l ps (λ q at. among q (suc at.0, at.1)) all_zip.1)
 
   known_one : (d : Denoted) → Contains (denotations ByContext Es before) d → IsKnown os d
   known_one d c =
       let from =
-              map-in (denoted_of ByContext Es all) os d
-                  (contains-in (denotations ByContext Es before) d c) in
-          subst (IsKnown os) (sym from.2)
-          (known call move injective os all every zip_declared faithful from.0 from.1)
+      map-in (denoted_of ByContext Es all) os d
+      (contains-in (denotations ByContext Es before) d c) in
+      subst (IsKnown os) (sym from.2)
+      (known call move injective os all every zip_declared faithful from.0 from.1)
 
   abbrev named_denoted : Denoted → Denoted
   named_denoted d = recalled_denoted call move d
@@ -104,7 +105,7 @@ module _ (call : Calling) (before after : List Item) (names : HasNamesOnly befor
       Contains (denotations ByContext Es before) e → named_denoted d ≡ named_denoted e → d ≡ e
   one d e at there is =
       recalled-one call move injective os all every zip_declared faithful d e (known_one d at)
-          (known_one e there) is
+      (known_one e there) is
 
   same-after : (d e : Denoted) → OfScope (InTable K) ([], refl) d →
       OfScope (InTable K) ([], refl) e → same_denoted (named_denoted d) (named_denoted e) ≡ true →
@@ -112,10 +113,10 @@ module _ (call : Calling) (before after : List Item) (names : HasNamesOnly befor
   same-after (Bound s m) (Bound t n) at there is =
       let parts = same-bound (moved move s) (moved move t) (recalled call m) (recalled call n) is in
       let orders =
-          orders-one move injective s t
-              (ap scope_order (placed-same move s)
-                   ∙ parts.order
-                   ∙ sym (ap scope_order (placed-same move t))) in
+      orders-one move injective s t
+      (ap scope_order (placed-same move s)
+      ∙ parts.order
+      ∙ sym (ap scope_order (placed-same move t))) in
       let scopes = same-scopes K s t at there orders in
       λ i. Bound (moved move (scopes i)) (parts.names i)
   same-after (Bound s m) (Global y) at there is = absurd cc
@@ -130,27 +131,28 @@ module _ (call : Calling) (before after : List Item) (names : HasNamesOnly befor
     stands = stands-recalled call move os (occurrences after) zipped;
     are =
         map-zip_in os (occurrences after) (λ o at. at) zipped
-            ∙ sym (map-twice named_denoted (denoted_of ByContext Es all) os);
+        ∙ sym (map-twice named_denoted (denoted_of ByContext Es all) os);
     bindings =
-        λ scope name.
-            (recalled call name,
-                 ap (λ s. Bound s (recalled call name)) (sym (placed-same move scope)));
+        λ scope name. (
+          recalled call name,
+          ap (λ s. Bound s (recalled call name)) (sym (placed-same move scope)),
+        );
     globals = λ x. refl;
     one = one;
     same =
         λ d e at there. same_bool (same_denoted d e)
-            (same_denoted (named_denoted d) (named_denoted e))
+        (same_denoted (named_denoted d) (named_denoted e))
         (λ is. ap (λ x. same_denoted (named_denoted d) (named_denoted x))
-                 (sym
-                      (same-is K d e (in-table ByContext before d at)
-                           (in-table ByContext before e there) is))
-             ∙ same-self (named_denoted d))
+        (sym
+        (same-is K d e (in-table ByContext before d at)
+        (in-table ByContext before e there) is))
+        ∙ same-self (named_denoted d))
         (λ is. ap (same_denoted d)
-                 (sym
-                      (one d e at there
-                           (same-after d e (in-table ByContext before d at)
-                                (in-table ByContext before e there) is)))
-             ∙ same-self d);
+        (sym
+        (one d e at there
+        (same-after d e (in-table ByContext before d at)
+        (in-table ByContext before e there) is)))
+        ∙ same-self d);
   }
 
   -- what an identifier declares is so still

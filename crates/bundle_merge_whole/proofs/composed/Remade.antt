@@ -31,7 +31,7 @@ pub data Remade : Noted → List Item → Noted → Type 0 where
   remade_whole : {item : List Item} {told : Told} → IsMarked item told →
       Remade (AsWhole told) item (AsWhole told)
   remade_function : {item old front : List Item} {names : List Label}
-          {olds insides : List (List Item)} {tolds : List Told} →
+      {olds insides : List (List Item)} {tolds : List Told} →
       item ≡ front ++ (flat insides ++ function_ends) → blanks front ≡ skeleton →
       AllZip IsMarked insides tolds →
       Remade (AsFunction old names olds tolds) item (AsFunction front names insides tolds)
@@ -57,12 +57,12 @@ two_of its [] second all = record { front = []; back = its; is = refl; one = tt;
 two_of [] (x ∷ first) second all = absurd all
 two_of (change ∷ its) (x ∷ first) second all =
     let rest = two_of its first second all.1 in
-        record {
-        front = change ∷ rest.front;
-        back = rest.back;
-        is = ap (λ l. change ∷ l) rest.is;
-        one = (all.0, rest.one);
-        two = rest.two
+    record {
+      front = change ∷ rest.front;
+      back = rest.back;
+      is = ap (λ l. change ∷ l) rest.is;
+      one = (all.0, rest.one);
+      two = rest.two;
     }
 
 -- a part
@@ -76,17 +76,17 @@ part_made : (part : List Item) (told : Told) (its left : List Change) → IsMark
     HasNoLoneName part → AllZip KeepsText its (names_of part) → PartMade part told its left
 part_made part told its left marked lone cover =
     let one =
-        renamed_marks marked (alone_alone told.0) its left cover [] false []
-            (subst HasNoLoneName (sym (append-nil part)) lone) (λ is. absurd (true≢false is)) in
+    renamed_marks marked (alone_alone told.0) its left cover [] false []
+    (subst HasNoLoneName (sym (append-nil part)) lone) (λ is. absurd (true≢false is)) in
     record {
-        made = one.after;
-        marked = one.marked;
-        lone = lone-edited one.edits lone;
-        edits = one.edits
+      made = one.after;
+      marked = one.marked;
+      lone = lone-edited one.edits lone;
+      edits = one.edits;
     }
 
 record PartsMade (parts : List (List Item)) (tolds : List Told) (its left : List Change) : Type
-        0 where
+    0 where
   made : List (List Item)
   marked : AllZip IsMarked made tolds
   lone : AllOf HasNoLoneName made
@@ -99,15 +99,15 @@ parts_made [] [] [] left marked lone cover = record {
   made = [];
   marked = tt;
   lone = tt;
-  edits = c.Nothing
+  edits = c.Nothing;
 }
 parts_made [] [] (change ∷ its) left marked lone cover = absurd cover
 parts_made [] (told ∷ tolds) its left marked lone cover = absurd marked
 parts_made (part ∷ parts) [] its left marked lone cover = absurd marked
 parts_made (part ∷ parts) (told ∷ tolds) its left marked lone cover =
     let both =
-        two_of its (names_of part) (names_of (flat parts))
-            (subst (AllZip KeepsText its) (names_of-append part (flat parts)) cover) in
+    two_of its (names_of part) (names_of (flat parts))
+    (subst (AllZip KeepsText its) (names_of-append part (flat parts)) cover) in
     let one = part_made part told both.front (both.back ++ left) marked.0 lone.0 both.one in
     let rest = parts_made parts tolds both.back left marked.1 lone.1 both.two in
     record {
@@ -116,8 +116,8 @@ parts_made (part ∷ parts) (told ∷ tolds) its left marked lone cover =
       lone = (one.lone, rest.lone);
       edits =
           subst (λ l. Edits Anywhere l (part ++ flat parts) (one.made ++ flat rest.made) left)
-              (sym (append_assoc both.front both.back left) ∙ ap (λ l. l ++ left) (sym both.is))
-              (c.Joined one.edits rest.edits);
+          (sym (append_assoc both.front both.back left) ∙ ap (λ l. l ++ left) (sym both.is))
+          (c.Joined one.edits rest.edits);
     }
 
 -- an item
@@ -130,10 +130,10 @@ record ItemMade (item : List Item) (one : Noted) (its left : List Change) : Type
   edits : Edits Anywhere (its ++ left) item made left
 
 function-edits : (meta : ExportMetadata) (load helper own its : Ident) (a b d e : Change)
-        (changes left : List Change) (body made : List Item) →
+    (changes left : List Change) (body made : List Item) →
     Edits Anywhere changes body made left →
     Edits Anywhere (a ∷ b ∷ d ∷ e ∷ changes) (function_items meta load helper own its body)
-        (function_items meta a.ident b.ident d.ident e.ident made) left
+    (function_items meta a.ident b.ident d.ident e.ident made) left
 function-edits meta load helper own its a b d e changes left body made edits =
     c.Inside 0 (h.VarDecl Var meta) refl (c.Inside 1 h.VarDeclarator refl (c.Joined (c.Inside 0 h.BindingIdent refl (c.Name Anywhere 0 load.0 load.1 Binding refl))
     (c.Inside 1 h.CallExpr refl (c.Joined (c.Name Anywhere 0 helper.0 helper.1 Reference refl) (c.Inside 1 (h.ExprOrSpread false) refl (c.Inside 1 h.FnExpr refl (c.Inside 1 (h.Function false false) refl
@@ -143,31 +143,31 @@ function-edits meta load helper own its a b d e changes left body made edits =
 
 function-names : (meta : ExportMetadata) (load helper own its : Ident) (body : List Item) →
     names_of (function_items meta load helper own its body) ≡ load ∷ helper ∷ own ∷ its ∷ names_of
-        body
+    body
 function-names meta load helper own its body =
     ap names_of (function-parts meta load helper own its body)
     ∙ ap (λ l. load ∷ helper ∷ own ∷ its ∷ l)
-        (names_of-append body function_ends ∙ append-nil (names_of body))
+    (names_of-append body function_ends ∙ append-nil (names_of body))
 
 item_made : (item : List Item) (one : Noted) (its left : List Change) → IsOfForm item one →
     NoLone item one → AllZip KeepsText its (names_of item) → ItemMade item one its left
 item_made item (AsWhole told) its left (whole_form marked) lone cover =
     let it = part_made item told its left marked lone cover in
     record {
-        made = it.made;
-        other = AsWhole told;
-        remade = remade_whole it.marked;
-        form = whole_form it.marked;
-        lone = it.lone;
-        edits = it.edits
+      made = it.made;
+      other = AsWhole told;
+      remade = remade_whole it.marked;
+      form = whole_form it.marked;
+      lone = it.lone;
+      edits = it.edits;
     }
 item_made _ _ its left (function_form {c = k} {insides = insides} {tolds = tolds} meta load helper own exports marked) lone cover = by_changes its (subst (AllZip KeepsText its) (function-names meta load helper own exports (flat insides)) cover)
   where
     by_changes : (its : List Change) →
         AllZip KeepsText its (load ∷ helper ∷ own ∷ exports ∷ names_of (flat insides)) →
         ItemMade (function_items meta load helper own exports (flat insides))
-            (AsFunction (function_front meta load helper own exports) (function_names k) insides
-                 tolds) its left
+        (AsFunction (function_front meta load helper own exports) (function_names k) insides
+        tolds) its left
     by_changes [] cover = absurd cover
     by_changes (a ∷ []) cover = absurd cover.1
     by_changes (a ∷ b ∷ []) cover = absurd cover.1.1
@@ -178,15 +178,15 @@ item_made _ _ its left (function_form {c = k} {insides = insides} {tolds = tolds
           made = function_items meta a.ident b.ident d.ident e.ident (flat it.made);
           other =
               AsFunction (function_front meta a.ident b.ident d.ident e.ident) (function_names k)
-                  it.made tolds;
+              it.made tolds;
           remade =
               remade_function (function-parts meta a.ident b.ident d.ident e.ident (flat it.made))
-                  (front-blank meta a.ident b.ident d.ident e.ident) it.marked;
+              (front-blank meta a.ident b.ident d.ident e.ident) it.marked;
           form = function_form meta a.ident b.ident d.ident e.ident it.marked;
           lone = it.lone;
           edits =
               function-edits meta load helper own exports a b d e (changes ++ left) left
-                  (flat insides) (flat it.made) it.edits;
+              (flat insides) (flat it.made) it.edits;
         }
 
 -- all items
@@ -216,15 +216,15 @@ items_made [] [] [] forms lone cover = record {
   remade = tt;
   forms = tt;
   lones = tt;
-  edits = c.Nothing
+  edits = c.Nothing;
 }
 items_made [] [] (change ∷ its) forms lone cover = absurd cover
 items_made [] (one ∷ noted) its forms lone cover = absurd forms
 items_made (item ∷ items) [] its forms lone cover = absurd forms
 items_made (item ∷ items) (one ∷ noted) its forms lone cover =
     let both =
-        two_of its (names_of item) (names_of (flat items))
-            (subst (AllZip KeepsText its) (names_of-append item (flat items)) cover) in
+    two_of its (names_of item) (names_of (flat items))
+    (subst (AllZip KeepsText its) (names_of-append item (flat items)) cover) in
     let first = item_made item one both.front both.back forms.0 lone.0 both.one in
     let rest = items_made items noted both.back forms.1 lone.1 both.two in
     record {
@@ -235,12 +235,12 @@ items_made (item ∷ items) (one ∷ noted) its forms lone cover =
       lones = (first.lone, rest.lones);
       edits =
           subst (λ l. Edits Anywhere l (item ++ flat items) (first.made ++ flat rest.made) [])
-              (sym both.is) (c.Joined first.edits rest.edits);
+          (sym both.is) (c.Joined first.edits rest.edits);
     }
 
 -- the module with these changes is of items of which the same is told
 pub record Renewed (items : List (List Item)) (noted : List Noted) (its : List Change) : Type
-        0 where
+    0 where
   pub made : List (List Item)
   pub others : List Noted
   pub remade : AllRemade noted made others
@@ -255,11 +255,11 @@ pub renewed : (items : List (List Item)) (noted : List Noted) (its : List Change
 renewed items noted its forms lone cover =
     let all = items_made items noted its forms lone cover in
     record {
-        made = all.made;
-        others = all.others;
-        remade = all.remade;
-        forms = all.forms;
-        lones = all.lones;
-        edits = all.edits;
-        is = sym (rebuilt_so (record { rest = []; by = c.Inside 0 h.Module refl all.edits }))
+      made = all.made;
+      others = all.others;
+      remade = all.remade;
+      forms = all.forms;
+      lones = all.lones;
+      edits = all.edits;
+      is = sym (rebuilt_so (record { rest = []; by = c.Inside 0 h.Module refl all.edits }));
     }

@@ -43,51 +43,51 @@ moved-symbol k (Global x) e is = ap denoted_symbol is
 
 -- in the merged tree they are called as in the item by itself
 pub merged-symbols : (items : List (List Item)) (table : Table) (whole : AllOf IsWhole items)
-        (named : AllOf IsNamed items) (resolved : IsResolved Es (joined items)) (m : ℕ)
-        (item : List Item) (at : slice_get items m ≡ Some item) (a b : Spot) →
+    (named : AllOf IsNamed items) (resolved : IsResolved Es (joined items)) (m : ℕ)
+    (item : List Item) (at : slice_get items m ≡ Some item) (a b : Spot) →
     AreMoved (offset items m) a b → (part : List Item) →
     AllOf (IsListedIn item) (occurrences_from a part) → (told : Told) →
     StatementNoted items table item a part told →
     map denoted_symbol
-        (each_denoted_once
-             (filter (is_inside b.place) (denoted_from (view_of ByContext items) b part))) ≡ map
-        denoted_symbol (each_denoted_once (filter (is_inside a.place) (own_from item a part)))
+    (each_denoted_once
+    (filter (is_inside b.place) (denoted_from (view_of ByContext items) b part))) ≡ map
+    denoted_symbol (each_denoted_once (filter (is_inside a.place) (own_from item a part)))
 merged-symbols items table whole named resolved m item at a b moves part listed told noted =
     let os : List Occurrence = occurrences_from a part in
     let inner : List Denoted =
-        each_denoted_once (filter (is_inside a.place) (own_from item a part)) in
+    each_denoted_once (filter (is_inside a.place) (own_from item a part)) in
     ap
-        (λ place. map denoted_symbol
-             (each_denoted_once
-                  (filter (is_inside place) (denoted_from (view_of ByContext items) b part))))
-        moves.place
+    (λ place. map denoted_symbol
+    (each_denoted_once
+    (filter (is_inside place) (denoted_from (view_of ByContext items) b part))))
+    moves.place
     ∙ ap
-        (λ ds. map denoted_symbol
-             (each_denoted_once (filter (is_inside (a.place + offset items m)) ds)))
-        (in_turn items table whole named resolved m item at a b moves part)
+    (λ ds. map denoted_symbol
+    (each_denoted_once (filter (is_inside (a.place + offset items m)) ds)))
+    (in_turn items table whole named resolved m item at a b moves part)
     ∙ zipped-symbols (Moves (offset items m)) (moved-symbol (offset items m)) inner _
     (both_once (Moves (offset items m)) (moves-one (offset items m))
-         (filter (is_inside a.place) (own_from item a part)) _
-         (beside items table whole named resolved m item at a.place inner os listed told.0 noted))
+    (filter (is_inside a.place) (own_from item a part)) _
+    (beside items table whole named resolved m item at a.place inner os listed told.0 noted))
 
 -- and those of what a walk made are called as in the statement
 pub own-symbols : (R : Denoted → Denoted → Type 0) → IsOneToOne R →
     ((d e : Denoted) → R d e → denoted_symbol e ≡ denoted_symbol d) →
     (items : List (List Item)) (table : Table) (item : List Item) (front : List Meant)
-        (entries : List Entry) (ds : List Denoted) (front_os os : List Occurrence) →
+    (entries : List Entry) (ds : List Denoted) (front_os os : List Occurrence) →
     occurrences_from first_spot item ≡ front_os ++ os →
     AllZip (OutsideNoted items table item) front_os front →
     EntriesNoted R items table item (each_denoted_once (filter (is_inside 0) ds)) entries ds os →
     map denoted_symbol (each_denoted_once (filter (is_inside 1) (own_from item first_spot item))) ≡
-        map denoted_symbol (each_denoted_once (filter (is_inside 0) ds))
+    map denoted_symbol (each_denoted_once (filter (is_inside 0) ds))
 own-symbols R one same items table item front entries ds front_os os are out noted =
     ap
-        (λ list. map denoted_symbol
-             (each_denoted_once (filter (is_inside 1) (map (own_denoted item) list)))) are
+    (λ list. map denoted_symbol
+    (each_denoted_once (filter (is_inside 1) (map (own_denoted item) list)))) are
     ∙ ap (λ list. map denoted_symbol (each_denoted_once list))
-        (front-filtered R one items table item front_os front os out)
+    (front-filtered R one items table item front_os front os out)
     ∙ zipped-symbols R same (each_denoted_once (filter (is_inside 0) ds))
-        (each_denoted_once (filter (is_inside 1) (map (own_denoted item) os)))
+    (each_denoted_once (filter (is_inside 1) (map (own_denoted item) os)))
     (both_once R one (filter (is_inside 0) ds) (filter (is_inside 1) (map (own_denoted item) os))
     (inside_beside R (is_inside 0) (is_inside 1) entries ds (map (own_denoted item) os) (all-beside R one items table item (each_denoted_once (filter (is_inside 0) ds)) entries ds os noted)))
 
@@ -95,7 +95,7 @@ own-symbols R one same items table item front entries ds front_os os are out not
 pub item-symbols : (b : Labelled) (s : Spot) (item tail : List Item) →
     IsAt b.tree s (item ++ tail) →
     item_symbols b (record { start = s.place; items = item }) ≡ map denoted_symbol
-        (each_denoted_once (filter (is_inside s.place) (denoted_from (sense_of b).view s item)))
+    (each_denoted_once (filter (is_inside s.place) (denoted_from (sense_of b).view s item)))
 item-symbols b s item tail at =
     ap (λ list. map denoted_symbol (each_denoted_once (filter (is_inside s.place) list)))
-        (elements_denote (sense_of b).view s item tail at)
+    (elements_denote (sense_of b).view s item tail at)

@@ -34,12 +34,12 @@ pub in-table : (reading : Reading) (tree : List Item) (d : Denoted) →
     Contains (denotations reading Es tree) d → OfScope (InTable (table_in start tree)) ([], refl) d
 in-table reading tree d c =
     let from =
-        map-in (denoted_of reading Es (declared reading Es tree)) (occurrences tree) d
-            (contains-in (denotations reading Es tree) d c) in
+    map-in (denoted_of reading Es (declared reading Es tree)) (occurrences tree) d
+    (contains-in (denotations reading Es tree) d c) in
     subst (OfScope (InTable (table_in start tree)) ([], refl)) (sym from.2)
     (denoted-of (InTable (table_in start tree)) ([], refl) reading (declared reading Es tree) from.0
-         (all-known (table_in start tree) (scopes_around Es from.0.path)
-              (occurrences-known tree from.0 from.1)))
+    (all-known (table_in start tree) (scopes_around Es from.0.path)
+    (occurrences-known tree from.0 from.1)))
 
 -- names
 context-same : (a b : Option ℕ) → same_context a b ≡ true → a ≡ b
@@ -60,22 +60,22 @@ pub same-bound : (s t : Scope) (name its : Name) →
     same_denoted (Bound s name) (Bound t its) ≡ true → SameParts s t name its
 same-bound s t name its e =
     let one =
-        and_parts (same_scope s t && bytes_eq name.sym its.sym) (same_context name.ctxt its.ctxt)
-            e in
+    and_parts (same_scope s t && bytes_eq name.sym its.sym) (same_context name.ctxt its.ctxt)
+    e in
     let two = and_parts (same_scope s t) (bytes_eq name.sym its.sym) one.0 in
     let symbols = (bytes_eq-Decides name.sym its.sym).0 two.1 in
     let contexts = context-same name.ctxt its.ctxt one.1 in
     record {
-        order = eqb-true (scope_order s) (scope_order t) two.0;
-        names = λ i. record { sym = symbols i; ctxt = contexts i }
+      order = eqb-true (scope_order s) (scope_order t) two.0;
+      names = λ i. record { sym = symbols i; ctxt = contexts i };
     }
 
 pub same-self : (d : Denoted) → same_denoted d d ≡ true
 same-self (Bound s name) =
     and_from (same_scope s s && bytes_eq name.sym name.sym) (same_context name.ctxt name.ctxt)
-        (and_from (same_scope s s) (bytes_eq name.sym name.sym)
-             (eq-eqb (scope_order s) (scope_order s) refl)
-             ((bytes_eq-Decides name.sym name.sym).1 refl)) (context-self name.ctxt)
+    (and_from (same_scope s s) (bytes_eq name.sym name.sym)
+    (eq-eqb (scope_order s) (scope_order s) refl)
+    ((bytes_eq-Decides name.sym name.sym).1 refl)) (context-self name.ctxt)
 same-self (Global x) = (bytes_eq-Decides x x).1 refl
 
 -- what is told to be the same is

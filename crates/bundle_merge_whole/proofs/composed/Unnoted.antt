@@ -39,11 +39,11 @@ unnoted (y ∷ xs) (x ∷ first) second e =
     let behind : without_notes xs ≡ first ++ second = cc in
     let rest = unnoted xs first second behind in
     record {
-        front = y ∷ rest.front;
-        back = rest.back;
-        is = ap (λ l. y ∷ l) rest.is;
-        one = (λ i. here i ∷ rest.one i);
-        two = rest.two
+      front = y ∷ rest.front;
+      back = rest.back;
+      is = ap (λ l. y ∷ l) rest.is;
+      one = (λ i. here i ∷ rest.one i);
+      two = rest.two;
     }
 
 close_is : (x : Item) → without_note x ≡ h.Close → x ≡ h.Close
@@ -68,12 +68,12 @@ ends_are (x ∷ xs) rest later e =
 function-ends : (xs : List Item) → without_notes xs ≡ function_ends → xs ≡ function_ends
 function-ends xs e =
     ends_are xs _
-        (λ a f. ends_are a _
-             (λ b g. ends_are b _
-                  (λ c k. ends_are c _
-                       (λ d l. ends_are d _
-                            (λ x m. ends_are x _ (λ y n. ends_are y _ (λ z o. none_is z o) n) m) l)
-                       k) g) f) e
+    (λ a f. ends_are a _
+    (λ b g. ends_are b _
+    (λ c k. ends_are c _
+    (λ d l. ends_are d _
+    (λ x m. ends_are x _ (λ y n. ends_are y _ (λ z o. none_is z o) n) m) l)
+    k) g) f) e
 
 -- marked parts
 pub record PartsUnnoted (xs : List Item) (tolds : List Told) : Type 0 where
@@ -90,9 +90,9 @@ parts_unnoted xs (part ∷ parts) (told ∷ tolds) marked e =
     let both = unnoted xs part (flat parts) e in
     let rest = parts_unnoted both.back parts tolds marked.1 both.two in
     record {
-        parts = both.front ∷ rest.parts;
-        is = both.is ∙ ap (λ l. both.front ++ l) rest.is;
-        marked = (noted marked.0 (alone_alone told.0) both.front both.one, rest.marked)
+      parts = both.front ∷ rest.parts;
+      is = both.is ∙ ap (λ l. both.front ++ l) rest.is;
+      marked = (noted marked.0 (alone_alone told.0) both.front both.one, rest.marked);
     }
 
 cleared-flat : (parts : List (List Item)) → cleared (flat parts) ≡ flat (map cleared parts)
@@ -110,32 +110,32 @@ pub remade_unnoted : {one other : Noted} {item : List Item} → Remade one item 
 remade_unnoted (remade_whole {told = told} marked) xs e = record {
   other = AsWhole told;
   remade =
-      remade_whole (noted (marked-cleared marked (alone_alone told.0)) (alone_alone told.0) xs e)
+      remade_whole (noted (marked-cleared marked (alone_alone told.0)) (alone_alone told.0) xs e);
 }
 remade_unnoted
     (remade_function {item = item} {old = old} {front = front} {names = names} {olds = olds}
-         {insides = insides} {tolds = tolds} is blank marked) xs e =
+    {insides = insides} {tolds = tolds} is blank marked) xs e =
     let whole : without_notes xs ≡ cleared front ++ (flat (map cleared insides) ++ function_ends) =
-        e
-            ∙ ap cleared is
-            ∙ cleared-append front (flat insides ++ function_ends)
-            ∙ ap (λ l. cleared front ++ l)
-                (cleared-append (flat insides) function_ends
-                     ∙ ap (λ l. l ++ function_ends) (cleared-flat insides)) in
+    e
+    ∙ ap cleared is
+    ∙ cleared-append front (flat insides ++ function_ends)
+    ∙ ap (λ l. cleared front ++ l)
+    (cleared-append (flat insides) function_ends
+    ∙ ap (λ l. l ++ function_ends) (cleared-flat insides)) in
     let one = unnoted xs (cleared front) (flat (map cleared insides) ++ function_ends) whole in
     let two = unnoted one.back (flat (map cleared insides)) function_ends one.two in
     let its =
-        parts_unnoted two.front (map cleared insides) tolds (items-cleared insides tolds marked)
-            two.one in
+    parts_unnoted two.front (map cleared insides) tolds (items-cleared insides tolds marked)
+    two.one in
     record {
       other = AsFunction one.front names its.parts tolds;
       remade =
           remade_function
-              (one.is
-                   ∙ ap (λ l. one.front ++ l)
-                       (two.is ∙ (λ i. its.is i ++ function-ends two.back two.two i)))
-              (sym (blanks-notes one.front) ∙ ap blanks one.one ∙ blanks-cleared front ∙ blank)
-              its.marked;
+          (one.is
+          ∙ ap (λ l. one.front ++ l)
+          (two.is ∙ (λ i. its.is i ++ function-ends two.back two.two i)))
+          (sym (blanks-notes one.front) ∙ ap blanks one.one ∙ blanks-cleared front ∙ blank)
+          its.marked;
     }
 
 pub record AllRemadeAs (noted : List Noted) (xs : List Item) : Type 0 where
@@ -151,7 +151,7 @@ all_unnoted [] [] [] remade xs e = record {
   items = [];
   others = [];
   is = none_is xs e;
-  remade = tt
+  remade = tt;
 }
 all_unnoted [] [] (other ∷ others) remade xs e = absurd remade
 all_unnoted [] (item ∷ items) others remade xs e = absurd remade
@@ -162,10 +162,10 @@ all_unnoted (one ∷ noted) (item ∷ items) (other ∷ others) remade xs e =
     let first = remade_unnoted remade.0 both.front both.one in
     let rest = all_unnoted noted items others remade.1 both.back both.two in
     record {
-        items = both.front ∷ rest.items;
-        others = first.other ∷ rest.others;
-        is = both.is ∙ ap (λ l. both.front ++ l) rest.is;
-        remade = (first.remade, rest.remade)
+      items = both.front ∷ rest.items;
+      others = first.other ∷ rest.others;
+      is = both.is ∙ ap (λ l. both.front ++ l) rest.is;
+      remade = (first.remade, rest.remade);
     }
 
 -- a module
@@ -200,17 +200,17 @@ module_unnoted noted items others remade (x ∷ xs) e =
     let first : without_note x ≡ h.Open 0 h.Module = cc in
     let later : without_notes xs ≡ cleared (flat items ++ h.Close ∷ []) = cc in
     let both =
-        unnoted xs (flat (map cleared items)) (h.Close ∷ [])
-            (later
-                 ∙ cleared-append (flat items) (h.Close ∷ [])
-                 ∙ ap (λ l. l ++ h.Close ∷ []) (cleared-flat items)) in
+    unnoted xs (flat (map cleared items)) (h.Close ∷ [])
+    (later
+    ∙ cleared-append (flat items) (h.Close ∷ [])
+    ∙ ap (λ l. l ++ h.Close ∷ []) (cleared-flat items)) in
     let all = all_unnoted noted items others remade both.front both.one in
     record {
       items = all.items;
       others = all.others;
       is =
           λ i. module-begins x first i ∷
-              (both.is ∙ (λ j. all.is j ++ ends_are both.back [] none_is both.two j)) i;
+          (both.is ∙ (λ j. all.is j ++ ends_are both.back [] none_is both.two j)) i;
       remade = all.remade;
     }
 
@@ -269,11 +269,11 @@ blanked (y ∷ xs) (x ∷ first) second e =
     let behind : blanks xs ≡ first ++ second = cc in
     let rest = blanked xs first second behind in
     record {
-        front = y ∷ rest.front;
-        back = rest.back;
-        is = ap (λ l. y ∷ l) rest.is;
-        one = (λ i. here i ∷ rest.one i);
-        two = rest.two
+      front = y ∷ rest.front;
+      back = rest.back;
+      is = ap (λ l. y ∷ l) rest.is;
+      one = (λ i. here i ∷ rest.one i);
+      two = rest.two;
     }
 
 pub blanks-append : (xs ys : List Item) → blanks (xs ++ ys) ≡ blanks xs ++ blanks ys
@@ -303,10 +303,10 @@ nodes-blank (nodes.node {field = field} {head = head} {inside = inside} {rest = 
     let later : blanks ys ≡ blanks (inside ++ h.Close ∷ rest) = cc in
     let begun = blank-open y field (cleared_head head) first in
     let both =
-        blanked ys (blanks inside) (h.Close ∷ blanks rest)
-            (later ∙ blanks-append inside (h.Close ∷ rest)) in
+    blanked ys (blanks inside) (h.Close ∷ blanks rest)
+    (later ∙ blanks-append inside (h.Close ∷ rest)) in
     behind begun.0 begun.1 both.front both.back both.is both.two
-        (nodes-blank in_it both.front both.one) (λ zs same. nodes-blank more zs same)
+    (nodes-blank in_it both.front both.one) (λ zs same. nodes-blank more zs same)
   where
     behind : (its : Head) → y ≡ h.Open field its → (front back : List Item) → ys ≡ front ++ back →
         blanks back ≡ h.Close ∷ blanks rest → AreNodes front →
@@ -316,7 +316,7 @@ nodes-blank (nodes.node {field = field} {head = head} {inside = inside} {rest = 
         let close : blank z ≡ h.Close = cc in
         let last : blanks rest ≡ blanks back = cc in
         let all : y ∷ ys ≡ h.Open field its ∷ (front ++ h.Close ∷ back) =
-            λ i. begins i ∷ (is ∙ ap (λ l. front ++ l ∷ back) (blank-close z close)) i in
+        λ i. begins i ∷ (is ∙ ap (λ l. front ++ l ∷ back) (blank-close z close)) i in
         subst AreNodes (sym all) (nodes.node in_front (ih back last))
 
 -- how many stand there does not depend on names either

@@ -55,15 +55,15 @@ specifiers_of (_ ∷ rest) locals = absurd locals.0
 
 specifiers_same : (list : List ExportSpecifier) (locals : AllByRecursion IsLocal list) →
     flat_map (export_specifier_items r.Reference 0) list ≡
-        flat_map specifier_items (specifiers_of list locals)
+    flat_map specifier_items (specifiers_of list locals)
 unfolding specifiers_of
 specifiers_same [] locals = refl
 specifiers_same (e.ExportNamedSpecifier (n.Ident local) exported ∷ rest) locals =
     ap
-        (λ l. (h.Open 0 h.ExportNamedSpecifier ∷ h.Ident 0 (string_bytes local.sym) local.ctxt r.Reference ∷ (l ++ h.Close ∷ [])) ++ flat_map (export_specifier_items r.Reference 0) rest)
-        (exported_items exported) ∙ ap
-        (λ l. (h.Open 0 h.ExportNamedSpecifier ∷ h.Ident 0 (string_bytes local.sym) local.ctxt r.Reference ∷ (name_items (exported_of exported) ++ h.Close ∷ [])) ++ l)
-        (specifiers_same rest locals.1)
+    (λ l. (h.Open 0 h.ExportNamedSpecifier ∷ h.Ident 0 (string_bytes local.sym) local.ctxt r.Reference ∷ (l ++ h.Close ∷ [])) ++ flat_map (export_specifier_items r.Reference 0) rest)
+    (exported_items exported) ∙ ap
+    (λ l. (h.Open 0 h.ExportNamedSpecifier ∷ h.Ident 0 (string_bytes local.sym) local.ctxt r.Reference ∷ (name_items (exported_of exported) ++ h.Close ∷ [])) ++ l)
+    (specifiers_same rest locals.1)
 specifiers_same (_ ∷ rest) locals = absurd locals.0
 
 pub is_back : (specifiers : Vec ExportSpecifier Global) (meta : ExportMetadata) →
@@ -84,7 +84,7 @@ pub exporting_called : (reading : Reading) (list : List Stmt)
     (specifiers : Vec ExportSpecifier Global) (meta : ExportMetadata) →
     AllByRecursion IsLocal specifiers.items →
     CanBeCalled reading
-        (module_with (flat_map (stmt_items 0) list) (module_decl_items 0 (d.NamedExport specifiers None meta) ++ h.Close ∷ []))
+    (module_with (flat_map (stmt_items 0) list) (module_decl_items 0 (d.NamedExport specifiers None meta) ++ h.Close ∷ []))
 exporting_called reading list specifiers meta locals =
     can-be-called reading (flat_map (stmt_items 0) list)
     (module_decl_items 0 (d.NamedExport specifiers None meta)) (stmts_in_module list)

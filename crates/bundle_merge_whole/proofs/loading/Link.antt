@@ -17,14 +17,15 @@ use Rattle.bundle_merge_whole.specs.composed.Functions.{function_names}
 
 -- the item of a load function is noted right
 pub item-noted : {L : Ident → Type 0} {bs ms : List (List Item)} (pieces : Pieced L bs ms)
-        (g : Numbering) (load helper m e : Ident) (its : IsLoaded g (together pieces) load m e)
-        (items : List (List Item)) → AreKnown (together pieces) g load helper m e its items →
+    (g : Numbering) (load helper m e : Ident) (its : IsLoaded g (together pieces) load m e)
+    (items : List (List Item)) → AreKnown (together pieces) g load helper m e its items →
     (table : Table) (c : ℕ) → AreTabled table c g (flat bs) L →
     IsTabledFront table c load helper m e → (tolds : List Told) →
     AllTold table c g (module_declared (flat bs)) pieces module_start body_start
-        (map (λ (told : Told). told.0) tolds) →
+    (map (λ (told : Told). told.0) tolds) →
     ItemNoted items table (load_item load helper m e (flat ms))
-        (AsFunction (front_items load helper m e) (function_names c) ms tolds)
-item-noted pieces g load helper m e its items known table c tabled front tolds told =
-    (front-noted (together pieces) g load helper m e its items known table c tabled front,
-    function-noted pieces g load helper m e its items known table c tabled (map (λ (told : Told). told.0) tolds) told)
+    (AsFunction (front_items load helper m e) (function_names c) ms tolds)
+item-noted pieces g load helper m e its items known table c tabled front tolds told = (
+  front-noted (together pieces) g load helper m e its items known table c tabled front,
+  function-noted pieces g load helper m e its items known table c tabled (map (λ (told : Told). told.0) tolds) told,
+)

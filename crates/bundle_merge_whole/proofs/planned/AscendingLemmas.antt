@@ -27,7 +27,7 @@ texts-equal (a ∷ x) (b ∷ y) e = by (nat_cmp a b) refl e (texts-equal x y)
     by Less is e ih = absurd (false≢true (ap is_equal e))
     by Equal is e ih =
         let same : a ≡ b = ranked a b Equal (sym is) in ap (λ (k : ℕ). k ∷ x) same
-            ∙ ap (λ (l : List ℕ). b ∷ l) (ih e)
+        ∙ ap (λ (l : List ℕ). b ∷ l) (ih e)
     by Greater is e ih = absurd (false≢true (ap is_equal e))
 
 below : (x y : Text) → is_lt (slice_cmp nat_cmp y x) ≡ false → (x ≡ y → ⊥) →
@@ -39,8 +39,8 @@ below x y up other = by (slice_cmp nat_cmp x y) refl
     by Equal e = absurd (other (texts-equal x y e))
     by Greater e =
         absurd
-            (true≢false
-                 (ap is_lt (sym (nat_list_cmp_total.antisymm y x ∙ ap ordering_reverse e)) ∙ up))
+        (true≢false
+        (ap is_lt (sym (nat_list_cmp_total.antisymm y x ∙ ap ordering_reverse e)) ∙ up))
 
 abbrev lower : Text → Text → Bool
 lower x y = is_lt (slice_cmp nat_cmp x y)
@@ -51,7 +51,7 @@ sorted-rest x xs up = λ k d low l.
     let within : suc k + 1 < length (x ∷ xs) = omega (arith, l) in
     let from : 0 ≤ suc k = omega arith in
     subst (λ n. lower (slice_index_or (x ∷ xs) n d) (slice_index_or xs k d) ≡ false) e
-        (up (suc k) d from within)
+    (up (suc k) d from within)
 
 -- what sorting ensures, of names that stand once
 pub ascending-from : (xs : List Text) → IsSortedBy lower xs → Once xs → IsAscending xs
@@ -59,7 +59,7 @@ ascending-from [] up once = tt
 ascending-from (x ∷ []) up once = tt
 ascending-from (x ∷ y ∷ rest) up once = (
   let within : 0 + 1 < length (x ∷ y ∷ rest) = omega arith in
-  let from : 0 ≤ 0 = omega arith in
-  below x y (up 0 [] from within) (λ e. once.0 (0, omega arith, sym e)),
+      let from : 0 ≤ 0 = omega arith in
+      below x y (up 0 [] from within) (λ e. once.0 (0, omega arith, sym e)),
   ascending-from (y ∷ rest) (sorted-rest x (y ∷ rest) up) once.1,
 )

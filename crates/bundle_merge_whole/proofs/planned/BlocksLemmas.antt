@@ -30,8 +30,8 @@ lists-same same finished = finished
 lists-same same (passed c more) = passed c (lists-same same more)
 lists-same {s = s} same (listed {begun} {done} {before} {todo} {all} {n} new inner more) =
     listed new
-        (subst (λ (l : List ℕ). Lists s (n ∷ begun) done l before) (same n) (lists-same same inner))
-        (lists-same same more)
+    (subst (λ (l : List ℕ). Lists s (n ∷ begun) done l before) (same n) (lists-same same inner))
+    (lists-same same more)
 
 module _ (p : Program) (g : Modules) (same : (m : ℕ) → deps g m ≡ requested p m) where
   edge-on : (a b : ℕ) → Edges g a b → Requests p a b
@@ -55,7 +55,7 @@ module _ (p : Program) (g : Modules) (same : (m : ℕ) → deps g m ≡ requeste
     where
       by : (t : Bool) → nat_eq x m ≡ t → places_where (i + 1) (λ o. nat_eq o m) list ≡ [] →
           cond t (i ∷ places_where (i + 1) (λ o. nat_eq o m) list)
-              (places_where (i + 1) (λ o. nat_eq o m) list) ≡ []
+          (places_where (i + 1) (λ o. nat_eq o m) list) ≡ []
       by true e ih = absurd (out (0, omega arith, eqb-true x m e))
       by false e ih = ih
 
@@ -64,23 +64,24 @@ module _ (p : Program) (g : Modules) (same : (m : ℕ) → deps g m ≡ requeste
   one-there i [] m once c = absurd (no_element c)
   one-there i (x ∷ list) m once c =
       by (nat_eq x m) refl (first_or_later x list m c)
-          (λ rest. one-there (i + 1) list m once.1 rest)
+      (λ rest. one-there (i + 1) list m once.1 rest)
     where
       by : (t : Bool) → nat_eq x m ≡ t → (x ≡ m) ⊎ Contains list m →
           (Contains list m → (k : ℕ) × (slice_get list k ≡ Some m) ×
-               (places_where (i + 1) (λ o. nat_eq o m) list ≡ (i + 1 + k) ∷ [])) →
+          (places_where (i + 1) (λ o. nat_eq o m) list ≡ (i + 1 + k) ∷ [])) →
           (k : ℕ)
           × (slice_get (x ∷ list) k ≡ Some m)
           × (cond t (i ∷ places_where (i + 1) (λ o. nat_eq o m) list)
-              (places_where (i + 1) (λ o. nat_eq o m) list) ≡ (i + k) ∷ [])
+          (places_where (i + 1) (λ o. nat_eq o m) list) ≡ (i + k) ∷ [])
       by true e c ih =
           let is = eqb-true x m e in
-          let zero_k : i ≡ i + 0 = omega arith in
-          (zero,
-               ap (λ n. Some n) is,
-               ap (λ (l : List ℕ). i ∷ l)
-                      (none-there (i + 1) list m (λ d. once.0 (subst (Contains list) (sym is) d)))
-                  ∙ ap (λ (k : ℕ). k ∷ []) zero_k)
+          let zero_k : i ≡ i + 0 = omega arith in (
+            zero,
+            ap (λ n. Some n) is,
+            ap (λ (l : List ℕ). i ∷ l)
+                (none-there (i + 1) list m (λ d. once.0 (subst (Contains list) (sym is) d)))
+                ∙ ap (λ (k : ℕ). k ∷ []) zero_k,
+          )
       by false e (inl is) ih = absurd (false≢true (sym e ∙ eq-eqb x m is))
       by false e (inr rest) ih =
           let r = ih rest in
@@ -95,8 +96,8 @@ module _ (p : Program) (g : Modules) (same : (m : ℕ) → deps g m ≡ requeste
       let r = one-there zero list m once (all m (here m members)) in
       let zero_k : 0 + r.0 ≡ r.0 = omega arith in
       ap (filter_map (slice_get list))
-          (ap (λ (l : List ℕ). l ++ flat_map (places_of list) members)
-               (r.2 ∙ ap (λ (k : ℕ). k ∷ []) zero_k))
+      (ap (λ (l : List ℕ). l ++ flat_map (places_of list) members)
+      (r.2 ∙ ap (λ (k : ℕ). k ∷ []) zero_k))
       ∙ (ap (λ o. cons_option o (filter_map (slice_get list) (flat_map (places_of list) members))) r.1
       ∙ ap (λ (l : List ℕ). m ∷ l) (read-places list members once (λ n c. all n (later m members n c))))
 
@@ -104,19 +105,19 @@ module _ (p : Program) (g : Modules) (same : (m : ℕ) → deps g m ≡ requeste
     read-blocks : (blocks : List (List ℕ)) (found : List Block) →
         AllZip (IsPlanned g list) blocks found →
         ((members : List ℕ) → Contains blocks members → (m : ℕ) → Contains members m → Contains list
-             m) →
+        m) →
         map (λ (block : DecidedBlock). block.modules) (map (block_read list) found) ≡ blocks
     read-blocks [] [] z all = refl
     read-blocks [] (f ∷ found) z all = absurd z
     read-blocks (members ∷ blocks) [] z all = absurd z
     read-blocks (members ∷ blocks) (f ∷ found) z all =
         ap
-            (λ (l : List ℕ). l ∷ map (λ (block : DecidedBlock). block.modules)
-                 (map (block_read list) found))
-            (ap (filter_map (slice_get list)) z.0.places
-                 ∙ read-places list members once (all members (here members blocks)))
+        (λ (l : List ℕ). l ∷ map (λ (block : DecidedBlock). block.modules)
+        (map (block_read list) found))
+        (ap (filter_map (slice_get list)) z.0.places
+        ∙ read-places list members once (all members (here members blocks)))
         ∙ ap (λ (l : List (List ℕ)). members ∷ l)
-            (read-blocks blocks found z.1 (λ ms c. all ms (later members blocks ms c)))
+        (read-blocks blocks found z.1 (λ ms c. all ms (later members blocks ms c)))
 
     one-decided : (members : List ℕ) (f : Block) → IsPlanned g list members f →
         ((m : ℕ) → Contains members m → Contains list m) → IsBlockDecided p (block_read list f)
@@ -130,7 +131,7 @@ module _ (p : Program) (g : Modules) (same : (m : ℕ) → deps g m ≡ requeste
     each-decided : (blocks : List (List ℕ)) (found : List Block) →
         AllZip (IsPlanned g list) blocks found →
         ((members : List ℕ) → Contains blocks members → (m : ℕ) → Contains members m → Contains list
-             m) → (block : DecidedBlock) → Contains (map (block_read list) found) block →
+        m) → (block : DecidedBlock) → Contains (map (block_read list) found) block →
         IsBlockDecided p block
     each-decided [] [] z all block c = absurd (no_element c)
     each-decided [] (f ∷ found) z all block c = absurd z
@@ -146,9 +147,9 @@ module _ (p : Program) (g : Modules) (same : (m : ℕ) → deps g m ≡ requeste
   pub found-blocks : (list : List ℕ) → IsList p list → IsOnce list → (plan : Plan) →
       IsPlanOf g p.entry list plan →
       AreBlocks p list
-          (map (λ (block : DecidedBlock). block.modules) (map (block_read list) plan.blocks.items))
+      (map (λ (block : DecidedBlock). block.modules) (map (block_read list) plan.blocks.items))
       × ((block : DecidedBlock) → Contains (map (block_read list) plan.blocks.items) block →
-          IsBlockDecided p block)
+      IsBlockDecided p block)
   found-blocks list is once plan its = (
     subst (AreBlocks p list)
         (sym (read-blocks list once its.blocks plan.blocks.items its.planned within)) blocks,
@@ -161,8 +162,8 @@ module _ (p : Program) (g : Modules) (same : (m : ℕ) → deps g m ≡ requeste
       blocks : AreBlocks p list its.blocks
       blocks =
           BlocksOf-agree (λ a b c d. shares-same a b) (λ a c. c)
-              (subst (λ (l : List ℕ). BlocksOf (ReachEachOther g) l l its.blocks) (sym only)
-                   its.are_blocks)
+          (subst (λ (l : List ℕ). BlocksOf (ReachEachOther g) l l its.blocks) (sym only)
+          its.are_blocks)
 
       within : (members : List ℕ) → Contains its.blocks members → (m : ℕ) → Contains members m →
           Contains list m

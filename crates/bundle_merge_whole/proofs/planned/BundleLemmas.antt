@@ -30,7 +30,7 @@ use Rattle.bundle_merge_whole.proofs.planned.LayoutLemmas.{laid-out}
 
 -- what is laid out and realised is paired
 pub paired : (p : Program) (hooks : Hooks) (form : Form) (reading : Reading) (tree : List Item)
-        (pairing : Pairing) → IsOneToOne pairing.labels →
+    (pairing : Pairing) → IsOneToOne pairing.labels →
     HasBody form tree pairing.top pairing.body →
     AllZip (Realises p hooks form (labelled tree reading pairing)) pairing.body pairing.plan →
     IsLaidOut p form reading tree pairing → IsPaired p hooks form reading tree pairing
@@ -45,7 +45,7 @@ paired p hooks form reading tree pairing labels body realised laid = record {
 -- where each item stands for its cause in the plan of what is decided, and each order is good, the
 -- tree is a bundle
 pub is-bundle : (p : Program) (hooks : Hooks) (form : Form) (reading : Reading) (tree : List Item)
-        (pairing : Pairing) (d : Decided) (orders : List (List ℕ)) → IsOneToOne pairing.labels →
+    (pairing : Pairing) (d : Decided) (orders : List (List ℕ)) → IsOneToOne pairing.labels →
     HasBody form tree pairing.top pairing.body →
     AllZip (Realises p hooks form (labelled tree reading pairing)) pairing.body pairing.plan →
     AreDecided p form d → pairing.plan ≡ plan_of d orders →
@@ -53,9 +53,9 @@ pub is-bundle : (p : Program) (hooks : Hooks) (form : Form) (reading : Reading) 
     IsBundle p hooks form reading tree
 is-bundle p hooks form reading tree pairing d orders labels body realised its plan ordered =
     let laid =
-        laid-out p form reading tree pairing d orders its
-            (length-zip (Realises p hooks form (labelled tree reading pairing)) pairing.body
-                 pairing.plan realised) plan ordered in
+    laid-out p form reading tree pairing d orders its
+    (length-zip (Realises p hooks form (labelled tree reading pairing)) pairing.body
+    pairing.plan realised) plan ordered in
     record {
       pairing = pairing;
       paired = paired p hooks form reading tree pairing labels body realised laid;
@@ -72,7 +72,7 @@ blocks-read list (block ∷ found) =
 -- what is found of modules by their places in the list is decided of the program, where the blocks
 -- are those that are found for the list
 pub found-decided : (p q : Program) (form : Form) (list : List ℕ) (g : Modules) (plan : Plan)
-        (f : Decided) → IsList p list → IsAlike p q (IsAt list) →
+    (f : Decided) → IsList p list → IsAlike p q (IsAt list) →
     ((m : ℕ) → deps g m ≡ requested p m) → IsPlanOf g p.entry list plan →
     f.blocks ≡ map block_of plan.blocks.items → AreFound q form (length list) f →
     AreDecided p form (renumbered list f)
@@ -80,53 +80,54 @@ found-decided p q form list g plan f is alike same planned blocks found =
     let once = list-once p list is in
     let its = found-blocks p g same list is once plan planned in
     let e : map (block_by list) f.blocks ≡ map (block_read list) plan.blocks.items =
-        ap (map (block_by list)) blocks ∙ blocks-read list plan.blocks.items in
+    ap (map (block_by list)) blocks ∙ blocks-read list plan.blocks.items in
     renumbered-decided p q list once alike form f found is
     (subst
-         (λ (l : List DecidedBlock). AreBlocks p list
-              (map (λ (block : DecidedBlock). block.modules) l)) (sym e) its.0)
+    (λ (l : List DecidedBlock). AreBlocks p list
+    (map (λ (block : DecidedBlock). block.modules) l)) (sym e) its.0)
     (subst
-         (λ (l : List DecidedBlock). (block : DecidedBlock) → Contains l block → IsBlockDecided p
-              block) (sym e) its.1)
+    (λ (l : List DecidedBlock). (block : DecidedBlock) → Contains l block → IsBlockDecided p
+    block) (sym e) its.1)
 
 -- ---- from merged items
 zip-both : {N A B : Type 0} (P : N → A → Type 0) (Q : N → B → Type 0) (R : A → B → Type 0)
-        (ns : List N) (xs : List A) (ys : List B) → AllZip P ns xs → AllZip Q ns ys →
+    (ns : List N) (xs : List A) (ys : List B) → AllZip P ns xs → AllZip Q ns ys →
     ((n : N) (x : A) (y : B) → Contains xs x → P n x → Q n y → R x y) → AllZip R xs ys
 zip-both P Q R [] [] [] a b both = tt
 zip-both P Q R [] [] (y ∷ ys) a b both = absurd b
 zip-both P Q R [] (x ∷ xs) ys a b both = absurd a
 zip-both P Q R (n ∷ ns) [] ys a b both = absurd a
 zip-both P Q R (n ∷ ns) (x ∷ xs) [] a b both = absurd b
-zip-both P Q R (n ∷ ns) (x ∷ xs) (y ∷ ys) a b both =
-    (both n x y (here x xs) a.0 b.0,
-         zip-both P Q R ns xs ys a.1 b.1 (λ m z w c. both m z w (later x xs z c)))
+zip-both P Q R (n ∷ ns) (x ∷ xs) (y ∷ ys) a b both = (
+  both n x y (here x xs) a.0 b.0,
+  zip-both P Q R ns xs ys a.1 b.1 (λ m z w c. both m z w (later x xs z c)),
+)
 
 -- where the body has merged items in the order of all, each stands for its cause wherever it
 -- stands, and the orders are good, the tree is a bundle
 pub merged-bundle : (p : Program) (hooks : Hooks) (form : Form) (reading : Reading)
-        (tree : List Item) (labels : Labelling) (top : Scope) (body : List TopItem)
-        (merged : List (List Item)) (d : Decided) (orders : List (List ℕ))
+    (tree : List Item) (labels : Labelling) (top : Scope) (body : List TopItem)
+    (merged : List (List Item)) (d : Decided) (orders : List (List ℕ))
     → IsOneToOne labels → HasBody form tree top body → AreDecided p form d → AllZip (IsItem merged)
-        (whole_order d orders) body → AreBlocksGood reading tree top body merged d
-        (length (front_plan d)) d.blocks orders
+    (whole_order d orders) body → AreBlocksGood reading tree top body merged d
+    (length (front_plan d)) d.blocks orders
     →
-        ((n : ℕ) (item : TopItem) (cause : Cause) → Contains body item → IsItem merged n item →
-             slice_get (merged_plan d) n ≡ Some cause → Realises p hooks form
-             (record { tree = tree; reading = reading; labels = labels }) item cause)
+    ((n : ℕ) (item : TopItem) (cause : Cause) → Contains body item → IsItem merged n item →
+    slice_get (merged_plan d) n ≡ Some cause → Realises p hooks form
+    (record { tree = tree; reading = reading; labels = labels }) item cause)
     → IsBundle p hooks form reading tree
 merged-bundle p hooks form reading tree labels top body merged d orders one has its are good stands
     =
     let pairing : Pairing =
-        record { labels = labels; top = top; body = body; plan = plan_of d orders } in
+    record { labels = labels; top = top; body = body; plan = plan_of d orders } in
     let read =
-        whole-read d orders
-            (good-within reading tree top body merged d (length (front_plan d)) d.blocks orders
-                 good) in
+    whole-read d orders
+    (good-within reading tree top body merged d (length (front_plan d)) d.blocks orders
+    good) in
     is-bundle p hooks form reading tree pairing d orders one has
     (zip-both (IsItem merged) (ReadBy (merged_plan d))
-         (Realises p hooks form (labelled tree reading pairing)) (whole_order d orders) body
-         (plan_of d orders) are read stands)
+    (Realises p hooks form (labelled tree reading pairing)) (whole_order d orders) body
+    (plan_of d orders) are read stands)
     its refl
     (ordered-from reading tree pairing merged d orders are good)
 
@@ -138,15 +139,15 @@ for-call p form d its = record {
   list = its.list;
   modules =
       λ m c.
-          (let i = its.modules m c in
-               record {
-               common_js = i.common_js;
-               loads = i.loads;
-               taken = i.taken;
-               meta = i.meta;
-               statements = i.statements;
-               object = i.object
-           });
+      (let i = its.modules m c in
+      record {
+        common_js = i.common_js;
+        loads = i.loads;
+        taken = i.taken;
+        meta = i.meta;
+        statements = i.statements;
+        object = i.object;
+      });
   outside = its.outside;
   starred = its.starred;
   exports = (λ t. returned, λ h. refl);

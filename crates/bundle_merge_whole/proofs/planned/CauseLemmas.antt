@@ -115,31 +115,33 @@ imports-in : (s : Text) (c : Cause) → Contains (import_causes s) c →
     (external_of c ≡ Some s) × (part_of c ≡ 0) × (kind_of c < 4)
 imports-in s c (zero, l, e) =
     subst (λ c. (external_of c ≡ Some s) × (part_of c ≡ 0) × (kind_of c < 4)) e
-        (refl, refl, omega arith)
+    (refl, refl, omega arith)
 imports-in s c (suc zero, l, e) =
     subst (λ c. (external_of c ≡ Some s) × (part_of c ≡ 0) × (kind_of c < 4)) e
-        (refl, refl, omega arith)
+    (refl, refl, omega arith)
 imports-in s c (suc (suc zero), l, e) =
     subst (λ c. (external_of c ≡ Some s) × (part_of c ≡ 0) × (kind_of c < 4)) e
-        (refl, refl, omega arith)
+    (refl, refl, omega arith)
 imports-in s c (suc (suc (suc k)), l, e) = absurd (omega (arith, l))
 
 imports-once : (s : Text) → Once (import_causes s)
 imports-once s = (
   λ c. elim (first_or_later (ImportsWhole s) (ImportsNothing s ∷ []) (ImportsNames s) c)
       [ inl e ↦ absurd cc | inr d ↦ let e = only (ImportsNothing s) (ImportsNames s) d in absurd cc ],
-  ((λ c. let e = only (ImportsNothing s) (ImportsWhole s) c in absurd cc),
-       once-one (ImportsNothing s)),
+  (
+    (λ c. let e = only (ImportsNothing s) (ImportsWhole s) c in absurd cc),
+    once-one (ImportsNothing s),
+  ),
 )
 
 pub front-once : (p : Program) (list : List ℕ) → Once (front_causes p list)
 front-once p list =
     once-join (flat_map import_causes (externals p list)) (Helps ∷ [])
-        (once-flat import_causes external_of (λ s c d. (imports-in s c d).0) imports-once
-             (externals p list) (once-texts _)) (once-one Helps)
+    (once-flat import_causes external_of (λ s c d. (imports-in s c d).0) imports-once
+    (externals p list) (once-texts _)) (once-one Helps)
     (λ c d e. let r = flat_back import_causes (externals p list) c d in let k =
-         (imports-in r.0 c r.2).2 in let same = ap kind_of (only Helps c e) in omega
-         (arith, k, same))
+    (imports-in r.0 c r.2).2 in let same = ap kind_of (only Helps c e) in omega
+    (arith, k, same))
 
 pub front-part : (p : Program) (list : List ℕ) (c : Cause) → Contains (front_causes p list) c →
     part_of c ≡ 0
@@ -158,9 +160,9 @@ same-text s t e = let same : s ≡ t = cc in same
 pub back-once : (p : Program) (list : List ℕ) → Once (back_causes p list)
 back-once p list =
     once-join (map Stars (externals p list)) (Exports ∷ [])
-        (once-map Stars same-text (externals p list) (once-texts _)) (once-one Exports)
+    (once-map Stars same-text (externals p list) (once-texts _)) (once-one Exports)
     (λ c d e. let r = map_back Stars (externals p list) c d in let same = r.2
-         ∙ sym (only Exports c e) in absurd cc)
+    ∙ sym (only Exports c e) in absurd cc)
 
 pub back-part : (p : Program) (list : List ℕ) (c : Cause) → Contains (back_causes p list) c →
     part_of c ≡ 2
@@ -185,7 +187,7 @@ counted-on n (x ∷ xs) zero l = let same : n ≡ n + 0 = omega arith in (0, ome
 counted-on n (x ∷ xs) (suc i) l =
     let same : suc n + i ≡ n + suc i = omega arith in
     later n (counted (suc n) xs) (n + suc i)
-        (subst (Contains (counted (suc n) xs)) same (counted-on (suc n) xs i (omega (arith, l))))
+    (subst (Contains (counted (suc n) xs)) same (counted-on (suc n) xs i (omega (arith, l))))
 
 counted-once : {A : Type 0} (n : ℕ) (xs : List A) → Once (counted n xs)
 counted-once n [] = tt
@@ -201,20 +203,20 @@ own_causes p m = map (Own m) (counted zero (own_statements (tree_of p m)))
 -- the four kinds of causes of a module
 module-cases : (p : Program) (m : ℕ) (c : Cause) → Contains (module_causes p m) c →
     (Defines m ≡ c) ⊎
-        ((HoldsMeta m ≡ c) ⊎
-             (((n : ℕ) × Contains (requested p m) n × (Loads m n ≡ c)) ⊎
-                  ((k : ℕ) × (k < length (own_statements (tree_of p m))) × (Own m k ≡ c))))
+    ((HoldsMeta m ≡ c) ⊎
+    (((n : ℕ) × Contains (requested p m) n × (Loads m n ≡ c)) ⊎
+    ((k : ℕ) × (k < length (own_statements (tree_of p m))) × (Own m k ≡ c))))
 module-cases p m c d = elim (first_or_later (Defines m) (HoldsMeta m ∷ (loads_causes p m ++ own_causes p m)) c d) [
   | inl e ↦ inl e
   | inr f ↦ elim (first_or_later (HoldsMeta m) (loads_causes p m ++ own_causes p m) c f) [
-      | inl e ↦ inr (inl e)
-      | inr g ↦ elim (Contains-append_cases (loads_causes p m) (own_causes p m) c g) [
-          | inl e ↦ inr (inr (inl (map_back (Loads m) (requested p m) c e)))
-          | inr e ↦ let r = map_back (Own m) (counted zero (own_statements (tree_of p m))) c e in
-              let l = (counted-in zero (own_statements (tree_of p m)) r.0 r.1).1 in
-              inr (inr (inr (r.0, omega (arith, l), r.2)))
-        ]
+    | inl e ↦ inr (inl e)
+    | inr g ↦ elim (Contains-append_cases (loads_causes p m) (own_causes p m) c g) [
+      | inl e ↦ inr (inr (inl (map_back (Loads m) (requested p m) c e)))
+      | inr e ↦ let r = map_back (Own m) (counted zero (own_statements (tree_of p m))) c e in
+          let l = (counted-in zero (own_statements (tree_of p m)) r.0 r.1).1 in
+          inr (inr (inr (r.0, omega (arith, l), r.2)))
     ]
+  ]
 ]
 
 pub module-owner : (p : Program) (m : ℕ) (c : Cause) → Contains (module_causes p m) c →
@@ -243,10 +245,10 @@ module-once p m = (
     once-join (loads_causes p m) (own_causes p m)
         (once-map (Loads m) (same-load m) (requested p m) (once-numbers _))
         (once-map (Own m) (same-own m) (counted zero (own_statements (tree_of p m)))
-             (counted-once zero _))
-    (λ c d e. let r = ap kind_of (map_back (Loads m) (requested p m) c d).2 in let s = ap kind_of
-         (map_back (Own m) (counted zero (own_statements (tree_of p m))) c e).2 in omega
-         (arith, r, s)),
+        (counted-once zero _))
+        (λ c d e. let r = ap kind_of (map_back (Loads m) (requested p m) c d).2 in let s = ap kind_of
+        (map_back (Own m) (counted zero (own_statements (tree_of p m))) c e).2 in omega
+        (arith, r, s)),
   ),
 )
   where
@@ -285,11 +287,11 @@ same-namespace a b e = let same : a ≡ b = cc in same
 pub block-once : (p : Program) (members : List ℕ) → Once members → Once (block_causes p members)
 block-once p members once =
     once-join (flat_map (module_causes p) members) (map HoldsNamespace members)
-        (once-flat (module_causes p) owner_of (λ m c d. (module-owner p m c d).0) (module-once p)
-             members once) (once-map HoldsNamespace same-namespace members once)
+    (once-flat (module_causes p) owner_of (λ m c d. (module-owner p m c d).0) (module-once p)
+    members once) (once-map HoldsNamespace same-namespace members once)
     (λ c d e. let r = flat_back (module_causes p) members c d in let o =
-         (module-owner p r.0 c r.2).0 in let s = map_back HoldsNamespace members c e in none-some
-         r.0 (ap owner_of s.2 ∙ o))
+    (module-owner p r.0 c r.2).0 in let s = map_back HoldsNamespace members c e in none-some
+    r.0 (ap owner_of s.2 ∙ o))
 
 -- the module of a cause of a block is one of its members
 pub block-in : (p : Program) (members : List ℕ) (c : Cause) → Contains (block_causes p members) c →
@@ -306,13 +308,13 @@ pub block-module : (p : Program) (members : List ℕ) (m : ℕ) (c : Cause) → 
     Contains (module_causes p m) c → Contains (block_causes p members) c
 block-module p members m c there d =
     Contains-append_left (flat_map (module_causes p) members) (map HoldsNamespace members) c
-        (flat_on (module_causes p) members m c there d)
+    (flat_on (module_causes p) members m c there d)
 
 pub block-namespace : (p : Program) (members : List ℕ) (m : ℕ) → Contains members m →
     Contains (block_causes p members) (HoldsNamespace m)
 block-namespace p members m there =
     Contains-append_right (flat_map (module_causes p) members) (map HoldsNamespace members)
-        (HoldsNamespace m) (map_on HoldsNamespace members m there)
+    (HoldsNamespace m) (map_on HoldsNamespace members m there)
 
 abbrev later_causes : Program → ℕ → List Cause
 later_causes p m = loads_causes p m ++ own_causes p m
@@ -323,27 +325,27 @@ module-defines p m = here (Defines m) (HoldsMeta m ∷ later_causes p m)
 pub module-meta : (p : Program) (m : ℕ) → Contains (module_causes p m) (HoldsMeta m)
 module-meta p m =
     later (Defines m) (HoldsMeta m ∷ later_causes p m) (HoldsMeta m)
-        (here (HoldsMeta m) (later_causes p m))
+    (here (HoldsMeta m) (later_causes p m))
 
 deeper : (p : Program) (m : ℕ) (c : Cause) → Contains (later_causes p m) c →
     Contains (module_causes p m) c
 deeper p m c d =
     later (Defines m) (HoldsMeta m ∷ later_causes p m) c
-        (later (HoldsMeta m) (later_causes p m) c d)
+    (later (HoldsMeta m) (later_causes p m) c d)
 
 pub module-loads : (p : Program) (m c : ℕ) → Contains (requested p m) c →
     Contains (module_causes p m) (Loads m c)
 module-loads p m c d =
     deeper p m (Loads m c)
-        (Contains-append_left (loads_causes p m) (own_causes p m) (Loads m c)
-             (map_on (Loads m) (requested p m) c d))
+    (Contains-append_left (loads_causes p m) (own_causes p m) (Loads m c)
+    (map_on (Loads m) (requested p m) c d))
 
 pub module-own : (p : Program) (m k : ℕ) → k < length (own_statements (tree_of p m)) →
     Contains (module_causes p m) (Own m k)
 module-own p m k l =
     let same : 0 + k ≡ k = omega arith in
     deeper p m (Own m k)
-        (Contains-append_right (loads_causes p m) (own_causes p m) (Own m k)
-             (map_on (Own m) (counted zero (own_statements (tree_of p m))) k
-                  (subst (Contains (counted zero (own_statements (tree_of p m)))) same
-                       (counted-on zero (own_statements (tree_of p m)) k l))))
+    (Contains-append_right (loads_causes p m) (own_causes p m) (Own m k)
+    (map_on (Own m) (counted zero (own_statements (tree_of p m))) k
+    (subst (Contains (counted zero (own_statements (tree_of p m)))) same
+    (counted-on zero (own_statements (tree_of p m)) k l))))

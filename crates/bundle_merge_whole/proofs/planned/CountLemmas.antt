@@ -37,7 +37,7 @@ module _ (p : Program) where
   counts-join {b = b} f.nothing d = let e : b ≡ 0 + b = omega arith in counts-same e d
   counts-join {b = b} (f.counted {n = n} {more = more} one rest) d =
       let e : n + (more + b) ≡ n + more + b = omega arith in
-          counts-same e (f.counted one (counts-join rest d))
+      counts-same e (f.counted one (counts-join rest d))
   counts-join (f.other none rest) d = f.other none (counts-join rest d)
 
   counts-one : {cause : Cause} {n : ℕ} → InjectedCount p cause n → CountsTo p (cause ∷ []) n
@@ -80,7 +80,7 @@ module _ (p : Program) where
 
   names-counts : (names : List Text) (s : Text) →
       Rattle.bundle_rules.specs.Bundle.AreNames (Rattle.bundle_rules.specs.Bundle.MeansName p s)
-          names → CountsTo p (names_plan names s) (length names)
+      names → CountsTo p (names_plan names s) (length names)
   names-counts [] s are = f.nothing
   names-counts (x ∷ names) s are = counts-one (f.names (x ∷ names) are)
 
@@ -88,14 +88,14 @@ module _ (p : Program) where
       CountsTo p (external_plan e) (external_count e)
   external-counts e s its =
       let are =
-          subst
-              (λ t. Rattle.bundle_rules.specs.Bundle.AreNames
-                   (Rattle.bundle_rules.specs.Bundle.MeansName p t) e.names) (sym its.same)
-              its.names in
+      subst
+      (λ t. Rattle.bundle_rules.specs.Bundle.AreNames
+      (Rattle.bundle_rules.specs.Bundle.MeansName p t) e.names) (sym its.same)
+      its.names in
       let zero_n : length e.names + (count_if e.whole 1 + 0) ≡ external_count e = omega arith in
       counts-same zero_n
-          (counts-join (names-counts e.names e.specifier are)
-               (counts-join (counts-if e.whole f.whole) (bare-counts e.names e.whole e.specifier)))
+      (counts-join (names-counts e.names e.specifier are)
+      (counts-join (counts-if e.whole f.whole) (bare-counts e.names e.whole e.specifier)))
 
   externals-count : (es : List DecidedExternal) (texts : List Text) →
       AllZip (IsExternalDecided p) es texts →
@@ -114,17 +114,17 @@ module _ (p : Program) where
       by true says = counts-one (f.loads_whole load.names its.names (says.0 refl))
       by false says =
           let e : length load.names ≡ length load.names + 0 = omega arith in
-              counts-same e
-              (counts-one (f.loads load.names its.names (λ means. false≢true (says.1 means))))
+          counts-same e
+          (counts-one (f.loads load.names its.names (λ means. false≢true (says.1 means))))
 
   loads-count : (m : ℕ) (loads : List DecidedLoad) →
       ((load : DecidedLoad) → Contains loads load → IsLoadDecided p m load) →
       CountsTo p (map (λ (load : DecidedLoad). Loads m load.«module») loads)
-          (sum_of load_count loads)
+      (sum_of load_count loads)
   loads-count m [] each = f.nothing
   loads-count m (load ∷ loads) each =
       counts-join (load-counts m load (each load (here load loads)))
-          (loads-count m loads (λ l c. each l (later load loads l c)))
+      (loads-count m loads (λ l c. each l (later load loads l c)))
 
   module _ (d : Decided) where
     own-none : (m : ℕ) (ks : List ℕ) (c : Cause) (n : ℕ) → Contains (map (Own m) ks) c →
@@ -142,17 +142,17 @@ module _ (p : Program) where
         es : CountsTo p (es_plan d m) (count_if (d.has_meta m) 1 + sum_of load_count (d.loads m))
         es =
             let zero_n : count_if (d.has_meta m) 1 + (sum_of load_count (d.loads m) + 0) ≡ count_if
-                (d.has_meta m) 1 + sum_of load_count (d.loads m) =
-                omega arith in
+            (d.has_meta m) 1 + sum_of load_count (d.loads m) =
+            omega arith in
             counts-same zero_n
-                (counts-join (counts-if (d.has_meta m) f.meta)
-                     (counts-join (loads-count m (d.loads m) its.taken)
-                          (counts-none (map (Own m) (numbers_from zero (d.statements m)))
-                               (λ c n. own-none m (numbers_from zero (d.statements m)) c n))))
+            (counts-join (counts-if (d.has_meta m) f.meta)
+            (counts-join (loads-count m (d.loads m) its.taken)
+            (counts-none (map (Own m) (numbers_from zero (d.statements m)))
+            (λ c n. own-none m (numbers_from zero (d.statements m)) c n))))
 
         by : (t : Bool) →
             CountsTo p (if t then Defines m ∷ [] else es_plan d m)
-                (if t then 1 else count_if (d.has_meta m) 1 + sum_of load_count (d.loads m))
+            (if t then 1 else count_if (d.has_meta m) 1 + sum_of load_count (d.loads m))
         by true = counts-one f.load_function
         by false = es
 
@@ -164,9 +164,9 @@ module _ (p : Program) where
         CountsTo p (block_plan d block.modules) (block_count d block)
     block-counts block each =
         counts-join
-            (counts-flat (module_plan d) (module_count d) block.modules
-                 (λ m c. module-counts m (each m c)))
-            (counts-flat (object_plan d) (object_count d) block.modules (λ m c. object-counts m))
+        (counts-flat (module_plan d) (module_count d) block.modules
+        (λ m c. module-counts m (each m c)))
+        (counts-flat (object_plan d) (object_count d) block.modules (λ m c. object-counts m))
 
     stars-none : (stars : List Text) (c : Cause) (n : ℕ) → Contains (map Stars stars) c →
         InjectedCount p c n → ⊥
@@ -183,7 +183,7 @@ module _ (p : Program) where
     back-counts : CountsTo p (back_plan d) 0
     back-counts =
         counts-join (counts-none (map Stars d.stars) (λ c n. stars-none d.stars c n))
-            (exports-none d.exports)
+        (exports-none d.exports)
 
 -- ---- blocks of what is decided
 module _ (p : Program) (form : Form) (d : Decided) (its : AreDecided p form d) where
@@ -207,7 +207,7 @@ module _ (p : Program) (form : Form) (d : Decided) (its : AreDecided p form d) w
   pub plan-counts : CountsTo p (merged_plan d) (injected_count d)
   plan-counts =
       let zero_n : front_count d + (sum_of (block_count d) d.blocks + 0) ≡ injected_count d =
-          omega arith in
+      omega arith in
       counts-same p zero_n
       (counts-join p (counts-join p (externals-count p d.externals (externals p d.list) its.outside) (counts-if p (list_any d.is_common_js d.list) f.helper))
       (counts-join p (counts-flat p (λ (block : DecidedBlock). block_plan d block.modules) (block_count d) d.blocks (λ block c. block-counts p d block (λ m e. its.modules m (block-listed block c m e))))
@@ -219,27 +219,27 @@ module _ (p : Program) (form : Form) (d : Decided) (its : AreDecided p form d) w
 
   blocks-chosen : (blocks : List DecidedBlock) →
       ((block : DecidedBlock) → Contains blocks block → (m : ℕ) → Contains block.modules m →
-           IsModuleDecided p d m × IsReached p m) →
+      IsModuleDecided p d m × IsReached p m) →
       Chosen (IsDue p form) (all_blocks blocks) (merged_blocks d blocks)
   blocks-chosen [] each = nothing
   blocks-chosen (block ∷ blocks) each =
       Chosen-join (block-chosen p form d block.modules (each block (here block blocks)))
-          (blocks-chosen blocks (λ b c. each b (later block blocks b c)))
+      (blocks-chosen blocks (λ b c. each b (later block blocks b c)))
 
   pub merged-chosen : Chosen (IsDue p form)
-          (front_causes p d.list ++ (all_blocks d.blocks ++ back_causes p d.list)) (merged_plan d)
+      (front_causes p d.list ++ (all_blocks d.blocks ++ back_causes p d.list)) (merged_plan d)
   merged-chosen =
       Chosen-join (front-chosen p form d its)
-          (Chosen-join
-               (blocks-chosen d.blocks
-                    (λ block c m e. let l = block-listed block c m e in
-                         (its.modules m l, (list-reached p d.list its.list m).0 l)))
-               (back-chosen p form d its))
+      (Chosen-join
+      (blocks-chosen d.blocks
+      (λ block c m e. let l = block-listed block c m e in
+      (its.modules m l, (list-reached p d.list its.list m).0 l)))
+      (back-chosen p form d its))
 
   in-block : (blocks : List DecidedBlock) (c : Cause) → Contains (all_blocks blocks) c →
       (part_of c ≡ 1)
       × ((m : ℕ) × InSome (map members_of blocks) m ×
-          (Rattle.bundle_merge_whole.proofs.planned.CauseLemmas.module_of_cause c ≡ Some m))
+      (Rattle.bundle_merge_whole.proofs.planned.CauseLemmas.module_of_cause c ≡ Some m))
   in-block blocks c e =
       let r = flat_back (λ (block : DecidedBlock). block_causes p block.modules) blocks c e in
       let k = block-in p r.0.modules c r.2 in
@@ -250,21 +250,21 @@ module _ (p : Program) (form : Form) (d : Decided) (its : AreDecided p form d) w
   blocks-once-causes [] once apart = tt
   blocks-once-causes (block ∷ blocks) once apart =
       once-join (block_causes p block.modules) (all_blocks blocks)
-          (block-once p block.modules (once-from block.modules once.0))
-          (blocks-once-causes blocks once.1 apart.1)
+      (block-once p block.modules (once-from block.modules once.0))
+      (blocks-once-causes blocks once.1 apart.1)
       (λ c a b. let mine = (block-in p block.modules c a).1 in let other = (in-block blocks c b).1 in
-        apart.0 mine.0 mine.1 (subst (InSome (map members_of blocks)) (same_Some other.0 mine.0 (sym other.2 ∙ mine.2)) other.1))
+      apart.0 mine.0 mine.1 (subst (InSome (map members_of blocks)) (same_Some other.0 mine.0 (sym other.2 ∙ mine.2)) other.1))
 
   pub merged-once : Once (merged_plan d)
   merged-once = Chosen-once merged-chosen
       (once-join (front_causes p d.list) (all_blocks d.blocks ++ back_causes p d.list) (front-once p d.list)
       (once-join (all_blocks d.blocks) (back_causes p d.list)
-        (blocks-once-causes d.blocks
-          (blocks-once (SharesBlock p) (shares-flip p) (shares-join p) d.list
-               (list-once p d.list its.list) d.list (map members_of d.blocks) its.blocks)
-          (blocks-apart (SharesBlock p) (shares-flip p) (shares-join p) d.list d.list (map members_of d.blocks) its.blocks))
-        (back-once p d.list)
-        (λ c a b. let x = (in-block d.blocks c a).0 in let y = back-part p d.list c b in omega (arith, x, y)))
+      (blocks-once-causes d.blocks
+      (blocks-once (SharesBlock p) (shares-flip p) (shares-join p) d.list
+      (list-once p d.list its.list) d.list (map members_of d.blocks) its.blocks)
+      (blocks-apart (SharesBlock p) (shares-flip p) (shares-join p) d.list d.list (map members_of d.blocks) its.blocks))
+      (back-once p d.list)
+      (λ c a b. let x = (in-block d.blocks c a).0 in let y = back-part p d.list c b in omega (arith, x, y)))
       (λ c a e. let x = front-part p d.list c a in elim (Contains-append_cases (all_blocks d.blocks) (back_causes p d.list) c e) [
         | inl k ↦ let y = (in-block d.blocks c k).0 in omega (arith, x, y)
         | inr k ↦ let y = back-part p d.list c k in omega (arith, x, y)
@@ -281,7 +281,7 @@ needs-too-many p hooks d its next trees counts above = record {
   due = λ cause c. (Chosen-in (merged-chosen p (form_of p.settings) d its) cause c).1;
   once =
       λ i j cause e g. once-places (merged_plan d) (merged-once p (form_of p.settings) d its) i j
-          cause e g;
+      cause e g;
   of_trees = trees;
   trees = counts;
   of_causes = injected_count d;

@@ -60,16 +60,16 @@ is_decided = record {
   list = listed (λ c. no_element c) finished finished;
   modules =
       λ m c. elim (first_or_later 0 [] m c)
-          [ inl same ↦ subst (IsModuleDecided (e.p e.as_module) alone) same module_zero | inr none ↦ absurd (no_element none) ];
+      [ inl same ↦ subst (IsModuleDecided (e.p e.as_module) alone) same module_zero | inr none ↦ absurd (no_element none) ];
   outside = tt;
   starred = picks.nothing;
   exports = (λ t. absurd (true≢false (sym t)), no_exports);
   blocks =
       g.BlocksOf.ends (itself, itself) (λ y c s. no_element c)
-          (g.Members.kept (itself, itself) g.Members.nothing) g.BlocksOf.over;
+      (g.Members.kept (itself, itself) g.Members.nothing) g.BlocksOf.over;
   kinds =
       λ block c. elim (first_or_later (record { modules = 0 ∷ []; is_sorted = false }) [] block c)
-          [ inl same ↦ subst (IsBlockDecided (e.p e.as_module)) same block_zero | inr none ↦ absurd (no_element none) ];
+      [ inl same ↦ subst (IsBlockDecided (e.p e.as_module)) same block_zero | inr none ↦ absurd (no_element none) ];
 }
 
 -- ---- `import './x'; import d from './y';` where both are the script 7, which requires itself and
@@ -91,7 +91,7 @@ two = record {
     external = codes "ext" ∷ [];
     iife = false;
     renames = true;
-    most_modules = 9
+    most_modules = 9;
   };
   entry = 4;
   count = 8;
@@ -121,7 +121,7 @@ of_two = record {
   is_common_js = λ m. m == 7;
   loads =
       λ m. cond (m == 4) (record { «module» = 7; names = codes "default" ∷ []; whole = false } ∷ [])
-          [];
+      [];
   has_meta = λ m. false;
   statements = λ m. cond (m == 7) 2 0;
   is_object_meant = λ m. false;
@@ -130,7 +130,7 @@ of_two = record {
   exports = false;
   blocks =
       record { modules = 7 ∷ []; is_sorted = true } ∷ record { modules = 4 ∷ []; is_sorted = false }
-          ∷ [];
+      ∷ [];
 }
 
 plan_of_two : plan_of of_two ((0 ∷ []) ∷ [] ∷ []) ≡ Helps ∷ Defines 7 ∷ Loads 4 7 ∷ []

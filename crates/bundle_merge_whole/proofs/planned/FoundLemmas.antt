@@ -30,78 +30,78 @@ filter-members {Has = Has} test (x ∷ xs) says =
     by false its more = left {xs = xs} {ys = filter test xs} (λ h. false≢true (its.1 h)) more
 
 module _ (p : Program) (m : ℕ) (test : ℕ → Bool) (says : (c : ℕ) → IsTrue (test c) ↔ IsCommonJs p c)
-    where
-  abbrev declared : List Text
-  declared = declared_requests (tree_of p m)
+  where
+    abbrev declared : List Text
+    declared = declared_requests (tree_of p m)
 
-  -- where the declarations of the module lead
-  abbrev led : List ℕ
-  led = filter_map (resolves p m) (declared_requests (tree_of p m))
+    -- where the declarations of the module lead
+    abbrev led : List ℕ
+    led = filter_map (resolves p m) (declared_requests (tree_of p m))
 
-  abbrev inside : Text → Bool
-  inside s = not (has_text s p.settings.external)
+    abbrev inside : Text → Bool
+    inside s = not (has_text s p.settings.external)
 
-  abbrev called : List Text
-  called =
-      map (λ call. call.specifier) (linked_calls p.settings (is_free (tree_of p m)) (tree_of p m))
+    abbrev called : List Text
+    called =
+        map (λ call. call.specifier) (linked_calls p.settings (is_free (tree_of p m)) (tree_of p m))
 
-  -- a declaration leads there, and it is CommonJS
-  abbrev is_taken : ℕ → Bool
-  is_taken n = test n && list_any (nat_eq n) led
+    -- a declaration leads there, and it is CommonJS
+    abbrev is_taken : ℕ → Bool
+    is_taken n = test n && list_any (nat_eq n) led
 
-  led-inside : (texts : List Text) →
-      filter_map (resolves p m) (filter inside texts) ≡ filter_map (resolves p m) texts
-  led-inside [] = refl
-  led-inside (s ∷ texts) = by (is_external p s) refl (led-inside texts)
-    where
-      by : (t : Bool) → is_external p s ≡ t →
-          filter_map (resolves p m) (filter inside texts) ≡ filter_map (resolves p m) texts →
-          filter_map (resolves p m) (cond (not t) (s ∷ filter inside texts) (filter inside texts)) ≡
-              cons_option (if t then None else p.leads m s) (filter_map (resolves p m) texts)
-      by true e ih = ih
-      by false e ih =
-          ap
-                  (λ t. cons_option (if t then None else p.leads m s)
-                       (filter_map (resolves p m) (filter inside texts))) e
-              ∙ ap (cons_option (p.leads m s)) ih
+    led-inside : (texts : List Text) →
+        filter_map (resolves p m) (filter inside texts) ≡ filter_map (resolves p m) texts
+    led-inside [] = refl
+    led-inside (s ∷ texts) = by (is_external p s) refl (led-inside texts)
+      where
+        by : (t : Bool) → is_external p s ≡ t →
+            filter_map (resolves p m) (filter inside texts) ≡ filter_map (resolves p m) texts →
+            filter_map (resolves p m) (cond (not t) (s ∷ filter inside texts) (filter inside texts)) ≡
+            cons_option (if t then None else p.leads m s) (filter_map (resolves p m) texts)
+        by true e ih = ih
+        by false e ih =
+            ap
+            (λ t. cons_option (if t then None else p.leads m s)
+            (filter_map (resolves p m) (filter inside texts))) e
+            ∙ ap (cons_option (p.leads m s)) ih
 
-  asks-taken : (n : ℕ) → IsTrue (is_taken n) ↔ AsksCommonJs p m n
-  asks-taken n = (
-    λ t. (
-      let both = and_parts (test n) (list_any (nat_eq n) led) t in
-      let r = some_back (resolves p m) declared n (Contains-place led n (place-in led n both.1)) in
-      record { specifier = r.0; asks = r.1; resolved = r.2; common_js = (says n).0 both.0 }),
-    λ its. and_from (test n) (list_any (nat_eq n) led) ((says n).1 its.common_js)
-        (found led n
-             (place-contains led n
-                  (some_on (resolves p m) declared its.specifier n its.asks its.resolved))),
-  )
+    asks-taken : (n : ℕ) → IsTrue (is_taken n) ↔ AsksCommonJs p m n
+    asks-taken n = (
+      λ t. (
+          let both = and_parts (test n) (list_any (nat_eq n) led) t in
+          let r = some_back (resolves p m) declared n (Contains-place led n (place-in led n both.1)) in
+          record { specifier = r.0; asks = r.1; resolved = r.2; common_js = (says n).0 both.0 }),
+      λ its. and_from (test n) (list_any (nat_eq n) led) ((says n).1 its.common_js)
+          (found led n
+          (place-contains led n
+          (some_on (resolves p m) declared its.specifier n its.asks its.resolved))),
+    )
 
-  of-led : filter is_taken led ≡ filter test led
-  of-led = filter-same is_taken test led (λ n c. by (test n) (found led n (place-contains led n c)))
-    where
-      by : (t : Bool) {u : Bool} → u ≡ true → (t && u) ≡ t
-      by true e = e
-      by false e = refl
+    of-led : filter is_taken led ≡ filter test led
+    of-led = filter-same is_taken test led (λ n c. by (test n) (found led n (place-contains led n c)))
+      where
+        by : (t : Bool) {u : Bool} → u ≡ true → (t && u) ≡ t
+        by true e = e
+        by false e = refl
 
-  requested-taken : filter is_taken (requested p m) ≡ taken_modules p m test
-  requested-taken =
-      ap (filter is_taken)
-          (once-led (resolves p m) (filter inside declared ++ called)
-               ∙ ap numbers_once
-                   (filter_map-append (resolves p m) (filter inside declared) called
-                        ∙ ap (λ l. l ++ filter_map (resolves p m) called) (led-inside declared)))
-      ∙ (filter-once is_taken (led ++ filter_map (resolves p m) called)
-      ∙ (ap numbers_once (filter-append is_taken led (filter_map (resolves p m) called) ∙ ap (λ l. l ++ filter is_taken (filter_map (resolves p m) called)) of-led)
-      ∙ once-behind (filter is_taken (filter_map (resolves p m) called)) (filter test led) (λ n c.
-          let both =
-              and_parts (test n) (list_any (nat_eq n) led)
-                  (passes is_taken (filter_map (resolves p m) called) n c) in
-          filter_on test led n (Contains-place led n (place-in led n both.1)) both.0)))
+    requested-taken : filter is_taken (requested p m) ≡ taken_modules p m test
+    requested-taken =
+        ap (filter is_taken)
+        (once-led (resolves p m) (filter inside declared ++ called)
+        ∙ ap numbers_once
+        (filter_map-append (resolves p m) (filter inside declared) called
+        ∙ ap (λ l. l ++ filter_map (resolves p m) called) (led-inside declared)))
+        ∙ (filter-once is_taken (led ++ filter_map (resolves p m) called)
+        ∙ (ap numbers_once (filter-append is_taken led (filter_map (resolves p m) called) ∙ ap (λ l. l ++ filter is_taken (filter_map (resolves p m) called)) of-led)
+        ∙ once-behind (filter is_taken (filter_map (resolves p m) called)) (filter test led) (λ n c.
+        let both =
+        and_parts (test n) (list_any (nat_eq n) led)
+        (passes is_taken (filter_map (resolves p m) called) n c) in
+        filter_on test led n (Contains-place led n (place-in led n both.1)) both.0)))
 
-  -- the CommonJS modules to which declarations lead, each once in their order, are what the module
-  -- loads, in the order of its requests
-  pub loads-found : Members (AsksCommonJs p m) (requested p m) (taken_modules p m test)
-  loads-found =
-      subst (Members (AsksCommonJs p m) (requested p m)) requested-taken
-          (filter-members is_taken (requested p m) (λ n c. asks-taken n))
+    -- the CommonJS modules to which declarations lead, each once in their order, are what the module
+    -- loads, in the order of its requests
+    pub loads-found : Members (AsksCommonJs p m) (requested p m) (taken_modules p m test)
+    loads-found =
+        subst (Members (AsksCommonJs p m) (requested p m)) requested-taken
+        (filter-members is_taken (requested p m) (λ n c. asks-taken n))

@@ -49,14 +49,14 @@ module _ (p : Program) (form : Form) (d : Decided) (its : AreDecided p form d) w
   external-label e s it (Named x) means =
       subst (λ t. Contains (external_labels e) (Of (External t (Named x)))) it.same
       (Contains-append_left (map (λ x. Of (External e.specifier (Named x))) e.names)
-           (label_if e.whole (Of (External e.specifier Whole)))
-           (Of (External e.specifier (Named x)))
-           (map_on (λ x. Of (External e.specifier (Named x))) e.names x ((it.names.all x).1 means)))
+      (label_if e.whole (Of (External e.specifier Whole)))
+      (Of (External e.specifier (Named x)))
+      (map_on (λ x. Of (External e.specifier (Named x))) e.names x ((it.names.all x).1 means)))
   external-label e s it Whole means =
       subst (λ t. Contains (external_labels e) (Of (External t Whole))) it.same
       (Contains-append_right (map (λ x. Of (External e.specifier (Named x))) e.names)
-           (label_if e.whole (Of (External e.specifier Whole))) (Of (External e.specifier Whole))
-           (if-there e.whole (Of (External e.specifier Whole)) (it.whole.1 means)))
+      (label_if e.whole (Of (External e.specifier Whole))) (Of (External e.specifier Whole))
+      (if-there e.whole (Of (External e.specifier Whole)) (it.whole.1 means)))
 
   in-front : (l : Label) → Contains (front_labels d) l → Contains (injected_labels d) l
   in-front l c = Contains-append_left (front_labels d) (flat_map (block_labels d) d.blocks) l c
@@ -65,13 +65,13 @@ module _ (p : Program) (form : Form) (d : Decided) (its : AreDecided p form d) w
       Contains (injected_labels d) (Of (External s what))
   of-external s what means =
       let r =
-          external-there d.externals (externals p d.list) its.outside s
-              (used-listed p d.list its.list s (meant-reached p means)) in
+      external-there d.externals (externals p d.list) its.outside s
+      (used-listed p d.list its.list s (meant-reached p means)) in
       in-front (Of (External s what))
-          (Contains-append_left (flat_map external_labels d.externals)
-               (label_if (list_any d.is_common_js d.list) Helper) (Of (External s what))
-               (flat_on external_labels d.externals r.0 (Of (External s what)) r.1
-                    (external-label r.0 s r.2 what means)))
+      (Contains-append_left (flat_map external_labels d.externals)
+      (label_if (list_any d.is_common_js d.list) Helper) (Of (External s what))
+      (flat_on external_labels d.externals r.0 (Of (External s what)) r.1
+      (external-label r.0 s r.2 what means)))
 
   -- ---- modules
   has-block : (blocks : List DecidedBlock) (m : ℕ) → InSome (map members_of blocks) m →
@@ -85,8 +85,8 @@ module _ (p : Program) (form : Form) (d : Decided) (its : AreDecided p form d) w
       (block : DecidedBlock) × Contains d.blocks block × Contains block.modules m
   block-there m c =
       has-block d.blocks m
-          (blocks-has (SharesBlock p) (shares-flip p) (shares-join p) d.list d.list
-               (map members_of d.blocks) its.blocks m c (itself, itself) m c (itself, itself))
+      (blocks-has (SharesBlock p) (shares-flip p) (shares-join p) d.list d.list
+      (map members_of d.blocks) its.blocks m c (itself, itself) m c (itself, itself))
 
   of-module : (m : ℕ) (l : Label) → IsReached p m → Contains (module_labels d m) l →
       Contains (injected_labels d) l
@@ -94,9 +94,9 @@ module _ (p : Program) (form : Form) (d : Decided) (its : AreDecided p form d) w
       let r = block-there m ((list-reached p d.list its.list m).1 reached) in
       Contains-append_right (front_labels d) (flat_map (block_labels d) d.blocks) l
       (flat_on (block_labels d) d.blocks r.0 l r.1
-           (Contains-append_left (flat_map (module_labels d) r.0.modules)
-                (flat_map (object_labels d) r.0.modules) l
-                (flat_on (module_labels d) r.0.modules m l r.2 there)))
+      (Contains-append_left (flat_map (module_labels d) r.0.modules)
+      (flat_map (object_labels d) r.0.modules) l
+      (flat_on (module_labels d) r.0.modules m l r.2 there)))
 
   of-namespace : (m : ℕ) → IsMeant p (Of (Namespace m)) →
       Contains (injected_labels d) (Of (Namespace m))
@@ -126,25 +126,25 @@ module _ (p : Program) (form : Form) (d : Decided) (its : AreDecided p form d) w
       let it = its.modules m ((list-reached p d.list its.list m).1 r.0) in
       let es : IsCommonJs p m → ⊥ = λ cjs. script-asks p m cjs r.1.specifier r.1.asks in
       let requested =
-          Rattle.bundle_merge_whole.proofs.planned.RequestLemmas.declared_leads p m c r.1.specifier
-              r.1.asks r.1.resolved in
+      Rattle.bundle_merge_whole.proofs.planned.RequestLemmas.declared_leads p m c r.1.specifier
+      r.1.asks r.1.resolved in
       let back =
-          map_back (λ (load : DecidedLoad). load.«module») (d.loads m) c
-              (Members-has _ _ (it.loads es) c requested r.1) in
+      map_back (λ (load : DecidedLoad). load.«module») (d.loads m) c
+      (Members-has _ _ (it.loads es) c requested r.1) in
       let there =
-          flat_on (load_labels m) (d.loads m) back.0 (Of (CommonJs m c what)) back.1
-              (load-label m c back.0 back.2 (it.taken back.0 back.1) what means) in
+      flat_on (load_labels m) (d.loads m) back.0 (Of (CommonJs m c what)) back.1
+      (load-label m c back.0 back.2 (it.taken back.0 back.1) what means) in
       of-module m (Of (CommonJs m c what)) r.0 (by (d.is_common_js m) it.common_js es there)
     where
       by : (t : Bool) → (IsTrue t ↔ IsCommonJs p m) → (IsCommonJs p m → ⊥) →
           Contains (flat_map (load_labels m) (d.loads m)) (Of (CommonJs m c what)) →
           Contains
-              (if t then Load m ∷ [] else label_if (d.has_meta m) (Meta m) ++ flat_map
-                   (load_labels m) (d.loads m)) (Of (CommonJs m c what))
+          (if t then Load m ∷ [] else label_if (d.has_meta m) (Meta m) ++ flat_map
+          (load_labels m) (d.loads m)) (Of (CommonJs m c what))
       by true says es there = absurd (es (says.0 refl))
       by false says es there =
           Contains-append_right (label_if (d.has_meta m) (Meta m))
-              (flat_map (load_labels m) (d.loads m)) (Of (CommonJs m c what)) there
+          (flat_map (load_labels m) (d.loads m)) (Of (CommonJs m c what)) there
 
   -- ---- all of them
   -- a target that is meant and is no declaration is injected
@@ -160,13 +160,13 @@ module _ (p : Program) (form : Form) (d : Decided) (its : AreDecided p form d) w
   pub load-there : (c : ℕ) → IsReached p c → IsCommonJs p c → Contains (injected_labels d) (Load c)
   load-there c reached cjs =
       of-module c (Load c) reached
-          (by (d.is_common_js c)
-               ((its.modules c ((list-reached p d.list its.list c).1 reached)).common_js))
+      (by (d.is_common_js c)
+      ((its.modules c ((list-reached p d.list its.list c).1 reached)).common_js))
     where
       by : (t : Bool) → (IsTrue t ↔ IsCommonJs p c) →
           Contains
-              (if t then Load c ∷ [] else label_if (d.has_meta c) (Meta c) ++ flat_map
-                   (load_labels c) (d.loads c)) (Load c)
+          (if t then Load c ∷ [] else label_if (d.has_meta c) (Meta c) ++ flat_map
+          (load_labels c) (d.loads c)) (Load c)
       by true says = here (Load c) []
       by false says = absurd (false≢true (says.1 cjs))
 
@@ -178,12 +178,12 @@ module _ (p : Program) (form : Form) (d : Decided) (its : AreDecided p form d) w
     where
       by : (t : Bool) → (IsTrue t ↔ IsCommonJs p m) → d.has_meta m ≡ true →
           Contains
-              (if t then Load m ∷ [] else label_if (d.has_meta m) (Meta m) ++ flat_map
-                   (load_labels m) (d.loads m)) (Meta m)
+          (if t then Load m ∷ [] else label_if (d.has_meta m) (Meta m) ++ flat_map
+          (load_labels m) (d.loads m)) (Meta m)
       by true says e = absurd (es (says.0 refl))
       by false says e =
           Contains-append_left (label_if (d.has_meta m) (Meta m))
-              (flat_map (load_labels m) (d.loads m)) (Meta m) (if-there (d.has_meta m) (Meta m) e)
+          (flat_map (load_labels m) (d.loads m)) (Meta m) (if-there (d.has_meta m) (Meta m) e)
 
   pub helper-there : (c : ℕ) → IsReached p c → IsCommonJs p c → Contains (injected_labels d) Helper
   helper-there c reached cjs =
@@ -201,8 +201,8 @@ length-flat : {A : Type 0} (g : A → List Label) (n : A → ℕ) → ((x : A) �
 length-flat g n each [] = omega arith
 length-flat g n each (x ∷ xs) =
     let one = each x in
-        let rest = length-flat g n each xs in
-        let both = length-append (g x) (flat_map g xs) in omega (arith, one, rest, both)
+    let rest = length-flat g n each xs in
+    let both = length-append (g x) (flat_map g xs) in omega (arith, one, rest, both)
 
 few : (t : Bool) (n : ℕ) → count_if t 1 ≤ count_if t (suc n)
 few true n = omega arith
@@ -211,8 +211,8 @@ few false n = omega arith
 external-few : (e : DecidedExternal) → length (external_labels e) ≤ external_count e
 external-few e =
     let both =
-        length-append (map (λ x. Of (External e.specifier (Named x))) e.names)
-            (label_if e.whole (Of (External e.specifier Whole))) in
+    length-append (map (λ x. Of (External e.specifier (Named x))) e.names)
+    (label_if e.whole (Of (External e.specifier Whole))) in
     let names = length-mapped (λ x. Of (External e.specifier (Named x))) e.names in
     let whole = length-if e.whole (Of (External e.specifier Whole)) in
     omega (arith, both, names, whole)
@@ -220,8 +220,8 @@ external-few e =
 load-few : (m : ℕ) (load : DecidedLoad) → length (load_labels m load) ≤ load_count load
 load-few m load =
     let both =
-        length-append (map (λ x. Of (CommonJs m load.«module» (Named x))) load.names)
-            (label_if load.whole (Of (CommonJs m load.«module» Whole))) in
+    length-append (map (λ x. Of (CommonJs m load.«module» (Named x))) load.names)
+    (label_if load.whole (Of (CommonJs m load.«module» Whole))) in
     let names = length-mapped (λ x. Of (CommonJs m load.«module» (Named x))) load.names in
     let whole = length-if load.whole (Of (CommonJs m load.«module» Whole)) in
     omega (arith, both, names, whole)
@@ -231,14 +231,14 @@ module-few d m = by (d.is_common_js m)
   where
     by : (t : Bool) →
         length
-            (if t then Load m ∷ [] else label_if (d.has_meta m) (Meta m) ++ flat_map (load_labels m)
-                 (d.loads m)) ≤
-            (if t then 1 else count_if (d.has_meta m) 1 + sum_of load_count (d.loads m))
+        (if t then Load m ∷ [] else label_if (d.has_meta m) (Meta m) ++ flat_map (load_labels m)
+        (d.loads m)) ≤
+        (if t then 1 else count_if (d.has_meta m) 1 + sum_of load_count (d.loads m))
     by true = omega arith
     by false =
         let both =
-            length-append (label_if (d.has_meta m) (Meta m))
-                (flat_map (load_labels m) (d.loads m)) in
+        length-append (label_if (d.has_meta m) (Meta m))
+        (flat_map (load_labels m) (d.loads m)) in
         let meta = length-if (d.has_meta m) (Meta m) in
         let loads = length-flat (load_labels m) load_count (load-few m) (d.loads m) in
         omega (arith, both, meta, loads)
@@ -246,14 +246,14 @@ module-few d m = by (d.is_common_js m)
 object-few : (d : Decided) (m : ℕ) → length (object_labels d m) ≤ object_count d m
 object-few d m =
     let one = length-if (d.is_object_meant m) (Of (Namespace m)) in
-        let more = few (d.is_object_meant m) 3 in omega (arith, one, more)
+    let more = few (d.is_object_meant m) 3 in omega (arith, one, more)
 
 block-few : (d : Decided) (block : DecidedBlock) →
     length (block_labels d block) ≤ block_count d block
 block-few d block =
     let both =
-        length-append (flat_map (module_labels d) block.modules)
-            (flat_map (object_labels d) block.modules) in
+    length-append (flat_map (module_labels d) block.modules)
+    (flat_map (object_labels d) block.modules) in
     let first = length-flat (module_labels d) (module_count d) (module-few d) block.modules in
     let second = length-flat (object_labels d) (object_count d) (object-few d) block.modules in
     omega (arith, both, first, second)
@@ -265,8 +265,8 @@ pub labels-few : (d : Decided) →
 labels-few d =
     let all = length-append (front_labels d) (flat_map (block_labels d) d.blocks) in
     let front =
-        length-append (flat_map external_labels d.externals)
-            (label_if (list_any d.is_common_js d.list) Helper) in
+    length-append (flat_map external_labels d.externals)
+    (label_if (list_any d.is_common_js d.list) Helper) in
     let first = length-flat external_labels external_count external-few d.externals in
     let blocks = length-flat (block_labels d) (block_count d) (block-few d) d.blocks in
     let helper = by (list_any d.is_common_js d.list) in

@@ -63,15 +63,15 @@ pub arranged-reads : (numbered : List Cause) (order : List ℕ) →
 arranged-reads numbered [] within = tt
 arranged-reads numbered (n ∷ order) within =
     by (slice_get numbered n) refl
-        (arranged-reads numbered order (λ k c. within k (later n order k c)))
+    (arranged-reads numbered order (λ k c. within k (later n order k c)))
   where
     by : (o : Option Cause) → slice_get numbered n ≡ o →
         AllZip (ReadBy numbered) order (arranged numbered order) →
         AllZip (ReadBy numbered) (n ∷ order) (cons_option o (arranged numbered order))
     by None e ih =
         absurd
-            (none-some (get_or numbered n (HoldsNamespace n))
-                 (sym e ∙ slice_get-get_or numbered n (HoldsNamespace n) (within n (here n order))))
+        (none-some (get_or numbered n (HoldsNamespace n))
+        (sym e ∙ slice_get-get_or numbered n (HoldsNamespace n) (within n (here n order))))
     by (Some c) e ih = (e, ih)
 
 all-stand : (pairing : Pairing) (f : ℕ → TopItem) (xs : List Cause) (i : ℕ) →
@@ -83,7 +83,7 @@ all-stand pairing f (x ∷ xs) i each = (
       subst (λ k. StandsFor pairing x (f k)) same (each zero x refl),
   all-stand pairing f xs (suc i)
       (λ n c e. let same : i + suc n ≡ suc i + n = omega arith in subst
-           (λ k. StandsFor pairing c (f k)) same (each (suc n) c e)),
+      (λ k. StandsFor pairing c (f k)) same (each (suc n) c e)),
 )
 
 module _ (pairing : Pairing) (same : length pairing.body ≡ length pairing.plan) where
@@ -91,22 +91,22 @@ module _ (pairing : Pairing) (same : length pairing.body ≡ length pairing.plan
       StandsFor pairing c (item_at pairing.body place)
   stands-at place c e =
       let within : place < length pairing.body =
-          (let l = slice_get_within pairing.plan place c e in omega (arith, l, same)) in
+      (let l = slice_get_within pairing.plan place c e in omega (arith, l, same)) in
       let read = slice_get-get_or pairing.body place no_item within in
       record {
-          at = place;
-          cause_there = e;
-          item_there = read ∙ ap (λ x. Some x) (sym (ap (λ o. unwrap_or o no_item) read))
+        at = place;
+        cause_there = e;
+        item_there = read ∙ ap (λ x. Some x) (sym (ap (λ o. unwrap_or o no_item) read));
       }
 
   block-stands : (before after numbered : List Cause) (order : List ℕ) →
       pairing.plan ≡ before ++ (arranged numbered order ++ after) →
       ((n : ℕ) → (n < length numbered) ↔ Contains order n) →
       AllZip (StandsFor pairing) numbered
-          (block_items pairing.body (length before) order (length numbered))
+      (block_items pairing.body (length before) order (length numbered))
   block-stands before after numbered order is all =
       all-stand pairing (λ n. item_at pairing.body (length before + index_of n order)) numbered zero
-          each
+      each
     where
       each : (n : ℕ) (c : Cause) → slice_get numbered n ≡ Some c →
           StandsFor pairing c (item_at pairing.body (length before + index_of (0 + n) order))
@@ -115,15 +115,15 @@ module _ (pairing : Pairing) (same : length pairing.body ≡ length pairing.plan
           let k = index_of n order in
           let there = index-there n order ((all n).0 (slice_get_within numbered n c e)) in
           let read =
-              zip-get (ReadBy numbered) order (arranged numbered order)
-                  (arranged-reads numbered order (λ m d. (all m).1 d)) k n there in
+          zip-get (ReadBy numbered) order (arranged numbered order)
+          (arranged-reads numbered order (λ m d. (all m).1 d)) k n there in
           let mine = same_Some read.0 c (sym read.2 ∙ e) in
           let at : slice_get pairing.plan (length before + k) ≡ Some c =
-              ap (λ (l : List Cause). slice_get l (length before + k)) is
-              ∙ (get-behind before (arranged numbered order ++ after) k
-              ∙ (get-front (arranged numbered order) after k read.0 read.1 ∙ ap (λ x. Some x) mine)) in
+          ap (λ (l : List Cause). slice_get l (length before + k)) is
+          ∙ (get-behind before (arranged numbered order ++ after) k
+          ∙ (get-front (arranged numbered order) after k read.0 read.1 ∙ ap (λ x. Some x) mine)) in
           subst (λ m. StandsFor pairing c (item_at pairing.body (length before + index_of m order)))
-              (sym zero_n) (stands-at (length before + k) c at)
+          (sym zero_n) (stands-at (length before + k) c at)
 
 -- ---- blocks
 module _ (p : Program) (form : Form) (reading : Reading) (tree : List Item) (pairing : Pairing)
@@ -155,21 +155,21 @@ module _ (p : Program) (form : Form) (reading : Reading) (tree : List Item) (pai
           (n < length (block_plan d block.modules)) ↔ Contains order n
       has e n =
           let counts : length
-              (group_of reading pairing.top tree items (map owner_of (block_plan d block.modules))).items
-              ≡ length (block_plan d block.modules) =
-              length-mapped _ items
-                  ∙ (length-mapped (λ k. item_at pairing.body (length before + index_of k order))
-                          (numbers_from zero (length (block_plan d block.modules)))
-                      ∙ length-numbers zero (length (block_plan d block.modules))) in
+          (group_of reading pairing.top tree items (map owner_of (block_plan d block.modules))).items
+          ≡ length (block_plan d block.modules) =
+          length-mapped _ items
+          ∙ (length-mapped (λ k. item_at pairing.body (length before + index_of k order))
+          (numbers_from zero (length (block_plan d block.modules)))
+          ∙ length-numbers zero (length (block_plan d block.modules))) in
           subst (λ m. (n < m) ↔ Contains order n) counts ((ordered e).order_of.all n)
 
       by : (t : Bool) → block.is_sorted ≡ t →
           pairing.plan ≡ before ++
-              ((if t then arranged (block_plan d block.modules) order else block_plan d
-                       block.modules) ++ after) →
+          ((if t then arranged (block_plan d block.modules) order else block_plan d
+          block.modules) ++ after) →
           IsBlockLaidOut p form tree reading pairing block.modules
-              (if t then arranged (block_plan d block.modules) order else block_plan d
-                   block.modules)
+          (if t then arranged (block_plan d block.modules) order else block_plan d
+          block.modules)
       by true e is =
           cycle (block_plan d block.modules) items order (kind.sorted e) picked
           (block-stands pairing same before after (block_plan d block.modules) order is (has e))
@@ -178,18 +178,18 @@ module _ (p : Program) (form : Form) (reading : Reading) (tree : List Item) (pai
       by false e is =
           let r = kind.lone e in
           subst
-              (λ (l : List ℕ). IsBlockLaidOut p form tree reading pairing l
-                   (block_plan d block.modules)) (sym r.1)
+          (λ (l : List ℕ). IsBlockLaidOut p form tree reading pairing l
+          (block_plan d block.modules)) (sym r.1)
           (lone r.2
-            (subst (λ (l : List Cause). Chosen (IsDue p form) (l ++ HoldsNamespace r.0 ∷ []) (block_plan d block.modules)) (append-nil (module_causes p r.0))
-            (subst (λ (l : List ℕ). Chosen (IsDue p form) (block_causes p l) (block_plan d block.modules)) r.1 picked)))
+          (subst (λ (l : List Cause). Chosen (IsDue p form) (l ++ HoldsNamespace r.0 ∷ []) (block_plan d block.modules)) (append-nil (module_causes p r.0))
+          (subst (λ (l : List ℕ). Chosen (IsDue p form) (block_causes p l) (block_plan d block.modules)) r.1 picked)))
 
   blocks-laid : (before after : List Cause) (blocks : List DecidedBlock) (orders : List (List ℕ)) →
       ((block : DecidedBlock) → Contains blocks block → Decides block.modules × IsBlockDecided p
-           block) → pairing.plan ≡ before ++ (blocks_plan d blocks orders ++ after) →
+      block) → pairing.plan ≡ before ++ (blocks_plan d blocks orders ++ after) →
       AreOrdered reading tree pairing d (length before) blocks orders →
       AreBlocksLaidOut p form tree reading pairing
-          (map (λ (block : DecidedBlock). block.modules) blocks) (blocks_plan d blocks orders)
+      (map (λ (block : DecidedBlock). block.modules) blocks) (blocks_plan d blocks orders)
   blocks-laid before after [] [] all is ordered = over
   blocks-laid before after [] (order ∷ orders) all is ordered = absurd ordered
   blocks-laid before after (block ∷ blocks) [] all is ordered = absurd ordered
@@ -199,15 +199,15 @@ module _ (p : Program) (form : Form) (reading : Reading) (tree : List Item) (pai
       let apart = is ∙ ap (λ (l : List Cause). before ++ l) (append_assoc placed rest after) in
       let mine = all block (here block blocks) in
       let further : length before + length placed ≡ length (before ++ placed) =
-          sym (length-append before placed) in
+      sym (length-append before placed) in
       next placed (block-laid before (rest ++ after) block order mine.0 mine.1 apart ordered.0)
       (blocks-laid (before ++ placed) after blocks orders (λ b c. all b (later block blocks b c)) (apart ∙ sym (append_assoc before placed (rest ++ after)))
-        (subst (λ n. AreOrdered reading tree pairing d n blocks orders) further ordered.1))
+      (subst (λ n. AreOrdered reading tree pairing d n blocks orders) further ordered.1))
 
 -- ---- the whole
 -- the order of each block is good for its items, and the bundle has the plan: so it is laid out
 pub laid-out : (p : Program) (form : Form) (reading : Reading) (tree : List Item)
-        (pairing : Pairing) (d : Decided) (orders : List (List ℕ)) → AreDecided p form d →
+    (pairing : Pairing) (d : Decided) (orders : List (List ℕ)) → AreDecided p form d →
     length pairing.body ≡ length pairing.plan → pairing.plan ≡ plan_of d orders →
     AreOrdered reading tree pairing d (length (front_plan d)) d.blocks orders →
     IsLaidOut p form reading tree pairing
@@ -218,7 +218,7 @@ laid-out p form reading tree pairing d orders its same is ordered = record {
   are_blocks = its.blocks;
   follows =
       blocks-follow p d.list its.list (list-once p d.list its.list)
-          (map (λ (block : DecidedBlock). block.modules) d.blocks) its.blocks;
+      (map (λ (block : DecidedBlock). block.modules) d.blocks) its.blocks;
   front = front_plan d;
   middle = blocks_plan d d.blocks orders;
   back = back_plan d;
@@ -226,7 +226,7 @@ laid-out p form reading tree pairing d orders its same is ordered = record {
   in_front = front-chosen p form d its;
   in_blocks =
       blocks-laid p form reading tree pairing same d (front_plan d) (back_plan d) d.blocks orders
-          all is ordered;
+      all is ordered;
   behind = back-chosen p form d its;
 }
   where
@@ -247,7 +247,8 @@ laid-out p form reading tree pairing d orders its same is ordered = record {
     all : (block : DecidedBlock) → Contains d.blocks block →
         ((m : ℕ) → Contains block.modules m → IsModuleDecided p d m × IsReached p m)
         × IsBlockDecided p block
-    all block c =
-        ((λ m e. let l = listed block c m e in
-                (its.modules m l, (list-reached p d.list its.list m).0 l)),
-             its.kinds block c)
+    all block c = (
+      (λ m e. let l = listed block c m e in
+          (its.modules m l, (list-reached p d.list its.list m).0 l)),
+      its.kinds block c,
+    )

@@ -54,9 +54,10 @@ once-join (x ∷ xs) ys a b apart = (
 pub once-map : {A B : Type 0} (f : A → B) → ((x y : A) → f x ≡ f y → x ≡ y) → (xs : List A) →
     Once xs → Once (map f xs)
 once-map f one [] once = tt
-once-map f one (x ∷ xs) once =
-    (λ c. let r = map_back f xs (f x) c in once.0 (subst (Contains xs) (one r.0 x r.2) r.1),
-         once-map f one xs once.1)
+once-map f one (x ∷ xs) once = (
+  λ c. let r = map_back f xs (f x) c in once.0 (subst (Contains xs) (one r.0 x r.2) r.1),
+  once-map f one xs once.1,
+)
 
 pub once-filter : {A : Type 0} (test : A → Bool) (xs : List A) → Once xs → Once (filter test xs)
 once-filter test [] once = tt
@@ -73,14 +74,14 @@ once-flat f key keyed each [] once = tt
 once-flat f key keyed each (x ∷ xs) once =
     once-join (f x) (flat_map f xs) (each x) (once-flat f key keyed each xs once.1)
     (λ b c d. let r = flat_back f xs b d in once.0
-         (subst (Contains xs) (same_Some r.0 x (sym (keyed r.0 b r.2) ∙ keyed x b c)) r.1))
+    (subst (Contains xs) (same_Some r.0 x (sym (keyed r.0 b r.2) ∙ keyed x b c)) r.1))
 
 pub once-numbers : (ns : List ℕ) → Once (numbers_once ns)
 once-numbers [] = tt
 once-numbers (n ∷ ns) = (
   λ c. let e =
       passes (λ m. not (nat_eq n m)) (numbers_once ns) n c in false≢true
-          (ap not (sym (eq-eqb n n refl)) ∙ e),
+      (ap not (sym (eq-eqb n n refl)) ∙ e),
   once-filter (λ m. not (nat_eq n m)) (numbers_once ns) (once-numbers ns),
 )
 
@@ -89,7 +90,7 @@ once-texts [] = tt
 once-texts (x ∷ texts) = (
   λ c. let e =
       passes (λ y. not (bytes_eq x y)) (each_once texts) x c in false≢true
-          (ap not (sym ((bytes_eq-Decides x x).1 refl)) ∙ e),
+      (ap not (sym ((bytes_eq-Decides x x).1 refl)) ∙ e),
   once-filter (λ y. not (bytes_eq x y)) (each_once texts) (once-texts texts),
 )
 
@@ -112,7 +113,7 @@ texts-on (x ∷ texts) s c = by (bytes_eq x s) refl (first_or_later x texts s c)
     by false is (inl e) ih = (0, omega arith, e)
     by false is (inr rest) ih =
         later x (filter (λ y. not (bytes_eq x y)) (each_once texts)) s
-            (filter_on (λ y. not (bytes_eq x y)) (each_once texts) s (ih rest) (ap not is))
+        (filter_on (λ y. not (bytes_eq x y)) (each_once texts) s (ih rest) (ap not is))
 
 -- two places of one element are one
 pub once-places : {A : Type 0} (xs : List A) → Once xs → (i j : ℕ) (x : A) →
@@ -159,6 +160,6 @@ read-once xs (n ∷ order) [] z once each = absurd z
 read-once xs (n ∷ order) (b ∷ ys) z once each = (
   λ c. let r =
       read-back xs order ys z.1 b c in each.0
-          (subst (Contains order) (once-places xs once r.0 n b r.2 z.0) r.1),
+      (subst (Contains order) (once-places xs once r.0 n b r.2 z.0) r.1),
   read-once xs order ys z.1 once each.1,
 )

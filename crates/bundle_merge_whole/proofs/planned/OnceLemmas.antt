@@ -21,7 +21,7 @@ pub filter-same : {A : Type 0} (f g : A → Bool) (xs : List A) →
 filter-same f g [] same = refl
 filter-same f g (x ∷ xs) same =
     ap (λ b. cond b (x ∷ filter f xs) (filter f xs)) (same x (here x xs))
-        ∙ ap (λ l. cond (g x) (x ∷ l) l) (filter-same f g xs (λ y c. same y (later x xs y c)))
+    ∙ ap (λ l. cond (g x) (x ∷ l) l) (filter-same f g xs (λ y c. same y (later x xs y c)))
 
 filter-none : {A : Type 0} (f : A → Bool) (x : A) (xs : List A) → f x ≡ false →
     filter f (x ∷ xs) ≡ filter f xs
@@ -38,10 +38,10 @@ filter-swap {A = A} f g (x ∷ xs) = by (f x) (g x) refl refl (filter-swap f g x
   where
     by : (s t : Bool) → f x ≡ s → g x ≡ t → filter f (filter g xs) ≡ filter g (filter f xs) →
         filter f (cond t (x ∷ filter g xs) (filter g xs)) ≡ filter g
-            (cond s (x ∷ filter f xs) (filter f xs))
+        (cond s (x ∷ filter f xs) (filter f xs))
     by true true e h ih =
         filter-some f x (filter g xs) e
-            ∙ (ap (λ l. x ∷ l) ih ∙ sym (filter-some g x (filter f xs) h))
+        ∙ (ap (λ l. x ∷ l) ih ∙ sym (filter-some g x (filter f xs) h))
     by true false e h ih = ih ∙ sym (filter-none g x (filter f xs) h)
     by false true e h ih = filter-none f x (filter g xs) e ∙ ih
     by false false e h ih = ih
@@ -54,7 +54,7 @@ filter-left f n e (x ∷ xs) = by (nat_eq n x) refl (filter-left f n e xs)
   where
     by : (t : Bool) → nat_eq n x ≡ t → filter f (filter (other_than n) xs) ≡ filter f xs →
         filter f (cond (not t) (x ∷ filter (other_than n) xs) (filter (other_than n) xs)) ≡ filter f
-            (x ∷ xs)
+        (x ∷ xs)
     by true is ih = ih ∙ sym (filter-none f x xs (ap f (sym (eqb-true n x is)) ∙ e))
     by false is ih = ap (λ l. cond (f x) (x ∷ l) l) ih
 
@@ -65,11 +65,11 @@ filter-once f (n ∷ xs) = by (f n) refl (filter-once f xs)
   where
     by : (t : Bool) → f n ≡ t → filter f (numbers_once xs) ≡ numbers_once (filter f xs) →
         cond t (n ∷ filter f (filter (other_than n) (numbers_once xs)))
-            (filter f (filter (other_than n) (numbers_once xs))) ≡ numbers_once
-            (cond t (n ∷ filter f xs) (filter f xs))
+        (filter f (filter (other_than n) (numbers_once xs))) ≡ numbers_once
+        (cond t (n ∷ filter f xs) (filter f xs))
     by true e ih =
         ap (λ l. n ∷ l)
-            (filter-swap f (other_than n) (numbers_once xs) ∙ ap (filter (other_than n)) ih)
+        (filter-swap f (other_than n) (numbers_once xs) ∙ ap (filter (other_than n)) ih)
     by false e ih = filter-left f n e (numbers_once xs) ∙ ih
 
 not-other : (n : ℕ) → other_than n n ≡ false
@@ -81,7 +81,7 @@ push-in (x ∷ xs) n c = by (first_or_later x xs n c) (λ rest. push-in xs n res
   where
     by : (x ≡ n) ⊎ Contains xs n → (Contains xs n → numbers_once (xs ++ n ∷ []) ≡ numbers_once xs) →
         x ∷ filter (other_than x) (numbers_once (xs ++ n ∷ [])) ≡ x ∷ filter (other_than x)
-            (numbers_once xs)
+        (numbers_once xs)
     by (inl e) ih = ap (λ l. x ∷ l) (
         filter-once (other_than x) (xs ++ n ∷ [])
         ∙ (ap numbers_once (filter-append (other_than x) xs (n ∷ []) ∙ (ap (λ l. filter (other_than x) xs ++ l) (filter-none (other_than x) n [] (ap (other_than x) (sym e) ∙ not-other x)) ∙ append-nil (filter (other_than x) xs)))
@@ -117,15 +117,15 @@ texts-left r f t out (x ∷ xs) = by (bytes_eq t x) refl (texts-left r f t out x
     added : (o : Option ℕ) →
         filter f (filter_map r (filter (other_text t) xs)) ≡ filter f (filter_map r xs) →
         filter f (cons_option o (filter_map r (filter (other_text t) xs))) ≡ filter f
-            (cons_option o (filter_map r xs))
+        (cons_option o (filter_map r xs))
     added None ih = ih
     added (Some n) ih = ap (λ l. cond (f n) (n ∷ l) l) ih
 
     by : (b : Bool) → bytes_eq t x ≡ b →
         filter f (filter_map r (filter (other_text t) xs)) ≡ filter f (filter_map r xs) →
         filter f
-            (filter_map r (cond (not b) (x ∷ filter (other_text t) xs) (filter (other_text t) xs)))
-            ≡ filter f (filter_map r (x ∷ xs))
+        (filter_map r (cond (not b) (x ∷ filter (other_text t) xs) (filter (other_text t) xs)))
+        ≡ filter f (filter_map r (x ∷ xs))
     by true is ih =
         ih ∙ dropped (r x) (subst (λ y. IsLeftOut f (r y)) ((bytes_eq-Decides t x).0 is) out)
     by false is ih = added (r x) ih
@@ -146,14 +146,14 @@ once-led r (t ∷ texts) = by (r t) refl (once-led r texts)
     by : (o : Option ℕ) → r t ≡ o →
         numbers_once (filter_map r (each_once texts)) ≡ numbers_once (filter_map r texts) →
         numbers_once (cons_option o (filter_map r rest)) ≡ numbers_once
-            (cons_option o (filter_map r texts))
+        (cons_option o (filter_map r texts))
     by None e ih =
         ap numbers_once
-                (sym (all-pass (filter_map r rest))
-                     ∙ (texts-left r (λ n. true) t (subst (IsLeftOut (λ n. true)) (sym e) tt)
-                             (each_once texts)
-                         ∙ all-pass (filter_map r (each_once texts))))
-            ∙ ih
+        (sym (all-pass (filter_map r rest))
+        ∙ (texts-left r (λ n. true) t (subst (IsLeftOut (λ n. true)) (sym e) tt)
+        (each_once texts)
+        ∙ all-pass (filter_map r (each_once texts))))
+        ∙ ih
     by (Some n) e ih = ap (λ l. n ∷ l) (
         filter-once (other_than n) (filter_map r rest)
         ∙ (ap numbers_once (texts-left r (other_than n) t (subst (IsLeftOut (other_than n)) (sym e) (not-other n)) (each_once texts))

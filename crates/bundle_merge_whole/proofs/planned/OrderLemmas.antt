@@ -32,15 +32,15 @@ cut [] n (c ∷ before) x after e =
     let none : [] ≡ before ++ x ∷ after = cc in absurd (empty-none before x after none)
 cut (a ∷ xs) n [] x after e =
     let one : a ≡ x = cc in
-        let more : after ≡ xs ++ n ∷ [] = cc in
-        inl (record { rest = xs; whole = ap (λ (k : ℕ). k ∷ xs) one; more = more })
+    let more : after ≡ xs ++ n ∷ [] = cc in
+    inl (record { rest = xs; whole = ap (λ (k : ℕ). k ∷ xs) one; more = more })
 cut (a ∷ xs) n (c ∷ before) x after e = let one : a ≡ c = cc in let more : xs ++ n ∷ [] ≡ before ++ x ∷ after = cc in elim (cut xs n before x after more) [
   | inl s ↦ inl
       (record {
-           rest = s.rest;
-           whole = ap (λ (k : ℕ). k ∷ xs) one ∙ ap (λ (l : List ℕ). c ∷ l) s.whole;
-           more = s.more
-       })
+        rest = s.rest;
+        whole = ap (λ (k : ℕ). k ∷ xs) one ∙ ap (λ (l : List ℕ). c ∷ l) s.whole;
+        more = s.more;
+      })
   | inr t ↦ inr (ap (λ (k : ℕ). k ∷ before) (sym one) ∙ ap (λ (l : List ℕ). a ∷ l) t.0, t.1, t.2)
 ]
 
@@ -66,13 +66,13 @@ module _ (r : ℕ → List ℕ) where
   abbrev pub IsSettled : (begun before : List ℕ) (x : ℕ) (after : List ℕ) → Type 0
   IsSettled begun before x after =
       (y : ℕ) → Reaches Asks x y → Contains (before ++ x ∷ []) y ⊎
-          ((v : ℕ) × Contains (after ++ begun) v × Meets x v)
+      ((v : ℕ) × Contains (after ++ begun) v × Meets x v)
 
   -- the same of each that is done
   abbrev pub AreSettled : (begun done : List ℕ) → Type 0
   AreSettled begun done =
       (before : List ℕ) (x : ℕ) (after : List ℕ) → done ≡ before ++ x ∷ after → IsSettled begun
-          before x after
+      before x after
 
   -- each that is begun reaches each that is to be listed
   abbrev pub Lead : (begun todo : List ℕ) → Type 0
@@ -98,15 +98,15 @@ module _ (r : ℕ → List ℕ) where
 
       step : Contains (n ∷ (begun ++ done)) b →
           (Contains (done ++ n ∷ []) b → Contains (done ++ n ∷ []) y ⊎
-               ((v : ℕ) × Contains begun v × Reaches Asks b v)) →
+          ((v : ℕ) × Contains begun v × Reaches Asks b v)) →
           Contains (done ++ n ∷ []) y ⊎ ((v : ℕ) × Contains begun v × Reaches Asks x v)
       step d go = elim (Contains-cons_cases (begun ++ done) n b d) [
         | inl same ↦ more
             (go (subst (λ k. Contains (done ++ n ∷ []) k) same (Contains-push done n)))
         | inr f ↦ elim (Contains-append_cases begun done b f) [
-            | inl g ↦ inr (b, g, along e itself)
-            | inr h ↦ more (go (Contains-append_left done (n ∷ []) b h))
-          ]
+          | inl g ↦ inr (b, g, along e itself)
+          | inr h ↦ more (go (Contains-append_left done (n ∷ []) b h))
+        ]
       ]
 
   pub settled : {begun done todo all : List ℕ} → Lists r begun done todo all →
@@ -116,7 +116,7 @@ module _ (r : ℕ → List ℕ) where
       settled p closed (λ b t h k. lead b t h (Contains-tail todo n t k)) so_far
   settled (listed {begun} {done} {before} {todo} {all} {n} void a p) closed lead so_far =
       settled p closed_then (λ b t h k. lead b t h (Contains-tail todo n t k))
-          (then (settled a closed_in lead_in so_far_in))
+      (then (settled a closed_in lead_in so_far_in))
     where
       closed_in : IsClosedUnder r (n ∷ begun) done
       closed_in x y c e = Contains-tail (begun ++ done) n y (closed x y c e)
@@ -130,10 +130,14 @@ module _ (r : ℕ → List ℕ) where
       so_far_in : AreSettled (n ∷ begun) done
       so_far_in front x after e y w = elim (so_far front x after e y w) [
         | inl d ↦ inl d
-        | inr v ↦ inr (v.0, elim (Contains-append_cases after begun v.0 v.1) [
+        | inr v ↦ inr (
+          v.0,
+          elim (Contains-append_cases after begun v.0 v.1) [
             | inl g ↦ Contains-append_left after (n ∷ begun) v.0 g
             | inr g ↦ Contains-append_right after (n ∷ begun) v.0 (Contains-tail begun n v.0 g)
-          ], v.2)
+          ],
+          v.2,
+        )
       ]
 
       closed_out : IsClosedUnder r (n ∷ begun) before
@@ -160,18 +164,18 @@ module _ (r : ℕ → List ℕ) where
           Contains (rest ++ n ∷ begun) v → Contains (after ++ begun) v
       shift rest after v e c =
           subst (λ (l : List ℕ). Contains (l ++ begun) v) (sym e)
-              (subst (λ (l : List ℕ). Contains l v) (sym (append_assoc rest (n ∷ []) begun)) c)
+          (subst (λ (l : List ℕ). Contains l v) (sym (append_assoc rest (n ∷ []) begun)) c)
 
       then : AreSettled (n ∷ begun) before → AreSettled begun (before ++ n ∷ [])
       then inner front x after e y w = elim (cut before n front x after e) [
         | inl s ↦ elim (inner front x s.rest s.whole y w) [
-            | inl d ↦ inl d
-            | inr v ↦ inr (v.0, shift s.rest after v.0 s.more v.1, v.2)
-          ]
+          | inl d ↦ inl d
+          | inr v ↦ inr (v.0, shift s.rest after v.0 s.more v.1, v.2)
+        ]
         | inr t ↦
             subst
-                (λ (l : List ℕ). Contains (l ++ x ∷ []) y ⊎
-                     ((v : ℕ) × Contains (after ++ begun) v × Meets x v)) (sym t.0)
+            (λ (l : List ℕ). Contains (l ++ x ∷ []) y ⊎
+            ((v : ℕ) × Contains (after ++ begun) v × Meets x v)) (sym t.0)
             (subst (λ (l : List ℕ). Contains (before ++ x ∷ []) y ⊎ ((v : ℕ) × Contains (l ++ begun) v × Meets x v)) (sym t.2)
             (subst (λ k. Contains (before ++ k ∷ []) y ⊎ ((v : ℕ) × Contains ([] ++ begun) v × Meets k v)) (sym t.1)
             (at_end y (subst (λ k. Reaches Asks k y) t.1 w))))
@@ -202,47 +206,47 @@ apart [] x rest y once c d = elim (Contains-cons_cases [] x y c) [
 apart (a ∷ before) x rest y once c d = elim (Contains-cons_cases (before ++ x ∷ []) a y c) [
   | inl same ↦ once.0
       (subst (λ k. Contains (before ++ x ∷ rest) k) (sym same)
-           (Contains-append_right before (x ∷ rest) y (Contains-tail rest x y d)))
+      (Contains-append_right before (x ∷ rest) y (Contains-tail rest x y d)))
   | inr more ↦ apart before x rest y once.1 more d
 ]
 
 module _ (p : Program) (list : List ℕ) (all : AreSettled (requested p) [] list) (once : IsOnce list)
-    where
-  follow : (before rest : List ℕ) (blocks : List (List ℕ)) → list ≡ before ++ rest →
-      BlocksOf (SharesBlock p) list rest blocks → FollowsRequests p blocks
-  follow before rest [] whole b i j m n block other at its c d asks = absurd (none-some block at)
-  follow before [] (first ∷ blocks) whole b i j m n block other at its c d asks = elim b [ ]
-  follow before (x ∷ rest) (first ∷ blocks) whole (ends own none members b) zero zero m n block other at its c d asks = inr refl
-  follow before (x ∷ rest) (first ∷ blocks) whole (ends own none members b) (suc i) zero m n block other at its c d asks = inl (omega arith)
-  follow before (x ∷ rest) (first ∷ blocks) whole (ends own none members b) (suc i) (suc j) m n
-      block other at its c d asks =
-      elim (follow (before ++ x ∷ []) rest blocks (whole ∙ sym (append_assoc before (x ∷ []) rest)) b i j m n block other at its c d asks) [
-        | inl less ↦ inl (omega (arith, less))
-        | inr same ↦ inr (ap suc same)
-      ]
-  follow before (x ∷ rest) (first ∷ blocks) whole (ends own none members b) zero (suc j) m n block
-      other at its c d asks =
-      let here =
-          (Members-in list first members m (subst (λ (l : List ℕ). Contains l m) (sym (same_Some first block at)) c)).1 in
-      let last =
-          blocks-in (SharesBlock p) (shares-flip p) (shares-join p) list rest blocks b n
-              (in_some blocks j other n its d) in
-      let walk : Reaches (Requests p) x last.0 = Reaches-trans here.0 (along asks last.3.1) in
-      absurd (elim (all before x rest whole last.0 walk) [
-        | inl early ↦ apart before x rest last.0 (subst IsOnce whole once) early last.1
-        | inr v ↦ none v.0 (subst (λ (l : List ℕ). Contains l v.0) (append-nil rest) v.1)
-            (v.2.there, v.2.back)
-      ])
-  follow before (x ∷ rest) (first ∷ blocks) whole (goes_on why b) i j m n block other at its c d
-      asks =
-      follow (before ++ x ∷ []) rest (first ∷ blocks)
-          (whole ∙ sym (append_assoc before (x ∷ []) rest)) b i j m n block other at its c d asks
+  where
+    follow : (before rest : List ℕ) (blocks : List (List ℕ)) → list ≡ before ++ rest →
+        BlocksOf (SharesBlock p) list rest blocks → FollowsRequests p blocks
+    follow before rest [] whole b i j m n block other at its c d asks = absurd (none-some block at)
+    follow before [] (first ∷ blocks) whole b i j m n block other at its c d asks = elim b [ ]
+    follow before (x ∷ rest) (first ∷ blocks) whole (ends own none members b) zero zero m n block other at its c d asks = inr refl
+    follow before (x ∷ rest) (first ∷ blocks) whole (ends own none members b) (suc i) zero m n block other at its c d asks = inl (omega arith)
+    follow before (x ∷ rest) (first ∷ blocks) whole (ends own none members b) (suc i) (suc j) m n
+        block other at its c d asks =
+        elim (follow (before ++ x ∷ []) rest blocks (whole ∙ sym (append_assoc before (x ∷ []) rest)) b i j m n block other at its c d asks) [
+          | inl less ↦ inl (omega (arith, less))
+          | inr same ↦ inr (ap suc same)
+        ]
+    follow before (x ∷ rest) (first ∷ blocks) whole (ends own none members b) zero (suc j) m n block
+        other at its c d asks =
+        let here =
+        (Members-in list first members m (subst (λ (l : List ℕ). Contains l m) (sym (same_Some first block at)) c)).1 in
+        let last =
+        blocks-in (SharesBlock p) (shares-flip p) (shares-join p) list rest blocks b n
+        (in_some blocks j other n its d) in
+        let walk : Reaches (Requests p) x last.0 = Reaches-trans here.0 (along asks last.3.1) in
+        absurd (elim (all before x rest whole last.0 walk) [
+          | inl early ↦ apart before x rest last.0 (subst IsOnce whole once) early last.1
+          | inr v ↦ none v.0 (subst (λ (l : List ℕ). Contains l v.0) (append-nil rest) v.1)
+              (v.2.there, v.2.back)
+        ])
+    follow before (x ∷ rest) (first ∷ blocks) whole (goes_on why b) i j m n block other at its c d
+        asks =
+        follow (before ++ x ∷ []) rest (first ∷ blocks)
+        (whole ∙ sym (append_assoc before (x ∷ []) rest)) b i j m n block other at its c d asks
 
 -- the list of a program is settled
 pub list-settled : (p : Program) (list : List ℕ) → IsList p list → AreSettled (requested p) [] list
 list-settled p list is =
     settled (requested p) is (λ x y c e. absurd (nothing_in c)) (λ b t c d. absurd (nothing_in c))
-        (λ before x after e. absurd (empty-none before x after e))
+    (λ before x after e. absurd (empty-none before x after e))
 
 -- a block stands after each other block that one of its modules requests
 pub blocks-follow : (p : Program) (list : List ℕ) → IsList p list → IsOnce list →

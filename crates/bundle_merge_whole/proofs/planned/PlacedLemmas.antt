@@ -57,7 +57,7 @@ module _ (p q : Program) (R : ℕ → ℕ → Type 0) (w : IsAlike p q R) where
         specifier = asks.specifier;
         asks =
             subst (λ (tree : List Item). Contains (declared_requests tree) asks.specifier)
-                (w.tree m k r) asks.asks;
+            (w.tree m k r) asks.asks;
         resolved = l.2 ∙ ap (λ x. Some x) (w.one c l.0 d l.1 h);
         common_js = common_js_on p q R w c d h asks.common_js;
       }
@@ -67,8 +67,8 @@ module _ (p q : Program) (R : ℕ → ℕ → Type 0) (w : IsAlike p q R) where
       resolves p m s ≡ None → (d : ℕ) → resolves q k s ≡ Some d → ⊥
   none-forth m k s r asked e d f =
       let l =
-          resolves_on q p (λ a b. R b a) (flip w) k m d s r
-              (subst (λ texts. Contains texts s) (same_asked p q R w m k r) asked) f in
+      resolves_on q p (λ a b. R b a) (flip w) k m d s r
+      (subst (λ texts. Contains texts s) (same_asked p q R w m k r) asked) f in
       none-some l.0 (sym e ∙ l.2)
 
   zip-led : (m k : ℕ) → R m k → (texts : List Text) →
@@ -77,20 +77,20 @@ module _ (p q : Program) (R : ℕ → ℕ → Type 0) (w : IsAlike p q R) where
   zip-led m k r [] all = tt
   zip-led m k r (s ∷ texts) all =
       by (resolves p m s) (resolves q k s) refl refl
-          (zip-led m k r texts (λ t c. all t (later s texts t c)))
+      (zip-led m k r texts (λ t c. all t (later s texts t c)))
     where
       by : (o u : Option ℕ) → resolves p m s ≡ o → resolves q k s ≡ u →
           AllZip R (filter_map (resolves p m) texts) (filter_map (resolves q k) texts) →
           AllZip R (cons_option o (filter_map (resolves p m) texts))
-              (cons_option u (filter_map (resolves q k) texts))
+          (cons_option u (filter_map (resolves q k) texts))
       by None None e f ih = ih
       by None (Some d) e f ih = absurd (none-forth m k s r (all s (here s texts)) e d f)
       by (Some c) None e f ih =
           let l = resolves_on p q R w m k c s r (all s (here s texts)) e in
-              absurd (none-some l.0 (sym f ∙ l.2))
+          absurd (none-some l.0 (sym f ∙ l.2))
       by (Some c) (Some d) e f ih =
           let l = resolves_on p q R w m k c s r (all s (here s texts)) e in
-              (subst (R c) (same_Some l.0 d (sym l.2 ∙ f)) l.1, ih)
+          (subst (R c) (same_Some l.0 d (sym l.2 ∙ f)) l.1, ih)
 
   zip-other : (x y : ℕ) → R x y → (xs ys : List ℕ) → AllZip R xs ys →
       AllZip R (filter (λ z. not (nat_eq x z)) xs) (filter (λ z. not (nat_eq y z)) ys)
@@ -103,22 +103,22 @@ module _ (p q : Program) (R : ℕ → ℕ → Type 0) (w : IsAlike p q R) where
       by : (s t : Bool) → nat_eq x a ≡ s → nat_eq y b ≡ t →
           AllZip R (filter (λ z. not (nat_eq x z)) xs) (filter (λ z. not (nat_eq y z)) ys) →
           AllZip R
-              (cond (not s) (a ∷ filter (λ z. not (nat_eq x z)) xs)
-                   (filter (λ z. not (nat_eq x z)) xs))
-              (cond (not t) (b ∷ filter (λ z. not (nat_eq y z)) ys)
-                   (filter (λ z. not (nat_eq y z)) ys))
+          (cond (not s) (a ∷ filter (λ z. not (nat_eq x z)) xs)
+          (filter (λ z. not (nat_eq x z)) xs))
+          (cond (not t) (b ∷ filter (λ z. not (nat_eq y z)) ys)
+          (filter (λ z. not (nat_eq y z)) ys))
       by true true e f ih = ih
       by false false e f ih = (z.0, ih)
       by true false e f ih =
           absurd
-              (false≢true
-                   (sym f
-                        ∙ eq-eqb y b
-                            (w.one x y b r (subst (λ c. R c b) (sym (eqb-true x a e)) z.0))))
+          (false≢true
+          (sym f
+          ∙ eq-eqb y b
+          (w.one x y b r (subst (λ c. R c b) (sym (eqb-true x a e)) z.0))))
       by false true e f ih =
           absurd
-              (false≢true
-                   (sym e ∙ eq-eqb x a (w.other y x a r (subst (R a) (sym (eqb-true y b f)) z.0))))
+          (false≢true
+          (sym e ∙ eq-eqb x a (w.other y x a r (subst (R a) (sym (eqb-true y b f)) z.0))))
 
   zip-numbers : (xs ys : List ℕ) → AllZip R xs ys → AllZip R (numbers_once xs) (numbers_once ys)
   zip-numbers [] [] z = tt
@@ -131,7 +131,7 @@ module _ (p q : Program) (R : ℕ → ℕ → Type 0) (w : IsAlike p q R) where
   requested-zip : (m k : ℕ) → R m k → AllZip R (requested p m) (requested q k)
   requested-zip m k r =
       zip-numbers (filter_map (resolves p m) (requests_in p.settings (tree_of p m)))
-          (filter_map (resolves q k) (requests_in q.settings (tree_of q k)))
+      (filter_map (resolves q k) (requests_in q.settings (tree_of q k)))
       (subst (λ texts. AllZip R (filter_map (resolves p m) (requests_in p.settings (tree_of p m))) (filter_map (resolves q k) texts)) (same_asked p q R w m k r)
       (zip-led m k r (requests_in p.settings (tree_of p m)) (λ s c. c)))
 
@@ -144,10 +144,10 @@ members-zip R name names both [] (y ∷ ys) zs z its = absurd z
 members-zip R name names both (x ∷ xs) [] zs z its = absurd z
 members-zip R name names {P} {Q} both (x ∷ xs) (y ∷ ys) (_ ∷ zs) z (kept h more) =
     subst (λ k. Members P (x ∷ xs) (k ∷ map name zs)) (sym (names x y z.0))
-        (kept ((both x y z.0).1 h) (members-zip R name names both xs ys zs z.1 more))
+    (kept ((both x y z.0).1 h) (members-zip R name names both xs ys zs z.1 more))
 members-zip R name names {P} {Q} both (x ∷ xs) (y ∷ ys) zs z (left h more) =
     left {xs = xs} {ys = map name zs} (λ k. h ((both x y z.0).0 k))
-        (members-zip R name names both xs ys zs z.1 more)
+    (members-zip R name names both xs ys zs z.1 more)
 
 starred-same : {P Q : Text → Type 0} → ((s : Text) → P s ↔ Q s) → (xs ys : List Text) →
     Picks P xs ys → Picks Q xs ys
@@ -162,7 +162,7 @@ names-same : {P Q : Text → Type 0} {names : List Text} → ((s : Text) → P s
     AreNames P names → AreNames Q names
 names-same both its = record {
   ascending = its.ascending;
-  all = λ x. ((λ c. (both x).0 ((its.all x).0 c)), λ h. (its.all x).1 ((both x).1 h))
+  all = λ x. ((λ c. (both x).0 ((its.all x).0 c)), λ h. (its.all x).1 ((both x).1 h));
 }
 
 hands-on : {p q : Program} {form : Form} →
@@ -184,7 +184,7 @@ module _ (p q : Program) (list : List ℕ) (once : IsOnce list) (w : IsAlike p q
   index-at : (m k : ℕ) → IsAt list m k → index_of m list ≡ k
   index-at m k r =
       once-places list (once-from list once) (index_of m list) k m
-          (index-there m list (contains-get list k m r)) r
+      (index-there m list (contains-get list k m r)) r
 
   at-index : (m : ℕ) → Contains list m → IsAt list m (index_of m list)
   at-index m c = index-there m list c
@@ -192,13 +192,14 @@ module _ (p q : Program) (list : List ℕ) (once : IsOnce list) (w : IsAlike p q
   within-at : (k : ℕ) → k < length list → IsAt list (id_at list k) k
   within-at k l =
       let e = slice_get-get_or list k zero l in e
-          ∙ ap (λ x. Some x) (sym (ap (λ o. unwrap_or o zero) e))
+      ∙ ap (λ x. Some x) (sym (ap (λ o. unwrap_or o zero) e))
 
   -- ---- what is meant
   meant-both : (t u : Target) → AlikeTarget At t u → IsMeant q (Of u) ↔ IsMeant p (Of t)
-  meant-both t u alike =
-      (meant-forth q p (λ k m. IsAt list m k) back u t (turned alike),
-           meant-forth p q At w t u alike)
+  meant-both t u alike = (
+    meant-forth q p (λ k m. IsAt list m k) back u t (turned alike),
+    meant-forth p q At w t u alike,
+  )
 
   common-both : (m k : ℕ) → IsAt list m k → IsCommonJs q k ↔ IsCommonJs p m
   common-both m k r =
@@ -219,17 +220,17 @@ module _ (p q : Program) (list : List ℕ) (once : IsOnce list) (w : IsAlike p q
       record {
         names =
             names-same
-                (λ x. meant-both (CommonJs m (id_at list load.«module») (Named x))
-                     (CommonJs k load.«module» (Named x)) (a.common_js r h)) its.names;
+            (λ x. meant-both (CommonJs m (id_at list load.«module») (Named x))
+            (CommonJs k load.«module» (Named x)) (a.common_js r h)) its.names;
         whole =
             both-steps its.whole
-                (meant-both (CommonJs m (id_at list load.«module») Whole)
-                     (CommonJs k load.«module» Whole) (a.common_js r h));
+            (meant-both (CommonJs m (id_at list load.«module») Whole)
+            (CommonJs k load.«module» Whole) (a.common_js r h));
       }
 
   mapped-by : (loads : List DecidedLoad) →
       map (id_at list) (map (λ (load : DecidedLoad). load.«module») loads) ≡ map
-          (λ (load : DecidedLoad). load.«module») (map (load_by list) loads)
+      (λ (load : DecidedLoad). load.«module») (map (load_by list) loads)
   mapped-by [] = refl
   mapped-by (load ∷ loads) = ap (λ (l : List ℕ). id_at list load.«module» ∷ l) (mapped-by loads)
 
@@ -239,41 +240,41 @@ module _ (p q : Program) (list : List ℕ) (once : IsOnce list) (w : IsAlike p q
         j ≡ k →
         (IsTrue (f.is_common_js j) ↔ IsCommonJs p m)
         × (((IsCommonJs p m → ⊥) → Members (AsksCommonJs p m) (requested p m)
-                (map (λ (load : DecidedLoad). load.«module») (map (load_by list) (f.loads j)))) ×
-            (((load : DecidedLoad) → Contains (map (load_by list) (f.loads j)) load → IsLoadDecided
-                     p m load) ×
-                 ((f.has_meta j ≡ has_import_meta (tree_of p m)) ×
-                      ((f.statements j ≡ length (own_statements (tree_of p m))) ×
-                           (IsTrue (f.is_object_meant j) ↔ IsMeant p (Of (Namespace m)))))))
+        (map (λ (load : DecidedLoad). load.«module») (map (load_by list) (f.loads j)))) ×
+        (((load : DecidedLoad) → Contains (map (load_by list) (f.loads j)) load → IsLoadDecided
+        p m load) ×
+        ((f.has_meta j ≡ has_import_meta (tree_of p m)) ×
+        ((f.statements j ≡ length (own_statements (tree_of p m))) ×
+        (IsTrue (f.is_object_meant j) ↔ IsMeant p (Of (Namespace m)))))))
     at-decided m k r its within j e = subst
         (λ j. (IsTrue (f.is_common_js j) ↔ IsCommonJs p m) ×
-             (((IsCommonJs p m → ⊥) → Members (AsksCommonJs p m) (requested p m)
-                      (map (λ (load : DecidedLoad). load.«module») (map (load_by list) (f.loads j))))
-                  ×
-                  (((load : DecidedLoad) → Contains (map (load_by list) (f.loads j)) load →
-                           IsLoadDecided p m load) ×
-                       ((f.has_meta j ≡ has_import_meta (tree_of p m)) ×
-                            ((f.statements j ≡ length (own_statements (tree_of p m))) ×
-                                 (IsTrue (f.is_object_meant j) ↔ IsMeant p (Of (Namespace m))))))))
+        (((IsCommonJs p m → ⊥) → Members (AsksCommonJs p m) (requested p m)
+        (map (λ (load : DecidedLoad). load.«module») (map (load_by list) (f.loads j))))
+        ×
+        (((load : DecidedLoad) → Contains (map (load_by list) (f.loads j)) load →
+        IsLoadDecided p m load) ×
+        ((f.has_meta j ≡ has_import_meta (tree_of p m)) ×
+        ((f.statements j ≡ length (own_statements (tree_of p m))) ×
+        (IsTrue (f.is_object_meant j) ↔ IsMeant p (Of (Namespace m))))))))
         (sym e) (
           both-steps its.common_js (common-both m k r),
           (
             λ es. subst (Members (AsksCommonJs p m) (requested p m)) (mapped-by (f.loads k))
-              (members-zip At (id_at list) name-at (λ c e h. asks-both m k r c e h) (requested p m)
-                   (requested q k) (map (λ (load : DecidedLoad). load.«module») (f.loads k))
-                   (requested-zip p q At w m k r)
-                   (its.loads (λ cjs. es ((common-both m k r).0 cjs)))),
+                (members-zip At (id_at list) name-at (λ c e h. asks-both m k r c e h) (requested p m)
+                (requested q k) (map (λ (load : DecidedLoad). load.«module») (f.loads k))
+                (requested-zip p q At w m k r)
+                (its.loads (λ cjs. es ((common-both m k r).0 cjs)))),
             (
               λ load c.
                   (let b = map_back (load_by list) (f.loads k) load c in
-                       subst (IsLoadDecided p m) b.2
-                       (load-decided m k r b.0 (within b.0 b.1) (its.taken b.0 b.1))),
+                  subst (IsLoadDecided p m) b.2
+                  (load-decided m k r b.0 (within b.0 b.1) (its.taken b.0 b.1))),
               (
                 its.meta ∙ ap has_import_meta (sym (w.tree m k r)),
                 (
                   its.statements
                       ∙ ap (λ (tree : List Item). length (own_statements tree))
-                          (sym (w.tree m k r)),
+                      (sym (w.tree m k r)),
                   both-steps its.object (meant-both (Namespace m) (Namespace k) (a.namespace r)),
                 ),
               ),
@@ -288,39 +289,39 @@ module _ (p q : Program) (list : List ℕ) (once : IsOnce list) (w : IsAlike p q
         let l = slice_get_within list k m r in
         let all = at-decided m k r (found.modules k l) (found.within k) k refl in
         record {
-            common_js = all.0;
-            loads = all.1.0;
-            taken = all.1.1.0;
-            meta = all.1.1.1.0;
-            statements = all.1.1.1.1.0;
-            object = all.1.1.1.1.1
+          common_js = all.0;
+          loads = all.1.0;
+          taken = all.1.1.0;
+          meta = all.1.1.1.0;
+          statements = all.1.1.1.1.0;
+          object = all.1.1.1.1.1;
         }
 
     -- ---- externals
     trees : (xs : List ℕ) (i : ℕ) → ((j m : ℕ) → slice_get xs j ≡ Some m → IsAt list m (i + j)) →
         flat_map (λ m. declared_requests (tree_of p m)) xs ≡ flat_map
-            (λ k. declared_requests (tree_of q k)) (numbers_from i (length xs))
+        (λ k. declared_requests (tree_of q k)) (numbers_from i (length xs))
     trees [] i each = refl
     trees (x ∷ xs) i each =
         let zero_i : i + 0 ≡ i = omega arith in
         ap (λ l. l ++ flat_map (λ m. declared_requests (tree_of p m)) xs)
-            (ap declared_requests
-                 (w.tree x i (subst (λ k. IsAt list x k) zero_i (each zero x refl))))
+        (ap declared_requests
+        (w.tree x i (subst (λ k. IsAt list x k) zero_i (each zero x refl))))
         ∙ ap (λ l. declared_requests (tree_of q i) ++ l)
-            (trees xs (suc i)
-                 (λ j m e. let next : i + suc j ≡ suc i + j = omega arith in subst
-                      (λ k. IsAt list m k) next (each (suc j) m e)))
+        (trees xs (suc i)
+        (λ j m e. let next : i + suc j ≡ suc i + j = omega arith in subst
+        (λ k. IsAt list m k) next (each (suc j) m e)))
 
     same-externals : externals p list ≡ externals q (numbers_from zero (length list))
     same-externals =
         ap
-            (λ outside. each_once
-                 (filter (λ s. has_text s outside)
-                      (flat_map (λ m. declared_requests (tree_of p m)) list))) w.external
+        (λ outside. each_once
+        (filter (λ s. has_text s outside)
+        (flat_map (λ m. declared_requests (tree_of p m)) list))) w.external
         ∙ ap (λ texts. each_once (filter (λ s. has_text s q.settings.external) texts))
-            (trees list zero
-                 (λ j m e. let zero_j : j ≡ 0 + j = omega arith in subst (λ k. IsAt list m k) zero_j
-                      e))
+        (trees list zero
+        (λ j m e. let zero_j : j ≡ 0 + j = omega arith in subst (λ k. IsAt list m k) zero_j
+        e))
 
     external-decided : (es : List DecidedExternal) (texts : List Text) →
         AllZip (IsExternalDecided q) es texts → AllZip (IsExternalDecided p) es texts
@@ -332,7 +333,7 @@ module _ (p q : Program) (list : List ℕ) (once : IsOnce list) (w : IsAlike p q
         same = z.0.same;
         names =
             names-same (λ x. meant-both (External s (Named x)) (External s (Named x)) a.external)
-                z.0.names;
+            z.0.names;
         whole = both-steps z.0.whole (meant-both (External s Whole) (External s Whole) a.external);
       },
       external-decided es texts z.1,
@@ -341,25 +342,26 @@ module _ (p q : Program) (list : List ℕ) (once : IsOnce list) (w : IsAlike p q
     -- what is found by places is decided, where the blocks are those of the program
     pub renumbered-decided : IsList p list →
         AreBlocks p list
-            (map (λ (block : DecidedBlock). block.modules) (map (block_by list) f.blocks)) →
+        (map (λ (block : DecidedBlock). block.modules) (map (block_by list) f.blocks)) →
         ((block : DecidedBlock) → Contains (map (block_by list) f.blocks) block → IsBlockDecided p
-             block) → AreDecided p form (renumbered list f)
+        block) → AreDecided p form (renumbered list f)
     renumbered-decided is blocks kinds = record {
       list = is;
       modules = module-decided;
       outside =
           subst (AllZip (IsExternalDecided p) f.externals) (sym same-externals)
-              (external-decided f.externals (externals q (numbers_from zero (length list)))
-                   found.outside);
+          (external-decided f.externals (externals q (numbers_from zero (length list)))
+          found.outside);
       starred =
           subst (λ (texts : List Text). Picks (HasExternalStar p p.entry) texts f.stars)
-              (sym same-externals)
-        (starred-same (λ s. (star-forth q p (λ k m. IsAt list m k) back s, star-forth p q At w s))
-             (externals q (numbers_from zero (length list))) f.stars found.starred);
+          (sym same-externals)
+          (starred-same (λ s. (star-forth q p (λ k m. IsAt list m k) back s, star-forth p q At w s))
+          (externals q (numbers_from zero (length list))) f.stars found.starred);
       exports =
-          both-steps found.exports
-              (hands-on (linked-forth q p (λ k m. IsAt list m k) back),
-                   hands-on (linked-forth p q At w));
+          both-steps found.exports (
+            hands-on (linked-forth q p (λ k m. IsAt list m k) back),
+            hands-on (linked-forth p q At w),
+          );
       blocks = blocks;
       kinds = kinds;
     }

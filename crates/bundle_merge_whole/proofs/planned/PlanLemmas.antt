@@ -86,8 +86,8 @@ module _ (p : Program) (form : Form) where
       Chosen Due (ImportsNothing s ∷ []) (d.bare_plan names whole s)
   bare-chosen s [] false used all says =
       chosen-one (ImportsNothing s)
-          (b.imports_nothing used (λ x means. no_element ((all x).1 means))
-               (λ means. false≢true (says.1 means)))
+      (b.imports_nothing used (λ x means. no_element ((all x).1 means))
+      (λ means. false≢true (says.1 means)))
   bare-chosen s [] true used all says =
       chosen-none (ImportsNothing s) (λ due. (due-nothing due).1 (says.0 refl))
   bare-chosen s (x ∷ rest) whole used all says =
@@ -97,10 +97,10 @@ module _ (p : Program) (form : Form) where
       Chosen Due (import_causes s) (external_plan e)
   external-chosen e s used its =
       subst
-          (λ t. Chosen Due (import_causes s)
-               (d.names_plan e.names t ++
-                    (one_if e.whole (ImportsWhole t) ++ d.bare_plan e.names e.whole t)))
-          (sym its.same)
+      (λ t. Chosen Due (import_causes s)
+      (d.names_plan e.names t ++
+      (one_if e.whole (ImportsWhole t) ++ d.bare_plan e.names e.whole t)))
+      (sym its.same)
       (Chosen-join (names-chosen s e.names used its.names.all)
       (Chosen-join (chosen-if e.whole (ImportsWhole s) ((λ t. b.imports_whole used (its.whole.0 t)), λ due. its.whole.1 (due-whole due)))
       (bare-chosen s e.names e.whole used its.names.all its.whole)))
@@ -113,7 +113,7 @@ module _ (p : Program) (form : Form) where
   externals-chosen (e ∷ es) [] z used = absurd z
   externals-chosen (e ∷ es) (s ∷ texts) z used =
       Chosen-join (external-chosen e s (used s (here s texts)) z.0)
-          (externals-chosen es texts z.1 (λ t c. used t (later s texts t c)))
+      (externals-chosen es texts z.1 (λ t c. used t (later s texts t c)))
 
   -- ---- the helper
   some-passes : (test : ℕ → Bool) (list : List ℕ) → list_any test list ≡ true →
@@ -182,13 +182,13 @@ module _ (p : Program) (form : Form) where
         left (λ due. es (due-defines due))
         (Chosen-join (chosen-if (d.has_meta m) (HoldsMeta m) ((λ t. b.holds_meta reached (sym its.meta ∙ t)), λ due. its.meta ∙ due-meta due))
         (Chosen-join
-          (subst (Chosen Due (map (Loads m) (requested p m)))
-               (mapped (Loads m) (λ (load : DecidedLoad). load.«module») (d.loads m))
-               (loads-chosen m (requested p m)
-                    (map (λ (load : DecidedLoad). load.«module») (d.loads m)) es reached
-                    (its.loads es)))
-          (subst (λ (l : List ℕ). Chosen Due (map (Own m) (counted zero (own_statements (tree_of p m)))) (map (Own m) l)) (counts zero (own_statements (tree_of p m)) ∙ ap (numbers_from zero) (sym its.statements))
-          (chosen-all (map (Own m) (counted zero (own_statements (tree_of p m)))) (λ c there. let r = own-in m zero (own_statements (tree_of p m)) c there in let l = r.1 in subst Due r.2 (b.own reached es (omega (arith, l))))))))
+        (subst (Chosen Due (map (Loads m) (requested p m)))
+        (mapped (Loads m) (λ (load : DecidedLoad). load.«module») (d.loads m))
+        (loads-chosen m (requested p m)
+        (map (λ (load : DecidedLoad). load.«module») (d.loads m)) es reached
+        (its.loads es)))
+        (subst (λ (l : List ℕ). Chosen Due (map (Own m) (counted zero (own_statements (tree_of p m)))) (map (Own m) l)) (counts zero (own_statements (tree_of p m)) ∙ ap (numbers_from zero) (sym its.statements))
+        (chosen-all (map (Own m) (counted zero (own_statements (tree_of p m)))) (λ c there. let r = own-in m zero (own_statements (tree_of p m)) c there in let l = r.1 in subst Due r.2 (b.own reached es (omega (arith, l))))))))
 
     cjs-chosen : IsCommonJs p m → Chosen Due (module_causes p m) (Defines m ∷ [])
     cjs-chosen cjs =
@@ -208,7 +208,7 @@ module _ (p : Program) (form : Form) where
     pub object-chosen : Chosen Due (HoldsNamespace m ∷ []) (object_plan d m)
     object-chosen =
         chosen-if (d.is_object_meant m) (HoldsNamespace m)
-            ((λ t. b.holds_namespace (its.object.0 t)), λ due. its.object.1 (due-namespace due))
+        ((λ t. b.holds_namespace (its.object.0 t)), λ due. its.object.1 (due-namespace due))
 
   -- ---- blocks
   module _ (d : Decided) where
@@ -220,16 +220,16 @@ module _ (p : Program) (form : Form) where
     modules-chosen [] all = nothing
     modules-chosen (m ∷ members) all =
         let its = all m (here m members) in
-            Chosen-join (module-chosen d m its.0 its.1)
-            (modules-chosen members (λ n c. all n (later m members n c)))
+        Chosen-join (module-chosen d m its.0 its.1)
+        (modules-chosen members (λ n c. all n (later m members n c)))
 
     objects-chosen : (members : List ℕ) → Decides members →
         Chosen Due (map HoldsNamespace members) (flat_map (object_plan d) members)
     objects-chosen [] all = nothing
     objects-chosen (m ∷ members) all =
         let its = all m (here m members) in
-            Chosen-join (object-chosen d m its.0 its.1)
-            (objects-chosen members (λ n c. all n (later m members n c)))
+        Chosen-join (object-chosen d m its.0 its.1)
+        (objects-chosen members (λ n c. all n (later m members n c)))
 
     -- a block has of its candidates those that are due
     pub block-chosen : (members : List ℕ) → Decides members →
@@ -251,21 +251,21 @@ module _ (p : Program) (form : Form) where
     pub front-chosen : Chosen Due (front_causes p d.list) (front_plan d)
     front-chosen =
         Chosen-join
-            (externals-chosen d.externals (externals p d.list) its.outside
-                 (listed-used p d.list its.list))
+        (externals-chosen d.externals (externals p d.list) its.outside
+        (listed-used p d.list its.list))
         (chosen-if (list_any d.is_common_js d.list) Helps (
           λ t.
               (let r = some-passes d.is_common_js d.list t in
-                   b.helps ((list-reached p d.list its.list r.0).0 r.1)
-                   ((its.modules r.0 r.1).common_js.0 r.2)),
+              b.helps ((list-reached p d.list its.list r.0).0 r.1)
+              ((its.modules r.0 r.1).common_js.0 r.2)),
           λ due.
               (let r = due-helps due in
-                   let c = (list-reached p d.list its.list r.0).1 r.1 in
-                   passes-some d.is_common_js d.list r.0 c ((its.modules r.0 c).common_js.1 r.2)),
+              let c = (list-reached p d.list its.list r.0).1 r.1 in
+              passes-some d.is_common_js d.list r.0 c ((its.modules r.0 c).common_js.1 r.2)),
         ))
 
     pub back-chosen : Chosen Due (back_causes p d.list) (back_plan d)
     back-chosen =
         Chosen-join (starred-chosen (externals p d.list) d.stars its.starred)
-            (chosen-if d.exports Exports
-                 ((λ t. exports-due (its.exports.0 t)), λ due. its.exports.1 (due-exports due)))
+        (chosen-if d.exports Exports
+        ((λ t. exports-due (its.exports.0 t)), λ due. its.exports.1 (due-exports due)))

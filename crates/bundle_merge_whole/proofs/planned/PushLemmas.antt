@@ -14,8 +14,8 @@ pub numbers-again : (xs : List ℕ) (n : ℕ) → Contains xs n →
     numbers_once (xs ++ n ∷ []) ≡ numbers_once xs
 numbers-again xs n c =
     once-behind (n ∷ []) xs
-        (λ m e. elim (first_or_later n [] m e)
-             [ inl same ↦ subst (Contains xs) same c | inr none ↦ absurd (no_element none) ])
+    (λ m e. elim (first_or_later n [] m e)
+    [ inl same ↦ subst (Contains xs) same c | inr none ↦ absurd (no_element none) ])
 
 -- a number that was not
 pub numbers-new : (xs : List ℕ) (n : ℕ) → (Contains xs n → ⊥) →
@@ -23,11 +23,11 @@ pub numbers-new : (xs : List ℕ) (n : ℕ) → (Contains xs n → ⊥) →
 numbers-new [] n new = refl
 numbers-new (x ∷ xs) n new =
     ap (λ (l : List ℕ). x ∷ filter (λ m. not (nat_eq x m)) l)
-        (numbers-new xs n (λ c. new (later x xs n c)))
+    (numbers-new xs n (λ c. new (later x xs n c)))
     ∙ ap (λ (l : List ℕ). x ∷ l)
-        (filter-append (λ m. not (nat_eq x m)) (numbers_once xs) (n ∷ [])
-             ∙ ap (λ (l : List ℕ). filter (λ m. not (nat_eq x m)) (numbers_once xs) ++ l)
-                 (by (nat_eq x n) refl))
+    (filter-append (λ m. not (nat_eq x m)) (numbers_once xs) (n ∷ [])
+    ∙ ap (λ (l : List ℕ). filter (λ m. not (nat_eq x m)) (numbers_once xs) ++ l)
+    (by (nat_eq x n) refl))
   where
     by : (t : Bool) → nat_eq x n ≡ t → cond (not t) (n ∷ []) [] ≡ n ∷ []
     by true e = absurd (new (0, omega arith, eqb-true x n e))
@@ -41,11 +41,11 @@ texts-swap {A = A} f g (x ∷ xs) = by (f x) (g x) refl refl (texts-swap f g xs)
   where
     by : (s t : Bool) → f x ≡ s → g x ≡ t → filter f (filter g xs) ≡ filter g (filter f xs) →
         filter f (cond t (x ∷ filter g xs) (filter g xs)) ≡ filter g
-            (cond s (x ∷ filter f xs) (filter f xs))
+        (cond s (x ∷ filter f xs) (filter f xs))
     by true true e h ih =
         ap (λ b. cond b (x ∷ filter f (filter g xs)) (filter f (filter g xs))) e
-            ∙ (ap (λ l. x ∷ l) ih
-                ∙ sym (ap (λ b. cond b (x ∷ filter g (filter f xs)) (filter g (filter f xs))) h))
+        ∙ (ap (λ l. x ∷ l) ih
+        ∙ sym (ap (λ b. cond b (x ∷ filter g (filter f xs)) (filter g (filter f xs))) h))
     by true false e h ih =
         ih ∙ sym (ap (λ b. cond b (x ∷ filter g (filter f xs)) (filter g (filter f xs))) h)
     by false true e h ih =
@@ -61,19 +61,19 @@ texts-again (x ∷ xs) s c =
   where
     drops : bytes_eq x s ≡ true → (ys : List Text) →
         filter (λ y. not (bytes_eq x y)) (each_once (ys ++ s ∷ [])) ≡ filter
-            (λ y. not (bytes_eq x y)) (each_once ys)
+        (λ y. not (bytes_eq x y)) (each_once ys)
     drops e [] = ap (λ b. cond (not b) (s ∷ []) []) e
     drops e (y ∷ ys) =
         ap (λ l. cond (not (bytes_eq x y)) (y ∷ l) l)
         (texts-swap (λ z. not (bytes_eq x z)) (λ z. not (bytes_eq y z)) (each_once (ys ++ s ∷ []))
-             ∙ (ap (filter (λ z. not (bytes_eq y z))) (drops e ys)
-                 ∙ sym
-                     (texts-swap (λ z. not (bytes_eq x z)) (λ z. not (bytes_eq y z)) (each_once ys))))
+        ∙ (ap (filter (λ z. not (bytes_eq y z))) (drops e ys)
+        ∙ sym
+        (texts-swap (λ z. not (bytes_eq x z)) (λ z. not (bytes_eq y z)) (each_once ys))))
 
     by : (t : Bool) → bytes_eq x s ≡ t → (x ≡ s) ⊎ Contains xs s →
         (Contains xs s → each_once (xs ++ s ∷ []) ≡ each_once xs) →
         x ∷ filter (λ y. not (bytes_eq x y)) (each_once (xs ++ s ∷ [])) ≡ x ∷ filter
-            (λ y. not (bytes_eq x y)) (each_once xs)
+        (λ y. not (bytes_eq x y)) (each_once xs)
     by true e k ih = ap (λ l. x ∷ l) (drops e xs)
     by false e (inl same) ih = absurd (false≢true (sym e ∙ (bytes_eq-Decides x s).1 same))
     by false e (inr k) ih = ap (λ l. x ∷ filter (λ y. not (bytes_eq x y)) l) (ih k)
@@ -84,11 +84,11 @@ pub texts-new : (xs : List Text) (s : Text) → (Contains xs s → ⊥) →
 texts-new [] s new = refl
 texts-new (x ∷ xs) s new =
     ap (λ (l : List Text). x ∷ filter (λ y. not (bytes_eq x y)) l)
-        (texts-new xs s (λ c. new (later x xs s c)))
+    (texts-new xs s (λ c. new (later x xs s c)))
     ∙ ap (λ (l : List Text). x ∷ l)
-        (filter-append (λ y. not (bytes_eq x y)) (each_once xs) (s ∷ [])
-             ∙ ap (λ (l : List Text). filter (λ y. not (bytes_eq x y)) (each_once xs) ++ l)
-                 (by (bytes_eq x s) refl))
+    (filter-append (λ y. not (bytes_eq x y)) (each_once xs) (s ∷ [])
+    ∙ ap (λ (l : List Text). filter (λ y. not (bytes_eq x y)) (each_once xs) ++ l)
+    (by (bytes_eq x s) refl))
   where
     by : (t : Bool) → bytes_eq x s ≡ t → cond (not t) (s ∷ []) [] ≡ s ∷ []
     by true e = absurd (new (0, omega arith, (bytes_eq-Decides x s).0 e))

@@ -14,8 +14,8 @@ module _ (p : Program) (hooks : Hooks) (form : Form) (on : Labelled) (item : Top
       Realises p hooks form on item (ImportsNames e.specifier)
   names-realised e s its means =
       subst
-          (λ t. ItemMeans on item (import_names t e.names) → Realises p hooks form on item
-               (ImportsNames t)) (sym its.same) (λ m. b.imports_names e.names its.names m) means
+      (λ t. ItemMeans on item (import_names t e.names) → Realises p hooks form on item
+      (ImportsNames t)) (sym its.same) (λ m. b.imports_names e.names its.names m) means
 
   pub whole-realised : (e : DecidedExternal) → ItemMeans on item (import_whole e.specifier) →
       Realises p hooks form on item (ImportsWhole e.specifier)

@@ -30,28 +30,29 @@ pub declared_leads : (p : Program) (m d : ℕ) (s : Text) →
 declared_leads p m d s there leads =
     numbers-on _ d (some_on (resolves p m) (requests_of p.settings (is_free (tree_of p m)) (tree_of p m)) s d
     (texts-on _ s
-         (Contains-append_left _ _ s
-              (filter_on (λ s. not (has_text s p.settings.external))
-                   (declared_requests (tree_of p m)) s there
-                   (ap not (resolved_inside p m d s leads)))))
+    (Contains-append_left _ _ s
+    (filter_on (λ s. not (has_text s p.settings.external))
+    (declared_requests (tree_of p m)) s there
+    (ap not (resolved_inside p m d s leads)))))
     leads)
 
 -- ---- the list
 pub list-reached : (p : Program) (list : List ℕ) → IsList p list → (m : ℕ) →
     Contains list m ↔ IsReached p m
-list-reached p list is m =
-    (forth,
-         λ w. back w
-            (elim (Contains-append_cases [] list p.entry (Lists-takes is p.entry (here p.entry [])))
-                 [ inl none ↦ absurd (no_element none) | inr c ↦ c ]))
+list-reached p list is m = (
+  forth,
+  λ w. back w
+      (elim (Contains-append_cases [] list p.entry (Lists-takes is p.entry (here p.entry [])))
+      [ inl none ↦ absurd (no_element none) | inr c ↦ c ]),
+)
   where
     forth : Contains list m → IsReached p m
     forth c = elim (Lists-sound is m c) [
       | inl none ↦ absurd (no_element none)
       | inr t ↦ elim (first_or_later p.entry [] t.0 t.1) [
-          | inl e ↦ subst (λ k. Reaches (Requests p) k m) (sym e) t.2
-          | inr none ↦ absurd (no_element none)
-        ]
+        | inl e ↦ subst (λ k. Reaches (Requests p) k m) (sym e) t.2
+        | inr none ↦ absurd (no_element none)
+      ]
     ]
 
     back : {a : ℕ} → Reaches (Requests p) a m → Contains list a → Contains list m
@@ -62,7 +63,7 @@ list-reached p list is m =
 pub list-once : (p : Program) (list : List ℕ) → IsList p list → IsOnce list
 list-once p list is =
     IsOnce-from_distinct list
-        (Lists-apart is (record { once = IsDistinct-from_apart nat_eq [] (λ i j d h k. absurd (omega (arith, k))); other = λ x c d. no_element c })).once
+    (Lists-apart is (record { once = IsDistinct-from_apart nat_eq [] (λ i j d h k. absurd (omega (arith, k))); other = λ x c d. no_element c })).once
 
 -- ---- externals
 pub used-listed : (p : Program) (list : List ℕ) → IsList p list → (s : Text) → IsUsed p s →
@@ -70,7 +71,7 @@ pub used-listed : (p : Program) (list : List ℕ) → IsList p list → (s : Tex
 used-listed p list is s used =
     texts-on _ s (filter_on (λ s. is_external p s) (flat_map (λ m. declared_requests (tree_of p m)) list) s
     (flat_on (λ m. declared_requests (tree_of p m)) list used.«module» s
-         ((list-reached p list is used.«module»).1 used.reached) used.asks)
+    ((list-reached p list is used.«module»).1 used.reached) used.asks)
     used.external)
 
 pub listed-used : (p : Program) (list : List ℕ) → IsList p list → (s : Text) →
@@ -78,16 +79,16 @@ pub listed-used : (p : Program) (list : List ℕ) → IsList p list → (s : Tex
 listed-used p list is s c =
     let kept = texts-back _ s c in
     let r =
-        flat_back (λ m. declared_requests (tree_of p m)) list s
-            (filter_back (λ s. is_external p s)
-                 (flat_map (λ m. declared_requests (tree_of p m)) list) s kept) in
+    flat_back (λ m. declared_requests (tree_of p m)) list s
+    (filter_back (λ s. is_external p s)
+    (flat_map (λ m. declared_requests (tree_of p m)) list) s kept) in
     record {
-        «module» = r.0;
-        reached = (list-reached p list is r.0).0 r.1;
-        asks = r.2;
-        external =
-            passes (λ s. is_external p s) (flat_map (λ m. declared_requests (tree_of p m)) list) s
-                kept
+      «module» = r.0;
+      reached = (list-reached p list is r.0).0 r.1;
+      asks = r.2;
+      external =
+          passes (λ s. is_external p s) (flat_map (λ m. declared_requests (tree_of p m)) list) s
+          kept;
     }
 
 pub star-used : (p : Program) {m : ℕ} {s : Text} → HasExternalStar p m s → IsReached p m →
@@ -96,12 +97,12 @@ star-used p (own {m} {s} there outside) reached = record {
   «module» = m;
   reached = reached;
   asks = star_asks (tree_of p m) s there;
-  external = outside
+  external = outside;
 }
 star-used p (through {m} {d} {r} {s} there leads more) reached =
     star-used p more
-        (Reaches-trans reached
-             (along (declared_leads p m d r (star_asks (tree_of p m) r there) leads) itself))
+    (Reaches-trans reached
+    (along (declared_leads p m d r (star_asks (tree_of p m) r there) leads) itself))
 
 -- ---- targets
 -- a namespace is that of a reached module, an external is asked for by one, and a CommonJS module
@@ -123,7 +124,7 @@ module _ (p : Program) where
     «module» = m;
     reached = reached;
     asks = asks;
-    external = outside
+    external = outside;
   }
   takes-reached (of_common_js {s} {taken} {c} leads cjs) reached asks =
       (reached, record { specifier = s; asks = asks; resolved = leads; common_js = cjs })
@@ -144,7 +145,7 @@ module _ (p : Program) where
       takes-reached takes reached (entry_asks (tree_of p m) x s what there)
   gives-reached (given_on {m} {d} {x} {s} {y} {t} {origin} there its gives) reached =
       gives-reached gives
-          (module-reached its reached (entry_asks (tree_of p m) x s (Named y) there))
+      (module-reached its reached (entry_asks (tree_of p m) x s (Named y) there))
   gives-reached (starred {m} {d} {x} {s} {t} {origin} none other there its gives) reached =
       gives-reached gives (module-reached its reached (star_asks (tree_of p m) s there))
 

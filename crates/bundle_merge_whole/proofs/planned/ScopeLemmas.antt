@@ -24,7 +24,6 @@ use Rattle.bundle_scope_names.proofs.Pigeons.{pigeons}
 use Rattle.bundle_scope_names.proofs.Counting.{Key, key_of, all_keys, all-length, counted}
 use Rattle.bundle_scope_names.proofs.Told.{sound-at, same-bound}
 
-
 -- what an entry with a binding denotes
 record Denotes (kind : ModuleKind) (items : List Item) (table : Denotations) (b : ℕ) : Type 0 where
   pub at : ℕ
@@ -39,11 +38,11 @@ module _ (kind : ModuleKind) (items : List Item) (table : Denotations)
       entry.binding ≡ Some b → Denotes kind items table b
   entry-denotes i b entry at is =
       let found =
-          AllZip-at (Tells (map numbered table.scopes.items) table.bindings.items)
-              table.occurrences.items (denotations BySymbol kind items) i entry t.denotes at in
+      AllZip-at (Tells (map numbered table.scopes.items) table.bindings.items)
+      table.occurrences.items (denotations BySymbol kind items) i entry t.denotes at in
       by_denoted found.0 found.1
-          (subst (λ k. IsDenoted (map numbered table.scopes.items) table.bindings.items k found.0)
-               is found.2)
+      (subst (λ k. IsDenoted (map numbered table.scopes.items) table.bindings.items k found.0)
+      is found.2)
     where
       by_denoted : (d : Denoted) → slice_get (denotations BySymbol kind items) i ≡ Some d →
           IsDenoted (map numbered table.scopes.items) table.bindings.items (Some b) d →
@@ -54,9 +53,8 @@ module _ (kind : ModuleKind) (items : List Item) (table : Denotations)
         scope = s;
         name = m;
         denoted = there;
-        is = denoted
+        is = denoted;
       }
-
 
   -- the key of a binding that is denoted
   HasKey : ℕ → Key → Type 0
@@ -67,24 +65,24 @@ module _ (kind : ModuleKind) (items : List Item) (table : Denotations)
   unfolding HasKey
   count given denoted =
       let fewer = pigeons HasKey one given (all_keys kind items) denoted.once beside in
-          let len = all-length kind items in omega (arith, fewer, len)
+      let len = all-length kind items in omega (arith, fewer, len)
     where
       one : (a b : ℕ) (key : Key) → HasKey a key → HasKey b key → a ≡ b
       one a b key x y =
           let keys : key_of x.0.scope x.0.name.sym ≡ key_of y.0.scope y.0.name.sym =
-              sym x.1 ∙ y.1 in
+          sym x.1 ∙ y.1 in
           let same =
-              same-bound kind items table t x.0.scope y.0.scope x.0.name y.0.name
-                  (sound-at kind items table t x.0.at (Bound x.0.scope x.0.name) x.0.denoted)
-                  (sound-at kind items table t y.0.at (Bound y.0.scope y.0.name) y.0.denoted)
-                  (ap (λ (k : Key). k.0) keys) (ap (λ (k : Key). k.1) keys) in
+          same-bound kind items table t x.0.scope y.0.scope x.0.name y.0.name
+          (sound-at kind items table t x.0.at (Bound x.0.scope x.0.name) x.0.denoted)
+          (sound-at kind items table t y.0.at (Bound y.0.scope y.0.name) y.0.denoted)
+          (ap (λ (k : Key). k.0) keys) (ap (λ (k : Key). k.1) keys) in
           t.one a b y.0.scope y.0.name
-              (subst
-                   (λ m. IsBinding (map numbered table.scopes.items) table.bindings.items a
-                        y.0.scope m) same.1
-                   (subst
-                        (λ s. IsBinding (map numbered table.scopes.items) table.bindings.items a s
-                             x.0.name) same.0 x.0.is)) y.0.is
+          (subst
+          (λ m. IsBinding (map numbered table.scopes.items) table.bindings.items a
+          y.0.scope m) same.1
+          (subst
+          (λ s. IsBinding (map numbered table.scopes.items) table.bindings.items a s
+          x.0.name) same.0 x.0.is)) y.0.is
 
       beside : (k b : ℕ) → slice_get given k ≡ Some b →
           (j : ℕ) × (key : Key) × (slice_get (all_keys kind items) j ≡ Some key) × HasKey b key
@@ -122,8 +120,8 @@ module _ (kind : ModuleKind) (items : List Item) (table : Denotations)
   same-scope : (s u b : ℕ) → IsTaken s b → IsTaken u b → s ≡ u
   same-scope s u b x y =
       sym x.scope
-          ∙ (ap (λ (it : Binding). it.scope) (same_Some x.binding y.binding (sym x.at ∙ y.at))
-              ∙ y.scope)
+      ∙ (ap (λ (it : Binding). it.scope) (same_Some x.binding y.binding (sym x.at ∙ y.at))
+      ∙ y.scope)
 
   -- the scopes are no more than the bindings
   pub scopes-below : (scopes : List ℕ) → AreTaken scopes → length scopes ≤ binding_count kind items
@@ -131,15 +129,15 @@ module _ (kind : ModuleKind) (items : List Item) (table : Denotations)
       let chosen = bindings-of scopes taken.each in
       let long = AllZip-long IsTaken scopes chosen.0 chosen.1 in
       let second =
-          λ (k b : ℕ) (e : slice_get chosen.0 k ≡ Some b). AllZip-at_second IsTaken scopes chosen.0
-              k b chosen.1 e in
+      λ (k b : ℕ) (e : slice_get chosen.0 k ≡ Some b). AllZip-at_second IsTaken scopes chosen.0
+      k b chosen.1 e in
       let fewer = count chosen.0 (record {
         once =
             λ i j b e f.
-                (let x = second i b e in
-                     let y = second j b f in
-                     taken.once i j x.0 x.1
-                     (y.1 ∙ ap (λ (s : ℕ). Some s) (same-scope y.0 x.0 b y.2 x.2)));
+            (let x = second i b e in
+            let y = second j b f in
+            taken.once i j x.0 x.1
+            (y.1 ∙ ap (λ (s : ℕ). Some s) (same-scope y.0 x.0 b y.2 x.2)));
         denoted =
             λ k b e. (let x = second k b e in (x.2.place, x.2.entry, x.2.stands, x.2.denotes));
         inner = λ k b e. (let x = second k b e in x.2.inner);

@@ -31,20 +31,20 @@ some-declared : (tops : List TopItem) (top : TopItem) → Contains tops top →
 some-declared [] top c e = absurd (no_element c)
 some-declared (first ∷ tops) top c e =
     by (begins_with is_module_declaration first.items) refl (first_or_later first tops top c)
-        (λ k. some-declared tops top k e)
+    (λ k. some-declared tops top k e)
   where
     by : (t : Bool) → begins_with is_module_declaration first.items ≡ t →
         (first ≡ top) ⊎ Contains tops top →
         (Contains tops top → list_any
-             (λ (top : TopItem). begins_with is_module_declaration top.items) tops ≡ true) →
+        (λ (top : TopItem). begins_with is_module_declaration top.items) tops ≡ true) →
         (t || list_any (λ (top : TopItem). begins_with is_module_declaration top.items) tops) ≡ true
     by true is c ih = refl
     by false is (inl same) ih =
         absurd
-            (false≢true
-                 (sym is
-                      ∙ ap (λ (top : TopItem). begins_with is_module_declaration top.items) same
-                      ∙ e))
+        (false≢true
+        (sym is
+        ∙ ap (λ (top : TopItem). begins_with is_module_declaration top.items) same
+        ∙ e))
     by false is (inr k) ih = ih k
 
 not-both : (b : Bool) → b ≡ true → not b ≡ true → ⊥
@@ -56,9 +56,9 @@ pub script-asks : (p : Program) (m : ℕ) → IsCommonJs p m → (s : Text) →
     Contains (declared_requests (tree_of p m)) s → ⊥
 script-asks p m cjs s c =
     let r =
-        flat_back (λ (top : TopItem). requests_of_item top.items) (top_items (tree_of p m)) s c in
+    flat_back (λ (top : TopItem). requests_of_item top.items) (top_items (tree_of p m)) s c in
     not-both
-        (list_any (λ (top : TopItem). begins_with is_module_declaration top.items)
-             (top_items (tree_of p m)))
-        (some-declared (top_items (tree_of p m)) r.0 r.1 (asks-declared r.0.items s r.2))
-        (and_parts _ _ cjs.script).0
+    (list_any (λ (top : TopItem). begins_with is_module_declaration top.items)
+    (top_items (tree_of p m)))
+    (some-declared (top_items (tree_of p m)) r.0 r.1 (asks-declared r.0.items s r.2))
+    (and_parts _ _ cjs.script).0

@@ -26,7 +26,7 @@ not-true false e = refl
 
 -- what the hook answered for a module that has `import.meta`
 pub record AreAnswers (p : Program) (hooks : Hooks) (answers : ℕ → Option (List Item)) : Type
-        0 where
+    0 where
   pub asked : (m : ℕ) (properties : List Item) → answers m ≡ Some properties →
       (has_import_meta (tree_of p m) ≡ true) × MayHold p hooks m properties
 
@@ -42,32 +42,32 @@ module _ (p : Program) (hooks : Hooks) (is_cjs : ℕ → Bool) (answers : ℕ �
           TreesCountTo p hooks (m ∷ rest) (tree_count Es (tree_of p m) + answer_count o + more)
       es-by es false None e g =
           let same : tree_count Es (tree_of p m) + more ≡ tree_count Es (tree_of p m) + 0 + more =
-                  omega arith in
-              subst (TreesCountTo p hooks (m ∷ rest)) same (f.plain (is_es es) e trees)
+          omega arith in
+          subst (TreesCountTo p hooks (m ∷ rest)) same (f.plain (is_es es) e trees)
       es-by es false (Some properties) e g =
           absurd (false≢true (sym e ∙ (its.asked m properties g).0))
       es-by es true None e g =
           let same : tree_count Es (tree_of p m) + more ≡ tree_count Es (tree_of p m) + 0 + more =
-                  omega arith in
-              subst (TreesCountTo p hooks (m ∷ rest)) same (f.unanswered e trees)
+          omega arith in
+          subst (TreesCountTo p hooks (m ∷ rest)) same (f.unanswered e trees)
       es-by es true (Some properties) e g =
           let same : tree_count Es (tree_of p m) + (properties_count properties + more) ≡ tree_count
-              Es (tree_of p m) + properties_count properties + more =
-              omega arith in
+          Es (tree_of p m) + properties_count properties + more =
+          omega arith in
           subst (TreesCountTo p hooks (m ∷ rest)) same
-              (f.with_meta properties e (its.asked m properties g).1 trees)
+          (f.with_meta properties e (its.asked m properties g).1 trees)
 
       by : (t : Bool) → (IsTrue t ↔ IsCommonJs p m) →
           TreesCountTo p hooks (m ∷ rest)
-              ((if t then tree_count Cjs (tree_of p m) else tree_count Es (tree_of p m) +
-                       answer_count (answers m)) + more)
+          ((if t then tree_count Cjs (tree_of p m) else tree_count Es (tree_of p m) +
+          answer_count (answers m)) + more)
       by true says =
           let cjs = says.0 refl in
-              f.plain (is_common_js cjs)
-              (not-true (has_import_meta (tree_of p m)) (and_parts _ _ cjs.script).1) trees
+          f.plain (is_common_js cjs)
+          (not-true (has_import_meta (tree_of p m)) (and_parts _ _ cjs.script).1) trees
       by false says =
           es-by (λ cjs. false≢true (says.1 cjs)) (has_import_meta (tree_of p m)) (answers m) refl
-              refl
+          refl
 
   -- the trees of a list count to their sum
   pub trees-count : (list : List ℕ) →
@@ -76,12 +76,12 @@ module _ (p : Program) (hooks : Hooks) (is_cjs : ℕ → Bool) (answers : ℕ �
   trees-count [] says = f.nothing
   trees-count (m ∷ list) says =
       one-counts m list (sum_of (tree_total p is_cjs answers) list) (says m (here m list))
-          (trees-count list (λ n c. says n (later m list n c)))
+      (trees-count list (λ n c. says n (later m list n c)))
 
 -- where so many contexts are taken for trees and so many for labels, and the next is past the last
 -- one, contexts may run out
 pub lacks-contexts : (p : Program) (hooks : Hooks) (d : Decided)
-        (answers : ℕ → Option (List Item)) → AreDecided p (form_of p.settings) d →
+    (answers : ℕ → Option (List Item)) → AreDecided p (form_of p.settings) d →
     AreAnswers p hooks answers → (next of_trees of_labels : ℕ) →
     of_trees ≤ sum_of (tree_total p d.is_common_js answers) d.list →
     of_labels ≤ length (injected_labels d) + count_if (list_any d.is_common_js d.list) 2 →
@@ -89,5 +89,5 @@ pub lacks-contexts : (p : Program) (hooks : Hooks) (d : Decided)
 lacks-contexts p hooks d answers its asked next of_trees of_labels trees labels above =
     let few = labels-few d in
     needs-too-many p hooks d its next (sum_of (tree_total p d.is_common_js answers) d.list)
-        (trees-count p hooks d.is_common_js answers asked d.list
-             (λ m c. (its.modules m c).common_js)) (omega (arith, above, trees, labels, few))
+    (trees-count p hooks d.is_common_js answers asked d.list
+    (λ m c. (its.modules m c).common_js)) (omega (arith, above, trees, labels, few))

@@ -12,7 +12,6 @@ use Rattle.bundle_rules.specs.Sorting.{flat, group_of_items}
 use Rattle.bundle_rules.specs.Bundle.{Cause, owner_of}
 use Rattle.bundle_merge_joined.specs.joined.Joined.{AllOf, IsWhole, joined, is_top_name}
 use Rattle.bundle_merge_joined.proofs.joined.Declarations.{IsNamed}
-
 use Rattle.bundle_merge_joined.specs.joined.Picked.{BindsOwn, IsPlaced, IsSingle}
 use Rattle.bundle_merge_joined.proofs.joined.TopItems.{order-of-block, placed-joined, top_items-joined}
 use Rattle.bundle_merge_whole.specs.planned.Sorted.{AreItemsOf, IsBlockGood}
@@ -21,7 +20,7 @@ use Rattle.bundle_merge_whole.proofs.composed.ListFacts.{all-in}
 
 -- a block is a part of the merged items
 pub record IsPart (merged : List (List Item)) (first count : ℕ) (block : List (List Item)) : Type
-        0 where
+    0 where
   pub long : length block ≡ count
   pub same : (n : ℕ) (item : List Item) → n < count → slice_get merged (first + n) ≡ Some item →
       slice_get block n ≡ Some item
@@ -45,7 +44,7 @@ lists-same {A = A} (x ∷ xs) (y ∷ ys) long each =
     let one : y ≡ x = same_Some y x (each zero x refl) in
     let more : length xs ≡ length ys = omega (arith, long) in
     ap (λ (a : A). a ∷ xs) (sym one)
-        ∙ ap (λ (l : List A). y ∷ l) (lists-same xs ys more (λ n z e. each (suc n) z e))
+    ∙ ap (λ (l : List A). y ∷ l) (lists-same xs ys more (λ n z e. each (suc n) z e))
 
 map-at : {A B : Type 0} (f : A → B) (xs : List A) (k : ℕ) (y : B) →
     slice_get (map f xs) k ≡ Some y → (x : A) × (slice_get xs k ≡ Some x) × (f x ≡ y)
@@ -55,37 +54,37 @@ map-at f (x ∷ xs) (suc k) y e = map-at f xs k y e
 
 -- the order that was found for a block's items by themselves is what is asked of it in the bundle
 pub block-good : (merged others block : List (List Item)) (first : ℕ) (causes : List Cause)
-        (order : List ℕ) → IsPart merged first (length causes) block
+    (order : List ℕ) → IsPart merged first (length causes) block
     → AllOf IsSingle block → AllOf IsWhole block → AllOf IsNamed block → AllOf
-        (BindsOwn block others) block
+    (BindsOwn block others) block
     → AllOf IsSingle others → AllOf IsWhole others → AllOf IsNamed others
     → is_top_name others (name_of ByContext (codes "Object") 1) ≡ is_top_name block
-        (name_of ByContext (codes "Object") 1)
+    (name_of ByContext (codes "Object") 1)
     → IsGoodOrder (group_of_items (flat block) (map owner_of causes)) order
     → IsBlockGood ByContext (joined others) Top (top_items (joined others)) merged first causes
-        order
+    order
 block-good merged others block first causes order part single whole named ways other_single other_whole other_named object good = record {
   whole = record {
     all = λ n. subst (λ k. (n < k) ↔ Contains order n) counts (good.order_of.all n);
-    once = good.order_of.once
+    once = good.order_of.once;
   };
   good =
       λ items its. order-of-block block others single whole named ways other_whole other_named items
-          (placed_its items its) (same items its) object (map owner_of causes) order good;
+      (placed_its items its) (same items its) object (map owner_of causes) order good;
 }
   where
     counts : length (group_of_items (flat block) (map owner_of causes)).items ≡ length causes
     counts =
         length-mapped _ (top_items (joined block))
-            ∙ (ap length (top_items-joined block single) ∙ (length-placed 1 block ∙ part.long))
+        ∙ (ap length (top_items-joined block single) ∙ (length-placed 1 block ∙ part.long))
 
     placed_its : (items : List TopItem) →
         AreItemsOf (top_items (joined others)) merged first (length causes) items →
         AllOf (IsPlaced others) items
     placed_its items its = all-in (IsPlaced others) items (λ n top e.
         let c =
-            subst (λ (l : List TopItem). Contains l top) (top_items-joined others other_single)
-                (its.there n top e) in
+        subst (λ (l : List TopItem). Contains l top) (top_items-joined others other_single)
+        (its.there n top e) in
         let at = get-contains (placed 1 others) top c in
         all-to (IsPlaced others) (placed 1 others) (placed-joined others) at.0 top at.1)
 
@@ -96,6 +95,6 @@ block-good merged others block first causes order part single whole named ways o
         lists-same (map (λ (top : TopItem). top.items) items) block (length-mapped (λ (top : TopItem). top.items) items ∙ (its.long ∙ sym part.long)) (λ n item e.
         let r = map-at (λ (top : TopItem). top.items) items n item e in
         let l : n < length causes =
-            (let w = slice_get_within items n r.0 r.1 in
-                 let long = its.long in omega (arith, w, long)) in
+        (let w = slice_get_within items n r.0 r.1 in
+        let long = its.long in omega (arith, w, long)) in
         part.same n item l (its.same n r.0 r.1 ∙ ap (λ (x : List Item). Some x) r.2))

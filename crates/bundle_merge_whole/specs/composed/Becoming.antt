@@ -30,18 +30,18 @@ pub record Becoming (reading : Reading) (before : List Item) (other : Reading)
   pub are : denotations other Es after ≡ map becomes (denotations reading Es before)
   -- bindings stay bindings of the same scopes, and globals stay
   pub bindings : (scope : Scope) (name : Name) →
-        (its : Name) × (becomes (Bound scope name) ≡ Bound (placed_scope move scope) its)
+      (its : Name) × (becomes (Bound scope name) ≡ Bound (placed_scope move scope) its)
   pub globals : (x : List ℕ) → becomes (Global x) ≡ Global x
   -- what is denoted stays apart
   pub one : (d e : Denoted) →
-        Contains (denotations reading Es before) d →
-        Contains (denotations reading Es before) e →
-        becomes d ≡ becomes e →
-        d ≡ e
+      Contains (denotations reading Es before) d →
+      Contains (denotations reading Es before) e →
+      becomes d ≡ becomes e →
+      d ≡ e
   pub same : (d e : Denoted) →
-        Contains (denotations reading Es before) d →
-        Contains (denotations reading Es before) e →
-        same_denoted d e ≡ same_denoted (becomes d) (becomes e)
+      Contains (denotations reading Es before) d →
+      Contains (denotations reading Es before) e →
+      same_denoted d e ≡ same_denoted (becomes d) (becomes e)
 
 -- each labelled binding is denoted somewhere
 abbrev pub AllOccur : Reading → List Item → Labelling → Type 0

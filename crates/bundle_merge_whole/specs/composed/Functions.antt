@@ -18,13 +18,13 @@ use Rattle.bundle_merge_whole.specs.composed.Noted.{Noted, AsWhole, AsFunction}
 abbrev pub function_front : ExportMetadata → (load helper «module» exports : Ident) → List Item
 function_front meta load helper «module» exports =
     h.Open 0 (h.VarDecl Var meta) ∷ h.Open 1 h.VarDeclarator ∷ h.Open 0 h.BindingIdent ∷ h.Ident 0
-        load.0 load.1 Binding ∷ h.Close
+    load.0 load.1 Binding ∷ h.Close
     ∷ h.Open 1 h.CallExpr ∷ h.Ident 0 helper.0 helper.1 Reference ∷ h.Open 1 (h.ExprOrSpread false)
-        ∷ h.Open 1 h.FnExpr ∷ h.Open 1 (h.Function false false)
+    ∷ h.Open 1 h.FnExpr ∷ h.Open 1 (h.Function false false)
     ∷ h.Open 0 h.Param ∷ h.Open 0 h.BindingIdent ∷ h.Ident 0 «module».0 «module».1 Binding ∷ h.Close
-        ∷ h.Close
+    ∷ h.Close
     ∷ h.Open 0 h.Param ∷ h.Open 0 h.BindingIdent ∷ h.Ident 0 exports.0 exports.1 Binding ∷ h.Close ∷
-        h.Close
+    h.Close
     ∷ h.Open 1 h.BlockStmt ∷ []
 
 -- its declarator, with these elements as the body
@@ -44,8 +44,8 @@ function_items meta load helper «module» exports body =
 pub data IsOfForm : List Item → Noted → Type 0 where
   whole_form : {item : List Item} {told : Told} → IsMarked item told → IsOfForm item (AsWhole told)
   function_form : {c : ℕ} {insides : List (List Item)} {tolds : List Told} (meta : ExportMetadata)
-            (load helper «module» exports : Ident) →
-        AllZip IsMarked insides tolds →
-        IsOfForm (function_items meta load helper «module» exports (flat insides))
-            (AsFunction (function_front meta load helper «module» exports) (function_names c)
-                 insides tolds)
+      (load helper «module» exports : Ident) →
+      AllZip IsMarked insides tolds →
+      IsOfForm (function_items meta load helper «module» exports (flat insides))
+      (AsFunction (function_front meta load helper «module» exports) (function_names c)
+      insides tolds)

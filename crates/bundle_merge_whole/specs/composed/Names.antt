@@ -26,13 +26,13 @@ use Rattle.bundle_merge_whole.specs.composed.Noted.{Noted, AsWhole, AsFunction, 
 -- no identifier has two labels, and no label two identifiers
 pub record IsTable (table : Table) : Type 0 where
   pub one_label : (i : Ident) (l other : Label) →
-        Contains table (i, l) →
-        Contains table (i, other) →
-        l ≡ other
+      Contains table (i, l) →
+      Contains table (i, other) →
+      l ≡ other
   pub one_ident : (i other : Ident) (l : Label) →
-        Contains table (i, l) →
-        Contains table (other, l) →
-        i ≡ other
+      Contains table (i, l) →
+      Contains table (other, l) →
+      i ≡ other
 
 -- what an occurrence denotes in a module, by symbol and context
 abbrev pub denoted_in_tree : List Item → Occurrence → Denoted
@@ -64,23 +64,23 @@ abbrev pub ItemNoted : List (List Item) → Table → List Item → Noted → Ty
 ItemNoted items table item (AsWhole told) = StatementNoted items table item first_spot item told
 ItemNoted items table item (AsFunction front names insides tolds) =
     AllZip (IsLabelled items table item) (occurrences_from first_spot front) names × StatementsNoted
-        items table item (fold past first_spot front) insides tolds
+    items table item (fold past first_spot front) insides tolds
 
 -- the labels of declared names that are no keywords have the contexts of their modules, and stand
 -- for identifiers that declare them
 pub record HasModuleContexts (local : ℕ → ℕ) (tree : List Item) (table : Table) : Type 0 where
   pub contexts : (i : Ident) (m : ℕ) (x : Text) →
-        Contains table (i, Of (IsDeclared m x)) →
-        is_keyword x ≡ false →
-        i.1 ≡ local m
+      Contains table (i, Of (IsDeclared m x)) →
+      is_keyword x ≡ false →
+      i.1 ≡ local m
   pub declared : (i : Ident) (m : ℕ) (x : Text) →
-        Contains table (i, Of (IsDeclared m x)) →
-        is_keyword x ≡ false →
-        (o : Occurrence)
-        × (d : Declared)
-        × Contains (occurrences tree) o
-        × (ident_of o ≡ i)
-        × (declaration_of ByContext Es o ≡ Some d)
+      Contains table (i, Of (IsDeclared m x)) →
+      is_keyword x ≡ false →
+      (o : Occurrence)
+      × (d : Declared)
+      × Contains (occurrences tree) o
+      × (ident_of o ≡ i)
+      × (declaration_of ByContext Es o ≡ Some d)
 
 -- each identifier is called as its label, spelled so
 abbrev pub IsCalledAsLabels : (Text → Text) → Program → List ℕ → Table → Type 0

@@ -37,36 +37,36 @@ use Rattle.bundle_merge_meaning.specs.walked.Renaming.{Told, IsMarked}
 pub data MarksStandFor (p : Program) (hooks : Hooks) (form : Form) : List Mark → Cause →
     Type 0 where
   own : {m k : ℕ} {marks : List Mark} (statement : List Element) →
-        slice_get (own_statements (tree_of p m)) k ≡ Some statement →
-        OwnMeaning p m statement marks →
-        MarksStandFor p hooks form marks (Own m k)
+      slice_get (own_statements (tree_of p m)) k ≡ Some statement →
+      OwnMeaning p m statement marks →
+      MarksStandFor p hooks form marks (Own m k)
   imports_names : {s : Text} (names : List Text) →
-        AreNames (MeansName p s) names →
-        MarksStandFor p hooks form (import_names s names) (ImportsNames s)
+      AreNames (MeansName p s) names →
+      MarksStandFor p hooks form (import_names s names) (ImportsNames s)
   imports_whole : {s : Text} → MarksStandFor p hooks form (import_whole s) (ImportsWhole s)
   imports_nothing : {s : Text} → MarksStandFor p hooks form (import_bare s) (ImportsNothing s)
   helps : MarksStandFor p hooks form helper_function Helps
   loads : {m c : ℕ} (whole : Bool) (names : List Text) →
-        AreNames (λ x. IsMeant p (Of (CommonJs m c (Named x)))) names →
-        (IsTrue whole ↔ IsMeant p (Of (CommonJs m c AllOfIt))) →
-        MarksStandFor p hooks form (load_statement m c whole names) (Loads m c)
+      AreNames (λ x. IsMeant p (Of (CommonJs m c (Named x)))) names →
+      (IsTrue whole ↔ IsMeant p (Of (CommonJs m c AllOfIt))) →
+      MarksStandFor p hooks form (load_statement m c whole names) (Loads m c)
   holds_meta : {m : ℕ} (properties : List Item) (marks : List Mark) →
-        MayHold p hooks m properties →
-        AreFaultless p properties →
-        PropertiesMean properties marks →
-        MarksStandFor p hooks form (meta_object m marks) (HoldsMeta m)
+      MayHold p hooks m properties →
+      AreFaultless p properties →
+      PropertiesMean properties marks →
+      MarksStandFor p hooks form (meta_object m marks) (HoldsMeta m)
   holds_namespace : {d : ℕ} (pairs : List NamedTarget) →
-        AreLinked p d pairs →
-        MarksStandFor p hooks form (namespace_object d pairs) (HoldsNamespace d)
+      AreLinked p d pairs →
+      MarksStandFor p hooks form (namespace_object d pairs) (HoldsNamespace d)
   stars : {s : Text} → MarksStandFor p hooks form (export_star s) (Stars s)
   exports : (pairs : List NamedTarget) →
-        form ≡ AsModule →
-        AreLinked p p.entry pairs →
-        MarksStandFor p hooks form (export_list pairs) Exports
+      form ≡ AsModule →
+      AreLinked p p.entry pairs →
+      MarksStandFor p hooks form (export_list pairs) Exports
   returns : (pairs : List NamedTarget) →
-        form ≡ AsCall →
-        AreLinked p p.entry pairs →
-        MarksStandFor p hooks form (return_object pairs) Exports
+      form ≡ AsCall →
+      AreLinked p p.entry pairs →
+      MarksStandFor p hooks form (return_object pairs) Exports
 
 -- what is told of an item: what its names mean in turn, and its marks; or, where it is the function
 -- of a CommonJS module, its parts: what stands in front of the statements, with what its names
@@ -74,8 +74,8 @@ pub data MarksStandFor (p : Program) (hooks : Hooks) (form : Form) : List Mark �
 pub data Noted : Type 0 where
   AsWhole : Told → Noted
   AsFunction : (front : List Item) (names : List Label) (insides : List (List Item))
-            (tolds : List Told) →
-        Noted
+      (tolds : List Told) →
+      Noted
 
 -- whether these elements have no node in which names are spelled out
 abbrev pub are_plain : List Item → Bool
@@ -104,11 +104,11 @@ pub record HasPlainMarks (items : List Item) (names : List Label) (marks : List 
 
 -- the statements of a CommonJS module, each with what is told of it
 pub record StateAll (p : Program) (c : ℕ) (insides : List (List Item)) (tolds : List Told) : Type
-        0 where
+    0 where
   pub single : AllOf IsSingle insides
   pub marked : AllZip IsMarked insides tolds
   pub means : AllZip (λ (told : Told) statement. OwnMeaning p c statement told.1) tolds
-            (own_statements (tree_of p c))
+      (own_statements (tree_of p c))
 
 -- an item is made of the parts that are told of it, and something behind them
 abbrev pub IsMadeOf : List Item → Noted → Type 0
@@ -124,16 +124,16 @@ function_ends = h.Close ∷ h.Close ∷ h.Close ∷ h.Close ∷ h.Close ∷ h.Cl
 pub data IsNotedFor (p : Program) (hooks : Hooks) (form : Form) : List Item → Noted → Cause →
     Type 0 where
   as_whole : {item : List Item} {told : Told} {cause : Cause} →
-        IsMarked item told →
-        MarksStandFor p hooks form told.1 cause →
-        IsNotedFor p hooks form item (AsWhole told) cause
+      IsMarked item told →
+      MarksStandFor p hooks form told.1 cause →
+      IsNotedFor p hooks form item (AsWhole told) cause
   as_function : {c : ℕ} {item front : List Item} {names : List Label} {insides : List (List Item)}
-            {tolds : List Told} →
-        AreNodes item →
-        item ≡ front ++ (flat insides ++ function_ends) →
-        HasPlainMarks front names (load_front c) →
-        StateAll p c insides tolds →
-        IsNotedFor p hooks form item (AsFunction front names insides tolds) (Defines c)
+      {tolds : List Told} →
+      AreNodes item →
+      item ≡ front ++ (flat insides ++ function_ends) →
+      HasPlainMarks front names (load_front c) →
+      StateAll p c insides tolds →
+      IsNotedFor p hooks form item (AsFunction front names insides tolds) (Defines c)
 
 -- each item is noted for its cause
 abbrev pub AreNotedFor : Program → Hooks → Form → List (List Item) → List Noted → List Cause →
@@ -170,7 +170,7 @@ abbrev pub StatementsAgree : View → Labelling → Spot → List (List Item) �
 StatementsAgree view labels s [] [] = ⊤
 StatementsAgree view labels s (item ∷ items) (told ∷ tolds) =
     AgreeInTurn labels s.place (denoted_from view s item) told.0 × StatementsAgree view labels
-        (fold past s item) items tolds
+    (fold past s item) items tolds
 StatementsAgree view labels s _ _ = ⊥
 
 -- a name denotes a binding that stands for the label
@@ -183,7 +183,7 @@ ItemAgrees view labels s item (AsWhole told) =
     AgreeInTurn labels s.place (denoted_from view s item) told.0
 ItemAgrees view labels s item (AsFunction front names insides tolds) =
     AllZip (StandsForLabel labels) (denoted_from view s front) names × StatementsAgree view labels
-        (fold past s front) insides tolds
+    (fold past s front) insides tolds
 
 -- items one after another, from a spot on
 abbrev pub ItemsAgree : View → Labelling → Spot → List (List Item) → List Noted → Type 0
@@ -216,9 +216,9 @@ pub record IsNotedBundle (p : Program) (hooks : Hooks) (items : List (List Item)
   pub each : AreNotedFor p hooks AsModule items noted plan
   pub due : (cause : Cause) → Contains plan cause ↔ IsDue p AsModule cause
   pub once : (i j : ℕ) (cause : Cause) →
-        slice_get plan i ≡ Some cause →
-        slice_get plan j ≡ Some cause →
-        i ≡ j
+      slice_get plan i ≡ Some cause →
+      slice_get plan j ≡ Some cause →
+      i ≡ j
 
 -- the pairing of such a bundle
 abbrev pub pairing_of : Labelling → List (List Item) → List Cause → Pairing
@@ -226,5 +226,5 @@ pairing_of labels items plan = record {
   labels = labels;
   top = Top;
   body = top_items (joined items);
-  plan = plan
+  plan = plan;
 }

@@ -41,24 +41,24 @@ pub record PartTurned (part renamed : List Item) : Type 0 where
 pub record FrontTurned (front renamed : List Item) : Type 0 where
   pub names : length (names_of front) ≡ length (names_of renamed)
   pub spots : (s t : Spot) (field its : ℕ) →
-        s.path ≡ in_field field module_path →
-        t.path ≡ in_field its module_path →
-        SpotsMatch (fold past s front) (fold past t renamed)
+      s.path ≡ in_field field module_path →
+      t.path ≡ in_field its module_path →
+      SpotsMatch (fold past s front) (fold past t renamed)
 
 -- an item becomes this, of which the same is told
 pub data ItemTurned : List Item → Noted → List Item → Noted → Type 0 where
   whole_turned : {item renamed : List Item} {told : Told} →
-        PartTurned item renamed →
-        ItemTurned item (AsWhole told) renamed (AsWhole told)
+      PartTurned item renamed →
+      ItemTurned item (AsWhole told) renamed (AsWhole told)
   function_turned : {item renamed front its_front : List Item} {names : List Label}
-            {insides its : List (List Item)} {tolds : List Told} (back its_back : List Item) →
-        PartTurned item renamed →
-        item ≡ front ++ (flat insides ++ back) →
-        renamed ≡ its_front ++ (flat its ++ its_back) →
-        FrontTurned front its_front →
-        AllZip PartTurned insides its →
-        ItemTurned item (AsFunction front names insides tolds) renamed
-            (AsFunction its_front names its tolds)
+      {insides its : List (List Item)} {tolds : List Told} (back its_back : List Item) →
+      PartTurned item renamed →
+      item ≡ front ++ (flat insides ++ back) →
+      renamed ≡ its_front ++ (flat its ++ its_back) →
+      FrontTurned front its_front →
+      AllZip PartTurned insides its →
+      ItemTurned item (AsFunction front names insides tolds) renamed
+      (AsFunction its_front names its tolds)
 
 -- all items
 abbrev pub ItemsTurned : List (List Item) → List Noted → List (List Item) → List Noted → Type 0

@@ -7,7 +7,7 @@ use Rattle.bundle_merge_whole.specs.planned.Decided.{DecidedBlock}
 abbrev pub block_read : List ℕ → Block → DecidedBlock
 block_read list block = record {
   modules = filter_map (slice_get list) block.places.items;
-  is_sorted = block.is_cycle
+  is_sorted = block.is_cycle;
 }
 
 -- the same, by the places

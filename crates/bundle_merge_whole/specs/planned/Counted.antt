@@ -53,17 +53,17 @@ label_if false l = []
 abbrev pub external_labels : DecidedExternal → List Label
 external_labels e =
     map (λ x. Of (External e.specifier (Named x))) e.names ++ label_if e.whole
-        (Of (External e.specifier Whole))
+    (Of (External e.specifier Whole))
 
 abbrev pub load_labels : ℕ → DecidedLoad → List Label
 load_labels m load =
     map (λ x. Of (CommonJs m load.«module» (Named x))) load.names ++ label_if load.whole
-        (Of (CommonJs m load.«module» Whole))
+    (Of (CommonJs m load.«module» Whole))
 
 abbrev pub module_labels : Decided → ℕ → List Label
 module_labels d m =
     if d.is_common_js m then Load m ∷ [] else label_if (d.has_meta m) (Meta m) ++ flat_map
-        (load_labels m) (d.loads m)
+    (load_labels m) (d.loads m)
 
 abbrev pub object_labels : Decided → ℕ → List Label
 object_labels d m = label_if (d.is_object_meant m) (Of (Namespace m))
@@ -91,4 +91,4 @@ answer_count (Some properties) = properties_count properties
 abbrev pub tree_total : Program → (ℕ → Bool) → (ℕ → Option (List Item)) → ℕ → ℕ
 tree_total p is_common_js answers m =
     if is_common_js m then tree_count Cjs (tree_of p m) else tree_count Es (tree_of p m) +
-        answer_count (answers m)
+    answer_count (answers m)

@@ -71,7 +71,7 @@ names_plan (x ∷ rest) s = ImportsNames s ∷ []
 abbrev pub external_plan : DecidedExternal → List Cause
 external_plan e =
     names_plan e.names e.specifier ++
-        (one_if e.whole (ImportsWhole e.specifier) ++ bare_plan e.names e.whole e.specifier)
+    (one_if e.whole (ImportsWhole e.specifier) ++ bare_plan e.names e.whole e.specifier)
 
 -- the numbers from n on, so many
 abbrev pub numbers_from : ℕ → ℕ → List ℕ
@@ -82,8 +82,8 @@ numbers_from n (suc count) = n ∷ numbers_from (suc n) count
 abbrev pub es_plan : Decided → ℕ → List Cause
 es_plan d m =
     one_if (d.has_meta m) (HoldsMeta m) ++
-        (map (λ load. Loads m load.«module») (d.loads m) ++ map (Own m)
-             (numbers_from zero (d.statements m)))
+    (map (λ load. Loads m load.«module») (d.loads m) ++ map (Own m)
+    (numbers_from zero (d.statements m)))
 
 -- what a module makes
 abbrev pub module_plan : Decided → ℕ → List Cause
@@ -113,7 +113,7 @@ arranged causes order = filter_map (slice_get causes) order
 abbrev pub placed_plan : Decided → DecidedBlock → List ℕ → List Cause
 placed_plan d block order =
     if block.is_sorted then arranged (block_plan d block.modules) order else block_plan d
-        block.modules
+    block.modules
 
 -- the blocks, with an order for each
 abbrev pub blocks_plan : Decided → List DecidedBlock → List (List ℕ) → List Cause
@@ -140,7 +140,7 @@ merged_plan d = front_plan d ++ (merged_blocks d d.blocks ++ back_plan d)
 abbrev pub block_order : Decided → ℕ → DecidedBlock → List ℕ → List ℕ
 block_order d first block order =
     if block.is_sorted then map (λ n. first + n) order else numbers_from first
-        (length (block_plan d block.modules))
+    (length (block_plan d block.modules))
 
 -- the numbers of the items of blocks
 abbrev pub blocks_order : Decided → ℕ → List DecidedBlock → List (List ℕ) → List ℕ
@@ -148,7 +148,7 @@ blocks_order d first [] orders = []
 blocks_order d first (block ∷ blocks) [] = []
 blocks_order d first (block ∷ blocks) (order ∷ orders) =
     block_order d first block order ++ blocks_order d (first + length (block_plan d block.modules))
-        blocks orders
+    blocks orders
 
 -- the numbers of all items in the order in which they are to stand
 abbrev pub whole_order : Decided → List (List ℕ) → List ℕ
@@ -156,8 +156,8 @@ whole_order d orders =
     let before = length (front_plan d) in
     let within = length (merged_blocks d d.blocks) in
     numbers_from zero before ++
-        (blocks_order d before d.blocks orders ++ numbers_from (before + within)
-             (length (back_plan d)))
+    (blocks_order d before d.blocks orders ++ numbers_from (before + within)
+    (length (back_plan d)))
 
 -- the orders are of numbers of their blocks' items
 abbrev pub AreWithin : Decided → List DecidedBlock → List (List ℕ) → Type 0
@@ -165,7 +165,7 @@ AreWithin d [] orders = Unit {0}
 AreWithin d (block ∷ blocks) [] = ⊥
 AreWithin d (block ∷ blocks) (order ∷ orders) =
     (block.is_sorted ≡ true → (n : ℕ) → Contains order n → n < length (block_plan d block.modules))
-        × AreWithin d blocks orders
+    × AreWithin d blocks orders
 
 -- Where the items of a block stand.
 
@@ -194,8 +194,8 @@ abbrev pub IsBlockOrdered : Reading → List Item → Pairing → Decided → �
 IsBlockOrdered reading tree pairing d first block order =
     let causes = block_plan d block.modules in
     block.is_sorted ≡ true → IsGoodOrder
-        (group_of reading pairing.top tree (block_items pairing.body first order (length causes))
-             (map owner_of causes)) order
+    (group_of reading pairing.top tree (block_items pairing.body first order (length causes))
+    (map owner_of causes)) order
 
 -- the same of each block, where the first of them begins at a place
 abbrev pub AreOrdered : Reading → List Item → Pairing → Decided → ℕ → List DecidedBlock →
@@ -205,7 +205,7 @@ AreOrdered reading tree pairing d first [] (order ∷ orders) = ⊥
 AreOrdered reading tree pairing d first (block ∷ blocks) [] = ⊥
 AreOrdered reading tree pairing d first (block ∷ blocks) (order ∷ orders) =
     IsBlockOrdered reading tree pairing d first block order × AreOrdered reading tree pairing d
-        (first + length (placed_plan d block order)) blocks orders
+    (first + length (placed_plan d block order)) blocks orders
 
 -- What is right of it.
 
@@ -235,7 +235,7 @@ pub data HandsOut (p : Program) : Form → Type 0 where
 pub record IsModuleDecided (p : Program) (d : Decided) (m : ℕ) : Type 0 where
   pub common_js : IsTrue (d.is_common_js m) ↔ IsCommonJs p m
   pub loads : (IsCommonJs p m → ⊥) →
-        Members (AsksCommonJs p m) (requested p m) (map (λ load. load.«module») (d.loads m))
+      Members (AsksCommonJs p m) (requested p m) (map (λ load. load.«module») (d.loads m))
   pub taken : (load : DecidedLoad) → Contains (d.loads m) load → IsLoadDecided p m load
   pub meta : d.has_meta m ≡ has_import_meta (tree_of p m)
   pub statements : d.statements m ≡ length (own_statements (tree_of p m))

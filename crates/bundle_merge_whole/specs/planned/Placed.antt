@@ -16,14 +16,14 @@ abbrev pub load_by : List ℕ → DecidedLoad → DecidedLoad
 load_by list load = record {
   «module» = id_at list load.«module»;
   names = load.names;
-  whole = load.whole
+  whole = load.whole;
 }
 
 -- a block, by the numbers of its modules
 abbrev pub block_by : List ℕ → DecidedBlock → DecidedBlock
 block_by list block = record {
   modules = filter_map (slice_get list) block.modules;
-  is_sorted = block.is_sorted
+  is_sorted = block.is_sorted;
 }
 
 -- what is found by places in a list, by the numbers of the modules

@@ -23,8 +23,8 @@ abbrev pub sorted_order : ℕ → ℕ → List SortedItems → List ℕ
 sorted_order next total [] = numbers_from next (total - next)
 sorted_order next total (block ∷ rest) =
     numbers_from next (block.first - next) ++
-        (map (λ n. block.first + n) block.order ++ sorted_order (block.first + block.count) total
-             rest)
+    (map (λ n. block.first + n) block.order ++ sorted_order (block.first + block.count) total
+    rest)
 
 -- the sorted ones of blocks, of which the first begins with this number
 abbrev pub sorted_of : Decided → ℕ → List DecidedBlock → List (List ℕ) → List SortedItems
@@ -33,8 +33,8 @@ sorted_of d first (block ∷ blocks) [] = []
 sorted_of d first (block ∷ blocks) (order ∷ orders) =
     let rest = sorted_of d (first + length (block_plan d block.modules)) blocks orders in
     if block.is_sorted then
-        record { first = first; count = length (block_plan d block.modules); order = order } ∷ rest
-        else rest
+    record { first = first; count = length (block_plan d block.modules); order = order } ∷ rest
+    else rest
 
 -- Items of a block, wherever they stand.
 
@@ -60,8 +60,8 @@ pub record IsBlockGood (reading : Reading) (tree : List Item) (top : Scope) (bod
     (merged : List (List Item)) (first : ℕ) (causes : List Cause) (order : List ℕ) : Type 0 where
   pub whole : IsWholeOrder (length causes) order
   pub good : (items : List TopItem) →
-        AreItemsOf body merged first (length causes) items →
-        IsGoodOrder (group_of reading top tree items (map owner_of causes)) order
+      AreItemsOf body merged first (length causes) items →
+      IsGoodOrder (group_of reading top tree items (map owner_of causes)) order
 
 -- the same of each block that is sorted, where the first merged item of the first block is this
 abbrev pub AreBlocksGood : Reading → List Item → Scope → List TopItem → List (List Item) → Decided →
@@ -71,6 +71,6 @@ AreBlocksGood reading tree top body merged d first [] (order ∷ orders) = ⊥
 AreBlocksGood reading tree top body merged d first (block ∷ blocks) [] = ⊥
 AreBlocksGood reading tree top body merged d first (block ∷ blocks) (order ∷ orders) =
     (block.is_sorted ≡ true → IsBlockGood reading tree top body merged first
-         (block_plan d block.modules) order)
+    (block_plan d block.modules) order)
     × AreBlocksGood reading tree top body merged d (first + length (block_plan d block.modules))
-        blocks orders
+    blocks orders
