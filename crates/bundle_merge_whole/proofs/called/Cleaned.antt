@@ -16,11 +16,12 @@ use Rattle.bundle_rules.specs.Forms.{is_less, put_by_name, by_names, exported_pa
 use Rattle.bundle_rules.specs.Bundle.{function_front, function_back}
 use Rattle.bundle_rules.specs.Callable.{Every, none, more, AreStatements, module_with, Specifier, specifier_items, export_items, IsBack, nothing, exports, CanBeCalled}
 use Rattle.bundle_merge_whole.specs.called.Called.{call_with}
-use Rattle.bundle_merge_whole.proofs.called.Sides.{every-front, every-rest}
+use Rattle.bundle_merge_whole.proofs.called.Sides.{every-front}
 use Rattle.bundle_merge_whole.proofs.called.Plain.{every-join}
 use Rattle.bundle_merge_whole.proofs.called.Exported.{pair_of, pairs-of}
 use Rattle.bundle_merge_whole.proofs.called.Nodes.{body-plain, body-exports}
 use Rattle.bundle_merge_whole.proofs.called.Whole.{its_of, is_async_of, wrapped-is}
+use Rattle.bundle_merge_whole.proofs.called.Means.{every-rest}
 
 -- an element that a map leaves as it is
 abbrev pub IsLeft : (Item → Item) → Item → Type 0

@@ -3,9 +3,7 @@ use Rattle.std.proofs.Common.{◌≡◌, ℕ, zero, suc, ◌+◌, ◌<◌, ◌�
 use Rattle.std.specs.Prelude.{if◌then◌else◌, ◌==◌, flat_map, filter_map, position}
 use Rattle.std.specs.List.{cons_option}
 use Rattle.std.proofs.lemmas.Bool.{false≢true}
-use Rattle.std.proofs.lemmas.Option.{none-some, same_Some}
 use Rattle.std.proofs.lemmas.List.{length-drop}
-use Rattle.bundle_tree_piece.specs.declared.piece.Role.TheVariants as r
 use Rattle.bundle_tree_piece.specs.Item as h
 use Rattle.bundle_tree_piece.specs.Item.{Item, Head}
 use Rattle.bundle_rules.specs.Places.{Around, Spot, past, start, Occurrence, occurrence_of, occurrence_at, occurrences_from, occurrences, is_binding}
@@ -20,10 +18,11 @@ use Rattle.bundle_rules.specs.Reads.{is_member, property_of}
 use Rattle.bundle_rules.specs.Mentions.{same_context, same_denoted, each_denoted_once}
 use Rattle.bundle_rules.specs.Order.{Mention, is_assigned, is_in_argument, roots_chain, is_text, is_prototype_read, is_in_assign_of, has_no_value, is_global_named, is_of_nothing, is_object_at, denoted_in, is_of_scope, mentioned, mention_of, group_of}
 use Rattle.bundle_rules.specs.Callable.{Every, none, more, module_with}
+use Rattle.bundle_merge_meaning.proofs.walked.Denoting.{occurrence_place}
 use Rattle.bundle_merge_whole.specs.called.Moved.{moved_denoted, IsFair, AreMet, followed, astray}
 use Rattle.bundle_merge_whole.specs.called.Called.{call_with, AreTwins}
 use Rattle.bundle_merge_whole.proofs.called.Homes.{same-moved, parameters-differ}
-use Rattle.bundle_merge_whole.proofs.called.Lists.{AreAlike, neither, both}
+use Rattle.bundle_merge_whole.proofs.called.Lists.{AreAlike, neither, both, consed}
 use Rattle.bundle_merge_whole.proofs.called.Trees.{shows, occurrences-alike}
 use Rattle.bundle_merge_whole.proofs.called.Means.{IsFairly, denoted-fairly, occurrence-seated, same_denoted-moved, every-filter, every-once, once-moved, position-map, every-map, position-none}
 use Rattle.bundle_merge_whole.proofs.called.Sides.{sides-front, moved_item}
@@ -38,27 +37,11 @@ pub record IsSegment (stmts : List Item) (item : TopItem) : Type 0 where
 
 -- Places of an item.
 
-first-in : {A : Type 0} {P : A → Type 0} (o : Option A) (xs : List A) →
-    ((x : A) → o ≡ Some x → P x) → Every P xs → Every P (cons_option o xs)
-first-in None xs here each = each
-first-in (Some x) xs here each = more (here x refl) each
-
-occurs-at : (spot : Spot) (x : Item) (o : Occurrence) → occurrence_of spot x ≡ Some o →
-    o.place ≡ spot.place
-occurs-at spot (h.Ident field x ctxt r.Binding) o e =
-    ap (λ (z : Occurrence). z.place) (sym (same_Some _ o e))
-occurs-at spot (h.Ident field x ctxt r.Reference) o e =
-    ap (λ (z : Occurrence). z.place) (sym (same_Some _ o e))
-occurs-at spot (h.Ident field x ctxt r.Word) o e = absurd (none-some o e)
-occurs-at spot (h.Open field head) o e = absurd (none-some o e)
-occurs-at spot (h.Hole field) o e = absurd (none-some o e)
-occurs-at spot h.Close o e = absurd (none-some o e)
-
 occurs-before : (n : ℕ) (spot : Spot) (xs : List Item) → spot.place + length xs ≡ n →
     Every (λ (o : Occurrence). o.place < n) (occurrences_from spot xs)
 occurs-before n spot [] e = none
 occurs-before n spot (x ∷ xs) e =
-    first-in (occurrence_of spot x) (occurrences_from (past spot x) xs) (λ o is. let l : o.place ≡ spot.place = occurs-at spot x o is in omega arith)
+    consed (occurrence_of spot x) (occurrences_from (past spot x) xs) (λ o is. let l : o.place ≡ spot.place = occurrence_place spot x o is in omega arith)
     (let next : spot.place + 1 + length xs ≡ n = omega arith in occurs-before n (past spot x) xs next)
 
 pub occurs-within : (xs : List Item) →

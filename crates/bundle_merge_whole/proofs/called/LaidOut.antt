@@ -3,6 +3,7 @@ use Rattle.std.proofs.Common.{◌≡◌, ℕ, zero, suc, ◌<◌, Bool, List, []
 use Rattle.std.specs.Prelude.{slice_get, flat_map}
 use Rattle.std.specs.List.{AllZip}
 use Rattle.std.proofs.lemmas.Option.{none-some, same_Some}
+use Rattle.std.proofs.lemmas.List.{length-map}
 use Rattle.bundle_tree_piece.specs.Item.{Item}
 use Rattle.bundle_rules.specs.Scopes.{Top, Inner, FunctionBody}
 use Rattle.bundle_rules.specs.Declarations.{Reading}
@@ -13,6 +14,7 @@ use Rattle.bundle_rules.specs.Order.{IsGoodOrder, group_of}
 use Rattle.bundle_rules.specs.Bundle as b
 use Rattle.bundle_rules.specs.Bundle.{Form, AsModule, AsCall, Cause, Own, Loads, Stars, Helps, Exports, HoldsNamespace, IsDue, Chosen, nothing, chosen, left, import_causes, module_causes, owner_of, counted, StandsFor, Pairing, IsBlockLaidOut, lone, cycle, AreBlocksLaidOut, over, next, externals, IsLaidOut}
 use Rattle.bundle_rules.specs.Callable.{Every, none, more, module_with}
+use Rattle.bundle_merge_joined.proofs.joined.Lists.{map-get}
 use Rattle.bundle_merge_whole.specs.called.Called.{AreTwins, call_with}
 use Rattle.bundle_merge_whole.proofs.called.Sides.{moved_item}
 use Rattle.bundle_merge_whole.proofs.called.Plain.{every-join, every-each}
@@ -152,17 +154,7 @@ in-front [] (y ∷ ys) (suc k) x e (more here each) apart = let r = in-front [] 
 in-front (z ∷ xs) ys zero x e each apart = (omega arith, e)
 in-front (z ∷ xs) ys (suc k) x e each apart = let r = in-front xs ys k x e each apart in (omega (arith, r.0), r.1)
 
-get-mapped : {A B : Type 0} (f : A → B) (xs : List A) (k : ℕ) (x : A) → slice_get xs k ≡ Some x →
-    slice_get (map f xs) k ≡ Some (f x)
-get-mapped f [] k x e = absurd (none-some x e)
-get-mapped f (y ∷ xs) zero x e = ap (λ z. Some (f z)) (same_Some y x e)
-get-mapped f (y ∷ xs) (suc k) x e = get-mapped f xs k x e
-
-mapped-length : {A B : Type 0} (f : A → B) (xs : List A) → length (map f xs) ≡ length xs
-mapped-length f [] = refl
-mapped-length f (x ∷ xs) = ap suc (mapped-length f xs)
-
-get-every : {A : Type 0} {P : A → Type 0} {xs : List A} → Every P xs → (k : ℕ) (x : A) →
+pub get-every : {A : Type 0} {P : A → Type 0} {xs : List A} → Every P xs → (k : ℕ) (x : A) →
     slice_get xs k ≡ Some x → P x
 get-every none k x e = absurd (none-some x e)
 get-every {P = P} (more {x = y} here later) zero x e = subst P (same_Some y x e) here
@@ -176,11 +168,11 @@ stands-at {stmts} {old} {new} like cause other item stands =
     let in_plan = in-front like.plan like.old_plan stands.at cause (sym (ap (λ l. slice_get l stands.at) like.plan_is) ∙ stands.cause_there) like.only_exports other in
     let l : stands.at < length like.items = omega (arith, like.same_length, in_plan.0) in
     let in_body : slice_get like.items stands.at ≡ Some item = sym (get-front like.items like.old_items stands.at item l) ∙ sym (ap (λ l. slice_get l stands.at) like.body_is) ∙ stands.item_there in
-    let m : stands.at < length (map moved_item like.items) = omega (arith, mapped-length moved_item like.items, l) in (
+    let m : stands.at < length (map moved_item like.items) = omega (arith, length-map like.items moved_item, l) in (
       record {
         at = stands.at;
         cause_there = ap (λ l. slice_get l stands.at) like.new_plan_is ∙ get-front like.plan like.new_plan stands.at cause in_plan.0 ∙ in_plan.1;
-        item_there = ap (λ l. slice_get l stands.at) like.new_body_is ∙ get-front (map moved_item like.items) like.new_items stands.at (moved_item item) m ∙ get-mapped moved_item like.items stands.at item in_body;
+        item_there = ap (λ l. slice_get l stands.at) like.new_body_is ∙ get-front (map moved_item like.items) like.new_items stands.at (moved_item item) m ∙ map-get moved_item like.items stands.at item in_body;
       },
       get-every like.segments stands.at item in_body,
     )

@@ -13,6 +13,7 @@ use Rattle.bundle_rules.specs.Scopes.{Es, scopes_around}
 use Rattle.bundle_rules.specs.Declarations.{Way, Reading, name_of, Declared, way_of, is_nameless_default, declared_by, declaration_of, nameless_default, declared_at, declared_from}
 use Rattle.bundle_rules.specs.Denotes.{Denoted, Bound, Global, denoted_in, own_or_found, denoted_of}
 use Rattle.bundle_rules.specs.Callable.{Every, none, more, IsTaken, is_module_head, AreStatements, over, begun, ended, named, empty}
+use Rattle.bundle_merge_joined.proofs.joined.Paths.{cons_option-map}
 use Rattle.bundle_merge_whole.specs.called.Moved.{moved_denoted, moved_declared, is_module_way, AreFair, IsSeated}
 use Rattle.bundle_merge_whole.specs.called.Called.{around, IsMoved, within, IsMovedSpot}
 use Rattle.bundle_merge_whole.proofs.called.Homes.{home-moved, denoted_in-moved}
@@ -126,11 +127,6 @@ declared-alike reading neither = refl
 declared-alike reading (both place its x ctxt role at moved) =
     declaration-moved moved reading place its x ctxt role at
 
-cons_option-map : {A B : Type 0} (f : A → B) (o : Option A) (xs : List A) →
-    cons_option (option_map f o) (map f xs) ≡ map f (cons_option o xs)
-cons_option-map f None xs = refl
-cons_option-map f (Some x) xs = refl
-
 pub declared-moved : {is_async : Bool} (reading : Reading) {depth : ℕ} {items : List Item} →
     AreStatements depth items → {s t : Spot} → IsMovedSpot is_async depth s t →
     (after its : List Item) → declared_from reading Es (fold past s items) after ≡ [] →
@@ -159,7 +155,7 @@ later (Some x) xs (more here each) = each
 first : {A : Type 0} {P : A → Type 0} (x : A) (xs : List A) → Every P (x ∷ xs) → P x
 first x xs (more here each) = here
 
-consed : {A : Type 0} {P : A → Type 0} (o : Option A) (xs : List A) → ((x : A) → o ≡ Some x → P x) →
+pub consed : {A : Type 0} {P : A → Type 0} (o : Option A) (xs : List A) → ((x : A) → o ≡ Some x → P x) →
     Every P xs → Every P (cons_option o xs)
 consed None xs here each = each
 consed (Some x) xs here each = more (here x refl) each

@@ -12,6 +12,7 @@ use Rattle.bundle_rules.specs.Cleared.{cleared_head}
 use Rattle.bundle_rules.specs.Shorthands.{ends_at, has_default, is_shorthand_in_pattern, symbol_of}
 use Rattle.bundle_rules.specs.Marks.{MarkOf, Begins, Ends, word_key, begin_marks, end_marks, name_marks}
 use Rattle.bundle_rules.specs.Callable.{AreStatements, over, begun, ended, named, empty, module_with}
+use Rattle.bundle_merge_meaning.proofs.noted.ListFacts.{drop-next}
 use Rattle.bundle_merge_whole.specs.called.Called.{around, called_path, moved_around, IsMoved, outside, within, call_with, module_start, Roots, rooted, deeper}
 use Rattle.bundle_merge_whole.proofs.called.Paths.{in_field-moved}
 use Rattle.bundle_merge_whole.proofs.called.Lists.{at}
@@ -51,13 +52,6 @@ path_to-roots roots (h.Open field head) = in_field-roots roots field
 path_to-roots roots (h.Ident field x ctxt role) = in_field-roots roots field
 path_to-roots roots (h.Hole field) = in_field-roots roots field
 path_to-roots roots h.Close = roots
-
-drop-next : {A : Type 0} (xs : List A) (b : ℕ) (x : A) (rest : List A) → drop b xs ≡ x ∷ rest →
-    drop (suc b) xs ≡ rest
-drop-next [] zero x rest e = cc
-drop-next [] (suc b) x rest e = cc
-drop-next (y ∷ xs) zero x rest e = cc
-drop-next (y ∷ xs) (suc b) x rest e = drop-next xs b x rest e
 
 -- what holds where each node begins holds of the nodes around each place
 roots-at : {P : Head → ℕ → Type 0} (stmts : List Item) →

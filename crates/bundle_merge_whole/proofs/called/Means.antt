@@ -6,6 +6,7 @@ use Rattle.std.specs.Bool.{Decides}
 use Rattle.std.proofs.lemmas.Bool.{le-leb, leb-true, lt-leb}
 use Rattle.std.proofs.lemmas.Bool.Decides.{same_from_decides, Decides-ltb}
 use Rattle.std.proofs.lemmas.Option.{none-some, same_Some, slice_get_within}
+use Rattle.std.proofs.lemmas.List.{length-map}
 use Rattle.bundle_tree_piece.specs.declared.piece.Role.TheVariants as r
 use Rattle.bundle_tree_piece.specs.Item as h
 use Rattle.bundle_tree_piece.specs.Item.{Item, Head}
@@ -22,6 +23,7 @@ use Rattle.bundle_rules.specs.Meaning.{Label, Meant, Mark, View, denoted, is_ins
 use Rattle.bundle_rules.specs.Marks.{Begins, Ends, Name, computed_key, word_key, object_key, begin_marks, end_marks, name_marks}
 use Rattle.bundle_rules.specs.Shorthands.{is_object}
 use Rattle.bundle_rules.specs.Callable.{Every, none, more, AreStatements, module_with}
+use Rattle.bundle_merge_joined.proofs.joined.Paths.{cons_option-map}
 use Rattle.bundle_merge_whole.specs.called.Moved.{moved_denoted, AreFair, top, inner, IsFair, IsSeated}
 use Rattle.bundle_merge_whole.specs.called.Called.{call_with, AreTwins}
 use Rattle.bundle_merge_whole.proofs.called.Homes.{same-moved, home-fair}
@@ -217,21 +219,12 @@ at_or_len-map p q f P same (more {x} {xs} here later) =
     ap₂ (λ (t : Bool) (n : ℕ). cond (not t) (1 + n) 0) (same x here)
     (at_or_len-map p q f P same later)
 
-length-map : {A B : Type 0} (f : A → B) (xs : List A) → length (map f xs) ≡ length xs
-length-map f [] = refl
-length-map f (x ∷ xs) = ap suc (length-map f xs)
-
 pub position-map : {A B : Type 0} (p : B → Bool) (q : A → Bool) (f : A → B) (P : A → Type 0) →
     ((x : A) → P x → p (f x) ≡ q x) → {xs : List A} → Every P xs →
     position p (map f xs) ≡ position q xs
 position-map p q f P same {xs} each =
     ap₂ (λ (n : ℕ) (k : ℕ). cond (nat_lt n k) (Some n) None) (at_or_len-map p q f P same each)
-    (length-map f xs)
-
-cons_option-map : {A B : Type 0} (f : A → B) (o : Option A) (xs : List A) →
-    cons_option (option_map f o) (map f xs) ≡ map f (cons_option o xs)
-cons_option-map f None xs = refl
-cons_option-map f (Some x) xs = refl
+    (length-map xs f)
 
 -- what is denoted by an element that is moved
 abbrev pub IsFollowed : (f g : Element → Option Denoted) → Element → Type 0
@@ -344,9 +337,9 @@ abbrev pub IsPlainMark : Mark → Type 0
 IsPlainMark (Name field meant) = IsPlainMeant meant
 IsPlainMark _ = Unit {0}
 
-every-behind : {A : Type 0} {P : A → Type 0} (xs ys : List A) → Every P (xs ++ ys) → Every P ys
-every-behind [] ys each = each
-every-behind (x ∷ xs) ys (more here later) = every-behind xs ys later
+pub every-rest : {A : Type 0} {P : A → Type 0} (xs ys : List A) → Every P (xs ++ ys) → Every P ys
+every-rest [] ys each = each
+every-rest (x ∷ xs) ys (more here later) = every-rest xs ys later
 
 name_mark-plain : (field : ℕ) (path : List Around) (x : Text) (meant : Meant) (rest : List Mark) →
     Every IsPlainMark (name_marks field path x meant ++ rest) → IsPlainMeant meant
@@ -424,12 +417,12 @@ pub plain-elements : (reading : Reading) (stmts after : List Item) (labels : Lab
     Every (IsPlain (old_view reading stmts after)) es
 plain-elements reading stmts after labels each m.finished placed marks = none
 plain-elements reading stmts after labels each (m.replaced by e rest) placed marks = absurd e
-plain-elements reading stmts after labels each (m.begun {place} {field} {head} {marks = others} e rest) (more here placed) marks = more (plain-none (no-name reading after (taken place (h.Open field head)) here (λ spot. refl))) (plain-elements reading stmts after labels each rest placed (every-behind (begin_marks (module_with stmts after) place field (path_at (module_with stmts after) place) head) others marks))
-plain-elements reading stmts after labels each (m.ended {place} {marks = others} rest) (more here placed) marks = more (plain-none (no-name reading after (taken place h.Close) here (λ spot. refl))) (plain-elements reading stmts after labels each rest placed (every-behind (end_marks (module_with stmts after) (path_at (module_with stmts after) place)) others marks))
+plain-elements reading stmts after labels each (m.begun {place} {field} {head} {marks = others} e rest) (more here placed) marks = more (plain-none (no-name reading after (taken place (h.Open field head)) here (λ spot. refl))) (plain-elements reading stmts after labels each rest placed (every-rest (begin_marks (module_with stmts after) place field (path_at (module_with stmts after) place) head) others marks))
+plain-elements reading stmts after labels each (m.ended {place} {marks = others} rest) (more here placed) marks = more (plain-none (no-name reading after (taken place h.Close) here (λ spot. refl))) (plain-elements reading stmts after labels each rest placed (every-rest (end_marks (module_with stmts after) (path_at (module_with stmts after) place)) others marks))
 plain-elements reading stmts after labels each (m.empty {place} {field} rest) (more here placed) (more _ marks) = more (plain-none (no-name reading after (taken place (h.Hole field)) here (λ spot. refl))) (plain-elements reading stmts after labels each rest placed marks)
 plain-elements reading stmts after labels each (m.named {place} {field} {ctxt} {sym = x} {marks = others} d meant e means rest) (more here placed) marks =
     more (λ is. plain-name each means (name_mark-plain field (path_at (module_with stmts after) place) x meant others marks) (same_Some d _ (sym e ∙ is)))
-    (plain-elements reading stmts after labels each rest placed (every-behind (name_marks field (path_at (module_with stmts after) place) x meant) others marks))
+    (plain-elements reading stmts after labels each rest placed (every-rest (name_marks field (path_at (module_with stmts after) place) x meant) others marks))
 plain-elements reading stmts after labels each (m.word {place} {field} {ctxt} {sym = x} rest) (more here placed) (more _ marks) = more (plain-none (no-name reading after (taken place (h.Ident field x ctxt r.Word)) here (λ spot. refl))) (plain-elements reading stmts after labels each rest placed marks)
 plain-elements reading stmts after labels each (m.adds_begin rest) (more here placed) marks =
     elim here [ ]

@@ -11,6 +11,8 @@ use Rattle.bundle_rules.specs.Injected.{is_ascii_identifier}
 use Rattle.bundle_rules.specs.Rebuilds.{plain_key}
 use Rattle.bundle_rules.specs.Forms.{returned_key, returned_property, returned_object, exported_pairs, function_body}
 use Rattle.bundle_rules.specs.Callable.{Every, none, more, AreStatements, ExportedName, word, text, Specifier, name_items, specifier_items, export_items}
+use Rattle.bundle_merge_joined.proofs.joined.Paths.{flat-append}
+use Rattle.bundle_merge_joined.proofs.grouped.WholeLemmas.{put_all, put_all-cons}
 use Rattle.bundle_merge_whole.proofs.called.Sides.{sides-flat, sides-append, no-lists, IsNoList}
 
 -- whole nodes
@@ -40,14 +42,9 @@ abbrev up : ℕ → ℕ → ℕ
 up zero n = n
 up (suc k) n = suc (up k n)
 
-put_all : List Item → List (List Item) → List (List Item)
-put_all [] lists = lists
-put_all (x ∷ xs) lists = put_first x (put_all xs lists)
-
 -- in a node that is open
 whole-inner : {depth : ℕ} {xs : List Item} → AreWhole depth xs → (d : ℕ) (rest : List Item) →
     side_by_side (up depth (suc d)) (xs ++ rest) ≡ put_all xs (side_by_side (suc d) rest)
-unfolding put_all
 whole-inner w_over d rest = refl
 whole-inner (w_begun {field} {head} inner) d rest =
     ap (put_first (h.Open field head)) (whole-inner inner d rest)
@@ -60,12 +57,6 @@ whole-inner (w_named {depth = zero} {field} {ctxt} {x} {role} inner) d rest =
 whole-inner (w_named {depth = suc depth} {field} {ctxt} {x} {role} inner) d rest =
     ap (put_first (h.Ident field x ctxt role)) (whole-inner inner d rest)
 
-put_all-front : (xs ys : List Item) (lists : List (List Item)) →
-    put_all xs (ys ∷ lists) ≡ (xs ++ ys) ∷ lists
-unfolding put_all
-put_all-front [] ys lists = refl
-put_all-front (x ∷ xs) ys lists = ap (put_first x) (put_all-front xs ys lists)
-
 -- one node
 node-alone : (field : ℕ) (head : Head) {inside : List Item} → AreWhole zero inside →
     (rest : List Item) →
@@ -73,7 +64,7 @@ node-alone : (field : ℕ) (head : Head) {inside : List Item} → AreWhole zero 
     (h.Open field head ∷ (inside ++ h.Close ∷ [])) ∷ side_by_side zero rest
 node-alone field head {inside} whole rest =
     ap (put_first (h.Open field head))
-    (whole-inner whole zero (h.Close ∷ rest) ∙ put_all-front inside (h.Close ∷ []) (side_by_side zero rest))
+    (whole-inner whole zero (h.Close ∷ rest) ∙ put_all-cons inside (h.Close ∷ []) (side_by_side zero rest))
 
 name-whole : (name : Option ExportedName) → AreWhole zero (name_items name)
 name-whole None = w_over
@@ -170,11 +161,6 @@ pub body-sides : {stmts : List Item} → AreStatements zero stmts → (pairs : L
 body-sides {stmts} statements pairs =
     ap (λ l. side_by_side zero (stmts ++ l)) (sym (append-nil (returned_object pairs)))
     ∙ sides-followed statements pairs []
-
-flat-append : (lists others : List (List Item)) → flat (lists ++ others) ≡ flat lists ++ flat others
-flat-append [] others = refl
-flat-append (xs ∷ lists) others =
-    ap (λ l. xs ++ l) (flat-append lists others) ∙ sym (append_assoc xs (flat lists) (flat others))
 
 -- the body stands whole in the function
 pub body-whole : {stmts : List Item} → AreStatements zero stmts → (pairs : List (Text × Ident)) →

@@ -6,7 +6,6 @@ use Rattle.std.specs.List.{cons_option, list_any}
 use Rattle.std.proofs.lemmas.Bool.{false≢true, and_parts}
 use Rattle.std.proofs.lemmas.Option.{none-some, same_Some, slice_get_within}
 use Rattle.std.proofs.lemmas.Slice.Eq.{bytes_eq-Decides}
-use Rattle.bundle_tree_piece.specs.declared.piece.Role.TheVariants as r
 use Rattle.bundle_tree_piece.specs.Item as h
 use Rattle.bundle_tree_piece.specs.Item.{Item, Head}
 use Rattle.bundle_rules.specs.Places.{Around, Spot, past, start, spot_before, Occurrence, occurrence_of, occurrence_at, occurrences_from}
@@ -23,6 +22,7 @@ use Rattle.bundle_rules.specs.Marks.{Begins, Ends, Empty, Name, Word, word_key, 
 use Rattle.bundle_rules.specs.Shorthands.{has_default, is_shorthand_in_pattern, is_object}
 use Rattle.bundle_rules.specs.Injected as j
 use Rattle.bundle_rules.specs.Callable.{Every, none, more}
+use Rattle.bundle_merge_meaning.proofs.walked.Denoting.{occurrence_place}
 use Rattle.bundle_merge_whole.proofs.called.Means.{IsPlainMeant, IsPlainMark}
 
 -- Lists of marks.
@@ -249,17 +249,6 @@ occurs test spot (x ∷ xs) (suc k) o e is =
     by None rest = rest
     by (Some it) rest = ap (λ t. test it || t) rest ∙ or_later (test it)
 
-occurs-at : (spot : Spot) (x : Item) (o : Occurrence) → occurrence_of spot x ≡ Some o →
-    o.place ≡ spot.place
-occurs-at spot (h.Ident field x ctxt r.Binding) o e =
-    ap (λ (z : Occurrence). z.place) (sym (same_Some _ o e))
-occurs-at spot (h.Ident field x ctxt r.Reference) o e =
-    ap (λ (z : Occurrence). z.place) (sym (same_Some _ o e))
-occurs-at spot (h.Ident field x ctxt r.Word) o e = absurd (none-some o e)
-occurs-at spot (h.Open field head) o e = absurd (none-some o e)
-occurs-at spot (h.Hole field) o e = absurd (none-some o e)
-occurs-at spot h.Close o e = absurd (none-some o e)
-
 spot-place : (spot : Spot) (xs : List Item) (k : ℕ) → k < length xs →
     (fold past spot (take k xs)).place ≡ spot.place + k
 spot-place spot [] k l = absurd (omega arith)
@@ -275,7 +264,7 @@ occurrence-place tree place o e = by (slice_get tree place) refl e
     by None there is = absurd (none-some o is)
     by (Some x) there is =
         let l : place < length tree = slice_get_within tree place x there in
-        let a : o.place ≡ (spot_before tree place).place = occurs-at (spot_before tree place) x o is in
+        let a : o.place ≡ (spot_before tree place).place = occurrence_place (spot_before tree place) x o is in
         let b : (spot_before tree place).place ≡ 0 + place = spot-place start tree place l in
         omega (arith, a, b)
 

@@ -1,8 +1,9 @@
 -- An item of statements stands for its cause in the function too.
-use Rattle.std.proofs.Common.{◌≡◌, ℕ, zero, suc, ◌+◌, ◌<◌, Bool, true, false, List, [], ◌∷◌, ◌++◌, Some, length, map, refl, ap, sym, ◌∙◌, subst, arith, codes}
+use Rattle.std.proofs.Common.{◌≡◌, ℕ, zero, ◌+◌, ◌<◌, Bool, true, false, List, [], ◌∷◌, ◌++◌, Some, length, map, refl, ap, sym, ◌∙◌, subst, arith, codes}
 use Rattle.std.specs.Prelude.{if◌then◌else◌}
 use Rattle.std.specs.List.{AllZip}
 use Rattle.std.proofs.lemmas.Bool.{false≢true}
+use Rattle.std.proofs.lemmas.List.{length-map, map-append}
 use Rattle.bundle_tree_piece.specs.Item.{Item}
 use Rattle.bundle_rules.specs.Scopes.{ModuleKind}
 use Rattle.bundle_rules.specs.Declarations.{Reading, BySymbol}
@@ -20,8 +21,8 @@ use Rattle.bundle_rules.specs.Bundle.{Form, AsModule, AsCall, form_of, Cause, Is
 use Rattle.bundle_rules.specs.Callable.{Every, none, more, module_with, StatesNoExports}
 use Rattle.bundle_merge_whole.specs.called.Called.{AreTwins, call_with}
 use Rattle.bundle_tree_names.specs.FileName.{real}
-use Rattle.bundle_merge_whole.proofs.called.Means.{IsPlaced, moved_element, moved_labels, IsPlainMark, plain-elements, means-moved, statement-moved}
-use Rattle.bundle_merge_whole.proofs.called.Sides.{IsNoList, moved_item, taken-moved, placed-moved, placed-items, placed-positive, every-front, every-rest, sides-front}
+use Rattle.bundle_merge_whole.proofs.called.Means.{IsPlaced, moved_element, moved_labels, IsPlainMark, plain-elements, means-moved, statement-moved, every-both, every-rest}
+use Rattle.bundle_merge_whole.proofs.called.Sides.{IsNoList, moved_item, taken-moved, placed-moved, placed-items, placed-positive, every-front, sides-front}
 use Rattle.bundle_merge_whole.proofs.called.Plain
 use Rattle.bundle_merge_whole.proofs.called.Plain.{marks-plain, free-nowhere, arguments-bound}
 use Rattle.bundle_merge_whole.proofs.called.Firsts.{list-meant, begins-item}
@@ -104,20 +105,6 @@ zip-map R S f on (more here later) [] zip = absurd zip
 zip-map R S f on (more {x} here later) (y ∷ ys) zip =
     (on x y here zip.0, zip-map R S f on later ys zip.1)
 
-map-join : (xs ys : List Element) →
-    map moved_element (xs ++ ys) ≡ map moved_element xs ++ map moved_element ys
-map-join [] ys = refl
-map-join (x ∷ xs) ys = ap (λ l. moved_element x ∷ l) (map-join xs ys)
-
-map-length : (xs : List Element) → length (map moved_element xs) ≡ length xs
-map-length [] = refl
-map-length (x ∷ xs) = ap suc (map-length xs)
-
-pair-up : {A : Type 0} {P Q R : A → Type 0} → ((x : A) → P x → Q x → R x) → {xs : List A} →
-    Every P xs → Every Q xs → Every R xs
-pair-up join none none = none
-pair-up join (more {x} a others) (more b its) = more (join x a b) (pair-up join others its)
-
 load-moved : {p : Program} {reading : Reading} {is_async : Bool} {stmts after its : List Item} →
     IsScene p reading is_async stmts after its → (labels : Labelling) (c : ℕ) → IsReached p c →
     {item : TopItem} → IsInPlace stmts item →
@@ -127,11 +114,11 @@ load-moved {p} {reading} {is_async} {stmts} {after} {its} scene labels c reached
   front = map moved_element load.front;
   inside = load.inside;
   back = map moved_element load.back;
-  is = taken-moved item.start item.items ∙ ap (map moved_element) load.is ∙ map-join load.front (taken_from at load.inside ++ load.back) ∙ ap (λ l. map moved_element load.front ++ l) (map-join (taken_from at load.inside) load.back ∙ ap (λ l. l ++ map moved_element load.back) (sym (taken-moved at load.inside) ∙ ap (λ k. taken_from k load.inside) new_at));
+  is = taken-moved item.start item.items ∙ ap (map moved_element) load.is ∙ map-append moved_element load.front (taken_from at load.inside ++ load.back) ∙ ap (λ l. map moved_element load.front ++ l) (map-append moved_element (taken_from at load.inside) load.back ∙ ap (λ l. l ++ map moved_element load.back) (sym (taken-moved at load.inside) ∙ ap (λ k. taken_from k load.inside) new_at));
   front_means = means-moved scene.twins labels none load.front_means front_placed (plain-elements reading stmts after labels none load.front_means front_placed (Plain.front-plain c));
-  front_length = map-length load.front ∙ load.front_length;
+  front_length = length-map load.front moved_element ∙ load.front_length;
   back_means = means-moved scene.twins labels none load.back_means back_placed (plain-elements reading stmts after labels none load.back_means back_placed Plain.back-plain);
-  back_length = map-length load.back ∙ load.back_length;
+  back_length = length-map load.back moved_element ∙ load.back_length;
   whole = load.whole;
   statements = subst (λ items. AllZip (SameMeaning p (new_bundle reading is_async stmts its labels) c) items (own_statements (tree_of p c))) (sym (placed-moved at (side_by_side zero load.inside)) ∙ ap (λ k. placed k (side_by_side zero load.inside)) new_at) (zip-map (SameMeaning p (old_bundle reading stmts after labels) c) (SameMeaning p (new_bundle reading is_async stmts its labels) c) moved_item (λ it statement inside same. same-moved scene labels c reached inside statement same) items_placed (own_statements (tree_of p c)) load.statements);
 }
@@ -141,7 +128,7 @@ load-moved {p} {reading} {is_async} {stmts} {after} {its} scene labels c reached
 
     new_at : item.start + length load.front + 6 ≡
         item.start + 6 + length (map moved_element load.front)
-    new_at = omega (arith, map-length load.front)
+    new_at = omega (arith, length-map load.front moved_element)
 
     whole : Every (IsPlaced stmts)
         (load.front ++ (taken_from (item.start + length load.front) load.inside ++ load.back))
@@ -173,11 +160,11 @@ load-moved {p} {reading} {is_async} {stmts} {after} {its} scene labels c reached
         (placed (item.start + length load.front) (side_by_side zero load.inside))
     items_placed =
         let r = sides-front zero load.inside in
-        pair-up (λ it elements begins. record { positive = begins; elements = elements })
+        every-both (λ it elements begins. record { positive = begins; elements = elements })
         (placed-items (item.start + length load.front) (side_by_side zero load.inside) r.0 (subst (λ l. Every (IsPlaced stmts) (taken_from (item.start + length load.front) l)) r.1 inside_placed))
         (placed-positive (item.start + length load.front) positive (side_by_side zero load.inside))
 
-due-own : {p : Program} {form : Form} {n k : ℕ} → IsDue p form (b.Own n k) → IsReached p n
+pub due-own : {p : Program} {form : Form} {n k : ℕ} → IsDue p form (b.Own n k) → IsReached p n
 due-own (b.own reached es l) = reached
 
 due-defines : {p : Program} {form : Form} {c : ℕ} → IsDue p form (b.Defines c) → IsReached p c

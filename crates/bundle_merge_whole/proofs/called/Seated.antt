@@ -14,10 +14,10 @@ use Rattle.bundle_rules.specs.Places.{Around, Spot, in_field, outer_path, past}
 use Rattle.bundle_rules.specs.Scopes.{Es, Scope, ScopeKind, Top, Inner, Parameters, ArrowParameters, Loop, Catch, FunctionName, ClassName, is_default, kind_of_scope, scope_at, scopes_around}
 use Rattle.bundle_rules.specs.Declarations.{Way, ByImport, ByVar, ByLet, ByConst, ByLoop, ByFunction, ByFunctionName, ByClass, ByClassName, ByParameter, ByCatch, Reading, name_of, Declared, is_pattern, is_loop_head, heads_loop, way_of, way_in, way_of_declarator, way_of_variable, way_of_kind, declared_by, declared_at, declared_from}
 use Rattle.bundle_rules.specs.Homes.{takes, from_taker, nearest}
-use Rattle.bundle_rules.specs.Callable.{Every, none, more, IsTaken, HasName, AreStatements, over, begun, ended, named, empty, module_with, IsBack, CanBeCalled}
+use Rattle.bundle_rules.specs.Callable.{Every, none, IsTaken, HasName, AreStatements, over, begun, ended, named, empty, module_with, IsBack, CanBeCalled}
 use Rattle.bundle_merge_whole.specs.called.Called.{around, module_start}
 use Rattle.bundle_merge_whole.specs.called.Within.{is_setter_key, has_parameters, may_hold, may_name, AreIn, no_more, a_name, a_hole, a_node}
-use Rattle.bundle_merge_whole.proofs.called.Lists.{open-declares}
+use Rattle.bundle_merge_whole.proofs.called.Lists.{open-declares, consed}
 use Rattle.bundle_merge_whole.proofs.called.Bindless.{nothing-declared, back-bindless}
 
 -- Whole nodes.
@@ -298,11 +298,6 @@ taken-name reading s seated field x ctxt r.Binding may rest d e =
         IsTaken d
     by None held is = absurd (none-some d is)
     by (Some way) held is = record { taken = subst (λ (z : Declared). is_some (nearest (from_taker z.by z.scopes)) ≡ true) (same_Some _ d is) (held way refl) }
-
-consed : {A : Type 0} {P : A → Type 0} (o : Option A) (xs : List A) → ((x : A) → o ≡ Some x → P x) →
-    Every P xs → Every P (cons_option o xs)
-consed None xs here each = each
-consed (Some x) xs here each = more (here x refl) each
 
 each-taken : (reading : Reading) {parent : Head} {xs : List Item} → AreIn parent xs →
     {heads : List Head} (s : Spot) → AreSeated (parent ∷ heads) s.path → (rest : List Item) →

@@ -9,7 +9,8 @@ use Rattle.bundle_rules.specs.Statements.{TopItem, placed, Element, taken, taken
 use Rattle.bundle_rules.specs.Bundle.{elements_of}
 use Rattle.bundle_rules.specs.Forms.{is_export_list}
 use Rattle.bundle_rules.specs.Callable.{Every, none, more, is_module_head, AreStatements, over, begun, ended, named, empty}
-use Rattle.bundle_merge_whole.proofs.called.Means.{IsPlaced, placed_at, moved_element}
+use Rattle.bundle_merge_meaning.proofs.noted.ListFacts.{drop-next}
+use Rattle.bundle_merge_whole.proofs.called.Means.{IsPlaced, placed_at, moved_element, every-rest}
 
 first-flat : (x : Item) (lists : List (List Item)) → flat (put_first x lists) ≡ x ∷ flat lists
 first-flat x [] = refl
@@ -124,14 +125,7 @@ sides-append (empty {depth = suc depth} {field} inner) ys =
 
 -- Elements in their places.
 
-drop-next : {A : Type 0} (xs : List A) (b : ℕ) (x : A) (rest : List A) → drop b xs ≡ x ∷ rest →
-    drop (suc b) xs ≡ rest
-drop-next [] zero x rest e = cc
-drop-next [] (suc b) x rest e = cc
-drop-next (y ∷ xs) zero x rest e = cc
-drop-next (y ∷ xs) (suc b) x rest e = drop-next xs b x rest e
-
-get-there : {A : Type 0} (xs : List A) (b : ℕ) (x : A) (rest : List A) → drop b xs ≡ x ∷ rest →
+pub get-there : {A : Type 0} (xs : List A) (b : ℕ) (x : A) (rest : List A) → drop b xs ≡ x ∷ rest →
     slice_get xs b ≡ Some x
 get-there [] zero x rest e = absurd cc
 get-there [] (suc b) x rest e = absurd cc
@@ -148,10 +142,6 @@ placed-elements stmts j (x ∷ xs) ys e =
 pub every-front : {A : Type 0} {P : A → Type 0} (xs ys : List A) → Every P (xs ++ ys) → Every P xs
 every-front [] ys each = none
 every-front (x ∷ xs) ys (more here later) = more here (every-front xs ys later)
-
-pub every-rest : {A : Type 0} {P : A → Type 0} (xs ys : List A) → Every P (xs ++ ys) → Every P ys
-every-rest [] ys each = each
-every-rest (x ∷ xs) ys (more here later) = every-rest xs ys later
 
 pub taken-append : (start : ℕ) (xs ys : List Item) →
     taken_from start (xs ++ ys) ≡ taken_from start xs ++ taken_from (start + length xs) ys

@@ -19,27 +19,15 @@ use Rattle.bundle_rules.specs.Meaning.{Meant, Mark, NameMeans, Means, Labelling,
 use Rattle.bundle_rules.specs.Marks.{MarkOf, Begins, Ends, Name, Word, begin_marks, end_marks, name_marks}
 use Rattle.bundle_rules.specs.Shorthands.{has_default, is_shorthand_in_pattern, is_object}
 use Rattle.bundle_rules.specs.Callable.{module_with}
+use Rattle.bundle_merge_meaning.proofs.noted.ListFacts.{drop-next}
 use Rattle.bundle_merge_whole.specs.called.Called.{call_with, module_start, call_start}
 use Rattle.bundle_merge_whole.proofs.called.MarksMoved.{other-head}
+use Rattle.bundle_merge_whole.proofs.called.Sides.{get-there}
 
 -- what is left of a list from a place on, and the spot there
 pub record IsAt (list : List Item) (j : ℕ) (s : Spot) (items : List Item) : Type 0 where
   pub left : drop j list ≡ items
   pub spot : spot_before list j ≡ s
-
-drop-next : {A : Type 0} (xs : List A) (b : ℕ) (x : A) (rest : List A) → drop b xs ≡ x ∷ rest →
-    drop (suc b) xs ≡ rest
-drop-next [] zero x rest e = cc
-drop-next [] (suc b) x rest e = cc
-drop-next (y ∷ xs) zero x rest e = cc
-drop-next (y ∷ xs) (suc b) x rest e = drop-next xs b x rest e
-
-get-there : {A : Type 0} (xs : List A) (b : ℕ) (x : A) (rest : List A) → drop b xs ≡ x ∷ rest →
-    slice_get xs b ≡ Some x
-get-there [] zero x rest e = absurd cc
-get-there [] (suc b) x rest e = absurd cc
-get-there (y ∷ xs) zero x rest e = cc
-get-there (y ∷ xs) (suc b) x rest e = get-there xs b x rest e
 
 take-next : {A : Type 0} (xs : List A) (b : ℕ) (x : A) (rest : List A) → drop b xs ≡ x ∷ rest →
     take (suc b) xs ≡ take b xs ++ x ∷ []

@@ -7,16 +7,10 @@ use Rattle.bundle_rules.specs.Scopes.{Es}
 use Rattle.bundle_rules.specs.Declarations.{Reading, Declared, declaration_of, declared}
 use Rattle.bundle_rules.specs.Denotes.{Global, denoted_of, denoted_at}
 use Rattle.bundle_rules.specs.Callable.{Every, AreStatements, module_with}
+use Rattle.bundle_merge_meaning.proofs.noted.ListFacts.{get-front}
 use Rattle.bundle_merge_whole.specs.called.Moved.{moved_denoted, moved_declared, IsSeated}
 use Rattle.bundle_merge_whole.specs.called.Called.{outside, IsMovedSpot, call_with, module_start, call_start, AreTwins}
 use Rattle.bundle_merge_whole.proofs.called.Lists.{At, at, AreAlike, occurrence-moved, declared-moved, seats, declared-there, denoted-alike}
-
--- an element of a list's front
-pub get-front : {A : Type 0} (xs ys : List A) (k : ℕ) → k < length xs →
-    slice_get (xs ++ ys) k ≡ slice_get xs k
-get-front [] ys k l = absurd (omega arith)
-get-front (x ∷ xs) ys zero l = refl
-get-front (x ∷ xs) ys (suc k) l = get-front xs ys k (omega arith)
 
 pub take-front : {A : Type 0} (xs ys : List A) (k : ℕ) → k ≤ length xs →
     take k (xs ++ ys) ≡ take k xs

@@ -1,10 +1,11 @@
 -- What is declared once in the module is declared once in the function.
-use Rattle.std.proofs.Common.{◌≡◌, ℕ, zero, suc, ◌+◌, ◌<◌, Bool, true, false, cond, not, ◌&&◌, ◌||◌, List, [], ◌∷◌, ◌++◌, Some, None, map, take, find, unwrap_or, refl, ap, ap₂, sym, ◌∙◌, subst, arith}
+use Rattle.std.proofs.Common.{◌≡◌, ℕ, zero, ◌+◌, ◌<◌, Bool, true, false, cond, not, ◌&&◌, ◌||◌, List, [], ◌∷◌, ◌++◌, Some, None, map, find, unwrap_or, refl, ap, ap₂, sym, ◌∙◌, subst, arith}
 use Rattle.std.specs.Prelude.{◌==◌, nat_lt, take_while}
-use Rattle.std.specs.List.{list_any, prefix_len}
+use Rattle.std.specs.List.{list_any}
 use Rattle.std.proofs.lemmas.Bool.{false≢true, and_parts, and_from}
 use Rattle.std.proofs.lemmas.Bool.Decides.{same_from_decides, Decides-eqb, Decides-ltb}
 use Rattle.std.proofs.lemmas.Option.{none-some}
+use Rattle.std.proofs.lemmas.List.Sums.{take_while-cons}
 use Rattle.bundle_tree_piece.specs.Item as h
 use Rattle.bundle_tree_piece.specs.Item.{Item}
 use Rattle.bundle_rules.specs.Scopes.{Es, Scope, ScopeKind, Inner, Parameters, FunctionBody, StaticBody, CatchBlock, same_scope}
@@ -117,15 +118,6 @@ stands-less a b seated its e =
 
 -- Scopes on the way up.
 
-while-cons : {A : Type 0} (p : A → Bool) (x : A) (xs : List A) →
-    take_while p (x ∷ xs) ≡ cond (p x) (x ∷ take_while p xs) []
-while-cons p x xs = by (p x)
-  where
-    by : (t : Bool) →
-        take (cond t (1 + prefix_len p xs) 0) (x ∷ xs) ≡ cond t (x ∷ take (prefix_len p xs) xs) []
-    by true = let n : 1 + prefix_len p xs ≡ suc (prefix_len p xs) = omega arith in ap (λ k. take k (x ∷ xs)) n
-    by false = refl
-
 passed-less : (b : Declared) → IsSeated b → {scopes : List Scope} → AreFair scopes →
     list_any (same_scope (taker (moved_declared b)))
     (take_while (λ scope. not (takes ByVar scope)) (moved_scopes scopes)) ≡
@@ -133,9 +125,9 @@ passed-less : (b : Declared) → IsSeated b → {scopes : List Scope} → AreFai
     list_any (same_scope (taker b)) (take_while (λ scope. not (takes ByVar scope)) scopes) ≡ true
 passed-less b seated top e = absurd (false≢true e)
 passed-less b seated (inner {kind} {begins} {outer} positive fair) e =
-    ap (list_any (same_scope (taker b))) (while-cons (λ scope. not (takes ByVar scope)) (Inner kind begins) outer)
+    ap (list_any (same_scope (taker b))) (take_while-cons (λ scope. not (takes ByVar scope)) (Inner kind begins) outer)
     ∙ by (takes ByVar (Inner kind begins)) (passed-less b seated fair)
-    (sym (ap (list_any (same_scope (taker (moved_declared b)))) (while-cons (λ scope. not (takes ByVar scope)) (Inner kind (begins + 6)) (moved_scopes outer) ∙ ap (λ t. cond (not t) (Inner kind (begins + 6) ∷ take_while (λ scope. not (takes ByVar scope)) (moved_scopes outer)) []) (takes-at ByVar kind (begins + 6) begins))) ∙ e)
+    (sym (ap (list_any (same_scope (taker (moved_declared b)))) (take_while-cons (λ scope. not (takes ByVar scope)) (Inner kind (begins + 6)) (moved_scopes outer) ∙ ap (λ t. cond (not t) (Inner kind (begins + 6) ∷ take_while (λ scope. not (takes ByVar scope)) (moved_scopes outer)) []) (takes-at ByVar kind (begins + 6) begins))) ∙ e)
   where
     by : (t : Bool) →
         (list_any (same_scope (taker (moved_declared b))) (take_while (λ scope. not (takes ByVar scope)) (moved_scopes outer)) ≡ true → list_any (same_scope (taker b)) (take_while (λ scope. not (takes ByVar scope)) outer) ≡ true)

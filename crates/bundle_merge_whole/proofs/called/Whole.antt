@@ -16,7 +16,7 @@ use Rattle.bundle_rules.specs.Denotes.{Denoted, Bound, Global}
 use Rattle.bundle_rules.specs.Nodes.{Text, side_by_side, flat, parts}
 use Rattle.bundle_rules.specs.Statements.{TopItem, top_items, placed, taken_from}
 use Rattle.bundle_rules.specs.Awaits.{awaits_outside}
-use Rattle.bundle_rules.specs.Program.{Program, IsReached}
+use Rattle.bundle_rules.specs.Program.{Program}
 use Rattle.bundle_rules.specs.Idents.{Ident}
 use Rattle.bundle_rules.specs.Meaning.{Label, Labelling, IsOneToOne}
 use Rattle.bundle_rules.specs.Injected.{NamedTarget, export_list, load_statement, load_front}
@@ -25,20 +25,23 @@ use Rattle.bundle_rules.specs.Forms.{exported_pairs, function_body, returned_obj
 use Rattle.bundle_rules.specs.Bundle as b
 use Rattle.bundle_rules.specs.Bundle.{Form, AsModule, AsCall, form_of, Cause, Exports, IsDue, Hooks, Labelled, ItemMeans, elements_of, AreLinked, Realises, Stars, Chosen, externals, function_front, function_back, HasBody, of_module, of_function, Pairing, labelled, IsPaired, IsLaidOut, IsBundle}
 use Rattle.bundle_rules.specs.Callable.{Every, none, more, IsTaken, AreStatements, module_with, Specifier, export_items, IsBack, nothing, exports, CanBeCalled, begins_list, StatesNoExports}
+use Rattle.bundle_merge_meaning.proofs.noted.ListFacts.{drop-past, first-there, later-there}
+use Rattle.bundle_merge_joined.proofs.grouped.EditLemmas.{zip-append}
 use Rattle.bundle_merge_whole.specs.called.Moved.{moved_denoted}
 use Rattle.bundle_merge_whole.specs.called.Called.{around, called_path, IsMoved, outside, call_with, module_start, call_start, AreTwins}
 use Rattle.bundle_merge_whole.proofs.called.Lists.{behind}
 use Rattle.bundle_merge_whole.proofs.called.Trees.{start-moved}
-use Rattle.bundle_merge_whole.proofs.called.Means.{IsPlaced, is_fair, moved_label, moved_labels, contains-mapped, contains-filtered, every-map}
+use Rattle.bundle_merge_whole.proofs.called.Means.{IsPlaced, is_fair, moved_label, moved_labels, contains-mapped, contains-filtered, every-map, every-both}
 use Rattle.bundle_merge_whole.proofs.called.Sides.{sides-flat, sides-append, no-lists, IsNoList, placed-elements, placed-append, placed-moved, moved_item}
 use Rattle.bundle_merge_whole.proofs.called.Grouped.{IsSegment}
 use Rattle.bundle_merge_whole.proofs.called.Firsts.{first_is_list, list-meant, list-means, begins-item, nothing-meant, front-begins}
-use Rattle.bundle_merge_whole.proofs.called.Realised.{IsScene, old_bundle, new_bundle, IsInPlace, zip-map, realised-moved}
+use Rattle.bundle_merge_whole.proofs.called.Realised.{IsScene, old_bundle, new_bundle, IsInPlace, zip-map, realised-moved, due-own}
 use Rattle.bundle_merge_whole.proofs.called.Spots.{IsAt, module-behind, call-behind}
 use Rattle.bundle_merge_whole.proofs.called.Exported.{Fits, Returns, pair_of, exports-read, object-means, pairs-listed, fits-returns}
 use Rattle.bundle_merge_whole.proofs.called.Bindless.{nothing-declared, object-bindless, back-bindless}
 use Rattle.bundle_merge_whole.proofs.called.Nodes.{body-whole, list-alone, body-plain, body-exports, body-sides}
-use Rattle.bundle_merge_whole.proofs.called.LaidOut.{IsOther, due-on, due-back, behind-due, behind-new, AreLike, blocks-moved, front-moved}
+use Rattle.bundle_merge_whole.proofs.called.LaidOut.{IsOther, due-on, due-back, behind-due, behind-new, AreLike, blocks-moved, front-moved, get-every}
+use Rattle.bundle_merge_whole.proofs.composed.ListFacts.{zip-length}
 
 -- Labels.
 
@@ -101,21 +104,6 @@ labels-one labels one = record {
 
 -- Items in their places.
 
-drop-next : {A : Type 0} (xs : List A) (n : ℕ) (x : A) (rest : List A) → drop n xs ≡ x ∷ rest →
-    drop (suc n) xs ≡ rest
-drop-next [] zero x rest e = cc
-drop-next [] (suc n) x rest e = cc
-drop-next (y ∷ xs) zero x rest e = cc
-drop-next (y ∷ xs) (suc n) x rest e = drop-next xs n x rest e
-
-drop-past : {A : Type 0} (all : List A) (n : ℕ) (xs ys : List A) → drop n all ≡ xs ++ ys →
-    drop (n + length xs) all ≡ ys
-drop-past {A = A} all n [] ys e = let m : n + length {A = A} [] ≡ n = omega arith in ap (λ k. drop k all) m ∙ e
-drop-past all n (x ∷ xs) ys e =
-    let further = drop-past all (suc n) xs ys (drop-next all n x (xs ++ ys) e) in
-    let m : n + length (x ∷ xs) ≡ suc n + length xs = omega arith in
-    ap (λ k. drop k all) m ∙ further
-
 placed-segments : (stmts : List Item) (j : ℕ) (lists : List (List Item)) (rest : List Item) →
     drop j stmts ≡ flat lists ++ rest → Every (IsSegment stmts) (placed (suc j) lists)
 placed-segments stmts j [] rest e = none
@@ -137,11 +125,6 @@ placed-lists start [] none = none
 placed-lists start (xs ∷ lists) (more here later) =
     more here (placed-lists (start + length xs) lists later)
 
-pair-up : {A : Type 0} {P Q R : A → Type 0} → ((x : A) → P x → Q x → R x) → {xs : List A} →
-    Every P xs → Every Q xs → Every R xs
-pair-up join none none = none
-pair-up join (more {x} a others) (more b its) = more (join x a b) (pair-up join others its)
-
 -- an item of the statements
 record IsStatement (stmts : List Item) (item : TopItem) : Type 0 where
   segment : IsSegment stmts item
@@ -150,18 +133,11 @@ record IsStatement (stmts : List Item) (item : TopItem) : Type 0 where
 statement-items : {stmts : List Item} → AreStatements zero stmts →
     Every (IsStatement stmts) (placed 1 (side_by_side zero stmts))
 statement-items {stmts} statements =
-    pair-up (λ item segment no_list. record { segment = segment; no_list = no_list })
+    every-both (λ item segment no_list. record { segment = segment; no_list = no_list })
     (placed-segments stmts 0 (side_by_side zero stmts) [] (sym (append-nil (flat (side_by_side zero stmts)) ∙ sides-flat statements)))
     (placed-lists 1 (side_by_side zero stmts) (no-lists statements))
 
 -- Lists zipped.
-
-zip-join : {A B : Type 0} (R : A → B → Type 0) (xs ys : List A) (zs ws : List B) → AllZip R xs zs →
-    AllZip R ys ws → AllZip R (xs ++ ys) (zs ++ ws)
-zip-join R [] ys [] ws zip more_zip = more_zip
-zip-join R [] ys (z ∷ zs) ws zip more_zip = absurd zip
-zip-join R (x ∷ xs) ys [] ws zip more_zip = absurd zip
-zip-join R (x ∷ xs) ys (z ∷ zs) ws zip more_zip = (zip.0, zip-join R xs ys zs ws zip.1 more_zip)
 
 -- the part of the second list that stands beside the first
 record Split {A B : Type 0} (R : A → B → Type 0) (xs ys : List A) (all : List B) : Type 0 where
@@ -179,19 +155,6 @@ zip-split R (x ∷ xs) ys (z ∷ all) zip =
     let r = zip-split R xs ys all zip.1 in
     record { first = z ∷ r.first; second = r.second; is = ap (λ l. z ∷ l) r.is; zip = (zip.0, r.zip); rest = r.rest }
 
-zip-length : {A B : Type 0} (R : A → B → Type 0) (xs : List A) (ys : List B) → AllZip R xs ys →
-    length xs ≡ length ys
-zip-length R [] [] zip = refl
-zip-length R [] (y ∷ ys) zip = absurd zip
-zip-length R (x ∷ xs) [] zip = absurd zip
-zip-length R (x ∷ xs) (y ∷ ys) zip = ap suc (zip-length R xs ys zip.1)
-
-contains-first : {A : Type 0} (x : A) (xs : List A) → Contains (x ∷ xs) x
-contains-first x xs = (0, omega arith, refl)
-
-contains-later : {A : Type 0} (y : A) (xs : List A) (x : A) → Contains xs x → Contains (y ∷ xs) x
-contains-later y xs x (i, l, e) = (suc i, omega (arith, l), e)
-
 contains-one : {A : Type 0} (y x : A) → Contains (y ∷ []) x → x ≡ y
 contains-one y x (zero, l, e) = sym e
 contains-one y x (suc i, l, e) = absurd (omega arith)
@@ -202,7 +165,7 @@ zip-with R P [] [] each zip = tt
 zip-with R P [] (y ∷ ys) each zip = absurd zip
 zip-with R P (x ∷ xs) [] each zip = absurd zip
 zip-with R P (x ∷ xs) (y ∷ ys) each zip =
-    ((zip.0, each y (contains-first y ys)), zip-with R P xs ys (λ z there. each z (contains-later y ys z there)) zip.1)
+    ((zip.0, each y (first-there y ys)), zip-with R P xs ys (λ z there. each z (later-there y ys z there)) zip.1)
 
 -- what stands beside what
 zip-every : {A B : Type 0} (R : A → B → Type 0) {Q : A → Type 0} (P : B → Type 0) →
@@ -261,21 +224,12 @@ record ListRead (p : Program) (bundle : Labelled) (item : TopItem) (cause : Caus
   linked : AreLinked p p.entry pairs
   means : ItemMeans bundle item (export_list pairs)
 
-every-at : {A : Type 0} {P : A → Type 0} {xs : List A} → Every P xs → (k : ℕ) (x : A) →
-    slice_get xs k ≡ Some x → P x
-every-at none k x e = absurd (none-some x e)
-every-at {P = P} (more {x = y} here later) zero x e = subst P (same_Some y x e) here
-every-at (more here later) (suc k) x e = every-at later k x e
-
 load-no-list : (taker c : ℕ) (whole : Bool) (names : List Text) →
     first_is_list (load_statement taker c whole names) ≡ false
 load-no-list taker c false [] = refl
 load-no-list taker c false (x ∷ names) = refl
 load-no-list taker c true [] = refl
 load-no-list taker c true (x ∷ names) = refl
-
-due-own : {p : Program} {form : Form} {n k : ℕ} → IsDue p form (b.Own n k) → IsReached p n
-due-own (b.own reached es l) = reached
 
 list-read : {p : Program} {hooks : Hooks} (reading : Reading) (stmts after : List Item)
     (labels : Labelling) →
@@ -284,7 +238,7 @@ list-read : {p : Program} {hooks : Hooks} (reading : Reading) (stmts after : Lis
     Realises p hooks AsModule (old_bundle reading stmts after labels) item cause →
     ListRead p (old_bundle reading stmts after labels) item cause
 list-read reading stmts after labels filed due is (b.own {m = n} {k} statement there same) =
-    absurd (false≢true (sym (every-at (filed n (due-own due)) k statement there) ∙ list-meant same.1.means (list-means (module_with stmts after) reading labels same.2 is)))
+    absurd (false≢true (sym (get-every (filed n (due-own due)) k statement there) ∙ list-meant same.1.means (list-means (module_with stmts after) reading labels same.2 is)))
 list-read reading stmts after labels filed due is (b.imports_names names are means) =
     absurd (false≢true (list-means (module_with stmts after) reading labels means is))
 list-read reading stmts after labels filed due is (b.imports_whole means) =
@@ -406,7 +360,7 @@ finish-paired : {p : Program} {hooks : Hooks} {reading : Reading} {stmts after :
 finish-paired {p} {hooks} {reading} {stmts} {after} {pairing} {rs} g = record {
   labels = labels-one pairing.labels g.paired.labels;
   body = has-body g.scene.twins.statements rs;
-  realised = zip-join new (map moved_item (placed 1 (side_by_side zero stmts))) (last_item stmts rs ∷ []) g.plan (Exports ∷ []) realised (g.last, tt);
+  realised = zip-append new (map moved_item (placed 1 (side_by_side zero stmts))) (last_item stmts rs ∷ []) g.plan (Exports ∷ []) realised (g.last, tt);
   due = λ cause. (on cause, back cause);
   once = once;
 }
@@ -441,7 +395,7 @@ finish-paired {p} {hooks} {reading} {stmts} {after} {pairing} {rs} g = record {
 
     back : (cause : Cause) → IsDue p AsCall cause → Contains (g.plan ++ Exports ∷ []) cause
     back cause due = elim (cause-cases cause) [
-      | inl is ↦ subst (Contains (g.plan ++ Exports ∷ [])) (sym is) (Contains-append_right g.plan (Exports ∷ []) Exports (contains-first Exports []))
+      | inl is ↦ subst (Contains (g.plan ++ Exports ∷ [])) (sym is) (Contains-append_right g.plan (Exports ∷ []) Exports (first-there Exports []))
       | inr other ↦ elim (Contains-append_cases g.plan g.old_plan cause (subst (λ l. Contains l cause) g.plan_is ((g.paired.due cause).1 (due-back due other)))) [
         | inl front ↦ Contains-append_left g.plan (Exports ∷ []) cause front
         | inr end ↦ absurd (other (every-there g.only_exports cause end))
@@ -720,7 +674,7 @@ exports-bundle {p} {hooks} reading stmts meta specifiers form faultless filed st
     in_plan : Contains pairing.plan end.0
     in_plan =
         subst (λ l. Contains l end.0) (sym split.is)
-        (Contains-append_right split.first split.second end.0 (subst (λ l. Contains l end.0) (sym end.1) (contains-first end.0 [])))
+        (Contains-append_right split.first split.second end.0 (subst (λ l. Contains l end.0) (sym end.1) (first-there end.0 [])))
 
     read : ListRead p
         (old_bundle reading stmts (export_items meta specifiers ++ h.Close ∷ []) pairing.labels)

@@ -1,4 +1,5 @@
--- What the bindings inside a bundle's items are called where names change and denote what corresponds.
+-- What the bindings inside a bundle's items are called where names change and denote what
+-- corresponds.
 use Rattle.std.proofs.Common.{◌≡◌, ◌≤◌, inl, inr, ℕ, ◌+◌, List, [], ◌∷◌, ◌++◌, append_assoc, filter, map, length, refl, ap, sym, ◌∙◌, subst, arith}
 use Rattle.std.specs.Prelude.{Contains, fold}
 use Rattle.std.specs.List.{AllZip}
@@ -28,16 +29,21 @@ use Rattle.bundle_merge_whole.proofs.composed.Aligned.{Corresponds, same_field, 
 use Rattle.bundle_merge_whole.proofs.composed.Called.{symbols-turn}
 use Rattle.bundle_merge_whole.proofs.finished.CommonJs.{InsideAre, AllInside}
 
-turned-nodes : {item renamed : List Item} {one other : Noted} → ItemTurned item one renamed other → PartTurned item renamed
+turned-nodes : {item renamed : List Item} {one other : Noted} → ItemTurned item one renamed other →
+    PartTurned item renamed
 turned-nodes (whole_turned turned) = turned
 turned-nodes (function_turned back its_back turned is its_made fronts parts) = turned
 
 -- the symbols inside a part, by its occurrences
 abbrev symbols_at : View → Spot → List Item → List Text
-symbols_at view s part = map denoted_symbol (each_denoted_once (filter (is_inside s.place) (denoted_from view s part)))
+symbols_at view s part =
+    map denoted_symbol (each_denoted_once (filter (is_inside s.place) (denoted_from view s part)))
 
-symbols-there : (view : View) (s : Spot) (part tail : List Item) → IsAt view.tree s (part ++ tail) → inner_symbols view s.place (taken_from s.place part) ≡ symbols_at view s part
-symbols-there view s part tail at = ap (λ list. map denoted_symbol (each_denoted_once (filter (is_inside s.place) list))) (elements_denote view s part tail at)
+symbols-there : (view : View) (s : Spot) (part tail : List Item) → IsAt view.tree s (part ++ tail) →
+    inner_symbols view s.place (taken_from s.place part) ≡ symbols_at view s part
+symbols-there view s part tail at =
+    ap (λ list. map denoted_symbol (each_denoted_once (filter (is_inside s.place) list)))
+    (elements_denote view s part tail at)
 
 -- the symbols inside an item
 abbrev pub symbols_in : View → TopItem → List Text
@@ -55,23 +61,40 @@ module _ (reading other : Reading) (items others : List (List Item)) (b : Becomi
 
   -- bindings inside the one are called as those inside the other become
   abbrev pub BothCalled : TopItem → TopItem → Type 0
-  BothCalled top its = symbols_in (view_of other others) its ≡ map spelled (symbols_in (view_of reading items) top)
+  BothCalled top its =
+      symbols_in (view_of other others) its ≡ map spelled (symbols_in (view_of reading items) top)
 
-  parts-split : (s t : Spot) (xs ys zs more : List Item) → length (names_of xs) ≡ length (names_of zs) → AllZip Corr (occurrences_from s (xs ++ ys)) (occurrences_from t (zs ++ more)) → AllZip Corr (occurrences_from s xs) (occurrences_from t zs) × AllZip Corr (occurrences_from (fold past s xs) ys) (occurrences_from (fold past t zs) more)
+  parts-split : (s t : Spot) (xs ys zs more : List Item) →
+      length (names_of xs) ≡ length (names_of zs) →
+      AllZip Corr (occurrences_from s (xs ++ ys)) (occurrences_from t (zs ++ more)) →
+      AllZip Corr (occurrences_from s xs) (occurrences_from t zs) × AllZip Corr
+      (occurrences_from (fold past s xs) ys) (occurrences_from (fold past t zs) more)
   parts-split s t xs ys zs more same all =
       zip-parts Corr (occurrences_from s xs) (occurrences_from (fold past s xs) ys) (occurrences_from t zs) (occurrences_from (fold past t zs) more)
       (names-count xs s ∙ same ∙ sym (names-count zs t))
       (subst (λ os. AllZip Corr os (occurrences_from t zs ++ occurrences_from (fold past t zs) more)) (occurrences-append s xs ys)
       (subst (AllZip Corr (occurrences_from s (xs ++ ys))) (occurrences-append t zs more) all))
 
-  item-called : (s t : Spot) (field its_field : ℕ) → s.path ≡ in_field field module_path → t.path ≡ in_field its_field module_path → (item renamed : List Item) → PartTurned item renamed → AllZip Corr (occurrences_from s item) (occurrences_from t renamed) → symbols_at there t renamed ≡ map spelled (symbols_at here s item)
+  item-called : (s t : Spot) (field its_field : ℕ) → s.path ≡ in_field field module_path →
+      t.path ≡ in_field its_field module_path → (item renamed : List Item) →
+      PartTurned item renamed → AllZip Corr (occurrences_from s item) (occurrences_from t renamed) →
+      symbols_at there t renamed ≡ map spelled (symbols_at here s item)
   item-called s t field its_field path_is its_is item renamed turned all =
       let own = same_field s.path in
       let its = same_field t.path in
       symbols-turn reading other items others b labels spelled symbols s t s t (module-match s t field its_field path_is its_is) own.0 its.0 own.1 its.1 (omega arith) (omega arith) item renamed turned all
 
-  items-called : (s t : Spot) (field its_field : ℕ) → s.path ≡ in_field field module_path → t.path ≡ in_field its_field module_path → (parts : List (List Item)) (noted : List Noted) (renamed : List (List Item)) (its : List Noted) → ItemsTurned parts noted renamed its → AllZip Corr (occurrences_from s (flat parts)) (occurrences_from t (flat renamed)) → (tail its_tail : List Item) → IsAt (joined items) s (flat parts ++ tail) → IsAt (joined others) t (flat renamed ++ its_tail) → AllZip BothCalled (placed s.place parts) (placed t.place renamed)
-  items-called s t field its_field path_is its_is [] [] [] [] turned all tail its_tail at its_at = tt
+  items-called : (s t : Spot) (field its_field : ℕ) → s.path ≡ in_field field module_path →
+      t.path ≡ in_field its_field module_path →
+      (parts : List (List Item)) (noted : List Noted) (renamed : List (List Item))
+      (its : List Noted) →
+      ItemsTurned parts noted renamed its →
+      AllZip Corr (occurrences_from s (flat parts)) (occurrences_from t (flat renamed)) →
+      (tail its_tail : List Item) → IsAt (joined items) s (flat parts ++ tail) →
+      IsAt (joined others) t (flat renamed ++ its_tail) →
+      AllZip BothCalled (placed s.place parts) (placed t.place renamed)
+  items-called s t field its_field path_is its_is [] [] [] [] turned all tail its_tail at its_at =
+      tt
   items-called s t field its_field path_is its_is [] [] [] (one ∷ its) turned all tail its_tail at its_at = absurd turned
   items-called s t field its_field path_is its_is [] [] (item ∷ renamed) its turned all tail its_tail at its_at = absurd turned
   items-called s t field its_field path_is its_is [] (one ∷ noted) renamed its turned all tail its_tail at its_at = absurd turned
@@ -94,7 +117,14 @@ module _ (reading other : Reading) (items others : List (List Item)) (b : Becomi
       )
 
   -- statements in a function, one after another
-  pub statements-called : (base its_base s t : Spot) → SpotsMatch base its_base → (field its_field : ℕ) → s.path ≡ in_field field base.path → t.path ≡ in_field its_field its_base.path → base.place ≤ s.place → its_base.place ≤ t.place → (parts renamed : List (List Item)) → AllZip PartTurned parts renamed → AllZip Corr (occurrences_from s (flat parts)) (occurrences_from t (flat renamed)) → (tail its_tail : List Item) → IsAt (joined items) s (flat parts ++ tail) → IsAt (joined others) t (flat renamed ++ its_tail) → AllZip BothCalled (placed s.place parts) (placed t.place renamed)
+  pub statements-called : (base its_base s t : Spot) → SpotsMatch base its_base →
+      (field its_field : ℕ) → s.path ≡ in_field field base.path →
+      t.path ≡ in_field its_field its_base.path → base.place ≤ s.place → its_base.place ≤ t.place →
+      (parts renamed : List (List Item)) → AllZip PartTurned parts renamed →
+      AllZip Corr (occurrences_from s (flat parts)) (occurrences_from t (flat renamed)) →
+      (tail its_tail : List Item) → IsAt (joined items) s (flat parts ++ tail) →
+      IsAt (joined others) t (flat renamed ++ its_tail) →
+      AllZip BothCalled (placed s.place parts) (placed t.place renamed)
   statements-called base its_base s t match field its_field path_is its_is low high [] [] turned all tail its_tail at its_at = tt
   statements-called base its_base s t match field its_field path_is its_is low high [] (item ∷ renamed) turned all tail its_tail at its_at = absurd turned
   statements-called base its_base s t match field its_field path_is its_is low high (part ∷ parts) [] turned all tail its_tail at its_at = absurd turned
@@ -116,7 +146,17 @@ module _ (reading other : Reading) (items others : List (List Item)) (b : Becomi
       )
 
   -- those of a function that has become another
-  pub function-called : (s t : Spot) (field its_field : ℕ) → s.path ≡ in_field field module_path → t.path ≡ in_field its_field module_path → (front its_front back its_back : List Item) (insides its : List (List Item)) → FrontTurned front its_front → AllZip PartTurned insides its → AllZip Corr (occurrences_from s (front ++ (flat insides ++ back))) (occurrences_from t (its_front ++ (flat its ++ its_back))) → (tail its_tail : List Item) → IsAt (joined items) s ((front ++ (flat insides ++ back)) ++ tail) → IsAt (joined others) t ((its_front ++ (flat its ++ its_back)) ++ its_tail) → AllZip BothCalled (placed (s.place + length front) insides) (placed (t.place + length its_front) its)
+  pub function-called : (s t : Spot) (field its_field : ℕ) → s.path ≡ in_field field module_path →
+      t.path ≡ in_field its_field module_path →
+      (front its_front back its_back : List Item) (insides its : List (List Item)) →
+      FrontTurned front its_front → AllZip PartTurned insides its →
+      AllZip Corr (occurrences_from s (front ++ (flat insides ++ back)))
+      (occurrences_from t (its_front ++ (flat its ++ its_back))) →
+      (tail its_tail : List Item) →
+      IsAt (joined items) s ((front ++ (flat insides ++ back)) ++ tail) →
+      IsAt (joined others) t ((its_front ++ (flat its ++ its_back)) ++ its_tail) →
+      AllZip BothCalled (placed (s.place + length front) insides)
+      (placed (t.place + length its_front) its)
   function-called s t field its_field path_is its_is front its_front back its_back insides its fronts parts all tail its_tail at its_at =
       let one = parts-split s t front (flat insides ++ back) its_front (flat its ++ its_back) fronts.names all in
       let two = parts-split (fold past s front) (fold past t its_front) (flat insides) back (flat its) its_back (flat-names insides its parts) one.1 in
@@ -129,7 +169,11 @@ module _ (reading other : Reading) (items others : List (List Item)) (b : Becomi
       (statements-called (fold past s front) (fold past t its_front) (fold past s front) (fold past t its_front) (fronts.spots s t field its_field path_is its_is) own.0 other_field.0 own.1 other_field.1 (omega arith) (omega arith) insides its parts two.0 (back ++ tail) (its_back ++ its_tail) here_at there_at))
 
   -- what all occurrences denote
-  each-corresponds : (os ps : List Occurrence) → AllZip (StandsIn b.move) os ps → map (denoted_here there) ps ≡ map b.becomes (map (denoted_here here) os) → ((o : Occurrence) → Contains os o → Contains (denotations reading Es (joined items)) (denoted_here here o)) → AllZip Corr os ps
+  each-corresponds : (os ps : List Occurrence) → AllZip (StandsIn b.move) os ps →
+      map (denoted_here there) ps ≡ map b.becomes (map (denoted_here here) os) →
+      ((o : Occurrence) → Contains os o → Contains (denotations reading Es (joined items)) (denoted_here here o))
+      →
+      AllZip Corr os ps
   each-corresponds [] [] stands are in_it = tt
   each-corresponds [] (p ∷ ps) stands are in_it = absurd stands
   each-corresponds (o ∷ os) [] stands are in_it = absurd stands
@@ -138,7 +182,8 @@ module _ (reading other : Reading) (items others : List (List Item)) (b : Becomi
       let later : map (denoted_here there) ps ≡ map b.becomes (map (denoted_here here) os) = cc in
       (record { scopes = stands.0; is = first; denoted = in_it o ((Contains-cons o os o).1 (inl refl)) }, each-corresponds os ps stands.1 later (λ x c. in_it x ((Contains-cons o os x).1 (inr c))))
 
-  all-correspond : AllZip Corr (occurrences_from first_spot (flat items)) (occurrences_from first_spot (flat others))
+  all-correspond : AllZip Corr (occurrences_from first_spot (flat items))
+      (occurrences_from first_spot (flat others))
   all-correspond =
       subst (λ os. AllZip Corr os (occurrences_from first_spot (flat others))) (item-occurrences (flat items))
       (subst (AllZip Corr (occurrences (joined items))) (item-occurrences (flat others))
@@ -148,20 +193,37 @@ module _ (reading other : Reading) (items others : List (List Item)) (b : Becomi
   first-at = at-past (h.Open 0 h.Module) (flat items ++ h.Close ∷ []) (at-first (joined items))
 
   its-first-at : IsAt (joined others) first_spot (flat others ++ h.Close ∷ [])
-  its-first-at = at-past (h.Open 0 h.Module) (flat others ++ h.Close ∷ []) (at-first (joined others))
+  its-first-at =
+      at-past (h.Open 0 h.Module) (flat others ++ h.Close ∷ []) (at-first (joined others))
 
   -- all items
-  pub all-called : (noted its : List Noted) → ItemsTurned items noted others its → AllZip BothCalled (placed 1 items) (placed 1 others)
-  all-called noted its turned = items-called first_spot first_spot 0 0 refl refl items noted others its turned all-correspond (h.Close ∷ []) (h.Close ∷ []) first-at its-first-at
+  pub all-called : (noted its : List Noted) → ItemsTurned items noted others its →
+      AllZip BothCalled (placed 1 items) (placed 1 others)
+  all-called noted its turned =
+      items-called first_spot first_spot 0 0 refl refl items noted others its turned all-correspond
+      (h.Close ∷ []) (h.Close ∷ []) first-at its-first-at
 
-  inside-called : (s t : Spot) (field its_field : ℕ) → s.path ≡ in_field field module_path → t.path ≡ in_field its_field module_path → {part item : List Item} {one two : Noted} → ItemTurned part one item two → AllZip Corr (occurrences_from s part) (occurrences_from t item) → (tail its_tail : List Item) → IsAt (joined items) s (part ++ tail) → IsAt (joined others) t (item ++ its_tail) → InsideAre BothCalled s.place one t.place two
+  inside-called : (s t : Spot) (field its_field : ℕ) → s.path ≡ in_field field module_path →
+      t.path ≡ in_field its_field module_path → {part item : List Item} {one two : Noted} →
+      ItemTurned part one item two →
+      AllZip Corr (occurrences_from s part) (occurrences_from t item) →
+      (tail its_tail : List Item) → IsAt (joined items) s (part ++ tail) →
+      IsAt (joined others) t (item ++ its_tail) → InsideAre BothCalled s.place one t.place two
   inside-called s t field its_field path_is its_is (whole_turned turned) all tail its_tail at its_at = tt
   inside-called s t field its_field path_is its_is {part} {item} (function_turned {front = front} {its_front = its_front} {insides = insides} {its = its} back its_back turned is its_made fronts inner) all tail its_tail at its_at =
       function-called s t field its_field path_is its_is front its_front back its_back insides its fronts inner
       (subst (λ xs. AllZip Corr (occurrences_from s xs) (occurrences_from t (its_front ++ (flat its ++ its_back)))) is (subst (λ xs. AllZip Corr (occurrences_from s part) (occurrences_from t xs)) its_made all))
       tail its_tail (subst (λ xs. IsAt (joined items) s (xs ++ tail)) is at) (subst (λ xs. IsAt (joined others) t (xs ++ its_tail)) its_made its_at)
 
-  insides-called : (s t : Spot) (field its_field : ℕ) → s.path ≡ in_field field module_path → t.path ≡ in_field its_field module_path → (parts : List (List Item)) (noted : List Noted) (renamed : List (List Item)) (its : List Noted) → ItemsTurned parts noted renamed its → AllZip Corr (occurrences_from s (flat parts)) (occurrences_from t (flat renamed)) → (tail its_tail : List Item) → IsAt (joined items) s (flat parts ++ tail) → IsAt (joined others) t (flat renamed ++ its_tail) → AllInside BothCalled s.place parts noted t.place renamed its
+  insides-called : (s t : Spot) (field its_field : ℕ) → s.path ≡ in_field field module_path →
+      t.path ≡ in_field its_field module_path →
+      (parts : List (List Item)) (noted : List Noted) (renamed : List (List Item))
+      (its : List Noted) →
+      ItemsTurned parts noted renamed its →
+      AllZip Corr (occurrences_from s (flat parts)) (occurrences_from t (flat renamed)) →
+      (tail its_tail : List Item) → IsAt (joined items) s (flat parts ++ tail) →
+      IsAt (joined others) t (flat renamed ++ its_tail) →
+      AllInside BothCalled s.place parts noted t.place renamed its
   insides-called s t field its_field path_is its_is [] noted renamed its turned all tail its_tail at its_at = tt
   insides-called s t field its_field path_is its_is (part ∷ parts) [] renamed its turned all tail its_tail at its_at = tt
   insides-called s t field its_field path_is its_is (part ∷ parts) (one ∷ noted) [] its turned all tail its_tail at its_at = tt
@@ -180,5 +242,8 @@ module _ (reading other : Reading) (items others : List (List Item)) (b : Becomi
       )
 
   -- all functions
-  pub all-inside : (noted its : List Noted) → ItemsTurned items noted others its → AllInside BothCalled 1 items noted 1 others its
-  all-inside noted its turned = insides-called first_spot first_spot 0 0 refl refl items noted others its turned all-correspond (h.Close ∷ []) (h.Close ∷ []) first-at its-first-at
+  pub all-inside : (noted its : List Noted) → ItemsTurned items noted others its →
+      AllInside BothCalled 1 items noted 1 others its
+  all-inside noted its turned =
+      insides-called first_spot first_spot 0 0 refl refl items noted others its turned
+      all-correspond (h.Close ∷ []) (h.Close ∷ []) first-at its-first-at

@@ -58,34 +58,65 @@ module _ (p : Program) (hooks : Hooks) (plan : List Cause) (items : List (List I
   faithful = rule-faithful call tree names rule
 
   all : Renewed items noted (changes_to (idents tree) (called_idents call tree))
-  all = renewed items noted (changes_to (idents tree) (called_idents call tree)) forms lone (subst (AllZip KeepsText (changes_to (idents tree) (called_idents call tree))) (module-names items) (changes-keep (idents tree) (called_idents call tree) (as-many call tree)))
+  all =
+      renewed items noted (changes_to (idents tree) (called_idents call tree)) forms lone
+      (subst (AllZip KeepsText (changes_to (idents tree) (called_idents call tree))) (module-names items) (changes-keep (idents tree) (called_idents call tree) (as-many call tree)))
 
   its_idents : idents (joined all.made) ≡ called_idents call tree
   its_idents = ap idents (sym all.is) ∙ calls call tree names plain editable faithful
 
   rid : IsRidOfKeywords tree (joined all.made)
-  rid = subst (IsRidOfKeywords tree) all.is (rid-of-keywords call tree names plain editable faithful resolved rule.calling)
+  rid =
+      subst (IsRidOfKeywords tree) all.is
+      (rid-of-keywords call tree names plain editable faithful resolved rule.calling)
 
   listing : IsListing (joined all.made)
   listing = subst IsListing all.is (free-listing call tree editable listed)
 
   abbrev after : IsStillNoted p hooks plan ByContext (joined all.made)
-  after = its_still p hooks plan items noted labels all.made all.others call local bundle forms count one occur agrees all.remade listing resolved names plain rid its_idents faithful
+  after =
+      its_still p hooks plan items noted labels all.made all.others call local bundle forms count
+      one occur agrees all.remade listing resolved names plain rid its_idents faithful
 
-  edits : Edits Anywhere (changes_to (idents tree) (idents (joined all.made))) (flat items) (flat all.made) []
-  edits = subst (λ l. Edits Anywhere (changes_to (idents tree) l) (flat items) (flat all.made) []) (sym its_idents) all.edits
+  edits : Edits Anywhere (changes_to (idents tree) (idents (joined all.made))) (flat items)
+      (flat all.made) []
+  edits =
+      subst (λ l. Edits Anywhere (changes_to (idents tree) l) (flat items) (flat all.made) [])
+      (sym its_idents) all.edits
 
-  ordered : (tops others : List TopItem) → AllZip (AtOne tree (joined all.made)) tops others → (owners : List (Option ℕ)) (order : List ℕ) → IsGoodOrder (group_of ByContext Top tree tops owners) order → IsGoodOrder (group_of ByContext Top (joined all.made) others owners) order
-  ordered tops others at owners order good = (keyword-good_order 0 (joined all.made) edits rid ways objects tops others at owners owners (owners-refl owners) order).0 good
+  ordered : (tops others : List TopItem) → AllZip (AtOne tree (joined all.made)) tops others →
+      (owners : List (Option ℕ)) (order : List ℕ) →
+      IsGoodOrder (group_of ByContext Top tree tops owners) order →
+      IsGoodOrder (group_of ByContext Top (joined all.made) others owners) order
+  ordered tops others at owners order good =
+      (keyword-good_order 0 (joined all.made) edits rid ways objects tops others at owners owners (owners-refl owners) order).0
+      good
 
-  its_laid : IsLaidOut p AsModule ByContext (joined all.made) (pairing_of after.labels after.items plan)
-  its_laid = layout-stays p AsModule ByContext ByContext tree (joined all.made) plan labels after.labels items after.items refl after.is (size ∙ sym (body-length p hooks plan ByContext (joined all.made) after)) ordered laid
+  its_laid : IsLaidOut p AsModule ByContext (joined all.made)
+      (pairing_of after.labels after.items plan)
+  its_laid =
+      layout-stays p AsModule ByContext ByContext tree (joined all.made) plan labels after.labels
+      items after.items refl after.is
+      (size ∙ sym (body-length p hooks plan ByContext (joined all.made) after)) ordered laid
 
-  pub kept-joined : AreCalled (λ x. x) p hooks (labelled tree ByContext (pairing_of labels items plan)) (pairing_of labels items plan) → HasContexts local (labelled tree ByContext (pairing_of labels items plan)) → BindsOwn tree → IsMerged keyword_free local p hooks (recall call tree)
-  kept-joined called contexts own = subst (IsMerged keyword_free local p hooks) (sym all.is) (merged-again p hooks plan items noted labels all.made all.others call local bundle forms count one occur agrees all.remade listing resolved names plain rid its_idents faithful called contexts its_laid (keyword-own tree (joined all.made) (Inside 0 h.Module refl edits) rid.free (record { own = own })).own)
+  pub kept-joined : AreCalled (λ x. x) p hooks
+      (labelled tree ByContext (pairing_of labels items plan)) (pairing_of labels items plan) →
+      HasContexts local (labelled tree ByContext (pairing_of labels items plan)) → BindsOwn tree →
+      IsMerged keyword_free local p hooks (recall call tree)
+  kept-joined called contexts own =
+      subst (IsMerged keyword_free local p hooks) (sym all.is)
+      (merged-again p hooks plan items noted labels all.made all.others call local bundle forms count one occur agrees all.remade listing resolved names plain rid its_idents faithful called contexts its_laid (keyword-own tree (joined all.made) (Inside 0 h.Module refl edits) rid.free (record { own = own })).own)
 
 -- what is merged stays so without them
-pub keywords-keep-merged : (p : Program) (hooks : Hooks) (plan : List Cause) (merged : List Item) (its : IsWholeBundle p hooks plan merged) (call : Calling) → IsKeywordRule call merged → AreListed Other merged → (local : ℕ → ℕ) → AreCalled (λ x. x) p hooks (labelled merged ByContext (pairing_of its.ready.still.labels its.ready.still.items plan)) (pairing_of its.ready.still.labels its.ready.still.items plan) → HasContexts local (labelled merged ByContext (pairing_of its.ready.still.labels its.ready.still.items plan)) → BindsOwn merged → IsMerged keyword_free local p hooks (recall call merged)
+pub keywords-keep-merged : (p : Program) (hooks : Hooks) (plan : List Cause) (merged : List Item)
+    (its : IsWholeBundle p hooks plan merged) (call : Calling) →
+    IsKeywordRule call merged → AreListed Other merged → (local : ℕ → ℕ) →
+    AreCalled (λ x. x) p hooks
+    (labelled merged ByContext (pairing_of its.ready.still.labels its.ready.still.items plan))
+    (pairing_of its.ready.still.labels its.ready.still.items plan) →
+    HasContexts local
+    (labelled merged ByContext (pairing_of its.ready.still.labels its.ready.still.items plan)) →
+    BindsOwn merged → IsMerged keyword_free local p hooks (recall call merged)
 keywords-keep-merged p hooks plan merged its call rule listed local called contexts own =
     let still = its.ready.still in
     let is : merged ≡ joined still.items = still.is in

@@ -40,7 +40,8 @@ fits-name InReadOrCall role e = e
 fits-name AtTarget role e = refl
 
 -- what is listed passes
-listed-are : {s : Stand} {l : List Item} → AreListed s l → (outer : List Stand) (post : List Item) → ((u : Stand) → are_listed u outer post ≡ true) → are_listed s outer (l ++ post) ≡ true
+listed-are : {s : Stand} {l : List Item} → AreListed s l → (outer : List Stand) (post : List Item) →
+    ((u : Stand) → are_listed u outer post ≡ true) → are_listed s outer (l ++ post) ≡ true
 listed-are {s = s} nothing outer post behind = behind s
 listed-are {s = s} (name {field = field} {ctxt = ctxt} {sym = x} {role = role} {rest = rest} fits its) outer post behind = and_from (fits_name s role) (are_listed (next_to s) outer (rest ++ post)) (fits-name s role fits) (listed-are its outer post behind)
 listed-are (hole its) outer post behind = listed-are its outer post behind
@@ -74,22 +75,36 @@ at-inside _ inside = at_any
 
 -- What is passed.
 
-behind-node : (s : Stand) (outer : List Stand) (field : ℕ) (head : Head) (inside post : List Item) → are_listed s outer (node_of field head inside ++ post) ≡ true → (fits_node s field ≡ true) × (are_listed (first_in head) (next_to s ∷ outer) (inside ++ h.Close ∷ post) ≡ true)
+behind-node : (s : Stand) (outer : List Stand) (field : ℕ) (head : Head) (inside post : List Item) →
+    are_listed s outer (node_of field head inside ++ post) ≡ true →
+    (fits_node s field ≡ true) ×
+    (are_listed (first_in head) (next_to s ∷ outer) (inside ++ h.Close ∷ post) ≡ true)
 behind-node s outer field head inside post e =
     let both = and_parts (fits_node s field) (are_listed (first_in head) (next_to s ∷ outer) ((inside ++ h.Close ∷ []) ++ post)) e in
     (both.0, subst (λ l. are_listed (first_in head) (next_to s ∷ outer) l ≡ true) (append_assoc inside (h.Close ∷ []) post) both.1)
 
-behind-short : (s : Stand) (outer : List Stand) (field : ℕ) (x : Text) (ctxt : ℕ) (role : Role) (default post : List Item) → are_listed s outer (node_of field h.AssignPatProp (binding None 0 x ctxt role ++ default) ++ post) ≡ true → (fits_node s field ≡ true) × (are_listed Other (next_to s ∷ outer) (default ++ h.Close ∷ post) ≡ true)
-behind-short s outer field x ctxt role default post e = behind-node s outer field h.AssignPatProp (binding None 0 x ctxt role ++ default) post e
+behind-short : (s : Stand) (outer : List Stand) (field : ℕ) (x : Text) (ctxt : ℕ) (role : Role)
+    (default post : List Item) →
+    are_listed s outer
+    (node_of field h.AssignPatProp (binding None 0 x ctxt role ++ default) ++ post) ≡
+    true →
+    (fits_node s field ≡ true) ×
+    (are_listed Other (next_to s ∷ outer) (default ++ h.Close ∷ post) ≡ true)
+behind-short s outer field x ctxt role default post e =
+    behind-node s outer field h.AssignPatProp (binding None 0 x ctxt role ++ default) post e
 
-passed : {around : Around} {changes rest : List Change} {before made : List Item} → Edits around changes before made rest → (s : Stand) (outer : List Stand) (post : List Item) → are_listed s outer (before ++ post) ≡ true → (u : Stand) × (are_listed u outer post ≡ true)
+passed : {around : Around} {changes rest : List Change} {before made : List Item} →
+    Edits around changes before made rest → (s : Stand) (outer : List Stand) (post : List Item) →
+    are_listed s outer (before ++ post) ≡ true → (u : Stand) × (are_listed u outer post ≡ true)
 passed c.Nothing s outer post e = (s, e)
 passed (c.Joined {first = first} {second = second} d f) s outer post e =
     let one = passed d s outer (second ++ post) (subst (λ l. are_listed s outer l ≡ true) (append_assoc first second post) e) in
     passed f one.0 outer post one.1
 passed (c.Hole field) s outer post e = (next_to s, e)
-passed (c.Word field x ctxt role plain) s outer post e = (next_to s, (and_parts (fits_name s role) (are_listed (next_to s) outer post) e).1)
-passed (c.Name around field x ctxt role occurs) s outer post e = (next_to s, (and_parts (fits_name s role) (are_listed (next_to s) outer post) e).1)
+passed (c.Word field x ctxt role plain) s outer post e =
+    (next_to s, (and_parts (fits_name s role) (are_listed (next_to s) outer post) e).1)
+passed (c.Name around field x ctxt role occurs) s outer post e =
+    (next_to s, (and_parts (fits_name s role) (are_listed (next_to s) outer post) e).1)
 passed (c.Inside field head {inside = inside} plain one) s outer post e =
     let its = behind-node s outer field head inside post e in
     let more = passed one (first_in head) (next_to s ∷ outer) (h.Close ∷ post) its.1 in
@@ -101,54 +116,111 @@ passed (c.Shorthand field x ctxt role {default = default} occurs one) s outer po
 
 -- What is made.
 
-one-node : {s : Stand} (field : ℕ) (head : Head) (inside tail : List Item) → fits_node s field ≡ true → AreListed (first_in head) inside → AreListed (next_to s) tail → AreListed s (node_of field head inside ++ tail)
-one-node {s = s} field head inside tail fits one its = subst (λ l. AreListed s (h.Open field head ∷ l)) (sym (append_assoc inside (h.Close ∷ []) tail)) (node (node-fits s field fits) one its)
+one-node : {s : Stand} (field : ℕ) (head : Head) (inside tail : List Item) →
+    fits_node s field ≡ true → AreListed (first_in head) inside → AreListed (next_to s) tail →
+    AreListed s (node_of field head inside ++ tail)
+one-node {s = s} field head inside tail fits one its =
+    subst (λ l. AreListed s (h.Open field head ∷ l)) (sym (append_assoc inside (h.Close ∷ []) tail))
+    (node (node-fits s field fits) one its)
 
-one-name : {s : Stand} (change : Option Change) (field : ℕ) (x : Text) (ctxt : ℕ) (role : Role) (tail : List Item) → fits_name s role ≡ true → AreListed (next_to s) tail → AreListed s (renamed change field x ctxt role ∷ tail)
+one-name : {s : Stand} (change : Option Change) (field : ℕ) (x : Text) (ctxt : ℕ) (role : Role)
+    (tail : List Item) →
+    fits_name s role ≡ true → AreListed (next_to s) tail →
+    AreListed s (renamed change field x ctxt role ∷ tail)
 one-name {s = s} None field x ctxt role tail fits its = name (name-fits s role fits) its
 one-name {s = s} (Some change) field x ctxt role tail fits its = name (name-fits s role fits) its
 
-key-listed : (computed : Bool) (x : Text) (tail : List Item) → AreListed Other tail → AreListed Other ((if computed then h.Open 0 h.ComputedPropName ∷ h.Open 0 (h.Str x None) ∷ h.Close ∷ h.Close ∷ [] else plain_key x) ++ tail)
-key-listed true x tail its = one-node 0 h.ComputedPropName (node_of 0 (h.Str x None) []) tail refl (one-node 0 (h.Str x None) [] [] refl nothing nothing) its
+key-listed : (computed : Bool) (x : Text) (tail : List Item) → AreListed Other tail →
+    AreListed Other
+    ((if computed then h.Open 0 h.ComputedPropName ∷ h.Open 0 (h.Str x None) ∷ h.Close ∷ h.Close ∷ [] else plain_key x) ++ tail)
+key-listed true x tail its =
+    one-node 0 h.ComputedPropName (node_of 0 (h.Str x None) []) tail refl
+    (one-node 0 (h.Str x None) [] [] refl nothing nothing) its
 key-listed false x tail its = one-node 0 (h.IdentName x) [] tail refl nothing its
 
-pair-listed : (change : Option Change) (field : ℕ) (x : Text) (ctxt : ℕ) (role : Role) (tail : List Item) → AreListed Other tail → AreListed Other (node_of field h.KeyValueProp (key_in_object x ++ renamed change 1 x ctxt role ∷ []) ++ tail)
-pair-listed change field x ctxt role tail its = one-node field h.KeyValueProp (key_in_object x ++ renamed change 1 x ctxt role ∷ []) tail refl (key-listed (bytes_eq x (codes "__proto__")) x (renamed change 1 x ctxt role ∷ []) (one-name change 1 x ctxt role [] refl nothing)) its
+pair-listed : (change : Option Change) (field : ℕ) (x : Text) (ctxt : ℕ) (role : Role)
+    (tail : List Item) →
+    AreListed Other tail →
+    AreListed Other
+    (node_of field h.KeyValueProp (key_in_object x ++ renamed change 1 x ctxt role ∷ []) ++ tail)
+pair-listed change field x ctxt role tail its =
+    one-node field h.KeyValueProp (key_in_object x ++ renamed change 1 x ctxt role ∷ []) tail refl
+    (key-listed (bytes_eq x (codes "__proto__")) x (renamed change 1 x ctxt role ∷ []) (one-name change 1 x ctxt role [] refl nothing))
+    its
 
-place-listed : {around : Around} {s : Stand} → At around s → (change : Option Change) (field : ℕ) (x : Text) (ctxt : ℕ) (role : Role) (tail : List Item) → fits_name s role ≡ true → AreListed (next_to s) tail → AreListed s (in_its_place around change field x ctxt role ++ tail)
-place-listed at_any change field x ctxt role tail fits its = one-name change field x ctxt role tail fits its
+place-listed : {around : Around} {s : Stand} → At around s →
+    (change : Option Change) (field : ℕ) (x : Text) (ctxt : ℕ) (role : Role) (tail : List Item) →
+    fits_name s role ≡ true → AreListed (next_to s) tail →
+    AreListed s (in_its_place around change field x ctxt role ++ tail)
+place-listed at_any change field x ctxt role tail fits its =
+    one-name change field x ctxt role tail fits its
 place-listed in_object change field x ctxt role tail fits its = by_spelled (spells_out change)
   where
-    by_spelled : (b : Bool) → AreListed Other ((if b then node_of field h.KeyValueProp (key_in_object x ++ renamed change 1 x ctxt role ∷ []) else renamed change field x ctxt role ∷ []) ++ tail)
+    by_spelled : (b : Bool) →
+        AreListed Other
+        ((if b then node_of field h.KeyValueProp (key_in_object x ++ renamed change 1 x ctxt role ∷ []) else renamed change field x ctxt role ∷ []) ++ tail)
     by_spelled true = pair-listed change field x ctxt role tail its
     by_spelled false = one-name change field x ctxt role tail refl its
 place-listed in_specifier change field x ctxt role tail fits its = by_spelled (spells_out change)
   where
-    by_spelled : (b : Bool) → AreListed Other ((if b then renamed change field x ctxt role ∷ h.Ident 1 x 0 r.Word ∷ [] else renamed change field x ctxt role ∷ []) ++ tail)
-    by_spelled true = one-name change field x ctxt role (h.Ident 1 x 0 r.Word ∷ tail) refl (name tt its)
+    by_spelled : (b : Bool) →
+        AreListed Other
+        ((if b then renamed change field x ctxt role ∷ h.Ident 1 x 0 r.Word ∷ [] else renamed change field x ctxt role ∷ []) ++ tail)
+    by_spelled true =
+        one-name change field x ctxt role (h.Ident 1 x 0 r.Word ∷ tail) refl (name tt its)
     by_spelled false = one-name change field x ctxt role tail refl its
 
-binding-listed : {s : Stand} (change : Option Change) (field : ℕ) (x : Text) (ctxt : ℕ) (role : Role) (tail : List Item) → fits_node s field ≡ true → AreListed (next_to s) tail → AreListed s (binding change field x ctxt role ++ tail)
-binding-listed change field x ctxt role tail fits its = one-node field h.BindingIdent (renamed change 0 x ctxt role ∷ []) tail fits (one-name change 0 x ctxt role [] refl nothing) its
+binding-listed : {s : Stand} (change : Option Change) (field : ℕ) (x : Text) (ctxt : ℕ)
+    (role : Role) (tail : List Item) →
+    fits_node s field ≡ true → AreListed (next_to s) tail →
+    AreListed s (binding change field x ctxt role ++ tail)
+binding-listed change field x ctxt role tail fits its =
+    one-node field h.BindingIdent (renamed change 0 x ctxt role ∷ []) tail fits
+    (one-name change 0 x ctxt role [] refl nothing) its
 
-pattern-listed : (change : Option Change) (x : Text) (ctxt : ℕ) (role : Role) (default : List Item) → AreListed Other default → AreListed Other (pattern_in_its_place change x ctxt role default)
-pattern-listed change x ctxt role [] its = subst (AreListed Other) (append-nil (binding change 1 x ctxt role)) (binding-listed change 1 x ctxt role [] refl nothing)
-pattern-listed change x ctxt role (y ∷ ys) its = subst (AreListed Other) (append-nil (node_of 1 h.AssignPat (binding change 0 x ctxt role ++ y ∷ ys))) (one-node 1 h.AssignPat (binding change 0 x ctxt role ++ y ∷ ys) [] refl (binding-listed change 0 x ctxt role (y ∷ ys) refl its) nothing)
+pattern-listed : (change : Option Change) (x : Text) (ctxt : ℕ) (role : Role) (default : List Item)
+    →
+    AreListed Other default → AreListed Other (pattern_in_its_place change x ctxt role default)
+pattern-listed change x ctxt role [] its =
+    subst (AreListed Other) (append-nil (binding change 1 x ctxt role))
+    (binding-listed change 1 x ctxt role [] refl nothing)
+pattern-listed change x ctxt role (y ∷ ys) its =
+    subst (AreListed Other)
+    (append-nil (node_of 1 h.AssignPat (binding change 0 x ctxt role ++ y ∷ ys)))
+    (one-node 1 h.AssignPat (binding change 0 x ctxt role ++ y ∷ ys) [] refl (binding-listed change 0 x ctxt role (y ∷ ys) refl its) nothing)
 
-short-listed : {s : Stand} (change : Option Change) (field : ℕ) (x : Text) (ctxt : ℕ) (role : Role) (made tail : List Item) → fits_node s field ≡ true → AreListed Other made → AreListed (next_to s) tail → AreListed s (shorthand_in_its_place change field x ctxt role made ++ tail)
-short-listed {s = s} change field x ctxt role made tail fits inner its = by_spelled (spells_out change)
+short-listed : {s : Stand} (change : Option Change) (field : ℕ) (x : Text) (ctxt : ℕ) (role : Role)
+    (made tail : List Item) →
+    fits_node s field ≡ true → AreListed Other made → AreListed (next_to s) tail →
+    AreListed s (shorthand_in_its_place change field x ctxt role made ++ tail)
+short-listed {s = s} change field x ctxt role made tail fits inner its =
+    by_spelled (spells_out change)
   where
-    by_spelled : (b : Bool) → AreListed s ((if b then node_of field h.KeyValuePatProp (plain_key x ++ pattern_in_its_place change x ctxt role made) else node_of field h.AssignPatProp (binding change 0 x ctxt role ++ made)) ++ tail)
-    by_spelled true = one-node field h.KeyValuePatProp (plain_key x ++ pattern_in_its_place change x ctxt role made) tail fits (key-listed false x (pattern_in_its_place change x ctxt role made) (pattern-listed change x ctxt role made inner)) its
-    by_spelled false = one-node field h.AssignPatProp (binding change 0 x ctxt role ++ made) tail fits (binding-listed change 0 x ctxt role made refl inner) its
+    by_spelled : (b : Bool) →
+        AreListed s
+        ((if b then node_of field h.KeyValuePatProp (plain_key x ++ pattern_in_its_place change x ctxt role made) else node_of field h.AssignPatProp (binding change 0 x ctxt role ++ made)) ++ tail)
+    by_spelled true =
+        one-node field h.KeyValuePatProp
+        (plain_key x ++ pattern_in_its_place change x ctxt role made) tail fits
+        (key-listed false x (pattern_in_its_place change x ctxt role made) (pattern-listed change x ctxt role made inner))
+        its
+    by_spelled false =
+        one-node field h.AssignPatProp (binding change 0 x ctxt role ++ made) tail fits
+        (binding-listed change 0 x ctxt role made refl inner) its
 
 -- the listing
-listed-edited : {around : Around} {changes rest : List Change} {before made : List Item} → Edits around changes before made rest → (s : Stand) → At around s → (outer : List Stand) (post : List Item) → are_listed s outer (before ++ post) ≡ true → (tail : List Item) → ((u : Stand) → At around u → are_listed u outer post ≡ true → AreListed u tail) → AreListed s (made ++ tail)
+listed-edited : {around : Around} {changes rest : List Change} {before made : List Item} →
+    Edits around changes before made rest → (s : Stand) → At around s →
+    (outer : List Stand) (post : List Item) → are_listed s outer (before ++ post) ≡ true →
+    (tail : List Item) →
+    ((u : Stand) → At around u → are_listed u outer post ≡ true → AreListed u tail) →
+    AreListed s (made ++ tail)
 listed-edited c.Nothing s at outer post e tail behind = behind s at e
 listed-edited (c.Joined {first = first} {made_first = made_first} {second = second} {made_second = made_second} d f) s at outer post e tail behind =
     subst (AreListed s) (sym (append_assoc made_first made_second tail))
     (listed-edited d s at outer (second ++ post) (subst (λ l. are_listed s outer l ≡ true) (append_assoc first second post) e) (made_second ++ tail) (λ u a k. listed-edited f u a outer post k tail behind))
-listed-edited (c.Hole field) s at outer post e tail behind = hole (behind (next_to s) (at-next at) e)
+listed-edited (c.Hole field) s at outer post e tail behind =
+    hole (behind (next_to s) (at-next at) e)
 listed-edited (c.Word field x ctxt role plain) s at outer post e tail behind =
     let both = and_parts (fits_name s role) (are_listed (next_to s) outer post) e in
     name (name-fits s role both.0) (behind (next_to s) (at-next at) both.1)
@@ -167,8 +239,11 @@ listed-edited (c.Shorthand {changes = changes} field x ctxt role {default = defa
     (subst (AreListed Other) (append-nil made) (listed-edited one Other at_any (next_to s ∷ outer) (h.Close ∷ post) its.1 [] (λ u a n. nothing)))
     (behind (next_to s) (at-next at) more.1)
 
-pub listed-again : {changes rest : List Change} {before made : List Item} → AreListed Other before → Edits Anywhere changes before made rest → AreListed Other made
-listed-again {before = before} {made = made} listed edits = subst (AreListed Other) (append-nil made) (listed-edited edits Other at_any [] [] (listed-are listed [] [] (λ u. refl)) [] (λ u a k. nothing))
+pub listed-again : {changes rest : List Change} {before made : List Item} → AreListed Other before →
+    Edits Anywhere changes before made rest → AreListed Other made
+listed-again {before = before} {made = made} listed edits =
+    subst (AreListed Other) (append-nil made)
+    (listed-edited edits Other at_any [] [] (listed-are listed [] [] (λ u. refl)) [] (λ u a k. nothing))
 
 -- a tidy listing
 first-tidied : (head : Head) → first_in (cleared_head head) ≡ first_in head
@@ -188,5 +263,6 @@ listed-tidied {s = s} (node {field = field} {head = head} {inside = inside} {res
     subst (λ l. AreListed s (h.Open field (cleared_head head) ∷ l)) (sym (tidied-append inside (h.Close ∷ rest)))
     (node fits (subst (λ k. AreListed k (tidied inside)) (sym (first-tidied head)) (listed-tidied one)) (listed-tidied its))
 
-pub listing-again : {changes rest : List Change} {before made : List Item} → AreListed Other before → Edits Anywhere changes before made rest → IsListing made
+pub listing-again : {changes rest : List Change} {before made : List Item} →
+    AreListed Other before → Edits Anywhere changes before made rest → IsListing made
 listing-again listed edits = is_listing (listed-again listed edits)

@@ -39,7 +39,8 @@ use Rattle.bundle_merge_whole.proofs.finished.Items.{BothCalled, all-called, all
 use Rattle.bundle_merge_whole.proofs.finished.CommonJs.{load-function, functions-at, inside-again}
 
 -- zipped lists at one place
-zip-at : {A B : Type 0} (R : A → B → Type 0) (xs : List A) (ys : List B) → AllZip R xs ys → (i : ℕ) (y : B) → slice_get ys i ≡ Some y → (x : A) × (slice_get xs i ≡ Some x) × R x y
+zip-at : {A B : Type 0} (R : A → B → Type 0) (xs : List A) (ys : List B) → AllZip R xs ys →
+    (i : ℕ) (y : B) → slice_get ys i ≡ Some y → (x : A) × (slice_get xs i ≡ Some x) × R x y
 zip-at R xs [] all i y at = absurd (none-some y at)
 zip-at R [] (b ∷ ys) all i y at = absurd all
 zip-at R (a ∷ xs) (b ∷ ys) all zero y at = (a, refl, subst (R a) (same_Some b y at) all.0)
@@ -53,16 +54,24 @@ module _ (p : Program) (hooks : Hooks) (plan : List Cause) (items : List (List I
   b = becoming_recalled call (joined items) (joined made) names plain faithful rid.same calls
 
   abbrev pub its_still : IsStillNoted p hooks plan ByContext (joined made)
-  its_still = still p hooks plan ByContext ByContext items noted labels made others bundle forms count one occur agrees b remade listing
+  its_still =
+      still p hooks plan ByContext ByContext items noted labels made others bundle forms count one
+      occur agrees b remade listing
 
   labels-are : its_still.labels ≡ labels_of b.becomes labels
-  labels-are = still-labels p hooks plan ByContext ByContext items noted labels made others bundle forms count one occur agrees b remade listing
+  labels-are =
+      still-labels p hooks plan ByContext ByContext items noted labels made others bundle forms
+      count one occur agrees b remade listing
 
   pub items-are : its_still.items ≡ made
-  items-are = still-items p hooks plan ByContext ByContext items noted labels made others bundle forms count one occur agrees b remade listing
+  items-are =
+      still-items p hooks plan ByContext ByContext items noted labels made others bundle forms count
+      one occur agrees b remade listing
 
   told-are : its_still.noted ≡ others
-  told-are = still-told p hooks plan ByContext ByContext items noted labels made others bundle forms count one occur agrees b remade listing
+  told-are =
+      still-told p hooks plan ByContext ByContext items noted labels made others bundle forms count
+      one occur agrees b remade listing
 
   abbrev first : Pairing
   first = pairing_of labels items plan
@@ -74,25 +83,34 @@ module _ (p : Program) (hooks : Hooks) (plan : List Cause) (items : List (List I
   its-single = subst (AllOf IsSingle) items-are its_still.bundle.single
 
   abbrev Both : TopItem → TopItem → Type 0
-  Both = BothCalled ByContext ByContext items made b labels keyword_free (symbol-becomes (joined items) (joined made) resolved names rid b)
+  Both =
+      BothCalled ByContext ByContext items made b labels keyword_free
+      (symbol-becomes (joined items) (joined made) resolved names rid b)
 
   both : AllZip Both (placed 1 items) (placed 1 made)
-  both = all-called ByContext ByContext items made b labels keyword_free (symbol-becomes (joined items) (joined made) resolved names rid b) noted others (all-turned items noted made others forms remade)
+  both =
+      all-called ByContext ByContext items made b labels keyword_free
+      (symbol-becomes (joined items) (joined made) resolved names rid b) noted others
+      (all-turned items noted made others forms remade)
 
   -- what an item was, and what it is called
   record Was (n : ℕ) (item : TopItem) : Type 0 where
     top : TopItem
     there : slice_get (top_items (joined items)) n ≡ Some top
-    called : item_symbols (labelled (joined made) ByContext second) item ≡ map keyword_free (item_symbols (labelled (joined items) ByContext first) top)
+    called : item_symbols (labelled (joined made) ByContext second) item ≡
+        map keyword_free (item_symbols (labelled (joined items) ByContext first) top)
 
-  was : (n : ℕ) (item : TopItem) → slice_get (top_items (joined its_still.items)) n ≡ Some item → Was n item
+  was : (n : ℕ) (item : TopItem) → slice_get (top_items (joined its_still.items)) n ≡ Some item →
+      Was n item
   was n item at =
       let here = ap (λ l. slice_get l n) (sym (top_items-joined made its-single)) ∙ ap (λ l. slice_get (top_items (joined l)) n) (sym items-are) ∙ at in
       let found = zip-at Both (placed 1 items) (placed 1 made) both n item here in
       record { top = found.0; there = ap (λ l. slice_get l n) (top_items-joined items bundle.single) ∙ found.1; called = found.2 }
 
   -- contexts
-  pub contexts-again : AreCalled (λ x. x) p hooks (labelled (joined items) ByContext first) first → HasContexts local (labelled (joined items) ByContext first) → HasContexts local (labelled (joined made) ByContext second)
+  pub contexts-again : AreCalled (λ x. x) p hooks (labelled (joined items) ByContext first) first →
+      HasContexts local (labelled (joined items) ByContext first) →
+      HasContexts local (labelled (joined made) ByContext second)
   contexts-again called contexts = record {
     declared = λ scope name m x c kept. contexts-become (joined items) (joined made) resolved names rid b (recalled-written call (joined items) (joined made) names plain faithful rid.same calls) labels occur local (λ s n k y c. called.outer s n (Of (IsDeclared k y)) c) contexts.declared scope name m x (subst (λ l. Contains l (Bound scope name, Of (IsDeclared m x))) labels-are c) kept;
     globals = globals-become (joined items) (joined made) resolved names rid b contexts.globals;
@@ -100,12 +118,21 @@ module _ (p : Program) (hooks : Hooks) (plan : List Cause) (items : List (List I
 
   -- the functions of CommonJS modules
   each-again : AreNotedFor p hooks AsModule made others plan
-  each-again = subst (λ l. AreNotedFor p hooks AsModule made l plan) told-are (subst (λ l. AreNotedFor p hooks AsModule l its_still.noted plan) items-are its_still.bundle.each)
+  each-again =
+      subst (λ l. AreNotedFor p hooks AsModule made l plan) told-are
+      (subst (λ l. AreNotedFor p hooks AsModule l its_still.noted plan) items-are its_still.bundle.each)
 
-  realised : AllZip (Realises p hooks AsModule (labelled (joined items) ByContext first)) (top_items (joined items)) plan
+  realised : AllZip (Realises p hooks AsModule (labelled (joined items) ByContext first))
+      (top_items (joined items)) plan
   realised = (is_paired p hooks ByContext labels items noted plan bundle one agrees).realised
 
-  common-again : AreCalled (λ x. x) p hooks (labelled (joined items) ByContext first) first → (c : ℕ) (item : TopItem) (g : IsLoadFunction p (labelled (joined made) ByContext second) c item) → StandsFor second (Defines c) item → AllZip (CalledAlike keyword_free (labelled (joined made) ByContext second) (own_view p c Cjs)) (placed (item.start + length g.front) (side_by_side zero g.inside)) (own_statements (tree_of p c))
+  common-again : AreCalled (λ x. x) p hooks (labelled (joined items) ByContext first) first →
+      (c : ℕ) (item : TopItem)
+      (g : IsLoadFunction p (labelled (joined made) ByContext second) c item) →
+      StandsFor second (Defines c) item →
+      AllZip (CalledAlike keyword_free (labelled (joined made) ByContext second) (own_view p c Cjs))
+      (placed (item.start + length g.front) (side_by_side zero g.inside))
+      (own_statements (tree_of p c))
   common-again called c item g stands =
       let it = was stands.at item stands.item_there in
       let f = load-function (both-there (Realises p hooks AsModule (labelled (joined items) ByContext first)) (top_items (joined items)) plan realised stands.at it.top (Defines c) it.there stands.cause_there) refl in
@@ -115,7 +142,8 @@ module _ (p : Program) (hooks : Hooks) (plan : List Cause) (items : List (List I
       inside-again keyword_free p (labelled (joined items) ByContext first) (labelled (joined made) ByContext second) (own_view p c Cjs) c it.top item functions f g (own_statements (tree_of p c)) (called.common_js c it.top f (record { at = stands.at; cause_there = stands.cause_there; item_there = it.there }))
 
   -- called
-  pub called-again : AreCalled (λ x. x) p hooks (labelled (joined items) ByContext first) first → AreCalled keyword_free p hooks (labelled (joined made) ByContext second) second
+  pub called-again : AreCalled (λ x. x) p hooks (labelled (joined items) ByContext first) first →
+      AreCalled keyword_free p hooks (labelled (joined made) ByContext second) second
   called-again called = record {
     list = called.list;
     is_list = called.is_list;
@@ -134,7 +162,10 @@ module _ (p : Program) (hooks : Hooks) (plan : List Cause) (items : List (List I
   }
 
   -- the merged bundle without keywords
-  pub merged-again : AreCalled (λ x. x) p hooks (labelled (joined items) ByContext first) first → HasContexts local (labelled (joined items) ByContext first) → IsLaidOut p AsModule ByContext (joined made) second → BindsOwn (joined made) → IsMerged keyword_free local p hooks (joined made)
+  pub merged-again : AreCalled (λ x. x) p hooks (labelled (joined items) ByContext first) first →
+      HasContexts local (labelled (joined items) ByContext first) →
+      IsLaidOut p AsModule ByContext (joined made) second → BindsOwn (joined made) →
+      IsMerged keyword_free local p hooks (joined made)
   merged-again called contexts laid own = record {
     is_bundle = record { pairing = second; paired = its_still.paired; laid_out = laid };
     resolved = rid.free.resolved;

@@ -1,4 +1,5 @@
--- To give a tree other identifiers and then others again is to give it the last ones, where no symbol is changed back.
+-- To give a tree other identifiers and then others again is to give it the last ones, where no
+-- symbol is changed back.
 use Rattle.std.proofs.Common.{◌≡◌, ◌≤◌, ℕ, ◌||◌, Bool, true, false, not, List, [], ◌∷◌, ◌++◌, Some, None, map, length, refl, ap, ap₂, sym, ◌∙◌, subst, append-nil, arith}
 use Rattle.std.specs.Prelude.{bytes_eq, codes, if◌then◌else◌}
 use Rattle.std.proofs.lemmas.Bool.{false≢true}
@@ -15,9 +16,9 @@ use Rattle.bundle_tree_places.specs.Edits.{Around, Anywhere, InObject, InSpecifi
 use Rattle.bundle_tree_places.proofs.EditsLemmas.{rebuilt_so}
 use Rattle.bundle_merge_meaning.specs.walked.Names.{names_of}
 use Rattle.bundle_merge_meaning.specs.walked.Renaming.{ident_of_change}
-use Rattle.bundle_merge_meaning.proofs.walked.NameLemmas.{names_of-append, node_names, idents-names}
+use Rattle.bundle_merge_meaning.proofs.walked.NameLemmas.{names_of-append, node_names, idents-names, word_names, name_names}
 use Rattle.bundle_merge_whole.specs.finished.Twice.{IsBoth, Along, Free, anywhere, in_object, Twice, IsEditable, AreNotBack}
-use Rattle.bundle_merge_whole.proofs.finished.Sizes.{word_names, name_names, short_names, edited_names, longer, none-made, ends_last, here, same-last, Short, none, a_hole, a_word, a_name, short}
+use Rattle.bundle_merge_whole.proofs.finished.Sizes.{short_names, edited_names, longer, none-made, ends_last, here, same-last, Short, none, a_hole, a_word, a_name, short}
 
 -- Changes in turn.
 
@@ -28,7 +29,9 @@ record Split (first second : List Ident) (ones twos boths left later rest : List
   front : Along first ones twos boths some_ones some_twos some_boths
   back : Along second some_ones some_twos some_boths left later rest
 
-split : (first second : List Ident) (ones twos boths left later rest : List Change) → Along (first ++ second) ones twos boths left later rest → Split first second ones twos boths left later rest
+split : (first second : List Ident) (ones twos boths left later rest : List Change) →
+    Along (first ++ second) ones twos boths left later rest →
+    Split first second ones twos boths left later rest
 split [] second ones twos boths left later rest along = record { some_ones = ones; some_twos = twos; some_boths = boths; front = (refl, refl, refl); back = along }
 split (x ∷ first) second [] twos boths left later rest along = absurd along
 split (x ∷ first) second (one ∷ ones) [] boths left later rest along = absurd along
@@ -49,14 +52,20 @@ record Taken (ident : Ident) (others : List Ident) (ones twos boths left later r
   its : IsBoth ident one two both
   back : Along others some_ones some_twos some_boths left later rest
 
-taken : (x : Ident) (others : List Ident) (ones twos boths left later rest : List Change) → Along (x ∷ others) ones twos boths left later rest → Taken x others ones twos boths left later rest
+taken : (x : Ident) (others : List Ident) (ones twos boths left later rest : List Change) →
+    Along (x ∷ others) ones twos boths left later rest →
+    Taken x others ones twos boths left later rest
 taken x others [] twos boths left later rest along = absurd along
 taken x others (one ∷ ones) [] boths left later rest along = absurd along
 taken x others (one ∷ ones) (two ∷ twos) [] left later rest along = absurd along
 taken x others (one ∷ ones) (two ∷ twos) (both ∷ boths) left later rest along = record { one = one; two = two; both = both; some_ones = ones; some_twos = twos; some_boths = boths; are = (refl, refl, refl); its = along.0; back = along.1 }
 
 -- the same for other names of the lists
-from : {around : Around} {before : List Item} {ones twos boths others next_ones next_boths left later rest : List Change} → ones ≡ others → twos ≡ next_ones → boths ≡ next_boths → Twice around before others next_ones next_boths left later rest → Twice around before ones twos boths left later rest
+from : {around : Around} {before : List Item}
+    {ones twos boths others next_ones next_boths left later rest : List Change} →
+    ones ≡ others → twos ≡ next_ones → boths ≡ next_boths →
+    Twice around before others next_ones next_boths left later rest →
+    Twice around before ones twos boths left later rest
 from {around = around} {before = before} {left = left} {later = later} {rest = rest} a b d it = record {
   made = it.made;
   whole = it.whole;
@@ -66,24 +75,41 @@ from {around = around} {before = before} {left = left} {later = later} {rest = r
 }
 
 -- what stays
-stays : {around : Around} (before : List Item) {ones twos boths left later rest : List Change} → ((changes : List Change) → Edits around changes before before changes) → (names : List Ident) → names ≡ [] → Along names ones twos boths left later rest → Twice around before ones twos boths left later rest
-stays before {left = left} {later = later} {rest = rest} its [] is along = from along.0 along.1 along.2 (record { made = before; whole = before; first = its left; second = its later; at_once = its rest })
+stays : {around : Around} (before : List Item) {ones twos boths left later rest : List Change} →
+    ((changes : List Change) → Edits around changes before before changes) → (names : List Ident) →
+    names ≡ [] → Along names ones twos boths left later rest →
+    Twice around before ones twos boths left later rest
+stays before {left = left} {later = later} {rest = rest} its [] is along =
+    from along.0 along.1 along.2
+    (record { made = before; whole = before; first = its left; second = its later; at_once = its rest })
 stays before its (x ∷ names) is along = cc
 
 -- Names.
 
-key_stays : (computed : Bool) (x : Text) (changes : List Change) → Edits Anywhere changes (if computed then h.Open 0 h.ComputedPropName ∷ h.Open 0 (h.Str x None) ∷ h.Close ∷ h.Close ∷ [] else plain_key x) (if computed then h.Open 0 h.ComputedPropName ∷ h.Open 0 (h.Str x None) ∷ h.Close ∷ h.Close ∷ [] else plain_key x) changes
-key_stays true x changes = c.Inside 0 h.ComputedPropName {inside = node 0 (h.Str x None) []} refl (c.Inside 0 (h.Str x None) {inside = []} refl c.Nothing)
+key_stays : (computed : Bool) (x : Text) (changes : List Change) →
+    Edits Anywhere changes
+    (if computed then h.Open 0 h.ComputedPropName ∷ h.Open 0 (h.Str x None) ∷ h.Close ∷ h.Close ∷ [] else plain_key x)
+    (if computed then h.Open 0 h.ComputedPropName ∷ h.Open 0 (h.Str x None) ∷ h.Close ∷ h.Close ∷ [] else plain_key x)
+    changes
+key_stays true x changes =
+    c.Inside 0 h.ComputedPropName {inside = node 0 (h.Str x None) []} refl
+    (c.Inside 0 (h.Str x None) {inside = []} refl c.Nothing)
 key_stays false x changes = c.Inside 0 (h.IdentName x) {inside = []} refl c.Nothing
 
 -- both at once, by parts
 abbrev at_once : Change → Change → Change
 at_once one two = record { ident = two.ident; is_spelled_out = one.is_spelled_out || two.is_spelled_out }
 
-both-is : {ident : Ident} {one two both : Change} → IsBoth ident one two both → both ≡ at_once one two
+both-is : {ident : Ident} {one two both : Change} → IsBoth ident one two both →
+    both ≡ at_once one two
 both-is its = λ i. record { ident = its.is i; is_spelled_out = its.spelled i }
 
-object_name : (field : ℕ) (x : Text) (ctxt : ℕ) (role : Role) → is_occurrence role ≡ true → (o t : Bool) (new final : Ident) → (o ≡ false → new.0 ≡ x) → (ones twos boths : List Change) → Twice InObject (h.Ident field x ctxt role ∷ []) (record { ident = new; is_spelled_out = o } ∷ ones) (record { ident = final; is_spelled_out = t } ∷ twos) (record { ident = final; is_spelled_out = o || t } ∷ boths) ones twos boths
+object_name : (field : ℕ) (x : Text) (ctxt : ℕ) (role : Role) → is_occurrence role ≡ true →
+    (o t : Bool) (new final : Ident) → (o ≡ false → new.0 ≡ x) → (ones twos boths : List Change) →
+    Twice InObject (h.Ident field x ctxt role ∷ [])
+    (record { ident = new; is_spelled_out = o } ∷ ones)
+    (record { ident = final; is_spelled_out = t } ∷ twos)
+    (record { ident = final; is_spelled_out = o || t } ∷ boths) ones twos boths
 object_name field x ctxt role occurs true t new final keeps ones twos boths = record {
   made = node field h.KeyValueProp (key_in_object x ++ h.Ident 1 new.0 new.1 role ∷ []);
   whole = node field h.KeyValueProp (key_in_object x ++ h.Ident 1 final.0 final.1 role ∷ []);
@@ -99,7 +125,11 @@ object_name field x ctxt role occurs false t new final keeps ones twos boths = r
   at_once = subst (λ s. Edits InObject (record { ident = final; is_spelled_out = t } ∷ boths) (h.Ident field x ctxt role ∷ []) (in_its_place InObject (Some (record { ident = final; is_spelled_out = t })) field s new.1 role) boths) (sym (keeps refl)) (c.Name InObject field x ctxt role occurs);
 }
 
-name_exact : (around : Around) → Free around → (field : ℕ) (x : Text) (ctxt : ℕ) (role : Role) → is_occurrence role ≡ true → (one two : Change) → (one.is_spelled_out ≡ false → one.ident.0 ≡ x) → (ones twos boths : List Change) → Twice around (h.Ident field x ctxt role ∷ []) (one ∷ ones) (two ∷ twos) (at_once one two ∷ boths) ones twos boths
+name_exact : (around : Around) → Free around → (field : ℕ) (x : Text) (ctxt : ℕ) (role : Role) →
+    is_occurrence role ≡ true → (one two : Change) →
+    (one.is_spelled_out ≡ false → one.ident.0 ≡ x) → (ones twos boths : List Change) →
+    Twice around (h.Ident field x ctxt role ∷ []) (one ∷ ones) (two ∷ twos)
+    (at_once one two ∷ boths) ones twos boths
 name_exact _ anywhere field x ctxt role occurs one two keeps ones twos boths = record {
   made = h.Ident field one.ident.0 one.ident.1 role ∷ [];
   whole = h.Ident field two.ident.0 two.ident.1 role ∷ [];
@@ -107,17 +137,25 @@ name_exact _ anywhere field x ctxt role occurs one two keeps ones twos boths = r
   second = c.Name Anywhere field one.ident.0 one.ident.1 role occurs;
   at_once = c.Name Anywhere field x ctxt role occurs;
 }
-name_exact _ in_object field x ctxt role occurs one two keeps ones twos boths = object_name field x ctxt role occurs one.is_spelled_out two.is_spelled_out one.ident two.ident keeps ones twos boths
+name_exact _ in_object field x ctxt role occurs one two keeps ones twos boths =
+    object_name field x ctxt role occurs one.is_spelled_out two.is_spelled_out one.ident two.ident
+    keeps ones twos boths
 
 -- from changes to lists
-behind : {around : Around} {before : List Item} {ident : Ident} {ones twos boths left later rest : List Change} (it : Taken ident [] ones twos boths left later rest) → Twice around before (it.one ∷ it.some_ones) (it.two ∷ it.some_twos) (at_once it.one it.two ∷ it.some_boths) it.some_ones it.some_twos it.some_boths → Twice around before ones twos boths left later rest
-behind {around = around} {before = before} it all = from it.are.0 it.are.1 (it.are.2 ∙ ap (λ both. both ∷ it.some_boths) (both-is it.its)) (record {
-  made = all.made;
-  whole = all.whole;
-  first = subst (λ l. Edits around (it.one ∷ it.some_ones) before all.made l) it.back.0 all.first;
-  second = subst (λ l. Edits around (it.two ∷ it.some_twos) all.made all.whole l) it.back.1 all.second;
-  at_once = subst (λ l. Edits around (at_once it.one it.two ∷ it.some_boths) before all.whole l) it.back.2 all.at_once;
-})
+behind : {around : Around} {before : List Item} {ident : Ident}
+    {ones twos boths left later rest : List Change}
+    (it : Taken ident [] ones twos boths left later rest) →
+    Twice around before (it.one ∷ it.some_ones) (it.two ∷ it.some_twos)
+    (at_once it.one it.two ∷ it.some_boths) it.some_ones it.some_twos it.some_boths →
+    Twice around before ones twos boths left later rest
+behind {around = around} {before = before} it all =
+    from it.are.0 it.are.1 (it.are.2 ∙ ap (λ both. both ∷ it.some_boths) (both-is it.its)) (record {
+      made = all.made;
+      whole = all.whole;
+      first = subst (λ l. Edits around (it.one ∷ it.some_ones) before all.made l) it.back.0 all.first;
+      second = subst (λ l. Edits around (it.two ∷ it.some_twos) all.made all.whole l) it.back.1 all.second;
+      at_once = subst (λ l. Edits around (at_once it.one it.two ∷ it.some_boths) before all.whole l) it.back.2 all.at_once;
+    })
 
 -- Specifiers of one name.
 
@@ -133,18 +171,32 @@ lone_plain : {head : Head} → IsSpecifier head → (x : Item) → is_plain head
 lone_plain imports x = refl
 lone_plain exports x = refl
 
-two_around : {head : Head} → IsSpecifier head → (x y : Item) → around_in head (x ∷ y ∷ []) ≡ Anywhere
+two_around : {head : Head} → IsSpecifier head → (x y : Item) →
+    around_in head (x ∷ y ∷ []) ≡ Anywhere
 two_around imports x y = refl
 two_around exports x y = refl
 
-two_plain : {head : Head} → IsSpecifier head → (field : ℕ) (x : Text) (ctxt : ℕ) (role : Role) (y : Text) → is_plain head (h.Ident field x ctxt role ∷ h.Ident 1 y 0 r.Word ∷ []) ≡ true
+two_plain : {head : Head} → IsSpecifier head →
+    (field : ℕ) (x : Text) (ctxt : ℕ) (role : Role) (y : Text) →
+    is_plain head (h.Ident field x ctxt role ∷ h.Ident 1 y 0 r.Word ∷ []) ≡ true
 two_plain imports field x ctxt role y = refl
 two_plain exports field x ctxt role y = refl
 
-within : {around : Around} {head : Head} {x : Item} {changes rest : List Change} {made : List Item} (field : ℕ) → IsSpecifier head → Edits InSpecifier changes (x ∷ []) made rest → Edits around changes (node field head (x ∷ [])) (node field head made) rest
-within {head = head} {x = x} {changes = changes} {rest = rest} {made = made} field is its = c.Inside field head (lone_plain is x) (subst (λ a. Edits a changes (x ∷ []) made rest) (sym (lone_around is x)) its)
+within : {around : Around} {head : Head} {x : Item} {changes rest : List Change} {made : List Item}
+    (field : ℕ) →
+    IsSpecifier head → Edits InSpecifier changes (x ∷ []) made rest →
+    Edits around changes (node field head (x ∷ [])) (node field head made) rest
+within {head = head} {x = x} {changes = changes} {rest = rest} {made = made} field is its =
+    c.Inside field head (lone_plain is x)
+    (subst (λ a. Edits a changes (x ∷ []) made rest) (sym (lone_around is x)) its)
 
-lone_name : {around : Around} (f : ℕ) (head : Head) → IsSpecifier head → (field : ℕ) (x : Text) (ctxt : ℕ) (role : Role) → is_occurrence role ≡ true → (o t : Bool) (new final : Ident) → (o ≡ false → new.0 ≡ x) → (ones twos boths : List Change) → Twice around (node f head (h.Ident field x ctxt role ∷ [])) (record { ident = new; is_spelled_out = o } ∷ ones) (record { ident = final; is_spelled_out = t } ∷ twos) (record { ident = final; is_spelled_out = o || t } ∷ boths) ones twos boths
+lone_name : {around : Around} (f : ℕ) (head : Head) → IsSpecifier head →
+    (field : ℕ) (x : Text) (ctxt : ℕ) (role : Role) → is_occurrence role ≡ true →
+    (o t : Bool) (new final : Ident) → (o ≡ false → new.0 ≡ x) → (ones twos boths : List Change) →
+    Twice around (node f head (h.Ident field x ctxt role ∷ []))
+    (record { ident = new; is_spelled_out = o } ∷ ones)
+    (record { ident = final; is_spelled_out = t } ∷ twos)
+    (record { ident = final; is_spelled_out = o || t } ∷ boths) ones twos boths
 lone_name f head is field x ctxt role occurs true t new final keeps ones twos boths = record {
   made = node f head (h.Ident field new.0 new.1 role ∷ h.Ident 1 x 0 r.Word ∷ []);
   whole = node f head (h.Ident field final.0 final.1 role ∷ h.Ident 1 x 0 r.Word ∷ []);
@@ -160,10 +212,17 @@ lone_name f head is field x ctxt role occurs false t new final keeps ones twos b
   at_once = within f is (subst (λ s. Edits InSpecifier (record { ident = final; is_spelled_out = t } ∷ boths) (h.Ident field x ctxt role ∷ []) (in_its_place InSpecifier (Some (record { ident = final; is_spelled_out = t })) field s new.1 role) boths) (sym (keeps refl)) (c.Name InSpecifier field x ctxt role occurs));
 }
 
-lone_twice : {around : Around} (f : ℕ) (head : Head) → IsSpecifier head → (inside : List Item) → length inside ≡ 1 → Short inside → (ones twos boths left later rest : List Change) → Along (names_of inside) ones twos boths left later rest → Twice around (node f head inside) ones twos boths left later rest
+lone_twice : {around : Around} (f : ℕ) (head : Head) → IsSpecifier head → (inside : List Item) →
+    length inside ≡ 1 → Short inside → (ones twos boths left later rest : List Change) →
+    Along (names_of inside) ones twos boths left later rest →
+    Twice around (node f head inside) ones twos boths left later rest
 lone_twice f head is _ one none ones twos boths left later rest along = absurd (omega (arith, one))
-lone_twice f head is _ one (a_hole field) ones twos boths left later rest along = stays (node f head (h.Hole field ∷ [])) (λ changes. within f is (c.Hole field)) [] refl along
-lone_twice f head is _ one (a_word field x ctxt role plain) ones twos boths left later rest along = stays (node f head (h.Ident field x ctxt role ∷ [])) (λ changes. within f is (c.Word field x ctxt role plain)) (names_of (h.Ident field x ctxt role ∷ [])) (word_names field x ctxt role plain) along
+lone_twice f head is _ one (a_hole field) ones twos boths left later rest along =
+    stays (node f head (h.Hole field ∷ [])) (λ changes. within f is (c.Hole field)) [] refl along
+lone_twice f head is _ one (a_word field x ctxt role plain) ones twos boths left later rest along =
+    stays (node f head (h.Ident field x ctxt role ∷ []))
+    (λ changes. within f is (c.Word field x ctxt role plain))
+    (names_of (h.Ident field x ctxt role ∷ [])) (word_names field x ctxt role plain) along
 lone_twice f head is _ one (a_name field x ctxt role occurs) ones twos boths left later rest along =
     let it = taken (x, ctxt) [] ones twos boths left later rest (subst (λ l. Along l ones twos boths left later rest) (name_names field x ctxt role [] occurs) along) in
     behind it (lone_name f head is field x ctxt role occurs it.one.is_spelled_out it.two.is_spelled_out it.one.ident it.two.ident it.its.keeps it.some_ones it.some_twos it.some_boths)
@@ -186,18 +245,26 @@ view h.ExportNamedSpecifier (x ∷ y ∷ rest) = free anywhere
 view _ inside = free anywhere
 
 -- a node stays as it is
-second_stays : {changes rest : List Change} (inside made : List Item) → Edits Anywhere changes inside made rest → (2 ≤ length inside) → is_second_plain inside ≡ true → is_second_plain made ≡ true
+second_stays : {changes rest : List Change} (inside made : List Item) →
+    Edits Anywhere changes inside made rest → (2 ≤ length inside) → is_second_plain inside ≡ true →
+    is_second_plain made ≡ true
 second_stays [] made edits two is = absurd (omega (arith, two))
 second_stays (x ∷ []) made edits two is = absurd (omega (arith, two))
 second_stays (x ∷ y ∷ inside) [] edits two is = refl
 second_stays (x ∷ y ∷ inside) (a ∷ []) edits two is = refl
-second_stays (x ∷ y ∷ inside) (a ∷ b ∷ made) edits two is = ap not (ends_last false a (b ∷ made) ∙ same-last edits here false ∙ sym (ends_last false x (y ∷ inside))) ∙ is
+second_stays (x ∷ y ∷ inside) (a ∷ b ∷ made) edits two is =
+    ap not
+    (ends_last false a (b ∷ made) ∙ same-last edits here false ∙ sym (ends_last false x (y ∷ inside)))
+    ∙ is
 
 record Stays (head : Head) (inside made : List Item) : Type 0 where
   around : around_in head made ≡ around_in head inside
   plain : is_plain head made ≡ true
 
-specifier_stays : {head : Head} → IsSpecifier head → {changes rest : List Change} (inside made : List Item) → Edits Anywhere changes inside made rest → is_second_plain inside ≡ true → (length inside ≡ 1 → ⊥) → Stays head inside made
+specifier_stays : {head : Head} → IsSpecifier head →
+    {changes rest : List Change} (inside made : List Item) →
+    Edits Anywhere changes inside made rest → is_second_plain inside ≡ true →
+    (length inside ≡ 1 → ⊥) → Stays head inside made
 specifier_stays imports [] [] edits plain more = record { around = refl; plain = refl }
 specifier_stays exports [] [] edits plain more = record { around = refl; plain = refl }
 specifier_stays is [] (a ∷ made) edits plain more = let l = none-made edits (omega arith) in absurd (omega (arith, l))
@@ -214,37 +281,71 @@ not_free-is in_object e = absurd cc
 not_free : Free InSpecifier → ⊥
 not_free its = not_free-is its refl
 
-node_stays : (head : Head) (inside made : List Item) {changes rest : List Change} → Edits (around_in head inside) changes inside made rest → Free (around_in head inside) → is_plain head inside ≡ true → Stays head inside made
+node_stays : (head : Head) (inside made : List Item) {changes rest : List Change} →
+    Edits (around_in head inside) changes inside made rest → Free (around_in head inside) →
+    is_plain head inside ≡ true → Stays head inside made
 node_stays h.AssignPatProp inside made edits is plain = cc
-node_stays h.ImportNamedSpecifier [] made edits is plain = specifier_stays imports [] made edits plain (λ e. absurd (omega (arith, e)))
+node_stays h.ImportNamedSpecifier [] made edits is plain =
+    specifier_stays imports [] made edits plain (λ e. absurd (omega (arith, e)))
 node_stays h.ImportNamedSpecifier (x ∷ []) made edits is plain = absurd (not_free is)
-node_stays h.ImportNamedSpecifier (x ∷ y ∷ inside) made edits is plain = specifier_stays imports (x ∷ y ∷ inside) made edits plain (λ e. absurd (omega (arith, e)))
-node_stays h.ExportNamedSpecifier [] made edits is plain = specifier_stays exports [] made edits plain (λ e. absurd (omega (arith, e)))
+node_stays h.ImportNamedSpecifier (x ∷ y ∷ inside) made edits is plain =
+    specifier_stays imports (x ∷ y ∷ inside) made edits plain (λ e. absurd (omega (arith, e)))
+node_stays h.ExportNamedSpecifier [] made edits is plain =
+    specifier_stays exports [] made edits plain (λ e. absurd (omega (arith, e)))
 node_stays h.ExportNamedSpecifier (x ∷ []) made edits is plain = absurd (not_free is)
-node_stays h.ExportNamedSpecifier (x ∷ y ∷ inside) made edits is plain = specifier_stays exports (x ∷ y ∷ inside) made edits plain (λ e. absurd (omega (arith, e)))
+node_stays h.ExportNamedSpecifier (x ∷ y ∷ inside) made edits is plain =
+    specifier_stays exports (x ∷ y ∷ inside) made edits plain (λ e. absurd (omega (arith, e)))
 node_stays h.ObjectLit inside made edits is plain = record { around = refl; plain = refl }
 node_stays _ inside made edits is plain = record { around = refl; plain = refl }
 
 -- Shorthands of patterns.
 
-pattern_same : (change : Change) (x y : Text) (k l : ℕ) (role : Role) (default : List Item) → pattern_in_its_place (Some change) x k role default ≡ pattern_in_its_place (Some change) y l role default
+pattern_same : (change : Change) (x y : Text) (k l : ℕ) (role : Role) (default : List Item) →
+    pattern_in_its_place (Some change) x k role default ≡
+    pattern_in_its_place (Some change) y l role default
 pattern_same change x y k l role [] = refl
 pattern_same change x y k l role (z ∷ zs) = refl
 
-short_same : (t : Bool) (final : Ident) (field : ℕ) (x y : Text) (k l : ℕ) (role : Role) (default : List Item) → x ≡ y → shorthand_in_its_place (Some (record { ident = final; is_spelled_out = t })) field x k role default ≡ shorthand_in_its_place (Some (record { ident = final; is_spelled_out = t })) field y l role default
-short_same true final field x y k l role default same = ap₂ (λ (z : Text) (pattern : List Item). node field h.KeyValuePatProp (plain_key z ++ pattern)) same (pattern_same (record { ident = final; is_spelled_out = true }) x y k l role default)
+short_same : (t : Bool) (final : Ident) (field : ℕ) (x y : Text) (k l : ℕ) (role : Role)
+    (default : List Item) →
+    x ≡ y →
+    shorthand_in_its_place (Some (record { ident = final; is_spelled_out = t })) field x k role
+    default ≡
+    shorthand_in_its_place (Some (record { ident = final; is_spelled_out = t })) field y l role
+    default
+short_same true final field x y k l role default same =
+    ap₂ (λ (z : Text) (pattern : List Item). node field h.KeyValuePatProp (plain_key z ++ pattern))
+    same (pattern_same (record { ident = final; is_spelled_out = true }) x y k l role default)
 short_same false final field x y k l role default same = refl
 
-pattern_twice : (new final : Change) (x : Text) (ctxt : ℕ) (role : Role) → is_occurrence role ≡ true → (made whole : List Item) {twos later : List Change} → Edits Anywhere twos made whole later → Edits Anywhere (final ∷ twos) (pattern_in_its_place (Some new) x ctxt role made) (pattern_in_its_place (Some final) x ctxt role whole) later
-pattern_twice new final x ctxt role occurs [] [] {twos = twos} {later = later} edits = nothing twos later refl edits
+pattern_twice : (new final : Change) (x : Text) (ctxt : ℕ) (role : Role) →
+    is_occurrence role ≡ true → (made whole : List Item) {twos later : List Change} →
+    Edits Anywhere twos made whole later →
+    Edits Anywhere (final ∷ twos) (pattern_in_its_place (Some new) x ctxt role made)
+    (pattern_in_its_place (Some final) x ctxt role whole) later
+pattern_twice new final x ctxt role occurs [] [] {twos = twos} {later = later} edits =
+    nothing twos later refl edits
   where
-    nothing : (l m : List Change) → l ≡ l → Edits Anywhere l [] [] m → Edits Anywhere (final ∷ l) (binding (Some new) 1 x ctxt role) (binding (Some final) 1 x ctxt role) m
-    nothing l m e its = c.Inside 1 h.BindingIdent refl (c.Joined {second = []} {made_second = []} (c.Name Anywhere 0 new.ident.0 new.ident.1 role occurs) its)
+    nothing : (l m : List Change) → l ≡ l → Edits Anywhere l [] [] m →
+        Edits Anywhere (final ∷ l) (binding (Some new) 1 x ctxt role)
+        (binding (Some final) 1 x ctxt role) m
+    nothing l m e its =
+        c.Inside 1 h.BindingIdent refl
+        (c.Joined {second = []} {made_second = []} (c.Name Anywhere 0 new.ident.0 new.ident.1 role occurs) its)
 pattern_twice new final x ctxt role occurs [] (z ∷ whole) edits = let l = none-made edits (omega arith) in absurd (omega (arith, l))
 pattern_twice new final x ctxt role occurs (y ∷ made) [] edits = let l = longer edits in absurd (omega (arith, l))
-pattern_twice new final x ctxt role occurs (y ∷ made) (z ∷ whole) edits = c.Inside 1 h.AssignPat refl (c.Joined (c.Inside 0 h.BindingIdent refl (c.Name Anywhere 0 new.ident.0 new.ident.1 role occurs)) edits)
+pattern_twice new final x ctxt role occurs (y ∷ made) (z ∷ whole) edits =
+    c.Inside 1 h.AssignPat refl
+    (c.Joined (c.Inside 0 h.BindingIdent refl (c.Name Anywhere 0 new.ident.0 new.ident.1 role occurs)) edits)
 
-short_exact : {around : Around} (field : ℕ) (x : Text) (ctxt : ℕ) (role : Role) → is_occurrence role ≡ true → (default : List Item) (o t : Bool) (new final : Ident) → (o ≡ false → new.0 ≡ x) → {ones twos boths left later rest : List Change} → Twice Anywhere default ones twos boths left later rest → Twice around (node field h.AssignPatProp (binding None 0 x ctxt role ++ default)) (record { ident = new; is_spelled_out = o } ∷ ones) (record { ident = final; is_spelled_out = t } ∷ twos) (record { ident = final; is_spelled_out = o || t } ∷ boths) left later rest
+short_exact : {around : Around} (field : ℕ) (x : Text) (ctxt : ℕ) (role : Role) →
+    is_occurrence role ≡ true → (default : List Item) (o t : Bool) (new final : Ident) →
+    (o ≡ false → new.0 ≡ x) → {ones twos boths left later rest : List Change} →
+    Twice Anywhere default ones twos boths left later rest →
+    Twice around (node field h.AssignPatProp (binding None 0 x ctxt role ++ default))
+    (record { ident = new; is_spelled_out = o } ∷ ones)
+    (record { ident = final; is_spelled_out = t } ∷ twos)
+    (record { ident = final; is_spelled_out = o || t } ∷ boths) left later rest
 short_exact field x ctxt role occurs default true t new final keeps {twos = twos} {later = later} it = record {
   made = node field h.KeyValuePatProp (plain_key x ++ pattern_in_its_place (Some (record { ident = new; is_spelled_out = true })) x ctxt role it.made);
   whole = node field h.KeyValuePatProp (plain_key x ++ pattern_in_its_place (Some (record { ident = final; is_spelled_out = true })) x ctxt role it.whole);
@@ -253,7 +354,10 @@ short_exact field x ctxt role occurs default true t new final keeps {twos = twos
   at_once = c.Shorthand field x ctxt role occurs it.at_once;
 }
   where
-    final_same : (l : List Item) → pattern_in_its_place (Some (record { ident = final; is_spelled_out = t })) x ctxt role l ≡ pattern_in_its_place (Some (record { ident = final; is_spelled_out = true })) x ctxt role l
+    final_same : (l : List Item) →
+        pattern_in_its_place (Some (record { ident = final; is_spelled_out = t })) x ctxt role l ≡
+        pattern_in_its_place (Some (record { ident = final; is_spelled_out = true })) x ctxt
+        role l
     final_same [] = refl
     final_same (y ∷ ys) = refl
 short_exact {around = around} field x ctxt role occurs default false t new final keeps {boths = boths} {rest = rest} it = record {
@@ -266,15 +370,23 @@ short_exact {around = around} field x ctxt role occurs default false t new final
 
 -- what becomes of a part by one change after the other is what becomes of it by both at once
 
-pub twice : {around : Around} {changes others : List Change} {before after : List Item} → Edits around changes before after others → Free around → (ones twos boths left later rest : List Change) → Along (names_of before) ones twos boths left later rest → Twice around before ones twos boths left later rest
-twice c.Nothing is ones twos boths left later rest along = stays [] (λ changes. c.Nothing) [] refl along
+pub twice : {around : Around} {changes others : List Change} {before after : List Item} →
+    Edits around changes before after others → Free around →
+    (ones twos boths left later rest : List Change) →
+    Along (names_of before) ones twos boths left later rest →
+    Twice around before ones twos boths left later rest
+twice c.Nothing is ones twos boths left later rest along =
+    stays [] (λ changes. c.Nothing) [] refl along
 twice (c.Joined {first = first} {second = second} d e) is ones twos boths left later rest along =
     let parts = split (names_of first) (names_of second) ones twos boths left later rest (subst (λ l. Along l ones twos boths left later rest) (names_of-append first second) along) in
     let one = twice d is ones twos boths parts.some_ones parts.some_twos parts.some_boths parts.front in
     let two = twice e is parts.some_ones parts.some_twos parts.some_boths left later rest parts.back in
     record { made = one.made ++ two.made; whole = one.whole ++ two.whole; first = c.Joined one.first two.first; second = c.Joined one.second two.second; at_once = c.Joined one.at_once two.at_once }
-twice (c.Hole field) is ones twos boths left later rest along = stays (h.Hole field ∷ []) (λ changes. c.Hole field) [] refl along
-twice (c.Word field x ctxt role plain) is ones twos boths left later rest along = stays (h.Ident field x ctxt role ∷ []) (λ changes. c.Word field x ctxt role plain) (names_of (h.Ident field x ctxt role ∷ [])) (word_names field x ctxt role plain) along
+twice (c.Hole field) is ones twos boths left later rest along =
+    stays (h.Hole field ∷ []) (λ changes. c.Hole field) [] refl along
+twice (c.Word field x ctxt role plain) is ones twos boths left later rest along =
+    stays (h.Ident field x ctxt role ∷ []) (λ changes. c.Word field x ctxt role plain)
+    (names_of (h.Ident field x ctxt role ∷ [])) (word_names field x ctxt role plain) along
 twice (c.Name around field x ctxt role occurs) is ones twos boths left later rest along =
     let it = taken (x, ctxt) [] ones twos boths left later rest (subst (λ l. Along l ones twos boths left later rest) (name_names field x ctxt role [] occurs) along) in
     behind it (name_exact around is field x ctxt role occurs it.one it.two it.its.keeps it.some_ones it.some_twos it.some_boths)
@@ -282,9 +394,13 @@ twice {around = around} (c.Inside field head {inside = inside} plain one) is one
     by_view (view head inside) (λ its. twice one its ones twos boths left later rest within_names)
   where
     within_names : Along (names_of inside) ones twos boths left later rest
-    within_names = subst (λ l. Along l ones twos boths left later rest) (node_names field head inside) along
+    within_names =
+        subst (λ l. Along l ones twos boths left later rest) (node_names field head inside) along
 
-    by_view : View head inside → (Free (around_in head inside) → Twice (around_in head inside) inside ones twos boths left later rest) → Twice around (node field head inside) ones twos boths left later rest
+    by_view : View head inside →
+        (Free (around_in head inside) → Twice (around_in head inside) inside ones twos boths left later rest)
+        →
+        Twice around (node field head inside) ones twos boths left later rest
     by_view (free its) ih =
         let it = ih its in
         let kept = node_stays head inside it.made it.first its plain in
@@ -295,7 +411,9 @@ twice {around = around} (c.Inside field head {inside = inside} plain one) is one
           second = c.Inside field head kept.plain (subst (λ a. Edits a twos it.made it.whole later) (sym kept.around) it.second);
           at_once = c.Inside field head plain it.at_once;
         }
-    by_view (lone its size) ih = lone_twice field head its inside size (short one (let e = size in omega (arith, e))) ones twos boths left later rest within_names
+    by_view (lone its size) ih =
+        lone_twice field head its inside size (short one (let e = size in omega (arith, e))) ones
+        twos boths left later rest within_names
 twice {around = around} (c.Shorthand field x ctxt role {default = default} occurs one) is ones twos boths left later rest along =
     let it = taken (x, ctxt) (names_of default) ones twos boths left later rest (subst (λ l. Along l ones twos boths left later rest) (short_names field x ctxt role default occurs) along) in
     let inner = twice one anywhere it.some_ones it.some_twos it.some_boths left later rest it.back in
@@ -305,7 +423,9 @@ twice {around = around} (c.Shorthand field x ctxt role {default = default} occur
 -- With identifiers.
 
 -- a symbol that a first and a second change replace
-changes-both : (old new final : Ident) → (bytes_eq old.0 final.0 ≡ true → bytes_eq old.0 new.0 ≡ true) → IsBoth old (change_to old new) (change_to new final) (change_to old final)
+changes-both : (old new final : Ident) →
+    (bytes_eq old.0 final.0 ≡ true → bytes_eq old.0 new.0 ≡ true) →
+    IsBoth old (change_to old new) (change_to new final) (change_to old final)
 changes-both old new final back = record {
   is = refl;
   spelled = by_first (bytes_eq old.0 new.0) refl (bytes_eq old.0 final.0) refl;
@@ -316,32 +436,42 @@ changes-both old new final back = record {
     not-false true e = refl
     not-false false e = absurd (false≢true (sym e))
 
-    by_first : (a : Bool) → bytes_eq old.0 new.0 ≡ a → (b : Bool) → bytes_eq old.0 final.0 ≡ b → not (bytes_eq old.0 final.0) ≡ (not (bytes_eq old.0 new.0) || not (bytes_eq new.0 final.0))
-    by_first true a b b_is = ap (λ (x : Text). not (bytes_eq x final.0)) ((bytes_eq-Decides old.0 new.0).0 a) ∙ ap (λ z. not z || not (bytes_eq new.0 final.0)) (sym a)
-    by_first false a false b_is = ap not b_is ∙ ap (λ z. not z || not (bytes_eq new.0 final.0)) (sym a)
+    by_first : (a : Bool) → bytes_eq old.0 new.0 ≡ a → (b : Bool) → bytes_eq old.0 final.0 ≡ b →
+        not (bytes_eq old.0 final.0) ≡ (not (bytes_eq old.0 new.0) || not (bytes_eq new.0 final.0))
+    by_first true a b b_is =
+        ap (λ (x : Text). not (bytes_eq x final.0)) ((bytes_eq-Decides old.0 new.0).0 a)
+        ∙ ap (λ z. not z || not (bytes_eq new.0 final.0)) (sym a)
+    by_first false a false b_is =
+        ap not b_is ∙ ap (λ z. not z || not (bytes_eq new.0 final.0)) (sym a)
     by_first false a true b_is = absurd (false≢true (sym a ∙ back b_is))
 
-along-changes : (olds news last : List Ident) → AreNotBack olds news last → Along olds (changes_to olds news) (changes_to news last) (changes_to olds last) [] [] []
+along-changes : (olds news last : List Ident) → AreNotBack olds news last →
+    Along olds (changes_to olds news) (changes_to news last) (changes_to olds last) [] [] []
 along-changes [] [] [] back = (refl, refl, refl)
 along-changes [] [] (x ∷ last) back = absurd back
 along-changes [] (x ∷ news) last back = absurd back
 along-changes (x ∷ olds) [] last back = absurd back
 along-changes (x ∷ olds) (y ∷ news) [] back = absurd back
-along-changes (x ∷ olds) (y ∷ news) (z ∷ last) back = (changes-both x y z back.0, along-changes olds news last back.1)
+along-changes (x ∷ olds) (y ∷ news) (z ∷ last) back =
+    (changes-both x y z back.0, along-changes olds news last back.1)
 
-changed-idents : (olds news : List Ident) → length news ≡ length olds → map ident_of_change (changes_to olds news) ≡ news
+changed-idents : (olds news : List Ident) → length news ≡ length olds →
+    map ident_of_change (changes_to olds news) ≡ news
 changed-idents [] [] same = refl
 changed-idents [] (x ∷ news) same = absurd (omega (arith, same))
 changed-idents (x ∷ olds) [] same = absurd (omega (arith, same))
-changed-idents (x ∷ olds) (y ∷ news) same = ap (λ l. y ∷ l) (changed-idents olds news (omega (arith, same)))
+changed-idents (x ∷ olds) (y ∷ news) same =
+    ap (λ l. y ∷ l) (changed-idents olds news (omega (arith, same)))
 
-changes-length : (olds news : List Ident) → length news ≡ length olds → length (changes_to olds news) ≡ length olds
+changes-length : (olds news : List Ident) → length news ≡ length olds →
+    length (changes_to olds news) ≡ length olds
 changes-length [] [] same = refl
 changes-length [] (x ∷ news) same = absurd (omega (arith, same))
 changes-length (x ∷ olds) [] same = absurd (omega (arith, same))
 changes-length (x ∷ olds) (y ∷ news) same = let e = changes-length olds news (omega (arith, same)) in omega (arith, e)
 
-not_back-lengths : (olds news last : List Ident) → AreNotBack olds news last → (length news ≡ length olds) × (length last ≡ length olds)
+not_back-lengths : (olds news last : List Ident) → AreNotBack olds news last →
+    (length news ≡ length olds) × (length last ≡ length olds)
 not_back-lengths [] [] [] back = (refl, refl)
 not_back-lengths [] [] (x ∷ last) back = absurd back
 not_back-lengths [] (x ∷ news) last back = absurd back
@@ -350,7 +480,9 @@ not_back-lengths (x ∷ olds) (y ∷ news) [] back = absurd back
 not_back-lengths (x ∷ olds) (y ∷ news) (z ∷ last) back = let both = not_back-lengths olds news last back.1 in let a = both.0 in let b = both.1 in (omega (arith, a), omega (arith, b))
 
 -- what is made has the new identifiers
-idents-made : (tree made : List Item) (news : List Ident) {left : List Change} → length news ≡ length (idents tree) → left ≡ [] → Edits Anywhere (changes_to (idents tree) news) tree made left → idents made ≡ news
+idents-made : (tree made : List Item) (news : List Ident) {left : List Change} →
+    length news ≡ length (idents tree) → left ≡ [] →
+    Edits Anywhere (changes_to (idents tree) news) tree made left → idents made ≡ news
 idents-made tree made news {left = left} same ends edits =
     let a = changes-length (idents tree) news same in
     let b = ap (λ (l : List Ident). length l) (idents-names tree) in
@@ -363,7 +495,8 @@ pub record Again (tree : List Item) (news last : List Ident) : Type 0 where
   pub last_are : idents (with_idents tree last) ≡ last
   pub once : with_idents (with_idents tree news) last ≡ with_idents tree last
 
-pub once-is-twice : (tree : List Item) → IsEditable tree → (news last : List Ident) → AreNotBack (idents tree) news last → Again tree news last
+pub once-is-twice : (tree : List Item) → IsEditable tree → (news last : List Ident) →
+    AreNotBack (idents tree) news last → Again tree news last
 once-is-twice tree editable news last back =
     let along : Along (names_of tree) (changes_to (idents tree) news) (changes_to news last) (changes_to (idents tree) last) [] [] [] = subst (λ l. Along l (changes_to (idents tree) news) (changes_to news last) (changes_to (idents tree) last) [] [] []) (idents-names tree) (along-changes (idents tree) news last back) in
     let it = twice editable.edits anywhere (changes_to (idents tree) news) (changes_to news last) (changes_to (idents tree) last) [] [] [] along in
@@ -391,7 +524,8 @@ back-same [] (x ∷ news) same = absurd (omega (arith, same))
 back-same (x ∷ olds) [] same = absurd (omega (arith, same))
 back-same (x ∷ olds) (y ∷ news) same = ((λ is. is), back-same olds news (omega (arith, same)))
 
-pub edits-with : (tree : List Item) → IsEditable tree → (news : List Ident) → length news ≡ length (idents tree) → WithIdents tree news
+pub edits-with : (tree : List Item) → IsEditable tree → (news : List Ident) →
+    length news ≡ length (idents tree) → WithIdents tree news
 edits-with tree editable news same =
     let back = back-same (idents tree) news same in
     let along : Along (names_of tree) (changes_to (idents tree) news) (changes_to news news) (changes_to (idents tree) news) [] [] [] = subst (λ l. Along l (changes_to (idents tree) news) (changes_to news news) (changes_to (idents tree) news) [] [] []) (idents-names tree) (along-changes (idents tree) news news back) in
@@ -399,8 +533,10 @@ edits-with tree editable news same =
     record { made = it.made; edits = it.first; is = rebuilt_so (record { rest = []; by = it.first }); editable = record { changes = changes_to news news; after = it.whole; left = []; edits = it.second } }
 
 -- the tree with other identifiers can be edited again
-pub editable-again : (tree : List Item) → IsEditable tree → (news : List Ident) → length news ≡ length (idents tree) → IsEditable (with_idents tree news)
+pub editable-again : (tree : List Item) → IsEditable tree → (news : List Ident) →
+    length news ≡ length (idents tree) → IsEditable (with_idents tree news)
 editable-again tree editable news same = let it = edits-with tree editable news same in subst IsEditable it.is it.editable
 
-pub with-idents-are : (tree : List Item) → IsEditable tree → (news : List Ident) → length news ≡ length (idents tree) → idents (with_idents tree news) ≡ news
+pub with-idents-are : (tree : List Item) → IsEditable tree → (news : List Ident) →
+    length news ≡ length (idents tree) → idents (with_idents tree news) ≡ news
 with-idents-are tree editable news same = let it = edits-with tree editable news same in ap idents (sym it.is) ∙ idents-made tree it.made news same refl it.edits

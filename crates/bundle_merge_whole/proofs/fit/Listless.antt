@@ -4,16 +4,12 @@ use Rattle.std.proofs.lemmas.Bool.{false≢true, true≢false}
 use Rattle.bundle_tree_piece.specs.declared.piece.Role.{Role}
 use Rattle.bundle_tree_piece.specs.Item as h
 use Rattle.bundle_tree_piece.specs.Item.{Item, Head}
-use Rattle.bundle_rules.specs.Nodes.{begins_with, without_last}
+use Rattle.bundle_rules.specs.Nodes.{begins_with}
 use Rattle.bundle_rules.specs.Forms.{is_export_list}
 use Rattle.bundle_scope_renamed.specs.fit.Sorts.{Sort, ADefault, ADecl, One, slot, takes, names_in, slots}
 use Rattle.bundle_scope_renamed.specs.fit.Fits.{AreFit, over, a_name, a_node, IsFit, name, node}
+use Rattle.bundle_merge_meaning.proofs.noted.Statements.{last_off}
 use Rattle.bundle_merge_whole.proofs.called.Filed.{IsListless}
-
-last_off : (xs : List Item) (x : Item) → without_last (xs ++ x ∷ []) ≡ xs
-last_off [] x = refl
-last_off (y ∷ []) x = refl
-last_off (y ∷ z ∷ xs) x = ap (λ l. y ∷ l) (last_off (z ∷ xs) x)
 
 decl_head : (head : Head) → takes head ADecl ≡ true → is_export_list head ≡ false
 decl_head (h.NamedExport meta) is = absurd (false≢true is)

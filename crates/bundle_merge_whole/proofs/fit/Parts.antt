@@ -9,28 +9,16 @@ use Rattle.bundle_tree_piece.specs.Item.{Item, Head}
 use Rattle.bundle_rules.specs.Nodes.{put_first, side_by_side, begins_in, parts}
 use Rattle.bundle_scope_renamed.specs.fit.Sorts.{Sort, One, Slot, slot, AModule, AnItem, Many, takes, takes_name, names_in, slots}
 use Rattle.bundle_scope_renamed.specs.fit.Fits.{AreFit, no_more, over, a_name, a_hole, a_node, IsFit, name, node, AreEach, ended, next}
-
--- these elements in front of the first list
-put_all : List Item → List (List Item) → List (List Item)
-put_all [] lists = lists
-put_all (x ∷ xs) lists = put_first x (put_all xs lists)
+use Rattle.bundle_merge_joined.proofs.grouped.WholeLemmas.{put_all, put_all-cons}
 
 put_all_append : (xs ys : List Item) (lists : List (List Item)) →
     put_all (xs ++ ys) lists ≡ put_all xs (put_all ys lists)
-unfolding put_all
 put_all_append [] ys lists = refl
 put_all_append (x ∷ xs) ys lists = ap (put_first x) (put_all_append xs ys lists)
-
-put_all_front : (xs first : List Item) (lists : List (List Item)) →
-    put_all xs (first ∷ lists) ≡ (xs ++ first) ∷ lists
-unfolding put_all
-put_all_front [] first lists = refl
-put_all_front (x ∷ xs) first lists = ap (put_first x) (put_all_front xs first lists)
 
 -- in a node that is open
 inner : {list : List Slot} {xs : List Item} → AreFit list xs → (depth : ℕ) (ys : List Item) →
     side_by_side (suc depth) (xs ++ ys) ≡ put_all xs (side_by_side (suc depth) ys)
-unfolding put_all
 inner no_more depth ys = refl
 inner (over e fit) depth ys = inner fit depth ys
 inner (a_name {number = n} {x = x} {ctxt = t} {role = role} it fit) depth ys =
@@ -51,7 +39,7 @@ beside (name it) rest = refl
 beside (node {field = n} {head = hd} {inside = ins} it in_it) rest =
     ap (λ l. put_first (h.Open n hd) (side_by_side (suc zero) l)) (append_assoc ins (h.Close ∷ []) rest)
     ∙ ap (put_first (h.Open n hd)) (inner in_it zero (h.Close ∷ rest))
-    ∙ ap (put_first (h.Open n hd)) (put_all_front ins (h.Close ∷ []) (side_by_side zero rest))
+    ∙ ap (put_first (h.Open n hd)) (put_all-cons ins (h.Close ∷ []) (side_by_side zero rest))
 
 pub begins : {sort : Sort} {field : ℕ} {items : List Item} → IsFit sort field items →
     begins_in field items ≡ true

@@ -21,7 +21,7 @@ declares sort path =
     (not (is_binding (names_in sort)) || is_some (way_of path)) &&
     (not (takes_declarator sort) || is_some (way_of_declarator path))
 
-either : (a b : Bool) → a ≡ true → (not a || b) ≡ true → b ≡ true
+pub either : (a b : Bool) → a ≡ true → (not a || b) ≡ true → b ≡ true
 either true b is e = e
 either false b is e = absurd (false≢true is)
 

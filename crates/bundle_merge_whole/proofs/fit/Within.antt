@@ -13,6 +13,8 @@ use Rattle.bundle_merge_whole.specs.called.Within.{is_setter_key, has_parameters
 use Rattle.bundle_merge_whole.specs.called.Within as w
 use Rattle.bundle_scope_renamed.proofs.fit.Seeing.{after_slot}
 use Rattle.bundle_scope_renamed.proofs.fit.Owning.{is_own, own_head, own_slots}
+use Rattle.bundle_merge_whole.proofs.fit.Parts.{ends}
+use Rattle.bundle_merge_whole.proofs.fit.Ways.{either}
 
 abbrev pub is_plain_key : Sort → Bool
 is_plain_key AKey = true
@@ -29,10 +31,6 @@ seated_slots h.Module names = refl
 seated_slots (h.NewExpr true) names = refl
 seated_slots (h.NewExpr false) names = refl
 seated_slots _ names = refl
-
-either : (a b : Bool) → a ≡ true → (not a || b) ≡ true → b ≡ true
-either true b is e = e
-either false b is e = absurd (false≢true is)
 
 key_is : (sort : Sort) → is_plain_key sort ≡ true → sort ≡ AKey
 key_is AKey e = refl
@@ -90,13 +88,10 @@ no_node : (head : Head) (names : Role) → takes head (AnIdent names) ≡ true �
 no_node h.Module names is = false≢true is
 no_node _ names is = false≢true is
 
-nothing_left : {items : List Item} → AreFit [] items → items ≡ []
-nothing_left no_more = refl
-
 is_name : (names : Role) {items : List Item} → AreFit (slot 0 One (AnIdent names) ∷ []) items →
     IsName items
 is_name names (over e fit) = absurd (true≢false e)
-is_name names (a_name {x = x} {ctxt = t} {role = role} it fit) = record { inner = 0; sym = x; ctxt = t; role = role; is = ap (λ l. h.Ident 0 x t role ∷ l) (nothing_left fit) }
+is_name names (a_name {x = x} {ctxt = t} {role = role} it fit) = record { inner = 0; sym = x; ctxt = t; role = role; is = ap (λ l. h.Ident 0 x t role ∷ l) (ends fit) }
 is_name names (a_node {head = hd} it in_it fit) = absurd (no_node hd names it)
 
 no_lone : (role names : Role) → takes_name role (ABindingIdent names) ≡ true → ⊥

@@ -1,5 +1,6 @@
 -- What is so of the lists of syntax trees, since they are fit.
-use Rattle.std.proofs.Common.{◌≡◌, ℕ, true, Some, refl, sym, subst}
+use Rattle.std.proofs.Common.{◌≡◌, ℕ, List, true, Some, refl, sym, subst, [], ◌∷◌, map}
+use Rattle.std.specs.List.{AllByRecursion}
 use Rattle.bundle_tree_ast.specs.declared.module.Module.{Module}
 use Rattle.bundle_tree_ast.specs.declared.module.ModuleItem.{ModuleItem}
 use Rattle.bundle_tree_ast.specs.declared.stmt.Stmt.{Stmt}
@@ -24,7 +25,7 @@ use Rattle.bundle_scope_renamed.proofs.kept.Grouped.{HasPlainKeys}
 use Rattle.bundle_merge_joined.specs.grouped.Renaming.{HasWays}
 use Rattle.bundle_merge_whole.specs.called.Within.{AreIn}
 use Rattle.bundle_merge_whole.proofs.called.Filed.{IsListless}
-use Rattle.bundle_scope_renamed.specs.fit.Sorts.{AModule, AStmt, ADecl, AnExpr}
+use Rattle.bundle_scope_renamed.specs.fit.Sorts.{AModule, AnItem, AStmt, ADecl, AnExpr}
 use Rattle.bundle_scope_renamed.specs.fit.Fits.{IsFit}
 use Rattle.bundle_merge_whole.specs.fit.Kept.{IsFitModule, HandsInFit}
 use Rattle.bundle_merge_whole.proofs.fit.Clearing.{one_cleared}
@@ -138,3 +139,11 @@ pub kept-tree-fit : (p : Program) (m : ℕ) (loaded : Loaded) → module_of p m 
     (it : Module) → loaded.items ≡ cleared (module_items 0 it) → IsFit AModule 0 (tree_of p m)
 kept-tree-fit p m loaded there it is =
     tree-fit p m loaded there (subst (IsFit AModule 0) (sym is) (kept_fit it))
+
+-- What is put together of trees.
+
+-- the items of a module that is put together of trees are fit
+pub items-fit : (items : List ModuleItem) →
+    AllByRecursion (IsFit AnItem 0) (map (module_item_items 0) items)
+items-fit [] = tt
+items-fit (it ∷ rest) = (module_item_fit 0 it, items-fit rest)

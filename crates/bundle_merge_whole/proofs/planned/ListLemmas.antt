@@ -1,10 +1,10 @@
 -- Lists in which each element stands once, and elements of lists that are put together.
-use Rattle.std.proofs.Common.{◌≡◌, ◌⊎◌, inl, inr, ℕ, zero, suc, Bool, true, false, not, nat_eq, List, [], ◌∷◌, ◌++◌, Option, Some, Contains, length, map, refl, sym, ap, ◌∙◌, subst, cond, eqb-true, eq-eqb, arith}
+use Rattle.std.proofs.Common.{◌≡◌, ◌⊎◌, inl, inr, ℕ, zero, suc, Bool, true, false, not, nat_eq, List, [], ◌∷◌, ◌++◌, Option, Some, Contains, map, refl, sym, ap, ◌∙◌, subst, cond, eq-eqb, arith}
 use Rattle.std.specs.Prelude.{bytes_eq, filter, flat_map, slice_get}
 use Rattle.std.specs.List.{AllZip}
 use Rattle.std.proofs.lemmas.Bool.{false≢true}
 use Rattle.std.proofs.lemmas.List.Elements.{Contains-append_cases}
-use Rattle.std.proofs.lemmas.Option.{none-some, same_Some, get_or_from_slice_get, slice_get_within, slice_get-get_or}
+use Rattle.std.proofs.lemmas.Option.{none-some, same_Some}
 use Rattle.std.proofs.lemmas.Slice.Eq.{bytes_eq-Decides}
 use Rattle.bundle_rules.specs.Nodes.{Text, each_once, numbers_once}
 use Rattle.bundle_order_sort.proofs.OnceLemmas.{IsOnce}

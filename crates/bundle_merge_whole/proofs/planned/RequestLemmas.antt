@@ -1,16 +1,14 @@
 -- What modules request, what the list has, and which modules, externals and targets are reached.
-use Rattle.std.proofs.Common.{◌≡◌, inl, inr, ◌↔◌, ℕ, Bool, true, false, not, nat_eq, List, [], Option, Some, None, Contains, refl, sym, ap, subst, if◌then◌else◌, arith}
-use Rattle.std.specs.Prelude.{bytes_eq, flat_map}
+use Rattle.std.proofs.Common.{◌≡◌, inl, inr, ◌↔◌, ℕ, not, nat_eq, List, [], Option, Some, Contains, sym, ap, subst, arith}
+use Rattle.std.specs.Prelude.{flat_map}
 use Rattle.std.proofs.lemmas.List.Elements.{Contains-append_left, Contains-append_cases}
-use Rattle.std.proofs.lemmas.Option.{none-some}
 use Rattle.std.proofs.lemmas.Map.Keys.{IsDistinct-from_apart}
-use Rattle.bundle_tree_piece.specs.Item.{Item}
 use Rattle.bundle_order_graph.specs.Walks.{Reaches, itself, along}
 use Rattle.bundle_order_graph.proofs.WalkLemmas.{Reaches-trans}
 use Rattle.bundle_order_graph.proofs.OrderLemmas.{Lists-takes, Lists-closed, Lists-sound, Lists-apart}
 use Rattle.bundle_rules.specs.Nodes.{Text, has_text}
 use Rattle.bundle_rules.specs.Bound.{is_free}
-use Rattle.bundle_rules.specs.Entries.{Taken, Named, ImportEntry, declared_requests, imports_of, import_of, requests_of}
+use Rattle.bundle_rules.specs.Entries.{Taken, Named, declared_requests, requests_of}
 use Rattle.bundle_rules.specs.Program.{Program, tree_of, resolves, is_external, Requests, IsReached, IsList}
 use Rattle.bundle_rules.specs.Linking.{Target, Declared, Namespace, External, CommonJs, IsModule, Takes, of_external, of_common_js, of_module, Gives, declaration, namespace_import, taken, given_on, starred, Origin, Linked, HasExternalStar, own, through, StandsFor, declared, imported, taken_whole}
 use Rattle.bundle_rules.specs.Meaning.{Label, Of, Replacement, ReadsAs, by_name, by_read, Replaced, static_read, import_meta, require_call, OwnName, at_top, parameter, label_of, SaysAt, says_name, says_node, IsMeant, by_statement, by_export, by_namespace}

@@ -13,11 +13,14 @@ abbrev pub fits_node : Stand → ℕ → Bool
 fits_node AtTarget field = field == 1
 fits_node stand field = true
 
--- elements of which the first stands there, where behind the ends of the open nodes elements stand there
+-- elements of which the first stands there, where behind the ends of the open nodes elements stand
+-- there
 abbrev pub are_listed : Stand → List Stand → List Item → Bool
 are_listed stand outer [] = true
-are_listed stand outer (h.Open field head ∷ rest) = fits_node stand field && are_listed (first_in head) (next_to stand ∷ outer) rest
-are_listed stand outer (h.Ident field x ctxt role ∷ rest) = fits_name stand role && are_listed (next_to stand) outer rest
+are_listed stand outer (h.Open field head ∷ rest) =
+    fits_node stand field && are_listed (first_in head) (next_to stand ∷ outer) rest
+are_listed stand outer (h.Ident field x ctxt role ∷ rest) =
+    fits_name stand role && are_listed (next_to stand) outer rest
 are_listed stand outer (h.Hole field ∷ rest) = are_listed (next_to stand) outer rest
 are_listed stand [] (h.Close ∷ rest) = are_listed Other [] rest
 are_listed stand (next ∷ outer) (h.Close ∷ rest) = are_listed next outer rest

@@ -17,12 +17,16 @@ number_at numbers (Global x) = 0
 
 -- the numbers of the tree without keywords: those of what was denoted
 abbrev pub later_of : Calling → List Item → Numbering → Numbering
-later_of call tree numbers scope name = unwrap_or (option_map (number_at numbers) (find (λ d. same_denoted (recalled_denoted call (called_place call tree) d) (Bound scope name)) (denotations ByContext Es tree))) 0
+later_of call tree numbers scope name =
+    unwrap_or
+    (option_map (number_at numbers) (find (λ d. same_denoted (recalled_denoted call (called_place call tree) d) (Bound scope name)) (denotations ByContext Es tree)))
+    0
 
 -- the symbol of what is denoted by the numbers of the merged tree
 abbrev pub symbol_by : Numbering → Calling → Denoted → List ℕ
 symbol_by numbers call (Global x) = x
-symbol_by numbers call (Bound scope name) = cond (is_written name) (numbered (recalled call name).sym (numbers scope name)) name.sym
+symbol_by numbers call (Bound scope name) =
+    cond (is_written name) (numbered (recalled call name).sym (numbers scope name)) name.sym
 
 -- the symbol of an occurrence by the numbers of the merged tree
 abbrev pub named_symbol : Calling → List Item → Numbering → Occurrence → List ℕ

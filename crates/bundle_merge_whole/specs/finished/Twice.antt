@@ -1,11 +1,13 @@
--- To give a tree other identifiers and then others again is to give it the last ones: what is said of it.
+-- To give a tree other identifiers and then others again is to give it the last ones: what is said
+-- of it.
 use Rattle.std.specs.Prelude.{◌≡◌, true, false, ◌||◌, List, [], ◌∷◌, bytes_eq, ⊤}
 use Rattle.bundle_tree_piece.specs.Item.{Item}
 use Rattle.bundle_rules.specs.Idents.{Ident}
 use Rattle.bundle_rules.specs.Rebuilds.{Change}
 use Rattle.bundle_tree_places.specs.Edits.{Around, Anywhere, InObject, Edits}
 
--- the change of an identifier, a change of what that gave, and both at once; where the first spells nothing out, it keeps the symbol
+-- the change of an identifier, a change of what that gave, and both at once; where the first spells
+-- nothing out, it keeps the symbol
 pub record IsBoth (ident : Ident) (one two both : Change) : Type 0 where
   pub is : both.ident ≡ two.ident
   pub spelled : both.is_spelled_out ≡ (one.is_spelled_out || two.is_spelled_out)
@@ -14,7 +16,8 @@ pub record IsBoth (ident : Ident) (one two both : Change) : Type 0 where
 -- the changes of these identifiers in turn, and those that are left
 abbrev pub Along : List Ident → (ones twos boths left later rest : List Change) → Type 0
 Along [] ones twos boths left later rest = (ones ≡ left) × (twos ≡ later) × (boths ≡ rest)
-Along (name ∷ names) (one ∷ ones) (two ∷ twos) (both ∷ boths) left later rest = IsBoth name one two both × Along names ones twos boths left later rest
+Along (name ∷ names) (one ∷ ones) (two ∷ twos) (both ∷ boths) left later rest =
+    IsBoth name one two both × Along names ones twos boths left later rest
 Along (name ∷ names) _ _ _ left later rest = ⊥
 
 -- where an identifier stands otherwise than alone in a specifier
@@ -30,7 +33,8 @@ pub record Twice (around : Around) (before : List Item) (ones twos boths left la
   pub second : Edits around twos made whole later
   pub at_once : Edits around boths before whole rest
 
--- a tree that can be edited: whole nodes, whose specifiers and shorthands are of the forms that there are
+-- a tree that can be edited: whole nodes, whose specifiers and shorthands are of the forms that
+-- there are
 pub record IsEditable (tree : List Item) : Type 0 where
   pub changes : List Change
   pub after : List Item
@@ -40,5 +44,6 @@ pub record IsEditable (tree : List Item) : Type 0 where
 -- no symbol that was changed is changed back
 abbrev pub AreNotBack : (olds news last : List Ident) → Type 0
 AreNotBack [] [] [] = ⊤
-AreNotBack (old ∷ olds) (new ∷ news) (final ∷ last) = (bytes_eq old.0 final.0 ≡ true → bytes_eq old.0 new.0 ≡ true) × AreNotBack olds news last
+AreNotBack (old ∷ olds) (new ∷ news) (final ∷ last) =
+    (bytes_eq old.0 final.0 ≡ true → bytes_eq old.0 new.0 ≡ true) × AreNotBack olds news last
 AreNotBack _ _ _ = ⊥

@@ -15,7 +15,8 @@ use Rattle.bundle_merge_whole.specs.finished.Numbers.{named_symbol}
 
 -- the identifiers of the named tree, by the numbers of the merged one
 abbrev pub named_idents : Calling → List Item → Numbering → List Ident
-named_idents call tree numbers = map (λ (o : Occurrence). (named_symbol call tree numbers o, 0)) (occurrences tree)
+named_idents call tree numbers =
+    map (λ (o : Occurrence). (named_symbol call tree numbers o, 0)) (occurrences tree)
 
 -- the named tree, made in one go
 abbrev pub named_at_once : Calling → List Item → Numbering → List Item
@@ -23,4 +24,5 @@ named_at_once call tree numbers = cleared (with_idents tree (named_idents call t
 
 -- the numbers are right by the symbols that bindings have without keywords
 abbrev pub AreRightNumbers : Calling → List Item → Numbering → Type 0
-AreRightNumbers call tree numbers = (d : Declared) → IsIn (declared ByContext Es tree) d → named_right_by numbers call (declared ByContext Es tree) (occurrences tree) d ≡ true
+AreRightNumbers call tree numbers =
+    (d : Declared) → IsIn (declared ByContext Es tree) d → named_right_by numbers call (declared ByContext Es tree) (occurrences tree) d ≡ true
