@@ -46,11 +46,11 @@ fn named(alloc: Global, merged: &Module, config: &Config) -> Result<Module, Allo
 }
 
 // The same, where this is its list, and this is what its names denote.
-fn renamed(
+fn renamed<'c>(
     alloc: Global,
     merged: &Module,
-    list: &[Piece<'_>],
-    denoted: &Denotations<'_>,
+    list: &[Piece<'c>],
+    denoted: &Denotations<'c>,
     config: &Config,
 ) -> Result<Module, AllocError>
     requires { AreInOrder (map numbered denoted.now.scopes.items) }
