@@ -1,0 +1,205 @@
+// The documents that the program is timed on: each a shape, made at any size.
+//
+//   node bench/shapes.mjs SHAPE N        the document, on standard output
+import { argv } from 'node:process';
+import { colliding, seeds } from './colliding.mjs';
+import {
+  array, arrow, assigned, binary, call, chosen, constant, declared, each, exported, given, id, imported, lambda, made,
+  member, meta, method, number, object, property, run, starred, variables, whole,
+} from './trees.mjs';
+
+const upTo = (count, make) => Array.from({ length: count }, (_, at) => make(at));
+
+// Numbers that look random, the same in each run.
+function random(seed) {
+  let state = seed;
+  return (bound) => {
+    state = (state * 1103515245 + 12345) & 0x7fffffff;
+    return state % bound;
+  };
+}
+
+// A module of a graph: what it asks for, constants and a function that are called the same in every module, so that
+// they clash, and a function of its own that uses them.
+const module_of = (at, asks, use, constants = 1) => [
+  ...asks,
+  ...upTo(constants, (which) => constant(`local${which}`, object([
+    property('a', which),
+    property('b', array([at, which])),
+    method('f', ['x'], [constant('y', binary('x', '+', which)), given('y')]),
+  ]))),
+  declared('helper', ['a', ['b', arrow([], 'a')]], [
+    variables('let', ['t', 0]),
+    each('v', array(['a', call('b')]), [run({ ...assigned({ type: 'BindingIdent', id: id('t') }, 'v'), op: '+=' })]),
+    given('t'),
+  ]),
+  exported(declared(`f${at}`, ['n'], [
+    given(chosen(binary('n', '>', 0), call('helper', call(member('local0', 'f'), 'n'), arrow([], at)), use)),
+  ])),
+];
+
+const all = (names) => exported(constant('r', member(array(names), 'length')));
+const used = (count) => all(upTo(count, (at) => call(`f${at}`, 1)));
+const file = (at) => `./m${at}`;
+
+// A graph of modules m0, m1, .. and a main one.
+function graph(count, memberOf, main, config = {}) {
+  const files = Object.fromEntries(upTo(count, (at) => [`m${at}.js`, memberOf(at)]));
+  return { config, files: { ...files, 'main.js': main }, entries: [['main', 'main.js']] };
+}
+
+const takes = (at) => imported(file(at), [[`f${at}`, 'prev']]);
+const main_of_last = (count) => [imported(file(count - 1), [[`f${count - 1}`, 'last']]), all([call('last', 1)])];
+const main_of_all = (count) => [...upTo(count, (at) => imported(file(at), [[`f${at}`, `f${at}`]])), used(count)];
+
+// Each imports up to five earlier ones.
+function randomly(count, constants) {
+  const below = random(12345);
+  return graph(count, (at) => {
+    const of = [...new Set(upTo(Math.min(5, at), () => below(at)))];
+    const sum = of.reduce((left, which) => binary(left, '+', call(`d${which}`, 1)), number(0));
+    return module_of(at, of.map((which) => imported(file(which), [[`f${which}`, `d${which}`]])), sum, constants);
+  }, main_of_all(count));
+}
+
+// One module of so many statements.
+const alone = (statements) => ({ config: {}, files: { 'main.js': statements }, entries: [['main', 'main.js']] });
+
+// Two modules of so many items: item `at` of the first needs one of the second, which needs item `at + 1` of the first.
+// With `ahead` 1 the items of each module need later ones of it by way of the other, which the order goes back for.
+function over_a_border(count, ahead) {
+  const side = (own, other, step) => [
+    imported(`./${other}`, upTo(count, (at) => [`${other}${at}`, `${other}${at}`])),
+    ...upTo(count, (at) => exported(declared(`${own}${at}`, [], [given(at + step < count ? call(`${other}${at + step}`) : at)]))),
+  ];
+  return {
+    config: {},
+    files: { 'a.js': side('a', 'b', ahead), 'b.js': side('b', 'a', 1), 'main.js': [imported('./a', [['a0', 'a0']]), all(['a0'])] },
+    entries: [['main', 'main.js']],
+  };
+}
+
+// Names that strangers choose, for the two that are compared: all with one hash, or with hashes of their own.
+const chosen_names = {};
+function names(kind, count) {
+  const which = kind === 'file' ? { seed: seeds.file, end: '.js' } : {};
+  const most = Math.max(count, chosen_names[kind]?.alike.length ?? 0);
+  if (chosen_names[kind]?.alike.length !== most) chosen_names[kind] = colliding(most, which);
+  return { alike: chosen_names[kind].alike.slice(0, count), apart: chosen_names[kind].apart.slice(0, count) };
+}
+
+const of_names = {
+  // Symbols: functions that call each other, with a variable in each of the name of another.
+  symbols: (list) => alone(list.map((name, at) => declared(name, ['n'], [
+    constant(list[(at + 7) % list.length], 'n'), given(call(list[(at + 1) % list.length], list[(at + 7) % list.length])),
+  ]))),
+  // Exported names, which another module imports and reads.
+  exports: (list) => ({
+    config: {},
+    files: {
+      'a.js': list.map((name, at) => exported(constant(name, at))),
+      'main.js': [imported('./a', list.map((name) => [name, name])), whole('./a', 'names'), ...list.map((name) => run(call('use', name, member('names', name))))],
+    },
+    entries: [['main', 'main.js']],
+  }),
+  // Names that are read of an external.
+  members: (list) => ({
+    config: { external_modules: ['external'] },
+    files: { 'main.js': [imported('external', list.map((name) => [name, name])), ...list.map((name) => run(call('use', name)))] },
+    entries: [['main', 'main.js']],
+  }),
+  // Specifiers of externals.
+  specifiers: (list) => ({
+    config: { external_modules: list },
+    files: { 'main.js': list.flatMap((name, at) => [imported(name, [['x', `x${at}`]]), run(call(`x${at}`))]) },
+    entries: [['main', 'main.js']],
+  }),
+  // Names of files.
+  files: (list) => ({
+    config: {},
+    files: {
+      ...Object.fromEntries(list.map((name, at) => [name, [exported(constant(`x${at}`, at))]])),
+      'main.js': list.flatMap((name, at) => [imported(`./${name}`, [[`x${at}`, `x${at}`]]), run(call('use', `x${at}`))]),
+    },
+    entries: [['main', 'main.js']],
+  }),
+};
+const of_kind = (kind) => (kind === 'files' ? 'file' : 'text');
+const with_names = (kind, which) => (count) => of_names[kind](names(of_kind(kind), count)[which]);
+
+/** The shapes: from which size on each is timed, what it is, and how it is made. */
+export const shapes = {
+  chain: [2500, 'each module imports the one before', (count) => graph(count,
+    (at) => (at === 0 ? module_of(at, [], 0) : module_of(at, [takes(at - 1)], call('prev', 1))), main_of_last(count))],
+  ring: [500, 'one cycle', (count) => graph(count,
+    (at) => module_of(at, [takes((at + 1) % count)], call('prev', binary('n', '-', 1))), main_of_last(count))],
+  stars: [500, 'each module stars the next, and the main one imports all names from the first', (count) => graph(count,
+    (at) => module_of(at, at + 1 < count ? [starred(file(at + 1))] : [], 0),
+    [imported(file(0), upTo(count, (at) => [`f${at}`, `f${at}`])), used(count)])],
+  leaves: [1000, 'the main module stars all', (count) => graph(count,
+    (at) => module_of(at, [], 0), upTo(count, (at) => starred(file(at))))],
+  wide: [2500, 'the main module imports from all', (count) => graph(count, (at) => module_of(at, [], 0), main_of_all(count))],
+  random: [1000, 'each module imports up to five earlier ones', (count) => randomly(count, 1)],
+  large: [485, 'the same of modules of ten thousand bytes each', (count) => randomly(count, 6)],
+  namespaces: [1000, 'each module reads statically from the one before, and the main one uses all objects', (count) => graph(count,
+    (at) => (at === 0 ? module_of(at, [], 0) : module_of(at, [whole(file(at - 1), 'prev')], call(member('prev', `f${at - 1}`), 1))),
+    [...upTo(count, (at) => whole(file(at), `n${at}`)), all(upTo(count, (at) => [id(`n${at}`), call(member(`n${at}`, `f${at}`), 1)]).flat())])],
+  commonjs: [2500, 'each module requires the one before, and the main one imports a name of each', (count) => graph(count,
+    (at) => [
+      ...(at > 0 ? [constant('prev', call('require', { type: 'Str', value: file(at - 1) }))] : []),
+      constant('local', object([property('a', at)])),
+      run(assigned(member('exports', `f${at}`), lambda(['n'], [given(binary('n', '+', member('local', 'a')))]))),
+    ], main_of_all(count), { require: true })],
+  one: [20000, 'one module of so many statements', (count) => alone(upTo(count, (at) => (at % 3
+    ? constant(`v${at}`, array([`v${at - 1}`, `g${at}`, object([property('k', `v${at - 1}`)])]))
+    : declared(`v${at}`, ['a'], [variables('let', ['b', binary('a', '+', at)]), given('b')]))))],
+  clash: [5000, 'one module of so many names and functions, whose inner names clash with them', (count) => alone([
+    variables('const', ...upTo(count, (at) => [`x${at}`, at])),
+    ...upTo(count, (at) => declared(`h${at}`, ['x', 'z'], [
+      variables('let', ['x1', array([`x${at}`, 'z'])]), given(arrow(['y'], binary(binary('x', '+', 'x1'), '+', 'y'))),
+    ])),
+  ])],
+  back: [2500, 'a back ring: two modules, item i of each needs item i + 1 of the other', (count) => over_a_border(count, 1)],
+  calls: [2500, 'two modules of functions that call on over the border and back', (count) => over_a_border(count, 0)],
+  setup: [1000, 'so many statements that set up a prototype, and so many readers, in a cycle of modules', (count) => ({
+    config: {},
+    files: {
+      'a.js': [
+        imported('./b', [['r0', 'r0']]),
+        exported(declared('X', [], [])),
+        ...upTo(count, (at) => run(assigned(member(member('X', 'prototype'), `m${at}`), lambda([], [given('r0')])))),
+      ],
+      'b.js': [imported('./a', [['X', 'X']]), ...upTo(count, (at) => exported(declared(`r${at}`, [], [given(made('X'))])))],
+      'main.js': [imported('./b', [['r0', 'r0']]), all(['r0'])],
+    },
+    entries: [['main', 'main.js']],
+  })],
+  entries: [50, 'so many entries over twice as many files, each with import.meta', (count) => ({
+    config: {},
+    files: Object.fromEntries(upTo(count, (at) => [
+      [`e${at}.js`, [imported(`./m${at}`, [['f', 'f']]), run(call('f', member(meta(), 'url')))]],
+      [`m${at}.js`, [exported(declared('f', ['n'], [given(array(['n', member(meta(), 'url')]))]))]],
+    ]).flat()),
+    entries: upTo(count, (at) => [`bundle${at}`, `e${at}.js`]),
+    meta: Object.fromEntries(upTo(count, (at) => ['e', 'm'].map((kind) => [`${kind}${at}.js`, [property('url', { type: 'Str', value: `${kind}${at}` })]])).flat()),
+  })],
+  ...Object.fromEntries(Object.keys(of_names).flatMap((kind) => ['apart', 'alike'].map((which) => [
+    `${kind}_${which}`, [4096, `${kind} that strangers chose, with hashes ${which}`, with_names(kind, which)],
+  ]))),
+};
+
+/** The text of the document of a shape at a size. */
+export function documentOf(shape, count) {
+  const made = shapes[shape][2](count);
+  const files = Object.fromEntries(Object.entries(made.files).map(([name, body]) => [name, { type: 'Module', body }]));
+  return JSON.stringify({ ...made, files });
+}
+
+if (import.meta.filename === argv[1]) {
+  const [, , shape, count] = argv;
+  if (!Object.hasOwn(shapes, shape ?? '')) {
+    console.error(`a shape and a size are wanted; the shapes are ${Object.keys(shapes).join(', ')}`);
+    process.exit(2);
+  }
+  process.stdout.write(documentOf(shape, Number(count || shapes[shape][0])));
+}
