@@ -30,6 +30,7 @@ use Rattle.bundle_merge_whole.specs.composed.Noted.{AgreesWith, AgreeInTurn, den
 use Rattle.bundle_merge_whole.specs.composed.Becoming.{placed_scope, StandsIn, Becoming, labels_of}
 use Rattle.bundle_merge_whole.specs.composed.Turned.{IsScopeBelow, SpotsMatch, module_path, PartTurned, ItemTurned, whole_turned, function_turned, ItemsTurned}
 use Rattle.bundle_merge_whole.proofs.composed.Among.{denoted-of, OfScope, IsScopeFrom, HasScopes, part-scopes}
+pub use Rattle.bundle_link_index.proofs.ProgramLemmas.{map_on as contains-map}
 pub use Rattle.bundle_merge_whole.proofs.composed.ListFacts.{zip-length}
 
 -- Lists.
@@ -141,16 +142,6 @@ module-match s t field its path_is its_is = record {
   below = subst (AllOf (IsScopeBelow s.place)) (sym (module-scopes s.path field path_is)) (tt, tt);
   its_below = subst (AllOf (IsScopeBelow t.place)) (sym (module-scopes t.path its its_is)) (tt, tt);
 }
-
-pub contains-map : {A B : Type 0} (f : A → B) (xs : List A) (x : A) → Contains xs x →
-    Contains (map f xs) (f x)
-contains-map f [] x c = absurd (omega (arith, c.1))
-contains-map {A = A} f (y ∷ xs) x c = by_case (contains-map f xs x) ((Contains-cons y xs x).0 c)
-  where
-    by_case : (Contains xs x → Contains (map f xs) (f x)) → (y ≡ x) ⊎ Contains xs x →
-        Contains (map f (y ∷ xs)) (f x)
-    by_case ih (inl e) = (Contains-cons (f y) (map f xs) (f x)).1 (inl (ap f e))
-    by_case ih (inr more) = (Contains-cons (f y) (map f xs) (f x)).1 (inr (ih more))
 
 module _ (reading other : Reading) (items others : List (List Item))
     (b : Becoming reading (joined items) other (joined others)) (labels : Labelling) where

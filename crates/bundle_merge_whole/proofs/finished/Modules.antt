@@ -1,6 +1,6 @@
 -- A bundle whose items are noted is a whole module, and so it is once its notes and the contexts of
 -- its words are gone.
-use Rattle.std.proofs.Common.{◌≡◌, List, [], ◌∷◌, ◌++◌, ap, sym, ◌∙◌, subst}
+use Rattle.std.proofs.Common.{List, [], ◌∷◌, ap, sym, ◌∙◌, subst}
 use Rattle.bundle_tree_piece.specs.declared.piece.Role.TheVariants as r
 use Rattle.bundle_tree_piece.specs.Item as h
 use Rattle.bundle_tree_piece.specs.Item.{Item}
@@ -13,7 +13,6 @@ use Rattle.bundle_merge_meaning.specs.noted.Nodes as n
 use Rattle.bundle_merge_meaning.specs.noted.Nodes.{AreNodes}
 use Rattle.bundle_merge_meaning.proofs.noted.Shapes.{join, marked_nodes}
 use Rattle.bundle_merge_meaning.proofs.walked.Loading.{module_whole}
-use Rattle.bundle_merge_joined.specs.joined.Joined.{joined}
 use Rattle.bundle_merge_whole.specs.composed.Noted.{Noted, IsNotedFor, as_whole, as_function, AreNotedFor}
 use Rattle.bundle_merge_whole.proofs.composed.Naming.{IsStillNoted}
 use Rattle.bundle_merge_whole.proofs.finished.Tidying.{tidied-append}

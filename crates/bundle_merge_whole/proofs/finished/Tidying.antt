@@ -35,14 +35,14 @@ pub tidied-append : (xs ys : List Item) → tidied (xs ++ ys) ≡ tidied xs ++ t
 tidied-append [] ys = refl
 tidied-append (x ∷ xs) ys = ap (λ rest. tidy_item x ∷ rest) (tidied-append xs ys)
 
-tidied-node : (field : ℕ) (head : Head) (inside : List Item) →
+pub tidied-node : (field : ℕ) (head : Head) (inside : List Item) →
     tidied (node field head inside) ≡ node field (cleared_head head) (tidied inside)
 tidied-node field head inside =
     ap (λ rest. h.Open field (cleared_head head) ∷ rest) (tidied-append inside (h.Close ∷ []))
 
 -- Names.
 
-tidied-name : (field : ℕ) (x : Text) (ctxt : ℕ) (role : Role) → is_occurrence role ≡ true →
+pub tidied-name : (field : ℕ) (x : Text) (ctxt : ℕ) (role : Role) → is_occurrence role ≡ true →
     tidy_item (h.Ident field x ctxt role) ≡ h.Ident field x ctxt role
 tidied-name field x ctxt r.Word occurs = cc
 tidied-name field x ctxt r.Binding occurs = refl

@@ -22,6 +22,7 @@ use Rattle.bundle_rules.specs.Bundle.{Cause, Hooks, AsModule, IsBundle}
 use Rattle.bundle_tree_places.specs.Edits.{Inside, node}
 use Rattle.bundle_merge_meaning.specs.noted.Agrees.{IsListing}
 use Rattle.bundle_merge_meaning.specs.noted.Listed.{AreListed, Other}
+use Rattle.bundle_merge_meaning.proofs.noted.Listing.{is_listing}
 use Rattle.bundle_merge_joined.specs.joined.Joined.{joined}
 use Rattle.bundle_scope_renamed.proofs.kept.Lists.{map-congr}
 use Rattle.bundle_scope_renamed.proofs.kept.Named.{ArePlain}
@@ -41,7 +42,7 @@ use Rattle.bundle_merge_whole.proofs.finished.Finished.{rid-of-keywords, clean-f
 use Rattle.bundle_merge_whole.proofs.finished.Numbers.{final-numbering, final-symbol-is}
 use Rattle.bundle_merge_whole.proofs.finished.Modules.{still-whole}
 use Rattle.bundle_merge_whole.proofs.finished.Tidying.{tidied-twice, tidied-edits, tidied-idents, tidied-with_idents, cleared-tidied}
-use Rattle.bundle_merge_whole.proofs.finished.Listing.{listed-tidied, listing-again}
+use Rattle.bundle_merge_whole.proofs.finished.Listing.{listed-again, listed-tidied, listing-again}
 
 -- a bundle that can be renamed can be edited
 pub ready-editable : (p : Program) (hooks : Hooks) (plan : List Cause) (tree : List Item) →
@@ -99,9 +100,15 @@ named-tidy call tree editable numbers =
 
 -- Listings.
 
+pub free-listed : (call : Calling) (tree : List Item) → IsEditable tree → AreListed Other tree →
+    AreListed Other (recall call tree)
+free-listed call tree editable listed =
+    let it = edits-with tree editable (called_idents call tree) (as-many call tree) in
+    subst (AreListed Other) it.is (listed-again listed it.edits)
+
 pub free-listing : (call : Calling) (tree : List Item) → IsEditable tree → AreListed Other tree →
     IsListing (recall call tree)
-free-listing call tree editable listed = let it = edits-with tree editable (called_idents call tree) (as-many call tree) in subst IsListing it.is (listing-again listed it.edits)
+free-listing call tree editable listed = is_listing (free-listed call tree editable listed)
 
 named-listing : (call : Calling) (tree : List Item) → IsEditable tree → (numbers : Numbering) →
     AreListed Other tree → IsListing (named_at_once call tree numbers)

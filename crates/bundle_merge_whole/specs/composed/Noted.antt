@@ -6,10 +6,10 @@ use Rattle.std.specs.List.{AllZip}
 use Rattle.bundle_tree_piece.specs.declared.piece.Role.TheVariants.{Word as IsWord}
 use Rattle.bundle_tree_piece.specs.Item as h
 use Rattle.bundle_tree_piece.specs.Item.{Item, Head}
-use Rattle.bundle_rules.specs.Places.{Spot, Occurrence, past, start, occurrences_from}
+use Rattle.bundle_rules.specs.Places.{Spot, past, start, occurrences_from}
 use Rattle.bundle_rules.specs.Scopes.{Es, Top}
-use Rattle.bundle_rules.specs.Declarations.{Reading, declared}
-use Rattle.bundle_rules.specs.Denotes.{Denoted, Global, denoted_of}
+use Rattle.bundle_rules.specs.Declarations.{Reading}
+use Rattle.bundle_rules.specs.Denotes.{Denoted, Global}
 use Rattle.bundle_rules.specs.Nodes.{Text}
 use Rattle.bundle_rules.specs.Shorthands.{is_shorthand_in_pattern, is_object}
 use Rattle.bundle_rules.specs.Cleared.{cleared_head}
@@ -29,6 +29,7 @@ use Rattle.bundle_merge_joined.specs.joined.Joined.{joined, AllOf}
 use Rattle.bundle_merge_joined.specs.joined.Picked.{IsSingle}
 use Rattle.bundle_merge_meaning.specs.walked.Together.{IsBoundAs}
 use Rattle.bundle_merge_meaning.specs.walked.Renaming.{Told, IsMarked}
+pub use Rattle.bundle_merge_meaning.proofs.walked.Denoting.{denoted_here}
 
 -- What an item is told to mean.
 
@@ -156,10 +157,6 @@ AgreesWith labels inner begins d (Unbound x) = d ≡ Global x
 abbrev pub AgreeInTurn : Labelling → (begins : ℕ) → List Denoted → List Meant → Type 0
 AgreeInTurn labels begins ds meants =
     AllZip (AgreesWith labels (each_denoted_once (filter (is_inside begins) ds)) begins) ds meants
-
--- what an occurrence denotes in a tree that is read so
-abbrev pub denoted_here : View → Occurrence → Denoted
-denoted_here view = denoted_of view.reading view.kind (declared view.reading view.kind view.tree)
 
 -- what the names in these elements at a spot denote, in turn
 abbrev pub denoted_from : View → Spot → List Item → List Denoted
