@@ -6,3 +6,12 @@ pub mod finished
 pub mod called
 pub mod fit
 pub mod grown
+pub mod told
+pub mod own
+pub mod function
+pub mod added
+pub mod answered
+pub mod labels
+pub mod laid
+pub mod together
+pub mod tidy

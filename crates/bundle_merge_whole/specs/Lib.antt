@@ -3,3 +3,9 @@ pub mod composed
 pub mod finished
 pub mod called
 pub mod fit
+pub mod made
+pub mod own
+pub mod function
+pub mod labels
+pub mod together
+pub mod tidy

@@ -3,3 +3,4 @@ pub mod Source
 pub mod Linked
 pub mod Hook
 pub mod Asked
+pub mod Finished

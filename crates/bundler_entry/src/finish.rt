@@ -1,9 +1,20 @@
 //! The module of what was merged: no binding has a keyword's name, no two names clash, and it is one function's call
 //! where the settings say so.
 
-ghost use Rattle.std.specs.Prelude.{IfErr, map};
+ghost use Rattle.std.specs.Prelude.{◌≡◌, IfErr, IfOk, map, if◌then◌else◌};
+ghost use Rattle.bundle_scope_names.specs.declared.names.Contexts.TheVariants.{Clear, Keep};
+ghost use Rattle.bundle_merge_whole.specs.finished.Twice.{IsEditable};
+ghost use Rattle.bundle_tree_piece.specs.Item.{item_of};
+ghost use Rattle.bundle_rules.specs.Declarations.{ByContext};
+ghost use Rattle.bundle_rules.specs.Scopes.{Es};
+ghost use Rattle.bundle_rules.specs.Forms.{wrapped};
+ghost use Rattle.bundle_merge_forms.specs.Wrapped.{CanBeWrapped};
 ghost use Rattle.bundle_scope_denote.specs.Chains.{AreInOrder};
 ghost use Rattle.bundle_scope_denote.specs.Numbers.{numbered};
+ghost use Rattle.bundle_scope_denote.specs.Listed.{IsTable};
+ghost use Rattle.bundle_tree_listed.specs.Tree.{module_items};
+ghost use Rattle.bundle_merge_whole.specs.finished.Ended.{AreEndNames, IsNamedAtOnce};
+ghost use Rattle.bundler_entry.specs.Finished.{IsFinished, NamesInTurn, is_renaming};
 ghost use Rattle.bundler_entry.specs.Unlinked.{MayBeMerging};
 
 use crate::unlinked::Unlinked;
@@ -14,12 +25,14 @@ use bundle_tree_ast::Module;
 use bundle_tree_list::pieces_of_module;
 use bundle_tree_names::config::{Config, ModuleType};
 use bundle_tree_piece::Piece;
-use bundle_tree_rewrite::rebuild_items;
+use bundle_tree_rebuild::Rebuild;
 use std::alloc::{AllocError, Global};
 
-/// The module of what was merged. Refused only where memory runs out.
+/// The module of what was merged. Both keywords and names are renamed in one go. Refused only where memory runs out.
 pub fn finished(alloc: Global, merged: &Module, config: &Config) -> Result<Module, Unlinked>
-    ensures { IfErr result MayBeMerging }
+    ensures finished { IfOk result (λ made.
+        IsFinished config.now (module_items 0 merged.now) (module_items 0 made)) }
+    ensures refused { IfErr result MayBeMerging }
 {
     let named = named(alloc, merged, config)?;
     match config.module {
@@ -30,7 +43,9 @@ pub fn finished(alloc: Global, merged: &Module, config: &Config) -> Result<Modul
 
 // A module as the call of one function.
 fn called(alloc: Global, module: &Module) -> Result<Module, Unlinked>
-    ensures { IfErr result MayBeMerging }
+    ensures wrapped { CanBeWrapped «module».now.body.items → IfOk result
+        (λ made. module_items 0 made ≡ wrapped (module_items 0 «module».now)) }
+    ensures refused { IfErr result MayBeMerging }
 {
     match wrap_with_iife(alloc, module) {
         Ok(call) => Ok(call),
@@ -39,7 +54,14 @@ fn called(alloc: Global, module: &Module) -> Result<Module, Unlinked>
 }
 
 // What was merged, with the names that its bindings have in the end.
-fn named(alloc: Global, merged: &Module, config: &Config) -> Result<Module, AllocError> {
+fn named(alloc: Global, merged: &Module, config: &Config) -> Result<Module, AllocError>
+    ensures at_once { IfOk result (λ made.
+        IsNamedAtOnce (is_renaming config.now) (module_items 0 merged.now)
+        (module_items 0 made)) }
+    ensures in_turn { IfOk result (λ made.
+        NamesInTurn (is_renaming config.now) (module_items 0 merged.now)
+        (module_items 0 made)) }
+{
     let list = pieces_of_module(alloc, merged)?;
     let denoted = denotations(alloc, &list, ModuleKind::Es, Reading::ByContext)?;
     renamed(alloc, merged, &list, &denoted, config)
@@ -53,16 +75,26 @@ fn renamed<'c>(
     denoted: &Denotations<'c>,
     config: &Config,
 ) -> Result<Module, AllocError>
-    requires { AreInOrder (map numbered denoted.now.scopes.items) }
+    requires { IsTable ByContext Es (map item_of list.now) denoted.now }
+    ensures at_once { map item_of list.now ≡ module_items 0 merged.now → IfOk result (λ made.
+        IsNamedAtOnce (is_renaming config.now) (module_items 0 merged.now)
+        (module_items 0 made)) }
+    ensures editable { IfOk result (λ made. IsEditable (module_items 0 merged.now)) }
 {
     let names = names_of(alloc, list, denoted, config)?;
-    let contexts = match config.disable_hygiene {
+    let changes = changes_of(alloc, list, denoted, &names, contexts_of(config))?;
+    let mut rebuild = Rebuild::new(alloc, &changes);
+    rebuild.module(merged)
+}
+
+// Whether contexts stay: they do where bindings are not renamed.
+fn contexts_of(config: &Config) -> Contexts
+    ensures { result ≡ (if is_renaming config.now then Clear else Keep) }
+{
+    match config.disable_hygiene {
         true => Contexts::Keep,
         false => Contexts::Clear,
-    };
-    let changes = changes_of(alloc, list, denoted, &names, contexts)?;
-    let body = rebuild_items(alloc, &merged.body, &changes)?;
-    Ok(Module { body })
+    }
 }
 
 // What the bindings of a list are called.
@@ -73,6 +105,8 @@ fn names_of<'c>(
     config: &Config,
 ) -> Result<Names, AllocError>
     requires { AreInOrder (map numbered denoted.now.scopes.items) }
+    ensures { IfOk result (λ names.
+        AreEndNames (is_renaming config.now) (map item_of list.now) denoted.now names) }
 {
     let keywords = keyword_names(alloc, list, denoted)?;
     if config.disable_hygiene {

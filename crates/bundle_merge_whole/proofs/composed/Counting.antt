@@ -25,6 +25,7 @@ use Rattle.bundle_merge_joined.specs.joined.Picked.{IsSingle}
 use Rattle.bundle_merge_joined.proofs.joined.Joining.{whole-node}
 use Rattle.bundle_merge_joined.proofs.joined.TopItems.{single-name, single-hole, single-node}
 use Rattle.bundle_merge_whole.proofs.composed.Aligned.{names-append}
+pub use Rattle.bundle_merge_whole.specs.composed.Single.{nodes_in}
 
 -- Names.
 
@@ -91,17 +92,6 @@ told-names item told marked =
 
 -- Nodes.
 
--- how many nodes, names and holes stand side by side, where so many nodes are open
-abbrev pub nodes_in : ℕ → List Item → ℕ
-nodes_in depth [] = 0
-nodes_in depth (h.Open field head ∷ rest) = nodes_in (suc depth) rest
-nodes_in zero (h.Ident field x c role ∷ rest) = suc (nodes_in zero rest)
-nodes_in (suc depth) (h.Ident field x c role ∷ rest) = nodes_in (suc depth) rest
-nodes_in zero (h.Hole field ∷ rest) = suc (nodes_in zero rest)
-nodes_in (suc depth) (h.Hole field ∷ rest) = nodes_in (suc depth) rest
-nodes_in zero (h.Close ∷ rest) = 0
-nodes_in (suc zero) (h.Close ∷ rest) = suc (nodes_in zero rest)
-nodes_in (suc (suc depth)) (h.Close ∷ rest) = nodes_in (suc depth) rest
 
 abbrev pub marks_in : ℕ → List Mark → ℕ
 marks_in depth [] = 0

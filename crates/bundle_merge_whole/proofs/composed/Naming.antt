@@ -36,7 +36,7 @@ use Rattle.bundle_merge_meaning.specs.walked.Names.{names_of}
 use Rattle.bundle_merge_meaning.specs.walked.Renaming.{KeepsText, Told, IsMarked}
 use Rattle.bundle_merge_meaning.proofs.walked.NameLemmas.{names_of-append, idents-names}
 use Rattle.bundle_merge_meaning.proofs.walked.Naming.{not_false}
-use Rattle.bundle_merge_whole.specs.composed.Noted.{Noted, AsWhole, AsFunction, function_ends, IsNotedFor, as_whole, as_function, AreNotedFor, BundleAgrees, IsNotedBundle, pairing_of}
+use Rattle.bundle_merge_whole.specs.composed.Noted.{Noted, AsFunction, function_ends, IsNotedFor, as_whole, as_function, AreNotedFor, BundleAgrees, IsNotedBundle, pairing_of}
 use Rattle.bundle_merge_whole.specs.composed.Becoming.{Becoming, AllOccur, labels_of}
 use Rattle.bundle_merge_whole.specs.composed.Turned.{PartTurned, ItemTurned, whole_turned, function_turned, ItemsTurned}
 use Rattle.bundle_merge_whole.specs.composed.Functions.{function_front, function_declarator, function_items, IsOfForm, whole_form, function_form}
@@ -49,6 +49,7 @@ use Rattle.bundle_merge_whole.proofs.composed.Counting.{told-names, nodes_in, it
 use Rattle.bundle_merge_whole.proofs.composed.Fronts.{blanks, skeleton, front-blank, fronts-turned, function-parts, same-names, same-marks}
 use Rattle.bundle_merge_whole.proofs.composed.Remade.{Remade, remade_whole, remade_function, NoLone, AllOfForm, AllRemade, renewed}
 use Rattle.bundle_merge_whole.proofs.composed.Unnoted.{ModuleRemade, module_unnoted, nodes-blank, blanks-append, nodes_in-blank}
+pub use Rattle.bundle_merge_whole.specs.composed.Single.{OneNode}
 
 -- Functions.
 
@@ -165,10 +166,6 @@ item-turned {item = item} {renamed = renamed}
     its tolds (function-parts meta load helper own exports (flat insides)) is
     (front-blank meta load helper own exports) blank marked its_marked
 
--- each statement, and each item that is a whole, is one node
-abbrev pub OneNode : List Item → Noted → Type 0
-OneNode item (AsWhole told) = nodes_in 0 item ≡ 1
-OneNode item (AsFunction front names insides tolds) = AllOf (λ part. nodes_in 0 part ≡ 1) insides
 
 pub ones-again : (parts others : List (List Item)) (tolds : List Told) →
     AllZip IsMarked parts tolds → AllZip IsMarked others tolds →

@@ -25,6 +25,7 @@ use Rattle.bundle_merge_whole.specs.composed.Noted.{Noted, AsWhole, AsFunction, 
 use Rattle.bundle_merge_whole.specs.composed.Functions.{function_front, function_items, function_names, IsOfForm, whole_form, function_form}
 use Rattle.bundle_merge_whole.proofs.composed.Lone.{lone-edited}
 use Rattle.bundle_merge_whole.proofs.composed.Fronts.{blanks, skeleton, front-blank, function-parts}
+pub use Rattle.bundle_merge_whole.specs.composed.Single.{NoLone}
 
 -- an item of which the same is told
 pub data Remade : Noted → List Item → Noted → Type 0 where
@@ -38,10 +39,6 @@ pub data Remade : Noted → List Item → Noted → Type 0 where
 
 -- With changes.
 
--- no specifier of an item ends in a lone name; in a function, of none of its statements
-abbrev pub NoLone : List Item → Noted → Type 0
-NoLone item (AsWhole told) = HasNoLoneName item
-NoLone item (AsFunction front names insides tolds) = AllOf HasNoLoneName insides
 
 -- changes of two parts
 record Two (its : List Change) (first second : List Ident) : Type 0 where

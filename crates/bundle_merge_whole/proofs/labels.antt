@@ -1,0 +1,14 @@
+-- What each label that is meant is declared by.
+pub mod Walked
+pub mod Silent
+pub mod Imported
+pub mod Stated
+pub mod Modules
+pub mod Tops
+pub mod Bound
+pub mod Exported
+pub mod Entries
+pub mod Locals
+pub mod Given
+pub mod Labels
+pub mod Names

@@ -1,0 +1,256 @@
+-- Items that are right each by itself can be told apart by their symbols and contexts.
+use Rattle.std.proofs.Common.{◌≡◌, ◌⊎◌, inl, inr, ◌==◌, ℕ, true, false, List, [], ◌∷◌, ◌++◌, Option, Some, refl, ap, sym, ◌∙◌, arith, le-leb, eq-eqb}
+use Rattle.std.specs.Prelude.{slice_get, fold}
+use Rattle.std.specs.List.{AllZip}
+use Rattle.std.proofs.lemmas.Bool.{false≢true}
+use Rattle.std.proofs.lemmas.Option.{none-some}
+use Rattle.bundle_tree_piece.specs.Item.{Item}
+use Rattle.bundle_rules.specs.Places.{Spot, past, Occurrence, occurrences_from}
+use Rattle.bundle_rules.specs.Declarations.{declared}
+use Rattle.bundle_rules.specs.Denotes.{Denoted}
+use Rattle.bundle_rules.specs.Sorting.{flat}
+use Rattle.bundle_rules.specs.Idents.{Ident}
+use Rattle.bundle_rules.specs.Program.{Program}
+use Rattle.bundle_rules.specs.Meaning.{Label, Meant, Known, is_inside}
+use Rattle.bundle_rules.specs.Symbols.{denoted_symbol}
+use Rattle.bundle_rules.specs.Bundle.{Cause, Defines, AsModule, Hooks}
+use Rattle.bundle_merge_joined.specs.joined.Joined.{AllOf, own_declared, is_written}
+use Rattle.bundle_merge_joined.specs.joined.Notes.{its_name, own_denoted, is_inner, is_inner_name, IsListedIn, AreApart}
+use Rattle.bundle_merge_joined.proofs.joined.Lists.{get-append}
+use Rattle.bundle_merge_joined.proofs.joined.Paths.{occurrences-append, item-occurrences}
+use Rattle.bundle_merge_joined.proofs.joined.Declarations.{IsNamed as HasNames}
+use Rattle.bundle_merge_joined.proofs.joined.Notes.{viewed}
+use Rattle.bundle_merge_joined.proofs.joined.Resolved.{InnerOf, inner-of}
+use Rattle.bundle_merge_meaning.specs.walked.Renaming.{Told}
+use Rattle.bundle_merge_whole.specs.composed.Noted.{Noted, AsFunction, function_ends, IsNotedFor, as_whole, as_function, first_spot}
+use Rattle.bundle_merge_whole.proofs.composed.Contexts.{own-symbol}
+use Rattle.bundle_merge_whole.proofs.composed.ListFacts.{all-in, as-long, zip-at, zip-length}
+use Rattle.bundle_merge_whole.specs.made.Given.{Contexts}
+use Rattle.bundle_merge_whole.specs.made.Alone as one
+use Rattle.bundle_merge_whole.specs.made.Alone.{NameAlone, StatementAlone, StatementsAlone, FrontAlone, ItemAlone}
+use Rattle.bundle_merge_whole.specs.together.Together.{AreTogether}
+use Rattle.bundle_merge_whole.proofs.together.Holders.{holds, holder-is, holder-context}
+use Rattle.bundle_merge_whole.proofs.together.Owners.{owners-one}
+use Rattle.bundle_merge_whole.proofs.together.Tops.{StandsAt, of-item}
+use Rattle.bundle_merge_whole.proofs.together.Names.{IsOwnName, inside-own, function-own, note-of, arguments-free}
+
+-- what stands beside an element
+pub zip-beside : {A B : Type 0} (R : A → B → Type 0) (xs : List A) (ys : List B) → AllZip R xs ys →
+    (i : ℕ) (x : A) → slice_get xs i ≡ Some x → (y : B) × (slice_get ys i ≡ Some y) × R x y
+zip-beside R xs ys all i x at =
+    let there = as-long xs ys i x (zip-length R xs ys all) at in
+    (there.0, there.1, zip-at R xs ys all i x there.0 at there.1)
+
+module _ (p : Program) (list : List ℕ) (context : Contexts) (answers : ℕ → Option (List Item))
+    (cause : Cause) (item : List Item) where
+  -- what is told of a name, in a statement that begins the item or stands in a load function
+  pub record NamedAt (o : Occurrence) : Type 0 where
+    pub begins : ℕ
+    pub all : List Denoted
+    pub meant : Meant
+    pub alone : NameAlone p list context answers cause item begins all o meant
+    pub from : (begins ≡ 1) ⊎ ((c : ℕ) × (cause ≡ Defines c))
+
+  in-statement : (s : Spot) (part : List Item) (told : Told) →
+      StatementAlone p list context answers cause item s part told →
+      ((s.place ≡ 1) ⊎ ((c : ℕ) × (cause ≡ Defines c))) → (i : ℕ) (o : Occurrence) →
+      slice_get (occurrences_from s part) i ≡ Some o → NamedAt o
+  in-statement s part told alone from i o at =
+      let beside = zip-beside _ (occurrences_from s part) told.0 alone i o at in
+      record { begins = s.place; all = _; meant = beside.0; alone = beside.2; from = from }
+
+  in-statements : (s : Spot) (parts : List (List Item)) (tolds : List Told) →
+      StatementsAlone p list context answers cause item s parts tolds →
+      ((c : ℕ) × (cause ≡ Defines c)) → (i : ℕ) (o : Occurrence) →
+      slice_get (occurrences_from s (flat parts)) i ≡ Some o → NamedAt o
+  in-statements s [] [] alone from i o at = absurd (none-some o at)
+  in-statements s [] (told ∷ tolds) alone from i o at = absurd alone
+  in-statements s (part ∷ parts) [] alone from i o at = absurd alone
+  in-statements s (part ∷ parts) (told ∷ tolds) alone from i o at =
+      by (get-append (occurrences_from s part) (occurrences_from (fold past s part) (flat parts)) i
+      o (ap (λ os. slice_get os i) (sym (occurrences-append s part (flat parts))) ∙ at))
+      (λ j there. in-statements (fold past s part) parts tolds alone.1 from j o there)
+    where
+      by : (slice_get (occurrences_from s part) i ≡ Some o)
+          ⊎ ((j : ℕ) × (slice_get (occurrences_from (fold past s part) (flat parts)) j ≡ Some o))
+          → ((j : ℕ) → slice_get (occurrences_from (fold past s part) (flat parts)) j ≡ Some o →
+          NamedAt o) → NamedAt o
+      by (inl here) ih = in-statement s part told alone.0 (inr from) i o here
+      by (inr later) ih = ih later.0 later.1
+
+  in-front : (os : List Occurrence) (names : List Label) →
+      AllZip (FrontAlone p list context answers cause item) os names →
+      ((c : ℕ) × (cause ≡ Defines c)) → (i : ℕ) (o : Occurrence) → slice_get os i ≡ Some o →
+      NamedAt o
+  in-front os names alone from i o at =
+      let beside = zip-beside (FrontAlone p list context answers cause item) os names alone i o at
+      in
+      record {
+        begins = 22;
+        all = [];
+        meant = Known beside.0;
+        alone = beside.2;
+        from = inr from;
+      }
+
+  in-function : (front : List Item) (names : List Label) (insides : List (List Item))
+      (tolds : List Told) →
+      ItemAlone p list context answers cause item (AsFunction front names insides tolds) →
+      ((c : ℕ) × (cause ≡ Defines c)) → (i : ℕ) (o : Occurrence) →
+      slice_get (occurrences_from first_spot (front ++ (flat insides ++ function_ends))) i
+      ≡ Some o → NamedAt o
+  in-function front names insides tolds alone from i o at =
+      by (get-append (occurrences_from first_spot front)
+      (occurrences_from (fold past first_spot front) (flat insides ++ function_ends)) i o
+      (ap (λ os. slice_get os i)
+      (sym (occurrences-append first_spot front (flat insides ++ function_ends))) ∙ at))
+    where
+      behind : (j : ℕ) →
+          (slice_get (occurrences_from (fold past first_spot front) (flat insides)) j ≡ Some o)
+          ⊎ ((k : ℕ) × (slice_get
+          (occurrences_from (fold past (fold past first_spot front) (flat insides)) function_ends)
+          k ≡ Some o)) → NamedAt o
+      behind j (inl here) =
+          in-statements (fold past first_spot front) insides tolds alone.1 from j o here
+      behind j (inr later) = absurd (none-some o later.1)
+
+      by : (slice_get (occurrences_from first_spot front) i ≡ Some o)
+          ⊎ ((j : ℕ) × (slice_get
+          (occurrences_from (fold past first_spot front) (flat insides ++ function_ends)) j
+          ≡ Some o)) → NamedAt o
+      by (inl here) = in-front (occurrences_from first_spot front) names alone.0 from i o here
+      by (inr later) =
+          behind later.0
+          (get-append (occurrences_from (fold past first_spot front) (flat insides))
+          (occurrences_from (fold past (fold past first_spot front) (flat insides)) function_ends)
+          later.0 o
+          (ap (λ os. slice_get os later.0)
+          (sym (occurrences-append (fold past first_spot front) (flat insides) function_ends))
+          ∙ later.1))
+
+pub named-at : (p : Program) (hooks : Hooks) (list : List ℕ) (context : Contexts)
+    (answers : ℕ → Option (List Item)) {cause : Cause} {item : List Item} {noted : Noted} →
+    IsNotedFor p hooks AsModule item noted cause →
+    ItemAlone p list context answers cause item noted → (o : Occurrence) → IsListedIn item o →
+    NamedAt p list context answers cause item o
+named-at p hooks list context answers {cause = cause} {item = item} (as_whole {told = told} marked
+    stand) alone o listed =
+    in-statement p list context answers cause item first_spot item told alone (inl refl) listed.0 o
+    (sym (ap (λ os. slice_get os listed.0) (item-occurrences item)) ∙ listed.1)
+named-at p hooks list context answers (as_function {c = c} {item = item} {front = front}
+    {names = names} {insides = insides} {tolds = tolds} nodes is plain states) alone o listed =
+    in-function p list context answers (Defines c) item front names insides tolds alone (c, refl)
+    listed.0 o
+    (ap (λ l. slice_get (occurrences_from first_spot l) listed.0) (sym is)
+    ∙ sym (ap (λ os. slice_get os listed.0) (item-occurrences item)) ∙ listed.1)
+
+module _ (p : Program) (hooks : Hooks) (list : List ℕ) (context : Contexts)
+    (answers : ℕ → Option (List Item)) (plan : List Cause) (items : List (List Item))
+    (its : AreTogether p hooks list context answers plan items) where
+  abbrev Stands : ℕ → Cause → List Item → Type 0
+  Stands m cause item = StandsAt p hooks list context answers plan items its m cause item
+
+  pub named-of : (m : ℕ) (cause : Cause) (item : List Item) → Stands m cause item →
+      (o : Occurrence) → IsListedIn item o → NamedAt p list context answers cause item o
+  named-of m cause item stands o listed =
+      named-at p hooks list context answers stands.alone.stands stands.alone.names o listed
+
+  -- a binding inside an item has a context that stands only there
+  own-name : (m : ℕ) (cause : Cause) (item : List Item) → Stands m cause item →
+      (o : Occurrence) → IsListedIn item o → is_inner (own_denoted item o) ≡ true →
+      IsOwnName p answers context cause o
+  own-name m cause item stands o listed is =
+      let at = named-of m cause item stands o listed in
+      by at.begins at.all at.meant at.alone at.from
+    where
+      it : InnerOf item o (own_denoted item o)
+      it = inner-of item o (viewed item stands.alone.named o listed) is
+
+      by : (begins : ℕ) (all : List Denoted) (meant : Meant) →
+          NameAlone p list context answers cause item begins all o meant →
+          ((begins ≡ 1) ⊎ ((c : ℕ) × (cause ≡ Defines c))) → IsOwnName p answers context cause o
+      by begins all meant (one.inside holder inner within found owns other holds ctxt) from =
+          inside-own p hooks list context answers plan items its cause stands.due item o holder
+          owns other holds ctxt
+      by begins all meant (one.of_top out not_inner never top same) (inl first) =
+          absurd (false≢true (sym out
+          ∙ ap (λ d. is_inside begins d) it.is
+          ∙ le-leb begins it.begins (let low = it.above in omega (arith, low, first))))
+      by begins all meant (one.of_top out not_inner never top same) (inr function) =
+          absurd (false≢true (sym (never function.0 function.1) ∙ is))
+      by begins all meant (one.of_function {c = c} {l = l} e out inside declared entry) from =
+          function-own p hooks list context answers plan items its cause stands.due item o c l e
+          entry
+      by begins all meant (one.free is_one not_inner arguments) from = absurd (none it.by)
+        where
+          none : (is_inner_name (own_declared item) (its_name o) ≡ true)
+              ⊎ ((is_written (own_denoted item o) ≡ false) × ((o.ctxt == 1) ≡ false)) → ⊥
+          none (inl declared) = false≢true (sym not_inner ∙ declared)
+          none (inr implied) = false≢true (sym implied.1 ∙ eq-eqb o.ctxt 1 is_one)
+
+  -- a name that has the context of what stands only in the item of a cause stands there
+  same-cause : (m n : ℕ) (cause other_cause : Cause) (item other : List Item) →
+      Stands m cause item → Stands n other_cause other → (a b : Occurrence) →
+      IsOwnName p answers context cause a → IsListedIn other b → a.ctxt ≡ b.ctxt →
+      cause ≡ other_cause
+  same-cause m n cause other_cause item other stands also a b own listed same =
+      let at = named-of n other_cause other also b listed in by at.begins at.all at.meant at.alone
+    where
+      both : IsOwnName p answers context other_cause b → cause ≡ other_cause
+      both its_own =
+          owners-one p AsModule stands.due also.due own.owns its_own.owns
+          (its.apart.apart own.holder its_own.holder own.is its_own.is
+          (sym own.its ∙ same ∙ its_own.its))
+
+      by : (begins : ℕ) (all : List Denoted) (meant : Meant) →
+          NameAlone p list context answers other_cause other begins all b meant →
+          cause ≡ other_cause
+      by begins all meant (one.inside holder inner within found owns never holds ctxt) =
+          both (inside-own p hooks list context answers plan items its other_cause also.due other b
+          holder owns never holds ctxt)
+      by begins all meant (one.of_top {l = l} out not_inner never top ident) =
+          let held = holds p l top in
+          absurd (own.never l held.0 held.1
+          (its.apart.apart own.holder held.0 own.is
+          (holder-is p answers held.1)
+          (sym own.its ∙ same ∙ ap (λ (i : Ident). i.1) ident
+          ∙ holder-context p list context held.1)))
+      by begins all meant (one.of_function {c = c} {l = l} e out inside declared entry) =
+          both (function-own p hooks list context answers plan items its other_cause also.due other
+          b c l e entry)
+      by begins all meant (one.free is_one not_inner arguments) =
+          let above = its.apart.own own.holder own.is in
+          let same_context : 1 ≡ context own.holder = sym is_one ∙ sym same ∙ own.its in
+          absurd (omega (arith, above, same_context))
+
+  pub all-named : AllOf HasNames items
+  all-named = all-in HasNames items (λ m item at.
+      let stands = of-item p hooks list context answers plan items its m item at in
+      stands.1.alone.named)
+
+  -- TOLD APART
+  pub are-apart : AreApart items
+  are-apart = record {
+    noted = λ m item o at listed.
+        let stands = of-item p hooks list context answers plan items its m item at in
+        let named = named-of m stands.0 item stands.1 o listed in
+        note-of p hooks list context answers plan items its stands.0 stands.1.due item named.begins
+        named.all o named.meant named.alone;
+    inside = λ m item at.
+        let stands = of-item p hooks list context answers plan items its m item at in
+        stands.1.alone.inner;
+    others = λ m n item other a b differ at there listed its_listed is same.
+        let stands = of-item p hooks list context answers plan items its m item at in
+        let also = of-item p hooks list context answers plan items its n other there in
+        let own = own-name m stands.0 item stands.1 a listed is in
+        let causes =
+        same-cause m n stands.0 also.0 item other stands.1 also.1 a b own its_listed same.1 in
+        differ (its.once m n stands.0 stands.1.cause_there
+        (also.1.cause_there ∙ ap Some (sym causes)));
+    own_arguments = λ m item o at listed unseen e.
+        let stands = of-item p hooks list context answers plan items its m item at in
+        let named = named-of m stands.0 item stands.1 o listed in
+        arguments-free p hooks list context answers plan items its stands.0 stands.1.due item
+        named.begins named.all o named.meant named.alone unseen e
+        (sym (own-symbol (own_declared item) o) ∙ ap denoted_symbol e);
+  }
