@@ -15,3 +15,5 @@ pub mod labels
 pub mod laid
 pub mod together
 pub mod tidy
+pub mod moved
+pub mod sound

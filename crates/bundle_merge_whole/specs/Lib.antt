@@ -9,3 +9,5 @@ pub mod function
 pub mod labels
 pub mod together
 pub mod tidy
+pub mod moved
+pub mod sound

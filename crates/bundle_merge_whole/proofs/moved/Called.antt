@@ -1,0 +1,201 @@
+-- The bindings of a bundle are called right, and have the right contexts, in a program that is one
+-- but for the numbers of its modules.
+use Rattle.std.proofs.Common.{◌≡◌, ◌↔◌, ℕ, ◌+◌, List, [], ◌∷◌, Some, Contains, length, map, sym, ap, ◌∙◌, subst}
+use Rattle.std.specs.Prelude.{slice_get, zero}
+use Rattle.std.specs.List.{AllZip}
+use Rattle.bundle_tree_piece.specs.Item.{Item}
+use Rattle.bundle_rules.specs.Nodes.{Text, side_by_side}
+use Rattle.bundle_rules.specs.Scopes.{Es, Cjs}
+use Rattle.bundle_rules.specs.Declarations.{Reading, BySymbol}
+use Rattle.bundle_rules.specs.Denotes.{Denoted, Bound}
+use Rattle.bundle_rules.specs.Statements.{TopItem, Element, own_statements, placed}
+use Rattle.bundle_rules.specs.Program.{Program, tree_of, IsReached}
+use Rattle.bundle_rules.specs.Linking.{Declared}
+use Rattle.bundle_rules.specs.Meaning.{Label, Of, Labelling, Mark, Means, View, inner_bindings}
+use Rattle.bundle_rules.specs.Injected.{load_front, load_back}
+use Rattle.bundle_rules.specs.Bundle.{Cause, Own, Defines, Helps, HoldsMeta, AsModule, Hooks, IsDue, Labelled, labelled, sense_of, elements_of, SameMeaning, IsLoadFunction, Pairing, StandsFor}
+use Rattle.bundle_rules.specs.Symbols.{symbol_of_label, item_symbols, inner_symbols, CalledAlike, AreCalled}
+use Rattle.bundle_rules.specs.Merged.{HasContexts}
+use Rattle.bundle_link_reached.specs.Alike.{IsAlike}
+use Rattle.bundle_link_reached.proofs.AlikeLemmas.{flip}
+use Rattle.bundle_merge_whole.specs.composed.Noted.{pairing_of}
+use Rattle.bundle_merge_whole.proofs.planned.ListLemmas.{contains-get}
+use Rattle.bundle_merge_whole.specs.moved.Renumbered.{label_by, marks_by, cause_by, labelled_by}
+use Rattle.bundle_merge_whole.proofs.moved.Owed.{AreRenamed, EachModule, IsLabelReached, AreLabelsReached}
+use Rattle.bundle_merge_whole.proofs.moved.Due.{turned-round, due-named, mapped-at, plan-due, plan-back}
+use Rattle.bundle_merge_whole.proofs.moved.Means.{means-by, own-meaning}
+use Rattle.bundle_merge_whole.proofs.moved.Stand.{may-hold-by}
+use Rattle.bundle_merge_whole.proofs.moved.Agrees.{was-labelled, label-back}
+use Rattle.bundle_merge_whole.proofs.moved.Requested.{list-by, list-named}
+use Rattle.bundle_merge_whole.proofs.moved.Symbols.{symbol-by}
+
+-- the module of such a label
+abbrev declared_number : Label → ℕ
+declared_number (Of (Declared m x)) = m
+declared_number _ = zero
+
+module _ (p q : Program) (R : ℕ → ℕ → Type 0) (name back : ℕ → ℕ)
+    (its : AreRenamed p q R name back) (hooks : Hooks) (plan : List Cause) (reading : Reading)
+    (tree : List Item) (labels : Labelling) (items : List (List Item))
+    (reached : AreLabelsReached p labels)
+    (due : (cause : Cause) → Contains plan cause ↔ IsDue p AsModule cause) where
+  abbrev w : IsAlike p q R
+  w = its.alike
+
+  abbrev others : Labelling
+  others = labelled_by name labels
+
+  abbrev one : Pairing
+  one = pairing_of labels items plan
+
+  abbrev two : Pairing
+  two = pairing_of others items (map (cause_by name) plan)
+
+  abbrev b : Labelled
+  b = labelled tree reading one
+
+  abbrev c : Labelled
+  c = labelled tree reading two
+
+  -- of what item and cause it comes
+  record Stood (cause : Cause) (item : TopItem) : Type 0 where
+    stands : StandsFor one (cause_by back cause) item
+    named : EachModule (λ m. R (back m) m) cause
+
+  stood : (cause : Cause) (item : TopItem) → StandsFor two cause item → Stood cause item
+  stood cause item stands =
+      let was = mapped-at (cause_by name) plan stands.at cause stands.cause_there in
+      let there = contains-get plan stands.at was.0 was.1 in
+      let same : cause_by back cause ≡ was.0 =
+      ap (cause_by back) (sym was.2)
+      ∙ plan-back p q R name back its AsModule plan due was.0 there in
+      record {
+        stands = record {
+          at = stands.at;
+          cause_there = was.1 ∙ ap (λ x. Some x) (sym same);
+          item_there = stands.item_there;
+        };
+        named =
+            due-named q p (λ a b. R b a) back name (turned-round its)
+            ((plan-due p q R name back its AsModule plan due cause).0
+            (contains-get (map (cause_by name) plan) stands.at cause stands.cause_there));
+      }
+
+  -- what a part of the bundle means
+  back-labelled : (d : Denoted) (l : Label) → Contains others (d, l) →
+      Contains labels (d, label_by back l)
+  back-labelled d l there =
+      let was = was-labelled name labels d l there in
+      subst (λ n. Contains labels (d, n))
+      (sym (label-back p q R name back its was.old (reached d was.old was.there))
+      ∙ ap (label_by back) was.is) was.there
+
+  means-back : (inner : List Denoted) (elements : List Element) (marks : List Mark) →
+      Means (sense_of c) inner elements marks → Means (sense_of b) inner elements (marks_by back marks)
+  means-back inner elements marks means =
+      let view : View = record { tree = tree; kind = Es; reading = reading } in
+      means-by back view (λ place by. ⊥) (λ place by. ⊥) (λ d l. Contains others (d, l))
+      (λ d l. Contains labels (d, l)) (λ place by is. is) (λ place by is none. is) back-labelled
+      inner means
+
+  same-back : (m : ℕ) → R (back m) m → (tops : List TopItem) (statements : List (List Element)) →
+      AllZip (SameMeaning q c m) tops statements → AllZip (SameMeaning p b (back m)) tops statements
+  same-back m r [] [] all = tt
+  same-back m r [] (statement ∷ statements) all = absurd all
+  same-back m r (top ∷ tops) [] all = absurd all
+  same-back m r (top ∷ tops) (statement ∷ statements) all = (
+    (
+      marks_by back all.0.0,
+      own-meaning (λ a b. R b a) back (λ a b k. its.backs b a k) q p (flip w) m (back m) r statement
+          all.0.0 all.0.1,
+      means-back (inner_bindings (sense_of c).view top.start (elements_of top)) (elements_of top)
+          all.0.0 all.0.2,
+    ),
+    same-back m r tops statements all.1,
+  )
+
+  function-back : (m : ℕ) (item : TopItem) → R (back m) m → IsLoadFunction q c m item →
+      IsLoadFunction p b (back m) item
+  function-back m item r f = record {
+    front = f.front;
+    inside = f.inside;
+    back = f.back;
+    is = f.is;
+    front_means = means-back [] f.front (load_front m) f.front_means;
+    front_length = f.front_length;
+    back_means = means-back [] f.back load_back f.back_means;
+    back_length = f.back_length;
+    whole = f.whole;
+    statements =
+        subst
+        (λ (its_tree : List Item). AllZip (SameMeaning p b (back m))
+        (placed (item.start + length f.front) (side_by_side zero f.inside))
+        (own_statements its_tree)) (sym (w.tree (back m) m r))
+        (same-back m r (placed (item.start + length f.front) (side_by_side zero f.inside))
+        (own_statements (tree_of q m)) f.statements);
+  }
+
+  -- CALLED right
+  pub called-by : (spelled : Text → Text) → AreCalled spelled p hooks b one →
+      AreCalled spelled q hooks c two
+  unfolding function-back
+  called-by spelled called = record {
+    list = map name called.list;
+    is_list = list-by p q R name back its called.list called.is_list;
+    outer = λ scope x l there.
+        let was = was-labelled name labels (Bound scope x) l there in
+        called.outer scope x was.old was.there
+        ∙ ap spelled
+        (symbol-by p q R name back its called.list
+        (list-named p q R name back its called.list called.is_list) was.old
+        (reached (Bound scope x) was.old was.there)
+        ∙ ap (symbol_of_label q (map name called.list)) was.is);
+    own = λ m k item statement stands there.
+        let was = stood (Own m k) item stands in
+        subst
+        (λ (its_tree : List Item). item_symbols b item
+        ≡ map spelled (inner_symbols (record { tree = its_tree; kind = Es; reading = BySymbol }) 0 statement))
+        (w.tree (back m) m was.named)
+        (called.own (back m) k item statement was.stands
+        (subst (λ (its_tree : List Item). slice_get (own_statements its_tree) k ≡ Some statement)
+        (sym (w.tree (back m) m was.named)) there));
+    common_js = λ m item f stands.
+        let was = stood (Defines m) item stands in
+        subst
+        (λ (its_tree : List Item). AllZip
+        (CalledAlike spelled b (record { tree = its_tree; kind = Cjs; reading = BySymbol }))
+        (placed (item.start + length f.front) (side_by_side zero f.inside))
+        (own_statements its_tree)) (w.tree (back m) m was.named)
+        (called.common_js (back m) item (function-back m item was.named f) was.stands);
+    helper = λ item stands. called.helper item (stood Helps item stands).stands;
+    metas = λ m item stands.
+        let was = stood (HoldsMeta m) item stands in
+        let answered = called.metas (back m) item was.stands in
+        record {
+          properties = answered.properties;
+          held =
+              may-hold-by p q R name back its hooks (back m) m answered.properties was.named
+              answered.held;
+          alike = answered.alike;
+        };
+  }
+
+  -- CONTEXTS
+  pub contexts-by : (local other : ℕ → ℕ) →
+      ((m : ℕ) → IsReached p m → local m ≡ other (name m)) → HasContexts local b →
+      HasContexts other c
+  contexts-by local other locals has = record {
+    declared = λ scope x m y there plain.
+        let was = was-labelled name labels (Bound scope x) (Of (Declared m y)) there in
+        let same : was.old ≡ Of (Declared (back m) y) =
+        sym (label-back p q R name back its was.old (reached (Bound scope x) was.old was.there))
+        ∙ ap (label_by back) was.is in
+        let r : IsReached p (back m) =
+        subst (IsLabelReached p) same (reached (Bound scope x) was.old was.there) in
+        let number : name (back m) ≡ m =
+        ap (λ l. declared_number (label_by name l)) (sym same) ∙ ap declared_number was.is in
+        has.declared scope x (back m) y
+        (subst (λ l. Contains labels (Bound scope x, l)) same was.there) plain
+        ∙ ap (λ n. Some n) (locals (back m) r ∙ ap other number);
+    globals = has.globals;
+  }

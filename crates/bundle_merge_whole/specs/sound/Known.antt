@@ -1,0 +1,39 @@
+-- What is known of a program by the modules' own numbers, and of the same program where modules are
+-- numbered by their places in its list.
+use Rattle.std.specs.Prelude.{◌≡◌, ℕ, zero, List, Some, Contains, codes, length}
+use Rattle.bundle_tree_names.specs.FileName.{Name as FileName}
+use Rattle.bundle_rules.specs.Nodes.{Text}
+use Rattle.bundle_rules.specs.Judging.{requests_in}
+use Rattle.bundle_rules.specs.Program.{Program, tree_of, IsReached, IsList}
+use Rattle.bundle_rules.specs.Faults.{IsFaultless, IsFaultlessProgram}
+use Rattle.bundle_rules.specs.Linking.{Target}
+use Rattle.bundle_rules.specs.Meaning.{Of, IsMeant}
+use Rattle.bundle_rules.specs.Symbols.{symbol_of_target}
+use Rattle.bundle_link_targets.specs.Meant.{AreModules}
+use Rattle.bundle_link_reached.specs.Alike.{IsAlike, IsAt}
+use Rattle.bundle_merge_whole.specs.fit.Programs.{HasFitTrees}
+use Rattle.bundle_merge_whole.specs.planned.Decided.{numbers_from}
+
+-- each request of a reached module leads to a module
+abbrev pub LeadsAll : Program → Type 0
+LeadsAll p =
+    (m : ℕ) (s : Text) →
+    IsReached p m →
+    Contains (requests_in p.settings (tree_of p m)) s →
+    (d : ℕ) × (p.leads m s ≡ Some d)
+
+-- no program fault and no fault of a tree by itself is there, each request leads to a module, trees
+-- are fit, and the second program is the first by the places of this list
+pub record AreKnown (p q : Program) (ids : List ℕ) : Type 0 where
+  pub is_list : IsList p ids
+  pub faultless : IsFaultlessProgram p
+  pub trees : (m : ℕ) → IsReached p m → (file : FileName) × IsFaultless file (tree_of p m)
+  pub leads : LeadsAll p
+  pub fit : HasFitTrees p
+  pub alike : IsAlike p q (IsAt ids)
+  pub modules : AreModules q
+  -- until bindings inside an item are told otherwise: no target that is meant is called `arguments`
+  pub unlike : (t : Target) →
+      IsMeant q (Of t) →
+      symbol_of_target q (numbers_from zero (length ids)) t ≡ codes "arguments" →
+      ⊥
