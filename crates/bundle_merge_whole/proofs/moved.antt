@@ -14,3 +14,6 @@ pub mod Called
 pub mod Moved
 pub mod Reached
 pub mod Made
+pub mod Sound
+pub mod Places
+pub mod Right

@@ -5,3 +5,5 @@ pub mod Sound
 pub mod Found
 pub mod Blocks
 pub mod Decided
+pub mod Noted
+pub mod Same

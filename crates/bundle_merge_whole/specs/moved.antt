@@ -1,3 +1,2 @@
 -- Programs that are one but for the numbers of their modules.
 pub mod Renumbered
-

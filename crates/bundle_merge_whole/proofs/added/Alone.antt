@@ -92,10 +92,10 @@ module _ (p : Program) (hooks : Hooks) (list : List ℕ) (context : Contexts)
   means-alone begins inner named all (o ∷ os) (one ∷ its) [] topped means = absurd means
   means-alone begins inner named all (o ∷ os) (one ∷ its) (meant ∷ meants) topped means = (
     subst (NameAlone p list context answers cause item begins inner o) (sym (means.0).is)
-    (of_top (not-inside begins (own_denoted item o) (not-inner item names named all o one topped.0))
-    (none-inner item names named all (its_name o))
-    (λ c is. not-inner item names named all o one topped.0) (means.0).there
-    ((topped.0).ident ∙ (means.0).ident)),
+        (of_top (not-inside begins (own_denoted item o) (not-inner item names named all o one topped.0))
+        (none-inner item names named all (its_name o))
+        (λ c is. not-inner item names named all o one topped.0) (means.0).there
+        ((topped.0).ident ∙ (means.0).ident)),
     means-alone begins inner named all os its meants topped.1 means.1,
   )
 

@@ -144,8 +144,8 @@ module _ (p : Program) (hooks : Hooks) (list : List ℕ) (context : Contexts)
   named = (
     refl,
     subst AreNamed
-    (sym (append_assoc (flat_map l.export_specifier named_pairs) (h.Close ∷ []) (h.Close ∷ [])))
-    (all-named named_pairs (h.Close ∷ h.Close ∷ []) (refl, (refl, tt))),
+        (sym (append_assoc (flat_map l.export_specifier named_pairs) (h.Close ∷ []) (h.Close ∷ [])))
+        (all-named named_pairs (h.Close ∷ h.Close ∷ []) (refl, (refl, tt))),
   )
 
   fits : IsFit AnItem 0 (l.export_list named_pairs)

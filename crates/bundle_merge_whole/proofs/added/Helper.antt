@@ -65,7 +65,7 @@ makes-fit : (m : Ident) (rest : List Item) → AreFit (slot 0 Many AStmt ∷ [])
 makes-fit m rest fits =
     a_node
     {inside = e.node 0 (h.AssignExpr Assign) (l.pattern_of 1 r.Reference m
-        ++ e.node 2 h.ObjectLit l.exported)}
+    ++ e.node 2 h.ObjectLit l.exported)}
     refl
     (a_node {inside = l.pattern_of 1 r.Reference m ++ e.node 2 h.ObjectLit l.exported} refl
     (a_node {inside = l.named 0 r.Reference m} refl (a_name refl no_more)
@@ -161,16 +161,36 @@ module _ (a b c : ℕ) where
 
   pub helper-parts : AllZip IsOf (occurrences_from first_spot helper_item) its_parts
   helper-parts = (
-    record { ident = refl; denotes = refl }, (
-    record { ident = refl; denotes = refl }, (
-    record { ident = refl; denotes = refl }, (
-    record { ident = refl; denotes = rw same-c refl }, (
-    record { ident = refl; denotes = rw same-c refl }, (
-    record { ident = refl; denotes = rw same-b refl }, (
-    record { ident = refl; denotes = rw same-c refl }, (
-    record { ident = refl; denotes = rw same-c refl }, (
-    record { ident = refl; denotes = rw same-c refl }, (
-    record { ident = refl; denotes = rw same-c refl }, tt))))))))))
+    record { ident = refl; denotes = refl },
+    (
+      record { ident = refl; denotes = refl },
+      (
+        record { ident = refl; denotes = refl },
+        (
+          record { ident = refl; denotes = rw same-c refl },
+          (
+            record { ident = refl; denotes = rw same-c refl },
+            (
+              record { ident = refl; denotes = rw same-b refl },
+              (
+                record { ident = refl; denotes = rw same-c refl },
+                (
+                  record { ident = refl; denotes = rw same-c refl },
+                  (
+                    record { ident = refl; denotes = rw same-c refl },
+                    (
+                      record { ident = refl; denotes = rw same-c refl },
+                      tt,
+                    ),
+                  ),
+                ),
+              ),
+            ),
+          ),
+        ),
+      ),
+    ),
+  )
 
   -- what its names denote in turn
   parts-denote : (os : List Occurrence) (parts : List Part) → AllZip IsOf os parts →
@@ -221,7 +241,7 @@ module _ (a b c : ℕ) where
   pub helper-fits : IsFit AnItem 0 helper_item
   helper-fits =
       node {inside = h.Ident 0 (codes "__swcpack_require__") a r.Binding ∷ l.function_in 1
-          (l.parameter (codes "fn", b)) (l.helper_body (codes "fn", b) (codes "module", c))} refl
+      (l.parameter (codes "fn", b)) (l.helper_body (codes "fn", b) (codes "module", c))} refl
       (a_name refl
       (a_node {inside = l.parameter (codes "fn", b) ++ e.node 1 h.BlockStmt (l.helper_body
       (codes "fn", b) (codes "module", c))} refl

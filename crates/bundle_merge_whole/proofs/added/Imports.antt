@@ -151,8 +151,12 @@ module _ (p : Program) (hooks : Hooks) (list : List ℕ) (context : Contexts)
     pairs = named_idents p list context (λ x. External s (Named x)) names
 
     top-of : (x : Text) → MeansName p s x → IsTopLabel p (Of (External s (Named x)))
-    top-of x means = record { cause = ImportsNames s; due = due; declares = adds
-        (imports_name means) }
+    top-of x means = record {
+      cause = ImportsNames s;
+      due = due;
+      declares = adds
+          (imports_name means);
+    }
 
     topped : AllZip IsTopped (occurrences_from first_spot (l.import_names s pairs))
         (map bound_name pairs)
@@ -173,14 +177,22 @@ module _ (p : Program) (hooks : Hooks) (list : List ℕ) (context : Contexts)
     named = (
       refl,
       subst AreNamed
-      (ap (λ items. items ++ h.Close ∷ [])
-      (sym (append_assoc (flat_map l.import_specifier pairs) (l.string_in 1 s) (h.Close ∷ [])))
-      )
-      (subst AreNamed
-      (sym (append_assoc (flat_map l.import_specifier pairs) (l.string_in 1 s ++ h.Close ∷ [])
-      (h.Close ∷ [])))
-      (all-named pairs ((l.string_in 1 s ++ h.Close ∷ []) ++ h.Close ∷ []) (refl, (refl, (refl,
-      (refl, tt)))))),
+          (ap (λ items. items ++ h.Close ∷ [])
+          (sym (append_assoc (flat_map l.import_specifier pairs) (l.string_in 1 s) (h.Close ∷ [])))
+          )
+          (subst AreNamed
+          (sym (append_assoc (flat_map l.import_specifier pairs) (l.string_in 1 s ++ h.Close ∷ [])
+          (h.Close ∷ [])))
+          (all-named pairs ((l.string_in 1 s ++ h.Close ∷ []) ++ h.Close ∷ []) (
+            refl,
+            (
+              refl,
+              (
+                refl,
+                (refl, tt),
+              ),
+            ),
+          ))),
     )
 
     fits : IsFit AnItem 0 (l.import_names s pairs)

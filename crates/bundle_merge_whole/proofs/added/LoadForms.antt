@@ -201,49 +201,90 @@ load-topped load (Some w) [] = (
     binds = refl;
     home = λ is. record { way = ByVar; is = refl; scopes = refl; takes_it = refl };
     away = λ is. refl;
-  }, (
-  record { ident = refl; binds = refl; home = λ is. absurd (false≢true is); away = λ is. refl },
-  tt,
-))
+  },
+  (
+    record { ident = refl; binds = refl; home = λ is. absurd (false≢true is); away = λ is. refl },
+    tt,
+  ),
+)
 load-topped load (Some w) (pair ∷ pairs) = (
   record {
     ident = refl;
     binds = refl;
     home = λ is. record { way = ByVar; is = refl; scopes = refl; takes_it = refl };
     away = λ is. refl;
-  }, (
-  record { ident = refl; binds = refl; home = λ is. absurd (false≢true is); away = λ is. refl },
-  subst
-  (λ items. AllZip IsTopped (occurrences_from (in_pattern 11 10 12 0) items)
-  (map bound_name (pair ∷ pairs) ++ (w, false) ∷ []))
-  (sym (behind (flat_map l.load_property (pair ∷ pairs)) (l.named 1 r.Reference w)))
-  (all-topped 11 10 12 0 (pair ∷ pairs)
-  (h.Close ∷ (l.named 1 r.Reference w ++ h.Close ∷ h.Close ∷ [])) ((w, false) ∷ [])
-  (λ place field. (
+  },
+  (
     record { ident = refl; binds = refl; home = λ is. absurd (false≢true is); away = λ is. refl },
-    tt,
-  ))),
-))
+    subst
+        (λ items. AllZip IsTopped (occurrences_from (in_pattern 11 10 12 0) items)
+        (map bound_name (pair ∷ pairs) ++ (w, false) ∷ []))
+        (sym (behind (flat_map l.load_property (pair ∷ pairs)) (l.named 1 r.Reference w)))
+        (all-topped 11 10 12 0 (pair ∷ pairs)
+        (h.Close ∷ (l.named 1 r.Reference w ++ h.Close ∷ h.Close ∷ [])) ((w, false) ∷ [])
+        (λ place field. (
+          record { ident = refl; binds = refl; home = λ is. absurd (false≢true is); away = λ is. refl },
+          tt,
+        ))),
+  ),
+)
 
 pub load-named : (load : Ident) (whole : Option Ident) (pairs : List Pair) →
     HasNames (l.load_statement load whole pairs)
 load-named load None [] = (refl, (refl, (refl, (refl, (refl, (refl, tt))))))
-load-named load None (pair ∷ pairs) = (refl, (refl, (refl,
-  subst AreNamed (sym (behind-end (flat_map l.load_property (pair ∷ pairs)) (l.load_call 1 load)))
-  (all-named (pair ∷ pairs)
-  (h.Close ∷ (l.load_call 1 load ++ h.Close ∷ h.Close ∷ h.Close ∷ []))
-  (refl, (refl, (refl, (refl, (refl, (refl, (refl, tt))))))))
-)))
+load-named load None (pair ∷ pairs) = (
+  refl,
+  (
+    refl,
+    (
+      refl,
+      subst AreNamed (sym (behind-end (flat_map l.load_property (pair ∷ pairs)) (l.load_call 1 load)))
+          (all-named (pair ∷ pairs)
+          (h.Close ∷ (l.load_call 1 load ++ h.Close ∷ h.Close ∷ h.Close ∷ []))
+          (refl, (refl, (refl, (refl, (refl, (refl, (refl, tt)))))))),
+    ),
+  ),
+)
 load-named load (Some w) [] =
     (refl, (refl, (refl, (refl, (refl, (refl, (refl, (refl, (refl, (refl, (refl, tt)))))))))))
-load-named load (Some w) (pair ∷ pairs) =
-    (refl, (refl, (refl, (refl, (refl, (refl, (refl, (refl, (refl, (refl, (refl,
-  subst AreNamed (sym (behind-end (flat_map l.load_property (pair ∷ pairs))
-  (l.named 1 r.Reference w)))
-  (all-named (pair ∷ pairs)
-  (h.Close ∷ (l.named 1 r.Reference w ++ h.Close ∷ h.Close ∷ h.Close ∷ []))
-  (refl, (refl, (refl, (refl, (refl, tt))))))
-)))))))))))
+load-named load (Some w) (pair ∷ pairs) = (
+  refl,
+  (
+    refl,
+    (
+      refl,
+      (
+        refl,
+        (
+          refl,
+          (
+            refl,
+            (
+              refl,
+              (
+                refl,
+                (
+                  refl,
+                  (
+                    refl,
+                    (
+                      refl,
+                      subst AreNamed (sym (behind-end (flat_map l.load_property (pair ∷ pairs))
+                          (l.named 1 r.Reference w)))
+                          (all-named (pair ∷ pairs)
+                          (h.Close ∷ (l.named 1 r.Reference w ++ h.Close ∷ h.Close ∷ h.Close ∷ []))
+                          (refl, (refl, (refl, (refl, (refl, tt)))))),
+                    ),
+                  ),
+                ),
+              ),
+            ),
+          ),
+        ),
+      ),
+    ),
+  ),
+)
 
 -- a declarator whose pattern has these properties
 pattern-fits : (pairs : List Pair) (value : List Item) →

@@ -122,13 +122,16 @@ module _ (p : Program) (hooks : Hooks) (list : List ℕ) (context : Contexts)
       (Load c) ∷ []) (taken-tell (x ∷ names) meant)
       (load-tells, tt)
   names-mean true [] is meant = (whole-tells true (is refl), (load-tells, tt))
-  names-mean true (x ∷ names) is meant = (whole-tells true (is refl), (
-    load-tells,
-    zip-append (IsOfTop p list context) (map bound_name (pairs_of (x ∷ names)))
-    ((whole_ident, false) ∷ []) (map (taken_from_c m c) (pairs_of (x ∷ names)))
-    (Known (Of (CommonJs m c Whole)) ∷ [])
-    (taken-tell (x ∷ names) meant) (whole-tells false (is refl), tt),
-  ))
+  names-mean true (x ∷ names) is meant = (
+    whole-tells true (is refl),
+    (
+      load-tells,
+      zip-append (IsOfTop p list context) (map bound_name (pairs_of (x ∷ names)))
+          ((whole_ident, false) ∷ []) (map (taken_from_c m c) (pairs_of (x ∷ names)))
+          (Known (Of (CommonJs m c Whole)) ∷ [])
+          (taken-tell (x ∷ names) meant) (whole-tells false (is refl), tt),
+    ),
+  )
 
   there-is : (whole : Bool) → is_there (if whole then Some whole_ident else None) ≡ whole
   there-is true = refl

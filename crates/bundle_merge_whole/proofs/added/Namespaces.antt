@@ -171,17 +171,17 @@ object-topped object pairs unlike = (
     away = λ is. refl;
   },
   subst (λ items. AllZip IsTopped (occurrences_from (in_object 12 0) items) (map read_name pairs))
-  (sym (behind (flat_map returned_property pairs)))
-  (subst
-  (λ names. AllZip IsTopped
-  (occurrences_from (in_object 12 0)
-  (flat_map returned_property pairs
-  ++ (h.Close ∷ h.Close ∷ h.Close ∷ h.Close ∷ h.Close ∷ h.Close ∷ h.Close ∷ h.Close ∷ [])))
-  names)
-  (append-nil (map read_name pairs))
-  (all-topped 12 0 pairs
-  (h.Close ∷ h.Close ∷ h.Close ∷ h.Close ∷ h.Close ∷ h.Close ∷ h.Close ∷ h.Close ∷ []) [] unlike
-  (λ place field. tt))),
+      (sym (behind (flat_map returned_property pairs)))
+      (subst
+      (λ names. AllZip IsTopped
+      (occurrences_from (in_object 12 0)
+      (flat_map returned_property pairs
+      ++ (h.Close ∷ h.Close ∷ h.Close ∷ h.Close ∷ h.Close ∷ h.Close ∷ h.Close ∷ h.Close ∷ [])))
+      names)
+      (append-nil (map read_name pairs))
+      (all-topped 12 0 pairs
+      (h.Close ∷ h.Close ∷ h.Close ∷ h.Close ∷ h.Close ∷ h.Close ∷ h.Close ∷ h.Close ∷ []) [] unlike
+      (λ place field. tt))),
 )
 
 behind-end : (flat : List Item) →
@@ -194,13 +194,43 @@ behind-end flat = simp append_assoc
 
 pub object-named : (object : Ident) (pairs : List Pair) →
     HasNames (l.namespace_object no_notes object pairs)
-object-named object pairs =
-    (refl, (refl, (refl, (refl, (refl, (refl, (refl, (refl, (refl, (refl, (refl,
-  subst AreNamed (sym (behind-end (flat_map returned_property pairs)))
-  (all-named pairs
-  (h.Close ∷ h.Close ∷ h.Close ∷ h.Close ∷ h.Close ∷ h.Close ∷ h.Close ∷ h.Close ∷ h.Close ∷ [])
-  (refl, (refl, (refl, (refl, (refl, (refl, (refl, (refl, (refl, tt))))))))))
-)))))))))))
+object-named object pairs = (
+  refl,
+  (
+    refl,
+    (
+      refl,
+      (
+        refl,
+        (
+          refl,
+          (
+            refl,
+            (
+              refl,
+              (
+                refl,
+                (
+                  refl,
+                  (
+                    refl,
+                    (
+                      refl,
+                      subst AreNamed (sym (behind-end (flat_map returned_property pairs)))
+                          (all-named pairs
+                          (h.Close ∷ h.Close ∷ h.Close ∷ h.Close ∷ h.Close ∷ h.Close ∷ h.Close ∷ h.Close ∷ h.Close ∷ [])
+                          (refl, (refl, (refl, (refl, (refl, (refl, (refl, (refl, (refl, tt)))))))))),
+                    ),
+                  ),
+                ),
+              ),
+            ),
+          ),
+        ),
+      ),
+    ),
+  ),
+)
 
 returned-fits : (pairs : List Pair) → AreFit (slot 0 Many AStmt ∷ []) (returned_object pairs)
 returned-fits pairs =
@@ -266,26 +296,31 @@ module _ (p : Program) (hooks : Hooks) (list : List ℕ) (context : Contexts)
   all-unlike [] has = tt
   all-unlike (pair ∷ its) has =
       let linked : Linked p d pair.0 pair.1 =
-      has pair.0 pair.1 ((Contains-cons pair its pair).1 (inl refl)) in
-      (
+      has pair.0 pair.1 ((Contains-cons pair its pair).1 (inl refl)) in (
         unlike pair.0 pair.1 linked (linked-meant pair.0 pair.1 linked),
         all-unlike its (λ x t there. has x t ((Contains-cons pair its (x, t)).1 (inr there))),
       )
 
-  marked : IsMarked (l.namespace_object no_notes object named_pairs)
-      (Known (Of (Namespace d)) ∷ map means_of
-      (rows_of p list context pairs), i.namespace_object d pairs)
+  marked : IsMarked (l.namespace_object no_notes object named_pairs) (
+    Known (Of (Namespace d)) ∷ map means_of
+        (rows_of p list context pairs),
+    i.namespace_object d pairs,
+  )
   marked =
       subst
-      (λ its. IsMarked (l.namespace_object no_notes object its)
-      (Known (Of (Namespace d)) ∷ map means_of
-      (rows_of p list context pairs), i.namespace_object d pairs))
+      (λ its. IsMarked (l.namespace_object no_notes object its) (
+        Known (Of (Namespace d)) ∷ map means_of
+            (rows_of p list context pairs),
+        i.namespace_object d pairs,
+      ))
       (written-rows p list context pairs)
       (subst
       (λ its. IsMarked (l.namespace_object no_notes object (map written_of
-      (rows_of p list context pairs)))
-      (Known (Of (Namespace d)) ∷ map means_of
-      (rows_of p list context pairs), i.namespace_object d its))
+      (rows_of p list context pairs))) (
+        Known (Of (Namespace d)) ∷ map means_of
+            (rows_of p list context pairs),
+        i.namespace_object d its,
+      ))
       (target-rows p list context pairs)
       (namespace_marked no_notes object d (rows_of p list context pairs)))
 
@@ -300,9 +335,11 @@ module _ (p : Program) (hooks : Hooks) (list : List ℕ) (context : Contexts)
       (l.namespace_object no_notes object named_pairs)
   namespace-alone =
       topped-alone p hooks list context answers (HoldsNamespace d)
-      (l.namespace_object no_notes object named_pairs)
-      (Known (Of (Namespace d)) ∷ map means_of
-      (rows_of p list context pairs), i.namespace_object d pairs)
+      (l.namespace_object no_notes object named_pairs) (
+        Known (Of (Namespace d)) ∷ map means_of
+            (rows_of p list context pairs),
+        i.namespace_object d pairs,
+      )
       ((object, true) ∷ map read_name named_pairs) (object-fits object named_pairs) marked
       (holds_namespace pairs are) (namespace_lone no_notes object named_pairs)
       (object-named object named_pairs)

@@ -80,8 +80,11 @@ module _ (p : Program) (list : List ℕ) (context : Contexts) where
           | inr later ↦
               or_right
               (binds_it (ident_of_label p list context (Of (of x))).0
-              (ident_of_label p list context (Of (of x))).1 (ident_of_label p list context (Of
-              (of y)), true))
+              (ident_of_label p list context (Of (of x))).1 (
+                ident_of_label p list context (Of
+                    (of y)),
+                true,
+              ))
               (list_any (binds_it (ident_of_label p list context (Of (of x))).0
               (ident_of_label p list context (Of (of x))).1) (map bound_name
               (named_idents p list context of names)))

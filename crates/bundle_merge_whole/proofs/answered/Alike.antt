@@ -90,48 +90,48 @@ module _ (R : ℕ → ℕ → Type 0) where
           (sym (declares-none u (ap is_binding all.0.role ∙ is))) rest)
 
   module _ (one : IsOneToOne R) (ds es : List Declared) (alike : AllZip (DeclaredAlike R) ds es)
-      where
-    pub made-denotes : (o u : Occurrence) → IsMadeOf R o u →
-        DenotedAlike R (denoted_of ByContext Es ds o) (denoted_of ByContext Es es u)
-    made-denotes o u it = by_role (is_binding o.role) refl
-      where
-        by_role : (b : Bool) → is_binding o.role ≡ b →
-            DenotedAlike R (denoted_of ByContext Es ds o) (denoted_of ByContext Es es u)
-        by_role true is =
-            let way = it.ways is in
-            subst
-            (λ d. DenotedAlike R
-            (own_or_found ds (denoted_by_context ds (scopes_around Es o.path) (its_name o)) d)
-            (denoted_of ByContext Es es u))
-            (sym (declares-some o way.0 is way.1))
-            (subst
-            (λ d. DenotedAlike R (Bound (home_of ds (declared_so way.0 o)) (its_name o))
-            (own_or_found es (denoted_by_context es (scopes_around Es u.path) (its_name u)) d))
-            (sym (declares-some u way.0 (ap is_binding it.role ∙ is) way.2))
-            (subst
-            (λ (i : Ident). DenotedAlike R (Bound (home_of ds (declared_so way.0 o)) (its_name o))
-            (Bound (home_of es (declared_so way.0 u)) (name_of ByContext i.0 i.1)))
-            (sym it.ident)
-            (bindings
-            (home-alike R one ds es alike (declared_so way.0 o) (declared_so way.0 u)
-            (so-alike o u way.0 it)))))
-        by_role false is =
-            subst
-            (λ d. DenotedAlike R
-            (own_or_found ds (denoted_by_context ds (scopes_around Es o.path) (its_name o)) d)
-            (denoted_of ByContext Es es u))
-            (sym (declares-none o is))
-            (subst
-            (λ d. DenotedAlike R (denoted_by_context ds (scopes_around Es o.path) (its_name o))
-            (own_or_found es (denoted_by_context es (scopes_around Es u.path) (its_name u)) d))
-            (sym (declares-none u (ap is_binding it.role ∙ is)))
-            (subst
-            (λ (i : Ident). DenotedAlike R
-            (denoted_by_context ds (scopes_around Es o.path) (its_name o))
-            (denoted_by_context es (scopes_around Es u.path) (name_of ByContext i.0 i.1)))
-            (sym it.ident)
-            (in-alike R one ds es alike ByContext (scopes_around Es o.path)
-            (scopes_around Es u.path) it.scopes (its_name o))))
+    where
+      pub made-denotes : (o u : Occurrence) → IsMadeOf R o u →
+          DenotedAlike R (denoted_of ByContext Es ds o) (denoted_of ByContext Es es u)
+      made-denotes o u it = by_role (is_binding o.role) refl
+        where
+          by_role : (b : Bool) → is_binding o.role ≡ b →
+              DenotedAlike R (denoted_of ByContext Es ds o) (denoted_of ByContext Es es u)
+          by_role true is =
+              let way = it.ways is in
+              subst
+              (λ d. DenotedAlike R
+              (own_or_found ds (denoted_by_context ds (scopes_around Es o.path) (its_name o)) d)
+              (denoted_of ByContext Es es u))
+              (sym (declares-some o way.0 is way.1))
+              (subst
+              (λ d. DenotedAlike R (Bound (home_of ds (declared_so way.0 o)) (its_name o))
+              (own_or_found es (denoted_by_context es (scopes_around Es u.path) (its_name u)) d))
+              (sym (declares-some u way.0 (ap is_binding it.role ∙ is) way.2))
+              (subst
+              (λ (i : Ident). DenotedAlike R (Bound (home_of ds (declared_so way.0 o)) (its_name o))
+              (Bound (home_of es (declared_so way.0 u)) (name_of ByContext i.0 i.1)))
+              (sym it.ident)
+              (bindings
+              (home-alike R one ds es alike (declared_so way.0 o) (declared_so way.0 u)
+              (so-alike o u way.0 it)))))
+          by_role false is =
+              subst
+              (λ d. DenotedAlike R
+              (own_or_found ds (denoted_by_context ds (scopes_around Es o.path) (its_name o)) d)
+              (denoted_of ByContext Es es u))
+              (sym (declares-none o is))
+              (subst
+              (λ d. DenotedAlike R (denoted_by_context ds (scopes_around Es o.path) (its_name o))
+              (own_or_found es (denoted_by_context es (scopes_around Es u.path) (its_name u)) d))
+              (sym (declares-none u (ap is_binding it.role ∙ is)))
+              (subst
+              (λ (i : Ident). DenotedAlike R
+              (denoted_by_context ds (scopes_around Es o.path) (its_name o))
+              (denoted_by_context es (scopes_around Es u.path) (name_of ByContext i.0 i.1)))
+              (sym it.ident)
+              (in-alike R one ds es alike ByContext (scopes_around Es o.path)
+              (scopes_around Es u.path) it.scopes (its_name o))))
 
 -- One more constant that is declared at the top.
 

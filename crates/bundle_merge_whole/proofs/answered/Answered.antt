@@ -237,7 +237,7 @@ module _ (list : List ℕ) {p : Program} {hooks : Hooks} {context : Contexts}
   item-fits : IsFit AnItem 0 the_item
   item-fits =
       f.node {inside = l.declarator (l.pattern_of 0 r.Binding name_ident)
-          (node 1 h.ObjectLit within)} refl
+      (node 1 h.ObjectLit within)} refl
       (a_node {inside = l.pattern_of 0 r.Binding name_ident ++ node 1 h.ObjectLit within} refl
       (a_node {inside = h.Ident 0 name_ident.0 name_ident.1 r.Binding ∷ []} refl
       (a_name refl no_more)

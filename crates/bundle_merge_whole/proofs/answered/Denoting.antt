@@ -231,12 +231,28 @@ module _ (list : List ℕ) {p : Program} {hooks : Hooks} {context : Contexts}
       ∙ append-nil us)
 
   pub item-named : HasNames item
-  item-named =
-      (refl, (refl, (refl, (refl, (refl, (refl,
-      subst AreNamed (sym (ap (λ items. items ++ h.Close ∷ []) behind ∙ append_assoc within
-      (h.Close ∷ h.Close ∷ h.Close ∷ []) (h.Close ∷ [])))
-      (named-fit (made-fit facts.its) refl
-      (h.Close ∷ h.Close ∷ h.Close ∷ h.Close ∷ []) (refl, (refl, (refl, (refl, tt)))))))))))
+  item-named = (
+    refl,
+    (
+      refl,
+      (
+        refl,
+        (
+          refl,
+          (
+            refl,
+            (
+              refl,
+              subst AreNamed (sym (ap (λ items. items ++ h.Close ∷ []) behind ∙ append_assoc within
+                  (h.Close ∷ h.Close ∷ h.Close ∷ []) (h.Close ∷ [])))
+                  (named-fit (made-fit facts.its) refl
+                  (h.Close ∷ h.Close ∷ h.Close ∷ h.Close ∷ []) (refl, (refl, (refl, (refl, tt))))),
+            ),
+          ),
+        ),
+      ),
+    ),
+  )
 
   pub item-declared : own_declared item ≡ constant_at 4 meta_name ∷ es
   item-declared =

@@ -113,9 +113,16 @@ module _ (properties : List Item) (fit : AreFit (slot 0 Many AProperty ∷ []) p
   tree = properties_tree properties
 
   pub tree-named : AreNamed tree
-  tree-named =
-      (refl, (refl, (refl,
-      named-fit fit refl (h.Close ∷ h.Close ∷ h.Close ∷ []) (refl, (refl, (refl, tt))))))
+  tree-named = (
+    refl,
+    (
+      refl,
+      (
+        refl,
+        named-fit fit refl (h.Close ∷ h.Close ∷ h.Close ∷ []) (refl, (refl, (refl, tt))),
+      ),
+    ),
+  )
 
   pub tree-fit : IsFit AModule 0 tree
   tree-fit =

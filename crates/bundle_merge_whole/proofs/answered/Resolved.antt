@@ -145,8 +145,7 @@ module _ (list : List ℕ) {p : Program} {hooks : Hooks} {context : Contexts}
             let names : o.sym ≡ q.sym = ap denoted_symbol both in
             let to : a.to ≡ b.to = ap place_in both in
             let from : a.from ≡ b.from =
-            frame.other a.from b.from b.to (subst (λ k. Rel a.from k) to a.goes) b.goes in
-            (
+            frame.other a.from b.from b.to (subst (λ k. Rel a.from k) to a.goes) b.goes in (
               symbols o u x ∙ names ∙ sym (symbols q v y),
               a.ctxt ∙ ap (λ k. context (AnsweredOf m k)) from ∙ sym b.ctxt,
             ),
@@ -169,8 +168,7 @@ module _ (list : List ℕ) {p : Program} {hooks : Hooks} {context : Contexts}
           slice_get (the_first ∷ its_us) j ≡ Some b → is_inner (own_denoted the_item a) ≡ true →
           SameIdent a b ↔ (own_denoted the_item a ≡ own_denoted the_item b)
       by_second i zero a b at there inner =
-          let one_is = zip-second Beside its_os its_us all-beside i a at in
-          (
+          let one_is = zip-second Beside its_os its_us all-beside i a at in (
             λ same. absurd (differs list facts one_is.0 a one_is.1
                 (ap (λ (o : Occurrence). o.ctxt) (same_Some the_first b there) ∙ sym same.1)),
             λ e. absurd (false≢true

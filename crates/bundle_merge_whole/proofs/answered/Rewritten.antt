@@ -78,7 +78,6 @@ spots-beside R field = record {
   scopes = (tops, tt);
 }
 
-
 -- a copy of idents_from of bundle_merge_meaning proofs/walked/NameLemmas
 idents_from : (spot : Spot) (items : List Item) →
     map ident_of (occurrences_from spot items) ≡ names_of items

@@ -92,7 +92,6 @@ told-names item told marked =
 
 -- Nodes.
 
-
 abbrev pub marks_in : ℕ → List Mark → ℕ
 marks_in depth [] = 0
 marks_in depth (k.Begins field head ∷ rest) = marks_in (suc depth) rest

@@ -166,7 +166,6 @@ item-turned {item = item} {renamed = renamed}
     its tolds (function-parts meta load helper own exports (flat insides)) is
     (front-blank meta load helper own exports) blank marked its_marked
 
-
 pub ones-again : (parts others : List (List Item)) (tolds : List Told) →
     AllZip IsMarked parts tolds → AllZip IsMarked others tolds →
     AllOf (λ part. nodes_in 0 part ≡ 1) parts → AllOf (λ part. nodes_in 0 part ≡ 1) others

@@ -39,7 +39,6 @@ pub data Remade : Noted → List Item → Noted → Type 0 where
 
 -- With changes.
 
-
 -- changes of two parts
 record Two (its : List Change) (first second : List Ident) : Type 0 where
   front : List Change

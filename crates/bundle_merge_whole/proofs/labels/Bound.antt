@@ -57,7 +57,7 @@ top-in : (s : Spot) (n : ℕ) (head : Head) → IsAtTop s →
     IsAtTop (past s (h.Open n head))
 top-in s n head top none field =
     ap (λ k. scope_at s.place k ++ scopes_around Es (in_field n s.path))
-        (none field (in_field n s.path)) ∙ top n
+    (none field (in_field n s.path)) ∙ top n
 
 -- what is no pattern binds none of the names
 skipped : {list : List Slot} {items : List Item} → AreFit list items →
@@ -151,11 +151,11 @@ names-bound (a_node {number = n} {sort = k} {head = hd} {inside = ins} {rest = a
     s top rest x c =
     by (is_in_pattern hd) refl
     (λ is c. names-bound in_it (past s (h.Open n hd)) (top-in s n hd top (pattern-scope hd is))
-        (h.Close ∷ (after ++ rest)) x c)
+    (h.Close ∷ (after ++ rest)) x c)
     (λ c. names-bound fit (fold past s whole)
-        (top-behind (a_node {count = One} {more = []} it in_it no_more) s top) rest x c)
+    (top-behind (a_node {count = One} {more = []} it in_it no_more) s top) rest x c)
     (subst (λ l. Contains (names_bound zero (h.Open n hd ∷ l)) x)
-        (append_assoc ins (h.Close ∷ after) rest) c)
+    (append_assoc ins (h.Close ∷ after) rest) c)
   where
     whole : List Item
     whole = h.Open n hd ∷ (ins ++ h.Close ∷ [])
@@ -165,7 +165,7 @@ names-bound (a_node {number = n} {sort = k} {head = hd} {inside = ins} {rest = a
 
     behind : (Contains (names_bound zero (after ++ rest)) x →
         IsBound (fold past s (h.Open n hd ∷ (ins ++ h.Close ∷ []))) after x ⊎ Contains
-            (names_bound zero rest) x) →
+        (names_bound zero rest) x) →
         Contains (names_bound zero (after ++ rest)) x →
         IsBound s (h.Open n hd ∷ (ins ++ h.Close ∷ after)) x ⊎ Contains (names_bound zero rest) x
     behind ih c = elim (ih c) [
@@ -175,15 +175,17 @@ names-bound (a_node {number = n} {sort = k} {head = hd} {inside = ins} {rest = a
 
     by : (b : Bool) → is_in_pattern hd ≡ b →
         (is_in_pattern hd ≡ true →
-            Contains (names_bound zero (ins ++ h.Close ∷ (after ++ rest))) x →
+        Contains (names_bound zero (ins ++ h.Close ∷ (after ++ rest))) x →
         IsBound (past s (h.Open n hd)) ins x ⊎ Contains (names_bound zero (after ++ rest)) x) →
         (Contains (names_bound zero (after ++ rest)) x →
         IsBound (fold past s (h.Open n hd ∷ (ins ++ h.Close ∷ []))) after x ⊎ Contains
-            (names_bound zero rest) x) →
+        (names_bound zero rest) x) →
         Contains
-            (elim b
-            [ true ↦ names_bound zero (ins ++ h.Close ∷ (after ++ rest)) | false ↦
-            names_bound 1 (ins ++ h.Close ∷ (after ++ rest)) ]) x →
+        (elim b [
+          | true ↦ names_bound zero (ins ++ h.Close ∷ (after ++ rest))
+          | false ↦
+              names_bound 1 (ins ++ h.Close ∷ (after ++ rest))
+        ]) x →
         IsBound s (h.Open n hd ∷ (ins ++ h.Close ∷ after)) x ⊎ Contains (names_bound zero rest) x
     by true is ih_in ih c = elim (ih_in is c) [
       | inl its ↦

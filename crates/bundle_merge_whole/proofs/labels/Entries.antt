@@ -56,8 +56,8 @@ declarators (a_name {role = role} it fit) s top its c x there = absurd (no-decla
     no-declarator r.Word is = false≢true is
 declarators (a_node {head = hd} {inside = ins} {rest = rest} it in_it fit) s top its c x there =
     by
-        (there-cases whole (side_by_side zero (rest ++ h.Close ∷ [])) its
-        (subst (λ l. Contains l its) sides c))
+    (there-cases whole (side_by_side zero (rest ++ h.Close ∷ [])) its
+    (subst (λ l. Contains l its) sides c))
     (λ later. declarators fit (fold past s whole) (top-behind one s top) its later x there)
   where
     whole : List Item
@@ -73,10 +73,10 @@ declarators (a_node {head = hd} {inside = ins} {rest = rest} it in_it fit) s top
         (h.Open 1 hd ∷ (ins ++ h.Close ∷ [])) ∷ side_by_side zero (rest ++ h.Close ∷ [])
     sides =
         ap (λ l. side_by_side zero (h.Open 1 hd ∷ l))
-            (append_assoc ins (h.Close ∷ rest) (h.Close ∷ [])
-            ∙ sym (append_assoc ins (h.Close ∷ []) (rest ++ h.Close ∷ [])))
+        (append_assoc ins (h.Close ∷ rest) (h.Close ∷ [])
+        ∙ sym (append_assoc ins (h.Close ∷ []) (rest ++ h.Close ∷ [])))
         ∙ beside (node {sort = ADeclarator} {field = 1} {head = hd} {inside = ins} it in_it)
-            (rest ++ h.Close ∷ [])
+        (rest ++ h.Close ∷ [])
 
     here : IsBound s whole x → IsBound s (h.Open 1 hd ∷ (ins ++ h.Close ∷ rest)) x
     here b = subst (λ l. IsBound s l x) split (bound-front s whole rest x b)
@@ -90,9 +90,9 @@ declarators (a_node {head = hd} {inside = ins} {rest = rest} it in_it fit) s top
         elim
         (names-bound one s top [] x
         (subst (λ l. Contains (names_bound zero l) x) (sym e ∙ sym (append-nil whole)) there)) [
-      | inl b ↦ here b
-      | inr none ↦ none-there x none
-    ]
+          | inl b ↦ here b
+          | inr none ↦ none-there x none
+        ]
     by (inr later) ih = subst (λ l. IsBound s l x) split (bound-behind s whole rest x (ih later))
 
 -- the name that stands first in a declaration
@@ -103,14 +103,14 @@ first-bound : (k : Head) (sort : Sort) (ins : List Item) →
 first-bound k sort ins fit s top x c =
     let its = local-first 0 (slot 1 One sort ∷ []) fit in
     let list : ins ++ h.Close ∷ [] ≡ h.Ident 0 its.name its.ctxt r.Binding ∷
-        (its.rest ++ h.Close ∷ []) = ap (λ l. l ++ h.Close ∷ []) its.is in
+    (its.rest ++ h.Close ∷ []) = ap (λ l. l ++ h.Close ∷ []) its.is in
     let text : text_in 0 (node_of 0 k ins) ≡ its.name = ap (λ l. text_in 0 (h.Open 0 k ∷ l)) list in
     let same : its.name ≡ x = sym text ∙ only-one (text_in 0 (node_of 0 k ins)) x c in
     bound-later s (h.Open 0 k) (ins ++ h.Close ∷ []) x
     (subst (λ l. IsBound (past s (h.Open 0 k)) l x) (sym list)
     (subst
-        (IsBound (past s (h.Open 0 k))
-        (h.Ident 0 its.name its.ctxt r.Binding ∷ (its.rest ++ h.Close ∷ []))) same
+    (IsBound (past s (h.Open 0 k))
+    (h.Ident 0 its.name its.ctxt r.Binding ∷ (its.rest ++ h.Close ∷ []))) same
     (bound-first (past s (h.Open 0 k)) 0 its.name its.ctxt (its.rest ++ h.Close ∷ []) top)))
 
 -- the names of a declaration are bound
@@ -124,12 +124,12 @@ declaration-bound h.ClassDecl ins is fit s top x c =
     first-bound h.ClassDecl AClass ins fit s (λ field. top 0) x c
 declaration-bound (h.VarDecl kind meta) ins is fit s top x c =
     let back =
-        flat-back (names_bound zero) (nodes_in 1 (node_of 0 (h.VarDecl kind meta) ins)) x c in
+    flat-back (names_bound zero) (nodes_in 1 (node_of 0 (h.VarDecl kind meta) ins)) x c in
     let kept = filter-back (begins_in 1) (side_by_side zero (ins ++ h.Close ∷ [])) back.0 back.1 in
     bound-later s (h.Open 0 (h.VarDecl kind meta)) (ins ++ h.Close ∷ []) x
     (bound-front (past s (h.Open 0 (h.VarDecl kind meta))) ins (h.Close ∷ []) x
     (declarators fit (past s (h.Open 0 (h.VarDecl kind meta))) (λ field. top 0) back.0 kept.0 x
-        back.2))
+    back.2))
 declaration-bound _ ins is fit s top x c = absurd (false≢true is)
 
 -- ---- what a top item exports
@@ -159,11 +159,11 @@ exported-bound (a_name {role = role} it fit) s top x c = absurd (no-decl role it
 exported-bound (a_node {head = k} {inside = ins} {rest = rest} it in_it fit) s top x c =
     let none : rest ≡ [] = ends fit in
     let list : h.Open 0 k ∷ (ins ++ h.Close ∷ rest) ≡ node_of 0 k ins =
-        ap (λ l. h.Open 0 k ∷ (ins ++ h.Close ∷ l)) none in
+    ap (λ l. h.Open 0 k ∷ (ins ++ h.Close ∷ l)) none in
     let first : child 0 (node_of 0 h.ExportDecl (h.Open 0 k ∷ (ins ++ h.Close ∷ rest))) ≡ node_of 0
-        k ins =
+    k ins =
     ap (λ l. child 0 (node_of 0 h.ExportDecl l)) list
-        ∙ child-first ADecl k ins it in_it h.ExportDecl in
+    ∙ child-first ADecl k ins it in_it h.ExportDecl in
     subst (λ l. IsBound s (node_of 0 h.ExportDecl l) x) (sym list)
     (bound-later s (h.Open 0 h.ExportDecl) (node_of 0 k ins ++ h.Close ∷ []) x
     (bound-front (past s (h.Open 0 h.ExportDecl)) (node_of 0 k ins) (h.Close ∷ []) x
@@ -174,15 +174,15 @@ exported-bound (a_node {head = k} {inside = ins} {rest = rest} it in_it fit) s t
 abbrev pub DefaultBound : Spot → List Item → Type 0
 DefaultBound s ins =
     IsBound s (node_of 0 h.ExportDefaultDecl ins)
-        (default_declared (child 0 (node_of 0 h.ExportDefaultDecl ins)))
+    (default_declared (child 0 (node_of 0 h.ExportDefaultDecl ins)))
     ⊎
-        ((default_declared (child 0 (node_of 0 h.ExportDefaultDecl ins)) ≡ default_name) ×
-        DeclaresDefault s h.ExportDefaultDecl ins)
+    ((default_declared (child 0 (node_of 0 h.ExportDefaultDecl ins)) ≡ default_name) ×
+    DeclaresDefault s h.ExportDefaultDecl ins)
 
 no-sort : (sort : Sort) → ((role : Role) → takes_name role sort ≡ true → ⊥) → {items : List Item} →
     AreFit (slot 1 One sort ∷ []) items →
     (k : Head) × (ins : List Item) × (items ≡ node_of 1 k ins) × (takes k sort ≡ true) × AreFit
-        (slots k (names_in sort)) ins
+    (slots k (names_in sort)) ins
 no-sort sort none (over e fit) = absurd (true≢false e)
 no-sort sort none (a_name {role = role} it fit) = absurd (none role it)
 no-sort sort none (a_node {head = k} {inside = ins} {rest = rest} it in_it fit) =
@@ -192,31 +192,31 @@ default-body : (k : Head) (sort : Sort) → ((role : Role) → takes_name role s
     (ins : List Item) → AreFit (slot 0 Optional ALocal ∷ slot 1 One sort ∷ []) ins →
     child 0 (node_of 0 h.ExportDefaultDecl (node_of 0 k ins)) ≡ node_of 0 k ins → (s : Spot) →
     IsAtTop (past (past s (h.Open 0 h.ExportDefaultDecl)) (h.Open 0 k)) →
-        DefaultBound s (node_of 0 k ins)
+    DefaultBound s (node_of 0 k ins)
 default-body k sort none ins fit first s top = elim (local-maybe 0 (slot 1 One sort ∷ []) fit) [
   | inl its ↦ (
       let list : ins ++ h.Close ∷ [] ≡ h.Ident 0 its.name its.ctxt r.Binding ∷
-          (its.rest ++ h.Close ∷ []) = ap (λ l. l ++ h.Close ∷ []) its.is in
+      (its.rest ++ h.Close ∷ []) = ap (λ l. l ++ h.Close ∷ []) its.is in
       let text : default_declared (child 0 (node_of 0 h.ExportDefaultDecl (node_of 0 k ins))) ≡
-          its.name =
+      its.name =
       ap default_declared first ∙ ap (λ l. default_declared (h.Open 0 k ∷ l)) list in
       inl (bound-later s (h.Open 0 h.ExportDefaultDecl) (node_of 0 k ins ++ h.Close ∷ []) _
       (bound-front (past s (h.Open 0 h.ExportDefaultDecl)) (node_of 0 k ins) (h.Close ∷ []) _
       (bound-later (past s (h.Open 0 h.ExportDefaultDecl)) (h.Open 0 k) (ins ++ h.Close ∷ []) _
       (subst
-          (λ l. IsBound (past (past s (h.Open 0 h.ExportDefaultDecl)) (h.Open 0 k)) l
-          (default_declared (child 0 (node_of 0 h.ExportDefaultDecl (node_of 0 k ins))))) (sym list)
+      (λ l. IsBound (past (past s (h.Open 0 h.ExportDefaultDecl)) (h.Open 0 k)) l
+      (default_declared (child 0 (node_of 0 h.ExportDefaultDecl (node_of 0 k ins))))) (sym list)
       (subst
-          (IsBound (past (past s (h.Open 0 h.ExportDefaultDecl)) (h.Open 0 k))
-          (h.Ident 0 its.name its.ctxt r.Binding ∷ (its.rest ++ h.Close ∷ []))) (sym text)
+      (IsBound (past (past s (h.Open 0 h.ExportDefaultDecl)) (h.Open 0 k))
+      (h.Ident 0 its.name its.ctxt r.Binding ∷ (its.rest ++ h.Close ∷ []))) (sym text)
       (bound-first (past (past s (h.Open 0 h.ExportDefaultDecl)) (h.Open 0 k)) 0 its.name its.ctxt
-          (its.rest ++ h.Close ∷ []) top)))))))
+      (its.rest ++ h.Close ∷ []) top)))))))
   | inr more ↦ (
       let its = no-sort sort none more in
       let sides : side_by_side zero (ins ++ h.Close ∷ []) ≡ node_of 1 its.0 its.1 ∷ [] =
       ap (λ l. side_by_side zero (l ++ h.Close ∷ [])) its.2
-          ∙ beside (node {sort = sort} {field = 1} {head = its.0} {inside = its.1} its.3 its.4)
-          (h.Close ∷ []) in
+      ∙ beside (node {sort = sort} {field = 1} {head = its.0} {inside = its.1} its.3 its.4)
+      (h.Close ∷ []) in
       inr (
         ap default_declared first
             ∙ ap (λ l. unwrap_or (name_of (first_or_nothing (filter (begins_in 0) l))) default_name)
@@ -245,7 +245,7 @@ no-class r.Word is = false≢true is
 default-head : (k : Head) (ins : List Item) → takes k ADefault ≡ true →
     AreFit (slots k r.Reference) ins →
     child 0 (node_of 0 h.ExportDefaultDecl (node_of 0 k ins)) ≡ node_of 0 k ins → (s : Spot) →
-        IsAtTop s →
+    IsAtTop s →
     DefaultBound s (node_of 0 k ins)
 default-head h.FnExpr ins is fit first s top =
     default-body h.FnExpr AFunction no-function ins fit first s (λ field. top 0)

@@ -61,8 +61,8 @@ pub occurrence-declares : (items : List Item) (s : Spot) (o : Occurrence) (d : D
 occurrence-declares [] s o d c e = none-there o c
 occurrence-declares (h.Open field head ∷ rest) s o d c e =
     put-later (declared_at BySymbol Es s (h.Open field head) rest)
-        (declared_from BySymbol Es (past s (h.Open field head)) rest) d
-        (occurrence-declares rest (past s (h.Open field head)) o d c e)
+    (declared_from BySymbol Es (past s (h.Open field head)) rest) d
+    (occurrence-declares rest (past s (h.Open field head)) o d c e)
 occurrence-declares (h.Hole field ∷ rest) s o d c e =
     occurrence-declares rest (past s (h.Hole field)) o d c e
 occurrence-declares (h.Close ∷ rest) s o d c e = occurrence-declares rest (past s h.Close) o d c e
@@ -97,14 +97,18 @@ bound-top tree ways x its =
     let at = there-place (occurrences tree) its.o its.there in
     let way = ways.way at.0 its.o at.1 its.binds in
     let d : Declared =
-        record
-        { place = its.o.place; name = plain its.o.sym; by = way.0; scopes =
-        scopes_around Es its.o.path } in
+    record {
+      place = its.o.place;
+      name = plain its.o.sym;
+      by = way.0;
+      scopes =
+          scopes_around Es its.o.path;
+    } in
     let says : declaration_of BySymbol Es its.o ≡ Some d =
     ap
-        (λ b. cond b
-        (declared_by its.o.place (plain its.o.sym) (scopes_around Es its.o.path)
-        (way_of its.o.path)) None) its.binds
+    (λ b. cond b
+    (declared_by its.o.place (plain its.o.sym) (scopes_around Es its.o.path)
+    (way_of its.o.path)) None) its.binds
     ∙ ap (declared_by its.o.place (plain its.o.sym) (scopes_around Es its.o.path)) way.1 in
     subst (Contains (top_names tree)) its.symbol
     (top-name tree d (occurrence-declares tree start its.o d its.there says) its.scopes)
@@ -116,7 +120,7 @@ declared-behind : (xs ys : List Item) (s : Spot) (d : Declared) →
 declared-behind [] ys s d c = c
 declared-behind (x ∷ xs) ys s d c =
     put-later (declared_at BySymbol Es s x (xs ++ ys))
-        (declared_from BySymbol Es (past s x) (xs ++ ys)) d (declared-behind xs ys (past s x) d c)
+    (declared_from BySymbol Es (past s x) (xs ++ ys)) d (declared-behind xs ys (past s x) d c)
 
 -- a top item of these elements, where it stands
 pub record IsTopAt (s : Spot) (items : List Item) (top : TopItem) : Type 0 where
@@ -130,7 +134,7 @@ pub record IsTopAt (s : Spot) (items : List Item) (top : TopItem) : Type 0 where
   pub bound : (x : Text) → IsBound spot top.items x → IsBound s items x
   pub first : (tail : List Item) (d : Declared) →
       ((rest : List Item) →
-          declared_at BySymbol Es spot (h.Open 0 head) (inside ++ h.Close ∷ rest) ≡ Some d) →
+      declared_at BySymbol Es spot (h.Open 0 head) (inside ++ h.Close ∷ rest) ≡ Some d) →
       Contains (declared_from BySymbol Es s (items ++ tail)) d
 
 no-item : (role : Role) → takes_name role AnItem ≡ true → ⊥
@@ -145,12 +149,12 @@ top-at (over e no_more) s at_top b top c = none-there top c
 top-at (a_name {role = role} it fit) s at_top b top c = absurd (no-item role it)
 top-at (a_node {head = hd} {inside = ins} {rest = rest} it in_it fit) s at_top b top c =
     by
-        (there-cases (record { start = b; items = item })
-        (placed (b + length item) (side_by_side zero (rest ++ h.Close ∷ []))) top
+    (there-cases (record { start = b; items = item })
+    (placed (b + length item) (side_by_side zero (rest ++ h.Close ∷ []))) top
     (subst (λ l. Contains (placed b l) top) sides c))
     (top-at fit (fold past s item)
-        (top-behind (a_node {number = 0} {count = One} {sort = AnItem} {more = []} it in_it no_more)
-        s at_top) (b + length item) top)
+    (top-behind (a_node {number = 0} {count = One} {sort = AnItem} {more = []} it in_it no_more)
+    s at_top) (b + length item) top)
   where
     item : List Item
     item = h.Open 0 hd ∷ (ins ++ h.Close ∷ [])
@@ -162,17 +166,17 @@ top-at (a_node {head = hd} {inside = ins} {rest = rest} it in_it fit) s at_top b
         (h.Open 0 hd ∷ (ins ++ h.Close ∷ [])) ∷ side_by_side zero (rest ++ h.Close ∷ [])
     sides =
         ap (λ l. side_by_side zero (h.Open 0 hd ∷ l))
-            (append_assoc ins (h.Close ∷ rest) (h.Close ∷ [])
-            ∙ sym (append_assoc ins (h.Close ∷ []) (rest ++ h.Close ∷ [])))
+        (append_assoc ins (h.Close ∷ rest) (h.Close ∷ [])
+        ∙ sym (append_assoc ins (h.Close ∷ []) (rest ++ h.Close ∷ [])))
         ∙ beside (node {sort = AnItem} {field = 0} {head = hd} {inside = ins} it in_it)
-            (rest ++ h.Close ∷ [])
+        (rest ++ h.Close ∷ [])
 
     by : (record { start = b; items = h.Open 0 hd ∷ (ins ++ h.Close ∷ []) } ≡ top) ⊎ Contains
         (placed (b + length (h.Open 0 hd ∷ (ins ++ h.Close ∷ [])))
         (side_by_side zero (rest ++ h.Close ∷ []))) top →
         (Contains
-            (placed (b + length (h.Open 0 hd ∷ (ins ++ h.Close ∷ [])))
-            (side_by_side zero (rest ++ h.Close ∷ []))) top →
+        (placed (b + length (h.Open 0 hd ∷ (ins ++ h.Close ∷ [])))
+        (side_by_side zero (rest ++ h.Close ∷ []))) top →
         IsTopAt (fold past s (h.Open 0 hd ∷ (ins ++ h.Close ∷ []))) rest top) →
         IsTopAt s (h.Open 0 hd ∷ (ins ++ h.Close ∷ rest)) top
     by (inl e) ih =
@@ -190,10 +194,10 @@ top-at (a_node {head = hd} {inside = ins} {rest = rest} it in_it fit) s at_top b
               (bound-front s item rest x (subst (λ l. IsBound s l x) same its));
           first = λ tail d says.
               put-first (declared_at BySymbol Es s (h.Open 0 hd) ((ins ++ h.Close ∷ rest) ++ tail))
-                  (declared_from BySymbol Es (past s (h.Open 0 hd))
-                  ((ins ++ h.Close ∷ rest) ++ tail)) d
+              (declared_from BySymbol Es (past s (h.Open 0 hd))
+              ((ins ++ h.Close ∷ rest) ++ tail)) d
               (ap (declared_at BySymbol Es s (h.Open 0 hd)) (append_assoc ins (h.Close ∷ rest) tail)
-                  ∙ says (rest ++ tail));
+              ∙ says (rest ++ tail));
         }
     by (inr later) ih =
         let its = ih later in
@@ -209,6 +213,6 @@ top-at (a_node {head = hd} {inside = ins} {rest = rest} it in_it fit) s at_top b
               λ x b. subst (λ l. IsBound s l x) split (bound-behind s item rest x (its.bound x b));
           first = λ tail d says.
               subst (λ l. Contains (declared_from BySymbol Es s l) d)
-                  (sym (append_assoc item rest tail) ∙ ap (λ l. l ++ tail) split)
+              (sym (append_assoc item rest tail) ∙ ap (λ l. l ++ tail) split)
               (declared-behind item (rest ++ tail) s d (its.first tail d says));
         }

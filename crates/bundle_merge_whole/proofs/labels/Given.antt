@@ -63,7 +63,7 @@ module _ (p : Program) (list : List ℕ) (sound : AreSound p list) where
       takes-given takes reached (entry_asks (tree_of p m) x s what there)
   gives-given (given_on {m} {d} {x} {s} {y} {t} {origin} there its gives) reached es =
       gives-given gives (module-reached its reached (entry_asks (tree_of p m) x s (Named y) there))
-          its.es
+      its.es
   gives-given (starred {m} {d} {x} {s} {t} {origin} none other there its gives) reached es =
       gives-given gives (module-reached its reached (star_asks (tree_of p m) s there)) its.es
 
@@ -78,7 +78,7 @@ module _ (p : Program) (list : List ℕ) (sound : AreSound p list) where
       (reached, es, top-declares p m (sound.fit.each m reached) x there none)
   stands-given {m = m} (imported {x} {y} {d} {t} entry found name its linked) reached es =
       linked-given linked (module-reached its reached (bound_asks (tree_of p m) x entry found))
-          its.es
+      its.es
   stands-given {m = m} (taken_whole {x} {t} entry found takes) reached es =
       takes-given takes reached (bound_asks (tree_of p m) x entry found)
 
@@ -90,8 +90,8 @@ module _ (p : Program) (list : List ℕ) (sound : AreSound p list) where
   stands-so {m = m} (imported {x} {y} {d} {t} entry found name its linked) reached
       (is_common_js cjs) =
       inl
-          (linked-given linked (module-reached its reached (bound_asks (tree_of p m) x entry found))
-          its.es)
+      (linked-given linked (module-reached its reached (bound_asks (tree_of p m) x entry found))
+      its.es)
   stands-so {m = m} (taken_whole {x} {t} entry found takes) reached (is_common_js cjs) =
       inl (takes-given takes reached (bound_asks (tree_of p m) x entry found))
 
@@ -103,8 +103,8 @@ module _ (p : Program) (list : List ℕ) (sound : AreSound p list) where
   stands-space {m = m} (imported {x = x} {y = y} {d = k} {t = t} entry found name its linked)
       reached d e =
       given-space p t d e
-          (linked-given linked (module-reached its reached (bound_asks (tree_of p m) x entry found))
-          its.es)
+      (linked-given linked (module-reached its reached (bound_asks (tree_of p m) x entry found))
+      its.es)
   stands-space {m = m} (taken_whole {x} {t} entry found takes) reached d e =
       given-space p t d e (takes-given takes reached (bound_asks (tree_of p m) x entry found))
 

@@ -83,20 +83,20 @@ specifier-by : (head : Head) (others : List Slot) {inside : List Item} →
 specifier-by head others (over e fit) ok alone = absurd (true≢false e)
 specifier-by head others (a_name {x = x} {ctxt = t} {role = role} {rest = rest} it fit) ok alone =
     record {
-  name = x;
-  ctxt = t;
-  rest = rest;
-  is = ap (λ k. h.Ident 0 x t k ∷ rest) (local-role role it);
-  silent = listed-silent fit ok;
-  none = alone;
-}
+      name = x;
+      ctxt = t;
+      rest = rest;
+      is = ap (λ k. h.Ident 0 x t k ∷ rest) (local-role role it);
+      silent = listed-silent fit ok;
+      none = alone;
+    }
 specifier-by head others (a_node {head = hd} it in_it fit) ok alone = absurd (local-head hd it)
 
 specifier : (head : Head) → takes head AnImport ≡ true → {inside : List Item} →
     AreFit (slots head (names_in AnImport)) inside → IsSpecifier head inside
 specifier h.ImportNamedSpecifier is fit =
     specifier-by h.ImportNamedSpecifier (slot 1 Optional AnOuter ∷ []) fit refl
-        (λ s b d e. none-some d e)
+    (λ s b d e. none-some d e)
 specifier h.ImportDefaultSpecifier is fit =
     specifier-by h.ImportDefaultSpecifier [] fit refl (λ s b d e. none-some d e)
 specifier h.ImportStarAsSpecifier is fit =
@@ -120,7 +120,7 @@ pub record IsEntryOf (source : Text) (nodes : List (List Item)) (x : Text) : Typ
 
 pub entry-there : (source : Text) (nodes : List (List Item)) (x : Text) → IsEntryOf source nodes x →
     (entry : ImportEntry) × Contains (flat_map (import_entry source) (filter (begins_in 0) nodes))
-        entry × (entry.local ≡ x)
+    entry × (entry.local ≡ x)
 entry-there source nodes x its = (
   its.entry,
   flat_on (import_entry source) (filter (begins_in 0) nodes) its.node its.entry
@@ -134,12 +134,12 @@ specifier-declares : (head : Head) (inside : List Item) → IsSpecifier head ins
     Contains (declared_from BySymbol Es s (h.Open 0 head ∷ (inside ++ h.Close ∷ tail))) d →
     IsEntryOf source ((h.Open 0 head ∷ (inside ++ h.Close ∷ [])) ∷ others) d.name.sym
     ⊎ Contains
-        (declared_from BySymbol Es (past (fold past (past s (h.Open 0 head)) inside) h.Close) tail)
-        d
+    (declared_from BySymbol Es (past (fold past (past s (h.Open 0 head)) inside) h.Close) tail)
+    d
 specifier-declares head inside its source others s tail d c =
     elim
-        (put-cases (declared_at BySymbol Es s (h.Open 0 head) (inside ++ h.Close ∷ tail))
-        (declared_from BySymbol Es (past s (h.Open 0 head)) (inside ++ h.Close ∷ tail)) d c) [
+    (put-cases (declared_at BySymbol Es s (h.Open 0 head) (inside ++ h.Close ∷ tail))
+    (declared_from BySymbol Es (past s (h.Open 0 head)) (inside ++ h.Close ∷ tail)) d c) [
       | inl first ↦ absurd (its.none s (inside ++ h.Close ∷ tail) d first)
       | inr later ↦ by inside its.is later
     ]
@@ -157,21 +157,24 @@ specifier-declares head inside its source others s tail d c =
         (λ ins. IsEntryOf source ((h.Open 0 head ∷ (ins ++ h.Close ∷ [])) ∷ others) d.name.sym
         ⊎ Contains (declared_from BySymbol Es (past (fold past first ins) h.Close) tail) d) (sym e)
         (elim
-            (put-cases (declared_at BySymbol Es first one (its.rest ++ h.Close ∷ tail))
-            (declared_from BySymbol Es (past first one) (its.rest ++ h.Close ∷ tail)) d
+        (put-cases (declared_at BySymbol Es first one (its.rest ++ h.Close ∷ tail))
+        (declared_from BySymbol Es (past first one) (its.rest ++ h.Close ∷ tail)) d
         (subst (λ ins. Contains (declared_from BySymbol Es first (ins ++ h.Close ∷ tail)) d) e c)) [
           | inl here ↦
               let found = declared-here first one (its.rest ++ h.Close ∷ tail) d refl here in
               let name : its.name ≡ d.name.sym =
-                  name-of one (h.Ident found.field d.name.sym found.ctxt r.Binding) found.is in
+              name-of one (h.Ident found.field d.name.sym found.ctxt r.Binding) found.is in
               inl (record {
                 node = h.Open 0 head ∷ ((one ∷ its.rest) ++ h.Close ∷ []);
                 there = first-there _ others;
                 begins = refl;
                 entry =
-                    record
-                    { local = its.name; specifier = source; taken =
-                    taken_by head (h.Open 0 head ∷ ((one ∷ its.rest) ++ h.Close ∷ [])) };
+                    record {
+                      local = its.name;
+                      specifier = source;
+                      taken =
+                          taken_by head (h.Open 0 head ∷ ((one ∷ its.rest) ++ h.Close ∷ []));
+                    };
                 of = first-there _ [];
                 local = name;
               })
@@ -199,34 +202,39 @@ import-declares (a_name {role = role} it fit) source s tail d c = absurd (no-imp
 import-declares (a_node {head = hd} {inside = ins} {rest = rest} it in_it fit) source s tail d c =
     let whole : List Item = h.Open 0 hd ∷ (ins ++ h.Close ∷ []) in
     let sides : side_by_side zero (h.Open 0 hd ∷ ((ins ++ h.Close ∷ rest) ++ h.Close ∷ [])) ≡
-        whole ∷ side_by_side zero (rest ++ h.Close ∷ []) =
+    whole ∷ side_by_side zero (rest ++ h.Close ∷ []) =
     ap (λ l. side_by_side zero (h.Open 0 hd ∷ l))
-        (append_assoc ins (h.Close ∷ rest) (h.Close ∷ [])
-        ∙ sym (append_assoc ins (h.Close ∷ []) (rest ++ h.Close ∷ [])))
+    (append_assoc ins (h.Close ∷ rest) (h.Close ∷ [])
+    ∙ sym (append_assoc ins (h.Close ∷ []) (rest ++ h.Close ∷ [])))
     ∙ beside (node {sort = AnImport} {field = 0} {head = hd} {inside = ins} it in_it)
-        (rest ++ h.Close ∷ []) in
+    (rest ++ h.Close ∷ []) in
     let spots : fold past s (h.Open 0 hd ∷ (ins ++ h.Close ∷ rest)) ≡ fold past
-        (past (fold past (past s (h.Open 0 hd)) ins) h.Close) rest =
+    (past (fold past (past s (h.Open 0 hd)) ins) h.Close) rest =
     fold-append (past s (h.Open 0 hd)) ins (h.Close ∷ rest) in
     elim
-        (specifier-declares hd ins (specifier hd it in_it) source
-        (side_by_side zero (rest ++ h.Close ∷ [])) s (rest ++ tail) d
+    (specifier-declares hd ins (specifier hd it in_it) source
+    (side_by_side zero (rest ++ h.Close ∷ [])) s (rest ++ tail) d
     (subst (λ l. Contains (declared_from BySymbol Es s (h.Open 0 hd ∷ l)) d)
-        (append_assoc ins (h.Close ∷ rest) tail) c)) [
+    (append_assoc ins (h.Close ∷ rest) tail) c)) [
       | inl here ↦ inl (subst (λ l. IsEntryOf source l d.name.sym) (sym sides) here)
       | inr later ↦
           elim
           (import-declares fit source (past (fold past (past s (h.Open 0 hd)) ins) h.Close) tail d
           later) [
-        | inl here ↦
-            inl
-            (subst (λ l. IsEntryOf source l d.name.sym) (sym sides)
-            (record
-            { node = here.node; there =
-            later-there whole (side_by_side zero (rest ++ h.Close ∷ [])) here.node here.there;
-            begins = here.begins; entry = here.entry; of = here.of; local = here.local }))
-        | inr behind ↦
-            inr
-            (subst (λ (t : Spot). Contains (declared_from BySymbol Es t tail) d) (sym spots) behind)
-      ]
+            | inl here ↦
+                inl
+                (subst (λ l. IsEntryOf source l d.name.sym) (sym sides)
+                (record {
+                  node = here.node;
+                  there =
+                      later-there whole (side_by_side zero (rest ++ h.Close ∷ [])) here.node here.there;
+                  begins = here.begins;
+                  entry = here.entry;
+                  of = here.of;
+                  local = here.local;
+                }))
+            | inr behind ↦
+                inr
+                (subst (λ (t : Spot). Contains (declared_from BySymbol Es t tail) d) (sym spots) behind)
+          ]
     ]

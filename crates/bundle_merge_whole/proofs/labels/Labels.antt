@@ -60,10 +60,10 @@ occurrence-none all o = by (declaration_of BySymbol Es o) refl
   where
     by : (d : Option Declaration) → declaration_of BySymbol Es o ≡ d →
         is_wrapper
-            (bound-scope
-            (own_or_found all
-            (bound_in (plain o.sym)
-            (find (λ s. binds all s (plain o.sym)) (scopes_around Es o.path))) d)) ≡ false
+        (bound-scope
+        (own_or_found all
+        (bound_in (plain o.sym)
+        (find (λ s. binds all s (plain o.sym)) (scopes_around Es o.path))) d)) ≡ false
     by None e =
         found-none (λ s. binds all s (plain o.sym)) (scopes_around Es o.path) (around-none o.path)
         (plain o.sym)
@@ -75,7 +75,7 @@ unfolding bound-scope
 es-none tree place name e =
     let all = declared BySymbol Es tree in
     let r =
-        map-some (denoted_of BySymbol Es all) (occurrence_at tree place) (Bound Wrapper name) e in
+    map-some (denoted_of BySymbol Es all) (occurrence_at tree place) (Bound Wrapper name) e in
     true≢false (sym (ap (λ d. is_wrapper (bound-scope d)) r.2) ∙ occurrence-none all r.0)
 
 -- ---- where `import.meta` stands
@@ -121,8 +121,8 @@ module _ (p : Program) (list : List ℕ) (sound : AreSound p list) where
     where
       by : (t : Bool) → p.settings.require ≡ t →
           Contains
-              (if t then filter (λ k. not (has_text k.specifier p.settings.external))
-              (require_calls (is_free (tree_of p m)) (tree_of p m)) else []) call →
+          (if t then filter (λ k. not (has_text k.specifier p.settings.external))
+          (require_calls (is_free (tree_of p m)) (tree_of p m)) else []) call →
           p.settings.require ≡ true
       by true e c = e
       by false e c = none-there call c
@@ -132,10 +132,10 @@ module _ (p : Program) (list : List ℕ) (sound : AreSound p list) where
   call-requests m c call there leads =
       numbers-on _ c
       (some_on (resolves p m) (requests_of p.settings (is_free (tree_of p m)) (tree_of p m))
-          call.specifier c
+      call.specifier c
       (texts-on _ call.specifier
       (Contains-append_right _ _ call.specifier
-          (map_on (λ (k : RequireCall). k.specifier) (calls_of p m) call there)))
+      (map_on (λ (k : RequireCall). k.specifier) (calls_of p m) call there)))
       leads)
 
   -- what a literal call of a reached module leads to is a reached CommonJS module
@@ -333,7 +333,7 @@ module _ (p : Program) (list : List ℕ) (sound : AreSound p list) where
   -- what a statement of an ES module means is declared at the top
   pub statement-top : {m : ℕ} {statement : List Element} {e : Element} {l : Label} → IsReached p m →
       (IsCommonJs p m → ⊥) → Contains (own_statements (tree_of p m)) statement →
-          Contains statement e →
+      Contains statement e →
       IsLeft p m e → SaysAt p m e l → IsTopLabel p l
   statement-top reached es own_it there left says =
       es-said es says reached (by_statement reached own_it there left says)

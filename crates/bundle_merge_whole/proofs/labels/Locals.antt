@@ -64,13 +64,13 @@ no-source r.Word is = false≢true is
 sides-first : (sort : Sort) (n : ℕ) (hd : Head) (ins rest : List Item) → takes hd sort ≡ true →
     AreFit (slots hd (names_in sort)) ins →
     side_by_side zero (h.Open n hd ∷ ((ins ++ h.Close ∷ rest) ++ h.Close ∷ [])) ≡ node_of n hd ins ∷
-        side_by_side zero (rest ++ h.Close ∷ [])
+    side_by_side zero (rest ++ h.Close ∷ [])
 sides-first sort n hd ins rest it in_it =
     ap (λ l. side_by_side zero (h.Open n hd ∷ l))
-        (append_assoc ins (h.Close ∷ rest) (h.Close ∷ [])
-        ∙ sym (append_assoc ins (h.Close ∷ []) (rest ++ h.Close ∷ [])))
+    (append_assoc ins (h.Close ∷ rest) (h.Close ∷ [])
+    ∙ sym (append_assoc ins (h.Close ∷ []) (rest ++ h.Close ∷ [])))
     ∙ beside (node {sort = sort} {field = n} {head = hd} {inside = ins} it in_it)
-        (rest ++ h.Close ∷ [])
+    (rest ++ h.Close ∷ [])
 
 source-last : {items : List Item} → AreFit (slot 1 Optional ASource ∷ []) items →
     (spec : List Item) →
@@ -80,12 +80,12 @@ source-last (a_name {role = role} it fit) spec c is = no-source role it
 source-last (a_node {head = hd} {inside = ins} {rest = rest} it in_it fit) spec c is =
     let none : rest ≡ [] = ends fit in
     let sides : side_by_side zero (h.Open 1 hd ∷ ((ins ++ h.Close ∷ rest) ++ h.Close ∷ [])) ≡
-        node_of 1 hd ins ∷ [] =
+    node_of 1 hd ins ∷ [] =
     sides-first ASource 1 hd ins rest it in_it
-        ∙ ap (λ l. node_of 1 hd ins ∷ side_by_side zero (l ++ h.Close ∷ [])) none in
+    ∙ ap (λ l. node_of 1 hd ins ∷ side_by_side zero (l ++ h.Close ∷ [])) none in
     false≢true
-        (ap (begins_in 0) (only-one (node_of 1 hd ins) spec (subst (λ l. Contains l spec) sides c))
-        ∙ is)
+    (ap (begins_in 0) (only-one (node_of 1 hd ins) spec (subst (λ l. Contains l spec) sides c))
+    ∙ is)
 
 specifier-fit : {items : List Item} →
     AreFit (slot 0 Many AnExport ∷ slot 1 Optional ASource ∷ []) items →
@@ -95,8 +95,8 @@ specifier-fit (over e fit) spec c is = absurd (source-last fit spec c is)
 specifier-fit (a_name {role = role} it fit) spec c is = absurd (no-export role it)
 specifier-fit (a_node {head = hd} {inside = ins} {rest = rest} it in_it fit) spec c is =
     elim
-        (there-cases (node_of 0 hd ins) (side_by_side zero (rest ++ h.Close ∷ [])) spec
-        (subst (λ l. Contains l spec) (sides-first AnExport 0 hd ins rest it in_it) c)) [
+    (there-cases (node_of 0 hd ins) (side_by_side zero (rest ++ h.Close ∷ [])) spec
+    (subst (λ l. Contains l spec) (sides-first AnExport 0 hd ins rest it in_it) c)) [
       | inl e ↦
           subst (IsFit AnExport 0) e
           (node {sort = AnExport} {field = 0} {head = hd} {inside = ins} it in_it)
@@ -127,12 +127,12 @@ module _ (imports : List ImportEntry) (x y : Text) where
   listed-of : (ins : List Item) → AreFit (slot 0 One AnInner ∷ slot 1 Optional AnOuter ∷ []) ins →
       text_in 0 (node_of 0 h.ExportNamedSpecifier ins) ≡ y →
       (listed : ListedName) × Contains (listed_name (node_of 0 h.ExportNamedSpecifier ins)) listed ×
-          (listed.text ≡ y)
+      (listed.text ≡ y)
   listed-of ins fit e =
       let its = specifier-name fit in
       let spec = node_of 0 h.ExportNamedSpecifier ins in
       let one : ListedName =
-          record { text = its.0; is_string = begins_with is_string_head (child 0 spec) } in (
+      record { text = its.0; is_string = begins_with is_string_head (child 0 spec) } in (
         one,
         subst (λ l. Contains l one)
             (sym (ap (listed_text spec (begins_with is_string_head (child 0 spec))) its.1))
@@ -143,20 +143,22 @@ module _ (imports : List ImportEntry) (x y : Text) where
   specifier-listed : (spec : List Item) → IsFit AnExport 0 spec →
       Contains (entry_here imports spec) (Local x y) →
       (begins_with is_named_specifier spec ≡ true) ×
-          ((listed : ListedName) × Contains (listed_name spec) listed × (listed.text ≡ y))
+      ((listed : ListedName) × Contains (listed_name spec) listed × (listed.text ≡ y))
   specifier-listed _ (name {role = role} it) c = absurd (no-export role it)
   specifier-listed _ (node {head = hd} {inside = ins} it in_it) c = by hd it in_it c
     where
       by : (k : Head) → takes k AnExport ≡ true → AreFit (slots k r.Reference) ins →
           Contains (entry_here imports (node_of 0 k ins)) (Local x y) →
           (begins_with is_named_specifier (node_of 0 k ins) ≡ true) ×
-              ((listed : ListedName) × Contains (listed_name (node_of 0 k ins)) listed ×
-              (listed.text ≡ y))
+          ((listed : ListedName) × Contains (listed_name (node_of 0 k ins)) listed ×
+          (listed.text ≡ y))
       by h.ExportNamedSpecifier is fit c =
-          let spec = node_of 0 h.ExportNamedSpecifier ins in
-          (refl, listed-of ins fit
-              (given-local (renamed_text spec) (text_in 0 spec) x y
-              (import_of imports (text_in 0 spec)) (only-one _ (Local x y) c)))
+          let spec = node_of 0 h.ExportNamedSpecifier ins in (
+            refl,
+            listed-of ins fit
+                (given-local (renamed_text spec) (text_in 0 spec) x y
+                (import_of imports (text_in 0 spec)) (only-one _ (Local x y) c)),
+          )
       by h.ExportNamespaceSpecifier is fit c = none-there (Local x y) c
       by _ is fit c = absurd (false≢true is)
 
@@ -168,10 +170,10 @@ module _ (imports : List ImportEntry) (x y : Text) where
   list-listed : (meta : ExportMetadata) (ins : List Item) →
       AreFit (slot 0 Many AnExport ∷ slot 1 Optional ASource ∷ []) ins →
       Contains
-          (entries_of_list imports (string_of (child 1 (node_of 0 (h.NamedExport meta) ins)))
-          (node_of 0 (h.NamedExport meta) ins)) (Local x y) →
+      (entries_of_list imports (string_of (child 1 (node_of 0 (h.NamedExport meta) ins)))
+      (node_of 0 (h.NamedExport meta) ins)) (Local x y) →
       (listed : ListedName) × Contains (names_listed (node_of 0 (h.NamedExport meta) ins)) listed ×
-          (listed.text ≡ y)
+      (listed.text ≡ y)
   list-listed meta ins fit c = by (string_of (child 1 (node_of 0 (h.NamedExport meta) ins))) c
     where
       list : List Item
@@ -181,14 +183,14 @@ module _ (imports : List ImportEntry) (x y : Text) where
           Contains (entries_of_list imports source (node_of 0 (h.NamedExport meta) ins))
           (Local x y) →
           (listed : ListedName) × Contains
-              (names_in_list source (node_of 0 (h.NamedExport meta) ins)) listed × (listed.text ≡ y)
+          (names_in_list source (node_of 0 (h.NamedExport meta) ins)) listed × (listed.text ≡ y)
       by (Some source) c =
           let back = map-back (entry_from source) (nodes_in 0 list) (Local x y) c in
           absurd (from-none source _ (text_in 0 back.0) (renamed_text back.0) back.2)
       by None c =
           let back = flat-back (entry_here imports) (nodes_in 0 list) (Local x y) c in
           let kept =
-              filter-back (begins_in 0) (side_by_side zero (ins ++ h.Close ∷ [])) back.0 back.1 in
+          filter-back (begins_in 0) (side_by_side zero (ins ++ h.Close ∷ [])) back.0 back.1 in
           let its = specifier-listed back.0 (specifier-fit fit back.0 kept.0 kept.1) back.2 in (
             its.1.0,
             flat_on listed_name (filter (begins_with is_named_specifier) (nodes_in 0 list)) back.0
@@ -229,20 +231,20 @@ module _ (ins : List Item) (fit : AreFit (slot 0 Many AnItem ∷ []) ins) where
         d.scopes ≡ Top ∷ [] →
         d.name.sym ≡ default_name →
         ((rest : List Item) →
-            declared_at BySymbol Es its.spot (h.Open 0 its.head) (its.inside ++ h.Close ∷ rest) ≡
-            Some d) →
+        declared_at BySymbol Es its.spot (h.Open 0 its.head) (its.inside ++ h.Close ∷ rest) ≡
+        Some d) →
         Contains (top_names whole) default_name
     default-whole top its d scopes named says =
         subst (Contains (top_names whole)) named
-            (top-name whole d (its.first (h.Close ∷ []) d says) scopes)
+        (top-name whole d (its.first (h.Close ∷ []) d says) scopes)
 
     local-of : (top : TopItem) → Contains (top_items whole) top → (x y : Text) →
         Contains (exports_of_item (imports_of whole) top.items) (Local x y) →
-            Contains (top_names whole) y
+        Contains (top_names whole) y
     local-of top there x y c =
         let its = top-at fit top_spot (λ field. refl) 1 top there in
         by its its.head its.inside refl refl its.is its.fits
-            (subst (λ l. Contains (exports_of_item (imports_of whole) l) (Local x y)) its.is c)
+        (subst (λ l. Contains (exports_of_item (imports_of whole) l) (Local x y)) its.is c)
       where
         imports : List ImportEntry
         imports = imports_of whole
@@ -251,11 +253,11 @@ module _ (ins : List Item) (fit : AreFit (slot 0 Many AnItem ∷ []) ins) where
             its.inside ≡ body →
             top.items ≡ node_of 0 k body → AreFit (slots k r.Reference) body →
             Contains (exports_of_item (imports_of whole) (node_of 0 k body)) (Local x y) →
-                Contains (top_names whole) y
+            Contains (top_names whole) y
         by its h.ExportDecl body ek eb is fits c =
             let back =
-                map-back (λ z. Local z z) (names_declared (child 0 (node_of 0 h.ExportDecl body)))
-                (Local x y) c in
+            map-back (λ z. Local z z) (names_declared (child 0 (node_of 0 h.ExportDecl body)))
+            (Local x y) c in
             let same : back.0 ≡ y = same-of back.0 back.0 x y back.2 in
             bound-whole y (its.bound y (subst (λ l. IsBound its.spot l y) (sym is)
             (subst (IsBound its.spot (node_of 0 h.ExportDecl body)) same
@@ -264,11 +266,11 @@ module _ (ins : List Item) (fit : AreFit (slot 0 Many AnItem ∷ []) ins) where
             let found = list-listed imports x y meta body fits c in
             subst (Contains (top_names whole)) found.2
             (listed-top found.0
-                (flat_on (λ (t : TopItem). names_listed t.items) (top_items whole) top found.0 there
-                (subst (λ l. Contains (names_listed l) found.0) (sym is) found.1)))
+            (flat_on (λ (t : TopItem). names_listed t.items) (top_items whole) top found.0 there
+            (subst (λ l. Contains (names_listed l) found.0) (sym is) found.1)))
         by its h.ExportDefaultDecl body ek eb is fits c =
             let same : default_declared (child 0 (node_of 0 h.ExportDefaultDecl body)) ≡ y =
-                same-of default_name _ x y (only-one _ (Local x y) c) in
+            same-of default_name _ x y (only-one _ (Local x y) c) in
             elim (default-bound fits its.spot its.at_top) [
               | inl bound ↦
                   bound-whole y
@@ -278,21 +280,21 @@ module _ (ins : List Item) (fit : AreFit (slot 0 Many AnItem ∷ []) ins) where
               | inr named ↦ subst (Contains (top_names whole)) (sym named.0 ∙ same)
                   (default-whole top its named.1.0 named.1.1 named.1.2
                   (λ rest. ap
-                      (λ k. declared_at BySymbol Es its.spot (h.Open 0 k)
-                      (its.inside ++ h.Close ∷ rest)) ek
+                  (λ k. declared_at BySymbol Es its.spot (h.Open 0 k)
+                  (its.inside ++ h.Close ∷ rest)) ek
                   ∙ ap
-                      (λ l. declared_at BySymbol Es its.spot (h.Open 0 h.ExportDefaultDecl)
-                      (l ++ h.Close ∷ rest)) eb
+                  (λ l. declared_at BySymbol Es its.spot (h.Open 0 h.ExportDefaultDecl)
+                  (l ++ h.Close ∷ rest)) eb
                   ∙ named.1.3 rest))
             ]
         by its h.ExportDefaultExpr body ek eb is fits c =
             let same : default_name ≡ y =
-                same-of default_name default_name x y (only-one _ (Local x y) c) in
+            same-of default_name default_name x y (only-one _ (Local x y) c) in
             subst (Contains (top_names whole)) same
             (default-whole top its (nameless_default Es its.spot.place) refl refl
             (λ rest. ap
-                (λ k. declared_at BySymbol Es its.spot (h.Open 0 k) (its.inside ++ h.Close ∷ rest))
-                ek))
+            (λ k. declared_at BySymbol Es its.spot (h.Open 0 k) (its.inside ++ h.Close ∷ rest))
+            ek))
         by its (h.ExportAll meta) body ek eb is fits c = let e = only-one _ (Local x y) c in cc
         by its _ body ek eb is fits c = none-there (Local x y) c
 
@@ -300,8 +302,8 @@ module _ (ins : List Item) (fit : AreFit (slot 0 Many AnItem ∷ []) ins) where
         Contains (top_names whole) y
     local-inside x y c =
         let back =
-            flat-back (λ (top : TopItem). exports_of_item (imports_of whole) top.items)
-            (top_items whole) (Local x y) c in
+        flat-back (λ (top : TopItem). exports_of_item (imports_of whole) top.items)
+        (top_items whole) (Local x y) c in
         local-of back.0 back.1 x y back.2
 
 -- a local entry is of a name that the top binds
@@ -312,5 +314,5 @@ local-top list fit file sound x y c =
     let its = module-list fit in
     subst (λ l. Contains (top_names l) y) (sym its.is)
     (local-inside its.inside its.fits (subst HasWays its.is (one_ways fit refl)) file
-        (subst (IsFaultless file) its.is sound) x y
+    (subst (IsFaultless file) its.is sound) x y
     (subst (λ l. Contains (exports_of l) (Local x y)) its.is c))

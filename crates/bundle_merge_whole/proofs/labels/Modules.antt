@@ -39,11 +39,11 @@ pub occurs-front : (xs ys : List Item) (s : Spot) (o : Occurrence) →
 occurs-front [] ys s o c = none-there o c
 occurs-front (x ∷ xs) ys s o c =
     elim (put-cases (occurrence_of s x) (occurrences_from (past s x) xs) o c) [
-  | inl e ↦ put-first (occurrence_of s x) (occurrences_from (past s x) (xs ++ ys)) o e
-  | inr more ↦
-      put-later (occurrence_of s x) (occurrences_from (past s x) (xs ++ ys)) o
-      (occurs-front xs ys (past s x) o more)
-]
+      | inl e ↦ put-first (occurrence_of s x) (occurrences_from (past s x) (xs ++ ys)) o e
+      | inr more ↦
+          put-later (occurrence_of s x) (occurrences_from (past s x) (xs ++ ys)) o
+          (occurs-front xs ys (past s x) o more)
+    ]
 
 pub occurs-behind : (xs ys : List Item) (s : Spot) (o : Occurrence) →
     Contains (occurrences_from (fold past s xs) ys) o →
@@ -51,7 +51,7 @@ pub occurs-behind : (xs ys : List Item) (s : Spot) (o : Occurrence) →
 occurs-behind [] ys s o c = c
 occurs-behind (x ∷ xs) ys s o c =
     put-later (occurrence_of s x) (occurrences_from (past s x) (xs ++ ys)) o
-        (occurs-behind xs ys (past s x) o c)
+    (occurs-behind xs ys (past s x) o c)
 
 no-item : (role : Role) → takes_name role AnItem ≡ true → ⊥
 no-item r.Binding is = false≢true is
@@ -71,7 +71,7 @@ tops-declare (a_name {role = role} it fit) s tail d c = absurd (no-item role it)
 tops-declare (a_node {head = hd} {inside = ins} {rest = rest} it in_it fit) s tail d c =
     elim (item-declares s (rest ++ tail) d hd ins it in_it
     (subst (λ l. Contains (declared_from BySymbol Es s (h.Open 0 hd ∷ l)) d)
-        (append_assoc ins (h.Close ∷ rest) tail) c)) [
+    (append_assoc ins (h.Close ∷ rest) tail) c)) [
       | inl here ↦ inl (record {
         top = record { start = s.place; items = item };
         there =
@@ -89,10 +89,10 @@ tops-declare (a_node {head = hd} {inside = ins} {rest = rest} it in_it fit) s ta
           top = its.top;
           there = subst (λ l. Contains (placed s.place l) its.top) (sym sides)
               (later-there _
-                  (placed (s.place + length item) (side_by_side zero (rest ++ h.Close ∷ [])))
-                  its.top
+              (placed (s.place + length item) (side_by_side zero (rest ++ h.Close ∷ [])))
+              its.top
               (subst (λ n. Contains (placed n (side_by_side zero (rest ++ h.Close ∷ []))) its.top)
-                  (fold-place s item) its.there));
+              (fold-place s item) its.there));
           spot = its.spot;
           place = its.place;
           by = its.by;
@@ -114,10 +114,10 @@ tops-declare (a_node {head = hd} {inside = ins} {rest = rest} it in_it fit) s ta
         (h.Open 0 hd ∷ (ins ++ h.Close ∷ [])) ∷ side_by_side zero (rest ++ h.Close ∷ [])
     sides =
         ap (λ l. side_by_side zero (h.Open 0 hd ∷ l))
-            (append_assoc ins (h.Close ∷ rest) (h.Close ∷ [])
-            ∙ sym (append_assoc ins (h.Close ∷ []) (rest ++ h.Close ∷ [])))
+        (append_assoc ins (h.Close ∷ rest) (h.Close ∷ [])
+        ∙ sym (append_assoc ins (h.Close ∷ []) (rest ++ h.Close ∷ [])))
         ∙ beside (node {sort = AnItem} {field = 0} {head = hd} {inside = ins} it in_it)
-            (rest ++ h.Close ∷ [])
+        (rest ++ h.Close ∷ [])
 
 -- ---- a module
 -- a declaration of a module: by a name in an own statement, by a default without a name, or by an
@@ -151,28 +151,28 @@ module _ (ins : List Item) (fit : AreFit (slot 0 Many AnItem ∷ []) ins) where
           Contains (own_statements tree) statement
       own statement c =
           flat_on (λ (top : TopItem). stated top.start top.items) (top_items tree) its.top statement
-              its.there
+          its.there
           (subst (λ n. Contains (stated n its.top.items) statement) its.place c)
 
       by : IsDeclaredBy its.spot its.top.items d → IsDeclaredIn tree d
       by (by_name o statement field ctxt there declares states stands named) =
           in_statement o statement field ctxt
-              (occurs-front ins (h.Close ∷ []) (past start (h.Open 0 h.Module)) o
-              (its.occurs o there)) declares (own statement states) stands named
+          (occurs-front ins (h.Close ∷ []) (past start (h.Open 0 h.Module)) o
+          (its.occurs o there)) declares (own statement states) stands named
       by (by_default statement states stands named) =
           without_name statement (own statement states) stands named
       by (by_import entry there local) =
           imported entry
-              (flat_on (λ (top : TopItem). imports_of_item top.items) (top_items tree) its.top entry
-              its.there there) local
+          (flat_on (λ (top : TopItem). imports_of_item top.items) (top_items tree) its.top entry
+          its.there there) local
 
   pub inside-declares : (d : Declared) → Contains (declared BySymbol Es tree) d →
       IsDeclaredIn tree d
   inside-declares d c =
       elim (tops-declare fit (past start (h.Open 0 h.Module)) (h.Close ∷ []) d c) [
-    | inl its ↦ of-top d its
-    | inr after ↦ none-there d after
-  ]
+        | inl its ↦ of-top d its
+        | inr after ↦ none-there d after
+      ]
 
 module-head : (head : Head) → takes head AModule ≡ true → head ≡ h.Module
 module-head h.Module is = refl
@@ -205,4 +205,4 @@ module-declares list fit d c =
     let its = module-list fit in
     subst (λ l. IsDeclaredIn l d) (sym its.is)
     (inside-declares its.inside its.fits d
-        (subst (λ l. Contains (declared BySymbol Es l) d) its.is c))
+    (subst (λ l. Contains (declared BySymbol Es l) d) its.is c))

@@ -94,10 +94,10 @@ pub top-there : (tree : List Item) (place : ℕ) (x : Text) →
 unfolding scope-in name-in
 top-there tree place x e =
     let r =
-        map-some (denoted_of BySymbol Es (declared BySymbol Es tree)) (occurrence_at tree place)
-        (Bound Top (plain x)) e in
+    map-some (denoted_of BySymbol Es (declared BySymbol Es tree)) (occurrence_at tree place)
+    (Bound Top (plain x)) e in
     by r.0 (declaration_of BySymbol Es r.0) refl (occurrence_at-listed tree place r.0 r.1).0
-        (occurrence_at-listed tree place r.0 r.1).1 r.2
+    (occurrence_at-listed tree place r.0 r.1).1 r.2
   where
     all : List Declaration
     all = declared BySymbol Es tree
@@ -105,9 +105,9 @@ top-there tree place x e =
     by : (o : Occurrence) (d : Option Declaration) → declaration_of BySymbol Es o ≡ d → (i : ℕ) →
         slice_get (occurrences tree) i ≡ Some o →
         own_or_found (declared BySymbol Es tree)
-            (bound_in (plain o.sym)
-            (find (λ s. binds (declared BySymbol Es tree) s (plain o.sym))
-            (scopes_around Es o.path))) d ≡ Bound Top (plain x) →
+        (bound_in (plain o.sym)
+        (find (λ s. binds (declared BySymbol Es tree) s (plain o.sym))
+        (scopes_around Es o.path))) d ≡ Bound Top (plain x) →
         Contains (top_names tree) x
     by o (Some d) ed i listed e =
         let c = occurrence-declares tree start o d (place-there (occurrences tree) i o listed) ed in
@@ -116,32 +116,32 @@ top-there tree place x e =
         subst (Contains (top_names tree)) same (home-name tree d c top)
     by o None ed i listed e =
         let its =
-            bound-some (plain o.sym)
-            (find (λ s. binds all s (plain o.sym)) (scopes_around Es o.path)) (plain x) e in
+        bound-some (plain o.sym)
+        (find (λ s. binds all s (plain o.sym)) (scopes_around Es o.path)) (plain x) e in
         let bound =
-            find-passes (λ s. binds all s (plain o.sym)) (scopes_around Es o.path) Top its.0 in
+        find-passes (λ s. binds all s (plain o.sym)) (scopes_around Es o.path) Top its.0 in
         let some =
-            there_of_any (is_declared_in all Top (plain o.sym)) all
-            (no-implicit (declares all Top (plain o.sym)) (is_arguments o.sym) bound) in
+        there_of_any (is_declared_in all Top (plain o.sym)) all
+        (no-implicit (declares all Top (plain o.sym)) (is_arguments o.sym) bound) in
         let parts =
-            and_parts (same_scope (home_of all some.0) Top) (names_agree some.0.name (plain o.sym))
-            some.2 in
+        and_parts (same_scope (home_of all some.0) Top) (names_agree some.0.name (plain o.sym))
+        some.2 in
         let agree =
-            and_parts (bytes_eq some.0.name.sym o.sym) (contexts_agree some.0.name.ctxt None)
-            parts.1 in
+        and_parts (bytes_eq some.0.name.sym o.sym) (contexts_agree some.0.name.ctxt None)
+        parts.1 in
         let same : some.0.name.sym ≡ x =
-            (bytes_eq-Decides some.0.name.sym o.sym).0 agree.0 ∙ ap (λ (n : Name). n.sym) its.1 in
+        (bytes_eq-Decides some.0.name.sym o.sym).0 agree.0 ∙ ap (λ (n : Name). n.sym) its.1 in
         subst (Contains (top_names tree)) same
-            (home-name tree some.0 some.1 (same-top (home_of all some.0) parts.0))
+        (home-name tree some.0 some.1 (same-top (home_of all some.0) parts.0))
 
 -- ---- a default without a name
 no-written : (b : ℕ) (items : List Item) (x : Item) → Contains (taken_from b items) (written x) → ⊥
 no-written b [] x c = none-there (written x) c
 no-written b (y ∷ items) x c =
     elim (there-cases (taken b y) (taken_from (suc b) items) (written x) c) [
-  | inl e ↦ cc
-  | inr later ↦ no-written (suc b) items x later
-]
+      | inl e ↦ cc
+      | inr later ↦ no-written (suc b) items x later
+    ]
 
 module _ (ins : List Item) (fit : AreFit (slot 0 Many AnItem ∷ []) ins) where
   abbrev whole : List Item
@@ -149,12 +149,12 @@ module _ (ins : List Item) (fit : AreFit (slot 0 Many AnItem ∷ []) ins) where
 
   default-at : (top : TopItem) (its : IsTopAt (past start (h.Open 0 h.Module)) ins top) →
       ((rest : List Item) →
-          declared_at BySymbol Es its.spot (h.Open 0 its.head) (its.inside ++ h.Close ∷ rest) ≡ Some
-          (nameless_default Es its.spot.place)) →
+      declared_at BySymbol Es its.spot (h.Open 0 its.head) (its.inside ++ h.Close ∷ rest) ≡ Some
+      (nameless_default Es its.spot.place)) →
       Contains (top_names whole) default_name
   default-at top its says =
       top-name whole (nameless_default Es its.spot.place)
-          (its.first (h.Close ∷ []) (nameless_default Es its.spot.place) says) refl
+      (its.first (h.Close ∷ []) (nameless_default Es its.spot.place) says) refl
 
   written-in : (top : TopItem) → Contains (top_items whole) top →
       (statement : List Element) (x : Item) →
@@ -163,7 +163,7 @@ module _ (ins : List Item) (fit : AreFit (slot 0 Many AnItem ∷ []) ins) where
   written-in top there statement x states c =
       let its = top-at fit (past start (h.Open 0 h.Module)) (λ field. refl) 1 top there in
       by its its.head its.inside refl refl its.fits
-          (subst (λ l. Contains (stated top.start l) statement) its.is states)
+      (subst (λ l. Contains (stated top.start l) statement) its.is states)
     where
       as-it-is : (l : List Item) (b : ℕ) → Contains (taken_from b l ∷ []) statement →
           Contains (top_names whole) default_name
@@ -176,14 +176,14 @@ module _ (ins : List Item) (fit : AreFit (slot 0 Many AnItem ∷ []) ins) where
           (k : Head) (body : List Item) → Begins body →
           its.head ≡ h.ExportDefaultDecl → its.inside ≡ h.Open 0 k ∷ body →
           statement ≡ default_declaration (suc top.start) (h.Open 0 k ∷ body) →
-              Contains (top_names whole) default_name
+          Contains (top_names whole) default_name
       by-body its k _ (with_a_name {field = f} {ctxt = t} {x = y} {role = role} {rest = rest}) ek eb
           es =
           absurd
-              (by-name
-              (there-cases (taken (suc top.start) (h.Open 0 (declaration_head k)))
-              (taken_from (suc (suc top.start)) (h.Ident f y t role ∷ rest)) (written x)
-              (subst (λ s. Contains s (written x)) es c)))
+          (by-name
+          (there-cases (taken (suc top.start) (h.Open 0 (declaration_head k)))
+          (taken_from (suc (suc top.start)) (h.Ident f y t role ∷ rest)) (written x)
+          (subst (λ s. Contains s (written x)) es c)))
         where
           by-name : (taken (suc top.start) (h.Open 0 (declaration_head k)) ≡ written x) ⊎ Contains
               (taken_from (suc (suc top.start)) (h.Ident f y t role ∷ rest)) (written x) → ⊥
@@ -191,18 +191,18 @@ module _ (ins : List Item) (fit : AreFit (slot 0 Many AnItem ∷ []) ins) where
           by-name (inr later) = no-written (suc (suc top.start)) (h.Ident f y t role ∷ rest) x later
       by-body its k _ (with_a_node {field = f} {head = hd} {rest = rest}) ek eb es =
           default-at top its
-              (λ others. ap
-              (λ k. declared_at BySymbol Es its.spot (h.Open 0 k) (its.inside ++ h.Close ∷ others))
-              ek
+          (λ others. ap
+          (λ k. declared_at BySymbol Es its.spot (h.Open 0 k) (its.inside ++ h.Close ∷ others))
+          ek
           ∙ ap
-              (λ l. declared_at BySymbol Es its.spot (h.Open 0 h.ExportDefaultDecl)
-              (l ++ h.Close ∷ others)) eb)
+          (λ l. declared_at BySymbol Es its.spot (h.Open 0 h.ExportDefaultDecl)
+          (l ++ h.Close ∷ others)) eb)
 
       by : (its : IsTopAt (past start (h.Open 0 h.Module)) ins top) →
           (k : Head) (body : List Item) → its.head ≡ k → its.inside ≡ body →
           AreFit (slots k r.Reference) body →
-              Contains (stated top.start (node_of 0 k body)) statement →
-              Contains (top_names whole) default_name
+          Contains (stated top.start (node_of 0 k body)) statement →
+          Contains (top_names whole) default_name
       by its (h.ImportDecl meta) body ek eb fits c2 = none-there statement c2
       by its (h.NamedExport meta) body ek eb fits c2 = none-there statement c2
       by its (h.ExportAll meta) body ek eb fits c2 = none-there statement c2
@@ -211,16 +211,16 @@ module _ (ins : List Item) (fit : AreFit (slot 0 Many AnItem ∷ []) ins) where
           as-it-is (without_last (body ++ h.Close ∷ [])) (suc top.start) c2
       by its h.ExportDefaultExpr body ek eb fits c2 =
           default-at top its
-              (λ others. ap
-              (λ k. declared_at BySymbol Es its.spot (h.Open 0 k) (its.inside ++ h.Close ∷ others))
-              ek)
+          (λ others. ap
+          (λ k. declared_at BySymbol Es its.spot (h.Open 0 k) (its.inside ++ h.Close ∷ others))
+          ek)
       by its h.ExportDefaultDecl body ek eb fits c2 =
           let shape = default-shape fits in
           by-body its shape.head shape.body shape.begins ek (eb ∙ shape.is)
           (sym
-              (only-one (default_declaration (suc top.start) (without_last (body ++ h.Close ∷ [])))
-              statement c2)
-              ∙ ap (default_declaration (suc top.start)) (last_off body h.Close ∙ shape.is))
+          (only-one (default_declaration (suc top.start) (without_last (body ++ h.Close ∷ [])))
+          statement c2)
+          ∙ ap (default_declaration (suc top.start)) (last_off body h.Close ∙ shape.is))
       by its k body ek eb fits c2 = as-it-is (node_of 0 k body) top.start c2
 
 pub written-top : (list : List Item) → IsFit AModule 0 list →
@@ -232,7 +232,7 @@ written-top list fit statement x own c =
     let top = flat-back (λ (t : TopItem). stated t.start t.items) (top_items list) statement own in
     subst (λ l. Contains (top_names l) default_name) (sym its.is)
     (written-in its.inside its.fits top.0 (subst (λ l. Contains (top_items l) top.0) its.is top.1)
-        statement x top.2 c)
+    statement x top.2 c)
 
 -- ---- what a name stands for
 takes-other : {p : Program} {m : ℕ} {s : Text} {its : Taken} {t : Target} → Takes p m s its t →
@@ -299,8 +299,8 @@ module _ (p : Program) (list : List ℕ) (sound : AreSound p list) where
           sym c.0.denoted ∙ ap (denoted_at BySymbol Es (tree_of p m)) c.1 ∙ denotes in
           let name : c.0.name ≡ x = ap (λ (d : Option Denoted). (name-of d).sym) both in
           let first =
-              one-stands p m (subst (λ y. StandsFor p m y c.0.first) name c.0.stands)
-              (own-stands m place x denotes none) in
+          one-stands p m (subst (λ y. StandsFor p m y c.0.first) name c.0.stands)
+          (own-stands m place x denotes none) in
           let long = first-not c.0.along first in
           let begun = (node-begun (tree_of p m) place inside.node inside.around).0 in
           let at_node = inside.here in
@@ -315,7 +315,7 @@ module _ (p : Program) (list : List ℕ) (sound : AreSound p list) where
           true≢false (sym is ∙ (sound.modules.trees m).meta place q o at inside)
       by (require_call call there at_it leads) inside =
           free-calls p m place x call denotes there
-              (subst (λ k. Encloses (tree_of p m) k place) (sym at_it) inside)
+          (subst (λ k. Encloses (tree_of p m) k place) (sym at_it) inside)
 
   -- an occurrence, in an own statement, of a name that an ES module declares is what is meant
   pub own-meant : (m place : ℕ) (x : Text) (o : Occurrence) (statement : List Element)
@@ -334,22 +334,22 @@ module _ (p : Program) (list : List ℕ) (sound : AreSound p list) where
   use-meant m o n t reached there its =
       taken-meant p sound.modules
       (by_use reached
-          (map-on (use_of (tree_of p m)) (filter (is_use (tree_of p m)) (occurrences (tree_of p m)))
-          o (filter-on (is_use (tree_of p m)) (occurrences (tree_of p m)) o there its.used))
-          its.means)
+      (map-on (use_of (tree_of p m)) (filter (is_use (tree_of p m)) (occurrences (tree_of p m)))
+      o (filter-on (is_use (tree_of p m)) (occurrences (tree_of p m)) o there its.used))
+      its.means)
 
   -- the name of a default without one
   pub default-meant : (m : ℕ) (statement : List Element) (field ctxt : ℕ) (x : Text) (role : Role) →
       IsReached p m → (IsCommonJs p m → ⊥) → Contains (own_statements (tree_of p m)) statement →
       Contains statement (written (h.Ident field x ctxt role)) →
-          IsMeant p (Of (Declared m default_name))
+      IsMeant p (Of (Declared m default_name))
   default-meant m statement field ctxt x role reached es own there =
       let named : x ≡ default_name =
-          written-default (tree_of p m) statement field ctxt x role own there in
+      written-default (tree_of p m) statement field ctxt x role own there in
       let none = sound.modules.once.unbound m statement (h.Ident field x ctxt role) own there in
       let top =
-          written-top (tree_of p m) (sound.fit.each m reached) statement (h.Ident field x ctxt role)
-          own there in
+      written-top (tree_of p m) (sound.fit.each m reached) statement (h.Ident field x ctxt role)
+      own there in
       by_statement reached own there (λ node r c replaced. none-there node c)
       (says_name (is_es es) (ap (λ y. Some (Bound Top (plain y))) named)
-          (at_top (is_declared top none)))
+      (at_top (is_declared top none)))

@@ -81,8 +81,8 @@ pub silent-behind : (items : List Item) → AreSilent items → (s : Spot) (tail
 silent-behind [] ended s tail d c = c
 silent-behind (x ∷ items) (more e rest) s tail d c =
     elim
-        (put-cases (declared_at BySymbol Es s x (items ++ tail))
-        (declared_from BySymbol Es (past s x) (items ++ tail)) d c) [
+    (put-cases (declared_at BySymbol Es s x (items ++ tail))
+    (declared_from BySymbol Es (past s x) (items ++ tail)) d c) [
       | inl first ↦ absurd (silent-here s x (items ++ tail) d e first)
       | inr later ↦ silent-behind items rest (past s x) tail d later
     ]
@@ -108,7 +108,7 @@ listed-name r.Binding _ is ok = absurd (false≢true ok)
 abbrev Listed : ℕ → Head → Role → Type 0
 Listed n head names =
     (is_silent (h.Open n head) ≡ true) ×
-        (each_slot (λ number sort. is_listed sort) (slots head names) ≡ true)
+    (each_slot (λ number sort. is_listed sort) (slots head names) ≡ true)
 
 in-export : (n : ℕ) (head : Head) → takes head AnExport ≡ true → Listed n head r.Reference
 in-export n h.ExportNamespaceSpecifier is = (refl, refl)
@@ -140,19 +140,19 @@ pub listed-silent : {list : List Slot} {items : List Item} → AreFit list items
 listed-silent no_more ok = ended
 listed-silent (over {number = n} {sort = k} {more = rest} e fit) ok =
     listed-silent fit
-        (and_parts (is_listed k) (each_slot (λ number sort. is_listed sort) rest) ok).1
+    (and_parts (is_listed k) (each_slot (λ number sort. is_listed sort) rest) ok).1
 listed-silent (a_name {number = n} {count = c} {sort = k} {more = rest} {role = role} it fit) ok =
     more
-        (listed-name role k it
-        (and_parts (is_listed k) (each_slot (λ number sort. is_listed sort) rest) ok).0)
+    (listed-name role k it
+    (and_parts (is_listed k) (each_slot (λ number sort. is_listed sort) rest) ok).0)
     (listed-silent fit (after_slot (λ number sort. is_listed sort) n c k rest ok))
 listed-silent (a_hole fit) ok = more refl (listed-silent fit ok)
 listed-silent
     (a_node {number = n} {count = c} {sort = k} {more = rest} {head = hd} {inside = ins}
     {rest = behind} it in_it fit) ok =
     let here =
-        listed-head n hd k it
-        (and_parts (is_listed k) (each_slot (λ number sort. is_listed sort) rest) ok).0 in
+    listed-head n hd k it
+    (and_parts (is_listed k) (each_slot (λ number sort. is_listed sort) rest) ok).0 in
     more here.0
     (silent-join ins (h.Close ∷ behind) (listed-silent in_it here.1)
     (more refl (listed-silent fit (after_slot (λ number sort. is_listed sort) n c k rest ok))))

@@ -58,7 +58,7 @@ data TopForm : Head → Type 0 where
   silent : {head : Head} →
       ((ins : List Item) → AreFit (slots head r.Reference) ins → AreSilent ins) →
       ((s : Spot) (rest : List Item) (d : Declared) →
-          declared_at BySymbol Es s (h.Open 0 head) rest ≡ Some d → ⊥) →
+      declared_at BySymbol Es s (h.Open 0 head) rest ≡ Some d → ⊥) →
       TopForm head
   declared : TopForm h.ExportDecl
   default_declared : TopForm h.ExportDefaultDecl
@@ -91,7 +91,7 @@ behind s head ins = fold past s (h.Open 0 head ∷ (ins ++ h.Close ∷ []))
 Found : Spot → Head → List Item → List Item → Declared → Type 0
 Found s head ins tail d =
     IsDeclaredBy s (node head ins) d ⊎ Contains (declared_from BySymbol Es (behind s head ins) tail)
-        d
+    d
 
 next-place : (s : Spot) (x : Item) → (past s x).place ≡ suc s.place
 next-place s x = omega arith
@@ -161,30 +161,30 @@ module _ (s : Spot) (tail : List Item) (d : Declared) where
   -- behind the inside of the node
   back : (head : Head) (ins : List Item) →
       Contains (declared_from BySymbol Es (fold past (past s (h.Open 0 head)) ins) (h.Close ∷ tail))
-          d →
+      d →
       Contains (declared_from BySymbol Es (behind s head ins) tail) d
   back head ins c =
       subst (λ (t : Spot). Contains (declared_from BySymbol Es t tail) d)
-          (sym (spot-behind s head ins)) c
+      (sym (spot-behind s head ins)) c
 
   -- of a name inside what follows the head, in a statement that has the elements there
   name-inside : (head : Head) (ins : List Item) (statement : List Element) →
       stated s.place (node head ins) ≡ statement ∷ [] →
       ((field ctxt : ℕ) →
-          Contains (taken_from (suc s.place) ins)
-          (taken d.place (h.Ident field d.name.sym ctxt r.Binding)) →
+      Contains (taken_from (suc s.place) ins)
+      (taken d.place (h.Ident field d.name.sym ctxt r.Binding)) →
       (other : ℕ) × Contains statement (taken d.place (h.Ident other d.name.sym ctxt r.Binding))) →
       IsNameIn (past s (h.Open 0 head)) ins d → IsDeclaredBy s (node head ins) d
   name-inside head ins statement states has its =
       let at = has its.field its.ctxt
       (subst
-          (λ n. Contains (taken_from n ins)
-          (taken d.place (h.Ident its.field d.name.sym its.ctxt r.Binding)))
-          (next-place s (h.Open 0 head)) its.stands) in
+      (λ n. Contains (taken_from n ins)
+      (taken d.place (h.Ident its.field d.name.sym its.ctxt r.Binding)))
+      (next-place s (h.Open 0 head)) its.stands) in
       by_name its.o statement at.0 its.ctxt
       (put-later (occurrence_of s (h.Open 0 head))
-          (occurrences_from (past s (h.Open 0 head)) (ins ++ h.Close ∷ [])) its.o
-          (front ins (past s (h.Open 0 head)) its.there))
+      (occurrences_from (past s (h.Open 0 head)) (ins ++ h.Close ∷ [])) its.o
+      (front ins (past s (h.Open 0 head)) its.there))
       its.declares
       (subst (λ l. Contains l statement) (sym states) (first-there statement [])) at.1 its.named
     where
@@ -193,13 +193,13 @@ module _ (s : Spot) (tail : List Item) (d : Declared) where
       front [] t c = none-there its.o c
       front (x ∷ ins) t c =
           elim (put-cases (occurrence_of t x) (occurrences_from (past t x) ins) its.o c) [
-        | inl e ↦
-            w.put-first (occurrence_of t x) (occurrences_from (past t x) (ins ++ h.Close ∷ []))
-            its.o e
-        | inr more ↦
-            put-later (occurrence_of t x) (occurrences_from (past t x) (ins ++ h.Close ∷ [])) its.o
-            (front ins (past t x) more)
-      ]
+            | inl e ↦
+                w.put-first (occurrence_of t x) (occurrences_from (past t x) (ins ++ h.Close ∷ []))
+                its.o e
+            | inr more ↦
+                put-later (occurrence_of t x) (occurrences_from (past t x) (ins ++ h.Close ∷ [])) its.o
+                (front ins (past t x) more)
+          ]
 
   -- ---- a statement as it is
   plain-item : (head : Head) (ins : List Item) → is_module_head head ≡ false →
@@ -212,9 +212,9 @@ module _ (s : Spot) (tail : List Item) (d : Declared) where
       let none : HasNoDefault (node head ins) =
       w.next (alone head apart) (no-default-join ins (h.Close ∷ []) own (w.next refl w.over)) in
       elim
-          (declared-in (node head ins) none s tail d
-          (subst (λ l. Contains (declared_from BySymbol Es s (h.Open 0 head ∷ l)) d)
-          (sym (append_assoc ins (h.Close ∷ []) tail)) c)) [
+      (declared-in (node head ins) none s tail d
+      (subst (λ l. Contains (declared_from BySymbol Es s (h.Open 0 head ∷ l)) d)
+      (sym (append_assoc ins (h.Close ∷ []) tail)) c)) [
         | inl its ↦
             inl
             (by_name its.o (taken_from s.place (node head ins)) its.field its.ctxt its.there
@@ -251,18 +251,20 @@ module _ (s : Spot) (tail : List Item) (d : Declared) where
   field-has : (place : ℕ) (ins : List Item) (field ctxt : ℕ) →
       Contains (taken_from place ins) (taken d.place (h.Ident field d.name.sym ctxt r.Binding)) →
       (other : ℕ) × Contains (taken_in_field 1 place ins)
-          (taken d.place (h.Ident other d.name.sym ctxt r.Binding))
+      (taken d.place (h.Ident other d.name.sym ctxt r.Binding))
   field-has place [] field ctxt c = none-there _ c
   field-has place (x ∷ ins) field ctxt c =
       elim
       (there-cases (taken place x) (taken_from (suc place) ins)
       (taken d.place (h.Ident field d.name.sym ctxt r.Binding)) c) [
-    | inl e ↦
-        (1, subst (λ e. Contains (taken place (moved_to 1 x) ∷ taken_from (suc place) ins) e)
-        (moved-same e) (first-there (taken place (moved_to 1 x)) (taken_from (suc place) ins)))
-    | inr later ↦
-        (field, later-there (taken place (moved_to 1 x)) (taken_from (suc place) ins) _ later)
-  ]
+        | inl e ↦ (
+          1,
+          subst (λ e. Contains (taken place (moved_to 1 x) ∷ taken_from (suc place) ins) e)
+              (moved-same e) (first-there (taken place (moved_to 1 x)) (taken_from (suc place) ins)),
+        )
+        | inr later ↦
+            (field, later-there (taken place (moved_to 1 x)) (taken_from (suc place) ins) _ later)
+      ]
     where
       moved-same : taken place x ≡ taken d.place (h.Ident field d.name.sym ctxt r.Binding) →
           taken place (moved_to 1 x) ≡ taken d.place (h.Ident 1 d.name.sym ctxt r.Binding)
@@ -275,7 +277,7 @@ module _ (s : Spot) (tail : List Item) (d : Declared) where
       let ends : List Element = written h.Close ∷ written h.Close ∷ [] in
       Contains-append_right
       (written (h.Open 0 (h.VarDecl Const no_notes)) ∷ written (h.Open 1 h.VarDeclarator) ∷ written
-          (h.Open 0 h.BindingIdent) ∷ default_binding ∷ written h.Close ∷ [])
+      (h.Open 0 h.BindingIdent) ∷ default_binding ∷ written h.Close ∷ [])
       (taken_in_field 1 place ins ++ ends) e
       (Contains-append_left (taken_in_field 1 place ins) ends e c)
 
@@ -284,13 +286,13 @@ module _ (s : Spot) (tail : List Item) (d : Declared) where
   unfolding Found
   constant-item ins own c =
       let states : stated s.place (node h.ExportDefaultExpr ins) ≡ default_constant (suc s.place)
-          ins ∷ [] =
+      ins ∷ [] =
       ap (λ l. default_constant (suc s.place) l ∷ []) (last_off ins h.Close) in
       elim
-          (put-cases
-          (declared_at BySymbol Es s (h.Open 0 h.ExportDefaultExpr) (ins ++ h.Close ∷ tail))
-          (declared_from BySymbol Es (past s (h.Open 0 h.ExportDefaultExpr))
-          (ins ++ h.Close ∷ tail)) d c) [
+      (put-cases
+      (declared_at BySymbol Es s (h.Open 0 h.ExportDefaultExpr) (ins ++ h.Close ∷ tail))
+      (declared_from BySymbol Es (past s (h.Open 0 h.ExportDefaultExpr))
+      (ins ++ h.Close ∷ tail)) d c) [
         | inl e ↦
             inl
             (by_default (default_constant (suc s.place) ins)
@@ -300,14 +302,14 @@ module _ (s : Spot) (tail : List Item) (d : Declared) where
         | inr later ↦
             elim
             (declared-in ins own (past s (h.Open 0 h.ExportDefaultExpr)) (h.Close ∷ tail) d later) [
-          | inl its ↦
-              inl
-              (name-inside h.ExportDefaultExpr ins (default_constant (suc s.place) ins) states
-              (λ field ctxt c. let at =
-              field-has (suc s.place) ins field ctxt
-              c in (at.0, constant-there (suc s.place) ins _ at.1)) its)
-          | inr after ↦ inr (back h.ExportDefaultExpr ins after)
-        ]
+              | inl its ↦
+                  inl
+                  (name-inside h.ExportDefaultExpr ins (default_constant (suc s.place) ins) states
+                  (λ field ctxt c. let at =
+                  field-has (suc s.place) ins field ctxt
+                  c in (at.0, constant-there (suc s.place) ins _ at.1)) its)
+              | inr after ↦ inr (back h.ExportDefaultExpr ins after)
+            ]
       ]
 
   -- ---- a default function or class
@@ -322,32 +324,34 @@ module _ (s : Spot) (tail : List Item) (d : Declared) where
 
   declaration-has : (place : ℕ) (k : Head) (body : List Item) (field ctxt : ℕ) →
       Contains (taken_from place (h.Open 0 k ∷ body))
-          (taken d.place (h.Ident field d.name.sym ctxt r.Binding)) →
+      (taken d.place (h.Ident field d.name.sym ctxt r.Binding)) →
       (other : ℕ) × Contains (default_declaration place (h.Open 0 k ∷ body))
-          (taken d.place (h.Ident other d.name.sym ctxt r.Binding))
+      (taken d.place (h.Ident other d.name.sym ctxt r.Binding))
   declaration-has place k body field ctxt c =
       elim
       (there-cases (taken place (h.Open 0 k)) (taken_from (suc place) body)
       (taken d.place (h.Ident field d.name.sym ctxt r.Binding)) c) [
-    | inl e ↦ cc
-    | inr later ↦
-        (field, later-there (taken place (h.Open 0 (declaration_head k)))
-        (with_name (suc place) body) _ (name-has (suc place) body _ later))
-  ]
+        | inl e ↦ cc
+        | inr later ↦ (
+          field,
+          later-there (taken place (h.Open 0 (declaration_head k)))
+              (with_name (suc place) body) _ (name-has (suc place) body _ later),
+        )
+      ]
 
   default-first : (k : Head) (body : List Item) → Begins body →
       declared_at BySymbol Es s (h.Open 0 h.ExportDefaultDecl)
-          ((h.Open 0 k ∷ body) ++ h.Close ∷ tail) ≡ Some d →
+      ((h.Open 0 k ∷ body) ++ h.Close ∷ tail) ≡ Some d →
       IsDeclaredBy s (node h.ExportDefaultDecl (h.Open 0 k ∷ body)) d
   default-first k _ with_a_name e = absurd (none-some d e)
   default-first k _ (with_a_node {field = f} {head = hd} {rest = rest}) e =
       let ins : List Item = h.Open 0 k ∷ h.Open f hd ∷ rest in
       let states : stated s.place (node h.ExportDefaultDecl ins) ≡ default_declaration (suc s.place)
-          ins ∷ [] =
+      ins ∷ [] =
       ap (λ l. default_declaration (suc s.place) l ∷ []) (last_off ins h.Close) in
       by_default (default_declaration (suc s.place) ins)
       (subst (λ l. Contains l (default_declaration (suc s.place) ins)) (sym states)
-          (first-there _ []))
+      (first-there _ []))
       (1, omega arith, refl) (ap (λ (x : Declared). x.name.sym) (sym (same_Some _ d e)))
 
   default-item : (k : Head) (body : List Item) → Begins body → HasNoDefault (h.Open 0 k ∷ body) →
@@ -357,35 +361,35 @@ module _ (s : Spot) (tail : List Item) (d : Declared) where
   default-item k body begins own c =
       let ins : List Item = h.Open 0 k ∷ body in
       let states : stated s.place (node h.ExportDefaultDecl ins) ≡ default_declaration (suc s.place)
-          ins ∷ [] =
+      ins ∷ [] =
       ap (λ l. default_declaration (suc s.place) l ∷ []) (last_off ins h.Close) in
       elim
-          (put-cases
-          (declared_at BySymbol Es s (h.Open 0 h.ExportDefaultDecl) (ins ++ h.Close ∷ tail))
-          (declared_from BySymbol Es (past s (h.Open 0 h.ExportDefaultDecl))
-          (ins ++ h.Close ∷ tail)) d c) [
+      (put-cases
+      (declared_at BySymbol Es s (h.Open 0 h.ExportDefaultDecl) (ins ++ h.Close ∷ tail))
+      (declared_from BySymbol Es (past s (h.Open 0 h.ExportDefaultDecl))
+      (ins ++ h.Close ∷ tail)) d c) [
         | inl e ↦ inl (default-first k body begins e)
         | inr later ↦
             elim
             (declared-in ins own (past s (h.Open 0 h.ExportDefaultDecl)) (h.Close ∷ tail) d later) [
-          | inl its ↦
-              inl
-              (name-inside h.ExportDefaultDecl ins (default_declaration (suc s.place) ins) states
-              (declaration-has (suc s.place) k body) its)
-          | inr after ↦ inr (back h.ExportDefaultDecl ins after)
-        ]
+              | inl its ↦
+                  inl
+                  (name-inside h.ExportDefaultDecl ins (default_declaration (suc s.place) ins) states
+                  (declaration-has (suc s.place) k body) its)
+              | inr after ↦ inr (back h.ExportDefaultDecl ins after)
+            ]
       ]
 
   -- ---- an import, and a list of exports
   import-item : (meta : ExportMetadata) (ins : List Item) →
       AreFit (slot 0 Many AnImport ∷ slot 1 One ASource ∷ []) ins →
-          Declares (h.ImportDecl meta) ins →
+      Declares (h.ImportDecl meta) ins →
       Found s (h.ImportDecl meta) ins tail d
   unfolding Found
   import-item meta ins fit c =
       elim
-          (import-declares fit (text_in 1 (node (h.ImportDecl meta) ins))
-          (past s (h.Open 0 (h.ImportDecl meta))) (h.Close ∷ tail) d c) [
+      (import-declares fit (text_in 1 (node (h.ImportDecl meta) ins))
+      (past s (h.Open 0 (h.ImportDecl meta))) (h.Close ∷ tail) d c) [
         | inl its ↦
             (let at =
             entry-there (text_in 1 (node (h.ImportDecl meta) ins))
@@ -400,8 +404,8 @@ module _ (s : Spot) (tail : List Item) (d : Declared) where
   unfolding Found
   silent-item head ins still none c =
       elim
-          (put-cases (declared_at BySymbol Es s (h.Open 0 head) (ins ++ h.Close ∷ tail))
-          (declared_from BySymbol Es (past s (h.Open 0 head)) (ins ++ h.Close ∷ tail)) d c) [
+      (put-cases (declared_at BySymbol Es s (h.Open 0 head) (ins ++ h.Close ∷ tail))
+      (declared_from BySymbol Es (past s (h.Open 0 head)) (ins ++ h.Close ∷ tail)) d c) [
         | inl e ↦ absurd (none (ins ++ h.Close ∷ tail) e)
         | inr later ↦
             inr
@@ -413,14 +417,14 @@ module _ (s : Spot) (tail : List Item) (d : Declared) where
   pub item-declares : (head : Head) (ins : List Item) → takes head AnItem ≡ true →
       AreFit (slots head r.Reference) ins → Declares head ins →
       IsDeclaredBy s (node head ins) d ⊎ Contains
-          (declared_from BySymbol Es (behind s head ins) tail) d
+      (declared_from BySymbol Es (behind s head ins) tail) d
   unfolding Found
   item-declares head ins is fit c = by head (form head) is fit c
     where
       by : (k : Head) → TopForm k → takes k AnItem ≡ true → AreFit (slots k r.Reference) ins →
           Declares k ins →
-              IsDeclaredBy s (node k ins) d ⊎ Contains
-              (declared_from BySymbol Es (behind s k ins) tail) d
+          IsDeclaredBy s (node k ins) d ⊎ Contains
+          (declared_from BySymbol Es (behind s k ins) tail) d
       by k (as_it_is apart stmt states) is fit c =
           plain-item k ins apart (stmt is) (states s.place (node k ins)) fit c
       by k (an_import {meta}) is fit c = import-item meta ins fit c
@@ -430,8 +434,8 @@ module _ (s : Spot) (tail : List Item) (d : Declared) where
       by k default_declared is fit c =
           let its = default-shape fit in
           subst (λ ins. Declares h.ExportDefaultDecl ins → Found s h.ExportDefaultDecl ins tail d)
-              (sym its.is)
+          (sym its.is)
           (default-item its.head its.body its.begins
-              (subst HasNoDefault its.is (own-plain fit refl))) c
+          (subst HasNoDefault its.is (own-plain fit refl))) c
       by k default_expression is fit c = constant-item ins (own-plain fit refl) c
       by k (elsewhere none) is fit c = absurd (false≢true (sym none ∙ is))

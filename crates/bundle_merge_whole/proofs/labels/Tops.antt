@@ -45,7 +45,7 @@ pub around-none : (path : List Around) → NoWrapper (scopes_around Es path)
 around-none [] = next refl over
 around-none (node ∷ outer) =
     put-scope node.begins (kind_of_scope node.head node.field outer) (scopes_around Es outer)
-        (around-none outer)
+    (around-none outer)
 
 from-none : (way : Way) (scopes : List Scope) → NoWrapper scopes → NoWrapper (from_taker way scopes)
 from-none way [] over = over
@@ -133,7 +133,7 @@ declares-so o d e = by (is_binding o.role) refl e
   where
     by : (b : Bool) → is_binding o.role ≡ b →
         cond b (declared_by o.place (plain o.sym) (scopes_around Es o.path) (way_of o.path)) None ≡
-            Some d →
+        Some d →
         DeclaresSo o d
     by true binds e = declares-by o (way_of o.path) d refl binds e
     by false binds e = absurd (none-some d e)
@@ -143,15 +143,15 @@ pub denotes-own : (tree : List Item) (o : Occurrence) (d : Declared) →
     Contains (occurrences tree) o →
     declaration_of BySymbol Es o ≡ Some d →
     denoted_at BySymbol Es tree d.place ≡ Some
-        (Bound (home_of (declared BySymbol Es tree) d) d.name)
+    (Bound (home_of (declared BySymbol Es tree) d) d.name)
 denotes-own tree o d c e =
     let at = there-place (occurrences tree) o c in
     let all = declared BySymbol Es tree in
     ap (λ n. denoted_at BySymbol Es tree n) (declares-so o d e).place
     ∙ ap (λ x. option_map (denoted_of BySymbol Es all) x) (occurrences-at tree at.0 o at.1)
     ∙ ap
-        (λ x. Some
-        (own_or_found all (denoted_in BySymbol all (scopes_around Es o.path) (plain o.sym)) x)) e
+    (λ x. Some
+    (own_or_found all (denoted_in BySymbol all (scopes_around Es o.path) (plain o.sym)) x)) e
 
 -- ---- names that imports bind
 pub find-some : {A : Type 0} (test : A → Bool) (xs : List A) (x : A) → Contains xs x →
@@ -182,7 +182,7 @@ pub record IsOwnTop (p : Program) (m : ℕ) (x : Text) : Type 0 where
 pub declared-top : (p : Program) (m : ℕ) → IsFit AModule 0 (tree_of p m) → (d : Declared) →
     Contains (declared BySymbol Es (tree_of p m)) d →
     (is_top (home_of (declared BySymbol Es (tree_of p m)) d) || is_wrapper
-        (home_of (declared BySymbol Es (tree_of p m)) d)) ≡ true →
+    (home_of (declared BySymbol Es (tree_of p m)) d)) ≡ true →
     import_of (imports_of (tree_of p m)) d.name.sym ≡ None → IsOwnTop p m d.name.sym
 declared-top p m fit d c top free = by (module-declares (tree_of p m) fit d c)
   where
@@ -193,8 +193,8 @@ declared-top p m fit d c top free = by (module-declares (tree_of p m) fit d c)
     by (in_statement o statement field ctxt there declares own stands named) =
         let so = declares-so o d declares in
         let home =
-            is-top (home_of (declared BySymbol Es (tree_of p m)) d) top
-            (home-none (declared BySymbol Es (tree_of p m)) d o.path so.scopes) in
+        is-top (home_of (declared BySymbol Es (tree_of p m)) d) top
+        (home-none (declared BySymbol Es (tree_of p m)) d o.path so.scopes) in
         record {
           statement = statement;
           element = taken d.place (h.Ident field d.name.sym ctxt r.Binding);
@@ -214,15 +214,15 @@ declared-top p m fit d c top free = by (module-declares (tree_of p m) fit d c)
     }
     by (imported entry there local) =
         absurd
-            (find-some (λ (e : ImportEntry). bytes_eq e.local d.name.sym) (imports_of (tree_of p m))
-            entry there ((bytes_eq-Decides entry.local d.name.sym).1 local) free)
+        (find-some (λ (e : ImportEntry). bytes_eq e.local d.name.sym) (imports_of (tree_of p m))
+        entry there ((bytes_eq-Decides entry.local d.name.sym).1 local) free)
 
 pub top-declares : (p : Program) (m : ℕ) → IsFit AModule 0 (tree_of p m) → (x : Text) →
     Contains (top_names (tree_of p m)) x → import_of (imports_of (tree_of p m)) x ≡ None →
-        IsOwnTop p m x
+    IsOwnTop p m x
 top-declares p m fit x c free =
     let back = map-back (λ (d : Declared). d.name.sym) _ x c in
     let kept = filter-back _ (declared BySymbol Es (tree_of p m)) back.0 back.1 in
     subst (IsOwnTop p m) back.2
     (declared-top p m fit back.0 kept.0 kept.1
-        (ap (import_of (imports_of (tree_of p m))) back.2 ∙ free))
+    (ap (import_of (imports_of (tree_of p m))) back.2 ∙ free))

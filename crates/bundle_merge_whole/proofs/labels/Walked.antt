@@ -70,8 +70,8 @@ pub declared-here : (s : Spot) (x : Item) (rest : List Item) (d : Declared) →
     exports_default x ≡ false → declared_at BySymbol Es s x rest ≡ Some d → IsNameHere s x d
 declared-here s (h.Ident field x ctxt r.Binding) rest d none e =
     let o : Occurrence =
-        record
-        { place = s.place; sym = x; ctxt = ctxt; role = r.Binding; path = in_field field s.path } in
+    record
+    { place = s.place; sym = x; ctxt = ctxt; role = r.Binding; path = in_field field s.path } in
     let its = way-some s.place (plain x) (scopes_around Es o.path) (way_of o.path) d e in
     let name : d.name.sym ≡ x = ap (λ (n : Name). n.sym) its.1 in
     record {
@@ -137,8 +137,8 @@ name-later s x rest d its =
           later-there (taken s.place x) (taken_from (suc s.place) rest)
           (taken d.place (h.Ident its.field d.name.sym its.ctxt r.Binding))
           (subst
-              (λ n. Contains (taken_from n rest)
-              (taken d.place (h.Ident its.field d.name.sym its.ctxt r.Binding))) next its.stands);
+          (λ n. Contains (taken_from n rest)
+          (taken d.place (h.Ident its.field d.name.sym its.ctxt r.Binding))) next its.stands);
       named = its.named;
     }
 
@@ -149,8 +149,8 @@ pub declared-in : (items : List Item) → HasNoDefault items → (s : Spot) (tai
 declared-in [] over s tail d c = inr c
 declared-in (x ∷ items) (next plain_one more) s tail d c =
     elim
-        (put-cases (declared_at BySymbol Es s x (items ++ tail))
-        (declared_from BySymbol Es (past s x) (items ++ tail)) d c) [
+    (put-cases (declared_at BySymbol Es s x (items ++ tail))
+    (declared_from BySymbol Es (past s x) (items ++ tail)) d c) [
       | inl e ↦ inl (name-first s x items d (declared-here s x (items ++ tail) d plain_one e))
       | inr later ↦ elim (declared-in items more (past s x) tail d later) [
         | inl its ↦ inl (name-later s x items d its)

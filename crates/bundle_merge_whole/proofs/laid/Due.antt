@@ -38,8 +38,8 @@ module _ (p : Program) (form : Form) (d : Decided) (its : AreDecided p form d) w
       IsModuleDecided p d m × IsReached p m
   block-decides block c m e =
       let listed =
-          (blocks-in (SharesBlock p) (shares-flip p) (shares-join p) d.list d.list
-          (map members d.blocks) its.blocks m (block-has d.blocks block c m e)).2 in
+      (blocks-in (SharesBlock p) (shares-flip p) (shares-join p) d.list d.list
+      (map members d.blocks) its.blocks m (block-has d.blocks block c m e)).2 in
       (its.modules m listed, (list-reached p d.list its.list m).0 listed)
 
   -- the causes of a block
@@ -54,8 +54,8 @@ module _ (p : Program) (form : Form) (d : Decided) (its : AreDecided p form d) w
     where
       by : (t : Bool) →
           Contains
-              (if t then arranged (block_plan d block.modules) order else block_plan d
-              block.modules) c →
+          (if t then arranged (block_plan d block.modules) order else block_plan d
+          block.modules) c →
           Contains (block_plan d block.modules) c
       by true k =
           let back = some_back (slice_get (block_plan d block.modules)) order c k in
@@ -69,22 +69,21 @@ module _ (p : Program) (form : Form) (d : Decided) (its : AreDecided p form d) w
   blocks-due (block ∷ blocks) [] all c k = absurd (no_element k)
   blocks-due (block ∷ blocks) (order ∷ orders) all c k =
       elim (Contains-append_cases (placed_plan d block order) (blocks_plan d blocks orders) c k) [
-    | inl one ↦ block-due block (all block (here block blocks)) c (placed-in block order c one)
-    | inr rest ↦ blocks-due blocks orders (λ b there. all b (later block blocks b there)) c rest
-  ]
+        | inl one ↦ block-due block (all block (here block blocks)) c (placed-in block order c one)
+        | inr rest ↦ blocks-due blocks orders (λ b there. all b (later block blocks b there)) c rest
+      ]
 
   -- each cause of the plan is due
   pub plan-due : (orders : List (List ℕ)) (c : Cause) → Contains (plan_of d orders) c →
       IsDue p form c
   plan-due orders c k =
-      elim (Contains-append_cases (front_plan d) (blocks_plan d d.blocks orders ++ back_plan d) c k)
-      [
-    | inl one ↦ (Chosen-in (front-chosen p form d its) c one).1
-    | inr rest ↦ elim (Contains-append_cases (blocks_plan d d.blocks orders) (back_plan d) c rest) [
-      | inl one ↦ blocks-due d.blocks orders (λ b there. there) c one
-      | inr last ↦ (Chosen-in (back-chosen p form d its) c last).1
-    ]
-  ]
+      elim (Contains-append_cases (front_plan d) (blocks_plan d d.blocks orders ++ back_plan d) c k) [
+        | inl one ↦ (Chosen-in (front-chosen p form d its) c one).1
+        | inr rest ↦ elim (Contains-append_cases (blocks_plan d d.blocks orders) (back_plan d) c rest) [
+          | inl one ↦ blocks-due d.blocks orders (λ b there. there) c one
+          | inr last ↦ (Chosen-in (back-chosen p form d its) c last).1
+        ]
+      ]
 
 -- ---- what is made
 module _ (p : Program) (hooks : Hooks) (list : List ℕ) (context : Contexts)
@@ -100,13 +99,13 @@ module _ (p : Program) (hooks : Hooks) (list : List ℕ) (context : Contexts)
           placed
       by true e =
           subst
-              (AllZip (IsMade p hooks list context answers)
-              (arranged (block_plan d block.modules) order)) (sym (its.sorted e))
+          (AllZip (IsMade p hooks list context answers)
+          (arranged (block_plan d block.modules) order)) (sym (its.sorted e))
           (zip-picked (IsMade p hooks list context answers) (block_plan d block.modules) its.before
-              its.each order)
+          its.each order)
       by false e =
           subst (AllZip (IsMade p hooks list context answers) (block_plan d block.modules))
-              (sym (its.unsorted e)) its.each
+          (sym (its.unsorted e)) its.each
 
   pub blocks-made : {blocks : List DecidedBlock} {orders : List (List ℕ)}
       {middle : List (List Item)} →
@@ -115,7 +114,7 @@ module _ (p : Program) (hooks : Hooks) (list : List ℕ) (context : Contexts)
   blocks-made none = tt
   blocks-made (more {block} {blocks} {order} {orders} {placed} {rest} its others) =
       zip-join (IsMade p hooks list context answers) (placed_plan d block order)
-          (blocks_plan d blocks orders) placed rest
+      (blocks_plan d blocks orders) placed rest
       (block-made block order placed its) (blocks-made others)
 
   -- the items are made for the causes of the plan, in turn
@@ -125,7 +124,7 @@ module _ (p : Program) (hooks : Hooks) (list : List ℕ) (context : Contexts)
   items-made orders items made =
       subst (AllZip (IsMade p hooks list context answers) (plan_of d orders)) (sym made.is)
       (zip-join (IsMade p hooks list context answers) (front_plan d)
-          (blocks_plan d d.blocks orders ++ back_plan d) made.front (made.middle ++ made.back)
-          made.in_front
+      (blocks_plan d d.blocks orders ++ back_plan d) made.front (made.middle ++ made.back)
+      made.in_front
       (zip-join (IsMade p hooks list context answers) (blocks_plan d d.blocks orders) (back_plan d)
-          made.middle made.back (blocks-made made.in_blocks) made.behind))
+      made.middle made.back (blocks-made made.in_blocks) made.behind))

@@ -43,8 +43,8 @@ pub are-laid : (p : Program) (hooks : Hooks) (list : List ℕ) (context : Contex
     AreLaid p hooks list context answers (plan_of d orders) items
 are-laid p hooks list context answers d orders items made decided apart alone =
     let makes =
-        λ (cause : Cause) (item : List Item) (due : IsDue p AsModule cause)
-            (m : IsMade p hooks list context answers cause item).
+    λ (cause : Cause) (item : List Item) (due : IsDue p AsModule cause)
+    (m : IsMade p hooks list context answers cause item).
     ready-item p hooks list context answers apart cause item due (alone cause item due m) in
     let zip = items-made p hooks list context answers d orders items made in
     record {

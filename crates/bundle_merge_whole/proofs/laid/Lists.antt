@@ -29,7 +29,7 @@ zip-picked {A = A} {B = B} R xs ys all (n ∷ order) =
     by : (o : Option A) (u : Option B) → slice_get xs n ≡ o → slice_get ys n ≡ u →
         AllZip R (filter_map (slice_get xs) order) (filter_map (slice_get ys) order) →
         AllZip R (cons_option o (filter_map (slice_get xs) order))
-            (cons_option u (filter_map (slice_get ys) order))
+        (cons_option u (filter_map (slice_get ys) order))
     by None None e f ih = ih
     by (Some x) (Some y) e f ih = (zip-at R xs ys all n x y e f, ih)
     by None (Some y) e f ih =
@@ -67,7 +67,7 @@ all-to P Q (x ∷ xs) all each = (each x all.0, all-to P Q xs all.1 each)
 -- what is picked by places that are there, is read by them
 pub picked-reads : {A : Type 0} (xs : List A) (order : List ℕ) →
     ((n : ℕ) → Contains order n → n < length xs) →
-        AllZip (ReadBy xs) order (filter_map (slice_get xs) order)
+    AllZip (ReadBy xs) order (filter_map (slice_get xs) order)
 picked-reads xs [] within = tt
 picked-reads {A = A} xs (n ∷ order) within =
     by (slice_get xs n) refl (picked-reads xs order (λ k c. within k (later n order k c)))

@@ -67,8 +67,8 @@ module _ (p : Program) (hooks : Hooks) (list : List ℕ) (context : Contexts)
   befores-long none = refl
   befores-long (more {block} {blocks} {order} {orders} {placed} {rest} its others) =
       let own =
-          zip-length (IsMade p hooks list context answers) (block_plan d block.modules) its.before
-          its.each in
+      zip-length (IsMade p hooks list context answers) (block_plan d block.modules) its.before
+      its.each in
       let ih = befores-long others in
       let one = length-append its.before (befores others) in
       let two = length-append (block_plan d block.modules) (merged_blocks d blocks) in
@@ -85,7 +85,7 @@ module _ (p : Program) (hooks : Hooks) (list : List ℕ) (context : Contexts)
     -- the numbers of a block's items lead to them, in their order
     block-read : (before after : List (List Item)) (block : DecidedBlock) (order : List ℕ)
         (placed : List (List Item))
-            (its : IsBlockMade p hooks list context answers d block order placed) →
+        (its : IsBlockMade p hooks list context answers d block order placed) →
         AllOf IsReadyItem its.before → merged ≡ before ++ (its.before ++ after) →
         AllZip (ReadBy merged) (block_order d (length before) block order) placed
     block-read before after block order placed its ready is = by block.is_sorted refl
@@ -98,9 +98,9 @@ module _ (p : Program) (hooks : Hooks) (list : List ℕ) (context : Contexts)
         within : block.is_sorted ≡ true → (n : ℕ) → Contains order n → n < length its.before
         within e n c =
             let counts =
-                group-length its.before
-                (all-to IsReadyItem IsSingle its.before ready (λ item one. one.single))
-                (map owner_of (block_plan d block.modules)) in
+            group-length its.before
+            (all-to IsReadyItem IsSingle its.before ready (λ item one. one.single))
+            (map owner_of (block_plan d block.modules)) in
             subst (λ k. n < k) counts (((its.good e).order_of.all n).1 c)
 
         by : (t : Bool) → block.is_sorted ≡ t →
@@ -110,18 +110,18 @@ module _ (p : Program) (hooks : Hooks) (list : List ℕ) (context : Contexts)
         by true e =
             subst (AllZip (ReadBy merged) (map (λ n. length before + n) order)) (sym (its.sorted e))
             (read-moved merged (length before) its.before order
-                (filter_map (slice_get its.before) order)
+            (filter_map (slice_get its.before) order)
             (part-at merged before its.before after is) (picked-reads its.before order (within e)))
         by false e =
             subst (λ k. AllZip (ReadBy merged) (numbers_from (length before) k) placed) (sym own)
             (subst (AllZip (ReadBy merged) (numbers_from (length before) (length its.before)))
-                (sym (its.unsorted e))
+            (sym (its.unsorted e))
             (read-part merged (length before) its.before
-                (part-at merged before its.before after is)))
+            (part-at merged before its.before after is)))
 
     blocks-read : {blocks : List DecidedBlock} {orders : List (List ℕ)} {middle : List (List Item)}
         (made : AreBlocksMade p hooks list context answers d blocks orders middle) →
-            AreReady blocks →
+        AreReady blocks →
         (before after : List (List Item)) → merged ≡ before ++ (befores made ++ after) →
         AllZip (ReadBy merged) (blocks_order d (length before) blocks orders) middle
     unfolding befores
@@ -130,18 +130,18 @@ module _ (p : Program) (hooks : Hooks) (list : List ℕ) (context : Contexts)
         after is =
         let mine = ready block (here block blocks) its.before its.each in
         let apart =
-            is
-            ∙ ap (λ (l : List (List Item)). before ++ l)
-            (append_assoc its.before (befores others) after) in
+        is
+        ∙ ap (λ (l : List (List Item)). before ++ l)
+        (append_assoc its.before (befores others) after) in
         let own =
-            zip-length (IsMade p hooks list context answers) (block_plan d block.modules) its.before
-            its.each in
+        zip-length (IsMade p hooks list context answers) (block_plan d block.modules) its.before
+        its.each in
         let further : length (before ++ its.before) ≡ length before + length
-            (block_plan d block.modules) =
+        (block_plan d block.modules) =
         (let both = length-append before its.before in omega (arith, both, own)) in
         read-join merged (block_order d (length before) block order)
         (blocks_order d (length before + length (block_plan d block.modules)) blocks orders) placed
-            rest
+        rest
         (block-read before (befores others ++ after) block order placed its mine apart)
         (subst (λ n. AllZip (ReadBy merged) (blocks_order d n blocks orders) rest) further
         (blocks-read others (λ b c. ready b (later block blocks b c)) (before ++ its.before) after
@@ -151,7 +151,7 @@ module _ (p : Program) (hooks : Hooks) (list : List ℕ) (context : Contexts)
     module _ (items : List (List Item)) (all_ready : AllOf IsReadyItem items) where
       block-sorted : (before after : List (List Item)) (block : DecidedBlock) (order : List ℕ)
           (placed : List (List Item))
-              (its : IsBlockMade p hooks list context answers d block order placed) →
+          (its : IsBlockMade p hooks list context answers d block order placed) →
           AllOf IsReadyItem its.before → merged ≡ before ++ (its.before ++ after) →
           block.is_sorted ≡ true →
           IsBlockGood ByContext (joined items) Top (top_items (joined items)) merged (length before)
@@ -168,7 +168,7 @@ module _ (p : Program) (hooks : Hooks) (list : List ℕ) (context : Contexts)
           (all-to IsReadyItem IsWhole its.before ready (λ item one. one.whole))
           (all-to IsReadyItem IsNamed its.before ready (λ item one. one.named))
           (all-to IsReadyItem (BindsOwn its.before items) its.before ready
-              (λ item one. binds-ready its.before items item one))
+          (λ item one. binds-ready its.before items item one))
           (all-to IsReadyItem IsSingle items all_ready (λ item one. one.single))
           (all-to IsReadyItem IsWhole items all_ready (λ item one. one.whole))
           (all-to IsReadyItem IsNamed items all_ready (λ item one. one.named))
@@ -183,31 +183,31 @@ module _ (p : Program) (hooks : Hooks) (list : List ℕ) (context : Contexts)
       blocks-sorted : {blocks : List DecidedBlock} {orders : List (List ℕ)}
           {middle : List (List Item)}
           (made : AreBlocksMade p hooks list context answers d blocks orders middle) →
-              AreReady blocks →
+          AreReady blocks →
           (before after : List (List Item)) → merged ≡ before ++ (befores made ++ after) →
           AreBlocksGood ByContext (joined items) Top (top_items (joined items)) merged d
-              (length before) blocks orders
+          (length before) blocks orders
       unfolding befores
       blocks-sorted none ready before after is = tt
       blocks-sorted (more {block} {blocks} {order} {orders} {placed} {rest} its others) ready before
           after is =
           let mine = ready block (here block blocks) its.before its.each in
           let apart =
-              is
-              ∙ ap (λ (l : List (List Item)). before ++ l)
-              (append_assoc its.before (befores others) after) in
+          is
+          ∙ ap (λ (l : List (List Item)). before ++ l)
+          (append_assoc its.before (befores others) after) in
           let own =
-              zip-length (IsMade p hooks list context answers) (block_plan d block.modules)
-              its.before its.each in
+          zip-length (IsMade p hooks list context answers) (block_plan d block.modules)
+          its.before its.each in
           let further : length (before ++ its.before) ≡ length before + length
-              (block_plan d block.modules) =
+          (block_plan d block.modules) =
           (let both = length-append before its.before in omega (arith, both, own)) in (
             block-sorted before (befores others ++ after) block order placed its mine apart,
             subst
                 (λ n. AreBlocksGood ByContext (joined items) Top (top_items (joined items)) merged d
                 n blocks orders) further
                 (blocks-sorted others (λ b c. ready b (later block blocks b c))
-                    (before ++ its.before) after
+                (before ++ its.before) after
                 (apart ∙ sym (append_assoc before its.before (befores others ++ after)))),
           )
 
@@ -225,7 +225,7 @@ module _ (p : Program) (hooks : Hooks) (list : List ℕ) (context : Contexts)
   blocks-ready : AreReady p hooks list context answers d d.blocks
   blocks-ready block there before each =
       all-second (IsMade p hooks list context answers) IsReadyItem (block_plan d block.modules)
-          before each
+      before each
       (λ cause item c m. makes cause item (block-due p AsModule d decided block there cause c) m)
 
   pub items-ready : AllOf IsReadyItem items
@@ -255,28 +255,28 @@ module _ (p : Program) (hooks : Hooks) (list : List ℕ) (context : Contexts)
       sym (append_assoc made.front middle made.back)
       ∙ ap (λ (l : List (List Item)). (made.front ++ middle) ++ l) (sym (append-nil made.back)) in
       let last : length (made.front ++ middle) ≡ length (front_plan d) + length
-          (merged_blocks d d.blocks) =
+      (merged_blocks d d.blocks) =
       (let both = length-append made.front middle in let fl =
-          front-long in omega (arith, both, long, fl)) in
+      front-long in omega (arith, both, long, fl)) in
       subst (AllZip (ReadBy whole) (whole_order d orders)) (sym made.is)
       (read-join whole (numbers_from zero (length (front_plan d)))
       (blocks_order d (length (front_plan d)) d.blocks orders ++ numbers_from
-          (length (front_plan d) + length (merged_blocks d d.blocks)) (length (back_plan d)))
+      (length (front_plan d) + length (merged_blocks d d.blocks)) (length (back_plan d)))
       made.front (made.middle ++ made.back)
       (subst (λ k. AllZip (ReadBy whole) (numbers_from zero k) made.front) (sym front-long)
       (read-part whole zero made.front (part-at whole [] made.front (middle ++ made.back) refl)))
       (read-join whole (blocks_order d (length (front_plan d)) d.blocks orders)
-          (numbers_from (length (front_plan d) + length (merged_blocks d d.blocks))
-          (length (back_plan d))) made.middle made.back
+      (numbers_from (length (front_plan d) + length (merged_blocks d d.blocks))
+      (length (back_plan d))) made.middle made.back
       (subst (λ k. AllZip (ReadBy whole) (blocks_order d k d.blocks orders) made.middle)
-          (sym front-long)
+      (sym front-long)
       (blocks-read p hooks list context answers d whole made.in_blocks blocks-ready made.front
-          made.back refl))
+      made.back refl))
       (subst (λ k. AllZip (ReadBy whole) (numbers_from k (length (back_plan d))) made.back) last
       (subst (λ k. AllZip (ReadBy whole) (numbers_from (length (made.front ++ middle)) k) made.back)
-          (sym back-long)
+      (sym back-long)
       (read-part whole (length (made.front ++ middle)) made.back
-          (part-at whole (made.front ++ middle) made.back [] split))))))
+      (part-at whole (made.front ++ middle) made.back [] split))))))
 
   -- the items are laid out, whatever their bindings stand for
   pub items-laid : (labels : Labelling) →
@@ -290,17 +290,17 @@ module _ (p : Program) (hooks : Hooks) (list : List ℕ) (context : Contexts)
       ap length tops
       ∙ (length-tops 1 items
       ∙ sym
-          (zip-length (IsMade p hooks list context answers) (plan_of d orders) items
-          (items-made p hooks list context answers d orders items made))) in
+      (zip-length (IsMade p hooks list context answers) (plan_of d orders) items
+      (items-made p hooks list context answers d orders items made))) in
       laid-out p AsModule ByContext (joined items) pairing d orders decided same refl
       (ordered-from ByContext (joined items) pairing merged_items d orders
       (subst (AllZip (IsItem merged_items) (whole_order d orders)) (sym tops)
-          (tops-read merged_items (whole_order d orders) items 1 items-read))
+      (tops-read merged_items (whole_order d orders) items 1 items-read))
       (subst
-          (λ k. AreBlocksGood ByContext (joined items) Top (top_items (joined items)) merged_items d
-          k d.blocks orders) (sym front-long)
+      (λ k. AreBlocksGood ByContext (joined items) Top (top_items (joined items)) merged_items d
+      k d.blocks orders) (sym front-long)
       (blocks-sorted p hooks list context answers d merged_items items items-ready made.in_blocks
-          blocks-ready made.front made.back refl)))
+      blocks-ready made.front made.back refl)))
 
   -- the plan has what is due, and nothing else, each once
   pub items-due : (cause : Cause) → Contains (plan_of d orders) cause ↔ IsDue p AsModule cause

@@ -62,7 +62,7 @@ label-above p list context answers apart due (a.own statement e at there declare
     apart.own _ (a.top_of (due-own p due refl))
 label-above p list context answers apart {cause = cause} {l = l} due (a.adds its) =
     subst (λ n. 1 < n) (sym (added-context p list context its))
-        (apart.own (NameOf l) (a.added cause due its))
+    (apart.own (NameOf l) (a.added cause due its))
 
 item-ways : (item : List Item) → IsFit AnItem 0 item → HasWays (tree_of_items item)
 item-ways item fit =

@@ -45,7 +45,8 @@ module _ (name : ℕ → ℕ) where
       record {
         old = was.0.1;
         there =
-            subst (λ e. Contains labels (e, was.0.1)) (ap (λ (pair : Denoted × Label). pair.0) was.2)
+            subst (λ e. Contains labels (e, was.0.1))
+            (ap (λ (pair : Denoted × Label). pair.0) was.2)
             was.1;
         is = ap (λ (pair : Denoted × Label). pair.1) was.2;
       }
@@ -126,7 +127,8 @@ module _ (name : ℕ → ℕ) where
       IsOfForm item (noted_by name noted)
   form-by {item = item} (whole_form {told = told} marked) =
       whole_form (is-marked-by name item told marked)
-  form-by (function_form {c = c} {insides = insides} {tolds = tolds} meta load helper its exports marked) =
+  form-by (function_form {c = c} {insides = insides} {tolds = tolds} meta load helper its exports
+      marked) =
       function_form {c = name c} meta load helper its exports
       (all-marked-by name insides tolds marked)
 
@@ -233,9 +235,9 @@ module _ (p q : Program) (R : ℕ → ℕ → Type 0) (name back : ℕ → ℕ)
         let noted : List Noted = map (noted_by name) still.noted in
         let bundle = noted-bundle-by still.items still.noted still.bundle in
         let one = one-to-one-by still.labels reached still.one in
-        let agrees = 
-        items-agree name (view_of reading still.items) still.labels first_spot still.items still.noted
-        still.agrees in
+        let agrees =
+        items-agree name (view_of reading still.items) still.labels first_spot still.items
+        still.noted still.agrees in
         record {
           items = still.items;
           noted = noted;

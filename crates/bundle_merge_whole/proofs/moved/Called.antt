@@ -91,7 +91,8 @@ module _ (p q : Program) (R : ℕ → ℕ → Type 0) (name back : ℕ → ℕ)
       ∙ ap (label_by back) was.is) was.there
 
   means-back : (inner : List Denoted) (elements : List Element) (marks : List Mark) →
-      Means (sense_of c) inner elements marks → Means (sense_of b) inner elements (marks_by back marks)
+      Means (sense_of c) inner elements marks →
+      Means (sense_of b) inner elements (marks_by back marks)
   means-back inner elements marks means =
       let view : View = record { tree = tree; kind = Es; reading = reading } in
       means-by back view (λ place by. ⊥) (λ place by. ⊥) (λ d l. Contains others (d, l))
@@ -154,7 +155,8 @@ module _ (p q : Program) (R : ℕ → ℕ → Type 0) (name back : ℕ → ℕ)
         let was = stood (Own m k) item stands in
         subst
         (λ (its_tree : List Item). item_symbols b item
-        ≡ map spelled (inner_symbols (record { tree = its_tree; kind = Es; reading = BySymbol }) 0 statement))
+        ≡ map spelled
+        (inner_symbols (record { tree = its_tree; kind = Es; reading = BySymbol }) 0 statement))
         (w.tree (back m) m was.named)
         (called.own (back m) k item statement was.stands
         (subst (λ (its_tree : List Item). slice_get (own_statements its_tree) k ≡ Some statement)

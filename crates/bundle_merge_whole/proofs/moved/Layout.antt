@@ -37,7 +37,7 @@ map-twice : {A B C : Type 0} (f : A → B) (g : B → C) (xs : List A) →
 map-twice f g [] = refl
 map-twice f g (x ∷ xs) = ap (λ more. g (f x) ∷ more) (map-twice f g xs)
 
-head-same : (x y : ℕ) (xs ys : List ℕ) → x ∷ xs ≡ y ∷ ys → x ≡ y
+pub head-same : (x y : ℕ) (xs ys : List ℕ) → x ∷ xs ≡ y ∷ ys → x ≡ y
 head-same x y xs ys e = same_Some x y (ap (λ (l : List ℕ). slice_get l zero) e)
 
 -- what is chosen of a list, where each element becomes another of which the same holds
@@ -383,7 +383,8 @@ module _ (p q : Program) (R : ℕ → ℕ → Type 0) (name back : ℕ → ℕ)
     placed-by numbered (n ∷ order) (cause ∷ causes) all =
         (at-mapped to numbered n cause all.0, placed-by numbered order causes all.1)
 
-    asks-by : (members : List ℕ) → ((m : ℕ) → members ≡ m ∷ [] → Requests p m m) → AllHave Has members →
+    asks-by : (members : List ℕ) → ((m : ℕ) → members ≡ m ∷ [] → Requests p m m) →
+        AllHave Has members →
         (m : ℕ) → map name members ≡ m ∷ [] → Requests q m m
     asks-by [] asks all m e = absurd (short e)
       where
@@ -411,9 +412,11 @@ module _ (p q : Program) (R : ℕ → ℕ → Type 0) (name back : ℕ → ℕ)
         (causes-cons (HoldsNamespace m) [] r (λ cause there. absurd (no_element there))))
         (map-append to (module_causes p m) (HoldsNamespace m ∷ [])
         ∙ ap (λ (xs : List Cause). xs ++ HoldsNamespace (name m) ∷ []) (module-by m r)) its_plan)
-    laid-block {members = members} {causes = causes} all (cycle numbered tops order asks numbers stand good its_plan) =
+    laid-block {members = members} {causes = causes} all (cycle numbered tops order asks numbers
+        stand good its_plan) =
         let named : AllCauses numbered =
-        λ cause there. due-named p q R name back its (let both = Chosen-in numbers cause there in both.1) in
+        λ cause there.
+        (let both = Chosen-in numbers cause there in due-named p q R name back its both.1) in
         cycle (map to numbered) tops order (asks-by members asks all)
         (chosen-due form (block_causes p members) (block_causes q (map name members)) numbered
         (block-all members all) (block-by members all) numbers)

@@ -83,7 +83,8 @@ pub made-by : (p : Program) (hooks : Hooks) (list : List ℕ) (context : Context
     (labels : Labelling) →
     (laid : IsLaidOut p AsModule ByContext (joined items) (pairing_of labels items plan)) →
     IsOwed local p hooks plan (joined items)
-made-by p hooks list context answers plan items sound apart alone due once local locals labels laid =
+made-by p hooks list context answers plan items sound apart alone due once local locals labels
+    laid =
     owed-by p hooks list context answers plan items
     (record { sound = sound; apart = apart; alone = alone; due = due; once = once })
     (one-entries p list sound context) (notes-of p hooks list context answers plan items alone)

@@ -91,7 +91,9 @@ module _ (name : ℕ → ℕ) where
       ≡ shorthand_marks field x (meant_by name meant) default (marks_by name marks)
   shorthand-map field x meant [] marks = refl
   shorthand-map field x meant (first ∷ more) marks =
-      ap (λ l. Begins field h.KeyValuePatProp ∷ (word_key x ++ (Begins 1 h.AssignPat ∷ (pattern_marks 0 (meant_by name meant) ++ l))))
+      ap
+      (λ l. Begins field h.KeyValuePatProp
+      ∷ (word_key x ++ (Begins 1 h.AssignPat ∷ (pattern_marks 0 (meant_by name meant) ++ l))))
       (map-append (mark_with (meant_by name)) marks (Ends ∷ Ends ∷ []))
 
   kept-map : (field : ℕ) (head : Head) (first : ℕ) (marks more : List Mark) →
@@ -109,7 +111,8 @@ module _ (name : ℕ → ℕ) where
       {marks : List Mark} → Marked None around notes items marks rest →
       Marked None around (notes_by notes) items (marks_by name marks) (notes_by rest)
   marked-by n.Nothing = n.Nothing
-  marked-by {around = around} {notes = notes} {rest = rest} (n.Joined {first = first} {second = second} {marks = marks} {more = more} one two) =
+  marked-by {around = around} {notes = notes} {rest = rest}
+      (n.Joined {first = first} {second = second} {marks = marks} {more = more} one two) =
       subst (λ l. Marked None around (notes_by notes) (first ++ second) l (notes_by rest))
       (sym (map-append (mark_with (meant_by name)) marks more))
       (n.Joined (marked-by one) (marked-by two))
@@ -120,15 +123,19 @@ module _ (name : ℕ → ℕ) where
       (λ l. Marked None around (note_by note ∷ notes_by rest) (h.Ident field x ctxt role ∷ []) l
       (notes_by rest))
       (sym (there-map around field x note.meant)) (n.Name around field x ctxt role is)
-  marked-by {around = around} {notes = notes} {rest = rest} {items = items} (n.Inside field head {inside = inside} {marks = marks} is its) =
+  marked-by {around = around} {notes = notes} {rest = rest} {items = items}
+      (n.Inside field head {inside = inside} {marks = marks} is its) =
       subst (λ l. Marked None around (notes_by notes) items l (notes_by rest))
       (sym (node-map field head marks))
       (n.Inside field head (sym (stays-by notes head inside) ∙ is) (marked-by its))
-  marked-by {around = around} {notes = notes} {rest = rest} {items = items} (n.Kept field head first {marks = marks} {more_marks = more} is one two) =
+  marked-by {around = around} {notes = notes} {rest = rest} {items = items}
+      (n.Kept field head first {marks = marks} {more_marks = more} is one two) =
       subst (λ l. Marked None around (notes_by notes) items l (notes_by rest))
       (sym (kept-map field head first marks more))
       (n.Kept field head first is (marked-by one) (marked-by two))
-  marked-by {around = around} {rest = rest} {items = items} (n.Shorthand {note = note} {notes = notes} field x ctxt role {default = default} {marks = marks} is its) =
+  marked-by {around = around} {rest = rest} {items = items}
+      (n.Shorthand {note = note} {notes = notes} field x ctxt role {default = default}
+      {marks = marks} is its) =
       subst (λ l. Marked None around (note_by note ∷ notes_by notes) items l (notes_by rest))
       (sym (shorthand-map field x note.meant default marks))
       (n.Shorthand field x ctxt role is (marked-by its))

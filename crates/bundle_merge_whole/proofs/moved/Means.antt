@@ -40,7 +40,9 @@ module _ {N M : Type 0} (f : N → M) where
       with_them (begin_marks tree place field around h.AssignPatProp)
       ≡ begin_marks tree place field around h.AssignPatProp
   shorthand-map tree place field around =
-      ap (λ more. Begins field h.KeyValuePatProp ∷ (word_key (symbol_of (slice_get tree (place + 2))) ++ more))
+      ap
+      (λ more. Begins field h.KeyValuePatProp
+      ∷ (word_key (symbol_of (slice_get tree (place + 2))) ++ more))
       (if-map (has_default tree place) (Begins 1 h.AssignPat ∷ []) [] (Begins 1 h.AssignPat ∷ [])
       [] refl refl)
 
@@ -125,7 +127,8 @@ module _ (name : ℕ → ℕ) (view : View) (replaced its_replaced : ℕ → Rep
       (end-map (meant_by name) view.tree (path_at view.tree place))
       (m.ended (means-by inner more))
   means-by inner (m.empty more) = m.empty (means-by inner more)
-  means-by inner (m.named {place = place} {field = field} {sym = x} {marks = marks} d meant is its more) =
+  means-by inner (m.named {place = place} {field = field} {sym = x} {marks = marks} d meant is its
+      more) =
       put inner _ (name_marks field (path_at view.tree place) x meant) _ marks
       (name-map (meant_by name) field (path_at view.tree place) x meant)
       (m.named d (meant_by name meant) is (name-by inner its) (means-by inner more))

@@ -43,7 +43,8 @@ right-by p hooks plan merged its = record {
 }
 
 module _ (p q : Program) (R : ℕ → ℕ → Type 0) (name back : ℕ → ℕ)
-    (its : AreRenamed p q R name back) (hooks : Hooks) (plan : List Cause) (merged : List Item) where
+    (its : AreRenamed p q R name back) (hooks : Hooks) (plan : List Cause)
+    (merged : List Item) where
   -- a bundle of the one is a bundle of the other
   unfoldable pub whole-by : (whole : IsWholeBundle p hooks plan merged) →
       AreLabelsReached p whole.ready.still.labels →
@@ -83,7 +84,7 @@ module _ (p q : Program) (R : ℕ → ℕ → Type 0) (name back : ℕ → ℕ)
       }
 
 -- places in a list, and what stands there
-places-renamed : (p q : Program) (list : List ℕ) → AreMoved p q list →
+pub places-renamed : (p q : Program) (list : List ℕ) → AreMoved p q list →
     AreRenamed q p (λ k m. IsAt list m k) (id_at list) (λ m. index_of m list)
 places-renamed p q list its = record {
   alike = flip its.alike;

@@ -25,7 +25,7 @@ use Rattle.bundle_merge_whole.proofs.moved.Owed.{EachModule, IsLabelReached, Are
 use Rattle.bundle_merge_whole.proofs.together.Tables.{EntryKind, of_label, of_own, entry-from, entry-kind}
 
 module _ (p : Program) where
-  asked-reached : (m c : ℕ) → IsReached p m → AsksCommonJs p m c → IsReached p c
+  pub asked-reached : (m c : ℕ) → IsReached p m → AsksCommonJs p m c → IsReached p c
   asked-reached m c reached asks =
       Reaches-trans reached
       (along (declared_leads p m c asks.specifier asks.asks asks.resolved) itself)

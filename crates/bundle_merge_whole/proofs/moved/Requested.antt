@@ -93,7 +93,9 @@ module _ (p q : Program) (R : ℕ → ℕ → Type 0) (w : IsAlike p q R) where
   requested-zip m k r =
       zip-numbers (filter_map (resolves p m) (requests_in p.settings (tree_of p m)))
       (filter_map (resolves q k) (requests_in q.settings (tree_of q k)))
-      (subst (λ texts. AllZip R (filter_map (resolves p m) (requests_in p.settings (tree_of p m))) (filter_map (resolves q k) texts)) (same_asked p q R w m k r)
+      (subst
+      (λ texts. AllZip R (filter_map (resolves p m) (requests_in p.settings (tree_of p m)))
+      (filter_map (resolves q k) texts)) (same_asked p q R w m k r)
       (zip-led m k r (requests_in p.settings (tree_of p m)) (λ s c. c)))
 
 -- Walks, lists and blocks.
@@ -163,12 +165,14 @@ module _ (p q : Program) (R : ℕ → ℕ → Type 0) (name back : ℕ → ℕ)
 
   pub requested-by : (m : ℕ) → Has m → requested q (name m) ≡ map name (requested p m)
   requested-by m r =
-      let both = zip-map (requested p m) (requested q (name m)) (requested-zip p q R w m (name m) r) in
+      let both =
+      zip-map (requested p m) (requested q (name m)) (requested-zip p q R w m (name m) r) in
       both.0
 
   pub requested-named : (m : ℕ) → Has m → AllHave Has (requested p m)
   requested-named m r =
-      let both = zip-map (requested p m) (requested q (name m)) (requested-zip p q R w m (name m) r) in
+      let both =
+      zip-map (requested p m) (requested q (name m)) (requested-zip p q R w m (name m) r) in
       both.1
 
   pub name-one : (m n : ℕ) → Has m → Has n → name m ≡ name n → m ≡ n
@@ -177,7 +181,8 @@ module _ (p q : Program) (R : ℕ → ℕ → Type 0) (name back : ℕ → ℕ)
 
   pub requests-by : (m n : ℕ) → Has m → Requests p m n → Requests q (name m) (name n)
   requests-by m n r there =
-      subst (λ l. Contains l (name n)) (sym (requested-by m r)) (map_on name (requested p m) n there)
+      subst (λ l. Contains l (name n)) (sym (requested-by m r))
+      (map_on name (requested p m) n there)
 
   pub requests-back : (m n : ℕ) → Has m → Has n → Requests q (name m) (name n) → Requests p m n
   requests-back m n r s there =
@@ -210,16 +215,17 @@ module _ (p q : Program) (R : ℕ → ℕ → Type 0) (name back : ℕ → ℕ)
       let first =
       lists-by inner (have-cons Has n begun r a) b (requested-named n r) in
       let second =
-      lists-by outer a (have-join Has before (n ∷ []) first.1 (have-cons Has n [] r (have-none Has)))
+      lists-by outer a
+      (have-join Has before (n ∷ []) first.1 (have-cons Has n [] r (have-none Has)))
       (have-tail Has n todo c) in (
         listed
             (λ there.
-                let was =
-                map_back name (begun ++ done) (name n)
-                (subst (λ l. Contains l (name n)) (sym (map-append name begun done)) there) in
-                not
-                (subst (Contains (begun ++ done))
-                (name-one was.0 n (have-join Has begun done a b was.0 was.1) r was.2) was.1))
+            let was =
+            map_back name (begun ++ done) (name n)
+            (subst (λ l. Contains l (name n)) (sym (map-append name begun done)) there) in
+            not
+            (subst (Contains (begun ++ done))
+            (name-one was.0 n (have-join Has begun done a b was.0 was.1) r was.2) was.1))
             (subst
             (λ l. Lists (requested q) (name n ∷ map name begun) (map name done) l (map name before))
             (sym (requested-by n r)) first.0)
@@ -285,10 +291,10 @@ module _ (p q : Program) (R : ℕ → ℕ → Type 0) (name back : ℕ → ℕ)
       let r = rest x (here x more) in
       ends (shares-by p q R name back its x x r r shares)
       (λ y there other.
-          let was = map_back name more y there in
-          let s = rest was.0 (later x more was.0 was.1) in
-          none was.0 was.1
-          (shares-back x was.0 r s (subst (SharesBlock q (name x)) (sym was.2) other)))
+      let was = map_back name more y there in
+      let s = rest was.0 (later x more was.0 was.1) in
+      none was.0 was.1
+      (shares-back x was.0 r s (subst (SharesBlock q (name x)) (sym was.2) other)))
       (members-by x r list block all members)
       (blocks-of-by list all more blocks (have-tail Named x more rest) others)
   blocks-of-by list all (x ∷ more) blocks rest (goes_on either others) =

@@ -88,7 +88,8 @@ module _ (p q : Program) (R : ℕ → ℕ → Type 0) (name back : ℕ → ℕ)
   meant-both l same = (
     meant-by R name its.names p q w l,
     λ means. subst (IsMeant p) same
-        (meant-by (λ a b. R b a) back (λ a b r. its.backs b a r) q p (flip w) (label_by name l) means),
+        (meant-by (λ a b. R b a) back (λ a b r. its.backs b a r) q p (flip w) (label_by name l)
+        means),
   )
 
   names-by : {P Q : Text → Type 0} {names : List Text} → ((x : Text) → P x ↔ Q x) →
@@ -184,9 +185,9 @@ module _ (p q : Program) (R : ℕ → ℕ → Type 0) (name back : ℕ → ℕ)
   stand-by hooks form c.helps r = c.helps
   stand-by hooks form (c.loads {m = m} {c = d} whole names are both) r =
       let same : (what : _) →
-          label_by back (label_by name (Of (CommonJs m d what))) ≡ Of (CommonJs m d what) =
-          λ what. ap₂ (λ a b. Of (CommonJs a b what)) (its.backs m (name m) r.0)
-              (its.backs d (name d) r.1) in
+      label_by back (label_by name (Of (CommonJs m d what))) ≡ Of (CommonJs m d what) =
+      λ what. ap₂ (λ a b. Of (CommonJs a b what)) (its.backs m (name m) r.0)
+      (its.backs d (name d) r.1) in
       let also = meant-both (Of (CommonJs m d Whole)) (same Whole) in
       subst (λ marks. MarksStandFor q hooks form marks (Loads (name m) (name d)))
       (sym (load-map name m d whole names))
@@ -245,7 +246,8 @@ module _ (p q : Program) (R : ℕ → ℕ → Type 0) (name back : ℕ → ℕ)
       IsNotedFor q hooks form item (noted_by name noted) (cause_by name cause)
   noted-for-by hooks form {item = item} (as_whole {told = told} marked stand) r =
       as_whole (is-marked-by name item told marked) (stand-by hooks form stand r)
-  noted-for-by hooks form (as_function {c = m} {front = front} {names = names} {insides = insides} {tolds = tolds} nodes is plain all) r =
+  noted-for-by hooks form (as_function {c = m} {front = front} {names = names} {insides = insides}
+      {tolds = tolds} nodes is plain all) r =
       as_function nodes is (front-by name m front names plain) (state-by m insides tolds r all)
 
   pub all-noted-by : (hooks : Hooks) (form : Form) (items : List (List Item))

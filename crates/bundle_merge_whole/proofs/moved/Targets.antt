@@ -48,7 +48,8 @@ module _ (p q : Program) (R : ℕ → ℕ → Type 0) (w : IsAlike p q R) where
         (subst (λ (tree : List Item). Contains (top_names tree) x) (w.tree c d r) there)
         (binds_on p q R w c d x None r none),
   )
-  stands-on {c = c} {x = x} {t = t} (l.imported {y = y} {d = e} entry bound taken leads linked) d r =
+  stands-on {c = c} {x = x} {t = t} (l.imported {y = y} {d = e} entry bound taken leads linked)
+      d r =
       let its =
       module_on p q R w c d e entry.specifier r (bound_asks (tree_of p c) x entry bound) leads in
       let on = linked_on p q R w e its.0 y t its.1 linked in (

@@ -62,20 +62,17 @@ pub record IsAlongside (ds : List Declared) (g : Numbering) (low high last : ℕ
   pub default_is : default.1 ≡ g 1 default.0
 
 -- whether a name declares
-
--- a name that binds
-record Declares (o : Occurrence) (w : Way) : Type 0 where
-  is : declaration_of BySymbol Es o ≡ Some (declaration_by_way Es o w)
-
 pub declares-it : (o : Occurrence) (w : Way) → is_binding o.role ≡ true → way_of o.path ≡ Some w →
     declaration_of BySymbol Es o ≡ Some (declaration_by_way Es o w)
 declares-it o w binds is =
-    ap (λ b. cond b (declared_by o.place (plain o.sym) (scopes_around Es o.path) (way_of o.path)) None) binds
+    ap (λ b. cond b (declared_by o.place (plain o.sym) (scopes_around Es o.path) (way_of o.path))
+    None) binds
     ∙ ap (declared_by o.place (plain o.sym) (scopes_around Es o.path)) is
 
 pub refers-none : (o : Occurrence) → is_binding o.role ≡ false → declaration_of BySymbol Es o ≡ None
 refers-none o refers =
-    ap (λ b. cond b (declared_by o.place (plain o.sym) (scopes_around Es o.path) (way_of o.path)) None) refers
+    ap (λ b. cond b (declared_by o.place (plain o.sym) (scopes_around Es o.path) (way_of o.path))
+    None) refers
 
 -- scopes alike
 alike-inner : (R : ℕ → ℕ → Type 0) {s t : Scope} → ScopesAlike R s t → (kind : ScopeKind) (a : ℕ) →
@@ -188,21 +185,27 @@ module _ (ds : List Declared) (g : Numbering) (low high last : ℕ) (its : Pairs
           AllZip (DeclaredAlike R) (declared_names os) (declared_names us) →
           AllZip (DeclaredAlike R) (declared_names (o ∷ os)) (declared_names (u ∷ us))
       by false role behind =
-          subst (λ d. AllZip (DeclaredAlike R) (cons_option d (declared_names os)) (declared_names (u ∷ us)))
+          subst (λ d. AllZip (DeclaredAlike R) (cons_option d (declared_names os))
+          (declared_names (u ∷ us)))
           (sym (refers-none o role))
-          (subst (λ e. AllZip (DeclaredAlike R) (declared_names os) (cons_option e (declared_names us)))
+          (subst (λ e. AllZip (DeclaredAlike R) (declared_names os)
+          (cons_option e (declared_names us)))
           (sym (refers-none u (ap is_binding it.role ∙ role))) behind)
       by true role behind =
           let way = ways.0 role in
-          subst (λ d. AllZip (DeclaredAlike R) (cons_option d (declared_names os)) (declared_names (u ∷ us)))
+          subst (λ d. AllZip (DeclaredAlike R) (cons_option d (declared_names os))
+          (declared_names (u ∷ us)))
           (sym (declares-it o way.0 role way.1))
-          (subst (λ e. AllZip (DeclaredAlike R) (declaration_by_way Es o way.0 ∷ declared_names os) (cons_option e (declared_names us)))
-          (sym (declares-it u way.0 (ap is_binding it.role ∙ role) (it.way way.0 role way.1)))
-          (record {
-            name = ap plain (ap (λ (i : Ident). i.0) (it.ident ∙ keeps.0 role));
-            by = refl;
-            scopes = it.scopes;
-          }, behind))
+          (subst (λ e. AllZip (DeclaredAlike R) (declaration_by_way Es o way.0 ∷ declared_names os)
+          (cons_option e (declared_names us)))
+          (sym (declares-it u way.0 (ap is_binding it.role ∙ role) (it.way way.0 role way.1))) (
+            record {
+              name = ap plain (ap (λ (i : Ident). i.0) (it.ident ∙ keeps.0 role));
+              by = refl;
+              scopes = it.scopes;
+            },
+            behind,
+          ))
 
   pub zipped : AllZip (DeclaredAlike R) dz ez
   zipped = declared-zip along.all along.ways along.keeps
@@ -225,7 +228,8 @@ module _ (ds : List Declared) (g : Numbering) (low high last : ℕ) (its : Pairs
     only = λ i d at. by d (along.only i d at);
     within = λ i d at.
         let it = picked (declaration_of BySymbol Es) os i d at in
-        subst (AllOf (IsIn low high)) (sym (declared-scopes it.1 d it.3)) (along.within it.0 it.1 it.2);
+        subst (AllOf (IsIn low high)) (sym (declared-scopes it.1 d it.3))
+        (along.within it.0 it.1 it.2);
   }
     where
       by : (d : Declared) → IsDeclaredAway low high d
@@ -253,13 +257,15 @@ module _ (ds : List Declared) (g : Numbering) (low high last : ℕ) (its : Pairs
       by (no_front none) i u there is = absurd (none-some u there)
       by (one_front {u = v} has it) zero u there is =
           subst (λ (e : Declared). IsDeclaredAway 1 last e)
-          (same_Some _ d (sym (front-declares v it) ∙ ap (declaration_of BySymbol Es) (same_Some v u there) ∙ is))
+          (same_Some _ d (sym (front-declares v it) ∙ ap (declaration_of BySymbol Es)
+          (same_Some v u there) ∙ is))
           (subst (AllOf (IsAway 1 last)) (sym it.scopes) (tt, tt))
       by (one_front has it) (suc i) u there is = absurd (none-some u there)
 
   made-within : {os rest : List Occurrence} {steps : List Step} → AllMade R meta os steps rest →
       AllOf (IsOccurrenceIn low high) os →
-      AllOf (λ u. (d : Declared) → declaration_of BySymbol Es u ≡ Some d → IsDeclaredIn 1 last d) rest
+      AllOf (λ u. (d : Declared) → declaration_of BySymbol Es u ≡ Some d → IsDeclaredIn 1 last d)
+      rest
   made-within done within = tt
   made-within (made {o = o} {u = u} it more) within = (
     λ d is.
@@ -291,11 +297,14 @@ module _ (ds : List Declared) (g : Numbering) (low high last : ℕ) (its : Pairs
         let it = get-right (declared_names front) ez i d at in
         (it.0, ap (λ l. slice_get l it.0) es-are ∙ it.1);
     only = λ i d at.
-        by i d (get-append (declared_names front) ez i d (ap (λ l. slice_get l i) (sym es-are) ∙ at));
+        by i d (get-append (declared_names front) ez i d
+        (ap (λ l. slice_get l i) (sym es-are) ∙ at));
     within = λ i d at.
         let it = picked (declaration_of BySymbol Es) rest i d at in
-        each-all (λ u. (d : Declared) → declaration_of BySymbol Es u ≡ Some d → IsDeclaredIn 1 last d) rest
-        (made-within along.all (all-each (IsOccurrenceIn low high) os along.within)) it.0 it.1 it.2 d it.3;
+        each-all (λ u. (d : Declared) → declaration_of BySymbol Es u ≡ Some d → IsDeclaredIn 1 last
+        d) rest
+        (made-within along.all (all-each (IsOccurrenceIn low high) os along.within)) it.0 it.1 it.2
+        d it.3;
   }
     where
       by : (i : ℕ) (d : Declared) →
@@ -307,32 +316,38 @@ module _ (ds : List Declared) (g : Numbering) (low high last : ℕ) (its : Pairs
   -- HOMES
   pub home-made : (o u : Occurrence) (step : Step) (w : Way) → MadeOf R o u step →
       u.sym ≡ o.sym → IsOccurrenceIn low high o →
-      ScopesAlike R (home_of ds (declaration_by_way Es o w)) (home_of es (declaration_by_way Es u w))
+      ScopesAlike R (home_of ds (declaration_by_way Es o w))
+      (home_of es (declaration_by_way Es u w))
   home-made o u step w it same within =
       let d : Declared = declaration_by_way Es o w in
       let e : Declared = declaration_by_way Es u w in
       subst (λ s. ScopesAlike R s (home_of es e)) (sym (pad-home low high ds dz pad-there d within))
       (subst (λ t. ScopesAlike R (home_of dz d) t)
-      (sym (pad-home 1 last es ez pad-here e (alike-within (scopes_around Es o.path) (scopes_around Es u.path) it.scopes within)))
-      (home-alike R one dz ez zipped d e (record { name = ap plain same; by = refl; scopes = it.scopes })))
+      (sym (pad-home 1 last es ez pad-here e
+      (alike-within (scopes_around Es o.path) (scopes_around Es u.path) it.scopes within)))
+      (home-alike R one dz ez zipped d e
+      (record { name = ap plain same; by = refl; scopes = it.scopes })))
 
   -- what a name denotes that declares it
   pub declared-denotes : (all : List Declared) (o : Occurrence) (w : Way) →
       is_binding o.role ≡ true → way_of o.path ≡ Some w →
       denoted_of BySymbol Es all o ≡ Bound (home_of all (declaration_by_way Es o w)) (plain o.sym)
   declared-denotes all o w binds is =
-      ap (own_or_found all (denoted_in BySymbol all (scopes_around Es o.path) (name_of BySymbol o.sym o.ctxt)))
+      ap (own_or_found all (denoted_in BySymbol all (scopes_around Es o.path)
+      (name_of BySymbol o.sym o.ctxt)))
       (declares-it o w binds is)
 
   pub refers-denotes : (all : List Declared) (o : Occurrence) → is_binding o.role ≡ false →
       denoted_of BySymbol Es all o ≡ denoted_by_symbol all (scopes_around Es o.path) (plain o.sym)
   refers-denotes all o refers =
-      ap (own_or_found all (denoted_in BySymbol all (scopes_around Es o.path) (name_of BySymbol o.sym o.ctxt)))
+      ap (own_or_found all (denoted_in BySymbol all (scopes_around Es o.path)
+      (name_of BySymbol o.sym o.ctxt)))
       (refers-none o refers)
 
   -- LIFTED: what is declared, by symbols and contexts
   abbrev lifted-at : Occurrence → Type 0
-  lifted-at u = declaration_of ByContext Es u ≡ option_map (lifted f es) (declaration_of BySymbol Es u)
+  lifted-at u = declaration_of ByContext Es u ≡ option_map (lifted f es)
+      (declaration_of BySymbol Es u)
 
   its-lifted : (u : Occurrence) → u.ctxt ≡ its_context f Es es u → lifted-at u
   its-lifted u is =
@@ -340,7 +355,8 @@ module _ (ds : List Declared) (g : Numbering) (low high last : ℕ) (its : Pairs
 
   lifted-refers : (u : Occurrence) → is_binding u.role ≡ false → lifted-at u
   lifted-refers u refers =
-      ap (λ b. cond b (declared_by u.place (name_of ByContext u.sym u.ctxt) (scopes_around Es u.path) (way_of u.path)) None) refers
+      ap (λ b. cond b (declared_by u.place (name_of ByContext u.sym u.ctxt)
+      (scopes_around Es u.path) (way_of u.path)) None) refers
       ∙ sym (ap (option_map (lifted f es)) (refers-none u refers))
 
   -- what is known of each name of the statement
@@ -372,7 +388,8 @@ module _ (ds : List Declared) (g : Numbering) (low high last : ℕ) (its : Pairs
       ∙ ap (context_of g) (declared-denotes ds o way.0 binds way.1)
       ∙ sym (numbers-alike home o.sym)
       ∙ ap (f (scope_order (home_of es (declaration_by_way Es u way.0)))) (sym same)
-      ∙ sym (ap (context_of f) (declared-denotes es u way.0 (ap is_binding it.role ∙ binds) (it.way way.0 binds way.1)))
+      ∙ sym (ap (context_of f) (declared-denotes es u way.0 (ap is_binding it.role ∙ binds)
+      (it.way way.0 binds way.1)))
 
   lifted-rest : {some its : List Occurrence} {by : List Step} → AllMade R meta some by its →
       AllOf IsKnownName some → AllZip (KeepsBinding g ds) some by → AllOf lifted-at its
@@ -389,7 +406,8 @@ module _ (ds : List Declared) (g : Numbering) (low high last : ℕ) (its : Pairs
   front-home : (all : List Declared) (u : Occurrence) (it : IsFront default u) →
       home_of all (declaration_by_way Es u it.way) ≡ Top
   front-home all u it =
-      subst (λ scopes. home_of all (record { place = u.place; name = plain u.sym; by = it.way; scopes = scopes }) ≡ Top)
+      subst (λ scopes. home_of all (record
+      { place = u.place; name = plain u.sym; by = it.way; scopes = scopes }) ≡ Top)
       (sym it.scopes) (it.home all u.place (plain u.sym))
 
   lifted-front : {its : List Occurrence} → AreFront default given_items its → AllOf lifted-at its
@@ -422,7 +440,8 @@ module _ (ds : List Declared) (g : Numbering) (low high last : ℕ) (its : Pairs
   pub lifts : declared_by_names us ≡ lift_all f es
   lifts =
       told-map (declaration_of BySymbol Es) (declaration_of ByContext Es) (lifted f es) us
-      (all-append lifted-at front rest (lifted-front along.are_front) (lifted-rest along.all known-names along.keeps))
+      (all-append lifted-at front rest (lifted-front along.are_front)
+      (lifted-rest along.all known-names along.keeps))
 
   -- INSIDE: what denotes an inner binding
   pub record InsideMade (o u : Occurrence) (kind : ScopeKind) (a : ℕ) : Type 0 where
@@ -440,7 +459,8 @@ module _ (ds : List Declared) (g : Numbering) (low high last : ℕ) (its : Pairs
       scope_of (Global x) = Top
 
       its_within : AllOf (IsIn 1 last) (scopes_around Es u.path)
-      its_within = alike-within (scopes_around Es o.path) (scopes_around Es u.path) it.scopes known.within
+      its_within = alike-within (scopes_around Es o.path) (scopes_around Es u.path) it.scopes
+          known.within
 
       on : (b : Bool) → is_binding o.role ≡ b → InsideMade o u kind a
       on true binds =
@@ -452,23 +472,33 @@ module _ (ds : List Declared) (g : Numbering) (low high last : ℕ) (its : Pairs
             b = there.0;
             goes = there.1;
             denotes =
-                declared-denotes es u way.0 (ap is_binding it.role ∙ binds) (it.way way.0 binds way.1)
+                declared-denotes es u way.0 (ap is_binding it.role ∙ binds)
+                (it.way way.0 binds way.1)
                 ∙ ap (λ s. Bound s (plain u.sym)) there.2;
           }
       on false refers =
-          let found : find (λ s. binds ds s (plain o.sym)) (scopes_around Es o.path) ≡ Some (Inner kind a) =
-          bound-found (plain o.sym) (find (λ s. binds ds s (plain o.sym)) (scopes_around Es o.path)) (Inner kind a) (plain o.sym)
+          let found : find (λ s. binds ds s (plain o.sym)) (scopes_around Es o.path) ≡ Some
+          (Inner kind a) =
+          bound-found (plain o.sym) (find (λ s. binds ds s (plain o.sym)) (scopes_around Es o.path))
+          (Inner kind a) (plain o.sym)
           (sym (refers-denotes ds o refers) ∙ is) in
-          let here : find (λ s. binds dz s (plain o.sym)) (scopes_around Es o.path) ≡ Some (Inner kind a) =
+          let here : find (λ s. binds dz s (plain o.sym)) (scopes_around Es o.path) ≡ Some
+          (Inner kind a) =
           inner-found low high (λ s. binds ds s (plain o.sym)) (λ s. binds dz s (plain o.sym))
-          (λ k n from to. sym (pad-binds low high ds dz pad-there k n (plain o.sym) from to)) o.path known.within kind a found in
-          let alike = by_symbol-alike R one dz ez zipped (scopes_around Es o.path) (scopes_around Es u.path) it.scopes (plain o.sym) in
+          (λ k n from to. sym (pad-binds low high ds dz pad-there k n (plain o.sym) from to)) o.path
+          known.within kind a found in
+          let alike = by_symbol-alike R one dz ez zipped (scopes_around Es o.path)
+          (scopes_around Es u.path) it.scopes (plain o.sym) in
           let there = alike-bound R alike kind a (plain o.sym) (ap (bound_in (plain o.sym)) here) in
-          let its : find (λ s. binds ez s (plain o.sym)) (scopes_around Es u.path) ≡ Some (Inner kind there.0) =
-          bound-found (plain o.sym) (find (λ s. binds ez s (plain o.sym)) (scopes_around Es u.path)) (Inner kind there.0) (plain o.sym) there.2 in
-          let all : find (λ s. binds es s (plain o.sym)) (scopes_around Es u.path) ≡ Some (Inner kind there.0) =
+          let its : find (λ s. binds ez s (plain o.sym)) (scopes_around Es u.path) ≡ Some
+          (Inner kind there.0) =
+          bound-found (plain o.sym) (find (λ s. binds ez s (plain o.sym)) (scopes_around Es u.path))
+          (Inner kind there.0) (plain o.sym) there.2 in
+          let all : find (λ s. binds es s (plain o.sym)) (scopes_around Es u.path) ≡ Some
+          (Inner kind there.0) =
           inner-found 1 last (λ s. binds ez s (plain o.sym)) (λ s. binds es s (plain o.sym))
-          (λ k n from to. pad-binds 1 last es ez pad-here k n (plain o.sym) from to) u.path its_within kind there.0 its in
+          (λ k n from to. pad-binds 1 last es ez pad-here k n (plain o.sym) from to) u.path
+          its_within kind there.0 its in
           record {
             b = there.0;
             goes = there.1;
@@ -495,34 +525,42 @@ module _ (ds : List Declared) (g : Numbering) (low high last : ℕ) (its : Pairs
   home-from o u step known it keeps d is = on (is_binding o.role) refl
     where
       on : (b : Bool) → is_binding o.role ≡ b → HomeMade d
-      on false refers = absurd (none-some d (sym (refers-none u (ap is_binding it.role ∙ refers)) ∙ is))
+      on false refers = absurd (none-some d
+          (sym (refers-none u (ap is_binding it.role ∙ refers)) ∙ is))
       on true binds =
           let way = known.way binds in
           let same : u.sym ≡ o.sym = ap (λ (i : Ident). i.0) (it.ident ∙ keeps binds) in
           let d_is : declaration_by_way Es u way.0 ≡ d =
-          same_Some _ d (sym (declares-it u way.0 (ap is_binding it.role ∙ binds) (it.way way.0 binds way.1)) ∙ is) in
+          same_Some _ d (sym (declares-it u way.0 (ap is_binding it.role ∙ binds)
+          (it.way way.0 binds way.1)) ∙ is) in
           subst HomeMade d_is
           (by way.0 (declared-denotes ds o way.0 binds way.1) same
           (home-made o u step way.0 it same known.within) refl refl
           (home-in (IsIn low high) tt ds (declaration_by_way Es o way.0) known.within))
         where
           by : (w : Way) →
-              denoted_of BySymbol Es ds o ≡ Bound (home_of ds (declaration_by_way Es o w)) (plain o.sym) →
+              denoted_of BySymbol Es ds o ≡ Bound (home_of ds (declaration_by_way Es o w))
+              (plain o.sym) →
               u.sym ≡ o.sym → {s t : Scope} → ScopesAlike R s t →
-              home_of ds (declaration_by_way Es o w) ≡ s → home_of es (declaration_by_way Es u w) ≡ t →
+              home_of ds (declaration_by_way Es o w) ≡ s → home_of es (declaration_by_way Es u w) ≡
+              t →
               IsIn low high (home_of ds (declaration_by_way Es o w)) →
               HomeMade (declaration_by_way Es u w)
           by w denotes same tops s_is t_is within = home_top t_is
           by w denotes same wrappers s_is t_is within = absurd (subst (IsIn low high) s_is within)
           by w denotes same (inners r) s_is t_is within =
-              home_inner known.at o known.there r (denotes ∙ ap (λ s. Bound s (plain o.sym)) s_is) same t_is
+              home_inner known.at o known.there r (denotes ∙ ap (λ s. Bound s (plain o.sym)) s_is)
+              same t_is
 
   homes-rest : {some its : List Occurrence} {by : List Step} → AllMade R meta some by its →
       AllOf IsKnownName some → AllZip (KeepsBinding g ds) some by →
       AllOf (λ u. (d : Declared) → declaration_of BySymbol Es u ≡ Some d → HomeMade d) its
   homes-rest done known keeps = tt
-  homes-rest (added {u = u} refers is more) known keeps =
-      (λ d its. absurd (none-some d (sym (refers-none u refers) ∙ its)), homes-rest more known keeps)
+  homes-rest (added {u = u} refers is more) known keeps = (
+    λ d its. absurd (none-some d (sym (refers-none u refers) ∙ its)),
+    homes-rest more known
+        keeps,
+  )
   homes-rest (made {o = o} {u = u} {step = step} it more) known keeps =
       (home-from o u step known.0 it keeps.0, homes-rest more known.1 keeps.1)
 
@@ -530,7 +568,8 @@ module _ (ds : List Declared) (g : Numbering) (low high last : ℕ) (its : Pairs
       AllOf (λ u. (d : Declared) → declaration_of BySymbol Es u ≡ Some d → HomeMade d) its
   homes-front (no_front none) = tt
   homes-front (one_front {u = u} has it) = (
-    λ d is. subst HomeMade (same_Some _ d (sym (front-declares u it) ∙ is)) (home_top (front-home es u it)),
+    λ d is. subst HomeMade (same_Some _ d (sym (front-declares u it) ∙ is))
+        (home_top (front-home es u it)),
     tt,
   )
 
@@ -538,5 +577,7 @@ module _ (ds : List Declared) (g : Numbering) (low high last : ℕ) (its : Pairs
   es-homes i d at =
       let it = picked (declaration_of BySymbol Es) us i d at in
       each-all (λ u. (d : Declared) → declaration_of BySymbol Es u ≡ Some d → HomeMade d) us
-      (all-append (λ u. (d : Declared) → declaration_of BySymbol Es u ≡ Some d → HomeMade d) front rest
-      (homes-front along.are_front) (homes-rest along.all known-names along.keeps)) it.0 it.1 it.2 d it.3
+      (all-append (λ u. (d : Declared) → declaration_of BySymbol Es u ≡ Some d → HomeMade d) front
+      rest
+      (homes-front along.are_front) (homes-rest along.all known-names along.keeps)) it.0 it.1 it.2 d
+      it.3

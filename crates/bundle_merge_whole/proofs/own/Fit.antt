@@ -214,7 +214,8 @@ key_fit : (x : Text) (b : Bool) →
     (if b then h.Open 0 h.ComputedPropName ∷ h.Open 0 (h.Str x None) ∷ h.Close ∷ h.Close
     ∷ [] else plain_key x)
 key_fit x true =
-    f.node {inside = h.Open 0 (h.Str x None) ∷ h.Close ∷ []} refl (last (f.node {inside = []} refl no_more))
+    f.node {inside = h.Open 0 (h.Str x None) ∷ h.Close ∷ []} refl
+    (last (f.node {inside = []} refl no_more))
 key_fit x false = f.node {inside = []} refl no_more
 
 word_fit : (x : Text) → IsFit AKey 0 (plain_key x)
@@ -252,8 +253,12 @@ name_fit InObject change field x ctxt role list sort seated there it = by_test (
         (if b then node field h.KeyValueProp (key_in_object x ++ renamed change 1 x ctxt role ∷ [])
         else renamed change field x ctxt role ∷ [])
     by_test true =
-        subst (λ (its : Sort). IsFit its field (node field h.KeyValueProp (key_in_object x ++ renamed change 1 x ctxt role ∷ []))) (sym is.0)
-        (subst (λ (its : Role). IsFit AProperty field (node field h.KeyValueProp (key_in_object x ++ renamed change 1 x ctxt its ∷ []))) (sym is.1)
+        subst (λ (its : Sort). IsFit its field
+        (node field h.KeyValueProp (key_in_object x ++ renamed change 1 x ctxt role ∷ [])))
+        (sym is.0)
+        (subst (λ (its : Role). IsFit AProperty field
+        (node field h.KeyValueProp (key_in_object x ++ renamed change 1 x ctxt its ∷ [])))
+        (sym is.1)
         (spelled_fit change field x ctxt))
     by_test false = renamed_fit change field x ctxt role sort it
 
@@ -265,7 +270,8 @@ binding_fit : (change : Option Change) (field : ℕ) (x : Text) (ctxt : ℕ) (ro
     IsFit sort field (binding change field x ctxt role)
 binding_fit change field x ctxt role names sort it are name =
     f.node it
-    (subst (λ (its : Role). AreFit (slot 0 One (AnIdent its) ∷ []) (renamed change 0 x ctxt role ∷ [])) (sym are)
+    (subst (λ (its : Role). AreFit (slot 0 One (AnIdent its) ∷ [])
+    (renamed change 0 x ctxt role ∷ [])) (sym are)
     (last (renamed_fit change 0 x ctxt role (AnIdent names) name)))
 
 default_needed : {first : Item} {default : List Item} →
@@ -301,10 +307,12 @@ short_fit change field x ctxt role names default name fit = by_test (spells_out 
   where
     by_test : (b : Bool) →
         IsFit (APatternProperty names) field
-        (if b then node field h.KeyValuePatProp (plain_key x ++ pattern_in_its_place change x ctxt role default)
+        (if b then node field h.KeyValuePatProp
+        (plain_key x ++ pattern_in_its_place change x ctxt role default)
         else node field h.AssignPatProp (binding change 0 x ctxt role ++ default))
     by_test true =
-        f.node refl (one (word_fit x) (last (pattern_fit change x ctxt role names default name fit)))
+        f.node refl (one (word_fit x) (last
+        (pattern_fit change x ctxt role names default name fit)))
     by_test false =
         f.node refl
         (one (binding_fit change 0 x ctxt role names (ABindingIdent names) refl refl name) fit)
@@ -331,7 +339,8 @@ short_parts : (names : Role) (x : Text) (ctxt : ℕ) (role : Role) (default : Li
     items ≡ binding None 0 x ctxt role ++ default → ShortParts names role default
 short_parts names x ctxt role default (over e fit) is = absurd (true≢false e)
 short_parts names x ctxt role default (a_name it fit) is = absurd cc
-short_parts names x ctxt role default (a_node {head = hd} {inside = ins} {rest = behind} it in_it fit) is =
+short_parts names x ctxt role default
+    (a_node {head = hd} {inside = ins} {rest = behind} it in_it fit) is =
     let both =
     same_nodes (fit_nodes in_it) (n.name n.nothing) behind default (tail_same is) in
     record {
@@ -363,21 +372,22 @@ all_of : {list : List Slot} {around : Around} {inside made : List Item} →
 all_of {list = list} {made = made} w =
     subst (AreFit list) (append-nil made) (w.again [] w.fits)
 
-both_walked : {around : Around} {list : List Slot} {first made_first second made_second more : List Item}
+both_walked : {around : Around} {list : List Slot}
+    {first made_first second made_second more : List Item}
     (one : Walked around list first made_first (second ++ more)) →
     Walked around one.left second made_second more →
     Walked around list (first ++ second) (made_first ++ made_second) more
 both_walked {list = list} {first = first} {made_first = made_first} {second = second}
     {made_second = made_second} {more = more} one two = record {
-  left = two.left;
-  fits = two.fits;
-  again =
-      λ rest fits_it.
-      subst (AreFit list) (sym (append_assoc made_first made_second rest))
-      (one.again (made_second ++ rest) (two.again rest fits_it));
-  seated = two.seated;
-  may = by one.may two.may;
-}
+      left = two.left;
+      fits = two.fits;
+      again =
+          λ rest fits_it.
+          subst (AreFit list) (sym (append_assoc made_first made_second rest))
+          (one.again (made_second ++ rest) (two.again rest fits_it));
+      seated = two.seated;
+      may = by one.may two.may;
+    }
   where
     by : ((first ≡ []) × (one.left ≡ list)) ⊎ (are_fine one.left ≡ true) →
         ((second ≡ []) × (two.left ≡ one.left)) ⊎ (are_fine two.left ≡ true) →
@@ -397,7 +407,8 @@ second_walked : {around : Around} {list : List Slot} {made_first made_second ite
     Walked around left ys made_second more) → Walked around a.left ys made_second more
 second_walked xs ys more excused ok a e first (inl same) go =
     go a.left a.fits excused (ap (may_do excused) same.1 ∙ ok)
-    (λ is. ap begins_with_member (ap (λ l. l ++ (ys ++ more)) (sym same.0) ∙ sym (append_assoc xs ys more) ∙ sym e) ∙ first is)
+    (λ is. ap begins_with_member (ap (λ l. l ++ (ys ++ more)) (sym same.0) ∙ sym
+    (append_assoc xs ys more) ∙ sym e) ∙ first is)
     a.seated
 second_walked xs ys more excused ok a e first (inr fine) go =
     go a.left a.fits false (fine_do false a.left fine) (λ is. absurd (false≢true is)) a.seated
@@ -415,7 +426,8 @@ walk b.Nothing {list = list} fit more e excused ok first seated = record {
   seated = seated;
   may = inl (refl, refl);
 }
-walk {around = around} (b.Joined {first = xs} {second = ys} one two) {list = list} fit more e excused ok
+walk {around = around} (b.Joined {first = xs} {second = ys} one two) {list = list} fit more e
+    excused ok
     first seated =
     let a =
     walk one fit (ys ++ more) (e ∙ append_assoc xs ys more) excused ok first seated in
@@ -456,7 +468,8 @@ walk {around = around} (b.Declaration {work = work} field kind notes {inside = i
     one) {list = list} fit more e excused ok first seated =
     let it =
     node_front fit excused ok field (h.VarDecl kind notes) inside more (becomes_nodes one)
-    (e ∙ ap (λ l. h.Open field (h.VarDecl kind notes) ∷ l) (append_assoc inside (h.Close ∷ []) more))
+    (e ∙ ap (λ l. h.Open field (h.VarDecl kind notes) ∷ l)
+    (append_assoc inside (h.Close ∷ []) more))
     in
     let within =
     walk one it.in_it [] (sym (append-nil inside)) false
@@ -483,11 +496,13 @@ walk {around = around} (b.Kept field head number {inside = inside} {made = made}
     let behind =
     walk two object.front.fits [] (sym (append-nil others)) false
     (fine_do false object.front.left object.front.behind) (λ is. absurd (false≢true is)) tt in
-    other_node around excused list field head head all (node number h.MemberExpr made ++ made_others)
+    other_node around excused list field head head all
+    (node number h.MemberExpr made ++ made_others)
     more seated it it.takes_it
     (object.front.again (node number h.MemberExpr made) (f.node object.takes_it (all_of within))
     made_others (all_of behind))
-walk {around = around} (b.Shorthand {work = work} field x ctxt role {default = default} {made = made}
+walk {around = around} (b.Shorthand {work = work} field x ctxt role {default = default}
+    {made = made}
     occurs one) {list = list} fit more e excused ok first seated =
     let all : List Item = binding None 0 x ctxt role ++ default in
     let it =
@@ -503,7 +518,8 @@ walk {around = around} (b.Shorthand {work = work} field x ctxt role {default = d
     (sym (pattern_property it.sort it.takes_it))
     (short_fit (next work x) field x ctxt role (names_in it.sort) made its.name_fits
     (all_of within)))
-walk {around = around} (b.OfReads {work = work} field name inside found) {list = list} fit more e excused ok
+walk {around = around} (b.OfReads {work = work} field name inside found) {list = list} fit more e
+    excused ok
     first seated =
     let its = reads_found (upcoming work) inside name found in
     let shape = reads_inside field its.count inside its.reads in
@@ -517,7 +533,8 @@ walk {around = around} (b.OfReads {work = work} field name inside found) {list =
     by : (sort : Sort) → (is_fine sort ≡ true) ⊎ (excused ≡ true) → is_fine sort ≡ true
     by sort (inl fine) = fine
     by sort (inr is) = absurd (false≢true (sym (first is) ∙ ap begins_with_member e))
-walk {around = around} (b.OfCall {work = work} field name inside found) {list = list} fit more e excused ok
+walk {around = around} (b.OfCall {work = work} field name inside found) {list = list} fit more e
+    excused ok
     first seated =
     let its = call_found (upcoming work) inside name found in
     let it =
@@ -526,7 +543,8 @@ walk {around = around} (b.OfCall {work = work} field name inside found) {list = 
     (e ∙ ap (λ l. h.Open field h.CallExpr ∷ l) (append_assoc inside (h.Close ∷ []) more)) in
     other_node around excused list field h.CallExpr h.CallExpr inside (reference 0 name) more seated
     it it.takes_it (one (f.name refl) (over refl no_more))
-walk {around = around} (b.OfMeta {work = work} field kind name found) {list = list} fit more e excused ok
+walk {around = around} (b.OfMeta {work = work} field kind name found) {list = list} fit more e
+    excused ok
     first seated =
     let it =
     node_front fit excused ok field (h.MetaPropExpr kind) [] more n.nothing e in
@@ -550,7 +568,8 @@ one_there : {number : ℕ} {sort : Sort} {list : List Slot} {items : List Item} 
     OneThere number sort list field head inside rest
 one_there (over e fit) field head inside rest nodes is = absurd (true≢false e)
 one_there (a_name it fit) field head inside rest nodes is = absurd cc
-one_there {sort = sort} {list = list} (a_node {head = hd} {inside = ins} {rest = behind} it in_it fit)
+one_there {sort = sort} {list = list}
+    (a_node {head = hd} {inside = ins} {rest = behind} it in_it fit)
     field head inside rest nodes is =
     let both = same_nodes (fit_nodes in_it) nodes behind rest (tail_same is) in
     let heads : hd ≡ head = ap head_of is in
@@ -709,11 +728,13 @@ own_declaration : (head : Head) → is_default_head head ≡ true → {work rest
 own_declaration h.FnExpr is field x ctxt role body one fit =
     f.node refl
     (all_of (walk one (with_its_name AFunction no_function_names field x ctxt role body fit) []
-    (sym (append-nil (h.Ident field x ctxt role ∷ body))) false refl (λ is. absurd (false≢true is)) tt))
+    (sym (append-nil (h.Ident field x ctxt role ∷ body))) false refl (λ is. absurd (false≢true is))
+    tt))
 own_declaration h.ClassExpr is field x ctxt role body one fit =
     f.node refl
     (all_of (walk one (with_its_name AClass no_class_names field x ctxt role body fit) []
-    (sym (append-nil (h.Ident field x ctxt role ∷ body))) false refl (λ is. absurd (false≢true is)) tt))
+    (sym (append-nil (h.Ident field x ctxt role ∷ body))) false refl (λ is. absurd (false≢true is))
+    tt))
 own_declaration _ is field x ctxt role body one fit = absurd (false≢true is)
 
 default_declaration : (head : Head) → is_default_head head ≡ true → {work rest : Work} (field : ℕ)
@@ -743,7 +764,8 @@ decl_stmt (f.node {head = hd} it in_it) =
 pub states_stmt : {work : Work} {default : Ident} {given made : List Item} →
     StatesList work default given made → IsFit AnItem 0 given → IsFit AStmt 0 made
 states_stmt (t.StatementStates field head inside itself one) it =
-    alone_there (walked_one one refl (last (as_stmt it field head (inside ++ h.Close ∷ []) refl itself)))
+    alone_there (walked_one one refl
+    (last (as_stmt it field head (inside ++ h.Close ∷ []) refl itself)))
 states_stmt (t.DeclarationStates field inside one) it =
     let there = one_there (last it) field h.ExportDecl inside [] (becomes_nodes one) refl in
     decl_stmt (alone_there (walked_one one refl there.in_it))
@@ -754,20 +776,24 @@ states_stmt {default = default} (t.ValueStates field first more {value = value} 
     let its = walked_one one refl (moved_fit 0 1 there.in_it) in
     f.node refl
     (a_node refl
-    (Rattle.bundle_scope_renamed.proofs.fit.Rows.one (binding_fit None 0 default.0 default.1 r.Binding r.Binding (APattern r.Binding) refl refl refl)
+    (Rattle.bundle_scope_renamed.proofs.fit.Rows.one
+    (binding_fit None 0 default.0 default.1 r.Binding r.Binding (APattern r.Binding) refl refl refl)
     (value_maybe its)) (over refl no_more))
 states_stmt (t.OwnStates field inner name_field x ctxt role head body is one) it =
     let nodes = becomes_nodes one in
     let there =
-    one_there (last it) field h.ExportDefaultDecl (node inner head (h.Ident name_field x ctxt role ∷ body)) []
+    one_there (last it) field h.ExportDefaultDecl
+    (node inner head (h.Ident name_field x ctxt role ∷ body)) []
     (one_node inner head nodes) refl in
     let its =
     one_there there.in_it inner head (h.Ident name_field x ctxt role ∷ body) [] nodes refl in
     own_declaration head is name_field x ctxt role body one its.in_it
-states_stmt {default = default} (t.DefaultStates field inner first_field head first more is one) it =
+states_stmt {default = default} (t.DefaultStates field inner first_field head first more is one)
+    it =
     let nodes = becomes_nodes one in
     let there =
-    one_there (last it) field h.ExportDefaultDecl (node inner head (h.Open first_field first ∷ more)) []
+    one_there (last it) field h.ExportDefaultDecl
+    (node inner head (h.Open first_field first ∷ more)) []
     (one_node inner head nodes) refl in
     let its =
     one_there there.in_it inner head (h.Open first_field first ∷ more) [] nodes refl in
@@ -793,14 +819,18 @@ states_given_own (t.ValueStates field first more one) it =
     own_node field h.ExportDefaultExpr (first ∷ more) refl (are_own there.in_it refl)
 states_given_own (t.OwnStates field inner name_field x ctxt role head body is one) it =
     let there =
-    one_there (last it) field h.ExportDefaultDecl (node inner head (h.Ident name_field x ctxt role ∷ body)) []
+    one_there (last it) field h.ExportDefaultDecl
+    (node inner head (h.Ident name_field x ctxt role ∷ body)) []
     (one_node inner head (becomes_nodes one)) refl in
-    own_node field h.ExportDefaultDecl (node inner head (h.Ident name_field x ctxt role ∷ body)) refl (are_own there.in_it refl)
+    own_node field h.ExportDefaultDecl (node inner head (h.Ident name_field x ctxt role ∷ body))
+    refl (are_own there.in_it refl)
 states_given_own (t.DefaultStates field inner first_field head first more is one) it =
     let there =
-    one_there (last it) field h.ExportDefaultDecl (node inner head (h.Open first_field first ∷ more)) []
+    one_there (last it) field h.ExportDefaultDecl
+    (node inner head (h.Open first_field first ∷ more)) []
     (one_node inner head (becomes_nodes one)) refl in
-    own_node field h.ExportDefaultDecl (node inner head (h.Open first_field first ∷ more)) refl (are_own there.in_it refl)
+    own_node field h.ExportDefaultDecl (node inner head (h.Open first_field first ∷ more)) refl
+    (are_own there.in_it refl)
 
 -- a statement has no default export without a name (as named-fit of proofs/answered/Numbered)
 nameless_own : (field : ℕ) (head : Head) (more : List Item) → is_module_head head ≡ false →

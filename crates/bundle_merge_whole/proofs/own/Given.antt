@@ -103,7 +103,8 @@ fit_given no_more [] is = no_more
 fit_given no_more (x ∷ items) is = cc
 fit_given (over e fit) items is = over e (fit_given fit items is)
 fit_given (a_name it fit) [] is = cc
-fit_given (a_name {number = n} {count = c} {sort = k} {more = more} {x = x} {ctxt = t} {role = role} {rest = rest} it fit) (y ∷ items) is =
+fit_given (a_name {number = n} {count = c} {sort = k} {more = more} {x = x} {ctxt = t} {role = role}
+    {rest = rest} it fit) (y ∷ items) is =
     let first : cleared_item y ≡ h.Ident n x t role = cc in
     let behind : cleared items ≡ rest = cc in
     let was = was_name y n x t role first in
@@ -116,7 +117,8 @@ fit_given (a_hole {number = n} {sort = k} {more = more} {rest = rest} fit) (y �
     subst (λ z. AreFit (slot n Places k ∷ more) (z ∷ items)) (sym (was_hole y n first))
     (a_hole (fit_given fit items behind))
 fit_given (a_node it in_it fit) [] is = cc
-fit_given (a_node {number = n} {count = c} {sort = k} {more = more} {head = hd} {inside = ins} {rest = rest} it in_it fit) (y ∷ items) is =
+fit_given (a_node {number = n} {count = c} {sort = k} {more = more} {head = hd} {inside = ins}
+    {rest = rest} it in_it fit) (y ∷ items) is =
     let first : cleared_item y ≡ h.Open n hd = cc in
     let behind : cleared items ≡ ins ++ h.Close ∷ rest = cc in
     let was = was_open y n hd first in

@@ -91,7 +91,8 @@ occurrences-here {tree = tree} {s = s} x rest at top begins items =
     ∙ ap (λ l. occurrences_from start at.front ++ l) (occurrences_append s x rest)))
     ∙ (filter_append (is_in top) (occurrences_from start at.front)
     (occurrences_from s x ++ occurrences_from (fold past s x) rest)
-    ∙ ((λ k. front k ++ filter (is_in top) (occurrences_from s x ++ occurrences_from (fold past s x) rest))
+    ∙ ((λ k. front k ++ filter (is_in top)
+    (occurrences_from s x ++ occurrences_from (fold past s x) rest))
     ∙ (filter_append (is_in top) (occurrences_from s x) (occurrences_from (fold past s x) rest)
     ∙ ((λ k. middle k ++ back k) ∙ nothing (occurrences_from s x))))))
   where

@@ -24,7 +24,8 @@ pub number-inside : (context : Contexts) (m n : ℕ) (x : List ℕ) →
     numbers_in context m (n + 2) x ≡ context (InsideOf m n)
 number-inside context m n x =
     ap (λ b. if b then context (TopOf m) else context (InsideOf m (n + 2 - 2)))
-    (false_from_ne_true (nat_lt (n + 2) 2) (λ e. let lt = leb-true (suc (n + 2)) 2 e in omega (arith, lt)))
+    (false_from_ne_true (nat_lt (n + 2) 2)
+    (λ e. let lt = leb-true (suc (n + 2)) 2 e in omega (arith, lt)))
     ∙ (let same : n + 2 - 2 ≡ n = omega arith in ap (λ k. context (InsideOf m k)) same)
 
 -- the holder of a label's context
@@ -32,7 +33,8 @@ pub data HoldsLabel (p : Program) (answers : ℕ → Option (List Item)) (contex
     (l : Label) (c : ℕ) : Type 0 where
   by_module : {m : ℕ} → IsReached p m → (IsCommonJs p m → ⊥) → c ≡ context (TopOf m) →
       HoldsLabel p answers context l c
-  by_name : IsHolder p answers (NameOf l) → c ≡ context (NameOf l) → HoldsLabel p answers context l c
+  by_name : IsHolder p answers (NameOf l) → c ≡ context (NameOf l) → HoldsLabel p answers context l
+      c
 
 added-context : (p : Program) (list : List ℕ) (context : Contexts) {cause : Cause} {l : Label} →
     AddsLabel p cause l → (ident_of_label p list context l).1 ≡ context (NameOf l)
@@ -52,7 +54,8 @@ module _ (p : Program) (list : List ℕ) (context : Contexts) (answers : ℕ →
     where
       by : (cause : Cause) → IsDue p AsModule cause → {l : Label} → DeclaresLabel p cause l →
           HoldsLabel p answers context l (ident_of_label p list context l).1
-      by cause due (a.adds adds) = by_name (a.added cause due adds) (added-context p list context adds)
+      by cause due (a.adds adds) = by_name (a.added cause due adds)
+          (added-context p list context adds)
       by _ (u.own reached es lt) (a.own statement e there has declares) = by_module reached es refl
 
   -- no label of the top has the context of a scope inside a module
@@ -81,7 +84,8 @@ IsOfEs p (Namespace m) = IsCommonJs p m → ⊥
 IsOfEs p (External s its) = Unit {0}
 IsOfEs p (CommonJs m c its) = Unit {0}
 
-takes-es : (p : Program) (m : ℕ) {s : Text} {its : Taken} {t : Target} → Takes p m s its t → IsOfEs p t
+takes-es : (p : Program) (m : ℕ) {s : Text} {its : Taken} {t : Target} → Takes p m s its t → IsOfEs
+    p t
 takes-es p m (of_external is) = tt
 takes-es p m (of_common_js is common) = tt
 takes-es p m (of_module is) = is.es
@@ -112,7 +116,8 @@ words-es p m x words n t means es = reads-es p means.reads (stands-es p m means.
 -- Symbols: no label that is meant is called `arguments`.
 
 not_arguments : (x : Text) → (x ≡ codes "arguments" → ⊥) → is_arguments x ≡ false
-not_arguments x differs = false_from_ne_true (is_arguments x) (λ is. differs (same_symbol x (codes "arguments") is))
+not_arguments x differs = false_from_ne_true (is_arguments x)
+    (λ is. differs (same_symbol x (codes "arguments") is))
 
 pub label-other : (p : Program) (list : List ℕ) (context : Contexts) → AreSound p list →
     (l : Label) → IsMeant p l → ((c : ℕ) (x : Text) → l ≡ Parameter c x → ⊥) →
@@ -124,7 +129,8 @@ label-other p list context sound (Of (Namespace m)) meant own =
 label-other p list context sound (Of (External s its)) meant own =
     not_arguments (symbol_of_target p list (External s its)) (sound.unlike (External s its) meant)
 label-other p list context sound (Of (CommonJs m c its)) meant own =
-    not_arguments (symbol_of_target p list (CommonJs m c its)) (sound.unlike (CommonJs m c its) meant)
+    not_arguments (symbol_of_target p list (CommonJs m c its))
+    (sound.unlike (CommonJs m c its) meant)
 label-other p list context sound (Parameter c x) meant own = absurd (own c x refl)
 label-other p list context sound (Load c) meant own = refl
 label-other p list context sound (Meta m) meant own = refl

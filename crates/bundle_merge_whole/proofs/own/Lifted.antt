@@ -27,9 +27,11 @@ names-plain (o ∷ os) = by (declares_or_not Es o) (names-plain os)
     by : DeclaresOrNot Es o → Each IsBySymbol (declared_names os) →
         Each IsBySymbol (declared_names (o ∷ os))
     by (DoesNot never) rest =
-        subst (λ d. Each IsBySymbol (cons_option d (declared_names os))) (sym (never BySymbol o.ctxt)) rest
+        subst (λ d. Each IsBySymbol (cons_option d (declared_names os)))
+        (sym (never BySymbol o.ctxt)) rest
     by (Does way known is later) rest =
-        subst (λ d. Each IsBySymbol (cons_option d (declared_names os))) (sym is) (λ i d at. on i d at)
+        subst (λ d. Each IsBySymbol (cons_option d (declared_names os))) (sym is)
+        (λ i d at. on i d at)
       where
         on : (i : ℕ) (d : Declared) →
             slice_get (declaration_by_way Es o way ∷ declared_names os) i ≡ Some d → IsBySymbol d
@@ -43,12 +45,15 @@ names-known (o ∷ os) = by (declares_or_not Es o) (names-known os)
     by : DeclaresOrNot Es o → Each (λ d. is_identified d.by ≡ true) (declared_names os) →
         Each (λ d. is_identified d.by ≡ true) (declared_names (o ∷ os))
     by (DoesNot never) rest =
-        subst (λ d. Each (λ d. is_identified d.by ≡ true) (cons_option d (declared_names os))) (sym (never BySymbol o.ctxt)) rest
+        subst (λ d. Each (λ d. is_identified d.by ≡ true) (cons_option d (declared_names os)))
+        (sym (never BySymbol o.ctxt)) rest
     by (Does way known is later) rest =
-        subst (λ d. Each (λ d. is_identified d.by ≡ true) (cons_option d (declared_names os))) (sym is) (λ i d at. on i d at)
+        subst (λ d. Each (λ d. is_identified d.by ≡ true) (cons_option d (declared_names os)))
+        (sym is) (λ i d at. on i d at)
       where
         on : (i : ℕ) (d : Declared) →
-            slice_get (declaration_by_way Es o way ∷ declared_names os) i ≡ Some d → is_identified d.by ≡ true
+            slice_get (declaration_by_way Es o way ∷ declared_names os) i ≡ Some d → is_identified
+            d.by ≡ true
         on zero d at = ap (λ (e : Declared). is_identified e.by) (sym (same_Some _ d at)) ∙ known
         on (suc i) d at = rest i d at
 
@@ -97,7 +102,8 @@ set-itself f all o is = ap (λ c. record o { ctxt = c }) (sym is)
 -- GIVEN: a copy of denoted-given of bundle_scope_names proofs/GivenLemmas, for any list
 pub denotes-given : (f : Numbering) (all : List Declared) → Each IsBySymbol all →
     (o : Occurrence) → o.ctxt ≡ its_context f Es all o →
-    ((d : Declared) → declaration_of BySymbol Es o ≡ Some d → (i : ℕ) × (slice_get all i ≡ Some d)) →
+    ((d : Declared) → declaration_of BySymbol Es o ≡ Some d → (i : ℕ) ×
+    (slice_get all i ≡ Some d)) →
     ((s : Scope) → denoted_of BySymbol Es all o ≡ Bound s (plain o.sym) →
     f (scope_order s) o.sym ≢ 1) →
     ((s t : Scope) → denoted_of BySymbol Es all o ≡ Bound s (plain o.sym) →
@@ -119,7 +125,8 @@ denotes-given f all plainly o number listed own apart =
         let there = listed d is in
         ap
         (own_or_found (lift_all f all)
-        (denoted_in ByContext (lift_all f all) out (name_of ByContext o.sym (its_context f Es all o))))
+        (denoted_in ByContext (lift_all f all) out
+        (name_of ByContext o.sym (its_context f Es all o))))
         (declaration-given f Es all o ∙ ap (option_map (lifted f all)) is)
         ∙ ap (λ home. Bound home (lifted f all d).name) (home-lifted f all d refl)
         ∙ ap
@@ -134,7 +141,8 @@ denotes-given f all plainly o number listed own apart =
         (never BySymbol o.ctxt) in
         ap
         (own_or_found (lift_all f all)
-        (denoted_in ByContext (lift_all f all) out (name_of ByContext o.sym (its_context f Es all o))))
+        (denoted_in ByContext (lift_all f all) out
+        (name_of ByContext o.sym (its_context f Es all o))))
         (never ByContext (its_context f Es all o))
         ∙ ap (λ x. denoted_by_context (lift_all f all) out (with o.sym (context_of f x))) denotes
         ∙ reference-given f all plainly out o.sym (find (λ s. binds all s (plain o.sym)) out) refl

@@ -94,8 +94,11 @@ cleared-beside (node ∷ outer) =
       way =
           λ w there.
           it.way w
-          ((λ i. Rattle.std.proofs.Common.cond (sym (of_head is_pattern (λ meta. (refl, refl, refl, λ kind. refl)) node.head) i) (way_of (cleared_path outer))
-          (sym (of_head (λ it. way_in it (cleared_path outer)) (λ meta. (refl, refl, refl, λ kind. refl)) node.head) i))
+          ((λ i. Rattle.std.proofs.Common.cond
+          (sym (of_head is_pattern (λ meta. (refl, refl, refl, λ kind. refl)) node.head) i)
+          (way_of (cleared_path outer))
+          (sym (of_head (λ it. way_in it (cleared_path outer))
+          (λ meta. (refl, refl, refl, λ kind. refl)) node.head) i))
           ∙ there);
       scopes =
           subst

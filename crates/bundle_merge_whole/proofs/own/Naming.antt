@@ -61,7 +61,8 @@ both_once R each (x ∷ xs) (y ∷ ys) all = (
 module _ (p : Program) (list : List ℕ) (context : Contexts) (m : ℕ) (low high last : ℕ)
     (its : Pairs) (meta : Option Ident) (default : Ident) (given_items : List Item)
     (os : List Occurrence) (steps : List Step) (front rest : List Occurrence)
-    (along : IsAlongside (declared BySymbol Es (tree_of p m)) (numbers_in context m) low high last its meta default given_items os steps front rest)
+    (along : IsAlongside (declared BySymbol Es (tree_of p m)) (numbers_in context m) low high last
+    its meta default given_items os steps front rest)
     (told : AreTold (declared BySymbol Es (tree_of p m)) (numbers_in context m) os)
     (item : List Item) (named : IsNamed item)
     (are : occurrences_from first_spot item ≡ front ++ rest) where
@@ -91,9 +92,11 @@ module _ (p : Program) (list : List ℕ) (context : Contexts) (m : ℕ) (low hig
         Becomes (Bound (Inner kind a) (plain x)) (given f es (Bound (Inner kind b) (plain x)))
 
   pub becomes-one : IsOneToOne Becomes
-  becomes-one _ _ _ _ (becomes {kind = kind} {a = a} {b = b} {x = x} r) (becomes {kind = its_kind} {a = c} {b = d} {x = y} q) =
+  becomes-one _ _ _ _ (becomes {kind = kind} {a = a} {b = b} {x = x} r)
+      (becomes {kind = its_kind} {a = c} {b = d} {x = y} q) =
       iff (same_denoted (Bound (Inner kind a) (plain x)) (Bound (Inner its_kind c) (plain y)))
-      (same_denoted (given f es (Bound (Inner kind b) (plain x))) (given f es (Bound (Inner its_kind d) (plain y))))
+      (same_denoted (given f es (Bound (Inner kind b) (plain x)))
+      (given f es (Bound (Inner its_kind d) (plain y))))
       forward backward
     where
       context_at : ℕ → List ℕ → Option ℕ
@@ -109,29 +112,38 @@ module _ (p : Program) (list : List ℕ) (context : Contexts) (m : ℕ) (low hig
       forward : (((a + 2 == c + 2) && bytes_eq x y) && true) ≡ true →
           (((b + 2 == d + 2) && bytes_eq x y) && same_context (context_at b x) its_context) ≡ true
       forward e =
-          let parts = and_parts (a + 2 == c + 2) (bytes_eq x y) (and_parts ((a + 2 == c + 2) && bytes_eq x y) true e).0 in
+          let parts = and_parts (a + 2 == c + 2) (bytes_eq x y)
+          (and_parts ((a + 2 == c + 2) && bytes_eq x y) true e).0 in
           let places = eqb-true (a + 2) (c + 2) parts.0 in
           let a_is : a ≡ c = omega (arith, places) in
           let b_is : b ≡ d =
-          (one ds g low high last its meta default given_items os steps front rest along).one c b d (subst (λ n. Paired its n b) a_is r) q in
+          (one ds g low high last its meta default given_items os steps front rest along).one c b d
+          (subst (λ n. Paired its n b) a_is r) q in
           let symbols : x ≡ y = (bytes_eq-Decides x y).0 parts.1 in
           and_from ((b + 2 == d + 2) && bytes_eq x y) (same_context (context_at b x) its_context)
-          (and_from (b + 2 == d + 2) (bytes_eq x y) (eq-eqb (b + 2) (d + 2) (ap (λ n. n + 2) b_is)) parts.1)
+          (and_from (b + 2 == d + 2) (bytes_eq x y) (eq-eqb (b + 2) (d + 2) (ap (λ n. n + 2) b_is))
+          parts.1)
           (ap (same_context (context_at b x))
-          (ap (λ t. cond t (Some (f (d + 2) y)) None) (written-same_order es (Inner kind d) (Inner its_kind d) y refl)
+          (ap (λ t. cond t (Some (f (d + 2) y)) None)
+          (written-same_order es (Inner kind d) (Inner its_kind d) y refl)
           ∙ (λ i. context_at (sym b_is i) (sym symbols i)))
           ∙ same_ctxt (context_at b x))
 
-      backward : (((b + 2 == d + 2) && bytes_eq x y) && same_context (context_at b x) its_context) ≡ true →
+      backward : (((b + 2 == d + 2) && bytes_eq x y) && same_context (context_at b x) its_context) ≡
+          true →
           (((a + 2 == c + 2) && bytes_eq x y) && true) ≡ true
       backward e =
-          let parts = and_parts (b + 2 == d + 2) (bytes_eq x y) (and_parts ((b + 2 == d + 2) && bytes_eq x y) (same_context (context_at b x) its_context) e).0 in
+          let parts = and_parts (b + 2 == d + 2) (bytes_eq x y)
+          (and_parts ((b + 2 == d + 2) && bytes_eq x y) (same_context (context_at b x) its_context)
+          e).0 in
           let places = eqb-true (b + 2) (d + 2) parts.0 in
           let b_is : b ≡ d = omega (arith, places) in
           let a_is : a ≡ c =
-          (one ds g low high last its meta default given_items os steps front rest along).other a c d (subst (λ n. Paired its a n) b_is r) q in
+          (one ds g low high last its meta default given_items os steps front rest along).other a c
+          d (subst (λ n. Paired its a n) b_is r) q in
           and_from ((a + 2 == c + 2) && bytes_eq x y) true
-          (and_from (a + 2 == c + 2) (bytes_eq x y) (eq-eqb (a + 2) (c + 2) (ap (λ n. n + 2) a_is)) parts.1) refl
+          (and_from (a + 2 == c + 2) (bytes_eq x y) (eq-eqb (a + 2) (c + 2) (ap (λ n. n + 2) a_is))
+          parts.1) refl
 
   -- what is so of a name of the item
   pub data NameMade (u : Occurrence) : Meant → Type 0 where
@@ -172,17 +184,21 @@ module _ (p : Program) (list : List ℕ) (context : Contexts) (m : ℕ) (low hig
   pub of-label : (j : ℕ) (u : Occurrence) → slice_get (front ++ rest) j ≡ Some u → (l : Label) →
       IsTopName l → ident_of u ≡ ident_of_label p list context l → NameMade u (Known l)
   of-label j u at l top is =
-      let strange : IsStrange ds g os u.ctxt = subst (IsStrange ds g os) (sym (ap (λ (i : Ident). i.1) is)) top.strange in
+      let strange : IsStrange ds g os u.ctxt = subst (IsStrange ds g os)
+      (sym (ap (λ (i : Ident). i.1) is)) top.strange in
       let no_inner =
-      strange-outside ds g low high last its meta default given_items os steps front rest along told item named are u.sym u.ctxt strange in
+      strange-outside ds g low high last its meta default given_items os steps front rest along told
+      item named are u.sym u.ctxt strange in
       made_out strange
-      (outer-own item named u (listed-at j u at) no_inner (inl (ap is_arguments (ap (λ (i : Ident). i.0) is) ∙ top.other)))
+      (outer-own item named u (listed-at j u at) no_inner
+      (inl (ap is_arguments (ap (λ (i : Ident). i.0) is) ∙ top.other)))
       no_inner top.top is
 
   -- what is told of each name of the statement
   pub record IsToldName (o : Occurrence) (step : Step) (note : Note) : Type 0 where
     pub noted : IsNotedStep p list context m Es inner o step note
-    pub known_name : IsKnownName ds g low high last its meta default given_items os steps front rest along o
+    pub known_name : IsKnownName ds g low high last its meta default given_items os steps front rest
+        along o
     pub label : (l : Label) → note.meant ≡ Known l → IsTopName l
 
   -- and what is so of the name that is made of it
@@ -216,7 +232,8 @@ module _ (p : Program) (list : List ℕ) (context : Contexts) (m : ℕ) (low hig
       there o ≡ Global o.sym → u.sym ≡ o.sym → u.sym ≡ codes "arguments" →
       find is_function (scopes_around Es u.path) ≡ None
   free-arguments o u step it denotes symbol is =
-      none-alike (scopes_around Es o.path) (scopes_around Es u.path) it.scopes (by (declares_or_not Es o))
+      none-alike (scopes_around Es o.path) (scopes_around Es u.path) it.scopes
+      (by (declares_or_not Es o))
     where
       none-alike : (ss ts : List Scope) → AllZip (ScopesAlike (Paired its)) ss ts →
           find is_function ss ≡ None → find is_function ts ≡ None
@@ -232,7 +249,8 @@ module _ (p : Program) (list : List ℕ) (context : Contexts) (m : ℕ) (low hig
           alike wrappers = refl
           alike (inners {kind = kind} {a = a} {b = b} r) = kind_same kind
             where
-              kind_same : (kind : ScopeKind) → is_function (Inner kind b) ≡ is_function (Inner kind a)
+              kind_same : (kind : ScopeKind) → is_function (Inner kind b) ≡ is_function
+                  (Inner kind a)
               kind_same Parameters = refl
               kind_same _ = refl
 
@@ -248,17 +266,21 @@ module _ (p : Program) (list : List ℕ) (context : Contexts) (m : ℕ) (low hig
 
       by : DeclaresOrNot Es o → find is_function (scopes_around Es o.path) ≡ None
       by (Does way has_way here later) =
-          absurd (no_bound (sym (ap (own_or_found ds (denoted_in BySymbol ds (scopes_around Es o.path) (name_of BySymbol o.sym o.ctxt))) here) ∙ denotes))
+          absurd (no_bound (sym (ap (own_or_found ds
+          (denoted_in BySymbol ds (scopes_around Es o.path) (name_of BySymbol o.sym o.ctxt))) here)
+          ∙ denotes))
         where
           no_bound : {s : Scope} {name : Name} → Bound s name ≡ Global o.sym → ⊥
           no_bound e = cc
       by (DoesNot never) =
           find-nothing (λ s. binds ds s (plain o.sym)) is_function
           (λ s fun. arguments-bind ds o.sym s
-          (and_from (is_arguments o.sym) (is_function s) ((bytes_eq-Decides o.sym (codes "arguments")).1 (sym symbol ∙ is)) fun))
+          (and_from (is_arguments o.sym) (is_function s)
+          ((bytes_eq-Decides o.sym (codes "arguments")).1 (sym symbol ∙ is)) fun))
           (scopes_around Es o.path)
           (none-found (find (λ s. binds ds s (plain o.sym)) (scopes_around Es o.path))
-          (sym (ap (own_or_found ds (denoted_in BySymbol ds (scopes_around Es o.path) (name_of BySymbol o.sym o.ctxt))) (never BySymbol o.ctxt)) ∙ denotes))
+          (sym (ap (own_or_found ds (denoted_in BySymbol ds (scopes_around Es o.path)
+          (name_of BySymbol o.sym o.ctxt))) (never BySymbol o.ctxt)) ∙ denotes))
 
   pub step-made : (j : ℕ) (o u : Occurrence) (step : Step) (note : Note) →
       slice_get (front ++ rest) j ≡ Some u → MadeOf (Paired its) o u step → IsToldName o step note →
@@ -271,18 +293,23 @@ module _ (p : Program) (list : List ℕ) (context : Contexts) (m : ℕ) (low hig
           let some = inside-some o (there o) refl is in
           let ident : ident_of u ≡ kept_ident p context m Es o = it.ident ∙ ident_is in
           let made =
-          inside-own ds g low high last its meta default given_items os steps front rest along told item named are j its_told.known_name.at o u step at its_told.known_name it ident some.0 some.1 its_told.known_name.there some.2 in
+          inside-own ds g low high last its meta default given_items os steps front rest along told
+          item named are j its_told.known_name.at o u step at its_told.known_name it ident some.0
+          some.1 its_told.known_name.there some.2 in
           let symbol : u.sym ≡ o.sym = ap (λ (i : Ident). i.0) ident in
           record {
             name =
                 subst (NameMade u) (sym meant_is)
-                (made_in its_told.known_name.at o some.0 some.1 made.0 its_told.known_name.there some.2 made.1 symbol
+                (made_in its_told.known_name.at o some.0 some.1 made.0 its_told.known_name.there
+                some.2 made.1 symbol
                 (ap (λ (i : Ident). i.1) ident ∙ ap (context_of g) some.2) made.2 found);
-            same = is ∙ sym (ap (is_inside 1) made.2 ∙ le-leb 1 made.0 (rises-from low 1 its along.rise some.1 made.0 made.1).1);
+            same = is ∙ sym (ap (is_inside 1) made.2 ∙ le-leb 1 made.0
+                (rises-from low 1 its along.rise some.1 made.0 made.1).1);
             goes =
                 λ within.
                 subst (λ d. Becomes d (own_denoted item u)) (sym some.2)
-                (subst (Becomes (Bound (Inner some.0 some.1) (plain o.sym))) (sym (made.2 ∙ ap (λ x. given f es (Bound (Inner some.0 made.0) (plain x))) symbol))
+                (subst (Becomes (Bound (Inner some.0 some.1) (plain o.sym)))
+                (sym (made.2 ∙ ap (λ x. given f es (Bound (Inner some.0 made.0) (plain x))) symbol))
                 (becomes made.1));
           }
       by _ meant_is _ ident_is (known {l = l} out meant) =
@@ -291,23 +318,29 @@ module _ (p : Program) (list : List ℕ) (context : Contexts) (m : ℕ) (low hig
           step-out o u note out
           (outer-of l top (it.ident ∙ ident_is)) (subst (NameMade u) (sym meant_is) name)
         where
-          outer-of : (l : Label) → IsTopName l → ident_of u ≡ ident_of_label p list context l → is_inner (own_denoted item u) ≡ false
+          outer-of : (l : Label) → IsTopName l → ident_of u ≡ ident_of_label p list context l →
+              is_inner (own_denoted item u) ≡ false
           outer-of l top is =
-              let strange : IsStrange ds g os u.ctxt = subst (IsStrange ds g os) (sym (ap (λ (i : Ident). i.1) is)) top.strange in
+              let strange : IsStrange ds g os u.ctxt = subst (IsStrange ds g os)
+              (sym (ap (λ (i : Ident). i.1) is)) top.strange in
               outer-own item named u (listed-at j u at)
-              (strange-outside ds g low high last its meta default given_items os steps front rest along told item named are u.sym u.ctxt strange)
+              (strange-outside ds g low high last its meta default given_items os steps front rest
+              along told item named are u.sym u.ctxt strange)
               (inl (ap is_arguments (ap (λ (i : Ident). i.0) is) ∙ top.other))
       by _ meant_is _ ident_is (unbound denotes) =
           let ident = it.ident ∙ ident_is in
           let symbol : u.sym ≡ o.sym = ap (λ (i : Ident). i.0) ident in
           let first : u.ctxt ≡ 1 = ap (λ (i : Ident). i.1) ident in
-          let strange : IsStrange ds g os u.ctxt = subst (IsStrange ds g os) (sym first) own-strange in
+          let strange : IsStrange ds g os u.ctxt = subst (IsStrange ds g os) (sym first)
+          own-strange in
           let no_inner =
-          strange-outside ds g low high last its meta default given_items os steps front rest along told item named are u.sym u.ctxt strange in
+          strange-outside ds g low high last its meta default given_items os steps front rest along
+          told item named are u.sym u.ctxt strange in
           let outer = outer-own item named u (listed-at j u at) no_inner (inr first) in
           step-out o u note (ap (is_inside 0) denotes) outer
           (subst (NameMade u) (sym meant_is)
-          (made_free (sym symbol) strange outer no_inner first (free-arguments o u step it denotes symbol)))
+          (made_free (sym symbol) strange outer no_inner first
+          (free-arguments o u step it denotes symbol)))
 
   -- ENTRIES
 
@@ -326,19 +359,23 @@ module _ (p : Program) (list : List ℕ) (context : Contexts) (m : ℕ) (low hig
     pub beside : AreBeside Becomes (is_inside 0) (is_inside 1) entries (map there some)
         (map (own_denoted item) us)
 
-  pub entries-made : (means : Option Meant) → ((l : Meant) → means ≡ Some l → (lab : Label) × (l ≡ Known lab) × IsTopName lab × (meta ≡ Some (ident_of_label p list context lab))) →
+  pub entries-made : (means : Option Meant) →
+      ((l : Meant) → means ≡ Some l → (lab : Label) × (l ≡ Known lab) × IsTopName lab ×
+      (meta ≡ Some (ident_of_label p list context lab))) →
       {some us : List Occurrence} {by : List Step} {notes : List Note} {entries : List Entry} →
       Aligned (Paired its) meta means some by notes entries us → AllTold some by notes →
       AllOf IsThere us → EntriesMade entries some us
   entries-made means of_meta al_done all_told here = record { names = tt; beside = tt }
-  entries-made means of_meta (al_step {o = o} {u = u} {step = step} {note = note} it more) all_told here =
+  entries-made means of_meta (al_step {o = o} {u = u} {step = step} {note = note} it more) all_told
+      here =
       let ih = entries-made means of_meta more all_told.1 here.1 in
       let one_made = step-made here.0.0 o u step note here.0.1 it all_told.0 in
       record {
         names = (one_made.name, ih.names);
         beside = (one_made.same, one_made.goes, ih.beside);
       }
-  entries-made means of_meta (al_meta {u = u} {ident = ident} {meant = meant} refers ident_is meta_is means_is more) all_told here =
+  entries-made means of_meta (al_meta {u = u} {ident = ident} {meant = meant} refers ident_is
+      meta_is means_is more) all_told here =
       let ih = entries-made means of_meta more all_told here.1 in
       let lab = of_meta meant means_is in
       let ident_here : ident_of u ≡ ident_of_label p list context lab.0 =
@@ -357,9 +394,11 @@ module _ (p : Program) (list : List ℕ) (context : Contexts) (m : ℕ) (low hig
   -- the name of a default in front is one of the top
   abbrev pub FrontTold : Meant → Type 0
   FrontTold meant =
-      (lab : Label) × (meant ≡ Known lab) × IsTopName lab × (default ≡ ident_of_label p list context lab)
+      (lab : Label) × (meant ≡ Known lab) × IsTopName lab ×
+      (default ≡ ident_of_label p list context lab)
 
-  outer-known : (u : Occurrence) (meant : Meant) → NameMade u meant → (l : Label) → meant ≡ Known l →
+  outer-known : (u : Occurrence) (meant : Meant) → NameMade u meant → (l : Label) → meant ≡ Known
+      l →
       is_inner (own_denoted item u) ≡ false
   outer-known u _ (made_in i o kind a b at denotes r symbol ctxt its_own found) l is = absurd cc
   outer-known u _ (made_out strange outer no_inner top ident) l is = outer
@@ -370,18 +409,23 @@ module _ (p : Program) (list : List ℕ) (context : Contexts) (m : ℕ) (low hig
     pub zipped : AllZip Becomes (filter (is_inside 0) (map there os))
         (filter (is_inside 1) (map (own_denoted item) (front ++ rest)))
 
-  there-all : (some : List Occurrence) → ((j : ℕ) (u : Occurrence) → slice_get some j ≡ Some u → IsThere u) → AllOf IsThere some
+  there-all : (some : List Occurrence) →
+      ((j : ℕ) (u : Occurrence) → slice_get some j ≡ Some u → IsThere u) → AllOf IsThere some
   there-all [] here = tt
   there-all (u ∷ some) here = (here 0 u refl, there-all some (λ j v at. here (suc j) v at))
 
-  pub all-made : {steps_too : List Step} {notes : List Note} {entries : List Entry} (means : Option Meant) (its_meaning : Meant) →
-      ((l : Meant) → means ≡ Some l → (lab : Label) × (l ≡ Known lab) × IsTopName lab × (meta ≡ Some (ident_of_label p list context lab))) →
+  pub all-made : {steps_too : List Step} {notes : List Note} {entries : List Entry}
+      (means : Option Meant) (its_meaning : Meant) →
+      ((l : Meant) → means ≡ Some l → (lab : Label) × (l ≡ Known lab) × IsTopName lab ×
+      (meta ≡ Some (ident_of_label p list context lab))) →
       (its_front : List (Ident × Meant)) →
-      FrontAligned (Paired its) meta means default its_meaning os steps_too notes front rest its_front entries →
+      FrontAligned (Paired its) meta means default its_meaning os steps_too notes front rest
+      its_front entries →
       AllTold os steps_too notes →
       ((u : Occurrence) → front ≡ u ∷ [] → FrontTold its_meaning) →
       AllMadeNames (map (λ pair. pair.1) its_front ++ map meant_in entries)
-  all-made {entries = entries} means its_meaning of_meta its_front al all_told front_told = by al.both
+  all-made {entries = entries} means its_meaning of_meta its_front al all_told front_told = by
+      al.both
     where
       here_rest : AllOf IsThere rest
       here_rest = there-all rest (λ j u at. get-right front rest j u at)
@@ -389,36 +433,51 @@ module _ (p : Program) (list : List ℕ) (context : Contexts) (m : ℕ) (low hig
       made_rest : EntriesMade entries os rest
       made_rest = entries-made means of_meta al.aligned all_told here_rest
 
-      zipped_rest : AllZip Becomes (filter (is_inside 0) (map there os)) (filter (is_inside 1) (map (own_denoted item) rest))
+      zipped_rest : AllZip Becomes (filter (is_inside 0) (map there os))
+          (filter (is_inside 1) (map (own_denoted item) rest))
       zipped_rest =
-          inside_beside Becomes (is_inside 0) (is_inside 1) entries (map there os) (map (own_denoted item) rest) made_rest.beside
+          inside_beside Becomes (is_inside 0) (is_inside 1) entries (map there os)
+          (map (own_denoted item) rest) made_rest.beside
 
       by : ((front ≡ []) × (its_front ≡ []))
-          ⊎ ((u : Occurrence) × (front ≡ u ∷ []) × IsFront default u × (its_front ≡ (default, its_meaning) ∷ [])) →
+          ⊎ ((u : Occurrence) × (front ≡ u ∷ []) × IsFront default u ×
+          (its_front ≡ (default, its_meaning) ∷ [])) →
           AllMadeNames (map (λ pair. pair.1) its_front ++ map meant_in entries)
       by (inl none) = record {
         names =
-            subst (λ us. AllZip NameMade us (map (λ pair. pair.1) its_front ++ map meant_in entries)) (ap (λ l. l ++ rest) (sym none.0))
-            (subst (λ l. AllZip NameMade rest (map (λ pair. pair.1) l ++ map meant_in entries)) (sym none.1) made_rest.names);
+            subst (λ us. AllZip NameMade us
+            (map (λ pair. pair.1) its_front ++ map meant_in entries))
+            (ap (λ l. l ++ rest) (sym none.0))
+            (subst (λ l. AllZip NameMade rest (map (λ pair. pair.1) l ++ map meant_in entries))
+            (sym none.1) made_rest.names);
         zipped =
-            subst (λ us. AllZip Becomes (filter (is_inside 0) (map there os)) (filter (is_inside 1) (map (own_denoted item) us)))
+            subst (λ us. AllZip Becomes (filter (is_inside 0) (map there os))
+            (filter (is_inside 1) (map (own_denoted item) us)))
             (ap (λ l. l ++ rest) (sym none.0)) zipped_rest;
       }
       by (inr one_there) =
           let u : Occurrence = one_there.0 in
           let lab = front_told u one_there.1 in
-          let at : slice_get (front ++ rest) 0 ≡ Some u = ap (λ l. slice_get (l ++ rest) 0) one_there.1 in
+          let at : slice_get (front ++ rest) 0 ≡ Some u = ap (λ l. slice_get (l ++ rest) 0)
+          one_there.1 in
           let name = of-label 0 u at lab.0 lab.2 (one_there.2.ident ∙ lab.3) in
           let meant : NameMade u its_meaning = subst (NameMade u) (sym lab.1) name in
           let out = inner-not (own_denoted item u) (outer-known u (Known lab.0) name lab.0 refl) in
           record {
             names =
-                subst (λ us. AllZip NameMade us (map (λ pair. pair.1) its_front ++ map meant_in entries)) (ap (λ l. l ++ rest) (sym one_there.1))
-                (subst (λ l. AllZip NameMade (u ∷ rest) (map (λ pair. pair.1) l ++ map meant_in entries)) (sym one_there.3) (meant, made_rest.names));
-            zipped =
-                subst (λ us. AllZip Becomes (filter (is_inside 0) (map there os)) (filter (is_inside 1) (map (own_denoted item) us)))
+                subst (λ us. AllZip NameMade us
+                (map (λ pair. pair.1) its_front ++ map meant_in entries))
                 (ap (λ l. l ++ rest) (sym one_there.1))
-                (subst (λ b. AllZip Becomes (filter (is_inside 0) (map there os)) (cond b (own_denoted item u ∷ filter (is_inside 1) (map (own_denoted item) rest)) (filter (is_inside 1) (map (own_denoted item) rest))))
+                (subst (λ l. AllZip NameMade (u ∷ rest)
+                (map (λ pair. pair.1) l ++ map meant_in entries)) (sym one_there.3)
+                (meant, made_rest.names));
+            zipped =
+                subst (λ us. AllZip Becomes (filter (is_inside 0) (map there os))
+                (filter (is_inside 1) (map (own_denoted item) us)))
+                (ap (λ l. l ++ rest) (sym one_there.1))
+                (subst (λ b. AllZip Becomes (filter (is_inside 0) (map there os))
+                (cond b (own_denoted item u ∷ filter (is_inside 1) (map (own_denoted item) rest))
+                (filter (is_inside 1) (map (own_denoted item) rest))))
                 (sym out) zipped_rest);
           }
 
@@ -440,7 +499,8 @@ module _ (p : Program) (list : List ℕ) (context : Contexts) (m : ℕ) (low hig
     symbols-same [] (y ∷ ys) z = absurd z
     symbols-same (x ∷ xs) [] z = absurd z
     symbols-same (x ∷ xs) (y ∷ ys) z =
-        ap (λ s. s ∷ map denoted_symbol ys) (by z.0) ∙ ap (λ l. denoted_symbol x ∷ l) (symbols-same xs ys z.1)
+        ap (λ s. s ∷ map denoted_symbol ys) (by z.0) ∙ ap (λ l. denoted_symbol x ∷ l)
+        (symbols-same xs ys z.1)
       where
         by : {x y : Denoted} → Becomes x y → denoted_symbol y ≡ denoted_symbol x
         by (becomes r) = refl
@@ -453,14 +513,16 @@ module _ (p : Program) (list : List ℕ) (context : Contexts) (m : ℕ) (low hig
 
     -- RESOLVED
 
-    names-at : (j : ℕ) (u : Occurrence) → slice_get (front ++ rest) j ≡ Some u → (meant : Meant) × NameMade u meant
+    names-at : (j : ℕ) (u : Occurrence) → slice_get (front ++ rest) j ≡ Some u → (meant : Meant) ×
+        NameMade u meant
     names-at j u at = go (front ++ rest) meants all.names j at
       where
         go : (us : List Occurrence) (ms : List Meant) → AllZip NameMade us ms → (j : ℕ) →
             slice_get us j ≡ Some u → (meant : Meant) × NameMade u meant
         go [] ms z j at = absurd (none-some u at)
         go (v ∷ us) [] z j at = absurd z
-        go (v ∷ us) (meant ∷ ms) z zero at = (meant, subst (λ w. NameMade w meant) (same_Some v u at) z.0)
+        go (v ∷ us) (meant ∷ ms) z zero at =
+            (meant, subst (λ w. NameMade w meant) (same_Some v u at) z.0)
         go (v ∷ us) (meant ∷ ms) z (suc j) at = go us ms z.1 j at
 
     abbrev scope_of : Denoted → Scope
@@ -475,26 +537,38 @@ module _ (p : Program) (list : List ℕ) (context : Contexts) (m : ℕ) (low hig
     place_of (Inner kind n) = n
     place_of s = 0
 
-    both-names : (a b : Occurrence) {one_meant other : Meant} → NameMade a one_meant → NameMade b other →
-        is_inner (own_denoted item a) ≡ true → SameIdent a b ↔ (own_denoted item a ≡ own_denoted item b)
-    both-names a b (made_out strange outer no_inner top ident) two is = absurd (false≢true (sym outer ∙ is))
-    both-names a b (made_free same strange outer no_inner first arg) two is = absurd (false≢true (sym outer ∙ is))
-    both-names a b (made_in i o kind x y at denotes r symbol ctxt its_own found) (made_out strange outer no_inner top ident) is = (
-      λ same. absurd (strange i o kind x at denotes o.sym (sym ctxt ∙ same.1)),
-      λ same. absurd (false≢true (sym outer ∙ ap is_inner (sym same) ∙ is)),
-    )
-    both-names a b (made_in i o kind x y at denotes r symbol ctxt its_own found) (made_free equal strange outer no_inner first arg) is = (
-      λ same. absurd (strange i o kind x at denotes o.sym (sym ctxt ∙ same.1)),
-      λ same. absurd (false≢true (sym outer ∙ ap is_inner (sym same) ∙ is)),
-    )
-    both-names a b (made_in i o kind x y at denotes r symbol ctxt its_own found) (made_in j q its_kind z w there_too denotes_too r_too symbol_too ctxt_too own_too found_too) is = (forward, backward)
+    both-names : (a b : Occurrence) {one_meant other : Meant} → NameMade a one_meant → NameMade b
+        other →
+        is_inner (own_denoted item a) ≡ true → SameIdent a b ↔
+        (own_denoted item a ≡ own_denoted item b)
+    both-names a b (made_out strange outer no_inner top ident) two is = absurd
+        (false≢true (sym outer ∙ is))
+    both-names a b (made_free same strange outer no_inner first arg) two is = absurd
+        (false≢true (sym outer ∙ is))
+    both-names a b (made_in i o kind x y at denotes r symbol ctxt its_own found)
+        (made_out strange outer no_inner top ident) is = (
+          λ same. absurd (strange i o kind x at denotes o.sym (sym ctxt ∙ same.1)),
+          λ same. absurd (false≢true (sym outer ∙ ap is_inner (sym same) ∙ is)),
+        )
+    both-names a b (made_in i o kind x y at denotes r symbol ctxt its_own found)
+        (made_free equal strange outer no_inner first arg) is = (
+          λ same. absurd (strange i o kind x at denotes o.sym (sym ctxt ∙ same.1)),
+          λ same. absurd (false≢true (sym outer ∙ ap is_inner (sym same) ∙ is)),
+        )
+    both-names a b (made_in i o kind x y at denotes r symbol ctxt its_own found)
+        (made_in j q its_kind z w there_too denotes_too r_too symbol_too ctxt_too own_too found_too)
+        is = (forward, backward)
       where
         forward : SameIdent a b → own_denoted item a ≡ own_denoted item b
         forward same =
-            let x_is : x ≡ z = told.apart i j o q kind its_kind x z at there_too denotes denotes_too o.sym q.sym (sym ctxt ∙ same.1 ∙ ctxt_too) in
-            let kinds : kind ≡ its_kind = told.kinds i j o q kind its_kind x at there_too denotes (subst (λ n. there q ≡ Bound (Inner its_kind n) (plain q.sym)) (sym x_is) denotes_too) in
+            let x_is : x ≡ z = told.apart i j o q kind its_kind x z at there_too denotes denotes_too
+            o.sym q.sym (sym ctxt ∙ same.1 ∙ ctxt_too) in
+            let kinds : kind ≡ its_kind = told.kinds i j o q kind its_kind x at there_too denotes
+            (subst (λ n. there q ≡ Bound (Inner its_kind n) (plain q.sym)) (sym x_is)
+            denotes_too) in
             let y_is : y ≡ w =
-            (one ds g low high last its meta default given_items os steps front rest along).one z y w (subst (λ n. Paired its n y) x_is r) r_too in
+            (one ds g low high last its meta default given_items os steps front rest along).one z y
+            w (subst (λ n. Paired its n y) x_is r) r_too in
             its_own
             ∙ (λ i. given f es (Bound (Inner (kinds i) (y_is i)) (plain (same.0 i))))
             ∙ sym own_too
@@ -505,13 +579,19 @@ module _ (p : Program) (list : List ℕ) (context : Contexts) (m : ℕ) (low hig
             let symbols : a.sym ≡ b.sym = ap symbol_of both in
             let y_is : y ≡ w = ap (λ d. place_of (scope_of d)) both in
             let x_is : x ≡ z =
-            (one ds g low high last its meta default given_items os steps front rest along).other x z w (subst (λ n. Paired its x n) y_is r) r_too in
-            (symbols, ctxt ∙ (λ i. g (x_is i + 2) ((sym symbol ∙ symbols ∙ symbol_too) i)) ∙ sym ctxt_too)
+            (one ds g low high last its meta default given_items os steps front rest along).other x
+            z w (subst (λ n. Paired its x n) y_is r) r_too in (
+              symbols,
+              ctxt ∙ (λ i. g (x_is i + 2) ((sym symbol ∙ symbols ∙ symbol_too) i)) ∙ sym
+                  ctxt_too,
+            )
 
     pub resolved-inside : IsResolvedInside item
     resolved-inside = record {
       same = λ a b listed other is.
-          let one_name = names-at listed.0 a (ap (λ l. slice_get l listed.0) (sym (item-occurrences item ∙ are)) ∙ listed.1) in
-          let two_name = names-at other.0 b (ap (λ l. slice_get l other.0) (sym (item-occurrences item ∙ are)) ∙ other.1) in
+          let one_name = names-at listed.0 a
+          (ap (λ l. slice_get l listed.0) (sym (item-occurrences item ∙ are)) ∙ listed.1) in
+          let two_name = names-at other.0 b
+          (ap (λ l. slice_get l other.0) (sym (item-occurrences item ∙ are)) ∙ other.1) in
           both-names a b one_name.1 two_name.1 is;
     }

@@ -52,14 +52,19 @@ module _ (item : List Item) (named : IsNamed item) (u : Occurrence) (listed : Is
       ctxt_of (Bound s name) = name.ctxt
       ctxt_of (Global x) = Some 0
 
-      declares : (d : Declared) → declaration_of ByContext Es u ≡ Some d → d.name.ctxt ≡ Some u.ctxt → ⊥
+      declares : (d : Declared) → declaration_of ByContext Es u ≡ Some d → d.name.ctxt ≡ Some
+          u.ctxt → ⊥
       declares d has its =
           none-some u.ctxt
-          (sym (ap ctxt_of (sym (ap (own_or_found (own_declared item) (denoted_in ByContext (own_declared item) (scopes_around Es u.path) (its_name u))) has) ∙ is)) ∙ its)
+          (sym (ap ctxt_of (sym (ap (own_or_found (own_declared item)
+          (denoted_in ByContext (own_declared item) (scopes_around Es u.path) (its_name u))) has) ∙
+          is)) ∙ its)
 
-      refers : own_denoted item u ≡ denoted_by_context (own_declared item) (scopes_around Es u.path) (its_name u) → ⊥
+      refers : own_denoted item u ≡ denoted_by_context (own_declared item) (scopes_around Es u.path)
+          (its_name u) → ⊥
       refers denotes =
-          found (find (λ s. is_written_in (own_declared item) s (its_name u)) (scopes_around Es u.path))
+          found (find (λ s. is_written_in (own_declared item) s (its_name u))
+          (scopes_around Es u.path))
           (sym denotes ∙ is)
         where
           implied_in : (is_arguments u.sym ≡ false) → (s : Scope) →
@@ -70,16 +75,24 @@ module _ (item : List Item) (named : IsNamed item) (u : Occurrence) (listed : Is
 
           not_found : (is_arguments u.sym ≡ false) ⊎ (u.ctxt ≡ 1) →
               cond (u.ctxt == 1) (Global u.sym)
-              (bound_in (without_context (its_name u)) (find (λ s. is_implied_in (own_declared item) s (its_name u)) (scopes_around Es u.path)))
+              (bound_in (without_context (its_name u))
+              (find (λ s. is_implied_in (own_declared item) s (its_name u))
+              (scopes_around Es u.path)))
               ≡ Bound scope (without_context (its_name u)) → ⊥
           not_found (inr first) e =
               none-some 0 (sym (ap ctxt_of
-              (sym (ap (λ b. cond b (Global u.sym) (bound_in (without_context (its_name u)) (find (λ s. is_implied_in (own_declared item) s (its_name u)) (scopes_around Es u.path)))) (eq-eqb u.ctxt 1 first)) ∙ e)))
+              (sym (ap (λ b. cond b (Global u.sym)
+              (bound_in (without_context (its_name u))
+              (find (λ s. is_implied_in (own_declared item) s (its_name u))
+              (scopes_around Es u.path)))) (eq-eqb u.ctxt 1 first)) ∙ e)))
           not_found (inl differs) e = by_test (u.ctxt == 1)
-              (sym (ap (λ o. cond (u.ctxt == 1) (Global u.sym) (bound_in (without_context (its_name u)) o))
-              (find-none (λ s. is_implied_in (own_declared item) s (its_name u)) (implied_in differs) (scopes_around Es u.path))) ∙ e)
+              (sym (ap (λ o. cond (u.ctxt == 1) (Global u.sym)
+              (bound_in (without_context (its_name u)) o))
+              (find-none (λ s. is_implied_in (own_declared item) s (its_name u))
+              (implied_in differs) (scopes_around Es u.path))) ∙ e)
             where
-              by_test : (b : Bool) → cond b (Global u.sym) (Global u.sym) ≡ Bound scope (without_context (its_name u)) → ⊥
+              by_test : (b : Bool) → cond b (Global u.sym) (Global u.sym) ≡ Bound scope
+                  (without_context (its_name u)) → ⊥
               by_test true e = none-some 0 (sym (ap ctxt_of e))
               by_test false e = none-some 0 (sym (ap ctxt_of e))
 
@@ -91,9 +104,12 @@ module _ (item : List Item) (named : IsNamed item) (u : Occurrence) (listed : Is
 
       by : DeclaresOrNot Es u → ⊥
       by (Does way known here later) =
-          declares (record (declaration_by_way Es u way) { name = with u.sym u.ctxt }) (later u.ctxt) refl
+          declares (record (declaration_by_way Es u way) { name = with u.sym u.ctxt })
+          (later u.ctxt) refl
       by (DoesNot never) =
-          refers (ap (own_or_found (own_declared item) (denoted_in ByContext (own_declared item) (scopes_around Es u.path) (its_name u))) (never ByContext u.ctxt))
+          refers (ap (own_or_found (own_declared item)
+          (denoted_in ByContext (own_declared item) (scopes_around Es u.path) (its_name u)))
+          (never ByContext u.ctxt))
 
   pub outer-own : is_inner (own_denoted item u) ≡ false
   outer-own = by (viewed item named u listed) refl
@@ -102,7 +118,8 @@ module _ (item : List Item) (named : IsNamed item) (u : Occurrence) (listed : Is
       by (written Wrapper at is) e = refl
       by (written Top at is) e = refl
       by (written (Inner kind begins) at is) e =
-          absurd (false≢true (sym strange ∙ inner-declared (own_declared item) kind begins (its_name u) is))
+          absurd (false≢true (sym strange ∙ inner-declared (own_declared item) kind begins
+          (its_name u) is))
       by (implicit scope at differs fun) e = absurd (not_implicit scope e)
       by unbound e = refl
 
@@ -161,56 +178,73 @@ module _ (ds : List Declared) (g : Numbering) (low high last : ℕ) (its : Pairs
     where
       found : is_inner_name (lift_all f es) (with x c) ≡ true → ⊥
       found is =
-          let it = list_any-found (λ d. not (is_top (home_of (lift_all f es) d)) && names_agree d.name (with x c)) (lift_all f es) is in
+          let it = list_any-found (λ d. not (is_top (home_of (lift_all f es) d)) && names_agree
+          d.name (with x c)) (lift_all f es) is in
           let from = get-map (lifted f es) es it.0 it.1 it.2 in
-          let parts = and_parts (not (is_top (home_of (lift_all f es) it.1))) (names_agree it.1.name (with x c)) it.3 in
+          let parts = and_parts (not (is_top (home_of (lift_all f es) it.1)))
+          (names_agree it.1.name (with x c)) it.3 in
           by it.1 from.0 from.2 (names-known (front ++ rest) it.0 from.0 from.1)
           (names-plain (front ++ rest) it.0 from.0 from.1)
-          (es-homes ds g low high last its meta default given_items os steps front rest along it.0 from.0 from.1) parts.0 parts.1
+          (es-homes ds g low high last its meta default given_items os steps front rest along it.0
+          from.0 from.1) parts.0 parts.1
         where
-          by : (l d : Declared) → l ≡ lifted f es d → is_identified d.by ≡ true → d.name.ctxt ≡ None →
+          by : (l d : Declared) → l ≡ lifted f es d → is_identified d.by ≡ true → d.name.ctxt ≡
+              None →
               HomeMade ds g low high last its meta default given_items os steps front rest along d →
-              not (is_top (home_of (lift_all f es) l)) ≡ true → names_agree l.name (with x c) ≡ true → ⊥
+              not (is_top (home_of (lift_all f es) l)) ≡ true → names_agree l.name (with x c) ≡
+              true → ⊥
           by l d is known plain_it (home_top top) inner agrees =
-              false≢true (sym (ap (λ s. not (is_top s)) (ap (home_of (lift_all f es)) is ∙ home-lifted f es d plain_it ∙ top)) ∙ inner)
-          by l d is known plain_it (home_inner {kind = kind} {a = a} {b = b} i o there r denotes symbol home) inner agrees =
-              let parts = and_parts (bytes_eq l.name.sym x) (contexts_agree l.name.ctxt (Some c)) agrees in
+              false≢true (sym (ap (λ s. not (is_top s))
+              (ap (home_of (lift_all f es)) is ∙ home-lifted f es d plain_it ∙ top)) ∙ inner)
+          by l d is known plain_it (home_inner {kind = kind} {a = a} {b = b} i o there r denotes
+              symbol home) inner agrees =
+              let parts = and_parts (bytes_eq l.name.sym x) (contexts_agree l.name.ctxt (Some c))
+              agrees in
               strange i o kind a there denotes d.name.sym
               (sym number
               ∙ eqb-true (f (scope_order (home_of es d)) d.name.sym) c
-              (ap (λ t. contexts_agree (cond t (Some (f (scope_order (home_of es d)) d.name.sym)) None) (Some c)) (sym known)
+              (ap (λ t. contexts_agree (cond t (Some (f (scope_order (home_of es d)) d.name.sym))
+              None) (Some c)) (sym known)
               ∙ sym (ap (λ (e : Declared). contexts_agree e.name.ctxt (Some c)) is) ∙ parts.1))
             where
               number : f (scope_order (home_of es d)) d.name.sym ≡ g (a + 2) d.name.sym
               number =
                   ap (λ s. f (scope_order s) d.name.sym) home
-                  ∙ numbers-alike ds g low high last its meta default given_items os steps front rest along (inners {kind = kind} r) d.name.sym
+                  ∙ numbers-alike ds g low high last its meta default given_items os steps front
+                  rest along (inners {kind = kind} r) d.name.sym
 
   -- INSIDE: a name with the context of an inner binding denotes that binding
   pub inside-own : (j : ℕ) (i : ℕ) (o u : Occurrence) (step : Step) →
       slice_get (front ++ rest) j ≡ Some u →
       IsKnownName ds g low high last its meta default given_items os steps front rest along o →
       MadeOf (Paired its) o u step →
-      ident_of u ≡ (o.sym, context_of g (denoted_of BySymbol Es ds o)) → (kind : ScopeKind) (a : ℕ) →
+      ident_of u ≡ (o.sym, context_of g (denoted_of BySymbol Es ds o)) → (kind : ScopeKind)
+      (a : ℕ) →
       slice_get os i ≡ Some o →
       denoted_of BySymbol Es ds o ≡ Bound (Inner kind a) (plain o.sym) →
-      (b : ℕ) × Paired its a b × (own_denoted item u ≡ given f es (Bound (Inner kind b) (plain u.sym)))
-  inside-own j i o u step at known it ident kind a there denotes =
-      (made.b, made.goes,
-      ap (λ all. denoted_of ByContext Es all u) own-lifted
-      ∙ denotes-given f es (names-plain (front ++ rest)) u number
-      (λ d is. told-at (declaration_of BySymbol Es) (front ++ rest) j u d at is)
-      own apart
-      ∙ ap (given f es) made.denotes)
+      (b : ℕ) × Paired its a b × (own_denoted item u ≡ given f es
+      (Bound (Inner kind b) (plain u.sym)))
+  inside-own j i o u step at known it ident kind a there denotes = (
+    made.b,
+    made.goes,
+    ap (λ all. denoted_of ByContext Es all u) own-lifted
+        ∙ denotes-given f es (names-plain (front ++ rest)) u number
+        (λ d is. told-at (declaration_of BySymbol Es) (front ++ rest) j u d at is)
+        own apart
+        ∙ ap (given f es) made.denotes,
+  )
     where
       symbol : u.sym ≡ o.sym
       symbol = ap (λ (i : Ident). i.0) ident
 
-      made : InsideMade ds g low high last its meta default given_items os steps front rest along o u kind a
-      made = inside-made ds g low high last its meta default given_items os steps front rest along o u step known it symbol kind a denotes
+      made : InsideMade ds g low high last its meta default given_items os steps front rest along o
+          u kind a
+      made = inside-made ds g low high last its meta default given_items os steps front rest along o
+          u step known it symbol kind a denotes
 
       its_number : (x : List ℕ) → f (made.b + 2) x ≡ g (a + 2) x
-      its_number x = numbers-alike ds g low high last its meta default given_items os steps front rest along (inners {kind = kind} made.goes) x
+      its_number x = numbers-alike ds g low high last its meta default given_items os steps front
+          rest along (inners {kind = kind} made.goes) x
 
       number : u.ctxt ≡ its_context f Es es u
       number =
@@ -224,25 +258,34 @@ module _ (ds : List Declared) (g : Numbering) (low high last : ℕ) (its : Pairs
       scope_of (Bound s n) = s
       scope_of (Global x) = Top
 
-      same_scope_of : (s : Scope) → denoted_of BySymbol Es es u ≡ Bound s (plain u.sym) → s ≡ Inner kind made.b
+      same_scope_of : (s : Scope) → denoted_of BySymbol Es es u ≡ Bound s (plain u.sym) → s ≡ Inner
+          kind made.b
       same_scope_of s is = ap scope_of (sym is ∙ made.denotes)
 
-      own : (s : Scope) → denoted_of BySymbol Es es u ≡ Bound s (plain u.sym) → f (scope_order s) u.sym ≢ 1
+      own : (s : Scope) → denoted_of BySymbol Es es u ≡ Bound s (plain u.sym) → f (scope_order s)
+          u.sym ≢ 1
       own s is one =
           told.own i o kind a there denotes u.sym
-          (sym (its_number u.sym) ∙ ap (λ t. f (scope_order t) u.sym) (sym (same_scope_of s is)) ∙ one)
+          (sym (its_number u.sym) ∙ ap (λ t. f (scope_order t) u.sym) (sym (same_scope_of s is)) ∙
+          one)
 
       apart : (s t : Scope) → denoted_of BySymbol Es es u ≡ Bound s (plain u.sym) →
           is_written es t u.sym ≡ true → f (scope_order t) u.sym ≡ f (scope_order s) u.sym →
           scope_order t ≡ scope_order s
       apart s t is has numbers =
-          let it = list_any-found (λ (e : Declared). is_identified e.by && (same_scope (home_of es e) t && bytes_eq e.name.sym u.sym)) es has in
-          let parts = and_parts (is_identified it.1.by) (same_scope (home_of es it.1) t && bytes_eq it.1.name.sym u.sym) it.3 in
-          let more = and_parts (same_scope (home_of es it.1) t) (bytes_eq it.1.name.sym u.sym) parts.1 in
-          let order : scope_order (home_of es it.1) ≡ scope_order t = same_order (home_of es it.1) t more.0 in
+          let it = list_any-found (λ (e : Declared). is_identified e.by &&
+          (same_scope (home_of es e) t && bytes_eq e.name.sym u.sym)) es has in
+          let parts = and_parts (is_identified it.1.by)
+          (same_scope (home_of es it.1) t && bytes_eq it.1.name.sym u.sym) it.3 in
+          let more = and_parts (same_scope (home_of es it.1) t) (bytes_eq it.1.name.sym u.sym)
+          parts.1 in
+          let order : scope_order (home_of es it.1) ≡ scope_order t = same_order (home_of es it.1) t
+          more.0 in
           sym order
-          ∙ by it.1 (ap (λ n. f n u.sym) order ∙ numbers ∙ ap (λ q. f (scope_order q) u.sym) (same_scope_of s is) ∙ its_number u.sym)
-          (es-homes ds g low high last its meta default given_items os steps front rest along it.0 it.1 it.2)
+          ∙ by it.1 (ap (λ n. f n u.sym) order ∙ numbers ∙ ap (λ q. f (scope_order q) u.sym)
+          (same_scope_of s is) ∙ its_number u.sym)
+          (es-homes ds g low high last its meta default given_items os steps front rest along it.0
+          it.1 it.2)
           ∙ ap scope_order (sym (same_scope_of s is))
         where
           by : (d : Declared) → f (scope_order (home_of es d)) u.sym ≡ g (a + 2) u.sym →
@@ -251,10 +294,14 @@ module _ (ds : List Declared) (g : Numbering) (low high last : ℕ) (its : Pairs
           by d same (home_top top) =
               absurd (told.top i o kind a there denotes u.sym u.sym
               (sym same ∙ ap (λ q. f (scope_order q) u.sym) top))
-          by d same (home_inner {kind = its_kind} {a = c} {b = b} k q there_too r denotes_too symbol_too home) =
-              let a_is : c ≡ a = told.apart k i q o its_kind kind c a there_too there denotes_too denotes u.sym u.sym
-              (sym (numbers-alike ds g low high last its meta default given_items os steps front rest along (inners {kind = its_kind} r) u.sym)
+          by d same (home_inner {kind = its_kind} {a = c} {b = b} k q there_too r denotes_too
+              symbol_too home) =
+              let a_is : c ≡ a = told.apart k i q o its_kind kind c a there_too there denotes_too
+              denotes u.sym u.sym
+              (sym (numbers-alike ds g low high last its meta default given_items os steps front
+              rest along (inners {kind = its_kind} r) u.sym)
               ∙ ap (λ z. f (scope_order z) u.sym) (sym home) ∙ same) in
-              let b_is : b ≡ made.b = (one ds g low high last its meta default given_items os steps front rest along).one a b made.b
+              let b_is : b ≡ made.b = (one ds g low high last its meta default given_items os steps
+              front rest along).one a b made.b
               (subst (λ n. Paired its n b) a_is r) made.goes in
               ap scope_order home ∙ ap (λ n. n + 2) b_is

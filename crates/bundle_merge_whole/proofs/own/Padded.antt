@@ -112,7 +112,8 @@ module _ (low high : ℕ) (all mid : List Declared) (padded : IsPadded low high 
   parameter-tests (Inner kind a) name is =
       tests (is_parameter (Inner kind a) name)
       (λ d away.
-      ap (λ same. (is_parameters (taker d) || is_wrapper (taker d)) && same && names_agree d.name name)
+      ap (λ same. (is_parameters (taker d) || is_wrapper (taker d)) && same && names_agree d.name
+      name)
       (away-apart low high (taker d) kind a (taker-in (IsAway low high) tt d away) is.0 is.1)
       ∙ fails_so (is_parameters (taker d) || is_wrapper (taker d)) (names_agree d.name name))
 
@@ -137,7 +138,8 @@ module _ (low high : ℕ) (all mid : List Declared) (padded : IsPadded low high 
       tests (is_declared_in all (Inner kind a) name)
       (λ d away.
       ap (λ same. same && names_agree d.name name)
-      (away-apart low high (home_of all d) kind a (home-in (IsAway low high) tt all d away) from to))
+      (away-apart low high (home_of all d) kind a (home-in (IsAway low high) tt all d away) from
+      to))
       ∙ same mid padded.within
     where
       same : (some : List Declared) → Each (IsDeclaredIn low high) some →
@@ -189,8 +191,10 @@ inner-found low high p q same (node ∷ outer) all kind a is =
         ∙ on (p (Inner k node.begins)) is
       where
         on : (b : Bool) →
-            cond b (Some (Inner k node.begins)) (find p (scopes_around Es outer)) ≡ Some (Inner kind a) →
-            cond b (Some (Inner k node.begins)) (find q (scopes_around Es outer)) ≡ Some (Inner kind a)
+            cond b (Some (Inner k node.begins)) (find p (scopes_around Es outer)) ≡ Some
+            (Inner kind a) →
+            cond b (Some (Inner k node.begins)) (find q (scopes_around Es outer)) ≡ Some
+            (Inner kind a)
         on true e = e
         on false e = go all.1 e
 
@@ -216,7 +220,8 @@ outer-found low high p q same (node ∷ outer) all is =
     by : (o : Option ScopeKind) →
         AllOf (IsIn low high) (scope_at node.begins o ++ scopes_around Es outer) →
         IsOuter (find p (scope_at node.begins o ++ scopes_around Es outer)) →
-        (AllOf (IsIn low high) (scopes_around Es outer) → IsOuter (find p (scopes_around Es outer)) →
+        (AllOf (IsIn low high) (scopes_around Es outer) → IsOuter
+        (find p (scopes_around Es outer)) →
         IsOuter (find q (scopes_around Es outer))) →
         IsOuter (find q (scope_at node.begins o ++ scopes_around Es outer))
     by None all is go = go all is

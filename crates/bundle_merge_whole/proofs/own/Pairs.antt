@@ -36,8 +36,12 @@ pub below-later : (high other more its : ℕ) (pairs : Pairs) → high ≤ more 
     Below high other pairs → Below more its pairs
 below-later high other more its [] up also below = tt
 below-later high other more its (pair ∷ rest) up also below =
-    let from = below.0 in let to = below.1 in
-    (omega (arith, from, up), omega (arith, to, also), below-later high other more its rest up also below.2)
+    let from = below.0 in let to = below.1 in (
+      omega (arith, from, up),
+      omega (arith, to, also),
+      below-later high other more its rest up also
+          below.2,
+    )
 
 -- one behind the other
 pub rise-append : (low other middle its : ℕ) (xs ys : Pairs) → low ≤ middle → other ≤ its →
@@ -45,8 +49,12 @@ pub rise-append : (low other middle its : ℕ) (xs ys : Pairs) → low ≤ middl
 rise-append low other middle its [] ys down also one below two =
     rise-earlier middle its low other ys down also two
 rise-append low other middle its (pair ∷ xs) ys down also one below two =
-    let from = below.0 in let to = below.1 in
-    (one.0, one.1, rise-append (suc pair.0) (suc pair.1) middle its xs ys (omega (arith, from)) (omega (arith, to)) one.2 below.2 two)
+    let from = below.0 in let to = below.1 in (
+      one.0,
+      one.1,
+      rise-append (suc pair.0) (suc pair.1) middle its xs ys (omega (arith, from))
+          (omega (arith, to)) one.2 below.2 two,
+    )
 
 pub below-append : (high other : ℕ) (xs ys : Pairs) → Below high other xs → Below high other ys →
     Below high other (xs ++ ys)

@@ -96,7 +96,8 @@ pub spots-in : (R : ℕ → ℕ → Type 0) (s t : Spot) → SpotsBeside R s t �
     {head its : Head} → LikeHead head its → R s.place t.place →
     SpotsBeside R (past s (h.Open field head)) (past t (h.Open field its))
 spots-in R s t beside field like r =
-    λ inner. node-beside R (in_field field s.path) (in_field field t.path) (beside field) like s.place t.place inner r
+    λ inner. node-beside R (in_field field s.path) (in_field field t.path) (beside field) like
+    s.place t.place inner r
 
 -- behind whole nodes
 pub spots-behind : (R : ℕ → ℕ → Type 0) (s t : Spot) → SpotsBeside R s t → {xs ys : List Item} →

@@ -89,7 +89,8 @@ zip-cover spells [] (step ∷ steps) all = absurd all
 zip-cover spells (o ∷ gs) [] all = absurd all
 zip-cover spells (o ∷ gs) (step ∷ steps) all = (
   λ short. (bytes_eq-Decides step.ident.0 o.sym).0
-      (by (bytes_eq step.ident.0 o.sym) (sym (spells (cleared_occurrence o) step all.0 step.ident.0 o.sym) ∙ short)),
+      (by (bytes_eq step.ident.0 o.sym)
+      (sym (spells (cleared_occurrence o) step all.0 step.ident.0 o.sym) ∙ short)),
   zip-cover spells gs steps all.1,
 )
   where
@@ -158,8 +159,10 @@ module _ (p : Program) (list : List ℕ) (context : Contexts) (answers : ℕ →
       (subst (λ l. AllZip (IsStep p list context m Es) l its.steps)
       (os-are ∙ occurrences_from-cleared spot its.given) its.each))
 
-  pub beside : StatedBeside spot its.steps meta default its.given item (stated_low its.by place) (stated_high its.by place)
-  beside = stated-beside its.by (states_given_own its.by given_fit) its.steps its.behind refl cover place stand.field
+  pub beside : StatedBeside spot its.steps meta default its.given item (stated_low its.by place)
+      (stated_high its.by place)
+  beside = stated-beside its.by (states_given_own its.by given_fit) its.steps its.behind refl cover
+      place stand.field
 
   abbrev pub prs : Pairs
   prs = beside.pairs
@@ -186,11 +189,16 @@ module _ (p : Program) (list : List ℕ) (context : Contexts) (answers : ℕ →
   are-there =
       subst (AreThere tree place high) (sym os-are)
       (record {
-        within = within tree spot (cleared its.given) stand.tail at-cleared nodes-cleared stand.field refl;
-        declared_there = own-declared tree spot (cleared its.given) stand.tail at-cleared nodes-cleared stand.field refl;
-        only = all-declared tree spot (cleared its.given) stand.tail at-cleared nodes-cleared stand.field refl;
-        ways = all-ways tree spot (cleared its.given) stand.tail at-cleared nodes-cleared stand.field refl (one_ways tree_fit refl);
-        there = name-there tree spot (cleared its.given) stand.tail at-cleared nodes-cleared stand.field refl;
+        within = within tree spot (cleared its.given) stand.tail at-cleared nodes-cleared
+            stand.field refl;
+        declared_there = own-declared tree spot (cleared its.given) stand.tail at-cleared
+            nodes-cleared stand.field refl;
+        only = all-declared tree spot (cleared its.given) stand.tail at-cleared nodes-cleared
+            stand.field refl;
+        ways = all-ways tree spot (cleared its.given) stand.tail at-cleared nodes-cleared
+            stand.field refl (one_ways tree_fit refl);
+        there = name-there tree spot (cleared its.given) stand.tail at-cleared nodes-cleared
+            stand.field refl;
       })
 
   pub in-tree : (i : ℕ) (o : Occurrence) → slice_get os i ≡ Some o →
@@ -208,17 +216,20 @@ module _ (p : Program) (list : List ℕ) (context : Contexts) (answers : ℕ →
   keeps-all inner (o ∷ some) (step ∷ by) (note ∷ notes) all =
       (λ binds. (all.0.binds binds).its_ident, keeps-all inner some by notes all.1)
 
-  pub along : IsAlongside ds g place high last_place prs meta default its.given os its.steps front rest
+  pub along : IsAlongside ds g place high last_place prs meta default its.given os its.steps front
+      rest
   along = record {
     rise = beside.rise;
-    below = subst (λ n. Below (place + n) last_place prs) (sym (length-cleared its.given)) beside.below;
+    below = subst (λ n. Below (place + n) last_place prs) (sym (length-cleared its.given))
+        beside.below;
     within = are-there.within;
     declared = are-there.declared_there;
     only = are-there.only;
     ways = are-there.ways;
     all =
         made-like (Paired prs) meta beside.all
-        (subst (λ l. AllZip LooksLike l (occurrences_from spot its.given)) (sym os-are) (cleared-like spot its.given));
+        (subst (λ l. AllZip LooksLike l (occurrences_from spot its.given)) (sym os-are)
+        (cleared-like spot its.given));
     keeps = keeps-all (inner_of p m Es its.top) os its.steps told.notes told.each;
     are_front = beside.are_front;
     default_is = refl;
@@ -226,8 +237,10 @@ module _ (p : Program) (list : List ℕ) (context : Contexts) (answers : ℕ →
 
   -- HOLDERS
 
-  pub holder-inside : (i : ℕ) (o : Occurrence) (kind : ScopeKind) (c : ℕ) → slice_get os i ≡ Some o →
-      denoted_of BySymbol Es ds o ≡ Bound (Inner kind c) (plain o.sym) → IsHolder p answers (InsideOf m c)
+  pub holder-inside : (i : ℕ) (o : Occurrence) (kind : ScopeKind) (c : ℕ) → slice_get os i ≡ Some
+      o →
+      denoted_of BySymbol Es ds o ≡ Bound (Inner kind c) (plain o.sym) → IsHolder p answers
+      (InsideOf m c)
   holder-inside i o kind c at denotes =
       let there = in-tree i o at in
       a.inside_of Es kind (plain o.sym) there.0 reached (is_es es)
@@ -252,11 +265,13 @@ module _ (p : Program) (list : List ℕ) (context : Contexts) (answers : ℕ →
         let one = sym (number-inside context m c x) ∙ is in
         omega (arith, above, one);
     top = λ i o kind c at denotes x y is.
-        no_top (apart.apart (InsideOf m c) (TopOf m) (holder-inside i o kind c at denotes) (a.top_of reached)
+        no_top (apart.apart (InsideOf m c) (TopOf m) (holder-inside i o kind c at denotes)
+        (a.top_of reached)
         (sym (number-inside context m c x) ∙ is));
     apart = λ i j o q kind other c d at there denotes its_denotes x y is.
         ap place_of
-        (apart.apart (InsideOf m c) (InsideOf m d) (holder-inside i o kind c at denotes) (holder-inside j q other d there its_denotes)
+        (apart.apart (InsideOf m c) (InsideOf m d) (holder-inside i o kind c at denotes)
+        (holder-inside j q other d there its_denotes)
         (sym (number-inside context m c x) ∙ is ∙ number-inside context m d y));
     kinds = λ i j o q kind other c at there denotes its_denotes.
         kind-known i o kind c at denotes ∙ sym (kind-known j q other c there its_denotes);
@@ -265,7 +280,8 @@ module _ (p : Program) (list : List ℕ) (context : Contexts) (answers : ℕ →
       no_top : {c : ℕ} → InsideOf m c ≡ TopOf m → ⊥
       no_top e = cc
 
-  pub strange-label : (l : Label) → IsTopLabel p l → IsStrange ds g os (ident_of_label p list context l).1
+  pub strange-label : (l : Label) → IsTopLabel p l → IsStrange ds g os
+      (ident_of_label p list context l).1
   strange-label l top = λ i o kind c at denotes x is.
       label-strange p list context answers apart l top m c (holder-inside i o kind c at denotes)
       (sym (number-inside context m c x) ∙ is)
@@ -273,9 +289,11 @@ module _ (p : Program) (list : List ℕ) (context : Contexts) (answers : ℕ →
   -- STEPS: where the identifier of a step comes from
   data StepIdent (step : Step) : Type 0 where
     of_top : step.ident.1 ≡ context (TopOf m) → StepIdent step
-    of_inside : {c : ℕ} → IsHolder p answers (InsideOf m c) → step.ident.1 ≡ context (InsideOf m c) → StepIdent step
+    of_inside : {c : ℕ} → IsHolder p answers (InsideOf m c) → step.ident.1 ≡ context
+        (InsideOf m c) → StepIdent step
     of_global : step.ident.1 ≡ 1 → StepIdent step
-    of_label : (l : Label) → IsTopLabel p l → (l ≡ Meta m → ⊥) → step.ident ≡ ident_of_label p list context l → StepIdent step
+    of_label : (l : Label) → IsTopLabel p l → (l ≡ Meta m → ⊥) → step.ident ≡ ident_of_label p list
+        context l → StepIdent step
 
   -- what is told of a name that means a label
   record MeansLabel (o : Occurrence) (ident : Ident) (l : Label) : Type 0 where
@@ -283,12 +301,17 @@ module _ (p : Program) (list : List ℕ) (context : Contexts) (answers : ℕ →
     ident_is : ident ≡ ident_of_label p list context l
 
   means-label : (inner : List Denoted) (o : Occurrence) {meant : Meant} {ident : Ident} →
-      IsNamedFor p list context m Es inner o meant ident → (l : Label) → meant ≡ Known l → MeansLabel o ident l
+      IsNamedFor p list context m Es inner o meant ident → (l : Label) → meant ≡ Known l →
+      MeansLabel o ident l
   means-label inner o (inside found is) l same = absurd cc
   means-label inner o (unbound denotes) l same = absurd cc
   means-label inner o (known {l = other} out meant) l same =
       let labels_same : other ≡ l = ap label_of same in
-      record { meant = subst (IsMeant p) labels_same meant; ident_is = ap (ident_of_label p list context) labels_same }
+      record {
+        meant = subst (IsMeant p) labels_same meant;
+        ident_is = ap (ident_of_label p list
+            context) labels_same;
+      }
     where
       label_of : Meant → Label
       label_of (Known z) = z
@@ -299,7 +322,8 @@ module _ (p : Program) (list : List ℕ) (context : Contexts) (answers : ℕ →
   kept-ident i o step at is =
       by (denoted_of BySymbol Es ds o) refl (ap (λ (i : Ident). i.1) is) (denoted-for Es ds o)
     where
-      by : (d : Denoted) → denoted_of BySymbol Es ds o ≡ d → step.ident.1 ≡ context_of g (denoted_of BySymbol Es ds o) →
+      by : (d : Denoted) → denoted_of BySymbol Es ds o ≡ d → step.ident.1 ≡ context_of g
+          (denoted_of BySymbol Es ds o) →
           IsFor o.sym (denoted_of BySymbol Es ds o) → StepIdent step
       by (Global x) denotes number symbol = of_global (number ∙ ap (context_of g) denotes)
       by (Bound Top name) denotes number symbol = of_top (number ∙ ap (context_of g) denotes)
@@ -340,9 +364,12 @@ module _ (p : Program) (list : List ℕ) (context : Contexts) (answers : ℕ →
       (filter-on (is_use tree) (occurrences tree) o there is.used))
       is.means)
 
-  step-ident : (inner : List Denoted) (i : ℕ) (o : Occurrence) (step : Step) (note : Note) → slice_get os i ≡ Some o →
-      IsStep p list context m Es o step → IsNotedStep p list context m Es inner o step note → StepIdent step
-  step-ident inner i o step note at (keeps no_use no_call to) noted = kept-ident i o step at to.its_ident
+  step-ident : (inner : List Denoted) (i : ℕ) (o : Occurrence) (step : Step) (note : Note) →
+      slice_get os i ≡ Some o →
+      IsStep p list context m Es o step → IsNotedStep p list context m Es inner o step note →
+      StepIdent step
+  step-ident inner i o step note at (keeps no_use no_call to) noted = kept-ident i o step at
+      to.its_ident
   step-ident inner i o step note at (uses {n = n} {t = t} is to) noted =
       let there = in-tree i o at in
       let meant = used o n t (contains-at (occurrences tree) there.0 o there.1) is in
@@ -364,16 +391,20 @@ module _ (p : Program) (list : List ℕ) (context : Contexts) (answers : ℕ →
       no_meta e = cc
 
   -- META
-  no_number : {A : Type 0} (h : Holder) (other : Holder) → IsHolder p answers h → IsHolder p answers other →
+  no_number : {A : Type 0} (h : Holder) (other : Holder) → IsHolder p answers h → IsHolder p answers
+      other →
       (h ≡ other → ⊥) → context h ≡ context other → A
   no_number h other one two differ same = absurd (differ (apart.apart h other one two same))
 
-  step-not : (step : Step) → StepIdent step → (h : Holder) → IsHolder p answers h → (h ≡ TopOf m → ⊥) →
+  step-not : (step : Step) → StepIdent step → (h : Holder) → IsHolder p answers h →
+      (h ≡ TopOf m → ⊥) →
       ((c : ℕ) → h ≡ InsideOf m c → ⊥) → ((l : Label) → h ≡ NameOf l → l ≡ Meta m) →
-      ((c : ℕ) → IsReached p c → (IsCommonJs p c → ⊥) → h ≡ TopOf c → ⊥) → context h ≡ step.ident.1 → ⊥
+      ((c : ℕ) → IsReached p c → (IsCommonJs p c → ⊥) → h ≡ TopOf c → ⊥) → context h ≡
+      step.ident.1 → ⊥
   step-not step (of_top number) h holds no_top no_inside no_name no_module same =
       no_top (apart.apart h (TopOf m) holds (a.top_of reached) (same ∙ number))
-  step-not step (of_inside {c = c} its_holder number) h holds no_top no_inside no_name no_module same =
+  step-not step (of_inside {c = c} its_holder number) h holds no_top no_inside no_name no_module
+      same =
       no_inside c (apart.apart h (InsideOf m c) holds its_holder (same ∙ number))
   step-not step (of_global number) h holds no_top no_inside no_name no_module same =
       let above = apart.own h holds in let one = same ∙ number in omega (arith, above, one)
@@ -384,8 +415,10 @@ module _ (p : Program) (list : List ℕ) (context : Contexts) (answers : ℕ →
       number = same ∙ ap (λ (i : Ident). i.1) is
 
       by : HoldsLabel p answers context l (ident_of_label p list context l).1 → ⊥
-      by (by_module {m = c} its_reached its_es at) = no_module c its_reached its_es (apart.apart h (TopOf c) holds (a.top_of its_reached) (number ∙ at))
-      by (by_name its_holder at) = no_meta (no_name l (apart.apart h (NameOf l) holds its_holder (number ∙ at)))
+      by (by_module {m = c} its_reached its_es at) = no_module c its_reached its_es
+          (apart.apart h (TopOf c) holds (a.top_of its_reached) (number ∙ at))
+      by (by_name its_holder at) = no_meta
+          (no_name l (apart.apart h (NameOf l) holds its_holder (number ∙ at)))
 
   pub meta-top : has_import_meta tree ≡ true → IsTopLabel p (Meta m)
   meta-top is = record {
@@ -394,22 +427,31 @@ module _ (p : Program) (list : List ℕ) (context : Contexts) (answers : ℕ →
     declares = a.adds holds_meta;
   }
 
-  pub meta-is : (i : Ident) → meta ≡ Some i → (has_import_meta tree ≡ true) × (i ≡ ident_of_label p list context (Meta m))
+  pub meta-is : (i : Ident) → meta ≡ Some i → (has_import_meta tree ≡ true) ×
+      (i ≡ ident_of_label p list context (Meta m))
   meta-is i is = by (has_import_meta tree) refl is
     where
-      by : (t : Bool) → has_import_meta tree ≡ t → (if t then Some (ident_of_label p list context (Meta m)) else None) ≡ Some i →
+      by : (t : Bool) → has_import_meta tree ≡ t →
+          (if t then Some (ident_of_label p list context (Meta m)) else None) ≡ Some i →
           (has_import_meta tree ≡ true) × (i ≡ ident_of_label p list context (Meta m))
       by true has e = (has, sym (same_Some _ _ e))
       by false has e = absurd (none-some i e)
 
   pub meta-means : (meant : Meant) → meta_meant p m ≡ Some meant →
-      (has_import_meta tree ≡ true) × (meant ≡ Known (Meta m)) × (meta ≡ Some (ident_of_label p list context (Meta m)))
+      (has_import_meta tree ≡ true) × (meant ≡ Known (Meta m)) ×
+      (meta ≡ Some (ident_of_label p list context (Meta m)))
   meta-means meant is = by (has_import_meta tree) refl is
     where
-      by : (t : Bool) → has_import_meta tree ≡ t → (if t then Some (Known (Meta m)) else None) ≡ Some meant →
-          (has_import_meta tree ≡ true) × (meant ≡ Known (Meta m)) × (meta ≡ Some (ident_of_label p list context (Meta m)))
-      by true has e =
-          (has, sym (same_Some _ _ e), ap (λ t. if t then Some (ident_of_label p list context (Meta m)) else None) has)
+      by : (t : Bool) → has_import_meta tree ≡ t → (if t then Some (Known (Meta m)) else None) ≡
+          Some meant →
+          (has_import_meta tree ≡ true) × (meant ≡ Known (Meta m)) ×
+          (meta ≡ Some (ident_of_label p list context (Meta m)))
+      by true has e = (
+        has,
+        sym (same_Some _ _ e),
+        ap
+            (λ t. if t then Some (ident_of_label p list context (Meta m)) else None) has,
+      )
       by false has e = absurd (none-some meant e)
 
   label_of_holder : Label → Holder → Label
@@ -442,7 +484,8 @@ module _ (p : Program) (list : List ℕ) (context : Contexts) (answers : ℕ →
 
   none-here : (inner : List Denoted) (some : List Occurrence) (by : List Step) (notes : List Note) →
       ((i : ℕ) (o : Occurrence) → slice_get some i ≡ Some o → (j : ℕ) × (slice_get os j ≡ Some o)) →
-      AllZip (IsStep p list context m Es) some by → AllNoted p list context m Es inner some by notes → NoneIs meta by
+      AllZip (IsStep p list context m Es) some by → AllNoted p list context m Es inner some by
+      notes → NoneIs meta by
   none-here inner [] [] notes here each noted = tt
   none-here inner [] (step ∷ by) notes here each noted = absurd each
   none-here inner (o ∷ some) [] notes here each noted = absurd each
@@ -451,20 +494,23 @@ module _ (p : Program) (list : List ℕ) (context : Contexts) (answers : ℕ →
       let at = here 0 o refl in (
         λ is.
             let found = meta-is step.ident is in
-            step-not step (step-ident inner at.0 o step note at.1 each.0 noted.0) (NameOf (Meta m)) (meta-holder found.0)
+            step-not step (step-ident inner at.0 o step note at.1 each.0 noted.0) (NameOf (Meta m))
+            (meta-holder found.0)
             (name-top (Meta m) m) (name-inside (Meta m)) (λ l e. sym (holder-name (Meta m) l e))
             (λ c its_reached its_es. name-top (Meta m) c) (sym (ap (λ (i : Ident). i.1) found.1)),
         none-here inner some by notes (λ i q is. here (suc i) q is) each.1 noted.1,
       )
 
   pub none-meta : NoneIs meta its.steps
-  none-meta = none-here (inner_of p m Es its.top) os its.steps told.notes (λ i o at. (i, at)) its.each told.each
+  none-meta = none-here (inner_of p m Es its.top) os its.steps told.notes (λ i o at. (i, at))
+      its.each told.each
 
   pub default-not : meta ≡ Some default → ⊥
   default-not is =
       let found = meta-is default is in
       name-top (Meta m) m
-      (apart.apart (NameOf (Meta m)) (TopOf m) (meta-holder found.0) (a.top_of reached) (sym (ap (λ (i : Ident). i.1) found.1)))
+      (apart.apart (NameOf (Meta m)) (TopOf m) (meta-holder found.0) (a.top_of reached)
+      (sym (ap (λ (i : Ident). i.1) found.1)))
 
   no-parameter : (l : Label) → IsTopLabel p l → (c : ℕ) (x : List ℕ) → l ≡ Parameter c x → ⊥
   no-parameter l top c x is = by top.declares is
@@ -487,26 +533,33 @@ module _ (p : Program) (list : List ℕ) (context : Contexts) (answers : ℕ →
     pub top : IsTopLabel p l
     pub other : is_arguments (ident_of_label p list context l).0 ≡ false
 
-  pub label-top : (inner : List Denoted) (i : ℕ) (o : Occurrence) (step : Step) (note : Note) → slice_get os i ≡ Some o →
-      IsStep p list context m Es o step → IsNotedStep p list context m Es inner o step note → (l : Label) →
+  pub label-top : (inner : List Denoted) (i : ℕ) (o : Occurrence) (step : Step) (note : Note) →
+      slice_get os i ≡ Some o →
+      IsStep p list context m Es o step → IsNotedStep p list context m Es inner o step note →
+      (l : Label) →
       note.meant ≡ Known l → IsMeantTop l
   label-top inner i o step note at is noted l same =
       let means = means-label inner o noted.named l same in by means (labels l means.meant)
     where
       function : (fn : IsInFunction p l) → step.ident.1 ≡ context (TopOf fn.c) → ⊥
       function fn number =
-          step-not step (step-ident inner i o step note at is noted) (TopOf fn.c) (a.top_of fn.reached)
+          step-not step (step-ident inner i o step note at is noted) (TopOf fn.c)
+          (a.top_of fn.reached)
           (λ e. es (subst (IsCommonJs p) (holder-top fn.c m e) fn.common_js))
           (top-inside fn.c)
           (λ z e. absurd (name-top z fn.c (sym e)))
-          (λ c its_reached its_es e. its_es (subst (IsCommonJs p) (holder-top fn.c c e) fn.common_js))
+          (λ c its_reached its_es e. its_es
+          (subst (IsCommonJs p) (holder-top fn.c c e) fn.common_js))
           (sym number)
 
       of_function : (fn : IsInFunction p l) → step.ident ≡ ident_of_label p list context l →
           (l ≡ Of (k.Declared fn.c fn.x)) ⊎ (l ≡ Parameter fn.c fn.x) → ⊥
-      of_function fn ident (inl e) = function fn (ap (λ (i : Ident). i.1) (ident ∙ ap (ident_of_label p list context) e))
-      of_function fn ident (inr e) = function fn (ap (λ (i : Ident). i.1) (ident ∙ ap (ident_of_label p list context) e))
+      of_function fn ident (inl e) = function fn
+          (ap (λ (i : Ident). i.1) (ident ∙ ap (ident_of_label p list context) e))
+      of_function fn ident (inr e) = function fn
+          (ap (λ (i : Ident). i.1) (ident ∙ ap (ident_of_label p list context) e))
 
       by : MeansLabel o step.ident l → IsTopLabel p l ⊎ IsInFunction p l → IsMeantTop l
-      by means (inl top) = record { top = top; other = label-other p list context sound l means.meant (no-parameter l top) }
+      by means (inl top) = record
+          { top = top; other = label-other p list context sound l means.meant (no-parameter l top) }
       by means (inr fn) = absurd (of_function fn means.ident_is fn.is)

@@ -85,8 +85,11 @@ here excused number count sort rest more ok fits =
       fits = fits;
       again = λ made it others its. front_of it count rest others its;
       keeps =
-          λ test passes.
-          ((and_parts (test number sort) (each_slot test rest) passes).0, after_slot test number count sort rest passes);
+          λ test passes. (
+            (and_parts (test number sort) (each_slot test rest) passes).0,
+            after_slot test number
+                count sort rest passes,
+          );
       own = own_by (is_fine sort) refl (or_cases (is_fine sort) _ parts.0);
       fine = fine_by (or_cases (is_fine sort) _ parts.0);
       behind = behind_by count (or_cases (is_fine sort) _ parts.0) parts.1;
@@ -113,9 +116,11 @@ here excused number count sort rest more ok fits =
     behind_by Many (inl it) fine = and_from (is_fine sort) (are_fine rest) it fine
     behind_by Places (inl it) fine = and_from (is_fine sort) (are_fine rest) it fine
     behind_by Many (inr it) fine =
-        absurd (false≢true (and_parts false (is_own sort) (and_parts excused (false && is_own sort) it).1).0)
+        absurd (false≢true (and_parts false (is_own sort)
+        (and_parts excused (false && is_own sort) it).1).0)
     behind_by Places (inr it) fine =
-        absurd (false≢true (and_parts false (is_own sort) (and_parts excused (false && is_own sort) it).1).0)
+        absurd (false≢true (and_parts false (is_own sort)
+        (and_parts excused (false && is_own sort) it).1).0)
 
 -- a field that holds nothing here
 skipped : (excused : Bool) (number : ℕ) (count : Count) (sort : Sort) (rest : List Slot)
@@ -125,7 +130,8 @@ skipped excused number count sort rest field its more free it = record {
   left = it.left;
   fits = it.fits;
   again = λ made is others fits_it. over free (it.again made is others fits_it);
-  keeps = λ test passes. it.keeps test (and_parts (test number sort) (each_slot test rest) passes).1;
+  keeps = λ test passes. it.keeps test
+      (and_parts (test number sort) (each_slot test rest) passes).1;
   own = it.own;
   fine = fine_by it.fine;
   behind = it.behind;
@@ -269,7 +275,8 @@ hole_front (a_hole {number = n} {sort = k} {more = rest} {rest = behind} fit) ex
           (a_hole fits_it);
       keeps = λ test passes. passes;
       behind =
-          behind_by (or_cases (is_fine k) _ (and_parts (is_fine k || (excused && (false && is_own k))) (are_fine rest) ok).0)
+          behind_by (or_cases (is_fine k) _
+          (and_parts (is_fine k || (excused && (false && is_own k))) (are_fine rest) ok).0)
           (rest_fine excused n Places k rest ok);
     }
   where

@@ -33,7 +33,8 @@ use Rattle.bundle_merge_whole.proofs.own.Ranged.{node_long, pairs-rise, pairs-be
 use Rattle.bundle_merge_whole.proofs.own.Like.{made-like, moved-like}
 
 -- a part of a statement and what it becomes, where they begin at these spots
-record PartBeside (s t : Spot) (steps : List Step) (meta : Option Ident) (before within : List Item) :
+record PartBeside (s t : Spot) (steps : List Step) (meta : Option Ident)
+    (before within : List Item) :
     Type 0 where
   its : Pairs
   rise : Rise s.place t.place its
@@ -59,7 +60,8 @@ part {work = work} {before = before} {within = within} one own steps behind is c
       rise = pairs-rise it.by s.place t.place;
       below = pairs-below it.by s.place t.place;
       all =
-          subst (λ l. AllMade (Paired its) work.meta (occurrences_from s before) l (occurrences_from t within))
+          subst (λ l. AllMade (Paired its) work.meta (occurrences_from s before) l
+          (occurrences_from t within))
           (same_steps steps behind taken.steps _ (sym is ∙ taken.are) it.left) taken.all;
     }
 
@@ -76,20 +78,9 @@ same_tops R place field its = λ inner. record {
   scopes = (tops, tt);
 }
 
-in_export : (R : ℕ → ℕ → Type 0) (place field : ℕ) →
-    SpotsBeside R (past (top_spot place field) (h.Open 0 h.ExportDecl)) first_spot
-in_export R place field = λ inner. record {
-  block = refl;
-  default = refl;
-  loop = refl;
-  declarator = refl;
-  way = λ w there. absurd (none-some w there);
-  scopes = (tops, tt);
-}
-
-in_field_export : (R : ℕ → ℕ → Type 0) (place field f : ℕ) →
+in_export : (R : ℕ → ℕ → Type 0) (place field f : ℕ) →
     SpotsBeside R (past (top_spot place field) (h.Open f h.ExportDecl)) first_spot
-in_field_export R place field f = λ inner. record {
+in_export R place field f = λ inner. record {
   block = refl;
   default = refl;
   loop = refl;
@@ -103,7 +94,8 @@ abbrev constant_spot : Spot
 constant_spot =
     record {
       place = 1 + 1 + 1 + 1 + 1 + 1;
-      path = around h.VarDeclarator 2 0 ∷ around (h.VarDecl Const no_notes) 1 1 ∷ around h.Module 0 0 ∷ [];
+      path = around h.VarDeclarator 2 0 ∷ around (h.VarDecl Const no_notes) 1 1 ∷ around h.Module 0
+          0 ∷ [];
     }
 
 in_constant : (R : ℕ → ℕ → Type 0) (place field f : ℕ) →
@@ -124,7 +116,8 @@ declared_spot place head =
 
 in_declared : (R : ℕ → ℕ → Type 0) (place field f inner its : ℕ) (head : Head) →
     is_default_head head ≡ true →
-    SpotsBeside R (past (past (top_spot place field) (h.Open f h.ExportDefaultDecl)) (h.Open inner head))
+    SpotsBeside R (past (past (top_spot place field) (h.Open f h.ExportDefaultDecl))
+    (h.Open inner head))
     (declared_spot its head)
 in_declared R place field f inner its h.FnExpr is = λ number. record {
   block = refl;
@@ -160,7 +153,8 @@ constant_front : (default : Ident) →
       ctxt = default.1;
       role = r.Binding;
       path =
-          around h.BindingIdent 3 0 ∷ around h.VarDeclarator 2 0 ∷ around (h.VarDecl Const no_notes) 1 1
+          around h.BindingIdent 3 0 ∷ around h.VarDeclarator 2 0 ∷ around (h.VarDecl Const no_notes)
+          1 1
           ∷ around h.Module 0 0 ∷ [];
     })
 constant_front default = record {
@@ -204,9 +198,6 @@ declared_front default _ is = absurd (false≢true is)
 
 -- Statements.
 
-abbrev of_part : ℕ → List Item → ℕ → ℕ → List Item → Type 0
-of_part place given from to item = (place ≤ from) × (1 ≤ to)
-
 -- what is made of a statement of which this is a part
 stated_so : (s t : Spot) (place field : ℕ) {steps : List Step} {meta : Option Ident}
     {default : Ident} {given item before within : List Item} →
@@ -216,22 +207,28 @@ stated_so : (s t : Spot) (place field : ℕ) {steps : List Step} {meta : Option 
     occurrences_from (top_spot place field) given ≡ occurrences_from s before →
     place ≤ s.place → 1 ≤ t.place → s.place + length before ≤ place + length given →
     t.place + length within ≤ 1 + length item →
-    StatedBeside (top_spot place field) steps meta default given item s.place (s.place + length before)
-stated_so s t place field {steps = steps} {meta = meta} {given = given} {item = item} {before = before} {within = within} it front are_front are same from to long its_long = record {
-  pairs = it.its;
-  rise = rise-earlier s.place t.place place 1 it.its from to it.rise;
-  below =
-      below-later (s.place + length before) (t.place + length within) (place + length given) (1 + length item) it.its long its_long it.below;
-  tight =
-      λ a b there.
-      ((rises-from s.place t.place it.its it.rise a b there).0, (below-all (s.place + length before) (t.place + length within) it.its it.below a b there).0);
-  front = front;
-  are_front = are_front;
-  rest = occurrences_from t within;
-  are = are;
-  all =
-      subst (λ os. AllMade (Paired it.its) meta os steps (occurrences_from t within)) (sym same) it.all;
-}
+    StatedBeside (top_spot place field) steps meta default given item s.place
+    (s.place + length before)
+stated_so s t place field {steps = steps} {meta = meta} {given = given} {item = item}
+    {before = before} {within = within} it front are_front are same from to long its_long = record {
+      pairs = it.its;
+      rise = rise-earlier s.place t.place place 1 it.its from to it.rise;
+      below =
+          below-later (s.place + length before) (t.place + length within) (place + length given)
+          (1 + length item) it.its long its_long it.below;
+      tight =
+          λ a b there. (
+            (rises-from s.place t.place it.its it.rise a b there).0,
+            (below-all (s.place + length before) (t.place + length within) it.its it.below a b there).0,
+          );
+      front = front;
+      are_front = are_front;
+      rest = occurrences_from t within;
+      are = are;
+      all =
+          subst (λ os. AllMade (Paired it.its) meta os steps (occurrences_from t within)) (sym same)
+          it.all;
+    }
 
 -- from where on, and up to where what is stated stands, where the item begins at this place
 abbrev pub stated_low : {work : Work} {default : Ident} {given item : List Item} →
@@ -256,27 +253,37 @@ stated_high (t.DefaultStates f inner first_field head first more is_head one) pl
 pub stated-beside : {work : Work} {default : Ident} {given item : List Item} →
     (d : StatesList work default given item) → AreOwn given → (steps behind : List Step) →
     work.steps ≡ steps ++ behind → Cover steps given → (place field : ℕ) →
-    StatedBeside (top_spot place field) steps work.meta default given item (stated_low d place) (stated_high d place)
-stated-beside {item = item} (t.StatementStates f head inside itself one) own steps behind is cover place field =
-    let it = part one own steps behind is cover (top_spot place field) first_spot (λ R. same_tops R place field 0) in
+    StatedBeside (top_spot place field) steps work.meta default given item (stated_low d place)
+    (stated_high d place)
+stated-beside {item = item} (t.StatementStates f head inside itself one) own steps behind is cover
+    place field =
+    let it = part one own steps behind is cover (top_spot place field) first_spot
+    (λ R. same_tops R place field 0) in
     stated_so (top_spot place field) first_spot place field it []
-    (no_front (itself_default f head (inside ++ h.Close ∷ []) itself)) refl refl (omega arith) (omega arith) (omega arith) (omega arith)
-stated-beside {item = item} (t.DeclarationStates f inside one) own steps behind is cover place field =
+    (no_front (itself_default f head (inside ++ h.Close ∷ []) itself)) refl refl (omega arith)
+    (omega arith) (omega arith) (omega arith)
+stated-beside {item = item} (t.DeclarationStates f inside one) own steps behind is cover place
+    field =
     let s : Spot = past (top_spot place field) (h.Open f h.ExportDecl) in
     let it =
     part one (own_inside f h.ExportDecl inside own).1 steps behind is
-    (subst (λ names. AllZip KeepsSymbol steps names) (node_names f h.ExportDecl inside) cover) s first_spot
-    (λ R. in_field_export R place field f) in
+    (subst (λ names. AllZip KeepsSymbol steps names) (node_names f h.ExportDecl inside) cover) s
+    first_spot
+    (λ R. in_export R place field f) in
     let long = length-append inside (h.Close ∷ []) in
     stated_so s first_spot place field it [] (no_front refl) refl
-    (occurrences_node (top_spot place field) f h.ExportDecl inside) (omega arith) (omega arith) (omega (arith, long)) (omega arith)
-stated-beside {default = default} (t.ValueStates f first more {value = value} one) own steps behind is cover place field =
+    (occurrences_node (top_spot place field) f h.ExportDecl inside) (omega arith) (omega arith)
+    (omega (arith, long)) (omega arith)
+stated-beside {default = default} (t.ValueStates f first more {value = value} one) own steps behind
+    is cover place field =
     let s : Spot = past (top_spot place field) (h.Open f h.ExportDefaultExpr) in
     let part_own = (own_inside f h.ExportDefaultExpr (first ∷ more) own).1 in
     let it =
-    part one (ap (λ b. b && list_all is_own_item more) (moved_own 1 first) ∙ part_own) steps behind is
+    part one (ap (λ b. b && list_all is_own_item more) (moved_own 1 first) ∙ part_own) steps behind
+    is
     (subst (λ names. AllZip KeepsSymbol steps names)
-    (node_names f h.ExportDefaultExpr (first ∷ more) ∙ sym (moved_names 1 first more)) cover) s constant_spot
+    (node_names f h.ExportDefaultExpr (first ∷ more) ∙ sym (moved_names 1 first more)) cover) s
+    constant_spot
     (λ R. in_constant R place field f) in
     let like = moved-like (place + 1) place 0 1 (around h.Module 0 f ∷ []) first more in
     let its : PartBeside s constant_spot steps _ (first ∷ more) value = record {
@@ -286,8 +293,10 @@ stated-beside {default = default} (t.ValueStates f first more {value = value} on
       all = made-like (Paired it.its) _ it.all like;
     } in
     let long = length-append (first ∷ more) (h.Close ∷ []) in
-    let a = node_long 1 h.VarDeclarator (node 0 h.BindingIdent (named 0 default r.Binding) ++ value) in
-    let b = node_long 0 (h.VarDecl Const no_notes) (node 1 h.VarDeclarator (node 0 h.BindingIdent (named 0 default r.Binding) ++ value)) in
+    let a = node_long 1 h.VarDeclarator
+    (node 0 h.BindingIdent (named 0 default r.Binding) ++ value) in
+    let b = node_long 0 (h.VarDecl Const no_notes)
+    (node 1 h.VarDeclarator (node 0 h.BindingIdent (named 0 default r.Binding) ++ value)) in
     stated_so s constant_spot place field its
     (record {
       place = 1 + 1 + 1 + 1;
@@ -295,12 +304,14 @@ stated-beside {default = default} (t.ValueStates f first more {value = value} on
       ctxt = default.1;
       role = r.Binding;
       path =
-          around h.BindingIdent 3 0 ∷ around h.VarDeclarator 2 0 ∷ around (h.VarDecl Const no_notes) 1 1
+          around h.BindingIdent 3 0 ∷ around h.VarDeclarator 2 0 ∷ around (h.VarDecl Const no_notes)
+          1 1
           ∷ around h.Module 0 0 ∷ [];
     } ∷ [])
     (one_front refl (constant_front default))
     (constant_names default value)
-    (occurrences_node (top_spot place field) f h.ExportDefaultExpr (first ∷ more)) (omega arith) (omega arith) (omega (arith, long)) (omega (arith, a, b))
+    (occurrences_node (top_spot place field) f h.ExportDefaultExpr (first ∷ more)) (omega arith)
+    (omega arith) (omega (arith, long)) (omega (arith, a, b))
   where
     constant_names : (default : Ident) (value : List Item) →
         occurrences_from first_spot (t.constant default value)
@@ -310,14 +321,19 @@ stated-beside {default = default} (t.ValueStates f first more {value = value} on
           ctxt = default.1;
           role = r.Binding;
           path =
-              around h.BindingIdent 3 0 ∷ around h.VarDeclarator 2 0 ∷ around (h.VarDecl Const no_notes) 1 1
+              around h.BindingIdent 3 0 ∷ around h.VarDeclarator 2 0 ∷ around
+              (h.VarDecl Const no_notes) 1 1
               ∷ around h.Module 0 0 ∷ [];
         } ∷ occurrences_from constant_spot value
     constant_names default value =
-        occurrences_node first_spot 0 (h.VarDecl Const no_notes) (node 1 h.VarDeclarator (node 0 h.BindingIdent (named 0 default r.Binding) ++ value))
-        ∙ occurrences_node (past first_spot (h.Open 0 (h.VarDecl Const no_notes))) 1 h.VarDeclarator (node 0 h.BindingIdent (named 0 default r.Binding) ++ value)
-stated-beside (t.OwnStates f inner name_field x ctxt role head body {made = within} is_head one) own steps behind is cover place field =
-    let s : Spot = past (past (top_spot place field) (h.Open f h.ExportDefaultDecl)) (h.Open inner head) in
+        occurrences_node first_spot 0 (h.VarDecl Const no_notes)
+        (node 1 h.VarDeclarator (node 0 h.BindingIdent (named 0 default r.Binding) ++ value))
+        ∙ occurrences_node (past first_spot (h.Open 0 (h.VarDecl Const no_notes))) 1 h.VarDeclarator
+        (node 0 h.BindingIdent (named 0 default r.Binding) ++ value)
+stated-beside (t.OwnStates f inner name_field x ctxt role head body {made = within} is_head one) own
+    steps behind is cover place field =
+    let s : Spot = past (past (top_spot place field) (h.Open f h.ExportDefaultDecl))
+    (h.Open inner head) in
     let own_body : List Item = h.Ident name_field x ctxt role ∷ body in
     let parts = default_parts steps f inner head own_body own cover in
     let it =
@@ -329,10 +345,14 @@ stated-beside (t.OwnStates f inner name_field x ctxt role head body {made = with
     stated_so s (declared_spot 2 head) place field it [] (no_front refl)
     (occurrences_node first_spot 0 (declaration_head head) within)
     (occurrences_node (top_spot place field) f h.ExportDefaultDecl (node inner head own_body)
-    ∙ occurrences_node (past (top_spot place field) (h.Open f h.ExportDefaultDecl)) inner head own_body)
+    ∙ occurrences_node (past (top_spot place field) (h.Open f h.ExportDefaultDecl)) inner head
+    own_body)
     (omega arith) (omega arith) (omega (arith, a, b)) (omega (arith, c))
-stated-beside {default = default} (t.DefaultStates f inner first_field head first more {made = within} is_head one) own steps behind is cover place field =
-    let s : Spot = past (past (top_spot place field) (h.Open f h.ExportDefaultDecl)) (h.Open inner head) in
+stated-beside {default = default}
+    (t.DefaultStates f inner first_field head first more {made = within} is_head one) own steps
+    behind is cover place field =
+    let s : Spot = past (past (top_spot place field) (h.Open f h.ExportDefaultDecl))
+    (h.Open inner head) in
     let body : List Item = h.Open first_field first ∷ more in
     let parts = default_parts steps f inner head body own cover in
     let it =

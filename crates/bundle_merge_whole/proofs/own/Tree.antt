@@ -77,7 +77,8 @@ stands-at_top _ (f.node {field = n} {head = head} {inside = inside} it in_it) to
 placed-fit : (n : ℕ) (nodes : List (List Item)) → AllByRecursion (IsFit AnItem 0) nodes →
     (top : TopItem) → Has (placed n nodes) top → IsFit AnItem 0 top.items
 placed-fit n [] fits top has = absurd has
-placed-fit n (items ∷ more) fits top (inl e) = subst (λ (t : TopItem). IsFit AnItem 0 t.items) e fits.0
+placed-fit n (items ∷ more) fits top (inl e) = subst (λ (t : TopItem). IsFit AnItem 0 t.items) e
+    fits.0
 placed-fit n (items ∷ more) fits top (inr has) = placed-fit (n + length items) more fits.1 top has
 
 pub top-fit : (tree : List Item) → IsFit AModule 0 tree → (top : TopItem) →
@@ -100,14 +101,16 @@ module _ (tree : List Item) (s : Spot) (items tail : List Item) (at : IsAt tree 
   names-are =
       ap occurrences at.tree_is
       ∙ occurrences_append start at.front (items ++ tail)
-      ∙ ap (λ t. occurrences_from start at.front ++ occurrences_from t (items ++ tail)) (sym at.spot_is)
+      ∙ ap (λ t. occurrences_from start at.front ++ occurrences_from t (items ++ tail))
+      (sym at.spot_is)
       ∙ ap (λ l. occurrences_from start at.front ++ l) (occurrences_append s items tail)
 
   -- a name of the part is one of the tree
   pub name-there : (i : ℕ) (o : Occurrence) → slice_get os i ≡ Some o →
       (j : ℕ) × (slice_get (occurrences tree) j ≡ Some o)
   name-there i o is =
-      let it = get-right (occurrences_from start at.front) (os ++ occurrences_from (fold past s items) tail) i o
+      let it = get-right (occurrences_from start at.front)
+      (os ++ occurrences_from (fold past s items) tail) i o
       (get-left os (occurrences_from (fold past s items) tail) i o is) in
       (it.0, ap (λ l. slice_get l it.0) names-are ∙ it.1)
 
@@ -155,7 +158,8 @@ module _ (tree : List Item) (s : Spot) (items tail : List Item) (at : IsAt tree 
       let place = fold-place s items in
       let its = fold-path nodes s in (
         omega (arith, place),
-        subst (AllOf (IsNodeIn high (fold past s items).place)) (sym (its.1 ∙ ap (in_field its.0) path)) (inl refl, tt),
+        subst (AllOf (IsNodeIn high (fold past s items).place))
+            (sym (its.1 ∙ ap (in_field its.0) path)) (inl refl, tt),
       )
 
   names-behind : Each IsAwayName (occurrences_from (fold past s items) tail)
@@ -163,17 +167,21 @@ module _ (tree : List Item) (s : Spot) (items tail : List Item) (at : IsAt tree 
       let place = fold-place s items in
       each-of IsAwayName (occurrences_from (fold past s items) tail)
       (all-more (IsOccurrenceIn high (high + length tail)) IsAwayName
-      (λ o. all-more (IsIn high (high + length tail)) (IsAway s.place high) (behind-away (high + length tail)) (scopes_around Es o.path))
+      (λ o. all-more (IsIn high (high + length tail)) (IsAway s.place high)
+      (behind-away (high + length tail)) (scopes_around Es o.path))
       (occurrences_from (fold past s items) tail)
-      (occurrences-in high (high + length tail) tail (fold past s items) spot-behind (omega (arith, place))))
+      (occurrences-in high (high + length tail) tail (fold past s items) spot-behind
+      (omega (arith, place))))
 
   -- each name of the tree is away, or one of the part
   each-name : Each (λ o. IsAwayName o ⊎ ((i : ℕ) × (slice_get os i ≡ Some o))) (occurrences tree)
   each-name j o is =
-      by (get-append (occurrences_from start at.front) (os ++ occurrences_from (fold past s items) tail) j o
+      by (get-append (occurrences_from start at.front)
+      (os ++ occurrences_from (fold past s items) tail) j o
       (ap (λ l. slice_get l j) (sym names-are) ∙ is))
     where
-      on : (k : ℕ) → (slice_get os k ≡ Some o) ⊎ ((i : ℕ) × (slice_get (occurrences_from (fold past s items) tail) i ≡ Some o)) →
+      on : (k : ℕ) → (slice_get os k ≡ Some o) ⊎
+          ((i : ℕ) × (slice_get (occurrences_from (fold past s items) tail) i ≡ Some o)) →
           IsAwayName o ⊎ ((i : ℕ) × (slice_get os i ≡ Some o))
       on k (inl here) = inr (k, here)
       on k (inr behind) = inl (names-behind behind.0 o behind.1)
@@ -182,7 +190,8 @@ module _ (tree : List Item) (s : Spot) (items tail : List Item) (at : IsAt tree 
           ⊎ ((i : ℕ) × (slice_get (os ++ occurrences_from (fold past s items) tail) i ≡ Some o)) →
           IsAwayName o ⊎ ((i : ℕ) × (slice_get os i ≡ Some o))
       by (inl before) = inl (names-before j o before)
-      by (inr later) = on later.0 (get-append os (occurrences_from (fold past s items) tail) later.0 o later.1)
+      by (inr later) = on later.0 (get-append os (occurrences_from (fold past s items) tail) later.0
+          o later.1)
 
   abbrev ds : List Declared
   ds = declared BySymbol Es tree
@@ -192,7 +201,8 @@ module _ (tree : List Item) (s : Spot) (items tail : List Item) (at : IsAt tree 
       (i : ℕ) × (slice_get ds i ≡ Some d)) os
   own-declared i o is d its =
       let there = name-there i o is in
-      each-occurrence (λ d. (j : ℕ) × (slice_get ds j ≡ Some d)) BySymbol Es tree (λ j d at. (j, at)) there.0 o there.1 d its
+      each-occurrence (λ d. (j : ℕ) × (slice_get ds j ≡ Some d)) BySymbol Es tree
+      (λ j d at. (j, at)) there.0 o there.1 d its
 
   declared-scopes : (o : Occurrence) (d : Declared) → declaration_of BySymbol Es o ≡ Some d →
       d.scopes ≡ scopes_around Es o.path
@@ -209,21 +219,26 @@ module _ (tree : List Item) (s : Spot) (items tail : List Item) (at : IsAt tree 
   all-declared =
       each-declared
       (λ d. IsDeclaredAway s.place high d
-      ⊎ ((i : ℕ) × (o : Occurrence) × (slice_get os i ≡ Some o) × (declaration_of BySymbol Es o ≡ Some d)))
+      ⊎ ((i : ℕ) × (o : Occurrence) × (slice_get os i ≡ Some o) ×
+      (declaration_of BySymbol Es o ≡ Some d)))
       (λ o. IsAwayName o ⊎ ((i : ℕ) × (slice_get os i ≡ Some o))) BySymbol Es
       (λ x. inl (tt, tt)) (λ place. inl (tt, tt)) by tree each-name
     where
       by : (o : Occurrence) (d : Declared) → IsAwayName o ⊎ ((i : ℕ) × (slice_get os i ≡ Some o)) →
           declaration_of BySymbol Es o ≡ Some d →
           IsDeclaredAway s.place high d
-          ⊎ ((i : ℕ) × (o : Occurrence) × (slice_get os i ≡ Some o) × (declaration_of BySymbol Es o ≡ Some d))
-      by o d (inl away) is = inl (subst (AllOf (IsAway s.place high)) (sym (declared-scopes o d is)) away)
+          ⊎ ((i : ℕ) × (o : Occurrence) × (slice_get os i ≡ Some o) ×
+          (declaration_of BySymbol Es o ≡ Some d))
+      by o d (inl away) is = inl (subst (AllOf (IsAway s.place high)) (sym (declared-scopes o d is))
+          away)
       by o d (inr there) is = inr (there.0, o, there.1, is)
 
   pub all-ways : HasWays tree → AllOf HasWay os
   all-ways ways = go os (λ i o is. name-there i o is)
     where
-      go : (some : List Occurrence) → ((i : ℕ) (o : Occurrence) → slice_get some i ≡ Some o → (j : ℕ) × (slice_get (occurrences tree) j ≡ Some o)) →
+      go : (some : List Occurrence) →
+          ((i : ℕ) (o : Occurrence) → slice_get some i ≡ Some o → (j : ℕ) ×
+          (slice_get (occurrences tree) j ≡ Some o)) →
           AllOf HasWay some
       go [] there = tt
       go (o ∷ some) there = (

@@ -60,7 +60,6 @@ pairs (e.OfReads field name inside is) from to = []
 pairs (e.OfCall field name inside is) from to = []
 pairs (e.OfMeta field kind name is) from to = []
 
-
 pub rewrites_nodes : {its : Around} {work rest : Work} {before made : List Item} →
     Rewrites its work before made rest → AreNodes before
 rewrites_nodes e.Nothing = n.nothing

@@ -1,5 +1,5 @@
--- Where modules stand for each other, so do their blocks; and those that a plan has by the places of a
--- list are the blocks of the program by places.
+-- Where modules stand for each other, so do their blocks; and those that a plan has by the places
+-- of a list are the blocks of the program by places.
 use Rattle.std.proofs.Common.{◌≡◌, ◌⊎◌, inl, inr, ◌↔◌, ℕ, zero, suc, ◌+◌, Bool, true, false, nat_eq, List, [], ◌∷◌, ◌++◌, Some, Contains, length, map, refl, sym, ap, ◌∙◌, subst, cond, eqb-true, eq-eqb, arith}
 use Rattle.std.specs.Prelude.{flat_map, slice_get}
 use Rattle.std.specs.List.{AllZip}
@@ -13,14 +13,15 @@ use Rattle.bundle_order_sort.specs.Plan.{IsPlanned, IsPlanOf}
 use Rattle.bundle_order_sort.specs.declared.plan.Block.{Block}
 use Rattle.bundle_order_sort.specs.declared.plan.Plan.{Plan}
 use Rattle.bundle_order_sort.proofs.OnceLemmas.{IsOnce}
-use Rattle.bundle_rules.specs.Program.{Program, requested, Requests, SharesBlock, IsList, IsReached, AreBlocks}
-use Rattle.bundle_link_reached.specs.Alike.{IsAlike, IsAt}
+use Rattle.bundle_rules.specs.Program.{Program, requested, Requests, SharesBlock, AreBlocks}
+use Rattle.bundle_link_reached.specs.Alike.{IsAt}
 use Rattle.bundle_link_reached.proofs.ElementLemmas.{later, first_or_later}
 use Rattle.bundle_link_reached.proofs.NumberLemmas.{held}
 use Rattle.bundle_merge_whole.specs.planned.Blocks.{block_of}
 use Rattle.bundle_merge_whole.specs.planned.Decided.{DecidedBlock, IsBlockDecided, numbers_from}
 use Rattle.bundle_merge_whole.proofs.planned.ListLemmas.{here, no_element}
 use Rattle.bundle_merge_whole.proofs.planned.RequestLemmas.{list-once, list-reached}
+use Rattle.bundle_merge_whole.specs.sound.Known.{IsByPlaces}
 use Rattle.bundle_merge_whole.proofs.sound.Listing.{lists-alike}
 use Rattle.bundle_merge_whole.proofs.sound.Requests.{requested-zip}
 use Rattle.bundle_merge_whole.proofs.sound.Sound.{places-list}
@@ -194,34 +195,34 @@ placed-zip ids (m ∷ members) once all =
     (r.1, placed-zip ids members once (λ n c. all n (later m members n c)))
 
 -- ---- the blocks of a plan
-module _ (p q : Program) (ids : List ℕ) (g : Modules) (is_list : IsList p ids) (w : IsAlike p q (IsAt ids)) (graph : (m : ℕ) → IsReached p m → deps g m ≡ requested p m) where
+module _ (p q : Program) (ids : List ℕ) (g : Modules) (w : IsByPlaces p q ids g) where
   same-edges : (m k : ℕ) → IsAt ids m k → AllZip (IsAt ids) (deps g m) (requested q k)
   same-edges m k at =
       subst (λ (l : List ℕ). AllZip (IsAt ids) l (requested q k))
-      (sym (graph m ((list-reached p ids is_list m).0 (held ids m k at))))
-      (requested-zip p q (IsAt ids) w m k at)
+      (sym (w.graph m ((list-reached p ids w.is_list m).0 (held ids m k at))))
+      (requested-zip p q (IsAt ids) w.alike m k at)
 
   edge-on : (m k : ℕ) → IsAt ids m k → Edges g m m → Requests q k k
   edge-on m k at edge =
       let its = zip-forth (IsAt ids) (deps g m) (requested q k) (same-edges m k at) m edge in
-      subst (Contains (requested q k)) (w.one m its.0 k its.2 at) its.1
+      subst (Contains (requested q k)) (w.alike.one m its.0 k its.2 at) its.1
 
   edge-back : (m k : ℕ) → IsAt ids m k → Requests q k k → Edges g m m
   edge-back m k at edge =
       let its = zip-back (IsAt ids) (deps g m) (requested q k) (same-edges m k at) k edge in
-      subst (Contains (deps g m)) (w.other k its.0 m its.2 at) its.1
+      subst (Contains (deps g m)) (w.alike.other k its.0 m its.2 at) its.1
 
   reach-on : (a b c e : ℕ) → IsAt ids a c → IsAt ids b e → Reaches (Edges g) a b →
       Reaches (Requests q) c e
   reach-on a b c e r h walk =
       let its = walk-on (IsAt ids) (deps g) (requested q) same-edges walk c r in
-      subst (Reaches (Requests q) c) (w.one b its.0 e its.1 h) its.2
+      subst (Reaches (Requests q) c) (w.alike.one b its.0 e its.1 h) its.2
 
   reach-back : (a b c e : ℕ) → IsAt ids a c → IsAt ids b e → Reaches (Requests q) c e →
       Reaches (Edges g) a b
   reach-back a b c e r h walk =
       let its = walk-back (IsAt ids) (deps g) (requested q) same-edges walk a r in
-      subst (Reaches (Edges g) a) (w.other e its.0 b its.1 h) its.2
+      subst (Reaches (Edges g) a) (w.alike.other e its.0 b its.1 h) its.2
 
   shares-both : (a b c e : ℕ) → IsAt ids a c → IsAt ids b e →
       ReachEachOther g a b ↔ SharesBlock q c e
@@ -241,7 +242,7 @@ module _ (p q : Program) (ids : List ℕ) (g : Modules) (is_list : IsList p ids)
   blocks-zip list inside (members ∷ blocks) [] z all = absurd z
   blocks-zip list inside (members ∷ blocks) (f ∷ found) z all = (
     subst (AllZip (IsAt ids) members) (sym z.0.places)
-        (placed-zip ids members (list-once p ids is_list) (λ m c. inside m (all.0 m c))),
+        (placed-zip ids members (list-once p ids w.is_list) (λ m c. inside m (all.0 m c))),
     blocks-zip list inside blocks found z.1 all.1,
   )
 
@@ -266,10 +267,11 @@ module _ (p q : Program) (ids : List ℕ) (g : Modules) (is_list : IsList p ids)
   each-decided [] [] z all block c = absurd (no_element c)
   each-decided [] (f ∷ found) z all block c = absurd z
   each-decided (members ∷ blocks) [] z all block c = absurd z
-  each-decided (members ∷ blocks) (f ∷ found) z all block c = elim (first_or_later (block_of f) (map block_of found) block c) [
-    | inl e ↦ subst (IsBlockDecided q) e (one-decided members f z.0 all.0)
-    | inr rest ↦ each-decided blocks found z.1 all.1 block rest
-  ]
+  each-decided (members ∷ blocks) (f ∷ found) z all block c =
+      elim (first_or_later (block_of f) (map block_of found) block c) [
+        | inl e ↦ subst (IsBlockDecided q) e (one-decided members f z.0 all.0)
+        | inr rest ↦ each-decided blocks found z.1 all.1 block rest
+      ]
 
   -- the blocks of a plan by the places of the list are those of the program by places
   pub planned-blocks : (plan : Plan) → IsPlanOf g p.entry ids plan →
@@ -278,8 +280,8 @@ module _ (p q : Program) (ids : List ℕ) (g : Modules) (is_list : IsList p ids)
       × ((block : DecidedBlock) → Contains (map block_of plan.blocks.items) block →
       IsBlockDecided q block)
   planned-blocks plan its = (
-    blocks-on (IsAt ids) w.one (ReachEachOther g) (SharesBlock q) shares-both its.are_blocks nums
-        nums _ beside beside zip,
+    blocks-on (IsAt ids) w.alike.one (ReachEachOther g) (SharesBlock q) shares-both its.are_blocks
+        nums nums _ beside beside zip,
     each-decided its.blocks plan.blocks.items its.planned zip,
   )
     where
@@ -288,10 +290,10 @@ module _ (p q : Program) (ids : List ℕ) (g : Modules) (is_list : IsList p ids)
 
       beside : AllZip (IsAt ids) its.list nums
       beside =
-          let on = lists-alike (IsAt ids) w.one w.other (deps g) (requested q) same-edges
-          its.is_list.made [] [] (q.entry ∷ []) tt tt (w.entry, tt) in
+          let on = lists-alike (IsAt ids) w.alike.one w.alike.other (deps g) (requested q)
+          same-edges its.is_list.made [] [] (q.entry ∷ []) tt tt (w.alike.entry, tt) in
           subst (AllZip (IsAt ids) its.list)
-          (Lists-only (places-list p q ids is_list w) on.2) on.1
+          (Lists-only (places-list p q ids w.is_list w.alike) on.2) on.1
 
       zip : AllZip (AllZip (IsAt ids)) its.blocks
           (map (λ (block : DecidedBlock). block.modules) (map block_of plan.blocks.items))

@@ -15,8 +15,6 @@ use Rattle.bundle_link_index.specs.declared.target.Target.{Target as Found}
 use Rattle.std.specs.Borrow.{Bor}
 use Rattle.bundle_link_targets.specs.Handed.{IsExternalOf, IsLoadOf, AreLoadsIn}
 use Rattle.bundle_link_targets.specs.Lists.{list_in}
-use Rattle.bundle_link_targets.specs.Linked.{HandsOver, IsLinkingOf}
-use Rattle.bundle_link_targets.specs.Meant.{AreModules}
 use Rattle.bundle_link_targets.specs.Names.{pair_of}
 use Rattle.bundle_link_targets.specs.Taken.{specifier_of}
 use Rattle.bundle_link_targets.specs.declared.linking.Linking.{Linking}
@@ -34,7 +32,7 @@ use Rattle.bundle_merge_whole.proofs.planned.FoundLemmas.{loads-found}
 use Rattle.bundle_merge_whole.proofs.planned.ListLemmas.{here, map_back}
 use Rattle.bundle_merge_whole.proofs.planned.RequestLemmas.{declared_leads, list-reached}
 use Rattle.bundle_merge_whole.proofs.planned.SortedLemmas.{numbers-grow}
-use Rattle.bundle_merge_whole.specs.sound.Decided.{AreTold, decided_by, exports_some, external_of, has_some, load_of}
+use Rattle.bundle_merge_whole.specs.sound.Decided.{AreLinkedBy, decided_by, exports_some, external_of, has_some, load_of}
 
 -- ---- numbers
 pub below-from : (n : ℕ) → numbers_below n ≡ numbers_from zero n
@@ -72,7 +70,8 @@ last-is (a ∷ []) x = refl
 last-is (a ∷ b ∷ xs) x = last-is (b ∷ xs) x
 
 -- ---- what is so of all elements of a list
-all-there : {A : Type 0} (P : A → Type 0) (xs : List A) → All P xs → (x : A) → Contains xs x → P x
+pub all-there : {A : Type 0} (P : A → Type 0) (xs : List A) → All P xs → (x : A) →
+    Contains xs x → P x
 all-there P xs all x c = subst P c.2 (all c.0 x c.1)
 
 mapped : (loads : List Loaded) →
@@ -93,14 +92,14 @@ externals-decided q (its ∷ found) each =
     )
 
 -- names are linked where the list of them has something
-exported-some : (q : Program) (m : ℕ) (pairs : List (Bor Text × Found)) →
+pub exported-some : (q : Program) (m : ℕ) (pairs : List (Bor Text × Found)) →
     AreLinked q m (map pair_of pairs) → IsTrue (has_some pairs) → (x : Text) × IsLinked q m x
 exported-some q m [] linked is = absurd (false≢true is)
 exported-some q m (pair ∷ pairs) linked is =
     let its = pair_of pair in
     (its.0, (its.1, (linked.all its.0 its.1).0 (here its (map pair_of pairs))))
 
-some-exported : (q : Program) (m : ℕ) (pairs : List (Bor Text × Found)) →
+pub some-exported : (q : Program) (m : ℕ) (pairs : List (Bor Text × Found)) →
     AreLinked q m (map pair_of pairs) → (x : Text) → IsLinked q m x → IsTrue (has_some pairs)
 some-exported q m [] linked x is =
     let c = (linked.all x is.0).1 is.1 in absurd (omega (arith, c.1))
@@ -133,27 +132,27 @@ entry-at q n is = by n refl
         ∙ (ap last-of (numbers-grow zero k) ∙ last-is (numbers_from zero k) (0 + k)) in
         omega (arith, e, last, grown)
 
-module _ (q : Program) (n : ℕ) (linking : Linking) (is_list : IsList q (numbers_from zero n)) (linked : IsLinkingOf q linking) (handed : HandsOver q (numbers_from zero n) linking) (are : AreModules q) (meta : ℕ → Bool) (count : ℕ → ℕ) (told : AreTold q n meta count) (blocks : List DecidedBlock) where
+module _ (q : Program) (n : ℕ) (linking : Linking) (meta : ℕ → Bool) (count : ℕ → ℕ) (w : AreLinkedBy q n linking meta count) (blocks : List DecidedBlock) where
   abbrev its : Decided
   its = decided_by linking meta count n blocks
 
   pub reached-below : (k : ℕ) → k < n → IsReached q k
   reached-below k l =
       let same : 0 + k ≡ k = omega arith in
-      (list-reached q (numbers_from zero n) is_list k).0
+      (list-reached q (numbers_from zero n) w.list k).0
       (subst (Contains (numbers_from zero n)) same (there-from zero n k l))
 
   -- what a module loads
   loads-of : (k : ℕ) → k < n → AreLoadsIn q k (list_in linking.outside.loads.items k)
-  loads-of k l = handed.loads k (reached-below k l)
+  loads-of k l = w.handed.loads k (reached-below k l)
 
   taken-of : (k : ℕ) → k < n → (load : DecidedLoad) →
       Contains (map load_of (list_in linking.outside.loads.items k)) load → IsLoadDecided q k load
   taken-of k l load c =
       let back = map_back load_of (list_in linking.outside.loads.items k) load c in
       let one =
-      all-there (IsLoadOf q k) (list_in linking.outside.loads.items k) ((loads-of k l).meant are)
-      back.0 back.1 in
+      all-there (IsLoadOf q k) (list_in linking.outside.loads.items k)
+      ((loads-of k l).meant w.modules) back.0 back.1 in
       subst (IsLoadDecided q k) back.2 (record { names = one.names; whole = one.whole })
 
   -- what is loaded is a module of the list
@@ -164,9 +163,12 @@ module _ (q : Program) (n : ℕ) (linking : Linking) (is_list : IsList q (number
       let back = map_back load_of (list_in linking.outside.loads.items k) load c in
       let there =
       subst (λ (ns : List ℕ). Contains ns load.«module») loads.modules
-      (subst (λ (m : ℕ). Contains (map (λ loaded. loaded.module) (list_in linking.outside.loads.items k)) m)
+      (subst
+      (λ (m : ℕ). Contains
+      (map (λ loaded. loaded.module) (list_in linking.outside.loads.items k)) m)
       (ap (λ (its : DecidedLoad). its.«module») back.2)
-      (map-there (λ loaded. loaded.module) (list_in linking.outside.loads.items k) back.0 back.1)) in
+      (map-there (λ loaded. loaded.module) (list_in linking.outside.loads.items k) back.0
+      back.1)) in
       let led =
       filter_back loads.test (filter_map (resolves q k) (declared_requests (tree_of q k)))
       load.«module» (once_back _ load.«module» there) in
@@ -176,7 +178,7 @@ module _ (q : Program) (n : ℕ) (linking : Linking) (is_list : IsList q (number
       (along (declared_leads q k load.«module» s.0 s.1 s.2) itself) in
       let below =
       from-there zero n load.«module»
-      ((list-reached q (numbers_from zero n) is_list load.«module»).1 reached) in
+      ((list-reached q (numbers_from zero n) w.list load.«module»).1 reached) in
       omega (arith, below)
 
   -- what is found of a module
@@ -185,16 +187,17 @@ module _ (q : Program) (n : ℕ) (linking : Linking) (is_list : IsList q (number
   module-found k l =
       let loads = loads-of k l in
       record {
-        common_js = linked.common_js k;
+        common_js = w.linked.common_js k;
         loads = λ es.
             subst (Members (AsksCommonJs q k) (requested q k))
             (sym (mapped (list_in linking.outside.loads.items k) ∙ loads.modules))
             (loads-found q k loads.test loads.tells);
         taken = taken-of k l;
-        meta = told.meta_told k l;
-        statements = told.counted k l;
+        meta = w.told.meta_told k l;
+        statements = w.told.counted k l;
         object =
-            object-told q linking.meant.targets (linked.meant are) k (its.is_object_meant k) refl;
+            object-told q linking.meant.targets (w.linked.meant w.modules) k (its.is_object_meant k)
+            refl;
       }
 
   -- what is found of externals
@@ -202,9 +205,10 @@ module _ (q : Program) (n : ℕ) (linking : Linking) (is_list : IsList q (number
       (externals q (numbers_from zero n))
   outside-found =
       subst (AllZip (IsExternalDecided q) (map external_of linking.outside.externals.items))
-      handed.externals.specifiers
+      w.handed.externals.specifiers
       (externals-decided q linking.outside.externals.items
-      (all-there (IsExternalOf q) linking.outside.externals.items (handed.externals.meant are)))
+      (all-there (IsExternalOf q) linking.outside.externals.items
+      (w.handed.externals.meant w.modules)))
 
   -- whether something is exported
   pub exports-found : IsTrue (exports_some linking n) ↔ HandsOut q AsModule
@@ -218,10 +222,10 @@ module _ (q : Program) (n : ℕ) (linking : Linking) (is_list : IsList q (number
       pairs = list_in linking.meant.linked.items q.entry
 
       linked_names : AreLinked q q.entry (map pair_of pairs)
-      linked_names = linked.linked are q.entry (inl refl)
+      linked_names = w.linked.linked w.modules q.entry (inl refl)
 
       at : exports_some linking n ≡ has_some pairs
-      at = ap (exports_some linking) (sym (entry-at q n is_list))
+      at = ap (exports_some linking) (sym (entry-at q n w.list))
 
       handed_out : HandsOut q AsModule → IsTrue (has_some pairs)
       handed_out (d.exported {x} is) = some-exported q q.entry pairs linked_names x is
@@ -233,7 +237,7 @@ module _ (q : Program) (n : ℕ) (linking : Linking) (is_list : IsList q (number
     modules = module-found;
     within = within;
     outside = outside-found;
-    starred = handed.stars;
+    starred = w.handed.stars;
     exports = exports-found;
   }
     where

@@ -1,5 +1,5 @@
--- Where modules stand for each other, their lists do too; and by the places of a list the list is that
--- of all numbers below its length.
+-- Where modules stand for each other, their lists do too; and by the places of a list the list is
+-- that of all numbers below its length.
 use Rattle.std.proofs.Common.{◌≡◌, inl, inr, ℕ, zero, suc, ◌+◌, List, [], ◌∷◌, ◌++◌, Some, Contains, length, refl, sym, ap₂, subst, arith}
 use Rattle.std.specs.Prelude.{slice_get}
 use Rattle.std.specs.List.{AllZip}
@@ -39,23 +39,19 @@ module _ (R : ℕ → ℕ → Type 0) where
     lists-alike finished b d (k ∷ t) zb zd zt = absurd zt
     lists-alike (passed {n = n} there more) b d [] zb zd zt = absurd zt
     lists-alike (passed {begun = begun} {done = done} {n = n} there more) b d (k ∷ t) zb zd zt =
-        let rest = lists-alike more b d t zb zd zt.1 in (
-          rest.0,
-          rest.1,
-          passed
-              (there-on one (begun ++ done) (b ++ d) (zip-join R begun done b d zb zd) n k zt.0 there)
-              rest.2,
-        )
+        let rest = lists-alike more b d t zb zd zt.1 in
+        let both = zip-join R begun done b d zb zd in
+        (rest.0, rest.1, passed (there-on one (begun ++ done) (b ++ d) both n k zt.0 there) rest.2)
     lists-alike (listed {n = n} new first more) b d [] zb zd zt = absurd zt
     lists-alike (listed {begun = begun} {done = done} {before = before} {n = n} new first more) b d (k ∷ t) zb zd zt =
         let inner = lists-alike first (k ∷ b) d (g k) (zt.0, zb) zd (same n k zt.0) in
         let rest = lists-alike more b (inner.0 ++ k ∷ []) t zb
-        (zip-join R before (n ∷ []) inner.0 (k ∷ []) inner.1 (zt.0, tt)) zt.1 in (
+        (zip-join R before (n ∷ []) inner.0 (k ∷ []) inner.1 (zt.0, tt)) zt.1 in
+        let both = zip-join R begun done b d zb zd in (
           rest.0,
           rest.1,
-          listed
-              (λ c. new (there-back other (begun ++ done) (b ++ d) (zip-join R begun done b d zb zd) n k zt.0 c))
-              inner.2 rest.2,
+          listed (λ c. new (there-back other (begun ++ done) (b ++ d) both n k zt.0 c)) inner.2
+              rest.2,
         )
 
 -- the numbers that stand for a list by its own places

@@ -1,5 +1,5 @@
--- Modules that stand for each other request modules that do, in one order. (All here but the names of
--- modules is a copy of what bundle_merge_whole proves in PlacedLemmas and does not hand on.)
+-- Modules that stand for each other request modules that do, in one order. (All here is a copy of
+-- what bundle_merge_whole proves in PlacedLemmas and does not hand on.)
 use Rattle.std.proofs.Common.{◌≡◌, ℕ, Bool, true, false, not, nat_eq, List, [], ◌∷◌, Option, Some, None, Contains, refl, sym, ◌∙◌, subst, cond, eqb-true, eq-eqb}
 use Rattle.std.specs.Prelude.{filter, filter_map}
 use Rattle.std.specs.List.{AllZip, cons_option}
@@ -83,6 +83,7 @@ module _ (p q : Program) (R : ℕ → ℕ → Type 0) (w : IsAlike p q R) where
   requested-zip m k r =
       zip-numbers (filter_map (resolves p m) (requests_in p.settings (tree_of p m)))
       (filter_map (resolves q k) (requests_in q.settings (tree_of q k)))
-      (subst (λ texts. AllZip R (filter_map (resolves p m) (requests_in p.settings (tree_of p m))) (filter_map (resolves q k) texts)) (same_asked p q R w m k r)
+      (subst
+      (λ texts. AllZip R (filter_map (resolves p m) (requests_in p.settings (tree_of p m)))
+      (filter_map (resolves q k) texts)) (same_asked p q R w m k r)
       (zip-led m k r (requests_in p.settings (tree_of p m)) (λ s c. c)))
-

@@ -50,7 +50,8 @@ module _ (p q : Program) (ids : List ℕ) (known : AreKnown p q ids) where
   no-fault k stage place file f reached fault =
       let its = number-of k reached in
       known.faultless its.0 stage place file f its.2
-      (fault_on q p (λ a b. IsAt ids b a) back (namespace_meant q p (λ a b. IsAt ids b a) back) fault its.0 its.1)
+      (fault_on q p (λ a b. IsAt ids b a) back (namespace_meant q p (λ a b. IsAt ids b a) back)
+      fault its.0 its.1)
 
   tree-faultless : (k : ℕ) → IsReached q k → (file : FileName) × IsFaultless file (tree_of q k)
   tree-faultless k reached =
@@ -93,7 +94,8 @@ module _ (p q : Program) (ids : List ℕ) (known : AreKnown p q ids) where
   pub sound : AreSound q (numbers_from zero (length ids))
   sound = record {
     is_list = places-list p q ids known.is_list known.alike;
-    checked = λ k stage place file f other reached fault. no-fault k stage place file f reached fault;
+    checked = λ k stage place file f other reached fault.
+        no-fault k stage place file f reached fault;
     faultless = tree-faultless;
     unlike = known.unlike;
     undoubled = undoubled;

@@ -34,16 +34,14 @@ no_module _ apart = refl
 
 from_seen : (s : Spot) (items : List Item) → AreSeen own_at s items → AreClean items
 from_seen s [] them = tt
-from_seen s (h.Open field head ∷ rest) them =
-    (
-      no_module head (own_head head them.0.0 them.0.1 them.0.2),
-      from_seen (past s (h.Open field head)) rest them.1,
-    )
-from_seen s (h.Ident field x ctxt role ∷ rest) them =
-    (
-      occurs role them.0.0 them.0.1 them.0.2,
-      from_seen (past s (h.Ident field x ctxt role)) rest them.1,
-    )
+from_seen s (h.Open field head ∷ rest) them = (
+  no_module head (own_head head them.0.0 them.0.1 them.0.2),
+  from_seen (past s (h.Open field head)) rest them.1,
+)
+from_seen s (h.Ident field x ctxt role ∷ rest) them = (
+  occurs role them.0.0 them.0.1 them.0.2,
+  from_seen (past s (h.Ident field x ctxt role)) rest them.1,
+)
 from_seen s (h.Hole field ∷ rest) them = (tt, from_seen (past s (h.Hole field)) rest them.1)
 from_seen s (h.Close ∷ rest) them = (tt, from_seen (past s h.Close) rest them.1)
 

@@ -74,17 +74,21 @@ tidy_key x = by (bytes_eq x (codes "__proto__")) (is_ascii_identifier x)
     by false false = (refl, (refl, tt))
 
 tidy_property : (pair : Text × Ident) → AreTidy (returned_property pair)
-tidy_property pair =
-    (
-      refl,
-      tidy_both (returned_key pair.0) (h.Ident 1 pair.1.0 pair.1.1 r.Reference ∷ h.Close ∷ [])
-          (tidy_key pair.0) (refl, (refl, tt)),
-    )
+tidy_property pair = (
+  refl,
+  tidy_both (returned_key pair.0) (h.Ident 1 pair.1.0 pair.1.1 r.Reference ∷ h.Close ∷ [])
+      (tidy_key pair.0) (refl, (refl, tt)),
+)
 
 tidy_returned : (pairs : List (Text × Ident)) → AreTidy (returned_object pairs)
-tidy_returned pairs =
-    (refl, (refl, tidy_both (flat_map returned_property pairs) (h.Close ∷ h.Close ∷ [])
-          (tidy_each returned_property tidy_property pairs) (refl, (refl, tt))))
+tidy_returned pairs = (
+  refl,
+  (
+    refl,
+    tidy_both (flat_map returned_property pairs) (h.Close ∷ h.Close ∷ [])
+        (tidy_each returned_property tidy_property pairs) (refl, (refl, tt)),
+  ),
+)
 
 tidy_function : (field : ℕ) (params stmts : List Item) → AreTidy params → AreTidy stmts →
     AreTidy (l.function_in field params stmts)

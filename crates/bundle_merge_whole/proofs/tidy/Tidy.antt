@@ -47,11 +47,10 @@ statements_tidy : (p : Program) (list : List ℕ) (context : Contexts) (m : ℕ)
 statements_tidy p list context m kind [] [] fit are = tt
 statements_tidy p list context m kind [] (body ∷ bodies) fit are = absurd are
 statements_tidy p list context m kind (statement ∷ statements) [] fit are = absurd are
-statements_tidy p list context m kind (statement ∷ statements) (body ∷ bodies) fit are =
-    (
-      statement_tidy p list context m kind statement body fit are.0,
-      statements_tidy p list context m kind statements bodies fit are.1,
-    )
+statements_tidy p list context m kind (statement ∷ statements) (body ∷ bodies) fit are = (
+  statement_tidy p list context m kind statement body fit are.0,
+  statements_tidy p list context m kind statements bodies fit are.1,
+)
 
 -- what the hook answered
 answer_tidy : (p : Program) (hooks : Hooks) (context : Contexts) (m : ℕ)
@@ -112,13 +111,12 @@ module _ (p : Program) (hooks : Hooks) (list : List ℕ) (context : Contexts)
   all_tidy [] [] its_due are = tt
   all_tidy [] (item ∷ items) its_due are = absurd are
   all_tidy (cause ∷ plan) [] its_due are = absurd are
-  all_tidy (cause ∷ plan) (item ∷ items) its_due are =
-      (
-        made_tidy cause item (its_due cause (0, omega arith, refl)) are.0,
-        all_tidy plan items
-            (λ other there. its_due other
-            (suc there.0, (let l = there.1 in omega (arith, l)), there.2)) are.1,
-      )
+  all_tidy (cause ∷ plan) (item ∷ items) its_due are = (
+    made_tidy cause item (its_due cause (0, omega arith, refl)) are.0,
+    all_tidy plan items
+        (λ other there. its_due other
+        (suc there.0, (let l = there.1 in omega (arith, l)), there.2)) are.1,
+  )
 
   -- AND ALL TOGETHER
   pub joined-tidied : (plan : List Cause) (items : List (List Item)) →

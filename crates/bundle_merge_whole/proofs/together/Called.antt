@@ -72,13 +72,13 @@ noted-at p hooks list context answers (first ∷ plan) (x ∷ items) [] each m c
     absurd each
 noted-at p hooks list context answers (first ∷ plan) (x ∷ items) (one ∷ noted) each zero cause
     item at there = record {
-  one = one;
-  there = refl;
-  alone =
-      subst (λ k. IsAloneAs p hooks list context answers k item one) (same_Some first cause at)
-      (subst (λ y. IsAloneAs p hooks list context answers first y one) (same_Some x item there)
-      each.0);
-}
+      one = one;
+      there = refl;
+      alone =
+          subst (λ k. IsAloneAs p hooks list context answers k item one) (same_Some first cause at)
+          (subst (λ y. IsAloneAs p hooks list context answers first y one) (same_Some x item there)
+          each.0);
+    }
 noted-at p hooks list context answers (first ∷ plan) (x ∷ items) (one ∷ noted) each (suc m) cause
     item at there =
     let rest = noted-at p hooks list context answers plan items noted each.1 m cause item at there

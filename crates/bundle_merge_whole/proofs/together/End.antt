@@ -31,7 +31,7 @@ module _ (p : Program) (hooks : Hooks) (list : List ℕ) (context : Contexts) (a
 
   its-label : (l : Label) → IsMeant p l → IsTopLabel p l ⊎ IsInFunction p l
   its-label l meant =
-      elim (meant-top p list sound {l = l} meant) [ | inl top ↦ inl top | inr own ↦ inr (in-function l own) ]
+      elim (meant-top p list sound {l = l} meant) [ inl top ↦ inl top | inr own ↦ inr (in-function l own) ]
 
   linked : AreLinkedTop p
   linked = record {

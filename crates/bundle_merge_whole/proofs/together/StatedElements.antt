@@ -126,4 +126,3 @@ stated-range start (h.Open field head ∷ rest) statement c = by head (form head
     by k declared c = (refl, exported h.ExportDecl (taken_from (suc start) (without_last rest)) (range-from (suc start) (without_last rest)) c)
     by k default_expression c = (refl, exported h.ExportDefaultExpr (default_constant (suc start) (without_last rest)) (range-constant (suc start) (without_last rest)) c)
     by k default_declared c = (refl, exported h.ExportDefaultDecl (default_declaration (suc start) (without_last rest)) (range-declaration (suc start) (without_last rest)) c)
-

@@ -63,18 +63,25 @@ parted xs ys k place its = by (split xs k)
     by : (k < length xs) ⊎ ((j : ℕ) × (k ≡ length xs + j)) →
         ((k < length xs) × HasPlace xs k place)
         ⊎ ((j : ℕ) × (k ≡ length xs + j) × HasPlace ys j place)
-    by (inl lt) = inl (lt, record {
-      statement = its.statement;
-      there = sym (get-front xs ys k lt) ∙ its.there;
-      x = its.x;
-      has = its.has;
-    })
-    by (inr more) = inr (more.0, more.1, record {
-      statement = its.statement;
-      there = sym (get-behind xs ys k more.0 more.1) ∙ its.there;
-      x = its.x;
-      has = its.has;
-    })
+    by (inl lt) = inl (
+      lt,
+      record {
+        statement = its.statement;
+        there = sym (get-front xs ys k lt) ∙ its.there;
+        x = its.x;
+        has = its.has;
+      },
+    )
+    by (inr more) = inr (
+      more.0,
+      more.1,
+      record {
+        statement = its.statement;
+        there = sym (get-behind xs ys k more.0 more.1) ∙ its.there;
+        x = its.x;
+        has = its.has;
+      },
+    )
 
 same-among : (start : ℕ) (lists : List (List Item)) (k j place : ℕ) →
     HasPlace (flat_map states (placed start lists)) k place →

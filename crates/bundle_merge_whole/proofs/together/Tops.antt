@@ -81,8 +81,7 @@ module _ (p : Program) (hooks : Hooks) (list : List ℕ) (context : Contexts)
       let found = list_any-found
       (λ item. is_written_in (own_declared item) Top (name_of ByContext x c)) items is in
       let here = of-item found.0 found.1 found.2 in
-      let declares = here.1.alone.declared x c found.3 in
-      (
+      let declares = here.1.alone.declared x c found.3 in (
         declares.0,
         record { cause = here.0; due = here.1.due; declares = declares.1 },
         declares.2,

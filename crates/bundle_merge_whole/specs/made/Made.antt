@@ -44,10 +44,10 @@ pub record IsStatedAs (p : Program) (list : List ℕ) (context : Contexts) (m : 
   -- those of what follows in the module
   pub behind : List Step
   pub by : StatesList (record {
-        steps = steps ++ behind;
-        meta = meta_ident p list context m;
-        clears_notes = true;
-      }) (default_ident context m) given made
+    steps = steps ++ behind;
+    meta = meta_ident p list context m;
+    clears_notes = true;
+  }) (default_ident context m) given made
 
 -- the names of a target's texts, each with the identifier that stands for it
 abbrev pub named_idents : Program → List ℕ → Contexts → (Text → Target) → List Text →

@@ -96,9 +96,9 @@ pub record IsTold (p : Program) (list : List ℕ) (context : Contexts) (m : ℕ)
   pub each : AllNoted p list context m kind (inner_of p m kind its.top)
       (occurrences_in (tree_of p m) its.top) its.steps notes
   pub same : SameStated (record {
-        steps = its.steps;
-        meta = meta_ident p list context m;
-        clears_notes = true;
-      }) (meta_meant p m) notes (default_ident context m) (default_meant m) its.given made
+    steps = its.steps;
+    meta = meta_ident p list context m;
+    clears_notes = true;
+  }) (meta_meant p m) notes (default_ident context m) (default_meant m) its.given made
   pub means : OwnMeaning p m statement same.marks
   pub default : declares_default its.given ≡ true → IsMeant p (Of (Declared m default_name))

@@ -4,11 +4,13 @@ use Rattle.std.specs.Prelude.{◌≡◌, ℕ, zero, suc, ◌<◌, Bool, true, fa
 use Rattle.std.specs.List.{list_any}
 use Rattle.bundle_rules.specs.Statements.{own_statements}
 use Rattle.bundle_rules.specs.Entries.{has_import_meta}
-use Rattle.bundle_rules.specs.Program.{Program, tree_of}
+use Rattle.bundle_rules.specs.Program.{Program, tree_of, IsList}
 use Rattle.bundle_link_index.specs.Leads.{flagged}
 use Rattle.bundle_link_index.specs.declared.target.Target.TheVariants as t
 use Rattle.bundle_link_index.specs.contracts.target.TargetPartialEq.TheImpl as target_impl
+use Rattle.bundle_link_targets.specs.Linked.{HandsOver, IsLinkingOf}
 use Rattle.bundle_link_targets.specs.Lists.{list_in}
+use Rattle.bundle_link_targets.specs.Meant.{AreModules}
 use Rattle.bundle_link_targets.specs.declared.linking.Linking.{Linking}
 use Rattle.bundle_link_targets.specs.declared.target.External.{External}
 use Rattle.bundle_link_targets.specs.declared.target.Loaded.{Loaded}
@@ -61,3 +63,13 @@ decided_by linking meta count n blocks = record {
 pub record AreTold (q : Program) (n : ℕ) (meta : ℕ → Bool) (count : ℕ → ℕ) : Type 0 where
   pub meta_told : (k : ℕ) → k < n → meta k ≡ has_import_meta (tree_of q k)
   pub counted : (k : ℕ) → k < n → count k ≡ length (own_statements (tree_of q k))
+
+-- the first n modules are those of the program in the order of its list, they are linked, and their
+-- tables tell this
+pub record AreLinkedBy (q : Program) (n : ℕ) (linking : Linking) (meta : ℕ → Bool)
+    (count : ℕ → ℕ) : Type 0 where
+  pub list : IsList q (numbers_from zero n)
+  pub linked : IsLinkingOf q linking
+  pub handed : HandsOver q (numbers_from zero n) linking
+  pub modules : AreModules q
+  pub told : AreTold q n meta count

@@ -4,7 +4,8 @@ use Rattle.std.specs.Prelude.{◌≡◌, ℕ, zero, List, Some, Contains, codes,
 use Rattle.bundle_tree_names.specs.FileName.{Name as FileName}
 use Rattle.bundle_rules.specs.Nodes.{Text}
 use Rattle.bundle_rules.specs.Judging.{requests_in}
-use Rattle.bundle_rules.specs.Program.{Program, tree_of, IsReached, IsList}
+use Rattle.bundle_order_graph.specs.Modules.{Modules, deps}
+use Rattle.bundle_rules.specs.Program.{Program, tree_of, requested, IsReached, IsList}
 use Rattle.bundle_rules.specs.Faults.{IsFaultless, IsFaultlessProgram}
 use Rattle.bundle_rules.specs.Linking.{Target}
 use Rattle.bundle_rules.specs.Meaning.{Of, IsMeant}
@@ -21,6 +22,13 @@ LeadsAll p =
     IsReached p m →
     Contains (requests_in p.settings (tree_of p m)) s →
     (d : ℕ) × (p.leads m s ≡ Some d)
+
+-- the second program is the first by the places of this list, and a graph has the requests of the
+-- first
+pub record IsByPlaces (p q : Program) (ids : List ℕ) (g : Modules) : Type 0 where
+  pub is_list : IsList p ids
+  pub alike : IsAlike p q (IsAt ids)
+  pub graph : (m : ℕ) → IsReached p m → deps g m ≡ requested p m
 
 -- no program fault and no fault of a tree by itself is there, each request leads to a module, trees
 -- are fit, and the second program is the first by the places of this list
