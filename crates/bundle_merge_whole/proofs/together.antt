@@ -18,3 +18,4 @@ pub mod Modules
 pub mod Ready
 pub mod Right
 pub mod End
+pub mod Known

@@ -87,4 +87,3 @@ module _ (p q : Program) (R : ℕ → ℕ → Type 0) (w : IsAlike p q R) where
       (λ texts. AllZip R (filter_map (resolves p m) (requests_in p.settings (tree_of p m)))
       (filter_map (resolves q k) texts)) (same_asked p q R w m k r)
       (zip-led m k r (requests_in p.settings (tree_of p m)) (λ s c. c)))
-

@@ -99,19 +99,19 @@ same-ascending (x ∷ xs) (y ∷ ys) up other both =
     rest : (z : Text) → Contains xs z ↔ Contains ys z
     rest z = (
       λ c. elim (first_or_later y ys z ((both z).0 (later x xs z c))) [
-          | inl e ↦ absurd
-              (not-below-itself x
-              (subst (λ w. slice_cmp nat_cmp x w ≡ Less) (sym (one ∙ e))
-              (above-there x xs a.0 z c)))
-          | inr d ↦ d
-        ],
+        | inl e ↦ absurd
+            (not-below-itself x
+            (subst (λ w. slice_cmp nat_cmp x w ≡ Less) (sym (one ∙ e))
+            (above-there x xs a.0 z c)))
+        | inr d ↦ d
+      ],
       λ c. elim (first_or_later x xs z ((both z).1 (later y ys z c))) [
-          | inl e ↦ absurd
-              (not-below-itself y
-              (subst (λ w. slice_cmp nat_cmp y w ≡ Less) (sym (sym one ∙ e))
-              (above-there y ys b.0 z c)))
-          | inr d ↦ d
-        ],
+        | inl e ↦ absurd
+            (not-below-itself y
+            (subst (λ w. slice_cmp nat_cmp y w ≡ Less) (sym (sym one ∙ e))
+            (above-there y ys b.0 z c)))
+        | inr d ↦ d
+      ],
     )
 
 both-steps : {A B C : Type 0} → A ↔ B → C ↔ B → A ↔ C
