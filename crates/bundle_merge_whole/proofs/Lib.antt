@@ -17,3 +17,4 @@ pub mod together
 pub mod tidy
 pub mod moved
 pub mod sound
+pub mod undoubled

@@ -11,3 +11,4 @@ pub mod together
 pub mod tidy
 pub mod moved
 pub mod sound
+pub mod undoubled

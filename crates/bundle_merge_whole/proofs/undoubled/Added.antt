@@ -1,0 +1,41 @@
+-- What a linker adds declares no name twice.
+use Rattle.std.proofs.Common.{◌≡◌, ◌≢◌, ◌⊎◌, inl, inr, zero, suc, true, List, [], ◌∷◌, ap, sym, ◌∙◌}
+use Rattle.std.proofs.lemmas.Option.{none-some, same_Some}
+use Rattle.bundle_rules.specs.Declarations.{Declared}
+use Rattle.bundle_rules.specs.Doubled.{excludes}
+use Rattle.bundle_rules.specs.Idents.{Ident}
+use Rattle.bundle_rules.specs.Nodes.{Text}
+use Rattle.bundle_merge_injected.specs.Listed as l
+use Rattle.bundle_merge_joined.specs.joined.Joined.{own_declared}
+use Rattle.bundle_merge_whole.specs.undoubled.Clashing.{IsAmong, NoneClash}
+
+-- where none is declared, or one
+pub none_of_none : NoneClash []
+none_of_none a b one two its = none-some a one.1
+
+pub none_of_one : (d : Declared) → NoneClash (d ∷ [])
+none_of_one d a b (zero, one) (zero, two) its =
+    its.apart
+    (ap (λ (c : Declared). c.place) (sym (same_Some d a one) ∙ same_Some d b two))
+none_of_one d a b (zero, one) (suc j, two) its = none-some b two
+none_of_one d a b (suc i, one) two its = none-some a one
+
+-- where none excludes another
+pub none_excludes : (all : List Declared) →
+    ((a b : Declared) → IsAmong all a → IsAmong all b → excludes a b ≡ true → a.place ≢ b.place → ⊥) →
+    NoneClash all
+none_excludes all never a b one two its = by its.excluded
+  where
+    by : (excludes a b ≡ true) ⊎ (excludes b a ≡ true) → ⊥
+    by (inl x) = never a b one two x its.apart
+    by (inr y) = never b a two one y (λ same. its.apart (sym same))
+
+-- imports of the whole, or of nothing, and stars
+pub whole-none : (s : Text) (name : Ident) → NoneClash (own_declared (l.import_whole s name))
+whole-none s name = none_of_one _
+
+pub bare-none : (s : Text) → NoneClash (own_declared (l.import_bare s))
+bare-none s = none_of_none
+
+pub star-none : (s : Text) → NoneClash (own_declared (l.export_star s))
+star-none s = none_of_none

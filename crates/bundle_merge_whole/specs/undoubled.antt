@@ -1,0 +1,2 @@
+-- Which declarations exclude one another.
+pub mod Clashing
