@@ -9,7 +9,7 @@ use Rattle.bundle_tree_piece.specs.Item.{Item}
 use Rattle.bundle_rules.specs.Places.{Occurrence, occurrences_from}
 use Rattle.bundle_rules.specs.Denotes.{Denoted}
 use Rattle.bundle_rules.specs.Nodes.{Text}
-use Rattle.bundle_rules.specs.Idents.{Ident}
+use Rattle.bundle_rules.specs.Idents.{Ident, ident_of}
 use Rattle.bundle_rules.specs.Rebuilds.{Listed}
 use Rattle.bundle_rules.specs.Meaning.{Label, Meant, Known}
 use Rattle.bundle_rules.specs.Program.{Program}

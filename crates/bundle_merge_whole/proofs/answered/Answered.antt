@@ -7,7 +7,7 @@ use Rattle.std.proofs.lemmas.Slice.Eq.{bytes_eq-Decides}
 use Rattle.bundle_tree_piece.specs.declared.piece.Role.TheVariants as r
 use Rattle.bundle_tree_piece.specs.Item as h
 use Rattle.bundle_tree_piece.specs.Item.{Item}
-use Rattle.bundle_rules.specs.Places.{Occurrence, is_binding}
+use Rattle.bundle_rules.specs.Places.{Occurrence, is_binding, occurrences_from}
 use Rattle.bundle_rules.specs.Scopes.{Es, Top, Inner, scopes_around}
 use Rattle.bundle_rules.specs.Declarations.{Way, ByContext, name_of, names_agree, Declared, declared_by, way_of}
 use Rattle.bundle_rules.specs.Homes.{home_of, is_top}

@@ -417,7 +417,7 @@ module _ (p : Program) (list : List ℕ) (context : Contexts) (m : ℕ) (low hig
       made_rest : EntriesMade entries os rest
       made_rest = entries-made means of_meta al.aligned all_told here_rest
 
-      abbrev meants_of : List (Ident × Meant) → List Meant
+      meants_of : List (Ident × Meant) → List Meant
       meants_of l = map (λ pair. pair.1) l ++ map meant_in entries
 
       by : ((front ≡ []) × (its_front ≡ []))

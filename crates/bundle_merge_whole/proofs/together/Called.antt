@@ -206,8 +206,8 @@ module _ (p : Program) (hooks : Hooks) (list : List ℕ) (context : Contexts)
       there listed _ told noted
 
   -- those inside an item that is told as a whole
-  whole-called : (cause : Cause) (top : TopItem) → StandsFor (pairing_of labels items plan) cause
-      top → ((c : ℕ) → cause ≡ Defines c → ⊥) →
+  whole-called : (cause : Cause) (top : TopItem)
+      (stands : StandsFor (pairing_of labels items plan) cause top) → ((c : ℕ) → cause ≡ Defines c → ⊥) →
       item_symbols bundle top ≡ symbols_whole top.items (found cause top stands).noted.one
   whole-called cause top stands never =
       let f = found cause top stands in
