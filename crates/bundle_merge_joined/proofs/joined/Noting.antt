@@ -163,8 +163,9 @@ pub told-apart : (items : List (List Item)) → AllOf IsNamed items → AreToldA
 told-apart items named told =
     record {
       noted = λ m item o at listed. note-of items named told m item o at listed;
-      inside = told.inside;
-      others = told.others;
+      inside = λ m item a b at one two is its. (told.inside m item at).same a b one two is.is;
+      others = λ m n item other a b ne at there one two is.
+          told.others m n item other a b ne at there one two is.is;
       own_arguments = told.own_arguments;
     }
 

@@ -11,7 +11,7 @@ use Rattle.bundle_rules.specs.Denotes.{Denoted, Bound, Global, denoted_of, denot
 use Rattle.bundle_rules.specs.Sorting.{flat}
 use Rattle.bundle_rules.specs.Symbols.{denoted_symbol}
 use Rattle.bundle_merge_joined.specs.joined.Joined.{joined, offset, AllOf, IsWhole, moved, moved_scope, moved_occurrence, moved_denoted, own_declared, is_top_name, is_written}
-use Rattle.bundle_merge_joined.specs.joined.Notes.{its_name, own_denoted, is_inner, is_inner_name, IsNoted, inner, top_name, free, noted_denoted, IsListedIn, AreApart}
+use Rattle.bundle_merge_joined.specs.joined.Notes.{its_name, own_denoted, is_inner, is_inner_name, IsNoted, inner, top_name, free, noted_denoted, IsListedIn, AreApart, IsInnerAmong}
 use Rattle.bundle_merge_joined.proofs.joined.Lists.{find-map}
 use Rattle.bundle_merge_joined.proofs.joined.Paths.{moved-from}
 use Rattle.bundle_merge_joined.proofs.joined.Declarations.{IsNamed, scopes_around-moved}
@@ -187,7 +187,7 @@ module _ (items : List (List Item)) where
           by_number : (e : Bool) → (m == n) ≡ e → SameIdent a b → ⊥
           by_number false e same =
               distinct.others m n item other a b (λ one. false≢true (sym e ∙ eq-eqb m n one)) at
-              there listed its_listed is same
+              there listed its_listed (record { is = is; unless = unless; }) same
           by_number true e same = by_kind it.by
             where
               items_same : item ≡ other
@@ -209,38 +209,37 @@ module _ (items : List (List Item)) where
       -- inner bindings
       inner-inner : (m n : ℕ) (item other : List Item) → slice_get items m ≡ Some item →
           slice_get items n ≡ Some other → (a b : Occurrence) → IsListedIn item a →
-          IsListedIn other b → is_inner (own_denoted item a) ≡ true →
-          is_inner (own_denoted other b) ≡ true →
+          IsListedIn other b → IsInnerAmong items item a → IsInnerAmong items other b →
           SameIdent a b ↔ (moved_denoted (offset items m) (own_denoted item a)
           ≡ moved_denoted (offset items n) (own_denoted other b))
       inner-inner m n item other at there a b listed its_listed is its = by_number (m == n) refl
         where
           of_one : (n : ℕ) → m ≡ n → (other : List Item) → item ≡ other → IsListedIn other b →
-              is_inner (own_denoted other b) ≡ true →
+              IsInnerAmong items other b →
               SameIdent a b ↔ (moved_denoted (offset items m) (own_denoted item a)
               ≡ moved_denoted (offset items n) (own_denoted other b))
           of_one n e =
               subst (λ n. (other : List Item) → item ≡ other → IsListedIn other b →
-              is_inner (own_denoted other b) ≡ true → SameIdent a b
+              IsInnerAmong items other b → SameIdent a b
               ↔ (moved_denoted (offset items m) (own_denoted item a)
               ≡ moved_denoted (offset items n) (own_denoted other b))) e
-              (λ other f. subst (λ other. IsListedIn other b → is_inner (own_denoted other b)
-              ≡ true → SameIdent a b
+              (λ other f. subst (λ other. IsListedIn other b → IsInnerAmong items other b →
+              SameIdent a b
               ↔ (moved_denoted (offset items m) (own_denoted item a)
               ≡ moved_denoted (offset items m) (own_denoted other b))) f
-              (λ lists inners. let alike = (distinct.inside m item at).same a b listed lists is in (
+              (λ lists inners. let alike = distinct.inside m item a b at listed lists is inners in (
                 λ same. ap (moved_denoted (offset items m)) (alike.0 same),
                 λ same. alike.1 (moved-back (offset items m) (own_denoted item a)
-                    (own_denoted item b) same is inners),
+                    (own_denoted item b) same is.is inners.is),
               )))
 
           x : InnerOf item a (own_denoted item a)
-          x = inner-of item a (viewed item (all-at IsNamed items m item named at) a listed) is
+          x = inner-of item a (viewed item (all-at IsNamed items m item named at) a listed) is.is
 
           y : InnerOf other b (own_denoted other b)
           y =
               inner-of other b (viewed other (all-at IsNamed items n other named there) b its_listed)
-              its
+              its.is
 
           apart : m ≢ n →
               moved_denoted (offset items m) (own_denoted item a)
@@ -282,7 +281,8 @@ module _ (items : List (List Item)) where
           SameIdent a b ↔ (d ≡ e)
       alike m n item other at there a b listed its_listed (is_inner_of is unless)
           (is_inner_of its or) =
-          inner-inner m n item other at there a b listed its_listed is its
+          inner-inner m n item other at there a b listed its_listed
+          (record { is = is; unless = unless; }) (record { is = its; unless = or; })
       alike m n item other at there a b listed its_listed (is_inner_of is unless)
           (is_outer not_inner outer) =
           let never = inner-outer m n item other at there a b listed its_listed is unless not_inner

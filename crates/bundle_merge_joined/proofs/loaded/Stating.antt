@@ -29,13 +29,14 @@ use Rattle.bundle_merge_joined.specs.loaded.Item.{load_item, body_start, module_
 use Rattle.bundle_merge_joined.specs.loaded.Paths.{PathBeside, at_top}
 use Rattle.bundle_merge_joined.specs.loaded.Loaded.{module_declared, module_names, IsLoaded}
 use Rattle.bundle_merge_joined.specs.loaded.Names.{Table, labelled_top, labelled_inner, NameNoted, is_one_inside, is_known, is_free, NamedAs, one_inside, of_top, of_wrapper, unbound, AreTabled}
+use Rattle.bundle_merge_joined.specs.loaded.Pieces.{is_told_inside, told_inside}
 use Rattle.bundle_merge_joined.specs.loaded.Told.{Told, told_kept, told_load, AreTold}
 use Rattle.bundle_merge_joined.proofs.loaded.Turning.{goes-from, turned-frame}
 use Rattle.bundle_merge_joined.proofs.loaded.Following.{follows-turned}
 use Rattle.bundle_merge_joined.proofs.loaded.Whole.{kept-there}
 use Rattle.bundle_merge_joined.proofs.loaded.One.{denoted-one}
 use Rattle.bundle_merge_joined.proofs.loaded.Parts.{turned-append, goes-first, goes-second, has-first, has-second, path-behind}
-use Rattle.bundle_merge_joined.proofs.loaded.Numbers.{both_once, inside_zip}
+use Rattle.bundle_merge_joined.proofs.loaded.Numbers.{both_once, inside_zip, told-filtered}
 use Rattle.bundle_merge_joined.proofs.loaded.Noted.{AreKnown, strange-outside, strange-own, beside-inner}
 use Rattle.bundle_merge_joined.proofs.joined.Lists.{get-left, get-right}
 use Rattle.bundle_merge_joined.proofs.joined.Homes.{home-in}
@@ -270,6 +271,42 @@ module _ {L : Ident → Type 0} {xs ys : List Item} (w : Turned L zero xs ys) (g
       all-inside rest meants (λ j q is. at (suc j) q is) told.1,
     )
 
+    -- what is inside is told to be so
+    told-so : (o u : Occurrence) (meant : Meant) → Stands o u → Tells o u meant →
+        is_inside t.place (own_denoted item u) ≡ is_told_inside meant
+    told-so o u meant stands (told_kept keeps named) =
+        sym (near o u stands.0 (kept-pair o u stands keeps)) ∙ by named
+      where
+        by : {d : Denoted} {meant : Meant} → NamedAs c inner0 d meant →
+            is_inside 0 d ≡ is_told_inside meant
+        by (one_inside found inside) = inside
+        by of_top = refl
+        by of_wrapper = refl
+        by unbound = refl
+    told-so o u meant stands (told_load calls refers out there) =
+        let facts = known.called_known (ident_of u) calls in
+        outside-there (own_denoted item u)
+        (strange-own w g load helper m e its u.sym u.ctxt facts.1 facts.2 u refl refl refers)
+
+    all-so : {os us : List Occurrence} → Follows L In g ds os us → (meants : List Meant) →
+        ((j : ℕ) (o : Occurrence) → slice_get os j ≡ Some o →
+        (i : ℕ) × (slice_get (module_names xs) i ≡ Some o)) →
+        AreTold table L c g ds inner0 os us meants →
+        AllZip (λ v meant. is_inside t.place v ≡ is_told_inside meant) (map (own_denoted item) us)
+        meants
+    all-so done [] at told = tt
+    all-so done (meant ∷ meants) at told = absurd told
+    all-so (kept stands keeps rest) [] at told = absurd told
+    all-so (kept {o = o} {u = u} stands keeps rest) (meant ∷ meants) at told = (
+      told-so o u meant (stands, at zero o refl) told.0,
+      all-so rest meants (λ j q is. at (suc j) q is) told.1,
+    )
+    all-so (changed stands refers is rest) [] at told = absurd told
+    all-so (changed {o = o} {u = u} stands refers is rest) (meant ∷ meants) at told = (
+      told-so o u meant (stands, at zero o refl) told.0,
+      all-so rest meants (λ j q is. at (suc j) q is) told.1,
+    )
+
     -- one name
     module _ (inner1 : List Denoted) (numbers : (d v : Denoted) → Becomes d v →
         position (same_denoted d) inner0 ≡ position (same_denoted v) inner1) where
@@ -357,8 +394,7 @@ module _ {L : Ident → Type 0} {xs ys : List Item} (w : Turned L zero xs ys) (g
       (filter (is_inside 0) (map (denoted_of BySymbol Cjs ds) (occurrences_from s x))))
       (occurrences_from s x) (occurrences_from t y) meants →
       AllZip (NameNoted items table item t.place
-      (each_denoted_once
-      (filter (is_inside t.place) (map (own_denoted item) (occurrences_from t y)))))
+      (each_denoted_once (told_inside (map (own_denoted item) (occurrences_from t y)) meants)))
       (occurrences_from t y) meants
   statement-noted items known table c tabled meants told =
       let inner0 : List Denoted =
@@ -367,7 +403,11 @@ module _ {L : Ident → Type 0} {xs ys : List Item} (w : Turned L zero xs ys) (g
       let inner1 : List Denoted =
       each_denoted_once (filter (is_inside t.place)
       (map (own_denoted item) (occurrences_from t y))) in
-      all-noted items known table c tabled inner0 inner1
+      subst (λ ds. AllZip (NameNoted items table item t.place (each_denoted_once ds))
+      (occurrences_from t y) meants)
+      (told-filtered (is_inside t.place) (map (own_denoted item) (occurrences_from t y)) meants
+      (all-so items known table c tabled inner0 part-follows meants part-index told))
+      (all-noted items known table c tabled inner0 inner1
       (λ d v beside. numbers_agree (DenotedBeside R g ds)
       (λ a b p q. denoted-one R (turned-frame w) g ds a b p q)
       (filter (is_inside 0) (map (denoted_of BySymbol Cjs ds) (occurrences_from s x)))
@@ -377,7 +417,7 @@ module _ {L : Ident → Type 0} {xs ys : List Item} (w : Turned L zero xs ys) (g
       (map (own_denoted item) (occurrences_from t y))
       (all-inside items known table c tabled inner0 part-follows meants part-index told)) d v
       beside)
-      part-follows meants part-index told
+      part-follows meants part-index told)
 
   -- the bindings inside are called as in the module
   symbols-same : (olds bs : List Denoted) → AllZip (DenotedBeside R g ds) olds bs →

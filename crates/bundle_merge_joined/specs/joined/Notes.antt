@@ -62,16 +62,26 @@ pub record IsResolvedInside (item : List Item) : Type 0 where
       is_inner (own_denoted item a) ≡ true →
       SameIdent a b ↔ (own_denoted item a ≡ own_denoted item b)
 
+-- by itself it denotes a binding of an inner scope, and does so among these items too: an
+-- `arguments` that nothing declares there is declared at the top of no item
+pub record IsInnerAmong (items : List (List Item)) (item : List Item) (o : Occurrence) :
+    Type 0 where
+  pub is : is_inner (own_denoted item o) ≡ true
+  pub unless : is_written (own_denoted item o) ≡ false → is_top_name items (its_name o) ≡ false
+
 -- items whose names can be told apart when they are put together
 pub record AreApart (items : List (List Item)) : Type 0 where
   pub noted : (m : ℕ) (item : List Item) (o : Occurrence) → slice_get items m ≡ Some item →
       IsListedIn item o → IsNoted items item o
-  pub inside : (m : ℕ) (item : List Item) → slice_get items m ≡ Some item → IsResolvedInside item
+  -- inner bindings of an item are told apart from each other
+  pub inside : (m : ℕ) (item : List Item) (a b : Occurrence) → slice_get items m ≡ Some item →
+      IsListedIn item a → IsListedIn item b → IsInnerAmong items item a →
+      IsInnerAmong items item b → SameIdent a b ↔ (own_denoted item a ≡ own_denoted item b)
   -- what denotes an inner binding of an item shares its symbol and context with nothing of another
   -- item
   pub others : (m n : ℕ) (item other : List Item) (a b : Occurrence) → m ≢ n →
       slice_get items m ≡ Some item → slice_get items n ≡ Some other → IsListedIn item a →
-      IsListedIn other b → is_inner (own_denoted item a) ≡ true → SameIdent a b → ⊥
+      IsListedIn other b → IsInnerAmong items item a → SameIdent a b → ⊥
   -- no free `arguments` is in a function
   pub own_arguments : (m : ℕ) (item : List Item) (o : Occurrence) → slice_get items m ≡ Some item →
       IsListedIn item o → is_top_name items (its_name o) ≡ false →

@@ -41,6 +41,11 @@ pub data NameNoted (items : List (List Item)) (table : Table) (item : List Item)
       NameNoted items table item begins inner o (Inside k)
   is_known : {l : Label} → is_inside begins (own_denoted item o) ≡ false →
       IsLabelled items table item o l → NameNoted items table item begins inner o (Known l)
+  -- a name of the top of the whole, also where the item by itself takes it for the `arguments` of
+  -- a function
+  is_known_top : {l : Label} → is_top_name items (its_name o) ≡ true →
+      is_inner_name (own_declared item) (its_name o) ≡ false → Contains table (ident_of o, l) →
+      NameNoted items table item begins inner o (Known l)
   is_free : o.ctxt ≡ 1 → is_top_name items (its_name o) ≡ false →
       is_inner_name (own_declared item) (its_name o) ≡ false →
       NameNoted items table item begins inner o (Unbound o.sym)

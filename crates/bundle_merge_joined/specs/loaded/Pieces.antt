@@ -1,6 +1,6 @@
 -- The statements of a CommonJS module, one after another, and what is noted of the item of its
 -- load function.
-use Rattle.std.specs.Prelude.{ℕ, zero, List, [], ◌∷◌, Contains, filter, fold, map, codes, ⊤}
+use Rattle.std.specs.Prelude.{ℕ, zero, Bool, true, false, cond, List, [], ◌∷◌, Contains, filter, fold, map, codes, ⊤}
 use Rattle.std.specs.List.{AllZip}
 use Rattle.bundle_tree_piece.specs.Item.{Item}
 use Rattle.bundle_rules.specs.Places.{Spot, past, occurrences_from}
@@ -9,7 +9,7 @@ use Rattle.bundle_rules.specs.Declarations.{BySymbol, Declared}
 use Rattle.bundle_rules.specs.Denotes.{Denoted, denoted_of}
 use Rattle.bundle_rules.specs.Idents.{Ident}
 use Rattle.bundle_rules.specs.Mentions.{each_denoted_once}
-use Rattle.bundle_rules.specs.Meaning.{Label, Load, Helper, Parameter, Meant, is_inside}
+use Rattle.bundle_rules.specs.Meaning.{Label, Load, Helper, Parameter, Meant, Inside, Known, Unbound, is_inside}
 use Rattle.bundle_scope_names.proofs.Numbering.{Numbering}
 use Rattle.bundle_merge_joined.specs.joined.Notes.{own_denoted}
 use Rattle.bundle_merge_joined.specs.loaded.Turned.{Turned}
@@ -42,12 +42,25 @@ AllTold table c g ds _ s t _ = ⊥
 abbrev pub own_from : List Item → Spot → List Item → List Denoted
 own_from item s part = map (own_denoted item) (occurrences_from s part)
 
+-- whether it is told that a name means a binding inside
+abbrev pub is_told_inside : Meant → Bool
+is_told_inside (Inside n) = true
+is_told_inside (Known l) = false
+is_told_inside (Unbound x) = false
+
+-- what names denote of which this is told, in turn
+abbrev pub told_inside : List Denoted → List Meant → List Denoted
+told_inside [] meants = []
+told_inside (d ∷ ds) [] = []
+told_inside (d ∷ ds) (meant ∷ meants) =
+    cond (is_told_inside meant) (d ∷ told_inside ds meants) (told_inside ds meants)
+
 -- a statement in an item is noted
 abbrev pub StatementNoted : List (List Item) → Table → List Item → Spot → List Item → List Meant →
     Type 0
 StatementNoted items table item s part meants =
     AllZip (NameNoted items table item s.place
-    (each_denoted_once (filter (is_inside s.place) (own_from item s part))))
+    (each_denoted_once (told_inside (own_from item s part) meants)))
     (occurrences_from s part) meants
 
 abbrev pub StatementsNoted : List (List Item) → Table → List Item → Spot → List (List Item) →

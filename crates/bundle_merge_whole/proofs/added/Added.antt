@@ -80,8 +80,6 @@ added-alone p hooks list context answers sound labels cause item is due
     subst (IsAlone p hooks list context answers (HoldsNamespace d)) (sym made)
     (namespace-alone p hooks list context answers d pairs due
     (λ x t linked meant. labels.namespaces d x t (namespace-meant due) linked)
-    (λ x t linked meant e.
-    sound.unlike t meant (sym (target-symbol p list context t) ∙ e))
     are)
 added-alone p hooks list context answers sound labels cause item is due (stars {s = s} made) =
     subst (IsAlone p hooks list context answers (Stars s)) (sym made)

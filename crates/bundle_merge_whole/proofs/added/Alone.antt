@@ -9,11 +9,11 @@ use Rattle.bundle_tree_piece.specs.Item.{Item}
 use Rattle.bundle_rules.specs.Places.{Occurrence, occurrences_from}
 use Rattle.bundle_rules.specs.Denotes.{Denoted}
 use Rattle.bundle_rules.specs.Nodes.{Text}
-use Rattle.bundle_rules.specs.Idents.{Ident}
+use Rattle.bundle_rules.specs.Idents.{Ident, ident_of}
 use Rattle.bundle_rules.specs.Rebuilds.{Listed}
 use Rattle.bundle_rules.specs.Meaning.{Label, Meant, Known}
 use Rattle.bundle_rules.specs.Program.{Program}
-use Rattle.bundle_rules.specs.Bundle.{Cause, AsModule, Hooks}
+use Rattle.bundle_rules.specs.Bundle.{Cause, Defines, AsModule, Hooks}
 use Rattle.bundle_scope_renamed.specs.fit.Sorts.{AnItem}
 use Rattle.bundle_scope_renamed.specs.fit.Fits.{IsFit}
 use Rattle.bundle_scope_renamed.specs.fit.Fits as f
@@ -29,7 +29,8 @@ use Rattle.bundle_merge_whole.proofs.fit.Facts.{fit_nodes}
 use Rattle.bundle_merge_whole.proofs.fit.Parts.{beside}
 use Rattle.bundle_merge_whole.specs.made.Given.{Contexts, ident_of_label}
 use Rattle.bundle_merge_whole.specs.made.Alone.{IsTopLabel, DeclaresLabel, NameAlone, of_top, IsAlone, CalledAlone}
-use Rattle.bundle_merge_whole.proofs.added.Topped.{IsTopped, occurrences-item, binds_it, not-inside, none-inner, top-written, not-inner}
+use Rattle.bundle_merge_whole.proofs.added.Topped.{IsTopped, occurrences-item, binds_it, none-inner, top-written}
+use Rattle.bundle_merge_whole.proofs.own.Outer.{top-not-inner}
 
 -- a name stands for a label of the top of the bundle
 pub record IsOfTop (p : Program) (list : List ℕ) (context : Contexts) (its : Listed)
@@ -78,7 +79,8 @@ binds-is its x c is =
 
 -- All of it.
 module _ (p : Program) (hooks : Hooks) (list : List ℕ) (context : Contexts)
-    (answers : ℕ → Option (List Item)) (cause : Cause) (item : List Item) (told : Told)
+    (answers : ℕ → Option (List Item)) (cause : Cause)
+    (other : (c : ℕ) → cause ≡ Defines c → ⊥) (item : List Item) (told : Told)
     (names : List Listed) where
   means-alone : (begins : ℕ) (inner : List Denoted) → HasNames item →
       AllZip IsTopped (occurrences_from first_spot item) names →
@@ -92,12 +94,27 @@ module _ (p : Program) (hooks : Hooks) (list : List ℕ) (context : Contexts)
   means-alone begins inner named all (o ∷ os) (one ∷ its) [] topped means = absurd means
   means-alone begins inner named all (o ∷ os) (one ∷ its) (meant ∷ meants) topped means = (
     subst (NameAlone p list context answers cause item begins inner o) (sym (means.0).is)
-        (of_top (not-inside begins (own_denoted item o) (not-inner item names named all o one topped.0))
-        (none-inner item names named all (its_name o))
-        (λ c is. not-inner item names named all o one topped.0) (means.0).there
+        (of_top (none-inner item names named all (its_name o))
+        (λ c is. absurd (other c is)) (means.0).there
         ((topped.0).ident ∙ (means.0).ident)),
     means-alone begins inner named all os its meants topped.1 means.1,
   )
+
+  label-at : (os : List Occurrence) (its : List Listed) (meants : List Meant) →
+      AllZip IsTopped os its → AllZip (IsOfTop p list context) its meants → (i : ℕ)
+      (o : Occurrence) → slice_get os i ≡ Some o →
+      (l : Label) × IsTopLabel p l × (ident_of o ≡ ident_of_label p list context l)
+  label-at [] its meants topped means i o at = absurd (none-some o at)
+  label-at (x ∷ os) [] meants topped means i o at = absurd topped
+  label-at (x ∷ os) (one ∷ its) [] topped means i o at = absurd means
+  label-at (x ∷ os) (one ∷ its) (meant ∷ meants) topped means zero o at = (
+    (means.0).label,
+    (means.0).there,
+    subst (λ y. ident_of y ≡ ident_of_label p list context (means.0).label) (same_Some x o at)
+        ((topped.0).ident ∙ (means.0).ident),
+  )
+  label-at (x ∷ os) (one ∷ its) (meant ∷ meants) topped means (suc i) o at =
+      label-at os its meants topped.1 means.1 i o at
 
   pub topped-alone : IsFit AnItem 0 item → IsMarked item told →
       MarksStandFor p hooks AsModule told.1 cause → HasNoLoneName item → HasNames item →
@@ -123,13 +140,12 @@ module _ (p : Program) (hooks : Hooks) (list : List ℕ) (context : Contexts)
     named = named;
     single = fit-single fit;
     fit = fit;
-    inner = record {
-      same = λ a b la lb inner.
-          let at : slice_get (occurrences_from first_spot item) la.0 ≡ Some a =
-          ap (λ os. slice_get os la.0) (sym (occurrences-item item)) ∙ la.1 in
-          let it = zip-at IsTopped (occurrences_from first_spot item) names topped la.0 a at in
-          absurd (false≢true (sym (not-inner item names named topped a it.0 it.1) ∙ inner));
-    };
+    inner = λ a b la lb is also.
+        let at : slice_get (occurrences_from first_spot item) la.0 ≡ Some a =
+        ap (λ os. slice_get os la.0) (sym (occurrences-item item)) ∙ la.1 in
+        let it = label-at (occurrences_from first_spot item) names told.0 topped means la.0 a at in
+        absurd (top-not-inner p list context item named a la
+        (none-inner item names named topped (its_name a)) it.0 it.1 it.2 is);
     declares = λ l its.
         top-written item names named topped (ident_of_label p list context l).0
         (ident_of_label p list context l).1

@@ -23,6 +23,10 @@ use Rattle.bundle_merge_meaning.proofs.walked.Lone.{helper_lone}
 use Rattle.bundle_merge_whole.specs.composed.Noted.{AsWhole, as_whole, helps, first_spot}
 use Rattle.bundle_merge_whole.specs.composed.Functions.{whole_form}
 use Rattle.bundle_merge_whole.specs.made.Given.{Contexts, NameOf, HelperParameter, HelperVariable, ident_of_label}
+use Rattle.bundle_merge_joined.specs.loaded.Pieces.{is_told_inside, told_inside}
+use Rattle.bundle_merge_joined.proofs.loaded.Numbers.{told-filtered}
+use Rattle.bundle_merge_joined.specs.loaded.Pieces.{own_from}
+use Rattle.bundle_rules.specs.Mentions.{each_denoted_once}
 use Rattle.bundle_merge_whole.specs.made.Alone.{DeclaresLabel, adds, helps as adds_helper, parameter, variable, helps_parameter, helps_variable, NameAlone, inside, of_top, IsAlone}
 use Rattle.bundle_merge_whole.proofs.added.Topped.{occurrences-item}
 use Rattle.bundle_merge_whole.proofs.added.Alone.{fit-one, fit-single, zip-at}
@@ -94,6 +98,33 @@ module _ (a b c : ℕ) where
         same-parts x y one.0 two.0 one.1 two.1 (sym (ap is_inner (one.1).denotes) ∙ inner);
   }
 
+-- what is inside is told to be so
+module _ (a b c : ℕ) where
+  part-so : (o : Occurrence) (part : Part) → IsOf a b c o part →
+      is_inside 1 (own_denoted (helper_item a b c) o) ≡ is_told_inside (part_means part)
+  part-so o ItsName it = ap (is_inside 1) it.denotes
+  part-so o ItsParameter it = ap (is_inside 1) it.denotes
+  part-so o ItsVariable it = ap (is_inside 1) it.denotes
+
+  parts-so : (os : List Occurrence) (parts : List Part) → AllZip (IsOf a b c) os parts →
+      AllZip (λ v meant. is_inside 1 v ≡ is_told_inside meant)
+      (map (own_denoted (helper_item a b c)) os) (map part_means parts)
+  parts-so [] [] all = tt
+  parts-so [] (part ∷ parts) all = absurd all
+  parts-so (o ∷ os) [] all = absurd all
+  parts-so (o ∷ os) (part ∷ parts) all = (part-so o part all.0, parts-so os parts all.1)
+
+  helper-told : each_denoted_once
+      (told_inside (own_from (helper_item a b c) first_spot (helper_item a b c))
+      (map part_means its_parts))
+      ≡ inside_it a b c
+  helper-told =
+      sym (ap each_denoted_once
+      (told-filtered (is_inside 1) (own_from (helper_item a b c) first_spot (helper_item a b c))
+      (map part_means its_parts)
+      (parts-so (occurrences_from first_spot (helper_item a b c)) its_parts (helper-parts a b c))))
+      ∙ helper-inside a b c
+
 -- The item.
 module _ (p : Program) (hooks : Hooks) (list : List ℕ) (context : Contexts)
     (answers : ℕ → Option (List Item)) where
@@ -108,8 +139,7 @@ module _ (p : Program) (hooks : Hooks) (list : List ℕ) (context : Contexts)
       IsOf (context (NameOf Helper)) (context HelperParameter) (context HelperVariable) o part →
       NameAlone p list context answers Helps its 1 its_inside o (part_means part)
   part-alone due o ItsName it =
-      of_top (ap (is_inside 1) it.denotes)
-      (ap (λ (j : Ident). is_inner_name (own_declared its) (name_of ByContext j.0 j.1)) it.ident
+      of_top (ap (λ (j : Ident). is_inner_name (own_declared its) (name_of ByContext j.0 j.1)) it.ident
       ∙ name-outside (context (NameOf Helper)) (context HelperParameter) (context HelperVariable))
       (λ c e. absurd (helps-not c e))
       (record { cause = Helps; due = due; declares = adds adds_helper }) it.ident
@@ -160,16 +190,16 @@ module _ (p : Program) (hooks : Hooks) (list : List ℕ) (context : Contexts)
             subst
             (λ inner. AllZip (NameAlone p list context answers Helps its 1 inner)
             (occurrences_from first_spot its) (map part_means its_parts))
-            (sym (helper-inside a b c))
+            (sym (helper-told a b c))
             (all-alone due (occurrences_from first_spot its) its_parts (helper-parts a b c));
-        called = ap (map denoted_symbol) (helper-inside a b c);
+        called = ap (map denoted_symbol) (helper-told a b c);
         form = whole_form marked;
         one = fit-one (helper-fits a b c);
         lone = helper_lone (codes "__swcpack_require__", a) (codes "fn", b) (codes "module", c);
         named = helper-named a b c;
         single = fit-single (helper-fits a b c);
         fit = helper-fits a b c;
-        inner = helper-resolved a b c;
+        inner = λ x y lx ly is also. (helper-resolved a b c).same x y lx ly is.is;
         declares = declares;
         declared = λ x k is.
             let both =

@@ -64,7 +64,6 @@ one-topped begins place field id x true rest names more = (
     ident = refl;
     binds = refl;
     home = λ is. record { way = ByImport; is = refl; scopes = refl; takes_it = refl };
-    away = λ is. refl;
   },
   more _ _,
 )
@@ -73,7 +72,6 @@ one-topped begins place field id x false rest names more = (
     ident = refl;
     binds = refl;
     home = λ is. record { way = ByImport; is = refl; scopes = refl; takes_it = refl };
-    away = λ is. refl;
   },
   more _ _,
 )
@@ -219,7 +217,8 @@ module _ (p : Program) (hooks : Hooks) (list : List ℕ) (context : Contexts)
     pub imports-names-alone : IsAlone p hooks list context answers (ImportsNames s)
         (l.import_names s pairs)
     imports-names-alone =
-        topped-alone p hooks list context answers (ImportsNames s) (l.import_names s pairs)
+        topped-alone p hooks list context answers (ImportsNames s)
+        (λ c e. absurd cc) (l.import_names s pairs)
         (map (imported_from s) pairs, i.import_names s (map (λ it. it.0) pairs))
         (map bound_name pairs) fits (import_names_marked s pairs)
         (subst (λ its. MarksStandFor p hooks AsModule (i.import_names s its) (ImportsNames s))
@@ -257,7 +256,8 @@ module _ (p : Program) (hooks : Hooks) (list : List ℕ) (context : Contexts)
   imports-whole-alone s due =
       let label : Label = Of (External s Whole) in
       let id : Ident = ident_of_label p list context label in
-      topped-alone p hooks list context answers (ImportsWhole s) (l.import_whole s id)
+      topped-alone p hooks list context answers (ImportsWhole s)
+        (λ c e. absurd cc) (l.import_whole s id)
       (Known label ∷ [], i.import_whole s) ((id, true) ∷ [])
       (node refl
       (a_node {inside = h.Ident 0 id.0 id.1 r.Binding ∷ []} refl (a_name refl no_more)
@@ -268,7 +268,6 @@ module _ (p : Program) (hooks : Hooks) (list : List ℕ) (context : Contexts)
           ident = refl;
           binds = refl;
           home = λ is. record { way = ByImport; is = refl; scopes = refl; takes_it = refl };
-          away = λ is. refl;
         },
         tt,
       ) (
@@ -289,7 +288,8 @@ module _ (p : Program) (hooks : Hooks) (list : List ℕ) (context : Contexts)
   pub imports-nothing-alone : (s : Text) →
       IsAlone p hooks list context answers (ImportsNothing s) (l.import_bare s)
   imports-nothing-alone s =
-      topped-alone p hooks list context answers (ImportsNothing s) (l.import_bare s)
+      topped-alone p hooks list context answers (ImportsNothing s)
+        (λ c e. absurd cc) (l.import_bare s)
       ([], i.import_bare s) [] (node refl (over refl (string-fits s))) (import_bare_marked s)
       imports_nothing (import_bare_lone s) (refl, (refl, (refl, (refl, (refl, tt))))) tt tt tt
       (nothing-declared s) (λ x c is. none-bound x c (ImportsNothing s) is)
@@ -297,7 +297,8 @@ module _ (p : Program) (hooks : Hooks) (list : List ℕ) (context : Contexts)
   -- a star of an external
   pub stars-alone : (s : Text) → IsAlone p hooks list context answers (Stars s) (l.export_star s)
   stars-alone s =
-      topped-alone p hooks list context answers (Stars s) (l.export_star s) ([], i.export_star s) []
+      topped-alone p hooks list context answers (Stars s)
+        (λ c e. absurd cc) (l.export_star s) ([], i.export_star s) []
       (node refl (a_node {inside = []} refl no_more no_more)) (export_star_marked s) stars
       (export_star_lone s) (refl, (refl, (refl, (refl, (refl, tt))))) tt tt tt
       (star-declares s) (λ x c is. none-bound x c (Stars s) is)

@@ -71,7 +71,6 @@ one-topped begins declarator place field id x true plain rest names more = (
     ident = refl;
     binds = refl;
     home = λ is. record { way = ByVar; is = refl; scopes = refl; takes_it = refl };
-    away = λ is. refl;
   },
   more _ _,
 )
@@ -80,7 +79,6 @@ one-topped begins declarator place field id x false true rest names more = (
     ident = refl;
     binds = refl;
     home = λ is. record { way = ByVar; is = refl; scopes = refl; takes_it = refl };
-    away = λ is. refl;
   },
   more _ _,
 )
@@ -89,7 +87,6 @@ one-topped begins declarator place field id x false false rest names more = (
     ident = refl;
     binds = refl;
     home = λ is. record { way = ByVar; is = refl; scopes = refl; takes_it = refl };
-    away = λ is. refl;
   },
   more _ _,
 )
@@ -181,7 +178,7 @@ pub load-topped : (load : Ident) (whole : Option Ident) (pairs : List Pair) →
     AllZip IsTopped (occurrences_from first_spot (l.load_statement load whole pairs))
     (load_names load whole pairs)
 load-topped load None [] = (
-  record { ident = refl; binds = refl; home = λ is. absurd (false≢true is); away = λ is. refl },
+  record { ident = refl; binds = refl; home = λ is. absurd (false≢true is) },
   tt,
 )
 load-topped load None (pair ∷ pairs) =
@@ -192,7 +189,7 @@ load-topped load None (pair ∷ pairs) =
     (all-topped 3 2 4 0 (pair ∷ pairs)
     (h.Close ∷ (l.load_call 1 load ++ h.Close ∷ h.Close ∷ [])) ((load, false) ∷ [])
     (λ place field. (
-      record { ident = refl; binds = refl; home = λ is. absurd (false≢true is); away = λ is. refl },
+      record { ident = refl; binds = refl; home = λ is. absurd (false≢true is) },
       tt,
     )))
 load-topped load (Some w) [] = (
@@ -200,10 +197,9 @@ load-topped load (Some w) [] = (
     ident = refl;
     binds = refl;
     home = λ is. record { way = ByVar; is = refl; scopes = refl; takes_it = refl };
-    away = λ is. refl;
   },
   (
-    record { ident = refl; binds = refl; home = λ is. absurd (false≢true is); away = λ is. refl },
+    record { ident = refl; binds = refl; home = λ is. absurd (false≢true is) },
     tt,
   ),
 )
@@ -212,10 +208,9 @@ load-topped load (Some w) (pair ∷ pairs) = (
     ident = refl;
     binds = refl;
     home = λ is. record { way = ByVar; is = refl; scopes = refl; takes_it = refl };
-    away = λ is. refl;
   },
   (
-    record { ident = refl; binds = refl; home = λ is. absurd (false≢true is); away = λ is. refl },
+    record { ident = refl; binds = refl; home = λ is. absurd (false≢true is) },
     subst
         (λ items. AllZip IsTopped (occurrences_from (in_pattern 11 10 12 0) items)
         (map bound_name (pair ∷ pairs) ++ (w, false) ∷ []))
@@ -223,7 +218,7 @@ load-topped load (Some w) (pair ∷ pairs) = (
         (all-topped 11 10 12 0 (pair ∷ pairs)
         (h.Close ∷ (l.named 1 r.Reference w ++ h.Close ∷ h.Close ∷ [])) ((w, false) ∷ [])
         (λ place field. (
-          record { ident = refl; binds = refl; home = λ is. absurd (false≢true is); away = λ is. refl },
+          record { ident = refl; binds = refl; home = λ is. absurd (false≢true is) },
           tt,
         ))),
   ),

@@ -221,6 +221,7 @@ module _ (p : Program) (hooks : Hooks) (list : List ℕ) (context : Contexts)
         (l.load_statement load_ident its_whole (pairs_of names))
     loads-alone =
         topped-alone p hooks list context answers (Loads m c)
+        (λ c e. absurd cc)
         (l.load_statement load_ident its_whole (pairs_of names))
         (load_means m c its_whole (pairs_of names), i.load_statement m c whole names)
         (load_names load_ident its_whole (pairs_of names))

@@ -39,10 +39,6 @@ use Rattle.bundle_merge_whole.proofs.added.Alone.{topped-alone}
 use Rattle.bundle_merge_whole.proofs.added.Rows.{Pair, read_name, first-bound, bound-first, none-read, rows_of, written-rows, target-rows, rows-tell}
 use Rattle.bundle_merge_whole.proofs.added.LoadForms.{key_so, key-fits}
 
--- the pair's identifier is not called `arguments`
-abbrev pub IsUnlike : Pair → Type 0
-IsUnlike pair = (pair.1).0 ≡ codes "arguments" → ⊥
-
 -- in the object that is returned
 abbrev in_object : (place field : ℕ) → Spot
 in_object place field = record {
@@ -66,55 +62,51 @@ one_property id x computed plain =
     ∷ (key_so x computed plain ++ h.Ident 1 id.0 id.1 r.Reference ∷ h.Close ∷ [])
 
 one-topped : (place field : ℕ) (id : Ident) (x : Text) (computed plain : Bool)
-    (rest : List Item) (names : List Listed) → (id.0 ≡ codes "arguments" → ⊥) →
+    (rest : List Item) (names : List Listed) →
     ((place field : ℕ) → AllZip IsTopped (occurrences_from (in_object place field) rest) names) →
     AllZip IsTopped
     (occurrences_from (in_object place field) (one_property id x computed plain ++ rest))
     ((id, false) ∷ names)
-one-topped place field id x true plain rest names unlike more = (
+one-topped place field id x true plain rest names more = (
   record {
     ident = refl;
     binds = refl;
     home = λ is. absurd (false≢true is);
-    away = λ is. absurd (unlike is);
   },
   more _ _,
 )
-one-topped place field id x false true rest names unlike more = (
+one-topped place field id x false true rest names more = (
   record {
     ident = refl;
     binds = refl;
     home = λ is. absurd (false≢true is);
-    away = λ is. absurd (unlike is);
   },
   more _ _,
 )
-one-topped place field id x false false rest names unlike more = (
+one-topped place field id x false false rest names more = (
   record {
     ident = refl;
     binds = refl;
     home = λ is. absurd (false≢true is);
-    away = λ is. absurd (unlike is);
   },
   more _ _,
 )
 
 all-topped : (place field : ℕ) (pairs : List Pair) (rest : List Item) (names : List Listed) →
-    AllOf IsUnlike pairs →
     ((place field : ℕ) → AllZip IsTopped (occurrences_from (in_object place field) rest) names) →
     AllZip IsTopped
     (occurrences_from (in_object place field) (flat_map returned_property pairs ++ rest))
     (map read_name pairs ++ names)
-all-topped place field [] rest names unlike more = more place field
-all-topped place field (pair ∷ pairs) rest names unlike more =
+all-topped place field [] rest names more = more place field
+all-topped place field (pair ∷ pairs) rest names more =
     subst
     (λ items. AllZip IsTopped (occurrences_from (in_object place field) items)
     (read_name pair ∷ (map read_name pairs ++ names)))
     (sym (append_assoc (returned_property pair) (flat_map returned_property pairs) rest))
     (one-topped place field pair.1 pair.0 (bytes_eq pair.0 (codes "__proto__"))
     (is_ascii_identifier pair.0) (flat_map returned_property pairs ++ rest)
-    (map read_name pairs ++ names) unlike.0
-    (λ its_place its_field. all-topped its_place its_field pairs rest names unlike.1 more))
+    (map read_name pairs ++ names)
+    (λ its_place its_field. all-topped its_place its_field pairs rest names more))
 
 one-named : (id : Ident) (x : Text) (computed plain : Bool) (rest : List Item) → AreNamed rest →
     AreNamed (one_property id x computed plain ++ rest)
@@ -160,15 +152,14 @@ behind : (flat : List Item) →
     ≡ flat ++ (h.Close ∷ h.Close ∷ h.Close ∷ h.Close ∷ h.Close ∷ h.Close ∷ h.Close ∷ h.Close ∷ [])
 behind flat = simp append_assoc
 
-pub object-topped : (object : Ident) (pairs : List Pair) → AllOf IsUnlike pairs →
+pub object-topped : (object : Ident) (pairs : List Pair) →
     AllZip IsTopped (occurrences_from first_spot (l.namespace_object no_notes object pairs))
     ((object, true) ∷ map read_name pairs)
-object-topped object pairs unlike = (
+object-topped object pairs = (
   record {
     ident = refl;
     binds = refl;
     home = λ is. record { way = ByConst; is = refl; scopes = refl; takes_it = refl };
-    away = λ is. refl;
   },
   subst (λ items. AllZip IsTopped (occurrences_from (in_object 12 0) items) (map read_name pairs))
       (sym (behind (flat_map returned_property pairs)))
@@ -180,7 +171,7 @@ object-topped object pairs unlike = (
       names)
       (append-nil (map read_name pairs))
       (all-topped 12 0 pairs
-      (h.Close ∷ h.Close ∷ h.Close ∷ h.Close ∷ h.Close ∷ h.Close ∷ h.Close ∷ h.Close ∷ []) [] unlike
+      (h.Close ∷ h.Close ∷ h.Close ∷ h.Close ∷ h.Close ∷ h.Close ∷ h.Close ∷ h.Close ∷ []) []
       (λ place field. tt))),
 )
 
@@ -275,8 +266,6 @@ module _ (p : Program) (hooks : Hooks) (list : List ℕ) (context : Contexts)
     (answers : ℕ → Option (List Item)) (d : ℕ) (pairs : List NamedTarget)
     (due : IsDue p AsModule (HoldsNamespace d))
     (labels : (x : Text) (t : Target) → Linked p d x t → IsMeant p (Of t) → IsTopLabel p (Of t))
-    (unlike : (x : Text) (t : Target) → Linked p d x t → IsMeant p (Of t) →
-    (ident_of_label p list context (Of t)).0 ≡ codes "arguments" → ⊥)
     (are : AreLinked p d pairs) where
   abbrev named_pairs : List Pair
   named_pairs = linked_idents p list context pairs
@@ -289,17 +278,6 @@ module _ (p : Program) (hooks : Hooks) (list : List ℕ) (context : Contexts)
 
   linked-meant : (x : Text) (t : Target) → Linked p d x t → IsMeant p (Of t)
   linked-meant x t linked = by_namespace (meant-there due) linked
-
-  all-unlike : (its : List NamedTarget) →
-      ((x : Text) (t : Target) → Contains its (x, t) → Linked p d x t) →
-      AllOf IsUnlike (linked_idents p list context its)
-  all-unlike [] has = tt
-  all-unlike (pair ∷ its) has =
-      let linked : Linked p d pair.0 pair.1 =
-      has pair.0 pair.1 ((Contains-cons pair its pair).1 (inl refl)) in (
-        unlike pair.0 pair.1 linked (linked-meant pair.0 pair.1 linked),
-        all-unlike its (λ x t there. has x t ((Contains-cons pair its (x, t)).1 (inr there))),
-      )
 
   marked : IsMarked (l.namespace_object no_notes object named_pairs) (
     Known (Of (Namespace d)) ∷ map means_of
@@ -335,6 +313,7 @@ module _ (p : Program) (hooks : Hooks) (list : List ℕ) (context : Contexts)
       (l.namespace_object no_notes object named_pairs)
   namespace-alone =
       topped-alone p hooks list context answers (HoldsNamespace d)
+        (λ c e. absurd cc)
       (l.namespace_object no_notes object named_pairs) (
         Known (Of (Namespace d)) ∷ map means_of
             (rows_of p list context pairs),
@@ -343,7 +322,7 @@ module _ (p : Program) (hooks : Hooks) (list : List ℕ) (context : Contexts)
       ((object, true) ∷ map read_name named_pairs) (object-fits object named_pairs) marked
       (holds_namespace pairs are) (namespace_lone no_notes object named_pairs)
       (object-named object named_pairs)
-      (object-topped object named_pairs (all-unlike pairs (λ x t has. (are.all x t).0 has))) (
+      (object-topped object named_pairs) (
         record {
           label = Of (Namespace d);
           is = refl;

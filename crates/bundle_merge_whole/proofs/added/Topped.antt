@@ -32,13 +32,11 @@ pub record IsAtTop (path : List Around) : Type 0 where
   pub scopes : scopes_around Es path ≡ Top ∷ []
   pub takes_it : takes way Top ≡ true
 
--- an occurrence of this identifier, which binds it at the top, or refers to it where no function
--- has another `arguments`
+-- an occurrence of this identifier, which binds it at the top, or refers to it
 pub record IsTopped (o : Occurrence) (its : Listed) : Type 0 where
   pub ident : ident_of o ≡ its.0
   pub binds : is_binding o.role ≡ its.1
   pub home : its.1 ≡ true → IsAtTop o.path
-  pub away : o.sym ≡ codes "arguments" → find is_function (scopes_around Es o.path) ≡ None
 
 -- the occurrences of an item by itself
 pub occurrences-item : (item : List Item) →
@@ -164,13 +162,6 @@ any-top all x c (o ∷ os) (its ∷ names) topped =
         ∙ ap (λ b. (b && (bytes_eq its.0.0 x && (its.0.1 == c))) || list_any (binds_it x c) names)
         (sym is)
 
--- what is not inner is not inside
-pub not-inside : (begins : ℕ) (d : Denoted) → is_inner d ≡ false → is_inside begins d ≡ false
-not-inside begins (Bound (Inner kind at) name) e = absurd (true≢false e)
-not-inside begins (Bound Top name) e = refl
-not-inside begins (Bound Wrapper name) e = refl
-not-inside begins (Global x) e = refl
-
 -- An item whose occurrences are topped.
 module _ (item : List Item) (names : List Listed) (named : HasNames item)
     (topped : AllZip IsTopped (occurrences_from first_spot item) names) where
@@ -197,104 +188,3 @@ module _ (item : List Item) (names : List Listed) (named : HasNames item)
   top-written x c =
       ap (list_any (declares_top (own_declared item) (name_of ByContext x c))) own-is
       ∙ any-top (own_declared item) x c (occurrences_from first_spot item) names topped
-
-  -- what a name refers to is no inner binding
-  nothing-found : (o : Occurrence) →
-      (o.sym ≡ codes "arguments" → find is_function (scopes_around Es o.path) ≡ None) →
-      find (λ scope. is_implied_in (own_declared item) scope (its_name o)) (scopes_around Es o.path)
-      ≡ None
-  nothing-found o away =
-      find-same (scopes_around Es o.path)
-      (λ scope. nothing-implied (own_declared item) (identified item named) scope (its_name o))
-      ∙ by_symbol (is_arguments o.sym) refl
-    where
-      find-same : (scopes : List Scope) →
-          ((scope : Scope) → is_implied_in (own_declared item) scope (its_name o)
-          ≡ (is_arguments o.sym && is_function scope)) →
-          find (λ scope. is_implied_in (own_declared item) scope (its_name o)) scopes
-          ≡ find (λ scope. is_arguments o.sym && is_function scope) scopes
-      find-same [] same = refl
-      find-same (scope ∷ scopes) same =
-          ap (λ b. cond b (Some scope) (find (λ scope. is_implied_in (own_declared item) scope
-          (its_name o)) scopes)) (same scope)
-          ∙ ap (cond (is_arguments o.sym && is_function scope) (Some scope)) (find-same scopes same)
-
-      find-none : (scopes : List Scope) → find (λ scope. false && is_function scope) scopes ≡ None
-      find-none [] = refl
-      find-none (scope ∷ scopes) = find-none scopes
-
-      by_symbol : (b : Bool) → is_arguments o.sym ≡ b →
-          find (λ scope. b && is_function scope) (scopes_around Es o.path) ≡ None
-      by_symbol true is = away ((bytes_eq-Decides o.sym (codes "arguments")).0 is)
-      by_symbol false is = find-none (scopes_around Es o.path)
-
-  found-not : (o : Occurrence) →
-      (o.sym ≡ codes "arguments" → find is_function (scopes_around Es o.path) ≡ None) →
-      is_inner (denoted_by_context (own_declared item) (scopes_around Es o.path) (its_name o))
-      ≡ false
-  found-not o away =
-      by_found
-      (find (λ scope. is_written_in (own_declared item) scope (its_name o))
-      (scopes_around Es o.path))
-      (find-true (scopes_around Es o.path))
-    where
-      find-true : (scopes : List Scope) (scope : Scope) →
-          find (λ scope. is_written_in (own_declared item) scope (its_name o)) scopes ≡ Some scope →
-          is_written_in (own_declared item) scope (its_name o) ≡ true
-      find-true [] scope e = absurd (none-some scope e)
-      find-true (first ∷ scopes) scope e =
-          by_first (is_written_in (own_declared item) first (its_name o)) refl e
-          (find-true scopes scope)
-        where
-          by_first : (b : Bool) → is_written_in (own_declared item) first (its_name o) ≡ b →
-              cond b (Some first)
-              (find (λ scope. is_written_in (own_declared item) scope (its_name o)) scopes)
-              ≡ Some scope →
-              (find (λ scope. is_written_in (own_declared item) scope (its_name o)) scopes
-              ≡ Some scope → is_written_in (own_declared item) scope (its_name o) ≡ true) →
-              is_written_in (own_declared item) scope (its_name o) ≡ true
-          by_first true is found later =
-              ap (λ s. is_written_in (own_declared item) s (its_name o))
-              (sym (same_Some first scope found))
-              ∙ is
-          by_first false is found later = later found
-
-      by_implied : (b : Bool) (found : Option Scope) → found ≡ None →
-          is_inner (cond b (Global o.sym) (bound_in (without_context (its_name o)) found)) ≡ false
-      by_implied true found is = refl
-      by_implied false found is =
-          ap (λ f. is_inner (bound_in (without_context (its_name o)) f)) is
-
-      by_found : (found : Option Scope) →
-          ((scope : Scope) → found ≡ Some scope →
-          is_written_in (own_declared item) scope (its_name o) ≡ true) →
-          is_inner
-          (written_or_implied (own_declared item) (scopes_around Es o.path) (its_name o) found)
-          ≡ false
-      by_found None has =
-          by_implied (is_unresolved (Some o.ctxt)) _ (nothing-found o away)
-      by_found (Some Wrapper) has = refl
-      by_found (Some Top) has = refl
-      by_found (Some (Inner kind begins)) has =
-          absurd (false≢true (sym (none-inner (its_name o))
-          ∙ inner-declared (own_declared item) kind begins (its_name o) (has
-          (Inner kind begins) refl)))
-
-  pub not-inner : (o : Occurrence) (its : Listed) → IsTopped o its →
-      is_inner (own_denoted item o) ≡ false
-  not-inner o its one = by_binds its.1 refl
-    where
-      by_binds : (b : Bool) → its.1 ≡ b → is_inner (own_denoted item o) ≡ false
-      by_binds true is =
-          ap
-          (λ d. is_inner (own_or_found (own_declared item) (denoted_by_context (own_declared item)
-          (scopes_around Es o.path) (its_name o)) d))
-          (declares-so o its one is)
-          ∙ ap (λ scope. is_inner (Bound scope (its_name o))) (so-belongs o its one is
-          (own_declared item))
-      by_binds false is =
-          ap
-          (λ d. is_inner (own_or_found (own_declared item) (denoted_by_context (own_declared item)
-          (scopes_around Es o.path) (its_name o)) d))
-          (declares-none o its one is)
-          ∙ found-not o one.away

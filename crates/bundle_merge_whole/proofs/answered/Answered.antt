@@ -7,7 +7,7 @@ use Rattle.std.proofs.lemmas.Slice.Eq.{bytes_eq-Decides}
 use Rattle.bundle_tree_piece.specs.declared.piece.Role.TheVariants as r
 use Rattle.bundle_tree_piece.specs.Item as h
 use Rattle.bundle_tree_piece.specs.Item.{Item}
-use Rattle.bundle_rules.specs.Places.{Occurrence, is_binding}
+use Rattle.bundle_rules.specs.Places.{Occurrence, is_binding, occurrences_from}
 use Rattle.bundle_rules.specs.Scopes.{Es, Top, Inner, scopes_around}
 use Rattle.bundle_rules.specs.Declarations.{Way, ByContext, name_of, names_agree, Declared, declared_by, way_of}
 use Rattle.bundle_rules.specs.Homes.{home_of, is_top}
@@ -37,6 +37,8 @@ use Rattle.bundle_merge_whole.specs.composed.Noted.{AsWhole, as_whole, holds_met
 use Rattle.bundle_merge_whole.specs.composed.Names.{own_from}
 use Rattle.bundle_merge_whole.specs.composed.Functions.{whole_form}
 use Rattle.bundle_merge_whole.proofs.fit.Owning.{are_own}
+use Rattle.bundle_merge_joined.specs.loaded.Pieces.{is_told_inside, told_inside}
+use Rattle.bundle_merge_joined.proofs.loaded.Numbers.{told-filtered}
 use Rattle.bundle_merge_whole.specs.made.Given.{Contexts, AnsweredOf, ident_of_label}
 use Rattle.bundle_merge_whole.specs.made.Made.{IsMade, holds_meta as made_meta}
 use Rattle.bundle_merge_whole.specs.made.Alone.{DeclaresLabel, adds, holds_meta as adds_meta, TellApart, holds_meta as owns_answered, NameAlone, inside, of_top, free, IsAlone}
@@ -166,6 +168,41 @@ module _ (list : List ℕ) {p : Program} {hooks : Hooks} {context : Contexts}
   all-alone (o ∷ os) [] all = absurd all
   all-alone (o ∷ os) (u ∷ us) all = (name-alone o u all.0, all-alone os us all.1)
 
+  -- what is inside is told to be so
+  name-so : (o u : Occurrence) → Beside o u →
+      is_inside 1 (own_denoted the_item u) ≡ is_told_inside (meant_of properties (there o))
+  name-so o u it = by (classify list facts o u it)
+    where
+      by : InsideAt list facts o u
+          ⊎ FreeAt list facts o u →
+          is_inside 1 (own_denoted the_item u) ≡ is_told_inside (meant_of properties (there o))
+      by (inl at) =
+          let far = from-seven facts.its at.from at.to at.goes in
+          ap (is_inside 1) at.after
+          ∙ le-leb 1 at.to (omega (arith, far))
+          ∙ sym (ap (λ d. is_told_inside (meant_of properties d)) at.before)
+      by (inr at) =
+          ap (is_inside 1) at.after
+          ∙ sym (ap (λ d. is_told_inside (meant_of properties d)) at.before)
+
+  all-so : (os us : List Occurrence) → AllZip Beside os us →
+      AllZip (λ v meant. is_inside 1 v ≡ is_told_inside meant) (map (own_denoted the_item) us)
+      (map (meant_of properties) (map there os))
+  all-so [] [] all = tt
+  all-so [] (u ∷ us) all = absurd all
+  all-so (o ∷ os) [] all = absurd all
+  all-so (o ∷ os) (u ∷ us) all = (name-so o u all.0, all-so os us all.1)
+
+  inside-told : its_inside ≡ each_denoted_once
+      (told_inside (own_from the_item first_spot the_item) (Known (Meta m) ∷ its_meants properties))
+  inside-told =
+      ap each_denoted_once
+      (s.object-inner list facts
+      ∙ told-filtered (is_inside 1) (map (own_denoted the_item) its_us) (its_meants properties)
+      (all-so its_os its_us all-beside)
+      ∙ sym (ap (λ ds. told_inside ds (Known (Meta m) ∷ its_meants properties))
+      (s.object-denotes list facts)))
+
   -- The object's own name.
 
   abbrev IsOther : Declared → Type 0
@@ -254,17 +291,22 @@ module _ (list : List ℕ) {p : Program} {hooks : Hooks} {context : Contexts}
         (properties-mean facts.its));
     names =
         subst
+        (λ inner. AllZip (NameAlone p list context answers (HoldsMeta m) the_item 1 inner)
+        (occurrences_from first_spot the_item) (Known (Meta m) ∷ its_meants properties))
+        inside-told
+        (subst
         (λ os. AllZip (NameAlone p list context answers (HoldsMeta m) the_item 1 its_inside) os
         (Known (Meta m) ∷ its_meants properties))
         (sym (d.item-occurrences list facts)) (
-          of_top refl first-outside (λ c e. absurd (meta-not c e))
+          of_top first-outside (λ c e. absurd (meta-not c e))
               (record { cause = HoldsMeta m; due = facts.due; declares = adds adds_meta }) refl,
           all-alone its_os its_us all-beside,
-        );
+        ));
     called = (
       properties,
       facts.its.held,
-      s.object-called list facts
+      ap (map denoted_symbol) (sym inside-told)
+          ∙ s.object-called list facts
           ∙ ap (map denoted_symbol) (sym (inner-names properties)),
     );
     form = whole_form (object-marked facts.its name_ident);
@@ -275,7 +317,7 @@ module _ (list : List ℕ) {p : Program} {hooks : Hooks} {context : Contexts}
     named = d.item-named list facts;
     single = fit-single item-fits;
     fit = item-fits;
-    inner = s.object-resolved list facts;
+    inner = λ a b la lb is also. (s.object-resolved list facts).same a b la lb is.is;
     declares = declares;
     declared = λ x c is.
         let both = and_parts (bytes_eq name_ident.0 x) (name_ident.1 == c) (sym (top-is x c)

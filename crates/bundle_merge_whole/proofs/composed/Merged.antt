@@ -28,7 +28,7 @@ use Rattle.bundle_merge_meaning.specs.walked.Renaming.{Told}
 use Rattle.bundle_merge_meaning.proofs.walked.Numbers.{numbers_agree}
 use Rattle.bundle_scope_renamed.proofs.kept.Lists.{IsIn, same_bool, map-twice}
 use Rattle.bundle_merge_whole.specs.composed.Noted.{Noted, AsWhole, AsFunction, AgreesWith, AgreeInTurn, denoted_here, denoted_from, StatementsAgree, StandsForLabel, ItemAgrees, ItemsAgree, IsMadeOf, view_of, BundleAgrees}
-use Rattle.bundle_merge_whole.specs.composed.Names.{Table, denoted_in_tree, labels_in, IsLabelled, labelled_top, labelled_inner, NameNoted, is_one_inside, is_known, is_free, StatementNoted, StatementsNoted, ItemNoted}
+use Rattle.bundle_merge_whole.specs.composed.Names.{Table, denoted_in_tree, labels_in, IsLabelled, labelled_top, labelled_inner, NameNoted, is_one_inside, is_known, is_known_top, is_free, is_told_inside, told_inside, StatementNoted, StatementsNoted, ItemNoted}
 use Rattle.bundle_merge_whole.proofs.composed.ListFacts.{all-in, pick}
 use Rattle.bundle_merge_whole.proofs.composed.Labels.{label-there}
 
@@ -83,13 +83,6 @@ inside-moved item o begins k d it =
 record AreAlike (begins k : ℕ) (d e : Denoted) : Type 0 where
   pub same : is_inside begins d ≡ is_inside (begins + k) e
   pub moves : is_inside begins d ≡ true → Moves k d e
-
-outside-both : (begins k : ℕ) (d e : Denoted) → is_inside begins d ≡ false →
-    is_inside (begins + k) e ≡ false → AreAlike begins k d e
-outside-both begins k d e one two = record {
-  same = one ∙ sym two;
-  moves = λ is. absurd (false≢true (sym one ∙ is));
-}
 
 module _ (items : List (List Item)) (table : Table) (whole : AllOf IsWhole items)
     (named : AllOf IsNamed items) (resolved : IsResolved Es (joined items)) where
@@ -167,42 +160,48 @@ module _ (items : List (List Item)) (table : Table) (whole : AllOf IsWhole items
           moves = λ its. e;
         }
 
-    alike : (begins : ℕ) (its : List Denoted) (o : Occurrence) → IsListedIn item o →
+    -- in the whole it is inside exactly if it is told so
+    as_told : (begins : ℕ) (its : List Denoted) (o : Occurrence) → IsListedIn item o →
         (meant : Meant) → NameNoted items table item begins its o meant →
-        AreAlike begins k (own_denoted item o) (in_whole o)
-    alike begins its o listed meant (is_one_inside is unless within found) =
-        inner_alike begins o listed is unless
-    alike begins its o listed meant (is_known out (labelled_inner is unless c)) =
-        inner_alike begins o listed is unless
-    alike begins its o listed meant (is_known out (labelled_top top not_inner c)) =
-        outside-both begins k (own_denoted item o) (in_whole o) out
-        (ap (is_inside (begins + k)) (told_by o listed (top_name top not_inner)))
-    alike begins its o listed meant (is_free one not_top not_inner) =
-        outside-both begins k (own_denoted item o) (in_whole o)
-        (ap (is_inside begins)
-        (free-own item o (viewed item (all-at IsNamed items m item named at) o listed) one
-        not_inner (own-top items m item (its_name o) at not_top)))
-        (ap (is_inside (begins + k)) (told_by o listed (free one not_top not_inner)))
+        (is_told_inside meant ≡ is_inside (begins + k) (in_whole o))
+        × (is_told_inside meant ≡ true → Moves k (own_denoted item o) (in_whole o))
+    as_told begins its o listed meant (is_one_inside is unless within found) =
+        let both = inner_alike begins o listed is unless in
+        (sym within ∙ both.same, λ told. both.moves within)
+    as_told begins its o listed meant (is_known out (labelled_inner is unless c)) =
+        (sym out ∙ (inner_alike begins o listed is unless).same, λ told. absurd (false≢true told))
+    as_told begins its o listed meant (is_known out (labelled_top top not_inner c)) = (
+      sym (ap (is_inside (begins + k)) (told_by o listed (top_name top not_inner))),
+      λ told. absurd (false≢true told),
+    )
+    as_told begins its o listed meant (is_known_top top not_inner c) = (
+      sym (ap (is_inside (begins + k)) (told_by o listed (top_name top not_inner))),
+      λ told. absurd (false≢true told),
+    )
+    as_told begins its o listed meant (is_free one not_top not_inner) = (
+      sym (ap (is_inside (begins + k)) (told_by o listed (free one not_top not_inner))),
+      λ told. absurd (false≢true told),
+    )
 
     pub beside : (begins : ℕ) (its : List Denoted) (os : List Occurrence) →
         AllOf (IsListedIn item) os → (meants : List Meant) →
         AllZip (NameNoted items table item begins its) os meants →
-        AllZip (Moves k) (filter (is_inside begins) (map (own_denoted item) os))
+        AllZip (Moves k) (told_inside (map (own_denoted item) os) meants)
         (filter (is_inside (begins + k)) (map in_whole os))
     beside begins its [] listed [] noted = tt
     beside begins its [] listed (meant ∷ meants) noted = absurd noted
     beside begins its (o ∷ os) listed [] noted = absurd noted
     beside begins its (o ∷ os) listed (meant ∷ meants) noted =
-        let one = alike begins its o listed.0 meant noted.0 in
-        pick (Moves k) (is_inside begins (own_denoted item o)) (is_inside (begins + k) (in_whole o))
+        let one = as_told begins its o listed.0 meant noted.0 in
+        pick (Moves k) (is_told_inside meant) (is_inside (begins + k) (in_whole o))
         (own_denoted item o) (in_whole o)
-        (filter (is_inside begins) (map (own_denoted item) os))
-        (filter (is_inside (begins + k)) (map in_whole os)) one.same one.moves
+        (told_inside (map (own_denoted item) os) meants)
+        (filter (is_inside (begins + k)) (map in_whole os)) one.0 one.1
         (beside begins its os listed.1 meants noted.1)
 
-    module _ (begins : ℕ) (all : List Occurrence) where
+    module _ (begins : ℕ) (all : List Occurrence) (all_meants : List Meant) where
       abbrev here : List Denoted
-      here = each_denoted_once (filter (is_inside begins) (map (own_denoted item) all))
+      here = each_denoted_once (told_inside (map (own_denoted item) all) all_meants)
 
       abbrev there : List Denoted
       there = each_denoted_once (filter (is_inside (begins + k)) (map in_whole all))
@@ -218,8 +217,12 @@ module _ (items : List (List Item)) (table : Table) (whole : AllOf IsWhole items
       one_agrees same o listed meant (is_one_inside is unless within found) =
           sym (same (own_denoted item o) (in_whole o) (told_by o listed (inner is unless))) ∙ found
       one_agrees same o listed meant (is_known {l = l} out its) = (
-        sym (alike begins here o listed (Known l) (is_known out its)).same ∙ out,
+        sym (as_told begins here o listed (Known l) (is_known out its)).0,
         labelled_bound o listed l its,
+      )
+      one_agrees same o listed meant (is_known_top {l = l} top not_inner c) = (
+        sym (as_told begins here o listed (Known l) (is_known_top top not_inner c)).0,
+        labelled_bound o listed l (labelled_top top not_inner c),
       )
       one_agrees same o listed meant (is_free one not_top not_inner) =
           told_by o listed (free one not_top not_inner)
@@ -253,7 +256,7 @@ module _ (items : List (List Item)) (table : Table) (whole : AllOf IsWhole items
         subst (λ place. AgreeInTurn labels place (denoted_from view b part) told.0)
         (sym moves.place)
         (subst (λ ds. AgreeInTurn labels (a.place + k) ds told.0) (sym (in_turn a b moves part))
-        (all_agree a.place os (λ d e its. numbers_agree (Moves k) (moves-one k) (filter (is_inside a.place) (map (own_denoted item) os)) (filter (is_inside (a.place + k)) (map in_whole os)) (beside a.place (here a.place os) os listed told.0 noted) d e its) os listed told.0 noted))
+        (all_agree a.place os told.0 (λ d e its. numbers_agree (Moves k) (moves-one k) (told_inside (map (own_denoted item) os) told.0) (filter (is_inside (a.place + k)) (map in_whole os)) (beside a.place (here a.place os told.0) os listed told.0 noted) d e its) os listed told.0 noted))
 
     statements_agree : (a b : Spot) → AreMoved k a b → (parts : List (List Item)) →
         AllOf (IsListedIn item) (occurrences_from a (flat parts)) → (tolds : List Told) →

@@ -22,8 +22,9 @@ use Rattle.bundle_merge_meaning.specs.walked.Keeps.{Entry, ByStep, ByMeta, meant
 use Rattle.bundle_merge_meaning.specs.walked.Stated.{SameStated}
 use Rattle.bundle_merge_meaning.specs.walked.Renaming.{Told}
 use Rattle.bundle_merge_meaning.proofs.walked.Numbers.{numbers_agree, inside_beside}
+use Rattle.bundle_merge_joined.proofs.loaded.Numbers.{told-filtered}
 use Rattle.bundle_merge_whole.specs.composed.Noted.{AsWhole, IsNotedFor, as_whole, own, first_spot}
-use Rattle.bundle_merge_whole.specs.composed.Names.{Table, NameNoted, is_one_inside, is_known, is_free, own_from, ItemNoted}
+use Rattle.bundle_merge_whole.specs.composed.Names.{Table, NameNoted, is_one_inside, is_known, is_free, own_from, is_told_inside, told_inside, ItemNoted}
 use Rattle.bundle_merge_whole.specs.composed.Own.{OutsideNoted, out_known, out_free, MadeNoted, made_inside, made_outside, EntriesNoted}
 
 -- what is told of a statement
@@ -127,6 +128,44 @@ module _ (R : Denoted → Denoted → Type 0) (one : IsOneToOne R) (items : List
       (outside-not o meant out.0)
       ∙ front-filtered fronts meants os out.1
 
+  -- what is told of an entry is inside exactly if it is so by itself
+  outside-so : (o : Occurrence) (meant : Meant) → OutsideNoted items table item o meant →
+      is_inside 1 (own_denoted item o) ≡ is_told_inside meant
+  outside-so o meant (out_known out its) = out
+  outside-so o meant (out_free out one_is not_top not_inner) = out
+
+  made-so : (inner : List Denoted) (d : Denoted) (o : Occurrence) (meant : Meant) →
+      MadeNoted R items table item inner d o meant →
+      is_inside 1 (own_denoted item o) ≡ is_told_inside meant
+  made-so inner d o meant (made_inside found here is unless there becomes) = there
+  made-so inner d o meant (made_outside here out) = outside-so o meant out
+
+  entries-so : (inner : List Denoted) (entries : List Entry) (ds : List Denoted)
+      (os : List Occurrence) → EntriesNoted R items table item inner entries ds os →
+      AllZip (λ v meant. is_inside 1 v ≡ is_told_inside meant) (map (own_denoted item) os)
+      (map meant_in entries)
+  entries-so inner [] [] [] noted = tt
+  entries-so inner [] [] (o ∷ os) noted = absurd noted
+  entries-so inner [] (d ∷ ds) os noted = absurd noted
+  entries-so inner (ByStep step note ∷ entries) [] os noted = absurd noted
+  entries-so inner (ByStep step note ∷ entries) (d ∷ ds) [] noted = absurd noted
+  entries-so inner (ByStep step note ∷ entries) (d ∷ ds) (o ∷ os) noted =
+      (made-so inner d o note.meant noted.0, entries-so inner entries ds os noted.1)
+  entries-so inner (ByMeta ident meant ∷ entries) ds [] noted = absurd noted
+  entries-so inner (ByMeta ident meant ∷ entries) ds (o ∷ os) noted =
+      (outside-so o meant noted.0, entries-so inner entries ds os noted.1)
+
+  front-so : (fronts : List Occurrence) (meants : List Meant) (os : List Occurrence)
+      (more : List Meant) → AllZip (OutsideNoted items table item) fronts meants →
+      AllZip (λ v meant. is_inside 1 v ≡ is_told_inside meant) (map (own_denoted item) os) more →
+      AllZip (λ v meant. is_inside 1 v ≡ is_told_inside meant)
+      (map (own_denoted item) (fronts ++ os)) (meants ++ more)
+  front-so [] [] os more out rest = rest
+  front-so [] (meant ∷ meants) os more out rest = absurd out
+  front-so (o ∷ fronts) [] os more out rest = absurd out
+  front-so (o ∷ fronts) (meant ∷ meants) os more out rest =
+      (outside-so o meant out.0, front-so fronts meants os more out.1 rest)
+
   -- the names of what a walk makes are noted right
   pub names-noted : (front : List Meant) (entries : List Entry) (ds : List Denoted)
       (front_os os : List Occurrence) → occurrences_from first_spot item ≡ front_os ++ os →
@@ -150,7 +189,9 @@ module _ (R : Denoted → Denoted → Type 0) (one : IsOneToOne R) (items : List
       subst
       (λ meants. AllZip
       (NameNoted items table item 1
-      (each_denoted_once (filter (is_inside 1) (own_from item first_spot item))))
+      (each_denoted_once (told_inside (own_from item first_spot item) meants)))
       (occurrences_from first_spot item) meants) (sym told_is)
-      (subst (λ list. AllZip (NameNoted items table item 1 (each_denoted_once (filter (is_inside 1) (map (own_denoted item) list)))) list (front ++ map meant_in entries)) (sym are)
-      (front-noted inner its same front_os front os (map meant_in entries) out (entries-noted inner its same entries ds os noted)))
+      (subst (λ list. AllZip (NameNoted items table item 1 (each_denoted_once (told_inside (map (own_denoted item) list) (front ++ map meant_in entries)))) list (front ++ map meant_in entries)) (sym are)
+      (subst (λ list. AllZip (NameNoted items table item 1 (each_denoted_once list)) (front_os ++ os) (front ++ map meant_in entries))
+      (told-filtered (is_inside 1) (map (own_denoted item) (front_os ++ os)) (front ++ map meant_in entries) (front-so front_os front os (map meant_in entries) out (entries-so inner entries ds os noted)))
+      (front-noted inner its same front_os front os (map meant_in entries) out (entries-noted inner its same entries ds os noted))))

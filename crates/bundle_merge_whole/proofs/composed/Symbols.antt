@@ -22,7 +22,7 @@ use Rattle.bundle_merge_meaning.specs.walked.Renaming.{Told}
 use Rattle.bundle_merge_meaning.proofs.walked.Numbers.{inside_beside}
 use Rattle.bundle_merge_meaning.proofs.walked.Denoting.{elements_denote}
 use Rattle.bundle_merge_whole.specs.composed.Noted.{denoted_from, first_spot, view_of}
-use Rattle.bundle_merge_whole.specs.composed.Names.{Table, own_from, StatementNoted}
+use Rattle.bundle_merge_whole.specs.composed.Names.{Table, own_from, told_inside, StatementNoted}
 use Rattle.bundle_merge_whole.specs.composed.Own.{OutsideNoted, EntriesNoted}
 use Rattle.bundle_merge_whole.proofs.composed.Merged.{Moves, moves-one, beside, in_turn}
 use Rattle.bundle_merge_joined.proofs.loaded.Numbers.{both_once}
@@ -51,11 +51,11 @@ pub merged-symbols : (items : List (List Item)) (table : Table) (whole : AllOf I
     map denoted_symbol
     (each_denoted_once
     (filter (is_inside b.place) (denoted_from (view_of ByContext items) b part))) ≡ map
-    denoted_symbol (each_denoted_once (filter (is_inside a.place) (own_from item a part)))
+    denoted_symbol (each_denoted_once (told_inside (own_from item a part) told.0))
 merged-symbols items table whole named resolved m item at a b moves part listed told noted =
     let os : List Occurrence = occurrences_from a part in
     let inner : List Denoted =
-    each_denoted_once (filter (is_inside a.place) (own_from item a part)) in
+    each_denoted_once (told_inside (own_from item a part) told.0) in
     ap
     (λ place. map denoted_symbol
     (each_denoted_once
@@ -67,7 +67,7 @@ merged-symbols items table whole named resolved m item at a b moves part listed 
     (in_turn items table whole named resolved m item at a b moves part)
     ∙ zipped-symbols (Moves (offset items m)) (moved-symbol (offset items m)) inner _
     (both_once (Moves (offset items m)) (moves-one (offset items m))
-    (filter (is_inside a.place) (own_from item a part)) _
+    (told_inside (own_from item a part) told.0) _
     (beside items table whole named resolved m item at a.place inner os listed told.0 noted))
 
 -- and those of what a walk made are called as in the statement

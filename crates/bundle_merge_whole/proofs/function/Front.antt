@@ -110,15 +110,12 @@ module _ (p : Program) (list : List ℕ) (context : Contexts) (answers : ℕ →
         (occurrences_from first_spot (front_items load helper own_module_name own_exports_name))
         (function_names c)
     front-alone = (
-      a.of_top refl
+      a.of_top
           (strange-outside w (numbers_in context c) load helper own_module_name own_exports_name its
           load.0 load.1 are_strange.load_strange) (λ d same. refl) (load_top p c reached common)
           refl,
       (
         a.of_top
-            (outside_so 22
-            (own_denoted (load_item load helper own_module_name own_exports_name ys)
-            (helper_name helper)) helper_outside)
             (strange-outside w (numbers_in context c) load helper own_module_name own_exports_name
             its helper.0 helper.1 are_strange.helper_strange) (λ d same. helper_outside)
             helper_top refl,

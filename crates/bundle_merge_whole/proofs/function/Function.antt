@@ -92,7 +92,9 @@ module _ (p : Program) (hooks : Hooks) (list : List ℕ) (context : Contexts)
     named = item-named w g its_load its_helper its_module its_exports its;
     single = beside fit;
     fit = fit;
-    inner = resolved-inside w g its_load its_helper its_module its_exports its known;
+    inner = λ a b la lb is also.
+        (resolved-inside w g its_load its_helper its_module its_exports its known).same a b la lb
+        is.is;
     declares = declares;
     declared =
         λ x n is. (

@@ -38,7 +38,8 @@ use Rattle.bundle_merge_joined.proofs.loaded.Turning.{goes-from, turned-frame}
 use Rattle.bundle_merge_joined.proofs.loaded.Following.{follows-turned}
 use Rattle.bundle_merge_joined.proofs.loaded.Whole.{kept-there}
 use Rattle.bundle_merge_joined.proofs.loaded.One.{denoted-one}
-use Rattle.bundle_merge_joined.proofs.loaded.Numbers.{both_once, inside_zip}
+use Rattle.bundle_merge_joined.proofs.loaded.Numbers.{both_once, inside_zip, told-filtered}
+use Rattle.bundle_merge_joined.specs.loaded.Pieces.{is_told_inside, told_inside}
 use Rattle.bundle_merge_joined.proofs.loaded.Noted.{strange-outside, strange-own, beside-inner}
 use Rattle.bundle_merge_joined.proofs.loaded.Parameters.{bound-top}
 use Rattle.bundle_merge_joined.proofs.loaded.Apart.{arguments-bound}
@@ -258,6 +259,40 @@ module _ (p : Program) (list : List ℕ) (context : Contexts) (answers : ℕ →
       all-inside rest meants (λ j q is. at (suc j) q is) told.1,
     )
 
+    -- what is inside is told to be so
+    told-so : (o u : Occurrence) (meant : Meant) → Stands o u → Tells o u meant →
+        is_inside t.place (own_denoted item u) ≡ is_told_inside meant
+    told-so o u meant stands (kept_name is named) =
+        sym (near o u stands.0 (kept-pair o u stands (keeps_of o u is))) ∙ by named
+      where
+        by : {d : Denoted} {meant : Meant} → NamedAs c inner0 d meant →
+            is_inside 0 d ≡ is_told_inside meant
+        by (one_inside found inside) = inside
+        by of_top = refl
+        by of_wrapper = refl
+        by unbound = refl
+    told-so o u meant stands (load_name calls refers out) =
+        outside-there (own_denoted item u) (load_outside o u stands calls refers)
+
+    all-so : {os us : List Occurrence} → Follows L In g ds os us → (meants : List Meant) →
+        ((j : ℕ) (o : Occurrence) → slice_get os j ≡ Some o →
+        (i : ℕ) × (slice_get (module_names xs) i ≡ Some o)) →
+        AllNamed p list context c ds inner0 os (map ident_of us) meants →
+        AllZip (λ v meant. is_inside t.place v ≡ is_told_inside meant) (map (own_denoted item) us)
+        meants
+    all-so done [] at told = tt
+    all-so done (meant ∷ meants) at told = absurd told
+    all-so (kept stands keeps rest) [] at told = absurd told
+    all-so (kept {o = o} {u = u} stands keeps rest) (meant ∷ meants) at told = (
+      told-so o u meant (stands, at zero o refl) told.0,
+      all-so rest meants (λ j q is. at (suc j) q is) told.1,
+    )
+    all-so (changed stands refers is rest) [] at told = absurd told
+    all-so (changed {o = o} {u = u} stands refers is rest) (meant ∷ meants) at told = (
+      told-so o u meant (stands, at zero o refl) told.0,
+      all-so rest meants (λ j q is. at (suc j) q is) told.1,
+    )
+
     -- one name
     module _ (inner1 : List Denoted) (numbers : (d v : Denoted) → Becomes d v →
         position (same_denoted d) inner0 ≡ position (same_denoted v) inner1) where
@@ -352,7 +387,7 @@ module _ (p : Program) (list : List ℕ) (context : Contexts) (answers : ℕ →
       name-alone o u meant stands (load_name calls refers out) =
           let facts = known.called_known (ident_of u) calls in
           let outer = load_outside o u stands calls refers in
-          a.of_top (outside-there (own_denoted item u) outer)
+          a.of_top
           (strange-outside w g load helper m e its u.sym u.ctxt facts.0) (λ d same. outer)
           (load_top p calls.«module» calls.reached calls.common_js) calls.is
 
@@ -384,13 +419,30 @@ module _ (p : Program) (list : List ℕ) (context : Contexts) (answers : ℕ →
       each_denoted_once
       (filter (is_inside t.place) (map (own_denoted item) (occurrences_from t y)))
 
+  -- the bindings inside, by what is told
+  abbrev inner_told : List Meant → List Denoted
+  inner_told meants =
+      each_denoted_once (told_inside (map (own_denoted item) (occurrences_from t y)) meants)
+
+  there-told : (meants : List Meant) →
+      AllNamed p list context c ds inner_here (occurrences_from s x)
+      (map ident_of (occurrences_from t y)) meants →
+      inner_there ≡ inner_told meants
+  there-told meants told =
+      ap each_denoted_once
+      (told-filtered (is_inside t.place) (map (own_denoted item) (occurrences_from t y)) meants
+      (all-so inner_here part-follows meants part-index told))
+
   pub statement-alone : (meants : List Meant) →
       AllNamed p list context c ds inner_here (occurrences_from s x)
       (map ident_of (occurrences_from t y)) meants →
-      AllZip (NameAlone p list context answers (b.Defines c) item t.place inner_there)
+      AllZip (NameAlone p list context answers (b.Defines c) item t.place (inner_told meants))
       (occurrences_from t y) meants
   statement-alone meants told =
-      all-alone inner_here inner_there
+      subst
+      (λ inner. AllZip (NameAlone p list context answers (b.Defines c) item t.place inner)
+      (occurrences_from t y) meants) (there-told meants told)
+      (all-alone inner_here inner_there
       (λ d v beside. numbers_agree (DenotedBeside R g ds)
       (λ i j k l. denoted-one R (turned-frame w) g ds i j k l)
       (filter (is_inside 0) (map (denoted_of BySymbol Cjs ds) (occurrences_from s x)))
@@ -399,7 +451,7 @@ module _ (p : Program) (list : List ℕ) (context : Contexts) (answers : ℕ →
       (map (denoted_of BySymbol Cjs ds) (occurrences_from s x))
       (map (own_denoted item) (occurrences_from t y))
       (all-inside inner_here part-follows meants part-index told)) d v beside)
-      part-follows meants part-index told
+      part-follows meants part-index told)
 
   -- the bindings inside are called as in the module
   symbols-same : (olds news : List Denoted) → AllZip (DenotedBeside R g ds) olds news →
@@ -418,11 +470,12 @@ module _ (p : Program) (list : List ℕ) (context : Contexts) (answers : ℕ →
   pub statement-symbols : (meants : List Meant) →
       AllNamed p list context c ds inner_here (occurrences_from s x)
       (map ident_of (occurrences_from t y)) meants →
-      map denoted_symbol inner_there ≡ map denoted_symbol inner_here
+      map denoted_symbol (inner_told meants) ≡ map denoted_symbol inner_here
   statement-symbols meants told =
       let here : List Denoted = map (denoted_of BySymbol Cjs ds) (occurrences_from s x) in
       let there : List Denoted = map (own_denoted item) (occurrences_from t y) in
-      symbols-same inner_here inner_there
+      ap (map denoted_symbol) (sym (there-told meants told))
+      ∙ symbols-same inner_here inner_there
       (both_once (DenotedBeside R g ds) (λ i j k l. denoted-one R (turned-frame w) g ds i j k l)
       (filter (is_inside 0) here) (filter (is_inside t.place) there)
       (inside_zip (DenotedBeside R g ds) (is_inside 0) (is_inside t.place) here there

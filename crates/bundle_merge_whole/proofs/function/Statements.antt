@@ -138,7 +138,7 @@ module _ (p : Program) (list : List ℕ) (context : Contexts) (answers : ℕ →
   pub laid_called : {s : Spot} {parts : List (List Item)} {statements : List (List Element)}
       {bodies : List (List Item)} (those : Laid p list context c ds s parts statements bodies)
       (t : Spot) → IsPart w (numbers_in context c) (laid_turned p list context c ds those) s t →
-      StatementsCalled p c item t bodies statements
+      StatementsCalled p c item t bodies (laid_tolds p list context c ds those) statements
   laid_called all_laid t part = tt
   laid_called {s = s} (passed rest) t part =
       laid_called rest t

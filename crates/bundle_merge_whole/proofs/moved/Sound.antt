@@ -115,10 +115,6 @@ module _ (p q : Program) (R : ℕ → ℕ → Type 0) (name back : ℕ → ℕ)
         subst (λ (tree : List Item). (file : FileName) × IsFaultless file tree)
         (w.tree (back m) m (back-at m reached))
         (sound.faultless (back m) (back-reached m reached));
-    unlike = λ t meant same.
-        sound.unlike (target_by back t)
-        (meant-by (λ a b. R b a) back (λ a b r. its.backs b a r) q p (flip w) (Of t) meant)
-        (called-back list sound.is_list t meant ∙ same);
     undoubled = λ m kind reached has.
         subst (λ (tree : List Item). first_doubled kind tree ≡ None)
         (w.tree (back m) m (back-at m reached))

@@ -112,26 +112,3 @@ reads-es p (on linked more) es = reads-es p more (gives-es p linked.given es)
 pub words-es : (p : Program) (m : ℕ) (x : Text) (words : List Text) (n : ℕ) (t : Target) →
     WordsMean p m x words n t → (IsCommonJs p m → ⊥) → IsOfEs p t
 words-es p m x words n t means es = reads-es p means.reads (stands-es p m means.stands es)
-
--- Symbols: no label that is meant is called `arguments`.
-
-not_arguments : (x : Text) → (x ≡ codes "arguments" → ⊥) → is_arguments x ≡ false
-not_arguments x differs = false_from_ne_true (is_arguments x)
-    (λ is. differs (same_symbol x (codes "arguments") is))
-
-pub label-other : (p : Program) (list : List ℕ) (context : Contexts) → AreSound p list →
-    (l : Label) → IsMeant p l → ((c : ℕ) (x : Text) → l ≡ Parameter c x → ⊥) →
-    is_arguments (ident_of_label p list context l).0 ≡ false
-label-other p list context sound (Of (Declared m x)) meant own =
-    not_arguments x (sound.unlike (Declared m x) meant)
-label-other p list context sound (Of (Namespace m)) meant own =
-    not_arguments (symbol_of_target p list (Namespace m)) (sound.unlike (Namespace m) meant)
-label-other p list context sound (Of (External s its)) meant own =
-    not_arguments (symbol_of_target p list (External s its)) (sound.unlike (External s its) meant)
-label-other p list context sound (Of (CommonJs m c its)) meant own =
-    not_arguments (symbol_of_target p list (CommonJs m c its))
-    (sound.unlike (CommonJs m c its) meant)
-label-other p list context sound (Parameter c x) meant own = absurd (own c x refl)
-label-other p list context sound (Load c) meant own = refl
-label-other p list context sound (Meta m) meant own = refl
-label-other p list context sound Helper meant own = refl

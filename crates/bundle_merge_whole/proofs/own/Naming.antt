@@ -25,17 +25,19 @@ use Rattle.bundle_scope_names.proofs.TreeLemmas.{DeclaresOrNot, DoesNot, Does, d
 use Rattle.bundle_scope_names.proofs.Separation.{IsFor, denoted-for}
 use Rattle.bundle_scope_names.proofs.TestLemmas.{iff}
 use Rattle.bundle_merge_joined.specs.joined.Joined.{AllOf, own_declared}
-use Rattle.bundle_merge_joined.specs.joined.Notes.{its_name, own_denoted, is_inner, is_inner_name, IsListedIn, IsResolvedInside}
+use Rattle.bundle_merge_joined.specs.joined.Notes.{its_name, own_denoted, is_inner, is_inner_name, IsListedIn}
 use Rattle.bundle_merge_joined.specs.joined.Alike.{ScopesAlike, tops, wrappers, inners}
 use Rattle.bundle_merge_joined.proofs.joined.Declarations.{IsNamed}
 use Rattle.bundle_merge_joined.proofs.joined.Paths.{item-occurrences}
 use Rattle.bundle_merge_meaning.specs.noted.Marked.{Note}
 use Rattle.bundle_merge_meaning.specs.walked.Keeps.{Entry, meant_in}
-use Rattle.bundle_merge_meaning.specs.walked.Numbers.{IsOneToOne, AreBeside}
-use Rattle.bundle_merge_meaning.proofs.walked.Numbers.{numbers_agree, inside_beside, both_filtered}
+use Rattle.bundle_merge_meaning.specs.walked.Numbers.{IsOneToOne}
+use Rattle.bundle_merge_meaning.proofs.walked.Numbers.{numbers_agree, both_filtered}
+use Rattle.bundle_merge_joined.specs.loaded.Pieces.{is_told_inside, told_inside}
 use Rattle.bundle_merge_whole.specs.composed.Noted.{first_spot}
+use Rattle.bundle_merge_whole.proofs.composed.ListFacts.{pick}
 use Rattle.bundle_merge_whole.specs.made.Given.{Contexts, numbers_in, ident_of_label}
-use Rattle.bundle_merge_whole.specs.made.Alone.{IsTopLabel}
+use Rattle.bundle_merge_whole.specs.made.Alone.{IsTopLabel, IsInnerAlone}
 use Rattle.bundle_merge_whole.specs.made.Told.{denoted_there, kept_ident, IsNamedFor, IsNotedStep, inside, known, unbound}
 use Rattle.bundle_merge_whole.specs.own.Beside.{Pairs, Paired, MadeOf, IsFront, Aligned, al_done, al_step, al_meta}
 use Rattle.bundle_merge_whole.proofs.own.Pairs.{rises-from}
@@ -43,7 +45,7 @@ use Rattle.bundle_merge_whole.proofs.own.Lifted.{declared_names}
 use Rattle.bundle_merge_whole.proofs.own.Alongside.{its_numbering, IsAlongside, one, IsKnownName}
 use Rattle.bundle_merge_whole.proofs.own.Aligning.{FrontAligned}
 use Rattle.bundle_merge_joined.proofs.joined.Lists.{get-right}
-use Rattle.bundle_merge_whole.proofs.own.Outer.{inner-not, outer-own, AreTold, IsStrange, strange-outside, inside-own}
+use Rattle.bundle_merge_whole.proofs.own.Outer.{top-not-inner, outer-own, AreTold, IsStrange, strange-outside, inside-own}
 
 -- a copy of both_once of bundle_merge_meaning proofs/walked/Numbers
 both_once : (R : Denoted → Denoted → Type 0) → IsOneToOne R → (xs ys : List Denoted) →
@@ -158,7 +160,6 @@ module _ (p : Program) (list : List ℕ) (context : Contexts) (m : ℕ) (low hig
         NameMade u (Inside k)
     made_out : {l : Label} →
         IsStrange ds g os u.ctxt →
-        is_inner (own_denoted item u) ≡ false →
         is_inner_name (own_declared item) (its_name u) ≡ false →
         IsTopLabel p l →
         ident_of u ≡ ident_of_label p list context l →
@@ -176,7 +177,6 @@ module _ (p : Program) (list : List ℕ) (context : Contexts) (m : ℕ) (low hig
   pub record IsTopName (l : Label) : Type 0 where
     pub top : IsTopLabel p l
     pub strange : IsStrange ds g os (ident_of_label p list context l).1
-    pub other : is_arguments (ident_of_label p list context l).0 ≡ false
 
   listed-at : (j : ℕ) (u : Occurrence) → slice_get (front ++ rest) j ≡ Some u → IsListedIn item u
   listed-at j u at = (j, ap (λ l. slice_get l j) (item-occurrences item ∙ are) ∙ at)
@@ -189,10 +189,7 @@ module _ (p : Program) (list : List ℕ) (context : Contexts) (m : ℕ) (low hig
       let no_inner =
       strange-outside ds g low high last its meta default given_items os steps front rest along told
       item named are u.sym u.ctxt strange in
-      made_out strange
-      (outer-own item named u (listed-at j u at) no_inner
-      (inl (ap is_arguments (ap (λ (i : Ident). i.0) is) ∙ top.other)))
-      no_inner top.top is
+      made_out strange no_inner top.top is
 
   -- what is told of each name of the statement
   pub record IsToldName (o : Occurrence) (step : Step) (note : Note) : Type 0 where
@@ -204,7 +201,7 @@ module _ (p : Program) (list : List ℕ) (context : Contexts) (m : ℕ) (low hig
   -- and what is so of the name that is made of it
   pub record StepMade (o u : Occurrence) (note : Note) : Type 0 where
     pub name : NameMade u note.meant
-    pub same : is_inside 0 (there o) ≡ is_inside 1 (own_denoted item u)
+    pub same : is_inside 0 (there o) ≡ is_told_inside note.meant
     pub goes : is_inside 0 (there o) ≡ true → Becomes (there o) (own_denoted item u)
 
   inside-some : (o : Occurrence) (d : Denoted) → there o ≡ d → is_inside 0 d ≡ true →
@@ -217,10 +214,10 @@ module _ (p : Program) (list : List ℕ) (context : Contexts) (m : ℕ) (low hig
   inside-some o (Global x) is within = absurd (false≢true within)
 
   step-out : (o u : Occurrence) (note : Note) → is_inside 0 (there o) ≡ false →
-      is_inner (own_denoted item u) ≡ false → NameMade u note.meant → StepMade o u note
-  step-out o u note out outer it = record {
+      is_told_inside note.meant ≡ false → NameMade u note.meant → StepMade o u note
+  step-out o u note out told_out it = record {
     name = it;
-    same = out ∙ sym (inner-not (own_denoted item u) outer);
+    same = out ∙ sym told_out;
     goes = λ within. absurd (false≢true (sym out ∙ within));
   }
 
@@ -303,8 +300,7 @@ module _ (p : Program) (list : List ℕ) (context : Contexts) (m : ℕ) (low hig
                 (made_in its_told.known_name.at o some.0 some.1 made.0 its_told.known_name.there
                 some.2 made.1 symbol
                 (ap (λ (i : Ident). i.1) ident ∙ ap (context_of g) some.2) made.2 found);
-            same = is ∙ sym (ap (is_inside 1) made.2 ∙ le-leb 1 made.0
-                (rises-from low 1 its along.rise some.1 made.0 made.1).1);
+            same = is ∙ sym (ap is_told_inside meant_is);
             goes =
                 λ within.
                 subst (λ d. Becomes d (own_denoted item u)) (sym some.2)
@@ -315,18 +311,7 @@ module _ (p : Program) (list : List ℕ) (context : Contexts) (m : ℕ) (low hig
       by _ meant_is _ ident_is (known {l = l} out meant) =
           let top = its_told.label l meant_is in
           let name = of-label j u at l top (it.ident ∙ ident_is) in
-          step-out o u note out
-          (outer-of l top (it.ident ∙ ident_is)) (subst (NameMade u) (sym meant_is) name)
-        where
-          outer-of : (l : Label) → IsTopName l → ident_of u ≡ ident_of_label p list context l →
-              is_inner (own_denoted item u) ≡ false
-          outer-of l top is =
-              let strange : IsStrange ds g os u.ctxt = subst (IsStrange ds g os)
-              (sym (ap (λ (i : Ident). i.1) is)) top.strange in
-              outer-own item named u (listed-at j u at)
-              (strange-outside ds g low high last its meta default given_items os steps front rest
-              along told item named are u.sym u.ctxt strange)
-              (inl (ap is_arguments (ap (λ (i : Ident). i.0) is) ∙ top.other))
+          step-out o u note out (ap is_told_inside meant_is) (subst (NameMade u) (sym meant_is) name)
       by _ meant_is _ ident_is (unbound denotes) =
           let ident = it.ident ∙ ident_is in
           let symbol : u.sym ≡ o.sym = ap (λ (i : Ident). i.0) ident in
@@ -337,7 +322,7 @@ module _ (p : Program) (list : List ℕ) (context : Contexts) (m : ℕ) (low hig
           strange-outside ds g low high last its meta default given_items os steps front rest along
           told item named are u.sym u.ctxt strange in
           let outer = outer-own item named u (listed-at j u at) no_inner (inr first) in
-          step-out o u note (ap (is_inside 0) denotes) outer
+          step-out o u note (ap (is_inside 0) denotes) (ap is_told_inside meant_is)
           (subst (NameMade u) (sym meant_is)
           (made_free (sym symbol) strange outer no_inner first
           (free-arguments o u step it denotes symbol)))
@@ -356,8 +341,15 @@ module _ (p : Program) (list : List ℕ) (context : Contexts) (m : ℕ) (low hig
   -- what is so of entries
   pub record EntriesMade (entries : List Entry) (some us : List Occurrence) : Type 0 where
     pub names : AllZip NameMade us (map meant_in entries)
-    pub beside : AreBeside Becomes (is_inside 0) (is_inside 1) entries (map there some)
-        (map (own_denoted item) us)
+    pub zipped : AllZip Becomes (filter (is_inside 0) (map there some))
+        (told_inside (map (own_denoted item) us) (map meant_in entries))
+
+  -- what is told to be no binding inside is left out
+  told-out : (xs ys : List Denoted) (d : Denoted) (meant : Meant) →
+      is_told_inside meant ≡ false → AllZip Becomes xs ys →
+      AllZip Becomes xs (cond (is_told_inside meant) (d ∷ ys) ys)
+  told-out xs ys d meant out all =
+      subst (λ b. AllZip Becomes xs (cond b (d ∷ ys) ys)) (sym out) all
 
   pub entries-made : (means : Option Meant) →
       ((l : Meant) → means ≡ Some l → (lab : Label) × (l ≡ Known lab) × IsTopName lab ×
@@ -365,14 +357,15 @@ module _ (p : Program) (list : List ℕ) (context : Contexts) (m : ℕ) (low hig
       {some us : List Occurrence} {by : List Step} {notes : List Note} {entries : List Entry} →
       Aligned (Paired its) meta means some by notes entries us → AllTold some by notes →
       AllOf IsThere us → EntriesMade entries some us
-  entries-made means of_meta al_done all_told here = record { names = tt; beside = tt }
+  entries-made means of_meta al_done all_told here = record { names = tt; zipped = tt }
   entries-made means of_meta (al_step {o = o} {u = u} {step = step} {note = note} it more) all_told
       here =
       let ih = entries-made means of_meta more all_told.1 here.1 in
       let one_made = step-made here.0.0 o u step note here.0.1 it all_told.0 in
       record {
         names = (one_made.name, ih.names);
-        beside = (one_made.same, one_made.goes, ih.beside);
+        zipped = pick Becomes (is_inside 0 (there o)) (is_told_inside note.meant) (there o)
+            (own_denoted item u) _ _ one_made.same one_made.goes ih.zipped;
       }
   entries-made means of_meta (al_meta {u = u} {ident = ident} {meant = meant} refers ident_is
       meta_is means_is more) all_told here =
@@ -383,11 +376,9 @@ module _ (p : Program) (list : List ℕ) (context : Contexts) (m : ℕ) (low hig
       let name = of-label here.0.0 u here.0.1 lab.0 lab.2 ident_here in
       record {
         names = (subst (NameMade u) (sym lab.1) name, ih.names);
-        beside = (inner-not (own_denoted item u) (outer-name name), ih.beside);
+        zipped =
+            told-out _ _ (own_denoted item u) meant (ap is_told_inside lab.1) ih.zipped;
       }
-    where
-      outer-name : {l : Label} → NameMade u (Known l) → is_inner (own_denoted item u) ≡ false
-      outer-name (made_out strange outer no_inner top is) = outer
 
   -- ALL: with what stands in front
 
@@ -397,17 +388,10 @@ module _ (p : Program) (list : List ℕ) (context : Contexts) (m : ℕ) (low hig
       (lab : Label) × (meant ≡ Known lab) × IsTopName lab ×
       (default ≡ ident_of_label p list context lab)
 
-  outer-known : (u : Occurrence) (meant : Meant) → NameMade u meant → (l : Label) → meant ≡ Known
-      l →
-      is_inner (own_denoted item u) ≡ false
-  outer-known u _ (made_in i o kind a b at denotes r symbol ctxt its_own found) l is = absurd cc
-  outer-known u _ (made_out strange outer no_inner top ident) l is = outer
-  outer-known u _ (made_free same strange outer no_inner first arg) l is = outer
-
   pub record AllMadeNames (meants : List Meant) : Type 0 where
     pub names : AllZip NameMade (front ++ rest) meants
     pub zipped : AllZip Becomes (filter (is_inside 0) (map there os))
-        (filter (is_inside 1) (map (own_denoted item) (front ++ rest)))
+        (told_inside (map (own_denoted item) (front ++ rest)) meants)
 
   there-all : (some : List Occurrence) →
       ((j : ℕ) (u : Occurrence) → slice_get some j ≡ Some u → IsThere u) → AllOf IsThere some
@@ -433,11 +417,8 @@ module _ (p : Program) (list : List ℕ) (context : Contexts) (m : ℕ) (low hig
       made_rest : EntriesMade entries os rest
       made_rest = entries-made means of_meta al.aligned all_told here_rest
 
-      zipped_rest : AllZip Becomes (filter (is_inside 0) (map there os))
-          (filter (is_inside 1) (map (own_denoted item) rest))
-      zipped_rest =
-          inside_beside Becomes (is_inside 0) (is_inside 1) entries (map there os)
-          (map (own_denoted item) rest) made_rest.beside
+      meants_of : List (Ident × Meant) → List Meant
+      meants_of l = map (λ pair. pair.1) l ++ map meant_in entries
 
       by : ((front ≡ []) × (its_front ≡ []))
           ⊎ ((u : Occurrence) × (front ≡ u ∷ []) × IsFront default u ×
@@ -452,8 +433,11 @@ module _ (p : Program) (list : List ℕ) (context : Contexts) (m : ℕ) (low hig
             (sym none.1) made_rest.names);
         zipped =
             subst (λ us. AllZip Becomes (filter (is_inside 0) (map there os))
-            (filter (is_inside 1) (map (own_denoted item) us)))
-            (ap (λ l. l ++ rest) (sym none.0)) zipped_rest;
+            (told_inside (map (own_denoted item) us) (meants_of its_front)))
+            (ap (λ l. l ++ rest) (sym none.0))
+            (subst (λ l. AllZip Becomes (filter (is_inside 0) (map there os))
+            (told_inside (map (own_denoted item) rest) (meants_of l)))
+            (sym none.1) made_rest.zipped);
       }
       by (inr one_there) =
           let u : Occurrence = one_there.0 in
@@ -462,7 +446,6 @@ module _ (p : Program) (list : List ℕ) (context : Contexts) (m : ℕ) (low hig
           one_there.1 in
           let name = of-label 0 u at lab.0 lab.2 (one_there.2.ident ∙ lab.3) in
           let meant : NameMade u its_meaning = subst (NameMade u) (sym lab.1) name in
-          let out = inner-not (own_denoted item u) (outer-known u (Known lab.0) name lab.0 refl) in
           record {
             names =
                 subst (λ us. AllZip NameMade us
@@ -473,24 +456,25 @@ module _ (p : Program) (list : List ℕ) (context : Contexts) (m : ℕ) (low hig
                 (meant, made_rest.names));
             zipped =
                 subst (λ us. AllZip Becomes (filter (is_inside 0) (map there os))
-                (filter (is_inside 1) (map (own_denoted item) us)))
+                (told_inside (map (own_denoted item) us) (meants_of its_front)))
                 (ap (λ l. l ++ rest) (sym one_there.1))
-                (subst (λ b. AllZip Becomes (filter (is_inside 0) (map there os))
-                (cond b (own_denoted item u ∷ filter (is_inside 1) (map (own_denoted item) rest))
-                (filter (is_inside 1) (map (own_denoted item) rest))))
-                (sym out) zipped_rest);
+                (subst (λ l. AllZip Becomes (filter (is_inside 0) (map there os))
+                (told_inside (map (own_denoted item) (u ∷ rest)) (meants_of l)))
+                (sym one_there.3)
+                (told-out _ _ (own_denoted item u) its_meaning (ap is_told_inside lab.1)
+                made_rest.zipped));
           }
 
   module _ (meants : List Meant) (all : AllMadeNames meants) where
     -- the bindings inside the item
     abbrev pub its_inner : List Denoted
-    its_inner = each_denoted_once (filter (is_inside 1) (map (own_denoted item) (front ++ rest)))
+    its_inner = each_denoted_once (told_inside (map (own_denoted item) (front ++ rest)) meants)
 
     pub same-number : (d e : Denoted) → Becomes d e →
         position (same_denoted d) inner ≡ position (same_denoted e) its_inner
     same-number d e r =
         numbers_agree Becomes becomes-one (filter (is_inside 0) (map there os))
-        (filter (is_inside 1) (map (own_denoted item) (front ++ rest))) all.zipped d e r
+        (told_inside (map (own_denoted item) (front ++ rest)) meants) all.zipped d e r
 
     -- CALLED
     symbols-same : (xs ys : List Denoted) → AllZip Becomes xs ys →
@@ -509,7 +493,7 @@ module _ (p : Program) (list : List ℕ) (context : Contexts) (m : ℕ) (low hig
     same-symbols =
         symbols-same inner its_inner
         (both_once Becomes becomes-one (filter (is_inside 0) (map there os))
-        (filter (is_inside 1) (map (own_denoted item) (front ++ rest))) all.zipped)
+        (told_inside (map (own_denoted item) (front ++ rest)) meants) all.zipped)
 
     -- RESOLVED
 
@@ -538,26 +522,22 @@ module _ (p : Program) (list : List ℕ) (context : Contexts) (m : ℕ) (low hig
     place_of s = 0
 
     both-names : (a b : Occurrence) {one_meant other : Meant} → NameMade a one_meant → NameMade b
-        other →
-        is_inner (own_denoted item a) ≡ true → SameIdent a b ↔
-        (own_denoted item a ≡ own_denoted item b)
-    both-names a b (made_out strange outer no_inner top ident) two is = absurd
-        (false≢true (sym outer ∙ is))
-    both-names a b (made_free same strange outer no_inner first arg) two is = absurd
-        (false≢true (sym outer ∙ is))
+        other → IsListedIn item a → IsListedIn item b →
+        IsInnerAlone p list context item a → IsInnerAlone p list context item b →
+        SameIdent a b ↔ (own_denoted item a ≡ own_denoted item b)
+    both-names a b (made_out {l = l} strange no_inner top ident) two la lb is also = absurd
+        (top-not-inner p list context item named a la no_inner l top ident is)
+    both-names a b (made_free same strange outer no_inner first arg) two la lb is also = absurd
+        (false≢true (sym outer ∙ is.is))
     both-names a b (made_in i o kind x y at denotes r symbol ctxt its_own found)
-        (made_out strange outer no_inner top ident) is = (
-          λ same. absurd (strange i o kind x at denotes o.sym (sym ctxt ∙ same.1)),
-          λ same. absurd (false≢true (sym outer ∙ ap is_inner (sym same) ∙ is)),
-        )
+        (made_out {l = l} strange no_inner top ident) la lb is also =
+        absurd (top-not-inner p list context item named b lb no_inner l top ident also)
     both-names a b (made_in i o kind x y at denotes r symbol ctxt its_own found)
-        (made_free equal strange outer no_inner first arg) is = (
-          λ same. absurd (strange i o kind x at denotes o.sym (sym ctxt ∙ same.1)),
-          λ same. absurd (false≢true (sym outer ∙ ap is_inner (sym same) ∙ is)),
-        )
+        (made_free equal strange outer no_inner first arg) la lb is also =
+        absurd (false≢true (sym outer ∙ also.is))
     both-names a b (made_in i o kind x y at denotes r symbol ctxt its_own found)
         (made_in j q its_kind z w there_too denotes_too r_too symbol_too ctxt_too own_too found_too)
-        is = (forward, backward)
+        la lb is also = (forward, backward)
       where
         forward : SameIdent a b → own_denoted item a ≡ own_denoted item b
         forward same =
@@ -586,12 +566,12 @@ module _ (p : Program) (list : List ℕ) (context : Contexts) (m : ℕ) (low hig
                   ctxt_too,
             )
 
-    pub resolved-inside : IsResolvedInside item
-    resolved-inside = record {
-      same = λ a b listed other is.
-          let one_name = names-at listed.0 a
-          (ap (λ l. slice_get l listed.0) (sym (item-occurrences item ∙ are)) ∙ listed.1) in
-          let two_name = names-at other.0 b
-          (ap (λ l. slice_get l other.0) (sym (item-occurrences item ∙ are)) ∙ other.1) in
-          both-names a b one_name.1 two_name.1 is;
-    }
+    pub resolved-inside : (a b : Occurrence) → IsListedIn item a → IsListedIn item b →
+        IsInnerAlone p list context item a → IsInnerAlone p list context item b →
+        SameIdent a b ↔ (own_denoted item a ≡ own_denoted item b)
+    resolved-inside a b listed other is also =
+        let one_name = names-at listed.0 a
+        (ap (λ l. slice_get l listed.0) (sym (item-occurrences item ∙ are)) ∙ listed.1) in
+        let two_name = names-at other.0 b
+        (ap (λ l. slice_get l other.0) (sym (item-occurrences item ∙ are)) ∙ other.1) in
+        both-names a b one_name.1 two_name.1 listed other is also

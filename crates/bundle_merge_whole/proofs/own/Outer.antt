@@ -19,7 +19,12 @@ use Rattle.bundle_scope_names.proofs.HomesLemmas.{home-lifted, same_order}
 use Rattle.bundle_scope_names.proofs.FoundLemmas.{plain, with}
 use Rattle.bundle_scope_names.proofs.TreeLemmas.{DeclaresOrNot, DoesNot, Does, declares_or_not, declaration_by_way}
 use Rattle.bundle_scope_names.proofs.GivenLemmas.{its_context}
-use Rattle.bundle_merge_joined.specs.joined.Joined.{own_declared}
+use Rattle.bundle_rules.specs.Meaning.{Label}
+use Rattle.bundle_rules.specs.Program.{Program}
+use Rattle.bundle_merge_whole.specs.made.Given.{Contexts, ident_of_label}
+use Rattle.bundle_merge_whole.specs.made.Alone.{IsTopLabel, IsInnerAlone}
+use Rattle.bundle_merge_joined.proofs.joined.Resolved.{InnerOf, inner-of}
+use Rattle.bundle_merge_joined.specs.joined.Joined.{own_declared, is_written as is_written_binding}
 use Rattle.bundle_merge_joined.specs.joined.Notes.{its_name, own_denoted, is_inner, is_inner_name, IsListedIn}
 use Rattle.bundle_merge_joined.specs.joined.Alike.{inners}
 use Rattle.bundle_merge_joined.proofs.joined.Declarations.{IsNamed, declared_by_names, declared-item}
@@ -38,6 +43,21 @@ inner-not (Bound Wrapper name) is = refl
 inner-not (Bound Top name) is = refl
 inner-not (Bound (Inner kind begins) name) is = absurd (false≢true (sym is))
 inner-not (Global x) is = refl
+
+-- a name of the top that no inner scope of the item declares denotes no inner binding in the bundle
+pub top-not-inner : (p : Program) (list : List ℕ) (context : Contexts) (item : List Item) →
+    IsNamed item → (u : Occurrence) → IsListedIn item u →
+    is_inner_name (own_declared item) (its_name u) ≡ false → (l : Label) → IsTopLabel p l →
+    ident_of u ≡ ident_of_label p list context l → IsInnerAlone p list context item u → ⊥
+top-not-inner p list context item named u listed no_inner l top ident inner_u = by it.by
+  where
+    it : InnerOf item u (own_denoted item u)
+    it = inner-of item u (viewed item named u listed) inner_u.is
+
+    by : (is_inner_name (own_declared item) (its_name u) ≡ true)
+        ⊎ ((is_written_binding (own_denoted item u) ≡ false) × ((u.ctxt == 1) ≡ false)) → ⊥
+    by (inl declares) = false≢true (sym no_inner ∙ declares)
+    by (inr implied) = inner_u.unless implied.0 l top ident
 
 -- OUTER: a name that no inner scope of the item declares, and that is not called `arguments` or is
 -- one of globals, denotes no inner binding

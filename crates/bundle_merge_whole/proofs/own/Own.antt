@@ -49,6 +49,7 @@ use Rattle.bundle_merge_whole.specs.composed.Noted.{AsWhole, first_spot}
 use Rattle.bundle_merge_whole.specs.composed.Functions.{whole_form}
 use Rattle.bundle_merge_whole.proofs.composed.Counting.{nodes_in}
 use Rattle.bundle_merge_whole.proofs.composed.Naming.{node-count}
+use Rattle.bundle_merge_whole.specs.composed.Names.{told_inside}
 use Rattle.bundle_merge_whole.proofs.composed.Own.{told_of, own-noted}
 use Rattle.bundle_merge_whole.proofs.fit.Facts.{fit_nodes, one_own}
 use Rattle.bundle_merge_whole.proofs.fit.Parts.{beside as stands-beside}
@@ -56,7 +57,7 @@ use Rattle.bundle_merge_whole.specs.made.Given.{Contexts, TopOf, InsideOf, ident
 use Rattle.bundle_merge_whole.specs.made.Steps.{IsStep}
 use Rattle.bundle_merge_whole.specs.made.Made.{IsStatedAs, IsMade}
 use Rattle.bundle_merge_whole.specs.made.Made as makes
-use Rattle.bundle_merge_whole.specs.made.Alone.{AreSound, TellApart, IsHolder, OwnsHolder, IsTopLabel, DeclaresLabel, DeclaresTop, NameAlone, inside, of_top, free, ItemAlone, CalledAlone, symbols_inside, IsAlone}
+use Rattle.bundle_merge_whole.specs.made.Alone.{AreSound, TellApart, IsHolder, OwnsHolder, IsTopLabel, DeclaresLabel, DeclaresTop, NameAlone, inside, of_top, free, ItemAlone, CalledAlone, symbols_whole, IsAlone}
 use Rattle.bundle_merge_whole.specs.made.Alone as a
 use Rattle.bundle_merge_whole.specs.made.Told.{IsTold, AllNoted, inner_of, meta_meant, default_meant}
 use Rattle.bundle_merge_whole.specs.own.Functions.{IsInFunction}
@@ -181,7 +182,6 @@ module _ (p : Program) (hooks : Hooks) (list : List ℕ) (context : Contexts)
     top = it.top;
     strange = (z.strange-label p list context answers sound apart
         m reached es statement item its told labels) l it.top;
-    other = it.other;
   }
 
   -- the default
@@ -200,7 +200,7 @@ module _ (p : Program) (hooks : Hooks) (list : List ℕ) (context : Contexts)
           IsTop (Of (k.Declared m default_name))
       by (no_front none) e = absurd cc
       by (one_front has it) e =
-          of-top (Of (k.Declared m default_name)) (record { top = default-top has; other = refl })
+          of-top (Of (k.Declared m default_name)) (record { top = default-top has })
 
   meta-told : (meant : Meant) → meta_meant p m ≡ Some meant →
       (lab : Label) × (meant ≡ Known lab) × IsTop lab ×
@@ -214,7 +214,6 @@ module _ (p : Program) (hooks : Hooks) (list : List ℕ) (context : Contexts)
             (record {
               top = (z.meta-top p list context answers sound apart m reached es statement item its
                   told labels) it.0;
-              other = refl;
             }),
         it.2,
       )
@@ -308,8 +307,8 @@ module _ (p : Program) (hooks : Hooks) (list : List ℕ) (context : Contexts)
       ((z.holder-inside p list context answers sound apart m reached es statement item its told
       labels) i o kind c at denotes)
       (number ∙ number-inside context m c o.sym)
-  name-alone u _ (made_out strange outer no_inner top ident) =
-      of_top (inner-not (own_denoted item u) outer) no_inner (λ c e. absurd (no_defines c e)) top
+  name-alone u _ (made_out strange no_inner top ident) =
+      of_top no_inner (λ c e. absurd (no_defines c e)) top
       ident
   name-alone u _ (made_free same_symbol strange outer no_inner first arg) =
       subst (λ x. NameAlone p list context answers (Own m n) item 1 inner_here u (Unbound x))
@@ -326,16 +325,16 @@ module _ (p : Program) (hooks : Hooks) (list : List ℕ) (context : Contexts)
   item-alone : ItemAlone p list context answers (Own m n) item (AsWhole (told_of same))
   item-alone =
       subst (λ us. AllZip (NameAlone p list context answers (Own m n) item 1
-      (each_denoted_once (filter (is_inside 1) (map (own_denoted item) us)))) us meants)
+      (each_denoted_once (told_inside (map (own_denoted item) us) meants))) us meants)
       (sym beside.are)
       (names-alone (front ++ rest) meants all_names.names)
 
   called-alone : (its_statement : List Element) → slice_get (own_statements (tree_of p m)) n ≡ Some
       its_statement →
-      symbols_inside item first_spot item ≡ inner_symbols (own_view p m Es) 0 its_statement
+      symbols_whole item (AsWhole (told_of same)) ≡ inner_symbols (own_view p m Es) 0 its_statement
   called-alone its_statement at =
       ap (λ us. map denoted_symbol (each_denoted_once
-      (filter (is_inside 1) (map (own_denoted item) us)))) beside.are
+      (told_inside (map (own_denoted item) us) meants))) beside.are
       ∙ same-symbols p list context m place high last_place prs meta default its.given os its.steps
       front rest along are-told item item_named beside.are meants all_names
       ∙ sym (ap (map denoted_symbol) told.inner)

@@ -64,7 +64,7 @@ use Rattle.bundle_merge_whole.proofs.own.Outer.{AreTold, IsStrange}
 use Rattle.bundle_merge_whole.proofs.own.Aligning.{idents_from}
 use Rattle.bundle_merge_whole.proofs.own.Elements.{Has, has-contains}
 use Rattle.bundle_merge_whole.proofs.own.Called.{call_given}
-use Rattle.bundle_merge_whole.proofs.own.Holders.{number-inside, HoldsLabel, by_module, by_name, label-holder, label-strange, IsOfEs, words-es, label-other}
+use Rattle.bundle_merge_whole.proofs.own.Holders.{number-inside, HoldsLabel, by_module, by_name, label-holder, label-strange, IsOfEs, words-es}
 use Rattle.bundle_merge_whole.proofs.own.Tree.{StandsAtTop, stands-at_top, top-fit, name-there, within, own-declared, all-declared, all-ways}
 
 -- what is so of names that stand in a part of a tree
@@ -512,26 +512,9 @@ module _ (p : Program) (list : List ℕ) (context : Contexts) (answers : ℕ →
       (apart.apart (NameOf (Meta m)) (TopOf m) (meta-holder found.0) (a.top_of reached)
       (sym (ap (λ (i : Ident). i.1) found.1)))
 
-  no-parameter : (l : Label) → IsTopLabel p l → (c : ℕ) (x : List ℕ) → l ≡ Parameter c x → ⊥
-  no-parameter l top c x is = by top.declares is
-    where
-      on : {cause : b.Cause} {l : Label} → AddsLabel p cause l → l ≡ Parameter c x → ⊥
-      on (a.imports_name means) e = cc
-      on a.imports_whole e = cc
-      on a.helps e = cc
-      on a.defines e = cc
-      on (a.loads means) e = cc
-      on a.holds_meta e = cc
-      on a.holds_namespace e = cc
-
-      by : {cause : b.Cause} {l : Label} → DeclaresLabel p cause l → l ≡ Parameter c x → ⊥
-      by (a.own statement e there has declares) same = cc
-      by (a.adds adds) same = on adds same
-
   -- LABELS that names mean
   pub record IsMeantTop (l : Label) : Type 0 where
     pub top : IsTopLabel p l
-    pub other : is_arguments (ident_of_label p list context l).0 ≡ false
 
   pub label-top : (inner : List Denoted) (i : ℕ) (o : Occurrence) (step : Step) (note : Note) →
       slice_get os i ≡ Some o →
@@ -560,6 +543,5 @@ module _ (p : Program) (list : List ℕ) (context : Contexts) (answers : ℕ →
           (ap (λ (i : Ident). i.1) (ident ∙ ap (ident_of_label p list context) e))
 
       by : MeansLabel o step.ident l → IsTopLabel p l ⊎ IsInFunction p l → IsMeantTop l
-      by means (inl top) = record
-          { top = top; other = label-other p list context sound l means.meant (no-parameter l top) }
+      by means (inl top) = record { top = top }
       by means (inr fn) = absurd (of_function fn means.ident_is fn.is)

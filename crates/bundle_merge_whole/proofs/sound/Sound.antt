@@ -97,7 +97,6 @@ module _ (p q : Program) (ids : List ℕ) (known : AreKnown p q ids) where
     checked = λ k stage place file f other reached fault.
         no-fault k stage place file f reached fault;
     faultless = tree-faultless;
-    unlike = known.unlike;
     undoubled = undoubled;
     resolved = resolved;
     modules = known.modules;

@@ -15,7 +15,7 @@ use Rattle.bundle_rules.specs.Meaning.{Label, Meant, Known, is_inside}
 use Rattle.bundle_rules.specs.Symbols.{denoted_symbol}
 use Rattle.bundle_rules.specs.Bundle.{Cause, Defines, AsModule, Hooks}
 use Rattle.bundle_merge_joined.specs.joined.Joined.{AllOf, own_declared, is_written}
-use Rattle.bundle_merge_joined.specs.joined.Notes.{its_name, own_denoted, is_inner, is_inner_name, IsListedIn, AreApart}
+use Rattle.bundle_merge_joined.specs.joined.Notes.{its_name, own_denoted, is_inner, is_inner_name, IsListedIn, IsInnerAmong, AreApart}
 use Rattle.bundle_merge_joined.proofs.joined.Lists.{get-append}
 use Rattle.bundle_merge_joined.proofs.joined.Paths.{occurrences-append, item-occurrences}
 use Rattle.bundle_merge_joined.proofs.joined.Declarations.{IsNamed as HasNames}
@@ -27,12 +27,12 @@ use Rattle.bundle_merge_whole.proofs.composed.Contexts.{own-symbol}
 use Rattle.bundle_merge_whole.proofs.composed.ListFacts.{all-in, as-long, zip-at, zip-length}
 use Rattle.bundle_merge_whole.specs.made.Given.{Contexts}
 use Rattle.bundle_merge_whole.specs.made.Alone as one
-use Rattle.bundle_merge_whole.specs.made.Alone.{NameAlone, StatementAlone, StatementsAlone, FrontAlone, ItemAlone}
+use Rattle.bundle_merge_whole.specs.made.Alone.{NameAlone, StatementAlone, StatementsAlone, FrontAlone, ItemAlone, IsInnerAlone}
 use Rattle.bundle_merge_whole.specs.together.Together.{AreTogether}
 use Rattle.bundle_merge_whole.proofs.together.Holders.{holds, holder-is, holder-context}
 use Rattle.bundle_merge_whole.proofs.together.Owners.{owners-one}
 use Rattle.bundle_merge_whole.proofs.together.Tops.{StandsAt, of-item}
-use Rattle.bundle_merge_whole.proofs.together.Names.{IsOwnName, inside-own, function-own, note-of, arguments-free}
+use Rattle.bundle_merge_whole.proofs.together.Names.{label-top, IsOwnName, inside-own, function-own, note-of, arguments-free}
 
 -- what stands beside an element
 pub zip-beside : {A B : Type 0} (R : A → B → Type 0) (xs : List A) (ys : List B) → AllZip R xs ys →
@@ -157,36 +157,39 @@ module _ (p : Program) (hooks : Hooks) (list : List ℕ) (context : Contexts)
 
   -- a binding inside an item has a context that stands only there
   own-name : (m : ℕ) (cause : Cause) (item : List Item) → Stands m cause item →
-      (o : Occurrence) → IsListedIn item o → is_inner (own_denoted item o) ≡ true →
+      (o : Occurrence) → IsListedIn item o → IsInnerAmong items item o →
       IsOwnName p answers context cause o
   own-name m cause item stands o listed is =
       let at = named-of m cause item stands o listed in
-      by at.begins at.all at.meant at.alone at.from
+      by at.begins at.all at.meant at.alone
     where
       it : InnerOf item o (own_denoted item o)
-      it = inner-of item o (viewed item stands.alone.named o listed) is
+      it = inner-of item o (viewed item stands.alone.named o listed) is.is
+
+      none : is_inner_name (own_declared item) (its_name o) ≡ false →
+          (is_written (own_denoted item o) ≡ false → (o.ctxt == 1) ≡ false → ⊥) → ⊥
+      none not_inner never = by_kind it.by
+        where
+          by_kind : (is_inner_name (own_declared item) (its_name o) ≡ true)
+              ⊎ ((is_written (own_denoted item o) ≡ false) × ((o.ctxt == 1) ≡ false)) → ⊥
+          by_kind (inl declared) = false≢true (sym not_inner ∙ declared)
+          by_kind (inr implied) = never implied.0 implied.1
 
       by : (begins : ℕ) (all : List Denoted) (meant : Meant) →
           NameAlone p list context answers cause item begins all o meant →
-          ((begins ≡ 1) ⊎ ((c : ℕ) × (cause ≡ Defines c))) → IsOwnName p answers context cause o
-      by begins all meant (one.inside holder inner within found owns other holds ctxt) from =
+          IsOwnName p answers context cause o
+      by begins all meant (one.inside holder inner within found owns other holds ctxt) =
           inside-own p hooks list context answers plan items its cause stands.due item o holder
           owns other holds ctxt
-      by begins all meant (one.of_top out not_inner never top same) (inl first) =
-          absurd (false≢true (sym out
-          ∙ ap (λ d. is_inside begins d) it.is
-          ∙ le-leb begins it.begins (let low = it.above in omega (arith, low, first))))
-      by begins all meant (one.of_top out not_inner never top same) (inr function) =
-          absurd (false≢true (sym (never function.0 function.1) ∙ is))
-      by begins all meant (one.of_function {c = c} {l = l} e out inside declared entry) from =
+      by begins all meant (one.of_top {l = l} not_inner never top same) =
+          absurd (none not_inner (λ unwritten other. false≢true (sym (is.unless unwritten)
+          ∙ label-top p hooks list context answers plan items its o l top same)))
+      by begins all meant (one.of_function {c = c} {l = l} e out inside declared entry) =
           function-own p hooks list context answers plan items its cause stands.due item o c l e
           entry
-      by begins all meant (one.free is_one not_inner arguments) from = absurd (none it.by)
-        where
-          none : (is_inner_name (own_declared item) (its_name o) ≡ true)
-              ⊎ ((is_written (own_denoted item o) ≡ false) × ((o.ctxt == 1) ≡ false)) → ⊥
-          none (inl declared) = false≢true (sym not_inner ∙ declared)
-          none (inr implied) = false≢true (sym implied.1 ∙ eq-eqb o.ctxt 1 is_one)
+      by begins all meant (one.free is_one not_inner arguments) =
+          absurd (none not_inner (λ unwritten other.
+          false≢true (sym other ∙ eq-eqb o.ctxt 1 is_one)))
 
   -- a name that has the context of what stands only in the item of a cause stands there
   same-cause : (m n : ℕ) (cause other_cause : Cause) (item other : List Item) →
@@ -208,7 +211,7 @@ module _ (p : Program) (hooks : Hooks) (list : List ℕ) (context : Contexts)
       by begins all meant (one.inside holder inner within found owns never holds ctxt) =
           both (inside-own p hooks list context answers plan items its other_cause also.due other b
           holder owns never holds ctxt)
-      by begins all meant (one.of_top {l = l} out not_inner never top ident) =
+      by begins all meant (one.of_top {l = l} not_inner never top ident) =
           let held = holds p l top in
           absurd (own.never l held.0 held.1
           (its.apart.apart own.holder held.0 own.is
@@ -228,6 +231,16 @@ module _ (p : Program) (hooks : Hooks) (list : List ℕ) (context : Contexts)
       let stands = of-item p hooks list context answers plan items its m item at in
       stands.1.alone.named)
 
+  -- what is inner among the items is so in its own, where the top declares labels
+  inner-alone : (item : List Item) (o : Occurrence) → IsInnerAmong items item o →
+      IsInnerAlone p list context item o
+  inner-alone item o inner = record {
+    is = inner.is;
+    unless = λ unwritten l top same.
+        false≢true (sym (inner.unless unwritten)
+        ∙ label-top p hooks list context answers plan items its o l top same);
+  }
+
   -- TOLD APART
   pub are-apart : AreApart items
   are-apart = record {
@@ -236,9 +249,9 @@ module _ (p : Program) (hooks : Hooks) (list : List ℕ) (context : Contexts)
         let named = named-of m stands.0 item stands.1 o listed in
         note-of p hooks list context answers plan items its stands.0 stands.1.due item named.begins
         named.all o named.meant named.alone;
-    inside = λ m item at.
+    inside = λ m item a b at one two is also.
         let stands = of-item p hooks list context answers plan items its m item at in
-        stands.1.alone.inner;
+        stands.1.alone.inner a b one two (inner-alone item a is) (inner-alone item b also);
     others = λ m n item other a b differ at there listed its_listed is same.
         let stands = of-item p hooks list context answers plan items its m item at in
         let also = of-item p hooks list context answers plan items its n other there in

@@ -32,7 +32,7 @@ use Rattle.bundle_merge_whole.proofs.composed.Contexts.{outer-called}
 use Rattle.bundle_merge_whole.proofs.composed.ListFacts.{zip-at}
 use Rattle.bundle_merge_whole.proofs.composed.Paired.{beside-flat}
 use Rattle.bundle_merge_whole.specs.made.Given.{Contexts}
-use Rattle.bundle_merge_whole.specs.made.Alone.{CalledAlone, StatementsCalled, symbols_inside, symbols_answered}
+use Rattle.bundle_merge_whole.specs.made.Alone.{CalledAlone, StatementsCalled, symbols_inside, symbols_whole, symbols_answered}
 use Rattle.bundle_merge_whole.specs.together.Together.{AreTogether}
 use Rattle.bundle_merge_whole.specs.together.Table.{IsAloneAs, AllAloneAs, HasNotes, table_of}
 use Rattle.bundle_merge_whole.proofs.together.Apart.{all-named}
@@ -199,16 +199,16 @@ module _ (p : Program) (hooks : Hooks) (list : List ℕ) (context : Contexts)
       AreMoved (offset items m) a b → (part tail : List Item) →
       IsAt (joined items) b (part ++ tail) → AllOf (IsListedIn item) (occurrences_from a part) →
       (told : Told) → StatementNoted items table item a part told →
-      item_symbols bundle (record { start = b.place; items = part }) ≡ symbols_inside item a part
+      item_symbols bundle (record { start = b.place; items = part }) ≡ symbols_inside item a part told
   part-called m item at a b moves part tail there listed told noted =
       part-symbols items table (whole-items p hooks list context answers plan items its notes)
       (all-named p hooks list context answers plan items its) resolved m item at a b moves part tail
-      there listed _ told.0 noted
+      there listed _ told noted
 
   -- those inside an item that is told as a whole
-  whole-called : (cause : Cause) (top : TopItem) → StandsFor (pairing_of labels items plan) cause
-      top → ((c : ℕ) → cause ≡ Defines c → ⊥) →
-      item_symbols bundle top ≡ symbols_inside top.items first_spot top.items
+  whole-called : (cause : Cause) (top : TopItem)
+      (stands : StandsFor (pairing_of labels items plan) cause top) → ((c : ℕ) → cause ≡ Defines c → ⊥) →
+      item_symbols bundle top ≡ symbols_whole top.items (found cause top stands).noted.one
   whole-called cause top stands never =
       let f = found cause top stands in
       let told = whole-told (noted-for-cause cause top f) never in
@@ -216,6 +216,7 @@ module _ (p : Program) (hooks : Hooks) (list : List ℕ) (context : Contexts)
       ∙ part-called f.m top.items f.there inside f.seats.spot f.seats.moves top.items f.seats.tail
       f.seats.at (all-listed top.items) told.0
       (subst (λ one. ItemNoted items table top.items one) told.1 f.names)
+      ∙ ap (symbols_whole top.items) (sym told.1)
 
   -- and those inside statements of a load function
   statements-called : (c m : ℕ) (item : List Item) → slice_get items m ≡ Some item → (a b : Spot) →
@@ -223,10 +224,13 @@ module _ (p : Program) (hooks : Hooks) (list : List ℕ) (context : Contexts)
       IsAt (joined items) b (flat parts ++ tail) →
       AllOf (IsListedIn item) (occurrences_from a (flat parts)) → (tolds : List Told) →
       StatementsNoted items table item a parts tolds → (statements : List (List Element)) →
-      StatementsCalled p c item a parts statements →
+      StatementsCalled p c item a parts tolds statements →
       AllZip (CalledAlike (λ x. x) bundle (own_view p c Cjs)) (placed b.place parts) statements
-  statements-called c m item at a b moves [] tail there listed tolds noted [] called = tt
-  statements-called c m item at a b moves [] tail there listed tolds noted (statement ∷ statements)
+  statements-called c m item at a b moves [] tail there listed [] noted [] called = tt
+  statements-called c m item at a b moves [] tail there listed (told ∷ tolds) noted statements
+      called =
+      absurd noted
+  statements-called c m item at a b moves [] tail there listed [] noted (statement ∷ statements)
       called =
       absurd called
   statements-called c m item at a b moves (part ∷ parts) tail there listed [] noted statements

@@ -205,7 +205,7 @@ module _ (p : Program) (hooks : Hooks) (list : List ℕ) (context : Contexts)
           (Known e.1) →
           (o : Occurrence) × (d : Declared) × Contains (occurrences (joined items)) o
           × (ident_of o ≡ e.0) × (declaration_of ByContext Es o ≡ Some d)
-      by (one.of_top out not_inner never top same) =
+      by (one.of_top not_inner never top same) =
           let there = label-declared e.1 top in
           (there.0, there.1, there.2, there.3 ∙ sym same ∙ is.from.same, there.4)
       by (one.of_function function out inside declares its_entry) =
@@ -279,7 +279,7 @@ module _ (p : Program) (hooks : Hooks) (list : List ℕ) (context : Contexts)
           own-above cause o
           (inside-own p hooks list context answers plan items its cause stands.due item o holder
           owns never is ctxt) e
-      by (one.of_top {l = l} out not_inner never top same) =
+      by (one.of_top {l = l} not_inner never top same) =
           let above = label-above p list context answers its.apart l top in
           let context_one : 1 ≡ (ident_of_label p list context l).1 =
           sym e ∙ ap (λ (i : Ident). i.1) same in

@@ -16,7 +16,7 @@ use Rattle.bundle_merge_joined.specs.joined.Joined.{is_top_name}
 use Rattle.bundle_merge_joined.specs.joined.Notes.{its_name, own_denoted, is_inner, IsNoted, inner, top_name, free}
 use Rattle.bundle_merge_joined.specs.loaded.Contexts as entry
 use Rattle.bundle_merge_joined.specs.loaded.Contexts.{OwnEntry}
-use Rattle.bundle_merge_whole.specs.composed.Names.{Table, NameNoted, is_one_inside, is_known, is_free, labelled_top, labelled_inner}
+use Rattle.bundle_merge_whole.specs.composed.Names.{Table, NameNoted, is_one_inside, is_known, is_known_top, is_free, labelled_inner}
 use Rattle.bundle_merge_whole.specs.made.Given.{Contexts, Holder, TopOf, numbers_in, ident_of_label}
 use Rattle.bundle_merge_whole.specs.made.Alone as a
 use Rattle.bundle_merge_whole.specs.made.Alone.{IsTopLabel, IsHolder, OwnsHolder, NameAlone}
@@ -106,8 +106,8 @@ module _ (p : Program) (hooks : Hooks) (list : List ℕ) (context : Contexts)
           is_one_inside is
           (λ unwritten. own-not-top cause o (inside-own o holder owns other holds its)) within
           found
-      name-noted table meant (a.of_top {l = l} out not_inner never top same) known =
-          is_known out (labelled_top (label-top o l top same) not_inner (known l refl))
+      name-noted table meant (a.of_top {l = l} not_inner never top same) known =
+          is_known_top (label-top o l top same) not_inner (known l refl)
       name-noted table meant (a.of_function {c = c} {l = l} is out inside declared entry) known =
           is_known out
           (labelled_inner inside
@@ -119,7 +119,7 @@ module _ (p : Program) (hooks : Hooks) (list : List ℕ) (context : Contexts)
           NameAlone p list context answers cause item begins all o meant → IsNoted items item o
       note-of meant (a.inside holder is within found owns other holds its) =
           inner is (λ unwritten. own-not-top cause o (inside-own o holder owns other holds its))
-      note-of meant (a.of_top {l = l} out not_inner never top same) =
+      note-of meant (a.of_top {l = l} not_inner never top same) =
           top_name (label-top o l top same) not_inner
       note-of meant (a.of_function {c = c} {l = l} is out inside declared entry) =
           inner inside (λ unwritten. own-not-top cause o (function-own o c l is entry))
@@ -134,7 +134,7 @@ module _ (p : Program) (hooks : Hooks) (list : List ℕ) (context : Contexts)
           find is_function (scopes_around Es o.path) ≡ None
       arguments-free meant (a.inside holder is within found owns other holds its) unseen e x =
           absurd (false≢true (ap is_inner (sym e) ∙ is))
-      arguments-free meant (a.of_top {l = l} out not_inner never top same) unseen e x =
+      arguments-free meant (a.of_top {l = l} not_inner never top same) unseen e x =
           absurd (false≢true (sym unseen ∙ label-top o l top same))
       arguments-free meant (a.of_function is out inside declared entry) unseen e x =
           absurd (false≢true (ap is_inner (sym e) ∙ inside))

@@ -27,7 +27,8 @@ use Rattle.bundle_merge_joined.proofs.joined.Ranges.{same-moved}
 use Rattle.bundle_merge_meaning.specs.noted.Agrees.{IsAt}
 use Rattle.bundle_merge_meaning.proofs.walked.Denoting.{elements_denote}
 use Rattle.bundle_merge_whole.specs.composed.Noted.{view_of}
-use Rattle.bundle_merge_whole.specs.composed.Names.{Table, NameNoted}
+use Rattle.bundle_merge_whole.specs.composed.Names.{Table, told_inside, NameNoted}
+use Rattle.bundle_merge_meaning.specs.walked.Renaming.{Told}
 use Rattle.bundle_merge_whole.proofs.composed.ListFacts.{all-in}
 use Rattle.bundle_merge_whole.proofs.composed.Merged.{Moves, beside, in_turn, in_whole}
 use Rattle.bundle_merge_whole.specs.made.Alone.{symbols_inside}
@@ -152,11 +153,11 @@ module _ (items : List (List Item)) (table : Table) (whole : AllOf IsWhole items
   -- CALLED as by itself
   pub part-symbols : (a b : Spot) → AreMoved (offset items m) a b → (part tail : List Item) →
       IsAt (joined items) b (part ++ tail) → AllOf (IsListedIn item) (occurrences_from a part) →
-      (its : List Denoted) (meants : List Meant) →
-      AllZip (NameNoted items table item a.place its) (occurrences_from a part) meants →
+      (its : List Denoted) (told : Told) →
+      AllZip (NameNoted items table item a.place its) (occurrences_from a part) told.0 →
       inner_symbols (view_of ByContext items) b.place (taken_from b.place part)
-      ≡ symbols_inside item a part
-  part-symbols a b moves part tail there listed its meants noted =
+      ≡ symbols_inside item a part told
+  part-symbols a b moves part tail there listed its told noted =
       ap (λ l. map denoted_symbol (each_denoted_once (filter (is_inside b.place) l)))
       (elements_denote (view_of ByContext items) b part tail there
       ∙ in_turn items table whole named resolved m item at a b moves part)
@@ -165,14 +166,14 @@ module _ (items : List (List Item)) (table : Table) (whole : AllOf IsWhole items
       moves.place
       ∙ ap (λ l. map denoted_symbol (each_denoted_once l))
       (all-moved (offset items m)
-      (filter (is_inside a.place) (map (own_denoted item) (occurrences_from a part)))
+      (told_inside (map (own_denoted item) (occurrences_from a part)) told.0)
       (filter (is_inside (a.place + offset items m))
       (map (in_whole items table whole named resolved m item at) (occurrences_from a part)))
       (beside items table whole named resolved m item at a.place its (occurrences_from a part)
-      listed meants noted))
+      listed told.0 noted))
       ∙ ap (map denoted_symbol)
       (once-moved (offset items m)
-      (filter (is_inside a.place) (map (own_denoted item) (occurrences_from a part))))
+      (told_inside (map (own_denoted item) (occurrences_from a part)) told.0))
       ∙ symbols-moved (offset items m)
       (each_denoted_once
-      (filter (is_inside a.place) (map (own_denoted item) (occurrences_from a part))))
+      (told_inside (map (own_denoted item) (occurrences_from a part)) told.0))

@@ -19,7 +19,7 @@ use Rattle.bundle_merge_joined.specs.loaded.Contexts as own
 use Rattle.bundle_merge_joined.specs.loaded.Contexts.{OwnEntry}
 use Rattle.bundle_merge_meaning.specs.walked.Renaming.{Told}
 use Rattle.bundle_merge_whole.specs.composed.Noted.{Noted, AsWhole, AsFunction, function_ends, IsNotedFor, as_whole, as_function, first_spot}
-use Rattle.bundle_merge_whole.specs.composed.Names.{Table, IsTable, IsLabelled, NameNoted, is_known, StatementNoted, StatementsNoted, ItemNoted}
+use Rattle.bundle_merge_whole.specs.composed.Names.{Table, IsTable, IsLabelled, NameNoted, is_known, is_known_top, labelled_top, StatementNoted, StatementsNoted, ItemNoted}
 use Rattle.bundle_merge_whole.specs.made.Given.{Contexts, Holder, TopOf, numbers_in, ident_of_label}
 use Rattle.bundle_merge_whole.specs.made.Alone as a
 use Rattle.bundle_merge_whole.specs.made.Alone.{AddsLabel, IsTopLabel, NameAlone, StatementAlone, StatementsAlone, FrontAlone, ItemAlone, IsAlone}
@@ -105,7 +105,7 @@ kind-of : (p : Program) (list : List ℕ) (context : Contexts) (answers : ℕ �
     (all : List Denoted) (o : Occurrence) (l : Label) →
     NameAlone p list context answers cause item begins all o (Known l) →
     EntryKind p list context (ident_of o) l
-kind-of p list context answers cause due item begins all o l (a.of_top out not_inner never top
+kind-of p list context answers cause due item begins all o l (a.of_top not_inner never top
     same) =
     of_label top same
 kind-of p list context answers cause due item begins all o l (a.of_function {c = c} is out inside
@@ -368,6 +368,7 @@ module _ (p : Program) (hooks : Hooks) (list : List ℕ) (context : Contexts)
     label-of : {begins : ℕ} {all : List Denoted} {item : List Item} {o : Occurrence} {l : Label} →
         NameNoted items table item begins all o (Known l) → IsLabelled items table item o l
     label-of (is_known out labelled) = labelled
+    label-of (is_known_top top not_inner c) = labelled_top top not_inner c
 
     module _ (cause : Cause) (due : IsDue p AsModule cause) (item : List Item) where
       statement-noted : (s : Spot) (part : List Item) (told : Told) →

@@ -1,6 +1,6 @@
 -- What is so of each item of a bundle by itself, and of the contexts of all: of this it follows that
 -- they make a bundle.
-use Rattle.std.specs.Prelude.{◌≡◌, ⊤, ℕ, ◌<◌, true, false, List, [], ◌∷◌, Option, Some, None, Contains, codes, find, filter, fold, map, position, slice_get}
+use Rattle.std.specs.Prelude.{◌≡◌, ◌↔◌, ⊤, ℕ, ◌<◌, true, false, List, [], ◌∷◌, Option, Some, None, Contains, codes, find, fold, map, position, slice_get}
 use Rattle.std.specs.List.{AllZip}
 use Rattle.bundle_tree_piece.specs.declared.piece.Role.{Role}
 use Rattle.bundle_tree_piece.specs.declared.piece.Role.TheVariants.{Binding}
@@ -11,7 +11,7 @@ use Rattle.bundle_rules.specs.Scopes.{ModuleKind, ScopeKind, Es, Cjs, Top, Inner
 use Rattle.bundle_rules.specs.Declarations.{BySymbol, ByContext, Name, name_of}
 use Rattle.bundle_rules.specs.Homes.{is_function}
 use Rattle.bundle_rules.specs.Doubled.{first_doubled}
-use Rattle.bundle_rules.specs.Denotes.{Denoted, Bound, denoted_at, denoted_as, is_written_in}
+use Rattle.bundle_rules.specs.Denotes.{Denoted, SameIdent, Bound, denoted_at, denoted_as, is_written_in}
 use Rattle.bundle_rules.specs.Mentions.{same_denoted, each_denoted_once}
 use Rattle.bundle_rules.specs.Idents.{ident_of}
 use Rattle.bundle_rules.specs.Nodes.{Text}
@@ -21,20 +21,20 @@ use Rattle.bundle_rules.specs.Tables.{IsChecked}
 use Rattle.bundle_rules.specs.Faults.{IsFaultless}
 use Rattle.bundle_tree_names.specs.FileName.{Name as FileName}
 use Rattle.bundle_rules.specs.Program.{Program, tree_of, is_external, IsReached, IsList}
-use Rattle.bundle_rules.specs.Linking.{IsCommonJs, Target, Declared, Namespace, External, CommonJs}
+use Rattle.bundle_rules.specs.Linking.{IsCommonJs, Declared, Namespace, External, CommonJs}
 use Rattle.bundle_rules.specs.Meaning.{Label, Of, Load, Meta, Helper, Meant, Inside, Known, Unbound, HasKind, IsMeant, is_inside, plain, own_view}
-use Rattle.bundle_rules.specs.Symbols.{denoted_symbol, inner_symbols, symbol_of_target}
+use Rattle.bundle_rules.specs.Symbols.{denoted_symbol, inner_symbols}
 use Rattle.bundle_rules.specs.Bundle.{Cause, Own, ImportsNames, ImportsWhole, Helps, Defines, Loads, HoldsMeta, HoldsNamespace, AsModule, Hooks, MayHold, MeansName, IsDue, properties_tree}
 use Rattle.bundle_scope_renamed.specs.fit.Sorts.{AnItem}
 use Rattle.bundle_scope_renamed.specs.fit.Fits.{IsFit}
 use Rattle.bundle_link_targets.specs.Meant.{AreModules}
 use Rattle.bundle_merge_joined.specs.joined.Joined.{own_declared, is_written}
 use Rattle.bundle_merge_joined.specs.joined.Picked.{IsSingle}
-use Rattle.bundle_merge_joined.specs.joined.Notes.{its_name, own_denoted, is_inner, is_inner_name, IsResolvedInside}
+use Rattle.bundle_merge_joined.specs.joined.Notes.{its_name, own_denoted, is_inner, is_inner_name, IsListedIn}
 use Rattle.bundle_merge_joined.proofs.joined.Declarations.{IsNamed as HasNames}
 use Rattle.bundle_merge_joined.specs.loaded.Contexts.{OwnEntry}
 use Rattle.bundle_merge_whole.specs.composed.Noted.{Noted, AsWhole, AsFunction, IsNotedFor, first_spot}
-use Rattle.bundle_merge_whole.specs.composed.Names.{own_from}
+use Rattle.bundle_merge_whole.specs.composed.Names.{own_from, told_inside}
 use Rattle.bundle_merge_whole.specs.composed.Functions.{IsOfForm}
 use Rattle.bundle_merge_whole.specs.fit.Programs.{HasFitTrees}
 use Rattle.bundle_merge_whole.specs.composed.Single.{OneNode, NoLone}
@@ -47,8 +47,6 @@ pub record AreSound (p : Program) (list : List ℕ) : Type 0 where
   pub is_list : IsList p list
   pub checked : IsChecked p None
   pub faultless : (m : ℕ) → IsReached p m → (file : FileName) × IsFaultless file (tree_of p m)
-  -- until bindings inside an item are told otherwise: no target that is meant is called `arguments`
-  pub unlike : (t : Target) → IsMeant p (Of t) → symbol_of_target p list t ≡ codes "arguments" → ⊥
   pub undoubled : (m : ℕ) (kind : ModuleKind) →
       IsReached p m →
       HasKind p m kind →
@@ -162,9 +160,9 @@ pub data NameAlone (p : Program) (list : List ℕ) (context : Contexts)
       IsHolder p answers holder →
       o.ctxt ≡ context holder →
       NameAlone p list context answers cause item begins inner o (Inside k)
-  -- what the top of the bundle declares
+  -- what the top of the bundle declares, also where the item by itself takes it for the
+  -- `arguments` of a function
   of_top : {l : Label} →
-      is_inside begins (own_denoted item o) ≡ false →
       is_inner_name (own_declared item) (its_name o) ≡ false →
       ((c : ℕ) → cause ≡ Defines c → is_inner (own_denoted item o) ≡ false) →
       IsTopLabel p l →
@@ -189,7 +187,7 @@ module _ (p : Program) (list : List ℕ) (context : Contexts) (answers : ℕ →
   abbrev pub StatementAlone : Spot → List Item → Told → Type 0
   StatementAlone s part told =
       AllZip (NameAlone p list context answers cause item s.place
-      (each_denoted_once (filter (is_inside s.place) (own_from item s part))))
+      (each_denoted_once (told_inside (own_from item s part) told.0)))
       (occurrences_from s part) told.0
 
   -- statements, one after another
@@ -212,19 +210,24 @@ module _ (p : Program) (list : List ℕ) (context : Contexts) (answers : ℕ →
 
 -- What bindings are called.
 
--- the symbols of the bindings inside a part of an item
-abbrev pub symbols_inside : List Item → Spot → List Item → List Text
-symbols_inside item s part =
-    map denoted_symbol (each_denoted_once (filter (is_inside s.place) (own_from item s part)))
+-- the symbols of the bindings inside a part of an item, by what is told of it
+abbrev pub symbols_inside : List Item → Spot → List Item → Told → List Text
+symbols_inside item s part told =
+    map denoted_symbol (each_denoted_once (told_inside (own_from item s part) told.0))
+
+-- the same of an item that is told as a whole
+abbrev pub symbols_whole : List Item → Noted → List Text
+symbols_whole item (AsWhole told) = symbols_inside item first_spot item told
+symbols_whole item (AsFunction front names insides tolds) = []
 
 -- those of statements of a load function are those of the module's
-abbrev pub StatementsCalled : Program → ℕ → List Item → Spot → List (List Item) →
+abbrev pub StatementsCalled : Program → ℕ → List Item → Spot → List (List Item) → List Told →
     List (List Element) → Type 0
-StatementsCalled p c item s [] [] = ⊤
-StatementsCalled p c item s (part ∷ parts) (statement ∷ statements) =
-    (symbols_inside item s part ≡ inner_symbols (own_view p c Cjs) 0 statement) × StatementsCalled p
-    c item (fold past s part) parts statements
-StatementsCalled p c item s _ _ = ⊥
+StatementsCalled p c item s [] [] [] = ⊤
+StatementsCalled p c item s (part ∷ parts) (told ∷ tolds) (statement ∷ statements) =
+    (symbols_inside item s part told ≡ inner_symbols (own_view p c Cjs) 0 statement)
+    × StatementsCalled p c item (fold past s part) parts tolds statements
+StatementsCalled p c item s _ _ _ = ⊥
 
 -- the symbols of an answer's bindings
 abbrev pub symbols_answered : List Item → List Text
@@ -238,16 +241,28 @@ abbrev pub CalledAlone : Program → Hooks → Cause → List Item → Noted →
 CalledAlone p hooks (Own m k) item noted =
     (statement : List Element) →
     slice_get (own_statements (tree_of p m)) k ≡ Some statement →
-    symbols_inside item first_spot item ≡ inner_symbols (own_view p m Es) 0 statement
+    symbols_whole item noted ≡ inner_symbols (own_view p m Es) 0 statement
 CalledAlone p hooks (Defines c) item (AsFunction front names insides tolds) =
-    StatementsCalled p c item (fold past first_spot front) insides (own_statements (tree_of p c))
+    StatementsCalled p c item (fold past first_spot front) insides tolds
+    (own_statements (tree_of p c))
 CalledAlone p hooks (Defines c) item (AsWhole told) = ⊥
 CalledAlone p hooks Helps item noted =
-    symbols_inside item first_spot item ≡ codes "fn" ∷ codes "module" ∷ []
+    symbols_whole item noted ≡ codes "fn" ∷ codes "module" ∷ []
 CalledAlone p hooks (HoldsMeta m) item noted =
-    (properties : List Item) × MayHold p hooks m properties × (symbols_inside item first_spot item
+    (properties : List Item) × MayHold p hooks m properties × (symbols_whole item noted
     ≡ symbols_answered properties)
 CalledAlone p hooks _ item noted = ⊤
+
+-- a name of an item by itself denotes a binding of an inner scope, and does so in the bundle: if it
+-- is an `arguments` that nothing declares there, it is no label's that the top declares
+pub record IsInnerAlone (p : Program) (list : List ℕ) (context : Contexts) (item : List Item)
+    (o : Occurrence) : Type 0 where
+  pub is : is_inner (own_denoted item o) ≡ true
+  pub unless : is_written (own_denoted item o) ≡ false →
+      (l : Label) →
+      IsTopLabel p l →
+      ident_of o ≡ ident_of_label p list context l →
+      ⊥
 
 -- what is so of the item of a cause by itself
 pub record IsAlone (p : Program) (hooks : Hooks) (list : List ℕ) (context : Contexts)
@@ -263,7 +278,12 @@ pub record IsAlone (p : Program) (hooks : Hooks) (list : List ℕ) (context : Co
   pub single : IsSingle item
   pub fit : IsFit AnItem 0 item
   -- bindings inside are told apart
-  pub inner : IsResolvedInside item
+  pub inner : (a b : Occurrence) →
+      IsListedIn item a →
+      IsListedIn item b →
+      IsInnerAlone p list context item a →
+      IsInnerAlone p list context item b →
+      SameIdent a b ↔ (own_denoted item a ≡ own_denoted item b)
   -- what the item declares at its top
   pub declares : (l : Label) →
       DeclaresLabel p cause l →

@@ -7,9 +7,7 @@ use Rattle.bundle_rules.specs.Judging.{requests_in}
 use Rattle.bundle_order_graph.specs.Modules.{Modules, deps}
 use Rattle.bundle_rules.specs.Program.{Program, tree_of, requested, IsReached, IsList}
 use Rattle.bundle_rules.specs.Faults.{IsFaultless, IsFaultlessProgram}
-use Rattle.bundle_rules.specs.Linking.{Target}
 use Rattle.bundle_rules.specs.Meaning.{Of, IsMeant}
-use Rattle.bundle_rules.specs.Symbols.{symbol_of_target}
 use Rattle.bundle_link_targets.specs.Meant.{AreModules}
 use Rattle.bundle_link_reached.specs.Alike.{IsAlike, IsAt}
 use Rattle.bundle_merge_whole.specs.fit.Programs.{HasFitTrees}
@@ -40,8 +38,3 @@ pub record AreKnown (p q : Program) (ids : List ℕ) : Type 0 where
   pub fit : HasFitTrees p
   pub alike : IsAlike p q (IsAt ids)
   pub modules : AreModules q
-  -- until bindings inside an item are told otherwise: no target that is meant is called `arguments`
-  pub unlike : (t : Target) →
-      IsMeant q (Of t) →
-      symbol_of_target q (numbers_from zero (length ids)) t ≡ codes "arguments" →
-      ⊥
