@@ -2,7 +2,7 @@
 -- bundle: all that is shown of it by itself.
 use Rattle.std.proofs.Common.{◌≡◌, ℕ, zero, suc, Option, ◌==◌, ◌&&◌, true, List, [], ◌∷◌, Some, slice_get, bytes_eq, refl, ap, sym, ◌∙◌, subst, eq-eqb}
 use Rattle.std.specs.List.{AllZip, list_any}
-use Rattle.std.proofs.lemmas.Bool.{false≢true, and_parts, and_from, eqb-true}
+use Rattle.std.proofs.lemmas.Bool.{and_parts, and_from, eqb-true}
 use Rattle.std.proofs.lemmas.Option.{none-some, same_Some}
 use Rattle.std.proofs.lemmas.Slice.Eq.{bytes_eq-Decides}
 use Rattle.bundle_tree_piece.specs.Item.{Item}
@@ -17,7 +17,7 @@ use Rattle.bundle_rules.specs.Bundle.{Cause, Defines, AsModule, Hooks}
 use Rattle.bundle_scope_renamed.specs.fit.Sorts.{AnItem}
 use Rattle.bundle_scope_renamed.specs.fit.Fits.{IsFit}
 use Rattle.bundle_scope_renamed.specs.fit.Fits as f
-use Rattle.bundle_merge_joined.specs.joined.Notes.{its_name, own_denoted}
+use Rattle.bundle_merge_joined.specs.joined.Notes.{its_name}
 use Rattle.bundle_merge_joined.specs.joined.Picked.{IsSingle}
 use Rattle.bundle_merge_joined.proofs.joined.Declarations.{IsNamed as HasNames}
 use Rattle.bundle_merge_meaning.specs.walked.Renaming.{Told, IsMarked, HasNoLoneName}

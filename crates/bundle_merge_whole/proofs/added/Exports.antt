@@ -176,7 +176,7 @@ module _ (p : Program) (hooks : Hooks) (list : List ℕ) (context : Contexts)
   pub exports-alone : IsAlone p hooks list context answers Exports (l.export_list named_pairs)
   exports-alone =
       topped-alone p hooks list context answers Exports
-        (λ c e. absurd cc) (l.export_list named_pairs)
+      (λ c e. absurd cc) (l.export_list named_pairs)
       (map means_of (rows_of p list context pairs), i.export_list pairs) (map read_name named_pairs)
       fits marked (exports pairs refl are) (export_list_lone named_pairs) named topped
       (rows-tell p list context pairs

@@ -257,7 +257,7 @@ module _ (p : Program) (hooks : Hooks) (list : List ℕ) (context : Contexts)
       let label : Label = Of (External s Whole) in
       let id : Ident = ident_of_label p list context label in
       topped-alone p hooks list context answers (ImportsWhole s)
-        (λ c e. absurd cc) (l.import_whole s id)
+      (λ c e. absurd cc) (l.import_whole s id)
       (Known label ∷ [], i.import_whole s) ((id, true) ∷ [])
       (node refl
       (a_node {inside = h.Ident 0 id.0 id.1 r.Binding ∷ []} refl (a_name refl no_more)
@@ -289,7 +289,7 @@ module _ (p : Program) (hooks : Hooks) (list : List ℕ) (context : Contexts)
       IsAlone p hooks list context answers (ImportsNothing s) (l.import_bare s)
   imports-nothing-alone s =
       topped-alone p hooks list context answers (ImportsNothing s)
-        (λ c e. absurd cc) (l.import_bare s)
+      (λ c e. absurd cc) (l.import_bare s)
       ([], i.import_bare s) [] (node refl (over refl (string-fits s))) (import_bare_marked s)
       imports_nothing (import_bare_lone s) (refl, (refl, (refl, (refl, (refl, tt))))) tt tt tt
       (nothing-declared s) (λ x c is. none-bound x c (ImportsNothing s) is)
@@ -298,7 +298,7 @@ module _ (p : Program) (hooks : Hooks) (list : List ℕ) (context : Contexts)
   pub stars-alone : (s : Text) → IsAlone p hooks list context answers (Stars s) (l.export_star s)
   stars-alone s =
       topped-alone p hooks list context answers (Stars s)
-        (λ c e. absurd cc) (l.export_star s) ([], i.export_star s) []
+      (λ c e. absurd cc) (l.export_star s) ([], i.export_star s) []
       (node refl (a_node {inside = []} refl no_more no_more)) (export_star_marked s) stars
       (export_star_lone s) (refl, (refl, (refl, (refl, (refl, tt))))) tt tt tt
       (star-declares s) (λ x c is. none-bound x c (Stars s) is)

@@ -1,6 +1,6 @@
 -- The object of a namespace, by itself.
-use Rattle.std.proofs.Common.{◌≡◌, ℕ, Bool, true, false, List, [], ◌∷◌, ◌++◌, Option, map, append_assoc, append-nil, codes, refl, sym, ◌∙◌, subst, inl, inr}
-use Rattle.std.specs.Prelude.{Contains, flat_map, bytes_eq}
+use Rattle.std.proofs.Common.{◌≡◌, ℕ, Bool, true, false, List, [], ◌∷◌, ◌++◌, Option, map, append_assoc, append-nil, codes, refl, sym, ◌∙◌, subst}
+use Rattle.std.specs.Prelude.{flat_map, bytes_eq}
 use Rattle.std.specs.List.{AllZip, list_any}
 use Rattle.std.proofs.lemmas.Bool.{false≢true}
 use Rattle.bundle_tree_leaf.specs.declared.kind.VarDeclKind.TheVariants.{Const}
@@ -24,9 +24,7 @@ use Rattle.bundle_scope_renamed.specs.fit.Sorts.{AnItem, AnExpr, ACallee, AnArgu
 use Rattle.bundle_scope_renamed.specs.fit.Fits.{AreFit, no_more, over, a_name, a_node, IsFit, node}
 use Rattle.bundle_tree_places.specs.Edits as e
 use Rattle.bundle_merge_injected.specs.Listed as l
-use Rattle.bundle_merge_joined.specs.joined.Joined.{AllOf}
 use Rattle.bundle_merge_joined.proofs.joined.Declarations.{AreNamed, IsNamed as HasNames}
-use Rattle.bundle_merge_joined.proofs.joined.Tops.{Contains-cons}
 use Rattle.bundle_merge_meaning.specs.walked.Renaming.{IsMarked}
 use Rattle.bundle_merge_meaning.proofs.walked.Injecting.{means_of, written_of, namespace_marked}
 use Rattle.bundle_merge_meaning.proofs.walked.Lone.{namespace_lone}
@@ -313,7 +311,7 @@ module _ (p : Program) (hooks : Hooks) (list : List ℕ) (context : Contexts)
       (l.namespace_object no_notes object named_pairs)
   namespace-alone =
       topped-alone p hooks list context answers (HoldsNamespace d)
-        (λ c e. absurd cc)
+      (λ c e. absurd cc)
       (l.namespace_object no_notes object named_pairs) (
         Known (Of (Namespace d)) ∷ map means_of
             (rows_of p list context pairs),

@@ -1,27 +1,21 @@
 -- Items whose bindings all stand at their top: what they declare, and what their names denote.
-use Rattle.std.proofs.Common.{◌≡◌, ℕ, ◌==◌, ◌&&◌, ◌||◌, Bool, true, false, cond, not, List, [], ◌∷◌, Option, Some, None, find, codes, bytes_eq, append-nil, unwrap_or, refl, ap, sym, ◌∙◌, subst}
+use Rattle.std.proofs.Common.{◌≡◌, ℕ, ◌==◌, ◌&&◌, ◌||◌, Bool, true, false, cond, not, List, [], ◌∷◌, Some, None, bytes_eq, append-nil, unwrap_or, refl, ap, sym, ◌∙◌, subst}
 use Rattle.std.specs.List.{AllZip, list_any, cons_option}
-use Rattle.std.proofs.lemmas.Bool.{false≢true, true≢false}
-use Rattle.std.proofs.lemmas.Option.{none-some, same_Some}
-use Rattle.std.proofs.lemmas.Slice.Eq.{bytes_eq-Decides}
 use Rattle.bundle_tree_piece.specs.Item as h
 use Rattle.bundle_tree_piece.specs.Item.{Item}
 use Rattle.bundle_rules.specs.Places.{Around, Occurrence, occurrences, occurrences_from, is_binding}
-use Rattle.bundle_rules.specs.Scopes.{Es, Scope, Wrapper, Top, Inner, same_scope, scopes_around}
+use Rattle.bundle_rules.specs.Scopes.{Es, Scope, Top, same_scope, scopes_around}
 use Rattle.bundle_rules.specs.Declarations.{Way, ByContext, Name, names_agree, name_of, Declared, declared_by, declaration_of, way_of}
-use Rattle.bundle_rules.specs.Homes.{takes, from_taker, nearest, taker, parameters_of, joins_parameter, home_beside, home_of, is_top, is_declared_in, is_arguments, is_function}
-use Rattle.bundle_rules.specs.Denotes.{Denoted, Bound, Global, without_context, bound_in, is_unresolved, has_identifier, is_written_in, is_implied_in, written_or_implied, denoted_by_context, own_or_found}
+use Rattle.bundle_rules.specs.Homes.{takes, from_taker, nearest, taker, parameters_of, joins_parameter, home_beside, home_of, is_top, is_declared_in}
+use Rattle.bundle_rules.specs.Denotes.{has_identifier, is_written_in}
 use Rattle.bundle_rules.specs.Nodes.{Text}
 use Rattle.bundle_rules.specs.Idents.{Ident, ident_of}
 use Rattle.bundle_rules.specs.Rebuilds.{Listed}
 use Rattle.bundle_rules.specs.Parts.{tree_of_items}
-use Rattle.bundle_rules.specs.Meaning.{is_inside}
 use Rattle.bundle_merge_joined.specs.joined.Joined.{AllOf, own_declared}
-use Rattle.bundle_merge_joined.specs.joined.Notes.{its_name, own_denoted, is_inner, is_inner_name}
+use Rattle.bundle_merge_joined.specs.joined.Notes.{its_name, is_inner_name}
 use Rattle.bundle_merge_joined.proofs.joined.Lists.{any-none}
 use Rattle.bundle_merge_joined.proofs.joined.Declarations.{IsNamed as HasNames, declared_by_names, declared-item}
-use Rattle.bundle_merge_joined.proofs.joined.Denotes.{identified, nothing-implied}
-use Rattle.bundle_merge_joined.proofs.joined.Notes.{inner-declared}
 use Rattle.bundle_merge_meaning.proofs.noted.Names.{occurrences_append}
 use Rattle.bundle_merge_whole.specs.composed.Noted.{first_spot}
 

@@ -20,7 +20,7 @@ use Rattle.bundle_merge_joined.proofs.joined.Paths.{inside, moved-from, AreMoved
 use Rattle.bundle_merge_joined.proofs.joined.Ranges.{same-moved}
 use Rattle.bundle_merge_joined.proofs.joined.Declarations.{IsNamed}
 use Rattle.bundle_merge_joined.proofs.joined.Items.{all-at, occurrence-in-whole}
-use Rattle.bundle_merge_joined.proofs.joined.Notes.{viewed, own-top, free-own, note-told}
+use Rattle.bundle_merge_joined.proofs.joined.Notes.{viewed, note-told}
 use Rattle.bundle_merge_joined.proofs.joined.Resolved.{InnerOf, inner-of}
 use Rattle.bundle_merge_meaning.specs.walked.Together.{IsBoundAs}
 use Rattle.bundle_merge_meaning.specs.walked.Numbers.{IsOneToOne}

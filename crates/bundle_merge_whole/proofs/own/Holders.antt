@@ -1,19 +1,16 @@
 -- Which contexts the labels of a bundle have, and that no name of an ES module means a name inside
 -- the function of a CommonJS module.
-use Rattle.std.proofs.Common.{◌≡◌, ℕ, suc, ◌+◌, ◌-◌, false, List, Option, codes, refl, ap, ◌∙◌, arith}
+use Rattle.std.proofs.Common.{◌≡◌, ℕ, suc, ◌+◌, ◌-◌, List, Option, refl, ap, ◌∙◌, arith}
 use Rattle.std.specs.Prelude.{nat_lt, if◌then◌else◌}
 use Rattle.std.proofs.lemmas.Bool.{false_from_ne_true, leb-true}
 use Rattle.bundle_tree_piece.specs.Item.{Item}
-use Rattle.bundle_rules.specs.Homes.{is_arguments}
 use Rattle.bundle_rules.specs.Nodes.{Text}
 use Rattle.bundle_rules.specs.Entries.{Taken}
 use Rattle.bundle_rules.specs.Program.{Program, IsReached}
 use Rattle.bundle_rules.specs.Linking.{IsCommonJs, Target, Declared, Namespace, External, CommonJs, Takes, of_external, of_common_js, of_module, Gives, declaration, namespace_import, taken, given_on, starred, Origin, StandsFor, declared, imported, taken_whole}
-use Rattle.bundle_rules.specs.Meaning.{Label, Of, Parameter, Load, Meta, Helper, IsMeant}
+use Rattle.bundle_rules.specs.Meaning.{Label}
 use Rattle.bundle_rules.specs.Bundle.{Cause, AsModule, IsDue}
 use Rattle.bundle_rules.specs.Bundle as u
-use Rattle.bundle_rules.specs.Symbols.{symbol_of_target}
-use Rattle.bundle_scope_names.proofs.HomesLemmas.{same_symbol}
 use Rattle.bundle_link_targets.specs.Meant.{ReadsOn, done, on, WordsMean}
 use Rattle.bundle_merge_whole.specs.made.Given.{Contexts, TopOf, InsideOf, NameOf, numbers_in, ident_of_label}
 use Rattle.bundle_merge_whole.specs.made.Alone.{AreSound, AddsLabel, imports_name, imports_whole, helps, defines, loads, holds_meta, holds_namespace, DeclaresLabel, IsTopLabel, IsHolder, TellApart}

@@ -3,7 +3,7 @@
 use Rattle.std.proofs.Common.{◌≡◌, ◌⊎◌, inl, inr, ◌↔◌, ℕ, zero, suc, ◌+◌, ◌==◌, Bool, true, false, cond, not, ◌&&◌, List, [], ◌∷◌, ◌++◌, Option, Some, None, filter, map, slice_get, bytes_eq, codes, find, refl, ap, sym, ◌∙◌, subst, arith, eqb-true, eq-eqb}
 use Rattle.std.specs.Prelude.{position, ⊤}
 use Rattle.std.specs.List.{AllZip}
-use Rattle.std.proofs.lemmas.Bool.{false≢true, and_parts, and_from, le-leb}
+use Rattle.std.proofs.lemmas.Bool.{false≢true, and_parts, and_from}
 use Rattle.std.proofs.lemmas.Option.{none-some, same_Some}
 use Rattle.std.proofs.lemmas.Slice.Eq.{bytes_eq-Decides}
 use Rattle.bundle_tree_piece.specs.Item.{Item}
@@ -40,7 +40,6 @@ use Rattle.bundle_merge_whole.specs.made.Given.{Contexts, numbers_in, ident_of_l
 use Rattle.bundle_merge_whole.specs.made.Alone.{IsTopLabel, IsInnerAlone}
 use Rattle.bundle_merge_whole.specs.made.Told.{denoted_there, kept_ident, IsNamedFor, IsNotedStep, inside, known, unbound}
 use Rattle.bundle_merge_whole.specs.own.Beside.{Pairs, Paired, MadeOf, IsFront, Aligned, al_done, al_step, al_meta}
-use Rattle.bundle_merge_whole.proofs.own.Pairs.{rises-from}
 use Rattle.bundle_merge_whole.proofs.own.Lifted.{declared_names}
 use Rattle.bundle_merge_whole.proofs.own.Alongside.{its_numbering, IsAlongside, one, IsKnownName}
 use Rattle.bundle_merge_whole.proofs.own.Aligning.{FrontAligned}

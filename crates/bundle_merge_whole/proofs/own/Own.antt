@@ -1,5 +1,5 @@
 -- An ES module's own statement becomes an item that is right by itself.
-use Rattle.std.proofs.Common.{◌≡◌, ◌⊎◌, inl, inr, ℕ, zero, suc, ◌==◌, Bool, true, false, ◌&&◌, List, [], ◌∷◌, ◌++◌, Option, Some, option_map, filter, map, slice_get, bytes_eq, refl, ap, sym, ◌∙◌, subst, arith, eq-eqb, eqb-true}
+use Rattle.std.proofs.Common.{◌≡◌, ◌⊎◌, inl, inr, ℕ, zero, suc, ◌==◌, Bool, true, false, ◌&&◌, List, [], ◌∷◌, ◌++◌, Option, Some, option_map, map, slice_get, bytes_eq, refl, ap, sym, ◌∙◌, subst, arith, eq-eqb, eqb-true}
 use Rattle.std.specs.Prelude.{Contains}
 use Rattle.std.specs.List.{AllZip}
 use Rattle.std.proofs.lemmas.Bool.{false≢true, and_parts, and_from, le-leb}
@@ -68,7 +68,7 @@ use Rattle.bundle_merge_whole.proofs.own.Pairs.{rises-from}
 use Rattle.bundle_merge_whole.proofs.own.Holders.{number-inside}
 use Rattle.bundle_merge_whole.proofs.own.Lifted.{declared_names, names-plain, told-at}
 use Rattle.bundle_merge_whole.proofs.own.Alongside.{IsAlongside, its_numbering, KeepsBinding, IsKnownName, known-names, home-made, declared-denotes, declares-it, refers-none}
-use Rattle.bundle_merge_whole.proofs.own.Outer.{AreTold, own-lifted, inner-not}
+use Rattle.bundle_merge_whole.proofs.own.Outer.{AreTold, own-lifted}
 use Rattle.bundle_merge_whole.proofs.own.Aligning.{FrontAligned, align-all, idents_from}
 use Rattle.bundle_merge_whole.proofs.own.Elements.{Has, has-contains, contains-has, HasElements, stated-elements}
 use Rattle.bundle_merge_whole.proofs.own.Naming.{NameMade, made_in, made_out, made_free, IsTopName, AllTold, AllMadeNames, all-made, FrontTold, same-number, same-symbols, resolved-inside, Becomes, becomes, its_inner}

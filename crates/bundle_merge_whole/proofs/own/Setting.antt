@@ -10,7 +10,6 @@ use Rattle.bundle_tree_piece.specs.Item.{Item}
 use Rattle.bundle_rules.specs.Places.{Spot, start, Occurrence, occurrences, occurrences_from}
 use Rattle.bundle_rules.specs.Scopes.{Es, ScopeKind, Wrapper, Top, Inner}
 use Rattle.bundle_rules.specs.Declarations.{BySymbol, Declared, declaration_of, declared}
-use Rattle.bundle_rules.specs.Homes.{is_arguments}
 use Rattle.bundle_rules.specs.Denotes.{Denoted, Bound, Global, denoted_of}
 use Rattle.bundle_rules.specs.Cleared.{cleared}
 use Rattle.bundle_rules.specs.Idents.{Ident, ident_of}

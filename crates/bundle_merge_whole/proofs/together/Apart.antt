@@ -1,5 +1,5 @@
 -- Items that are right each by itself can be told apart by their symbols and contexts.
-use Rattle.std.proofs.Common.{◌≡◌, ◌⊎◌, inl, inr, ◌==◌, ℕ, true, false, List, [], ◌∷◌, ◌++◌, Option, Some, refl, ap, sym, ◌∙◌, arith, le-leb, eq-eqb}
+use Rattle.std.proofs.Common.{◌≡◌, ◌⊎◌, inl, inr, ◌==◌, ℕ, true, false, List, [], ◌∷◌, ◌++◌, Option, Some, refl, ap, sym, ◌∙◌, arith, eq-eqb}
 use Rattle.std.specs.Prelude.{slice_get, fold}
 use Rattle.std.specs.List.{AllZip}
 use Rattle.std.proofs.lemmas.Bool.{false≢true}
@@ -11,11 +11,11 @@ use Rattle.bundle_rules.specs.Denotes.{Denoted}
 use Rattle.bundle_rules.specs.Sorting.{flat}
 use Rattle.bundle_rules.specs.Idents.{Ident}
 use Rattle.bundle_rules.specs.Program.{Program}
-use Rattle.bundle_rules.specs.Meaning.{Label, Meant, Known, is_inside}
+use Rattle.bundle_rules.specs.Meaning.{Label, Meant, Known}
 use Rattle.bundle_rules.specs.Symbols.{denoted_symbol}
 use Rattle.bundle_rules.specs.Bundle.{Cause, Defines, AsModule, Hooks}
 use Rattle.bundle_merge_joined.specs.joined.Joined.{AllOf, own_declared, is_written}
-use Rattle.bundle_merge_joined.specs.joined.Notes.{its_name, own_denoted, is_inner, is_inner_name, IsListedIn, IsInnerAmong, AreApart}
+use Rattle.bundle_merge_joined.specs.joined.Notes.{its_name, own_denoted, is_inner_name, IsListedIn, IsInnerAmong, AreApart}
 use Rattle.bundle_merge_joined.proofs.joined.Lists.{get-append}
 use Rattle.bundle_merge_joined.proofs.joined.Paths.{occurrences-append, item-occurrences}
 use Rattle.bundle_merge_joined.proofs.joined.Declarations.{IsNamed as HasNames}

@@ -26,7 +26,7 @@ use Rattle.bundle_merge_joined.proofs.joined.TopItems.{top_items-joined}
 use Rattle.bundle_merge_meaning.specs.noted.Agrees.{IsAt}
 use Rattle.bundle_merge_meaning.proofs.noted.Spots.{at-behind, at-as}
 use Rattle.bundle_merge_meaning.specs.walked.Renaming.{Told}
-use Rattle.bundle_merge_whole.specs.composed.Noted.{Noted, AsWhole, AsFunction, function_ends, IsNotedFor, as_whole, as_function, first_spot, pairing_of}
+use Rattle.bundle_merge_whole.specs.composed.Noted.{Noted, AsWhole, AsFunction, function_ends, IsNotedFor, as_whole, as_function, pairing_of}
 use Rattle.bundle_merge_whole.specs.composed.Names.{Table, labels_in, StatementNoted, StatementsNoted, ItemNoted}
 use Rattle.bundle_merge_whole.proofs.composed.Contexts.{outer-called}
 use Rattle.bundle_merge_whole.proofs.composed.ListFacts.{zip-at}

@@ -12,7 +12,7 @@ use Rattle.bundle_rules.specs.Scopes.{Es}
 use Rattle.bundle_rules.specs.Declarations.{ByContext}
 use Rattle.bundle_rules.specs.Denotes.{Denoted, Bound, Global, IsResolved}
 use Rattle.bundle_rules.specs.Mentions.{same_context, same_denoted, each_denoted_once}
-use Rattle.bundle_rules.specs.Meaning.{Meant, is_inside}
+use Rattle.bundle_rules.specs.Meaning.{is_inside}
 use Rattle.bundle_rules.specs.Parts.{tree_of_items}
 use Rattle.bundle_rules.specs.Sorting.{flat}
 use Rattle.bundle_rules.specs.Statements.{TopItem, placed, taken_from}

@@ -22,7 +22,7 @@ use Rattle.bundle_rules.specs.Bundle.{Cause, Own, AsModule, Hooks, IsDue}
 use Rattle.bundle_rules.specs.Statements.{Element, TopItem, top_items, stated, own_statements}
 use Rattle.bundle_scope_renamed.specs.Undoubled.{IsUndoubled}
 use Rattle.bundle_scope_renamed.proofs.kept.Lists.{list_any-in, any-here}
-use Rattle.bundle_merge_joined.specs.joined.Joined.{joined, AllOf, own_declared}
+use Rattle.bundle_merge_joined.specs.joined.Joined.{joined, AllOf, own_declared, is_written}
 use Rattle.bundle_merge_joined.specs.joined.Notes.{own_denoted, is_inner, IsListedIn, AreApart}
 use Rattle.bundle_merge_joined.proofs.joined.Declarations.{declared-item, IsNamed as HasNames}
 use Rattle.bundle_merge_joined.proofs.joined.Homes.{home-in}
@@ -320,6 +320,11 @@ module _ (p : Program) (hooks : Hooks) (list : List ℕ) (context : Contexts)
       yours : IsNameOf other e
       yours = name_of_declared other its_named e two
 
+      written : is_written (own_denoted item mine.o) ≡ true
+      written =
+          ap is_written (denotes_own item mine.o d mine.declares)
+          ∙ ap (λ (n : Name). is_some n.ctxt) mine.name_is
+
       by : (home_of (own_declared item) d ≡ Top)
           ⊎ (is_inner (Bound (home_of (own_declared item) d) d.name) ≡ true) →
           home_of (own_declared item) d ≡ Top
@@ -327,7 +332,10 @@ module _ (p : Program) (hooks : Hooks) (list : List ℕ) (context : Contexts)
       by (inr inner) =
           absurd
           (apart.others m n item other mine.o yours.o differ at there mine.listed yours.listed
-          (ap is_inner (denotes_own item mine.o d mine.declares) ∙ inner)
+          (record {
+            is = ap is_inner (denotes_own item mine.o d mine.declares) ∙ inner;
+            unless = λ without. absurd (false≢true (sym without ∙ written));
+          })
           (same_ident mine.o.sym yours.o.sym mine.o.ctxt yours.o.ctxt
           (ap₂ (λ x y. names_agree x y) (sym mine.name_is) (sym yours.name_is) ∙ agree)))
 

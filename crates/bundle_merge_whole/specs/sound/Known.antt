@@ -1,17 +1,15 @@
 -- What is known of a program by the modules' own numbers, and of the same program where modules are
 -- numbered by their places in its list.
-use Rattle.std.specs.Prelude.{◌≡◌, ℕ, zero, List, Some, Contains, codes, length}
+use Rattle.std.specs.Prelude.{◌≡◌, ℕ, List, Some, Contains}
 use Rattle.bundle_tree_names.specs.FileName.{Name as FileName}
 use Rattle.bundle_rules.specs.Nodes.{Text}
 use Rattle.bundle_rules.specs.Judging.{requests_in}
 use Rattle.bundle_order_graph.specs.Modules.{Modules, deps}
 use Rattle.bundle_rules.specs.Program.{Program, tree_of, requested, IsReached, IsList}
 use Rattle.bundle_rules.specs.Faults.{IsFaultless, IsFaultlessProgram}
-use Rattle.bundle_rules.specs.Meaning.{Of, IsMeant}
 use Rattle.bundle_link_targets.specs.Meant.{AreModules}
 use Rattle.bundle_link_reached.specs.Alike.{IsAlike, IsAt}
 use Rattle.bundle_merge_whole.specs.fit.Programs.{HasFitTrees}
-use Rattle.bundle_merge_whole.specs.planned.Decided.{numbers_from}
 
 -- each request of a reached module leads to a module
 abbrev pub LeadsAll : Program → Type 0
