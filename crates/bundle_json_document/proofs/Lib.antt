@@ -1,9 +1,10 @@
-mod Floats
 mod Fronts
 mod Kept
+mod laid
 mod Lists
 mod Maps
 mod Modules
+mod Objects
 mod Parts
 mod Results
 mod Turns

@@ -13,7 +13,7 @@ use Rattle.bundler_call.specs.Bundler.{files_of}
 use Rattle.bundler_call.specs.Judged.{IsBundledFor, IsRefusedBy}
 use Rattle.bundler_call.specs.Kept.{answers_of, entry_of, parties_of, settings_of}
 use Rattle.bundler_call.specs.declared.bundle.Bundle.{Bundle}
-use Rattle.bundle_json_document.specs.Bundles.{IsCompactTextOf, IsTextOf}
+use Rattle.bundle_json_document.specs.Bundles.{IsTextOf}
 use Rattle.bundle_json_document.specs.Parties.{GivesModule, LacksModule, LeadsTo}
 use Rattle.bundle_json_document.specs.declared.document.Document.{Document}
 
@@ -47,8 +47,7 @@ pub record AreBundlesOf (may_give : Name → Bool → List (KeyValueProp Expr) �
 pub record IsAnswer (may_give : Name → Bool → List (KeyValueProp Expr) → Type 0) (may_fail_hook : Name → Bool → Type 0) (document : Document) (text : List ℕ) : Type 0 where
   pub bundles : List Bundle
   pub made : AreBundlesOf may_give may_fail_hook document bundles
-  pub has_objects : IsTextOf bundles text
-  pub is_compact : IsCompactTextOf bundles text
+  pub is_text : IsTextOf bundles text
 
 -- a refusal of a document's bundles that is right: it tells of the first fault in the order of judging, or of memory or contexts that do not suffice
 pub record IsRefusal (may_give : Name → Bool → List (KeyValueProp Expr) → Type 0) (may_fail_hook : Name → Bool → Type 0) (document : Document) (refusal : Error) : Type 0 where

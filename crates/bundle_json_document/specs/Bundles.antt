@@ -1,12 +1,12 @@
 -- The JSON text of bundles.
-use Rattle.std.specs.Prelude.{◌≡◌, ℕ, List, [], ◌∷◌, codes, decimal}
+use Rattle.std.specs.Prelude.{◌≡◌, ℕ, List, [], ◌++◌, codes, decimal}
 use Rattle.std.specs.List.{AllZip}
 use Rattle.std.specs.String.{string_bytes}
 use Rattle.serde_json.specs.Data.{Data, string, array, object, member, no_members}
 use Rattle.serde_json.specs.View.{items_of}
-use Rattle.serde_json.specs.Written.{compact_text, IsInOrder}
+use Rattle.serde_json.specs.Written.{compact_text}
 use Rattle.bundle_tree_listed.specs.Tree.{module_items}
-use Rattle.bundle_json_form.specs.Form.{Tree, node, tree_items, written, IsFormWritten, IsLaidOut}
+use Rattle.bundle_json_form.specs.Form.{Tree, tree_items, written, IsLaidOut}
 use Rattle.bundler_call.specs.declared.bundle.Bundle.{Bundle}
 use Rattle.bundler_call.specs.declared.bundle.BundleKind.{BundleKind}
 use Rattle.bundler_call.specs.declared.bundle.BundleKind.TheVariants.{Named, Dynamic, Lib}
@@ -17,30 +17,29 @@ name_in (Named name) = string_bytes name
 name_in Dynamic = []
 name_in (Lib name) = string_bytes name
 
--- the object of a bundle whose module has this form: the decimal digits of its number, its kind, the form and its name
+-- the object of a bundle whose module has this form: the decimal digits of its number, its kind, the
+-- form and its name
 abbrev pub object_of : Bundle → Data → Data
 object_of bundle form =
-    object (member (codes "id") (string (decimal bundle.id)) (member (codes "kind") (string (codes "Named")) (member (codes "module") form (member (codes "name") (string (name_in bundle.kind)) no_members))))
-
--- `d` is the object of a bundle
-abbrev pub IsObjectOf : Bundle → Data → Type 0
-IsObjectOf bundle d = (form : Data) × IsFormWritten form (module_items 0 bundle.module) × (d ≡ object_of bundle form)
-
--- the text has the objects of these bundles, in their order, in an array
-abbrev pub IsTextOf : List Bundle → List ℕ → Type 0
-IsTextOf bundles text = (objects : List Data) × AllZip IsObjectOf bundles objects × IsInOrder text (array (items_of objects))
+    object (member (codes "id") (string (decimal bundle.id))
+    (member (codes "kind") (string (codes "Named"))
+    (member (codes "module") form (member (codes "name") (string (name_in bundle.kind)) no_members))))
 
 -- the module of a bundle is this tree
 abbrev pub IsTreeOf : Bundle → Tree → Type 0
-IsTreeOf bundle (node head inside) = (module_items 0 bundle.module ≡ tree_items 0 (node head inside)) × IsLaidOut (node head inside)
-IsTreeOf bundle _ = ⊥
+IsTreeOf bundle it = (module_items 0 bundle.module ≡ tree_items 0 it) × IsLaidOut it
 
--- the objects of bundles whose modules are these trees
-abbrev pub objects_of : List Bundle → List Tree → List Data
-objects_of [] trees = []
-objects_of (bundle ∷ bundles) [] = []
-objects_of (bundle ∷ bundles) (it ∷ trees) = object_of bundle (written it) ∷ objects_of bundles trees
+-- `d` is the object of a bundle, with the form of its module
+abbrev pub IsObjectOf : Bundle → Data → Type 0
+IsObjectOf bundle d = (it : Tree) × IsTreeOf bundle it × (d ≡ object_of bundle (written it))
 
--- the text is the compact one of the array of the objects of these bundles, whose modules are trees
-abbrev pub IsCompactTextOf : List Bundle → List ℕ → Type 0
-IsCompactTextOf bundles text = (trees : List Tree) → AllZip IsTreeOf bundles trees → text ≡ compact_text (array (items_of (objects_of bundles trees)))
+-- the text is the compact one of the array with the objects of these bundles, in their order
+abbrev pub IsTextOf : List Bundle → List ℕ → Type 0
+IsTextOf bundles text =
+    (objects : List Data) × AllZip IsObjectOf bundles objects
+    × (text ≡ compact_text (array (items_of objects)))
+
+-- behind the old text stands that of the object of a bundle
+abbrev pub AppendsObject : Bundle → List ℕ → List ℕ → Type 0
+AppendsObject bundle old new =
+    (it : Tree) → IsTreeOf bundle it → new ≡ old ++ compact_text (object_of bundle (written it))

@@ -1,47 +1,59 @@
 //! The JSON text of bundles.
 
-ghost use Rattle.std.specs.Prelude.{◌≡◌, string_bytes, IfOk, IfErr};
-ghost use Rattle.serde_json.specs.View.{view};
-ghost use Rattle.bundle_json_document.specs.Bundles.{name_in, object_of, IsCompactTextOf, IsObjectOf, IsTextOf};
+ghost use Rattle.std.specs.Prelude.{◌≡◌, string_bytes, IfOk, IfErr, OnOk};
+ghost use Rattle.bundle_tree_listed.specs.Tree.{module_items};
+ghost use Rattle.bundle_json_form.specs.Texts.{AppendsForm};
+ghost use Rattle.bundle_json_document.specs.Bundles.{name_in, AppendsObject, IsTextOf};
 
-use bundle_json_form::tree_value;
+use bundle_json_form::{push_comma, push_quoted, push_tree};
+use bundle_tree_ast::Module;
 use bundle_tree_list::pieces_of_module;
 use bundle_tree_names::error::Error;
 use bundler_call::{Bundle, BundleKind};
-use serde_json::{Value, json};
 use std::alloc::{AllocError, Global};
 
 /// The JSON text of the bundles: an array with an object for each, in their order, which has its number
 /// as a text, its kind, its module and its name. Refused only for memory. Each bundle is to be of the
 /// kind `Named`, and each is written as one.
 pub fn bundles_text(alloc: Global, bundles: &[Bundle]) -> Result<String, Error>
-    ensures text { IfOk result (λ text. IsCompactTextOf bundles.now (string_bytes text)) }
-    ensures objects { IfOk result (λ text. IsTextOf bundles.now (string_bytes text)) }
+    ensures text { IfOk result (λ text. IsTextOf bundles.now (string_bytes text)) }
     ensures refused { IfErr result (λ refusal. refusal ≡ Error.OutOfMemory) }
 {
-    let mut list = Vec::new(alloc);
+    let mut text = String::new(alloc);
+    text.push('[')?;
+    let mut is_later = false;
     for bundle in bundles {
-        let value = bundle_value(alloc, bundle)?;
-        list.push(value)?;
+        push_comma(&mut text, is_later)?;
+        push_object(alloc, &mut text, bundle)?;
+        is_later = true;
     }
-    Ok(Value::Array(list).to_string(alloc)?)
+    text.push(']')?;
+    Ok(text)
 }
 
-// The object of a bundle.
-fn bundle_value(alloc: Global, bundle: &Bundle) -> Result<Value, AllocError>
-    ensures { IfOk result (λ value. IsObjectOf bundle.now (view value)) }
-{
-    let pieces = pieces_of_module(alloc, &bundle.module)?;
-    let form = tree_value(alloc, pieces.as_slice())?;
-    object_value(alloc, bundle, form)
-}
-
-// The object of a bundle whose module has this form.
-fn object_value(alloc: Global, bundle: &Bundle, form: Value) -> Result<Value, AllocError>
-    ensures { IfOk result (λ value. view value ≡ object_of bundle.now (view form)) }
+// Puts the object of a bundle behind a text.
+fn push_object(alloc: Global, text: &mut String, bundle: &Bundle) -> Result<(), AllocError>
+    ensures { OnOk result
+        (AppendsObject bundle.now (string_bytes text.old) (string_bytes text.new)) }
 {
     let id = format!(in alloc; "{}", bundle.id)?;
-    json!(in alloc; {"id": id, "kind": "Named", "module": form, "name": name_of(&bundle.kind)})
+    text.push_str("{\"id\":")?;
+    push_quoted(alloc, text, id.as_str())?;
+    text.push_str(",\"kind\":\"Named\",\"module\":")?;
+    push_module(alloc, text, &bundle.module)?;
+    text.push_str(",\"name\":")?;
+    push_quoted(alloc, text, name_of(&bundle.kind))?;
+    text.push('}')?;
+    Ok(())
+}
+
+// Puts the form of a module behind a text.
+fn push_module(alloc: Global, text: &mut String, module: &Module) -> Result<(), AllocError>
+    ensures { OnOk result (AppendsForm (module_items 0 «module».now) (string_bytes text.old)
+        (string_bytes text.new)) }
+{
+    let pieces = pieces_of_module(alloc, module)?;
+    push_tree(alloc, text, pieces.as_slice())
 }
 
 // The name of a bundle of this kind.

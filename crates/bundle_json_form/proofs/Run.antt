@@ -27,15 +27,15 @@ abbrev Avoids : ℕ → List Child → Type 0
 Avoids field [] = Unit {0}
 Avoids field (it ∷ more) = (it.0 == field) ≡ false
 
-abbrev OtherThan : ℕ → List Field → Type 0
+abbrev pub OtherThan : ℕ → List Field → Type 0
 OtherThan field [] = Unit {0}
 OtherThan field (it ∷ more) = ((it.number == field) ≡ false) × OtherThan field more
 
-abbrev Distinct : List Field → Type 0
+abbrev pub Distinct : List Field → Type 0
 Distinct [] = Unit {0}
 Distinct (it ∷ more) = OtherThan it.number more × Distinct more
 
-distinct : (head : Head) → Distinct (fields head)
+pub distinct : (head : Head) → Distinct (fields head)
 distinct (h.NewExpr true) = search
 distinct (h.NewExpr false) = search
 distinct _ = search

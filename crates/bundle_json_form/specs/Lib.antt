@@ -3,5 +3,8 @@ pub mod Error
 pub mod Form
 pub mod Layout
 pub mod Plain
+pub mod Plan
 pub mod Reading
+pub mod Scalars
+pub mod Texts
 pub mod Writing

@@ -12,12 +12,17 @@
 mod error;
 mod layout;
 mod node;
+mod plan;
+mod quoted;
 mod read;
 mod role;
 mod scalar;
 pub mod seen;
+mod text;
 mod write;
 
 pub use error::FormError;
+pub use quoted::push_quoted;
 pub use read::{read_module, read_properties};
+pub use text::{push_comma, push_tree};
 pub use write::tree_value;

@@ -1,40 +1,18 @@
-use Rattle.std.proofs.Common.{◌≡◌, ◌+◌, [], ◌∷◌, ◌++◌, map, take, string_bytes, sym, ap, ◌∙◌, subst, arith}
-use Rattle.std.proofs.lemmas.List.{take_more, take_all, map-append}
-use Rattle.std.specs.List.{AllZip}
-use Rattle.serde_json.specs.Data.{array}
-use Rattle.serde_json.specs.View.{view, items_of}
-use Rattle.serde_json.specs.Written.{has_float, compact_text, IsInOrder}
-use Rattle.serde_json.specs.declared.value.Value.{Array}
-use Rattle.serde_json.proofs.Views.{view-Array}
-use Rattle.bundle_json_document.specs.Bundles.{objects_of, IsObjectOf}
-use Rattle.bundle_json_document.proofs.Floats.{the_objects, no_float_objects}
-use Rattle.bundle_json_document.proofs.Lists.{zip_more}
+use Rattle.std.proofs.Common.{◌+◌, ◌∷◌, ◌++◌, drop, string_bytes, sym, ap, ap₂, ◌∙◌, arith}
+use Rattle.std.proofs.lemmas.List.{drop_more, drop_all}
+use Rattle.bundle_json_document.proofs.Objects.{one_object, text_is}
 use Rattle.bundle_json_document.proofs.text.bundles_text.Goals as goal
 
 pub loop-bundle-preserved : goal.loop-bundle-preserved
 loop-bundle-preserved c =
-    let l = c.loop-bundle in
-    let bundles = c.args.bundles.now in
     let bundle = c.bundle-item.result in
-    let value = c.in_ok-value.value in
-    let front : take (l.bundle-index + 1) bundles ≡ take l.bundle-index bundles ++ bundle ∷ [] =
-    take_more bundles l.bundle-index bundle (omega arith) ∙ ap (λ it. take l.bundle-index bundles ++ it ∷ []) (sym c.bundle-item.is) in
-    let grown : map view c.push.new.self.items ≡ map view l.list.items ++ view value ∷ [] =
-    ap (map view) c.in_ok-push.ensures.items ∙ map-append view l.list.items (value ∷ []) in
-    rw (front, grown) (zip_more IsObjectOf _ _ bundle (view value) l.invariant c.in_ok-value.ensures)
-
-pub returns-clause-objects : goal.returns-clause-objects
-returns-clause-objects c =
-    let l = c.loop-bundle in
     let bundles = c.args.bundles.now in
-    let all : take l.bundle-index bundles ≡ bundles = take_all l.bundle-index bundles (omega arith) in
-    (map view l.list.items, subst (λ them. AllZip IsObjectOf them (map view l.list.items)) all l.invariant, subst (IsInOrder (string_bytes c.in_ok-to_string.field-0)) (view-Array l.list) c.in_ok-to_string.ensures.order)
+    let more = drop (c.loop-bundle.bundle-index + 1) bundles in
+    let next = drop_more bundles c.loop-bundle.bundle-index bundle (omega arith) ∙ ap (λ it. it ∷ more) (sym c.bundle-item.is) in
+    one_object _ _ _ _ _ _ _ c.loop-bundle.is_later bundle c.loop-bundle.invariant next c.in_ok-push_comma.ensures c.in_ok-push_object.ensures
 
 pub returns-clause-text : goal.returns-clause-text
-returns-clause-text c = λ trees are.
-    let l = c.loop-bundle in
-    let bundles = c.args.bundles.now in
-    let all : take l.bundle-index bundles ≡ bundles = take_all l.bundle-index bundles (omega arith) in
-    let each : AllZip IsObjectOf bundles (map view l.list.items) = subst (λ them. AllZip IsObjectOf them (map view l.list.items)) all l.invariant in
-    let whole : view (Array l.list) ≡ array (items_of (objects_of bundles trees)) = view-Array l.list ∙ ap (λ them. array (items_of them)) (the_objects bundles trees (map view l.list.items) are each) in
-    c.in_ok-to_string.ensures.text (ap has_float whole ∙ no_float_objects bundles trees) ∙ ap compact_text whole
+returns-clause-text c =
+    let opened = c.in_ok-push.ensures.bytes ∙ ap₂ (λ a b. a ++ b) c.new-text.ensures.bytes (c.in_ok-push.ensures.ascii (omega arith)) in
+    let closed = c.in_ok-push-2.ensures.bytes ∙ ap (λ l. string_bytes c.loop-bundle.text ++ l) (c.in_ok-push-2.ensures.ascii (omega arith)) in
+    text_is _ _ _ _ _ c.loop-bundle.is_later opened c.loop-bundle.invariant (drop_all c.loop-bundle.bundle-index c.args.bundles.now (omega arith)) closed

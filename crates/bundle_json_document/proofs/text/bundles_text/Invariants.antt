@@ -1,8 +1,8 @@
-use Rattle.std.proofs.Common.{map, take}
-use Rattle.std.specs.List.{AllZip}
-use Rattle.serde_json.specs.View.{view}
-use Rattle.bundle_json_document.specs.Bundles.{IsObjectOf}
+-- What was put in, and what is still to be put in, is the whole.
+use Rattle.std.proofs.Common.{drop, string_bytes}
+use Rattle.bundle_json_document.proofs.Objects.{AreObjects}
 use Rattle.bundle_json_document.proofs.text.bundles_text.Given as goal
 
 abbrev pub invariant-loop-bundle : goal.invariant-loop-bundle
-invariant-loop-bundle l = AllZip IsObjectOf (take l.bundle-index l.bundles) (map view l.list.items)
+invariant-loop-bundle l =
+    AreObjects (string_bytes l.initial.text) (string_bytes l.text) l.bundles (drop l.bundle-index l.bundles) l.is_later

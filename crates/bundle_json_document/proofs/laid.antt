@@ -1,0 +1,3 @@
+-- Each syntax tree is laid out as the JSON form wants it.
+pub mod Shown
+pub mod Modules

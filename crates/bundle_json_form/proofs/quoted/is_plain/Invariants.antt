@@ -1,0 +1,7 @@
+-- The bytes so far need no escapes.
+use Rattle.std.proofs.Common.{◌≡◌, take}
+use Rattle.json.specs.Print.{escape}
+use Rattle.bundle_json_form.proofs.quoted.is_plain.Given as goal
+
+abbrev pub invariant-loop-byte : goal.invariant-loop-byte
+invariant-loop-byte l = escape (take l.byte-index l.bytes) ≡ take l.byte-index l.bytes
