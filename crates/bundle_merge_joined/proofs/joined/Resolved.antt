@@ -187,7 +187,7 @@ module _ (items : List (List Item)) where
           by_number : (e : Bool) → (m == n) ≡ e → SameIdent a b → ⊥
           by_number false e same =
               distinct.others m n item other a b (λ one. false≢true (sym e ∙ eq-eqb m n one)) at
-              there listed its_listed (record { is = is; unless = unless; }) same
+              there listed its_listed (record { is = is; unless = unless }) same
           by_number true e same = by_kind it.by
             where
               items_same : item ≡ other
@@ -282,7 +282,7 @@ module _ (items : List (List Item)) where
       alike m n item other at there a b listed its_listed (is_inner_of is unless)
           (is_inner_of its or) =
           inner-inner m n item other at there a b listed its_listed
-          (record { is = is; unless = unless; }) (record { is = its; unless = or; })
+          (record { is = is; unless = unless }) (record { is = its; unless = or })
       alike m n item other at there a b listed its_listed (is_inner_of is unless)
           (is_outer not_inner outer) =
           let never = inner-outer m n item other at there a b listed its_listed is unless not_inner
