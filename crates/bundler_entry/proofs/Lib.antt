@@ -1,5 +1,6 @@
 pub mod AskedLemmas
 pub mod HookLemmas
+pub mod Known
 pub mod LinkedLemmas
 pub mod PartLemmas
 pub mod SourceLemmas
