@@ -1,4 +1,5 @@
 pub mod AskedLemmas
+pub mod CountLemmas
 pub mod HookLemmas
 pub mod Known
 pub mod LinkedLemmas
