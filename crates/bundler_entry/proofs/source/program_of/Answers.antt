@@ -17,5 +17,5 @@ returns-clause-program c = λ p files sources.
         long = sources.long ∙ sym (ap length ids);
         each = λ place m source at there. sources.each place m source (ap (λ l. slice_get l place) (sym ids) ∙ at) there;
       };
-      count = λ m there. c.count_of_files.ensures m (subst (λ (numbers : List ℕ). Contains numbers m) ids there);
+      count = λ m there. c.count_of_files-count.ensures m (subst (λ (numbers : List ℕ). Contains numbers m) ids there);
     }
