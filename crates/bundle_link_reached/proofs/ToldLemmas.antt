@@ -9,19 +9,19 @@ use Rattle.bundle_rules.specs.Declarations.{Declared}
 use Rattle.bundle_rules.specs.Doubled.{first_doubled}
 use Rattle.bundle_scope_denote.specs.Listed.{place_and_symbol, told_of}
 use Rattle.bundle_scope_denote.specs.declared.table.Doubled.{Doubled}
-use Rattle.bundle_tree_names.specs.FileName.{Name}
+use Rattle.bundle_tree_names.specs.FileName.{Name, real}
 use Rattle.bundle_rules.specs.Statements.{Element, written, own_statements, default_name}
 use Rattle.bundle_rules.specs.Entries.{import_of, imports_of}
 use Rattle.bundle_rules.specs.Program.{Program, tree_of}
 use Rattle.bundle_rules.specs.Tables.{TellsCommonJs}
 use Rattle.bundle_rules.specs.Linking.{IsCommonJs}
 use Rattle.bundle_rules.specs.Meaning.{HasKind, is_es, is_common_js}
-use Rattle.bundle_rules.specs.Faults.{Fault, DoubledDeclaration}
+use Rattle.bundle_rules.specs.Faults.{Fault, DoubledDeclaration, doubled_declaration}
 use Rattle.bundle_link_reached.proofs.DefaultLemmas.{script-unwritten}
 use Rattle.bundle_link_targets.specs.Judged.{IsJudged}
 use Rattle.bundle_link_targets.specs.Meant.{AreModules}
 use Rattle.bundle_link_targets.specs.declared.target.Fault.{Fault as Found}
-use Rattle.bundle_link_reached.specs.First.{IsFirstOf}
+use Rattle.bundle_link_reached.specs.First.{HasNoFault, IsFirstOf}
 use Rattle.bundle_link_reached.proofs.JudgedLemmas.{calls_first, doubled_first, links_first, none_of_all}
 use Rattle.bundle_link_reached.specs.Judged.{numbers_below, HasNoDoubled, IsFirstDoubled, IsReadable, TellsDoubled, TellsFirst, says}
 use Rattle.bundle_link_reached.specs.declared.judging.Told.{Told}
@@ -91,6 +91,15 @@ are_modules q n flags tells is none = record {
     by : (m : ℕ) → m < n → (kind : ModuleKind) × HasKind q m kind → (statement : List Element) (e : Item) → Contains (own_statements (tree_of q m)) statement → Contains statement (written e) → import_of (imports_of (tree_of q m)) default_name ≡ None
     by m within (Es, kind) statement e own there = is.default m (none m Es within kind) statement e own there
     by m within (Cjs, is_common_js common) statement e own there = absurd (script-unwritten (tree_of q m) common.script statement e own there)
+
+-- where no module has a fault, none declares a name twice
+pub none_doubled : (q : Program) (n : ℕ) → HasNoFault q n → HasNoDoubled q n
+none_doubled q n none m kind within is = by (first_doubled kind (tree_of q m)) refl
+  where
+    by : (o : Option Declared) → first_doubled kind (tree_of q m) ≡ o →
+        first_doubled kind (tree_of q m) ≡ None
+    by None e = e
+    by (Some d) e = absurd (none m 2 d.place (real []) _ within (doubled_declaration d is e))
 
 -- ---- what is told
 module _ (q : Program) (n : ℕ) (calls links : Option Found) (first : IsJudged q (numbers_below n) 0 2 calls) where

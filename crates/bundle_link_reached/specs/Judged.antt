@@ -15,8 +15,8 @@ use Rattle.bundle_link_index.specs.Programs.{IsProgramOf}
 use Rattle.bundle_link_index.specs.declared.target.LinkModule.{LinkModule}
 use Rattle.bundle_link_index.specs.declared.target.Setting.{Setting}
 use Rattle.bundle_link_targets.specs.Judged.{fault_says}
-use Rattle.bundle_link_targets.specs.Linked.{IsLinkingOf}
-use Rattle.bundle_link_targets.specs.Meant.{IsModuleTree}
+use Rattle.bundle_link_targets.specs.Linked.{HandsOver, IsLinkingOf}
+use Rattle.bundle_link_targets.specs.Meant.{AreModules, IsModuleTree}
 use Rattle.bundle_link_targets.specs.declared.linking.Linking.{Linking}
 use Rattle.bundle_link_reached.specs.Default.{DeclaresDefaultAlone}
 use Rattle.bundle_link_reached.specs.First.{IsFirstOf, HasNoFault}
@@ -61,9 +61,17 @@ abbrev pub TellsFirst : Program → ℕ → Option Told → Type 0
 TellsFirst q n None = HasNoFault q n
 TellsFirst q n (Some told) = IsFirstOf q n (module_of told) (says told)
 
+-- none of the modules, which stand in their order, has a fault, and what is linked, and what of it is
+-- handed on, is theirs
+pub record AreLinkedAs (q : Program) (n : ℕ) (linking : Linking) : Type 0 where
+  pub faultless : HasNoFault q n
+  pub modules : AreModules q
+  pub linked : IsLinkingOf q linking
+  pub handed : HandsOver q (numbers_below n) linking
+
 -- modules are linked where none has a fault, and else the first is told
 abbrev pub IsJudgedAs : Program → ℕ → Result Linking Told → Type 0
-IsJudgedAs q n (Ok linking) = HasNoFault q n × IsLinkingOf q linking
+IsJudgedAs q n (Ok linking) = AreLinkedAs q n linking
 IsJudgedAs q n (Err told) = TellsFirst q n (Some told)
 
 -- none of the modules before the place declares a name twice

@@ -3,9 +3,12 @@ use Rattle.std.proofs.Common.{◌≡◌, ◌↔◌, ◌⊎◌, inl, inr, ℕ, ze
 use Rattle.std.specs.Prelude.{IfSome, option_map, slice_get, unwrap_or}
 use Rattle.std.specs.Borrow.{Bor}
 use Rattle.std.specs.Option.{option_and_then}
+use Rattle.std.specs.declared.alloc.Global.{Global}
+use Rattle.std.specs.declared.string.String.{String}
 use Rattle.std.proofs.lemmas.Bool.{cases_lt}
 use Rattle.std.proofs.lemmas.List.{length-map}
 use Rattle.std.proofs.lemmas.Option.{none-some, same_Some, slice_get-map, slice_get_within, slice_get_past}
+use Rattle.indexmap.specs.IndexMap.{IndexMap, get_by_text}
 use Rattle.bundle_tree_piece.specs.Item.{Item, item_of}
 use Rattle.bundle_tree_piece.specs.declared.piece.Piece.{Piece}
 use Rattle.bundle_tree_names.specs.FileName.{Name, name_of}
@@ -24,7 +27,9 @@ use Rattle.bundle_link_index.specs.Programs as i
 use Rattle.bundle_link_index.specs.Said.{HasEachOnce}
 use Rattle.bundle_link_index.specs.declared.target.LinkModule.{LinkModule}
 use Rattle.bundle_link_index.specs.declared.target.Setting.{Setting}
+use Rattle.bundle_link_targets.specs.Linked.{HandsOver}
 use Rattle.bundle_link_targets.specs.Meant.{IsModuleTree}
+use Rattle.bundle_link_targets.specs.declared.linking.Linking.{Linking}
 use Rattle.bundle_link_reached.proofs.PlaceLemmas.{no-tree}
 use Rattle.bundle_link_reached.specs.Default.{DeclaresDefaultAlone}
 use Rattle.bundle_link_reached.specs.Alike.{IsAlike, IsAt}
@@ -39,15 +44,16 @@ use Rattle.bundle_link_reached.proofs.RequestLemmas.{requests_to}
 use Rattle.bundle_link_reached.proofs.NumbersLemmas.{there_is}
 use Rattle.bundle_link_reached.proofs.ToldLemmas.{all_below, only_below}
 use Rattle.bundle_link_reached.specs.Files.{numbers_of}
-use Rattle.bundle_link_reached.specs.Judged.{AreListsOf, AreReadOf, IsReadable, numbers_below, module_of, says}
+use Rattle.bundle_link_reached.specs.Judged.{AreLinkedAs, AreListsOf, AreReadOf, IsReadable, numbers_below, module_of, says}
 use Rattle.bundle_link_reached.specs.declared.judging.Told.{Told}
 use Rattle.bundle_link_reached.specs.declared.reached.Reached.{Reached}
 use Rattle.bundler_entry.specs.Source.{IsSourceOf}
-use Rattle.bundler_entry.specs.Linked.{AreLists, AreParts, HasPlace, HasPlaces, IsCallOf, IsFileAt, IsReachedIn, TellsFileAt, ids_of}
+use Rattle.bundler_entry.specs.Linked.{AreByPlaces, AreLinkedIn, AreLists, AreParts, HasPlace, HasPlaces, IsCallOf, IsFileAt, IsReachedIn, TellsFileAt, ids_of, source_in}
 use Rattle.bundler_entry.specs.Unlinked.{error_of}
 use Rattle.bundler_entry.specs.declared.call.Call.{Call}
 use Rattle.bundler_entry.specs.declared.source.Source.{Source}
 use Rattle.bundler_entry.specs.declared.unlinked.Unlinked.{Unlinked}
+use Rattle.bundler_entry.proofs.SourceLemmas.{read_at}
 
 module _ (p : Program) (entry : ℕ) (call : Call) (w : IsCallOf p entry call) (reached : Reached) (r : IsReachedIn p call reached) where
   abbrev ids : List ℕ
@@ -242,8 +248,50 @@ module _ (p : Program) (entry : ℕ) (call : Call) (w : IsCallOf p entry call) (
             by (Some x) at = let it = there_is parts m (let within = slice_get_within list m x at in omega (arith, within, long_parts)) in absurd (none-some it.0 (sym none ∙ it.1))
 
     -- where none of the modules by places has a fault, the program has none
-    pub none_of_program : HasNoFault q (length parts) → IsFaultlessProgram p
+    none_of_program : HasNoFault q (length parts) → IsFaultlessProgram p
     none_of_program none = faultless_of_program p q list alike r.is_list r.reached (subst (HasNoFault q) long_parts none)
+
+    -- what was read of the module at a place is that of the program by places
+    sources_at : (k : ℕ) (source : Source) → source_in call reached k ≡ Some source →
+        IsSourceOf q k source
+    sources_at k source is = by (slice_get places k) refl
+      where
+        by : (o : Option ℕ) → slice_get places k ≡ o → IsSourceOf q k source
+        by None none = absurd (none-some source (sym (ap (option_and_then (slice_get sources)) none) ∙ is))
+        by (Some place) at =
+            let m = there_is list k (let within = slice_get_within places k place at in omega (arith, within, long_places)) in
+            let number = place_of k m.0 m.1 in
+            let same : place ≡ number.0 = same_Some place number.0 (sym at ∙ number.1) in
+            let its : slice_get sources number.0 ≡ Some source = ap (slice_get sources) (sym same) ∙ sym (ap (option_and_then (slice_get sources)) at) ∙ is in
+            read_at p q m.0 k source refl (ap (option_and_then p.modules) (sym m.1))
+            (w.program.sources.each number.0 m.0 source number.2 its)
+
+    -- texts lead as it is noted
+    leads_at : (k : ℕ) (its : IndexMap (String Global) ℕ _) (s : Text) →
+        slice_get reached.leads.items k ≡ Some its → q.leads k s ≡ get_by_text its s
+    leads_at k its s at =
+        let part = there_is parts k (let within = slice_get_within reached.leads.items k its at in omega (arith, within, r.long, long_parts)) in
+        let same = same_Some part.0.leads.now its (sym (are.each k part.0 part.1).leads ∙ at) in
+        ap (λ o. by_lead o s) part.1 ∙ ap (λ (l : IndexMap (String Global) ℕ _). get_by_text l s) same
+
+    by_places : AreByPlaces p q call reached
+    by_places = record {
+      alike = alike;
+      modules = λ m k at. ap (option_and_then p.modules) (sym at);
+      sources = sources_at;
+      leads = leads_at;
+    }
+
+    -- what is linked by places is linked of the program
+    pub linked_in : (linking : Linking) → AreLinkedAs q (length parts) linking → AreLinkedIn p call reached linking
+    linked_in linking its = record {
+      faultless = none_of_program its.faultless;
+      places = q;
+      by_places = by_places;
+      modules = its.modules;
+      linked = its.linked;
+      handed = subst (λ (k : ℕ). HandsOver q (numbers_below k) linking) long_parts its.handed;
+    }
 
     -- a refusal that tells of the first fault by places tells of the first of the program
     pub first_told : (told : Told) (refusal : Unlinked) → IsFirstOf q (length parts) (module_of told) (says told) → TellsFileAt call reached told refusal → IfSome (fault_of (error_of refusal)) (IsFirstProgramFault p)

@@ -1,21 +1,29 @@
 -- When the modules that an entry reaches are those of a program, and linked.
-use Rattle.std.specs.Prelude.{◌≡◌, ℕ, suc, ◌<◌, List, Some, Contains, IfSome, length, map, slice_get}
+use Rattle.std.specs.Prelude.{◌≡◌, ℕ, suc, ◌<◌, List, Option, Some, Contains, IfSome, length, map, slice_get}
 use Rattle.std.specs.Borrow.{Bor}
+use Rattle.std.specs.Option.{option_and_then}
 use Rattle.std.specs.declared.alloc.Global.{Global}
 use Rattle.std.specs.declared.string.String.{String}
+use Rattle.indexmap.specs.IndexMap.{IndexMap, get_by_text}
 use Rattle.bundle_tree_names.specs.FileName.{Name, name_of}
 use Rattle.bundle_tree_names.specs.declared.file_name.FileName.{FileName}
 use Rattle.bundle_tree_piece.specs.declared.piece.Piece.{Piece}
-use Rattle.bundle_rules.specs.Program.{Program}
+use Rattle.bundle_rules.specs.Nodes.{Text}
+use Rattle.bundle_rules.specs.Program.{Program, module_of}
 use Rattle.bundle_rules.specs.Faults.{IsFaultlessProgram, fault_of}
 use Rattle.bundle_link_index.specs.declared.target.LinkModule.{LinkModule}
 use Rattle.bundle_link.specs.Programs.{is_call}
 use Rattle.bundle_link.specs.Refusals.{Links}
-use Rattle.bundle_link_reached.specs.Judged.{module_of, says}
+use Rattle.bundle_link_targets.specs.Linked.{HandsOver, IsLinkingOf}
+use Rattle.bundle_link_targets.specs.Meant.{AreModules}
+use Rattle.bundle_link_targets.specs.declared.linking.Linking.{Linking}
+use Rattle.bundle_link_reached.specs.Alike.{IsAlike, IsAt}
+use Rattle.bundle_link_reached.specs.Judged.{module_of as module_of_fault, numbers_below, says}
 use Rattle.bundle_link_reached.specs.Reached.{IsReachedOf}
 use Rattle.bundle_link_reached.specs.declared.judging.Told.{Told}
 use Rattle.bundle_link_reached.specs.declared.reached.Reached.{Reached}
-use Rattle.bundler_entry.specs.Source.{IsProgramOf}
+use Rattle.bundle_order_sort.specs.Plan.{IsPlanOf}
+use Rattle.bundler_entry.specs.Source.{IsProgramOf, IsSourceOf}
 use Rattle.bundler_entry.specs.Unlinked.{error_of}
 use Rattle.bundler_entry.specs.declared.call.Call.{Call}
 use Rattle.bundler_entry.specs.declared.linked.Linked.{Linked}
@@ -38,10 +46,38 @@ pub record IsCallOf (p : Program) (entry : ℕ) (call : Call) : Type 0 where
 abbrev pub IsReachedIn : Program → Call → Reached → Type 0
 IsReachedIn p call reached = IsReachedOf p (ids_of call) reached
 
--- they are, and have no fault
+-- what was read of module k
+abbrev pub source_in : Call → Reached → ℕ → Option Source
+source_in call reached k =
+    option_and_then (slice_get call.program.now.sources.items) (slice_get reached.places.items k)
+
+-- the modules by their places on the list are the second program: the modules of the first stand
+-- there with what was read of them, and its texts lead as it is noted
+pub record AreByPlaces (p q : Program) (call : Call) (reached : Reached) : Type 0 where
+  pub alike : IsAlike p q (IsAt reached.list.items)
+  pub modules : (m k : ℕ) → IsAt reached.list.items m k → module_of p m ≡ module_of q k
+  pub sources : (k : ℕ) (source : Source) →
+      source_in call reached k ≡ Some source →
+      IsSourceOf q k source
+  pub leads : (k : ℕ) (its : IndexMap (String Global) ℕ _) (s : Text) →
+      slice_get reached.leads.items k ≡ Some its →
+      q.leads k s ≡ get_by_text its s
+
+-- no module of a program has a fault, and this is what its modules, by their places on the list, are
+-- linked to
+pub record AreLinkedIn (p : Program) (call : Call) (reached : Reached) (linking : Linking) : Type 0 where
+  pub faultless : IsFaultlessProgram p
+  pub places : Program
+  pub by_places : AreByPlaces p places call reached
+  pub modules : AreModules places
+  pub linked : IsLinkingOf places linking
+  pub handed : HandsOver places (numbers_below (length reached.list.items)) linking
+
+-- the modules that the entry reaches are linked, and the blocks are those of the modules
 pub record IsLinkedEntry (p : Program) (call : Call) (linked : Linked) : Type 0 where
   pub reached : IsReachedIn p call linked.reached
-  pub faultless : IsFaultlessProgram p
+  pub links : AreLinkedIn p call linked.reached linked.linking
+  pub planned : IsPlanOf call.program.now.files.graph p.entry linked.reached.list.items linked.plan
 
 -- of module k there is what was read
 pub record HasPlace (sources : List Source) (reached : Reached) (k : ℕ) : Type 0 where
@@ -90,4 +126,4 @@ IsFileAt call reached k file = (place : ℕ) × (slice_get reached.places.items 
 
 -- the refusal tells what is told of the file of its module
 abbrev pub TellsFileAt : Call → Reached → Told → Unlinked → Type 0
-TellsFileAt call reached told refusal = (file : FileName × ℕ) → IsFileAt call reached (module_of told) file → fault_of (error_of refusal) ≡ Some (says told (name_of file.0))
+TellsFileAt call reached told refusal = (file : FileName × ℕ) → IsFileAt call reached (module_of_fault told) file → fault_of (error_of refusal) ≡ Some (says told (name_of file.0))

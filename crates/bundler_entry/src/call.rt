@@ -3,6 +3,7 @@
 ghost use Rattle.std.specs.Prelude.{◌≡◌, option_copied, option_map, slice_get};
 ghost use Rattle.std.specs.Map.Iter.{deref_pair};
 ghost use Rattle.std.specs.Option.{option_and_then};
+ghost use Rattle.bundler_entry.specs.Linked.{source_in};
 
 use crate::source::{Program, Source};
 use bundle_link_reached::Reached;
@@ -24,9 +25,7 @@ pub fn source_at<'t, 'p: 't, 'x>(
     reached: &Reached,
     module: usize,
 ) -> Option<&'t Source<'x>>
-    ensures { option_copied result
-        ≡ option_and_then (slice_get call.now.program.now.sources.items)
-        (slice_get reached.now.places.items «module») }
+    ensures { option_copied result ≡ source_in call.now reached.now «module» }
 {
     call.program.sources.get(*reached.places.get(module)?)
 }

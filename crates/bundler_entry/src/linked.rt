@@ -2,10 +2,10 @@
 
 ghost use Rattle.std.specs.Prelude.{◌≡◌, ℕ, suc, Some, IfOk, IfErr, IfSome, IsSome, length};
 ghost use Rattle.bundle_tree_names.specs.FileName.{name_of};
-ghost use Rattle.bundle_rules.specs.Faults.{IsFirstProgramFault, IsFaultlessProgram, fault_of};
+ghost use Rattle.bundle_rules.specs.Faults.{IsFirstProgramFault, fault_of};
 ghost use Rattle.bundle_rules.specs.Program as program;
 ghost use Rattle.bundle_link_reached.specs.Judged.{says};
-ghost use Rattle.bundler_entry.specs.Linked.{AreLists, AreParts, HasPlaces, IsCallOf, IsLinkedEntry, IsPartAt, IsReachedIn, TellsFileAt, ids_of};
+ghost use Rattle.bundler_entry.specs.Linked.{AreLinkedIn, AreLists, AreParts, HasPlaces, IsCallOf, IsLinkedEntry, IsPartAt, IsReachedIn, TellsFileAt, ids_of};
 ghost use Rattle.bundler_entry.specs.Unlinked.{error_of};
 
 use crate::call::{Call, file_at};
@@ -72,7 +72,9 @@ fn linking_of<'p, 'x>(
 ) -> Result<Linking<'x>, Unlinked>
     ensures linked { IfOk result (λ linking.
         (p : program.Program) (entry : ℕ) →
-        IsCallOf p entry call.now → IsReachedIn p call.now reached.now → IsFaultlessProgram p) }
+        IsCallOf p entry call.now →
+        IsReachedIn p call.now reached.now →
+        AreLinkedIn p call.now reached.now linking) }
     ensures refused { IfErr result (λ unlinked.
         (p : program.Program) (entry : ℕ) →
         IsCallOf p entry call.now →

@@ -1,9 +1,11 @@
 use Rattle.std.proofs.Common.{◌≡◌, ◌-◌, ℕ, List, Option, Result, length, sym, ◌∙◌, subst}
 use Rattle.bundle_link_index.specs.Programs.{IsProgramOf}
-use Rattle.bundle_link_targets.specs.Linked.{IsJudgedBy}
+use Rattle.bundle_link_index.specs.Leads.{flagged}
+use Rattle.bundle_link_targets.specs.Linked.{HandsOver, IsJudgedBy}
 use Rattle.bundle_link_targets.specs.declared.linking.Linking.{Linking}
 use Rattle.bundle_link_reached.specs.Judged.{IsJudgedAs, IsReadable, TellsFirst, numbers_below}
 use Rattle.bundle_link_reached.specs.declared.judging.Told.{Told}
+use Rattle.bundle_link_reached.proofs.ToldLemmas.{are_modules, none_doubled}
 use Rattle.bundle_link_reached.proofs.judging.judged.Goals as goal
 use Rattle.bundle_link_reached.proofs.judging.judged.Goals.{in-Some, in-None}
 
@@ -21,7 +23,12 @@ returns c = λ q w.
     let by_lists = subst (λ (k : ℕ). IsJudgedBy q (numbers_below k) linking) (sym w.long) by_list in
     let first = c.in_ok-fault.ensures q (subst (IsReadable q) (sym w.long) w.readable) w.same linked by_lists in
     let told : TellsFirst q n c.in_ok-fault.fault = subst (λ (k : ℕ). TellsFirst q k c.in_ok-fault.fault) w.long first in
+    let over = subst (λ (list : List ℕ). HandsOver q list linking) list_is (c.in_ok-linking.ensures.handed q handed) in
     elim c.match-fault.branch [
       | in-Some b ↦ subst (λ (r : Result Linking Told). IsJudgedAs q n r) (sym b.result-is) (subst (λ (o : Option Told). TellsFirst q n o) b.in-Some.is told)
-      | in-None b ↦ subst (λ (r : Result Linking Told). IsJudgedAs q n r) (sym b.result-is) (subst (λ (o : Option Told). TellsFirst q n o) b.in-None.is told, linked)
+      | in-None b ↦ (
+          let none = subst (λ (o : Option Told). TellsFirst q n o) b.in-None.is told in
+          let are = are_modules q n (λ m. flagged linking.common_js.items m) linked.common_js w.readable (none_doubled q n none) in
+          subst (λ (r : Result Linking Told). IsJudgedAs q n r) (sym b.result-is)
+          (record { faultless = none; modules = are; linked = linked; handed = over }))
     ]

@@ -20,7 +20,7 @@ returns-in_err-answers-clause-refused g c =
     let p = program_of kept (settings_of c.args.call.now.config.now) c.args.entry in
     let is_call = call_of kept list c.args.call.now c.args.entry read there in
     let its = c.in_ok-linked.ensures.linked p is_call in
-    refused_hook _ _ p c.in_ok-linked.linked.reached.list.items c.in_err-answers.field-0.0 its.faultless its.reached.is_list (c.in_err-answers.ensures.refused p c.args.entry is_call its))
+    refused_hook _ _ p c.in_ok-linked.linked.reached.list.items c.in_err-answers.field-0.0 its.links.faultless its.reached.is_list (c.in_err-answers.ensures.refused p c.args.entry is_call its))
 
 pub returns-clause-accepted : goal.returns-clause-accepted
 returns-clause-accepted g c =
@@ -28,7 +28,7 @@ returns-clause-accepted g c =
     let p = program_of kept (settings_of c.args.call.now.config.now) c.args.entry in
     let is_call = call_of kept list c.args.call.now c.args.entry read there in
     let its = c.in_ok-linked.ensures.linked p is_call in
-    accepts _ _ p c.in_ok-linked.linked.reached.list.items its.faultless its.reached.is_list (c.in_ok-answers.ensures.answered p c.args.entry is_call its))
+    accepts _ _ p c.in_ok-linked.linked.reached.list.items its.links.faultless its.reached.is_list (c.in_ok-answers.ensures.answered p c.args.entry is_call its))
 
 pub returns-clause-refused : goal.returns-clause-refused
 returns-clause-refused g c =
@@ -36,4 +36,4 @@ returns-clause-refused g c =
     let p = program_of kept (settings_of c.args.call.now.config.now) c.args.entry in
     let is_call = call_of kept list c.args.call.now c.args.entry read there in
     let its = c.in_ok-linked.ensures.linked p is_call in
-    refused_merging _ _ p unlinked (accepts _ _ p c.in_ok-linked.linked.reached.list.items its.faultless its.reached.is_list (c.in_ok-answers.ensures.answered p c.args.entry is_call its)) may) c.module_of.ensures
+    refused_merging _ _ p unlinked (accepts _ _ p c.in_ok-linked.linked.reached.list.items its.links.faultless its.reached.is_list (c.in_ok-answers.ensures.answered p c.args.entry is_call its)) may) c.module_of.ensures

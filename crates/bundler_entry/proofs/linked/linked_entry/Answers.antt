@@ -1,5 +1,7 @@
 -- What is linked is the entry's, and a refusal is of its program.
+use Rattle.std.proofs.Common.{ℕ, List, sym, subst}
 use Rattle.std.proofs.lemmas.Result.{err_from_is_err_and}
+use Rattle.bundle_order_sort.specs.Plan.{IsPlanOf}
 use Rattle.bundler_entry.proofs.linked.linked_entry.Goals as goal
 
 pub returns-in_err-linking-clause-refused : goal.returns-in_err-linking-clause-refused
@@ -15,4 +17,10 @@ returns-in_err-plan-clause-refused c =
 pub returns-clause-linked : goal.returns-clause-linked
 returns-clause-linked c = λ p w.
     let reached = c.in_ok-reached.ensures p w.program.files w.begins w.there in
-    record { reached = reached; faultless = c.in_ok-linking.ensures.linked p c.args.entry w reached }
+    record {
+      reached = reached;
+      links = c.in_ok-linking.ensures.linked p c.args.entry w reached;
+      planned =
+          subst (λ (entry : ℕ). IsPlanOf c.args.call.now.program.now.files.graph entry c.in_ok-reached.reached.list.items c.in_ok-plan.plan) (sym w.begins)
+          (subst (λ (owners : List ℕ). IsPlanOf c.args.call.now.program.now.files.graph c.args.entry owners c.in_ok-plan.plan) c.deref.ensures.value c.in_ok-plan.ensures);
+    }

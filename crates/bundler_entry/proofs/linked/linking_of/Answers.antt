@@ -8,7 +8,7 @@ use Rattle.bundle_link_reached.specs.Judged.{AreReadOf, IsJudgedAs}
 use Rattle.bundle_link_reached.specs.declared.judging.Told.{Told}
 use Rattle.bundler_entry.specs.Linked.{AreLists, AreParts, HasPlaces}
 use Rattle.bundler_entry.specs.declared.source.Source.{Source}
-use Rattle.bundler_entry.proofs.LinkedLemmas.{first_told, has_places, is_read, none_of_program, by_place}
+use Rattle.bundler_entry.proofs.LinkedLemmas.{by_place, first_told, has_places, is_read, linked_in}
 use Rattle.bundler_entry.proofs.linked.linking_of.Goals as goal
 
 pub returns-in-Ok-clause-linked : goal.returns-in-Ok-clause-linked
@@ -28,7 +28,8 @@ returns-in-Ok-clause-linked c = λ p entry w r.
     let handed = subst (λ (ms : List LinkModule). AreReadOf q ms lists setting) (sym c.deref.ensures.value) read in
     let found = c.in_ok-found.ensures q (subst (λ (ls : List (Bor (List Piece))). AreReadOf q c.deref.result.now ls setting) (sym c.deref-2.ensures.value) handed) in
     let told = subst (λ (ms : List LinkModule). IsJudgedAs q (length ms) c.in_ok-found.found) c.deref.ensures.value found in
-    none_of_program p entry call w reached r n refl parts are (subst (λ (f : Result Linking Told). IsJudgedAs q (length parts) f) c.in-Ok.is told).0
+    linked_in p entry call w reached r n refl parts are c.in-Ok.linking
+    (subst (λ (f : Result Linking Told). IsJudgedAs q (length parts) f) c.in-Ok.is told)
 
 pub returns-clause-refused : goal.returns-clause-refused
 returns-clause-refused c = λ p entry w r.

@@ -1,5 +1,5 @@
 -- What was noted of the files is that of the program.
-use Rattle.std.proofs.Common.{ℕ, ap, sym, ◌∙◌, length}
+use Rattle.std.proofs.Common.{ℕ, List, Contains, ap, sym, ◌∙◌, length, subst}
 use Rattle.std.specs.Borrow.{Bor}
 use Rattle.indexmap.specs.IndexMap.{IndexMap}
 use Rattle.bundle_tree_names.specs.declared.file_name.FileName.{FileName}
@@ -17,4 +17,5 @@ returns-clause-program c = λ p files sources.
         long = sources.long ∙ sym (ap length ids);
         each = λ place m source at there. sources.each place m source (ap (λ l. slice_get l place) (sym ids) ∙ at) there;
       };
+      count = λ m there. c.count_of_files-count.ensures m (subst (λ (numbers : List ℕ). Contains numbers m) ids there);
     }

@@ -20,5 +20,7 @@ pub returns : goal.returns
 returns c = λ p m links there.
     let list = ap (map item_of) c.as_slice-2.ensures.value ∙ c.in_ok-pieces.ensures in
     read_as p m c.args.config.now c.requires.0 c.args.loaded.now _ links there refl c.in_ok-pieces.ensures
+    c.as_slice-items.ensures.value
+    (subst (λ xs. IsTable BySymbol Es (map item_of xs) c.in_ok-names.names) c.as_slice.ensures.value c.in_ok-names.ensures)
     (subst (λ tree. AreTablesOf c.args.config.now c.requires.0 tree c.in_ok-tables.tables) list (c.in_ok-tables.ensures.given c.requires.0))
     (c.in_ok-tables.ensures.meta ∙ ap has_import_meta list)

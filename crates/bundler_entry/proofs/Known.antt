@@ -1,0 +1,140 @@
+-- What is known of the program of an entry that is linked, of the same program by the places of its
+-- modules, and what is linked and planned of that.
+use Rattle.std.proofs.Common.{◌≡◌, ℕ, Bool, zero, List, Option, Some, length, map, refl, sym, ap, ◌∙◌}
+use Rattle.std.specs.Prelude.{option_map, slice_get}
+use Rattle.std.specs.Option.{option_and_then}
+use Rattle.std.proofs.lemmas.Option.{same_Some, slice_get-map}
+use Rattle.bundle_tree_names.specs.declared.file_name.FileName.{FileName}
+use Rattle.bundle_tree_piece.specs.Item.{Item}
+use Rattle.bundle_order_graph.specs.Modules.{Modules}
+use Rattle.bundle_order_sort.specs.Plan.{IsPlanOf}
+use Rattle.bundle_rules.specs.Entries.{has_import_meta}
+use Rattle.bundle_rules.specs.Statements.{own_statements}
+use Rattle.bundle_rules.specs.Program.{Program, tree_of, IsReached}
+use Rattle.bundle_rules.specs.Bundle.{Hooks}
+use Rattle.bundle_rules.specs.Kept.{local_context}
+use Rattle.bundle_link_reached.specs.Files.{number_of, numbers_of}
+use Rattle.bundle_link_reached.proofs.NumberLemmas.{got}
+use Rattle.bundle_merge_joined.specs.joined.Joined.{joined}
+use Rattle.bundle_merge_whole.specs.planned.Blocks.{block_of}
+use Rattle.bundle_merge_whole.specs.planned.Decided.{Decided, numbers_from, plan_of}
+use Rattle.bundle_merge_whole.specs.planned.Placed.{id_at}
+use Rattle.bundle_merge_whole.specs.made.Given.{Contexts, TopOf}
+use Rattle.bundle_merge_whole.specs.made.Made.{AreMade}
+use Rattle.bundle_merge_whole.specs.made.Alone.{TellApart}
+use Rattle.bundle_merge_whole.specs.moved.Renumbered.{cause_at}
+use Rattle.bundle_merge_whole.specs.sound.Known.{AreKnown, IsByPlaces}
+use Rattle.bundle_merge_whole.specs.sound.Decided.{AreLinkedBy, AreTold, decided_by}
+use Rattle.bundle_merge_whole.proofs.finished.Bundles.{IsMergedRight}
+use Rattle.bundle_merge_whole.proofs.moved.Owed.{AreMoved}
+use Rattle.bundle_merge_whole.proofs.together.Known.{known-right}
+use Rattle.bundle_merge_whole.proofs.sound.Decided.{linked-by}
+use Rattle.bundle_merge_whole.proofs.sound.Noted.{graph-noted, leads-all}
+use Rattle.bundler_entry.specs.Linked.{IsCallOf, IsFileAt, IsLinkedEntry, source_in}
+use Rattle.bundler_entry.specs.Source.{IsSourceOf}
+use Rattle.bundler_entry.specs.declared.call.Call.{Call}
+use Rattle.bundler_entry.specs.declared.linked.Linked.{Linked}
+use Rattle.bundler_entry.specs.declared.source.Source.{Source}
+use Rattle.bundler_entry.proofs.LinkedLemmas.{place_of, source_of}
+
+module _ (p : Program) (entry : ℕ) (call : Call) (w : IsCallOf p entry call) (linked : Linked) (l : IsLinkedEntry p call linked) where
+  -- the modules in the order of the list, their requests, and the program by their places
+  abbrev pub ids : List ℕ
+  ids = linked.reached.list.items
+
+  abbrev pub graph : Modules
+  graph = call.program.now.files.graph
+
+  abbrev pub by_place : Program
+  by_place = l.links.places
+
+  -- what was read of a reached module
+  its-source : (m : ℕ) → IsReached p m → (source : Source) × IsSourceOf p m source
+  its-source m reached =
+      let k = got ids m ((l.reached.reached m).1 reached) in
+      let place = place_of p entry call w linked.reached l.reached k.0 m k.1 in
+      let source = source_of p entry call w linked.reached l.reached place.0 m place.2 in
+      (source.0, source.2)
+
+  -- something was read of the module at each place of the list, which is that of the second program
+  pub source-there : (k m : ℕ) → slice_get ids k ≡ Some m → (source : Source)
+      × (source_in call linked.reached k ≡ Some source) × IsSourceOf by_place k source
+  source-there k m at =
+      let place = place_of p entry call w linked.reached l.reached k m at in
+      let source = source_of p entry call w linked.reached l.reached place.0 m place.2 in
+      let there : source_in call linked.reached k ≡ Some source.0 =
+      ap (option_and_then (slice_get call.program.now.sources.items)) place.1 ∙ source.1 in
+      (source.0, there, l.links.by_places.sources k source.0 there)
+
+  -- the file at that place has the module's number
+  pub number-there : (k m : ℕ) → slice_get ids k ≡ Some m → (file : FileName × ℕ) →
+      IsFileAt call linked.reached k file → file.1 ≡ m
+  number-there k m at file its =
+      let place = place_of p entry call w linked.reached l.reached k m at in
+      let same : its.0 ≡ place.0 = same_Some its.0 place.0 (sym its.1 ∙ place.1) in
+      let files = call.program.now.files.files.now in
+      same_Some file.1 m
+      (sym (slice_get-map number_of files.entries its.0 ∙ ap (option_map number_of) its.2)
+      ∙ ap (slice_get (numbers_of files)) same
+      ∙ ap (λ (numbers : List ℕ). slice_get numbers place.0) (sym w.program.files.ids)
+      ∙ place.2)
+
+  -- the second program is the first by places
+  pub are-places : IsByPlaces p by_place ids graph
+  are-places = record {
+    is_list = l.reached.is_list;
+    alike = l.links.by_places.alike;
+    graph = graph-noted p call.program.now.files w.program.files linked.reached l.reached;
+  }
+
+  -- no fault is there, each request leads to a module, and trees are fit
+  pub are-known : AreKnown p by_place ids
+  are-known = record {
+    is_list = l.reached.is_list;
+    faultless = l.links.faultless;
+    trees = λ m reached. (its-source m reached).1.faultless;
+    leads = leads-all p call.program.now.files w.program.files linked.reached l.reached;
+    fit = record { each = λ m reached. (its-source m reached).1.fit };
+    alike = l.links.by_places.alike;
+    modules = l.links.modules;
+  }
+
+  -- the modules of the second program are those of the first
+  pub are-moved : AreMoved p by_place ids
+  are-moved = record {
+    alike = l.links.by_places.alike;
+    modules = l.links.by_places.modules;
+  }
+
+  -- they are linked, whatever tells which of them have an `import.meta`, and how many statements of
+  -- its own each has
+  pub are-linked : (meta : ℕ → Bool) (count : ℕ → ℕ) → AreTold by_place (length ids) meta count →
+      AreLinkedBy by_place (length ids) linked.linking meta count
+  are-linked meta count told =
+      linked-by p by_place ids graph are-places linked.linking meta count l.links.linked
+      l.links.handed l.links.modules told
+
+  -- which is so of what their trees say
+  pub are-told : AreTold by_place (length ids) (λ k. has_import_meta (tree_of by_place k))
+      (λ k. length (own_statements (tree_of by_place k)))
+  are-told = record { meta_told = λ k below. refl; counted = λ k below. refl }
+
+  -- the plan is that of the list
+  pub is-planned : IsPlanOf graph p.entry ids linked.plan
+  is-planned = l.planned
+
+  -- what is made of the modules by their places, as they are linked and planned, is merged right
+  module _ (meta : ℕ → Bool) (count : ℕ → ℕ) (told : AreTold by_place (length ids) meta count) (hooks : Hooks) (context : Contexts) (answers : ℕ → Option (List Item)) where
+    abbrev pub decided : Decided
+    decided =
+        decided_by linked.linking meta count (length ids) (map block_of linked.plan.blocks.items)
+
+    pub made-right : (orders : List (List ℕ)) (items : List (List Item)) →
+        AreMade by_place hooks (numbers_from zero (length ids)) context answers decided orders
+        items → TellApart by_place answers context →
+        ((k : ℕ) → IsReached by_place k → context (TopOf k) ≡ local_context (id_at ids k)) →
+        IsMergedRight p hooks (map (cause_at ids) (plan_of decided orders)) (joined items)
+    made-right orders items made apart locals =
+        known-right p by_place ids graph are-places are-known are-moved linked.linking meta count
+        (are-linked meta count told) linked.plan l.planned hooks context answers orders items made
+        apart locals

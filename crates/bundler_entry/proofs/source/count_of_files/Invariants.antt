@@ -1,0 +1,5 @@
+use Rattle.bundler_entry.proofs.CountLemmas.{IsAboveSoFar}
+use Rattle.bundler_entry.proofs.source.count_of_files.Given as goal
+
+abbrev pub invariant-loop-id : goal.invariant-loop-id
+invariant-loop-id l = IsAboveSoFar l.files.entries l.id-iterator l.count
