@@ -1,10 +1,8 @@
 -- What is made of modules that take nothing from outside is, with whatever identifiers, a module of
 -- statements, with perhaps a list of exports behind them.
-use Rattle.std.proofs.Common.{◌≡◌, inl, inr, ℕ, suc, ◌+◌, ◌<◌, Bool, true, false, List, [], ◌∷◌, ◌++◌, Option, Some, None, Contains, length, append-nil, append_assoc, refl, ap, sym, ◌∙◌, subst, arith, codes}
-use Rattle.std.specs.Prelude.{slice_get, if◌then◌else◌}
+use Rattle.std.proofs.Common.{◌≡◌, ℕ, Bool, true, false, List, [], ◌∷◌, ◌++◌, Option, Some, None, Contains, length, append-nil, append_assoc, refl, ap, sym, ◌∙◌, subst}
 use Rattle.std.specs.List.{AllZip, AllByRecursion}
 use Rattle.std.proofs.lemmas.Bool.{false≢true}
-use Rattle.std.proofs.lemmas.List.Elements.{Contains-append_left}
 use Rattle.bundle_tree_piece.specs.Item as h
 use Rattle.bundle_tree_piece.specs.Item.{Item, Head}
 use Rattle.bundle_rules.specs.Nodes.{Text}
@@ -12,17 +10,15 @@ use Rattle.bundle_rules.specs.Sorting.{flat}
 use Rattle.bundle_rules.specs.Idents.{Ident, idents}
 use Rattle.bundle_rules.specs.Rebuilds.{changes_to, with_idents}
 use Rattle.bundle_rules.specs.Callable.{IsBack, nothing}
-use Rattle.bundle_rules.specs.Program.{Program, tree_of, IsReached}
+use Rattle.bundle_rules.specs.Program.{Program}
 use Rattle.bundle_rules.specs.Bundle.{Cause, Own, ImportsNames, ImportsWhole, ImportsNothing, Helps, Defines, Loads, HoldsMeta, HoldsNamespace, Stars, Exports, AsModule, Hooks, IsDue}
 use Rattle.bundle_rules.specs.Bundle as due
-use Rattle.bundle_tree_places.specs.Edits.{node}
 use Rattle.bundle_scope_renamed.specs.fit.Sorts.{AnItem, AStmt}
 use Rattle.bundle_scope_renamed.specs.fit.Fits.{IsFit}
 use Rattle.bundle_scope_renamed.proofs.fit.Rows.{last}
 use Rattle.bundle_merge_injected.specs.Listed as l
 use Rattle.bundle_merge_joined.specs.joined.Joined.{joined}
 use Rattle.bundle_merge_joined.proofs.joined.Paths.{flat-append}
-use Rattle.bundle_merge_meaning.specs.noted.Stated.{states_itself}
 use Rattle.bundle_merge_meaning.specs.walked.Renaming.{KeepsText}
 use Rattle.bundle_merge_whole.specs.planned.Decided.{one_if}
 use Rattle.bundle_merge_whole.specs.made.Given.{Contexts}

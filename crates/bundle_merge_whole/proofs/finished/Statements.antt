@@ -1,5 +1,5 @@
 -- Statements with other identifiers are statements still, and a list of exports is one still.
-use Rattle.std.proofs.Common.{◌≡◌, ◌&&◌, Bool, true, false, not, ℕ, List, [], ◌∷◌, ◌++◌, Option, Some, None, bytes_eq, codes, flat_map, refl, ap, sym, ◌∙◌, subst}
+use Rattle.std.proofs.Common.{◌≡◌, Bool, true, false, not, ℕ, List, [], ◌∷◌, ◌++◌, Option, Some, None, bytes_eq, codes, flat_map, refl, ap, sym, ◌∙◌, subst}
 use Rattle.std.specs.Prelude.{drop, if◌then◌else◌}
 use Rattle.std.specs.List.{list_all, AllZip, AllByRecursion}
 use Rattle.std.proofs.lemmas.Bool.{and_parts, and_from}
@@ -15,7 +15,7 @@ use Rattle.bundle_rules.specs.Injected.{is_ascii_identifier}
 use Rattle.bundle_rules.specs.Rebuilds.{Change, spells_out, plain_key, key_in_object}
 use Rattle.bundle_rules.specs.Sorting.{flat}
 use Rattle.bundle_rules.specs.Statements.{no_notes}
-use Rattle.bundle_rules.specs.Callable.{is_module_head, ExportedName, word, text, Specifier, specifier_items, IsBack, exports}
+use Rattle.bundle_rules.specs.Callable.{is_module_head, word, text, Specifier, specifier_items, IsBack, exports}
 use Rattle.bundle_tree_places.specs.Edits as c
 use Rattle.bundle_tree_places.specs.Edits.{Around, Anywhere, InObject, InSpecifier, Edits, node, next, renamed, in_its_place, binding, pattern_in_its_place, shorthand_in_its_place}
 use Rattle.bundle_tree_places.proofs.EditsLemmas.{rebuilt_so}

@@ -1,5 +1,5 @@
 -- The object of `import.meta` declares no name twice, as what the hook answered does not.
-use Rattle.std.proofs.Common.{◌≡◌, inl, ℕ, zero, suc, ◌+◌, List, [], ◌∷◌, Option, Some, length, refl, ap, sym, subst}
+use Rattle.std.proofs.Common.{inl, ℕ, ◌+◌, List, [], ◌∷◌, Option, length, refl, ap, sym, subst}
 use Rattle.std.specs.Prelude.{map}
 use Rattle.std.specs.List.{AllZip}
 use Rattle.bundle_tree_piece.specs.Item.{Item}
