@@ -1,5 +1,5 @@
--- What is made of modules that take nothing from outside is, with whatever identifiers, a module of
--- statements, with perhaps a list of exports behind them.
+-- What is made of modules that take nothing from outside is, with whatever identifiers, a module
+-- of statements, with perhaps a list of exports behind them.
 use Rattle.std.proofs.Common.{◌≡◌, ℕ, Bool, true, false, List, [], ◌∷◌, ◌++◌, Option, Some, None, Contains, length, append-nil, append_assoc, refl, ap, sym, ◌∙◌, subst}
 use Rattle.std.specs.List.{AllZip, AllByRecursion}
 use Rattle.std.proofs.lemmas.Bool.{false≢true}
@@ -69,16 +69,19 @@ module _ (p : Program) (hooks : Hooks) (list : List ℕ) (context : Contexts)
   item_stmt : (cause : Cause) (item : List Item) → IsDue p AsModule cause → Made cause item →
       IsFit AnItem 0 item → is_outside cause ≡ false → is_exports cause ≡ false →
       IsFit AStmt 0 item
-  item_stmt cause item (due.own {m = m} reached es within) (made.own statement at its) fit inside hands =
+  item_stmt cause item (due.own {m = m} reached es within) (made.own statement at its) fit inside
+      hands =
       states_stmt its.by
       (one_alone
-      (fit_given (last (top_fit (sound.fit.each m reached) its.top its.there)) its.given its.is_given))
+      (fit_given (last (top_fit (sound.fit.each m reached) its.top its.there)) its.given
+      its.is_given))
   item_stmt cause item its_due (made.helps is) fit inside hands = as_stmt fit 0 _ _ is refl
   item_stmt cause item its_due (made.defines bodies are is) fit inside hands =
       as_stmt fit 0 _ _ is refl
   item_stmt cause item its_due (made.loads whole names are is_whole whole_is is) fit inside hands =
       load_stmt _ _ _ item fit is
-  item_stmt cause item its_due (made.holds_meta properties within answered its is) fit inside hands =
+  item_stmt cause item its_due (made.holds_meta properties within answered its is) fit inside
+      hands =
       as_stmt fit 0 _ _ is refl
   item_stmt cause item its_due (made.holds_namespace pairs are is) fit inside hands =
       as_stmt fit 0 _ _ is refl
@@ -109,7 +112,8 @@ module _ (p : Program) (hooks : Hooks) (list : List ℕ) (context : Contexts)
   all_statements (cause ∷ plan) (item ∷ items) inside are =
       let its = inside cause (here cause plan) in (
         stmt_statements (item_stmt cause item its.0 are.0.0 are.0.1 its.1 its.2),
-        all_statements plan items (λ other there. inside other (later cause plan other there)) are.1,
+        all_statements plan items (λ other there. inside other (later cause plan other there))
+            are.1,
       )
 
   -- what is handed out stands last
@@ -143,8 +147,12 @@ module _ (p : Program) (hooks : Hooks) (list : List ℕ) (context : Contexts)
   module _ (front : List Cause) (exports : Bool) (inside : AreInside front)
       (items : List (List Item))
       (are : AllZip (IsMade p hooks list context answers) (front ++ one_if exports Exports) items)
-      (alone : AllZip (IsAlone p hooks list context answers) (front ++ one_if exports Exports) items)
+      (alone : AllZip (IsAlone p hooks list context answers) (front ++ one_if exports Exports)
+      items)
     where
+      abbrev plan : List Cause
+      plan = front ++ one_if exports Exports
+
       -- OF STATEMENTS
       pub with-idents-statements : (news : List Ident) →
           length news ≡ length (idents (joined items)) →
@@ -155,28 +163,32 @@ module _ (p : Program) (hooks : Hooks) (list : List ℕ) (context : Contexts)
         is =
             all.is
             ∙ ap (λ (these : List (List Item)). joined these) its.is
-            ∙ ap (λ these. h.Open 0 h.Module ∷ (these ++ h.Close ∷ [])) (flat-append its.first its.second)
+            ∙ ap (λ these. h.Open 0 h.Module ∷ (these ++ h.Close ∷ []))
+            (flat-append its.first its.second)
             ∙ ap (λ these. h.Open 0 h.Module ∷ these)
             (append_assoc (flat its.first) (flat its.second) (h.Close ∷ []));
-        statements = all_edited parts.first its.first its.zip (all_statements front parts.first inside parts.zip);
+        statements =
+            all_edited parts.first its.first its.zip
+            (all_statements front parts.first inside parts.zip);
         ends = last_back exports parts.second its.second parts.rest its.rest;
       }
         where
-          notes : HasNotes p hooks list context answers (front ++ one_if exports Exports) items
-          notes = notes-of p hooks list context answers (front ++ one_if exports Exports) items alone
+          notes : HasNotes p hooks list context answers plan items
+          notes = notes-of p hooks list context answers plan items alone
 
           all : Renewed items notes.noted (changes_to (idents (joined items)) news)
           all =
               renewed items notes.noted (changes_to (idents (joined items)) news)
-              (all-forms p hooks list context answers (front ++ one_if exports Exports) items notes.noted notes.each)
-              (no-lone p hooks list context answers (front ++ one_if exports Exports) items notes.noted notes.each)
-              (subst (AllZip KeepsText (changes_to (idents (joined items)) news)) (module-names items)
+              (all-forms p hooks list context answers plan items notes.noted notes.each)
+              (no-lone p hooks list context answers plan items notes.noted notes.each)
+              (subst (AllZip KeepsText (changes_to (idents (joined items)) news))
+              (module-names items)
               (changes-keep (idents (joined items)) news long))
 
           parts : Split MadeFit front (one_if exports Exports) items
           parts =
               zip-split MadeFit front (one_if exports Exports) items
-              (zip-fit (front ++ one_if exports Exports) items are alone)
+              (zip-fit plan items are alone)
 
           its : Split IsEdited parts.first parts.second all.made
           its =

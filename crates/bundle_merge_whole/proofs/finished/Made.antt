@@ -1,5 +1,5 @@
--- What is made of the modules of a program, named in one go, is the end of the bundle of its entry,
--- and where it is to be one function's call, a module of statements that can be called.
+-- What is made of the modules of a program, named in one go, is the end of the bundle of its
+-- entry, and where it is to be one function's call, a module of statements that can be called.
 use Rattle.std.proofs.Common.{◌≡◌, ℕ, zero, suc, ◌<◌, Bool, true, false, List, [], ◌∷◌, ◌++◌, Option, Some, Contains, length, map, option_map, append_assoc, refl, ap, sym, ◌∙◌, subst, arith}
 use Rattle.std.specs.Prelude.{slice_get}
 use Rattle.std.specs.List.{AllZip}
@@ -128,7 +128,11 @@ at-front [] ys i x at = absurd (none-some x at)
 at-front (y ∷ xs) ys zero x at = at
 at-front (y ∷ xs) ys (suc i) x at = at-front xs ys i x at
 
-module _ (p q : Program) (ids : List ℕ) (g : Modules) (places : IsByPlaces p q ids g) (known : AreKnown p q ids) (its_moved : AreMoved p q ids) (linking : Linking) (meta : ℕ → Bool) (count : ℕ → ℕ) (linked : AreLinkedBy q (length ids) linking meta count) (plan : Plan) (planned : IsPlanOf g p.entry ids plan) (hooks : Hooks) (context : Contexts) (answers : ℕ → Option (List Item)) where
+module _ (p q : Program) (ids : List ℕ) (g : Modules) (places : IsByPlaces p q ids g)
+    (known : AreKnown p q ids) (its_moved : AreMoved p q ids) (linking : Linking)
+    (meta : ℕ → Bool) (count : ℕ → ℕ) (linked : AreLinkedBy q (length ids) linking meta count)
+    (plan : Plan) (planned : IsPlanOf g p.entry ids plan) (hooks : Hooks) (context : Contexts)
+    (answers : ℕ → Option (List Item)) where
   -- modules by their places
   abbrev places_of : List ℕ
   places_of = numbers_from zero (length ids)
@@ -208,22 +212,29 @@ module _ (p q : Program) (ids : List ℕ) (g : Modules) (places : IsByPlaces p q
       inside : (cause : Cause) → Contains its_plan cause → is_outside cause ≡ false
       inside cause there =
           sym (outside-at ids cause)
-          ∙ due-inside p (none-used p q ids known iife) (cause_at ids cause) (due_there cause there)
+          ∙ due-inside p (none-used p q ids known iife) (cause_at ids cause)
+          (due_there cause there)
 
       no_stars : (stars : List Text) → ((cause : Cause) → Contains (map Stars stars) cause →
           is_outside cause ≡ false) → stars ≡ []
       no_stars [] none = refl
-      no_stars (s ∷ stars) none = absurd (true≢false (none (Stars s) (here (Stars s) (map Stars stars))))
+      no_stars (s ∷ stars) none =
+          absurd (true≢false (none (Stars s) (here (Stars s) (map Stars stars))))
 
       plan_is : its_plan ≡ front ++ one_if d.exports Exports
       plan_is =
-          ap (λ stars. front_plan d ++ (blocks_plan d d.blocks orders ++ (map Stars stars ++ one_if d.exports Exports)))
+          ap
+          (λ stars. front_plan d ++ (blocks_plan d d.blocks orders
+          ++ (map Stars stars ++ one_if d.exports Exports)))
           (no_stars d.stars
           (λ cause there. inside cause
-          (Contains-append_right (front_plan d) (blocks_plan d d.blocks orders ++ back_plan d) cause
+          (Contains-append_right (front_plan d) (blocks_plan d d.blocks orders ++ back_plan d)
+          cause
           (Contains-append_right (blocks_plan d d.blocks orders) (back_plan d) cause
           (Contains-append_left (map Stars d.stars) (one_if d.exports Exports) cause there)))))
-          ∙ sym (append_assoc (front_plan d) (blocks_plan d d.blocks orders) (one_if d.exports Exports))
+          ∙ sym
+          (append_assoc (front_plan d) (blocks_plan d d.blocks orders)
+          (one_if d.exports Exports))
 
       in_plan : (cause : Cause) → Contains front cause → Contains its_plan cause
       in_plan cause there =
@@ -236,7 +247,8 @@ module _ (p q : Program) (ids : List ℕ) (g : Modules) (places : IsByPlaces p q
           let at = contains-at front cause there in
           let is : cause ≡ Exports = the-exports cause e in
           let hands : d.exports ≡ true =
-          are_decided.exports.1 (due-exports q cause ((laid.due cause).0 (in_plan cause there)) e) in
+          are_decided.exports.1
+          (due-exports q cause ((laid.due cause).0 (in_plan cause there)) e) in
           let ended : its_plan ≡ front ++ Exports ∷ [] =
           plan_is ∙ ap (λ b. front ++ one_if b Exports) hands in
           let same : at.0 ≡ length front =
@@ -267,6 +279,10 @@ module _ (p q : Program) (ids : List ℕ) (g : Modules) (places : IsByPlaces p q
             (laid.due cause).0 (in_plan cause there),
             inside cause (in_plan cause there),
             no_exports cause there,
-          )) items (subst (λ causes. AllZip (IsMade q hooks places_of context answers) causes items) plan_is laid.made)
-          (subst (λ causes. AllZip (IsAlone q hooks places_of context answers) causes items) plan_is laid.alone)
+          ))
+          items
+          (subst (λ causes. AllZip (IsMade q hooks places_of context answers) causes items)
+          plan_is laid.made)
+          (subst (λ causes. AllZip (IsAlone q hooks places_of context answers) causes items)
+          plan_is laid.alone)
           its.news its.long)

@@ -49,7 +49,8 @@ inner_parts xs ys both =
 inner_node : (field : ℕ) (head : Head) (inside : List Item) → is_module_head head ≡ false →
     list_all is_inner inside ≡ true → list_all is_inner (node field head inside) ≡ true
 inner_node field head inside apart its =
-    and_from (not (is_module_head head)) (list_all is_inner (inside ++ h.Close ∷ [])) (ap not apart)
+    and_from (not (is_module_head head)) (list_all is_inner (inside ++ h.Close ∷ []))
+    (ap not apart)
     (inner_both inside (h.Close ∷ []) its refl)
 
 not_so : (b : Bool) → not b ≡ true → b ≡ false
@@ -60,7 +61,8 @@ inner_within : (field : ℕ) (head : Head) (inside : List Item) →
     list_all is_inner (node field head inside) ≡ true →
     (is_module_head head ≡ false) × (list_all is_inner inside ≡ true)
 inner_within field head inside its =
-    let parts = and_parts (not (is_module_head head)) (list_all is_inner (inside ++ h.Close ∷ [])) its in
+    let parts =
+    and_parts (not (is_module_head head)) (list_all is_inner (inside ++ h.Close ∷ [])) its in
     (not_so (is_module_head head) parts.0, (inner_parts inside (h.Close ∷ []) parts.1).0)
 
 -- statements one after another
@@ -123,7 +125,9 @@ well_key x = by (bytes_eq x (codes "__proto__"))
   where
     by : (b : Bool) →
         IsWell
-        (if b then h.Open 0 h.ComputedPropName ∷ h.Open 0 (h.Str x None) ∷ h.Close ∷ h.Close ∷ [] else plain_key x)
+        (if b
+        then h.Open 0 h.ComputedPropName ∷ h.Open 0 (h.Str x None) ∷ h.Close ∷ h.Close ∷ []
+        else plain_key x)
     by true =
         well_node 0 h.ComputedPropName (node 0 (h.Str x None) []) refl
         (well_node 0 (h.Str x None) [] refl (n.nothing, refl))
@@ -142,7 +146,9 @@ well_place InObject change field x ctxt role = by (spells_out change)
   where
     by : (b : Bool) →
         IsWell
-        (if b then node field h.KeyValueProp (key_in_object x ++ renamed change 1 x ctxt role ∷ []) else renamed change field x ctxt role ∷ [])
+        (if b
+        then node field h.KeyValueProp (key_in_object x ++ renamed change 1 x ctxt role ∷ [])
+        else renamed change field x ctxt role ∷ [])
     by true =
         well_node field h.KeyValueProp (key_in_object x ++ renamed change 1 x ctxt role ∷ []) refl
         (well_both (key_in_object x) (renamed change 1 x ctxt role ∷ []) (well_key x)
@@ -152,7 +158,9 @@ well_place InSpecifier change field x ctxt role = by (spells_out change)
   where
     by : (b : Bool) →
         IsWell
-        (if b then renamed change field x ctxt role ∷ h.Ident 1 x 0 r.Word ∷ [] else renamed change field x ctxt role ∷ [])
+        (if b
+        then renamed change field x ctxt role ∷ h.Ident 1 x 0 r.Word ∷ []
+        else renamed change field x ctxt role ∷ [])
     by true =
         well_both (renamed change field x ctxt role ∷ []) (h.Ident 1 x 0 r.Word ∷ [])
         (well_name change field x ctxt role) (well_word 1 x 0 r.Word)
@@ -173,7 +181,10 @@ well_shorthand change field x ctxt role default its = by (spells_out change)
   where
     by : (b : Bool) →
         IsWell
-        (if b then node field h.KeyValuePatProp (plain_key x ++ pattern_in_its_place change x ctxt role default) else node field h.AssignPatProp (binding change 0 x ctxt role ++ default))
+        (if b
+        then node field h.KeyValuePatProp
+        (plain_key x ++ pattern_in_its_place change x ctxt role default)
+        else node field h.AssignPatProp (binding change 0 x ctxt role ++ default))
     by true =
         well_node field h.KeyValuePatProp
         (plain_key x ++ pattern_in_its_place change x ctxt role default) refl
@@ -186,7 +197,8 @@ well_shorthand change field x ctxt role default its = by (spells_out change)
 edited_well : {around : Around} {its left : List Change} {before made : List Item} →
     Edits around its before made left → list_all is_inner before ≡ true → IsWell made
 edited_well c.Nothing inner = (n.nothing, refl)
-edited_well (c.Joined {first = xs} {made_first = us} {second = ys} {made_second = vs} one two) inner =
+edited_well (c.Joined {first = xs} {made_first = us} {second = ys} {made_second = vs} one two)
+    inner =
     let parts = inner_parts xs ys inner in
     well_both us vs (edited_well one parts.0) (edited_well two parts.1)
 edited_well (c.Hole field) inner = (n.hole n.nothing, refl)
@@ -196,7 +208,8 @@ edited_well (c.Name around {changes = changes} field x ctxt role occurs) inner =
 edited_well (c.Inside field head {inside = inside} {made = made} plain one) inner =
     let parts = inner_within field head inside inner in
     well_node field head made parts.0 (edited_well one parts.1)
-edited_well (c.Shorthand {changes = changes} field x ctxt role {default = default} {made = made} occurs one) inner =
+edited_well (c.Shorthand {changes = changes} field x ctxt role {default = default} {made = made}
+    occurs one) inner =
     let parts =
     inner_within field h.AssignPatProp (binding None 0 x ctxt role ++ default) inner in
     well_shorthand (next changes) field x ctxt role made
@@ -235,7 +248,8 @@ specifier_of x plain ident = record {
 abbrev one_export : Ident → Text → Bool → List Item
 one_export ident x plain =
     node 0 h.ExportNamedSpecifier
-    (h.Ident 0 ident.0 ident.1 r.Reference ∷ (if plain then h.Ident 1 x 0 r.Word ∷ [] else l.string_in 1 x))
+    (h.Ident 0 ident.0 ident.1 r.Reference
+    ∷ (if plain then h.Ident 1 x 0 r.Word ∷ [] else l.string_in 1 x))
 
 one_changed : (change : Option Change) (ident : Ident) →
     renamed change 0 ident.0 ident.1 r.Reference
@@ -248,13 +262,15 @@ one_edit : (its : List Change) (ident : Ident) (x : Text) (plain : Bool) →
     (specifier_items (specifier_of x plain (ident_after (next its) ident))) (drop 1 its)
 one_edit its ident x true =
     subst
-    (λ y. Edits Anywhere its (one_export ident x true) (node 0 h.ExportNamedSpecifier (y ∷ h.Ident 1 x 0 r.Word ∷ [])) (drop 1 its))
+    (λ y. Edits Anywhere its (one_export ident x true)
+    (node 0 h.ExportNamedSpecifier (y ∷ h.Ident 1 x 0 r.Word ∷ [])) (drop 1 its))
     (one_changed (next its) ident)
     (c.Inside 0 h.ExportNamedSpecifier refl
     (c.Joined (c.Name Anywhere 0 ident.0 ident.1 r.Reference refl) (c.Word 1 x 0 r.Word refl)))
 one_edit its ident x false =
     subst
-    (λ y. Edits Anywhere its (one_export ident x false) (node 0 h.ExportNamedSpecifier (y ∷ l.string_in 1 x)) (drop 1 its))
+    (λ y. Edits Anywhere its (one_export ident x false)
+    (node 0 h.ExportNamedSpecifier (y ∷ l.string_in 1 x)) (drop 1 its))
     (one_changed (next its) ident)
     (c.Inside 0 h.ExportNamedSpecifier refl
     (c.Joined (c.Name Anywhere 0 ident.0 ident.1 r.Reference refl)
@@ -285,6 +301,7 @@ pub edited_exports : (pairs : List (Text × Ident)) (made : List Item) →
 edited_exports pairs made its =
     let all = all_exported pairs its.its in
     subst IsBack
-    (rebuilt_so (record { rest = all.left; by = c.Inside 0 (h.NamedExport no_notes) refl all.edits })
+    (rebuilt_so
+    (record { rest = all.left; by = c.Inside 0 (h.NamedExport no_notes) refl all.edits })
     ∙ sym (rebuilt_so (record { rest = its.left; by = its.edits })))
     (exports no_notes all.specifiers)

@@ -37,7 +37,8 @@ pub none_named : (first : Declared) (rest : List Declared) →
     ((e : Declared) → IsAmong rest e → names_agree e.name first.name ≡ false) → NoneClash rest →
     NoneClash (first ∷ rest)
 none_named first rest other none a b (zero, one) (zero, two) its =
-    its.apart (ap (λ (c : Declared). c.place) (sym (same_Some first a one) ∙ same_Some first b two))
+    its.apart
+    (ap (λ (c : Declared). c.place) (sym (same_Some first a one) ∙ same_Some first b two))
 none_named first rest other none a b (zero, one) (suc j, two) its =
     false≢true
     (sym (other b (j, two))

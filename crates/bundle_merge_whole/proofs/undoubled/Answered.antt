@@ -97,7 +97,14 @@ pub meta-none : (p : Program) (hooks : Hooks) (list : List ℕ) (context : Conte
     (answers : ℕ → Option (List Item)) → TellApart p answers context → (m : ℕ)
     (item : List Item) → IsDue p AsModule (HoldsMeta m) →
     IsMade p hooks list context answers (HoldsMeta m) item → NoneClash (own_declared item)
-meta-none p hooks list context answers apart m item due (made.holds_meta properties within answered its is) =
+meta-none p hooks list context answers apart m item due
+    (made.holds_meta properties within answered its is) =
     subst (λ items. NoneClash (own_declared items)) (sym is)
     (object-none list
-    (record { its = its; reached = reached-by due; answered = answered; apart = apart; due = due }))
+    (record {
+      its = its;
+      reached = reached-by due;
+      answered = answered;
+      apart = apart;
+      due = due;
+    }))

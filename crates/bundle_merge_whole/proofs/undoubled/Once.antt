@@ -86,7 +86,8 @@ once-behind (its ∷ more) id once =
 pub names-once : (p : Program) (list : List ℕ) (context : Contexts) (of : Text → Target)
     (names : List Text) → IsAscending names →
     ((x y : Text) → Contains names x → Contains names y →
-    ident_of_label p list context (Of (of x)) ≡ ident_of_label p list context (Of (of y)) → x ≡ y) →
+    ident_of_label p list context (Of (of x)) ≡ ident_of_label p list context (Of (of y)) →
+    x ≡ y) →
     BindOnce (map bound_name (named_idents p list context of names))
 names-once p list context of [] up apart = tt
 names-once p list context of (x ∷ names) up apart = (
@@ -102,7 +103,8 @@ names-once p list context of (x ∷ names) up apart = (
     later y there = (Contains-cons x names y).1 (inr there)
 
     again : list_any
-        (binds_it (ident_of_label p list context (Of (of x))).0 (ident_of_label p list context (Of (of x))).1)
+        (binds_it (ident_of_label p list context (Of (of x))).0
+        (ident_of_label p list context (Of (of x))).1)
         (map bound_name (named_idents p list context of names))
         ≡ true → ⊥
     again is =
@@ -153,7 +155,8 @@ topped-once item names named topped once a b first second clash =
     (ap (λ (d : Declared). d.place)
     (same_Some a b
     (sym mine.3
-    ∙ ap (declaration_of ByContext Es) (same_Some mine.1 yours.1 (sym mine.2 ∙ ap (slice_get os) places ∙ yours.2))
+    ∙ ap (declaration_of ByContext Es)
+    (same_Some mine.1 yours.1 (sym mine.2 ∙ ap (slice_get os) places ∙ yours.2))
     ∙ yours.3)))
   where
     os : List Occurrence

@@ -91,19 +91,22 @@ module _ (p : Program) (hooks : Hooks) (list : List ℕ) (context : Contexts)
         once =
             names-once p list context of_name names are.ascending
             (λ x y one two same.
-            let labels = labels-apart p list context answers apart (Of (of_name x)) (Of (of_name y))
+            let labels =
+            labels-apart p list context answers apart (Of (of_name x)) (Of (of_name y))
             (top_of (Named x) ((are.all x).0 one)) (top_of (Named y) ((are.all y).0 two)) same in
             cc)
 
         apart_of_whole : IsMeant p (Of (CommonJs m c Whole)) →
-            list_any (binds_it whole_ident.0 whole_ident.1) (map bound_name (pairs_of names)) ≡ false
+            list_any (binds_it whole_ident.0 whole_ident.1) (map bound_name (pairs_of names))
+            ≡ false
         apart_of_whole meant = whole_other names meant (λ x there. (are.all x).0 there)
 
         by : (whole : Bool) (names : List Text) →
             (whole ≡ true → IsMeant p (Of (CommonJs m c Whole))) →
             BindOnce (map bound_name (pairs_of names)) →
             (IsMeant p (Of (CommonJs m c Whole)) →
-            list_any (binds_it whole_ident.0 whole_ident.1) (map bound_name (pairs_of names)) ≡ false) →
+            list_any (binds_it whole_ident.0 whole_ident.1) (map bound_name (pairs_of names))
+            ≡ false) →
             BindOnce (load_names load (if whole then Some whole_ident else None) (pairs_of names))
         by false [] means each other = (λ binds. absurd (false≢true binds), tt)
         by false (x ∷ names) means each other =
