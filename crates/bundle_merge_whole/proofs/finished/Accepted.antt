@@ -1,15 +1,13 @@
 -- A program whose modules are merged right has an answer without a fault for each `import.meta`, so
 -- it is accepted.
-use Rattle.std.proofs.Common.{◌≡◌, ◌⊎◌, inl, inr, ℕ, List, [], ◌∷◌, Contains, length, refl, sym, subst}
-use Rattle.std.specs.Prelude.{IsTrue}
+use Rattle.std.proofs.Common.{◌≡◌, ◌⊎◌, inl, inr, ℕ, List, [], ◌∷◌, Contains, subst}
 use Rattle.bundle_tree_piece.specs.Item.{Item}
-use Rattle.bundle_rules.specs.Entries.{has_import_meta}
 use Rattle.bundle_rules.specs.Faults.{Parties, IsFaultlessProgram, MayAnswer}
 use Rattle.bundle_rules.specs.Judging.{AcceptsProgram}
-use Rattle.bundle_rules.specs.Program.{Program, tree_of, IsReached, IsList}
+use Rattle.bundle_rules.specs.Program.{Program, IsReached, IsList}
 use Rattle.bundle_rules.specs.Bundle.{Cause, HoldsMeta, Form, AsModule, Hooks, holds_meta as meta_due}
 use Rattle.bundle_link_reached.proofs.ElementLemmas.{first_or_later}
-use Rattle.bundle_merge_whole.specs.composed.Noted.{Noted, IsNotedFor, as_whole, as_function, holds_meta, AreNotedFor}
+use Rattle.bundle_merge_whole.specs.composed.Noted.{Noted, IsNotedFor, as_whole, holds_meta, AreNotedFor}
 use Rattle.bundle_merge_whole.proofs.finished.Bundles.{IsMergedRight}
 use Rattle.bundle_merge_whole.proofs.planned.ListLemmas.{no_element}
 use Rattle.bundle_merge_whole.proofs.planned.RequestLemmas.{list-reached}
