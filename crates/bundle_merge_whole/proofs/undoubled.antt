@@ -9,6 +9,9 @@ pub mod Rising
 pub mod Stated
 pub mod Own
 pub mod Added
+pub mod Once
+pub mod Taken
+pub mod Answered
 pub mod Function
 pub mod Quiet
 pub mod Defined

@@ -5,3 +5,5 @@ pub mod Known
 pub mod LinkedLemmas
 pub mod PartLemmas
 pub mod SourceLemmas
+pub mod StatementLemmas
+pub mod BundleLemmas

@@ -156,7 +156,7 @@ module _ (p : Program) (hooks : Hooks) (list : List ℕ) (context : Contexts)
           (imports_name means);
     }
 
-    topped : AllZip IsTopped (occurrences_from first_spot (l.import_names s pairs))
+    pub topped : AllZip IsTopped (occurrences_from first_spot (l.import_names s pairs))
         (map bound_name pairs)
     topped =
         subst
@@ -171,7 +171,7 @@ module _ (p : Program) (hooks : Hooks) (list : List ℕ) (context : Contexts)
         (append-nil (map bound_name pairs))
         (all-topped 1 2 0 pairs (l.string_in 1 s ++ h.Close ∷ []) [] (λ place field. tt)))
 
-    named : AreNamed (l.import_names s pairs ++ h.Close ∷ [])
+    pub named : AreNamed (l.import_names s pairs ++ h.Close ∷ [])
     named = (
       refl,
       subst AreNamed

@@ -205,10 +205,10 @@ module _ (list : List ℕ) {p : Program} {hooks : Hooks} {context : Contexts}
 
   -- The object's own name.
 
-  abbrev IsOther : Declared → Type 0
+  abbrev pub IsOther : Declared → Type 0
   IsOther e = names_agree e.name (name_of ByContext name_ident.0 name_ident.1) ≡ false
 
-  others : (os us : List Occurrence) → AllZip Beside os us → AllOf IsOther (declared_by_names us)
+  pub others : (os us : List Occurrence) → AllZip Beside os us → AllOf IsOther (declared_by_names us)
   others [] [] all = tt
   others [] (u ∷ us) all = absurd all
   others (o ∷ os) [] all = absurd all
@@ -330,7 +330,7 @@ module _ (list : List ℕ) {p : Program} {hooks : Hooks} {context : Contexts}
       marks : List Mark
       marks = its_marks facts.its
 
-reached-by : {p : Program} {m : ℕ} → IsDue p AsModule (HoldsMeta m) → IsReached p m
+pub reached-by : {p : Program} {m : ℕ} → IsDue p AsModule (HoldsMeta m) → IsReached p m
 reached-by (meta_due reached has) = reached
 
 -- what is made for the `import.meta` of a module

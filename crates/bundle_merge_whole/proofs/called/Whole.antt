@@ -140,14 +140,15 @@ statement-items {stmts} statements =
 -- Lists zipped.
 
 -- the part of the second list that stands beside the first
-record Split {A B : Type 0} (R : A → B → Type 0) (xs ys : List A) (all : List B) : Type 0 where
-  first : List B
-  second : List B
-  is : all ≡ first ++ second
-  zip : AllZip R xs first
-  rest : AllZip R ys second
+pub record Split {A B : Type 0} (R : A → B → Type 0) (xs ys : List A) (all : List B) :
+    Type 0 where
+  pub first : List B
+  pub second : List B
+  pub is : all ≡ first ++ second
+  pub zip : AllZip R xs first
+  pub rest : AllZip R ys second
 
-zip-split : {A B : Type 0} (R : A → B → Type 0) (xs ys : List A) (all : List B) →
+pub zip-split : {A B : Type 0} (R : A → B → Type 0) (xs ys : List A) (all : List B) →
     AllZip R (xs ++ ys) all → Split R xs ys all
 zip-split R [] ys all zip = record { first = []; second = all; is = refl; zip = tt; rest = zip }
 zip-split R (x ∷ xs) ys [] zip = absurd zip

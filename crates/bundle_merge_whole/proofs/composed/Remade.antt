@@ -195,12 +195,19 @@ AllRemade (one ∷ noted) (item ∷ items) (other ∷ its) =
     Remade one item other × AllRemade noted items its
 AllRemade _ _ _ = ⊥
 
+-- an item becomes this by some changes
+pub record IsEdited (item made : List Item) : Type 0 where
+  pub its : List Change
+  pub left : List Change
+  pub edits : Edits Anywhere its item made left
+
 record ItemsMade (items : List (List Item)) (noted : List Noted) (its : List Change) : Type 0 where
   made : List (List Item)
   others : List Noted
   remade : AllRemade noted made others
   forms : AllOfForm made others
   lones : AllZip NoLone made others
+  each : AllZip IsEdited items made
   edits : Edits Anywhere its (flat items) (flat made) []
 
 items_made : (items : List (List Item)) (noted : List Noted) (its : List Change) →
@@ -212,6 +219,7 @@ items_made [] [] [] forms lone cover = record {
   remade = tt;
   forms = tt;
   lones = tt;
+  each = tt;
   edits = c.Nothing;
 }
 items_made [] [] (change ∷ its) forms lone cover = absurd cover
@@ -229,6 +237,10 @@ items_made (item ∷ items) (one ∷ noted) its forms lone cover =
       remade = (first.remade, rest.remade);
       forms = (first.form, rest.forms);
       lones = (first.lone, rest.lones);
+      each = (
+        record { its = both.front ++ both.back; left = both.back; edits = first.edits },
+        rest.each,
+      );
       edits =
           subst (λ l. Edits Anywhere l (item ++ flat items) (first.made ++ flat rest.made) [])
           (sym both.is) (c.Joined first.edits rest.edits);
@@ -242,6 +254,7 @@ pub record Renewed (items : List (List Item)) (noted : List Noted) (its : List C
   pub remade : AllRemade noted made others
   pub forms : AllOfForm made others
   pub lones : AllZip NoLone made others
+  pub each : AllZip IsEdited items made
   pub edits : Edits Anywhere its (flat items) (flat made) []
   pub is : rebuilt (joined items) its ≡ joined made
 
@@ -256,6 +269,7 @@ renewed items noted its forms lone cover =
       remade = all.remade;
       forms = all.forms;
       lones = all.lones;
+      each = all.each;
       edits = all.edits;
       is = sym (rebuilt_so (record { rest = []; by = c.Inside 0 h.Module refl all.edits }));
     }

@@ -27,7 +27,7 @@ use Rattle.bundle_merge_whole.specs.finished.Whole.{named_idents, named_at_once}
 use Rattle.bundle_merge_whole.specs.finished.Twice.{IsEditable}
 use Rattle.bundle_merge_whole.proofs.finished.Tidying.{tidied-with_idents, cleared-tidied}
 use Rattle.bundle_merge_whole.proofs.finished.Twice.{with-idents-are}
-use Rattle.bundle_merge_whole.proofs.finished.Whole.{ready-editable, finished-same}
+use Rattle.bundle_merge_whole.proofs.finished.Whole.{ready-editable, finished-same, as-many as called-long}
 use Rattle.bundle_merge_whole.proofs.finished.Finished.{rid-of-keywords, is-finished}
 use Rattle.bundle_merge_whole.proofs.finished.Numbers.{final-numbering}
 use Rattle.bundle_merge_whole.proofs.finished.Rules.{rule-faithful}
@@ -93,6 +93,38 @@ module _ (renames : Bool) (merged : List Item) (editable : IsEditable merged) (r
     named = is-named-so;
     kept = is-recalled;
   }
+
+-- the tree with other identifiers, as many
+pub record HasIdents (tree after : List Item) : Type 0 where
+  pub news : List Ident
+  pub long : length news ≡ length (idents tree)
+  pub is : after ≡ with_idents tree news
+
+pub with-its-idents : (renames : Bool) (merged : List Item) → IsResolved Es merged →
+    HasNamesOnly merged → (after : List Item) → IsNamedAtOnce renames merged after →
+    HasIdents merged after
+with-its-idents renames merged resolved only after made = by renames refl
+  where
+    by : (b : Bool) → renames ≡ b → HasIdents merged after
+    by false so = record {
+      news = called_idents (n.call merged only made.table made.denotes resolved made.right.keywords made.right.texts made.right.contexts) merged;
+      long = called-long (n.call merged only made.table made.denotes resolved made.right.keywords made.right.texts made.right.contexts) merged;
+      is =
+          made.is
+          ∙ ap (λ b. with_idents merged (called_by made.table made.names (if b then Clear else Keep) merged)) so
+          ∙ ap (λ names. with_idents merged (called_by made.table names Keep merged)) (made.right.kept so)
+          ∙ ap (with_idents merged) (n.kept-idents merged only made.table made.denotes resolved made.right.keywords made.right.texts made.right.contexts);
+    }
+    by true so =
+        let numbers : Numbering = n.numbers merged only made.table made.denotes resolved made.right.keywords made.right.texts made.right.contexts made.names (made.right.named so) in
+        record {
+          news = named_idents (n.call merged only made.table made.denotes resolved made.right.keywords made.right.texts made.right.contexts) merged numbers;
+          long = as-many merged (n.call merged only made.table made.denotes resolved made.right.keywords made.right.texts made.right.contexts) numbers;
+          is =
+              made.is
+              ∙ ap (λ b. with_idents merged (called_by made.table made.names (if b then Clear else Keep) merged)) so
+              ∙ ap (with_idents merged) (n.named-idents merged only made.table made.denotes resolved made.right.keywords made.right.texts made.right.contexts made.names (made.right.named so));
+        }
 
 -- The end of a bundle.
 

@@ -634,7 +634,7 @@ itself_heads : (head : Head) →
 itself_heads h.Module = refl
 itself_heads _ = refl
 
-as_stmt : {number : ℕ} {items : List Item} → IsFit AnItem number items → (field : ℕ)
+pub as_stmt : {number : ℕ} {items : List Item} → IsFit AnItem number items → (field : ℕ)
     (head : Head) (more : List Item) → items ≡ h.Open field head ∷ more →
     states_itself head ≡ true → IsFit AStmt number items
 as_stmt (f.name it) field head more is itself = absurd cc

@@ -70,6 +70,13 @@ not-below-itself x e =
     true≢false
     (sym (ap is_lt e) ∙ ap is_lt (nat_list_cmp_total.antisymm x x ∙ ap ordering_reverse e))
 
+-- the first of ascending names does not stand again
+pub ascending-once : (x : Text) (xs : List Text) → IsAscending (x ∷ xs) →
+    (Contains xs x → ⊥) × IsAscending xs
+ascending-once x xs up =
+    let its = above-rest x xs up in
+    (λ there. not-below-itself x (above-there x xs its.0 x there), its.1)
+
 -- two ascending lists of the same names are one
 same-ascending : (xs ys : List Text) → IsAscending xs → IsAscending ys →
     ((x : Text) → Contains xs x ↔ Contains ys x) → xs ≡ ys

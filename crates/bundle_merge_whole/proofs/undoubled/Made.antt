@@ -19,17 +19,18 @@ use Rattle.bundle_merge_whole.specs.made.Made.{IsMade, linked_idents}
 use Rattle.bundle_merge_whole.specs.made.Made as made
 use Rattle.bundle_merge_whole.specs.made.Alone.{AreSound, TellApart}
 use Rattle.bundle_merge_whole.specs.together.Together.{AreTogether}
-use Rattle.bundle_merge_whole.specs.undoubled.Clashing.{NoneClash, IsDeclaredFor, of_another, OthersDeclareOnce}
+use Rattle.bundle_merge_whole.specs.undoubled.Clashing.{NoneClash, IsDeclaredFor, of_another}
 use Rattle.bundle_merge_whole.proofs.together.Tops.{of-item}
 use Rattle.bundle_merge_whole.proofs.undoubled.Added.{whole-none, bare-none, star-none}
+use Rattle.bundle_merge_whole.proofs.undoubled.Answered.{meta-none}
 use Rattle.bundle_merge_whole.proofs.undoubled.Defined.{defined-none}
 use Rattle.bundle_merge_whole.proofs.undoubled.Own.{own-declared}
 use Rattle.bundle_merge_whole.proofs.undoubled.Quiet.{exports-none, namespace-none, helper-none}
+use Rattle.bundle_merge_whole.proofs.undoubled.Taken.{imports-none, loads-none}
 use Rattle.bundle_merge_whole.proofs.undoubled.Together.{together-undoubled}
 
 module _ (p : Program) (hooks : Hooks) (list : List ℕ) (context : Contexts)
-    (answers : ℕ → Option (List Item)) (sound : AreSound p list) (apart : TellApart p answers context)
-    (others : OthersDeclareOnce p hooks list context answers) where
+    (answers : ℕ → Option (List Item)) (sound : AreSound p list) (apart : TellApart p answers context) where
   -- each item
   declared_for : (cause : Cause) (item : List Item) → IsDue p AsModule cause →
       IsMade p hooks list context answers cause item → IsNamed item → IsDeclaredFor p cause item
@@ -46,16 +47,16 @@ module _ (p : Program) (hooks : Hooks) (list : List ℕ) (context : Contexts)
   declared_for (Stars s) item due (made.stars is) named =
       of_another (λ m k e. cc) (subst (λ l. NoneClash (own_declared l)) (sym is) (star-none s))
   declared_for (ImportsNames s) item due its named =
-      of_another (λ m k e. cc) (others.imports s item due its)
+      of_another (λ m k e. cc) (imports-none p hooks list context answers apart s item due its)
   declared_for Helps item due (made.helps is) named =
       of_another (λ m k e. cc)
       (subst (λ l. NoneClash (own_declared l)) (sym is)
       (helper-none (ident_of_label p list context Helper) (codes "fn", context HelperParameter)
       (codes "module", context HelperVariable)))
   declared_for (Loads m c) item due its named =
-      of_another (λ n k e. cc) (others.loads m c item due its)
+      of_another (λ n k e. cc) (loads-none p hooks list context answers apart m c due item its)
   declared_for (HoldsMeta m) item due its named =
-      of_another (λ n k e. cc) (others.meta m item due its)
+      of_another (λ n k e. cc) (meta-none p hooks list context answers apart m item due its)
   declared_for (HoldsNamespace d) item due (made.holds_namespace pairs are is) named =
       of_another (λ m k e. cc)
       (subst (λ l. NoneClash (own_declared l)) (sym is)

@@ -136,7 +136,7 @@ name_of_declared item named d there =
     }
 
 -- names that agree are of one identifier
-same_ident : (x y : List ℕ) (c d : ℕ) →
+pub same_ident : (x y : List ℕ) (c d : ℕ) →
     names_agree (name_of ByContext x c) (name_of ByContext y d) ≡ true → (x ≡ y) × (c ≡ d)
 same_ident x y c d agree =
     let parts = and_parts (bytes_eq x y) (c == d) agree in

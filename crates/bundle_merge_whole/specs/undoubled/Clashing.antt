@@ -1,9 +1,8 @@
 -- Declarations that exclude one another, and what a part declares by what a whole tree does.
-use Rattle.std.specs.Prelude.{Contains, ◌+◌, [], ◌∷◌, length, ◌≡◌, ◌≢◌, ◌⊎◌, ℕ, ◌<◌, ◌≤◌, true, false, not, List, Option, Some, None, slice_get, take_while}
+use Rattle.std.specs.Prelude.{Contains, ◌+◌, [], ◌∷◌, length, ◌≡◌, ◌≢◌, ◌⊎◌, ℕ, ◌<◌, ◌≤◌, true, false, not, List, Some, None, slice_get, take_while}
 use Rattle.std.specs.List.{AllZip}
 use Rattle.bundle_tree_piece.specs.Item.{Item}
-use Rattle.bundle_rules.specs.Bundle.{Cause, Own, ImportsNames, Loads, HoldsMeta, AsModule, Hooks, IsDue}
-use Rattle.bundle_rules.specs.Nodes.{Text}
+use Rattle.bundle_rules.specs.Bundle.{Cause, Own}
 use Rattle.bundle_rules.specs.Program.{Program, tree_of}
 use Rattle.bundle_rules.specs.Scopes.{Es, Scope, Top, same_scope}
 use Rattle.bundle_rules.specs.Statements.{Element, TopItem, top_items, stated, own_statements}
@@ -11,8 +10,6 @@ use Rattle.bundle_rules.specs.Declarations.{BySymbol, names_agree, Declared, dec
 use Rattle.bundle_rules.specs.Homes.{takes, from_taker, taker, group_of}
 use Rattle.bundle_rules.specs.Doubled.{is_lexical, is_var, excludes}
 use Rattle.bundle_merge_joined.specs.joined.Joined.{own_declared}
-use Rattle.bundle_merge_whole.specs.made.Given.{Contexts}
-use Rattle.bundle_merge_whole.specs.made.Made.{IsMade}
 
 -- an element of a list
 abbrev pub IsAmong : {A : Type 0} → List A → A → Type 0
@@ -101,19 +98,3 @@ pub data IsDeclaredFor (p : Program) : Cause → List Item → Type 1 where
       ((m k : ℕ) → cause ≡ Own m k → ⊥) →
       NoneClash (own_declared item) →
       IsDeclaredFor p cause item
-
--- what a linker adds declares no name twice
-pub record OthersDeclareOnce (p : Program) (hooks : Hooks) (list : List ℕ) (context : Contexts)
-    (answers : ℕ → Option (List Item)) : Type 0 where
-  pub imports : (s : Text) (item : List Item) →
-      IsDue p AsModule (ImportsNames s) →
-      IsMade p hooks list context answers (ImportsNames s) item →
-      NoneClash (own_declared item)
-  pub loads : (m c : ℕ) (item : List Item) →
-      IsDue p AsModule (Loads m c) →
-      IsMade p hooks list context answers (Loads m c) item →
-      NoneClash (own_declared item)
-  pub meta : (m : ℕ) (item : List Item) →
-      IsDue p AsModule (HoldsMeta m) →
-      IsMade p hooks list context answers (HoldsMeta m) item →
-      NoneClash (own_declared item)
