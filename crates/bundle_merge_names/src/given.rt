@@ -11,7 +11,7 @@ use std::alloc::{AllocError, Global};
 
 /// Gives a bundle its names. Refused for contexts, with the module whose scopes get them or none for labels, and for
 /// memory.
-pub(crate) fn names_of<'a>(
+pub fn names_of<'a>(
     alloc: Global,
     bundle: &BundleParts<'_, 'a, '_>,
 ) -> Result<Names<'a>, MergeError> {

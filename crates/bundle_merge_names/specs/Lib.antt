@@ -1,0 +1,4 @@
+pub mod Given
+pub mod Holders
+pub mod Numbers
+pub mod Named

@@ -1,0 +1,204 @@
+//! What is named in a bundle: an identifier, by symbol and context, for each label, and contexts for the scopes of its
+//! modules. All are given before any item is made.
+
+ghost use Rattle.std.specs.Prelude.{◌≡◌, ◌++◌, ◌∷◌, [], suc, IfErr, IfOk, OnOk, OnErr, Some, None, option_map, unwrap_or};
+ghost use Rattle.bundle_rules.specs.Linking as linking;
+ghost use Rattle.bundle_tree_places.specs.Marks.{ident_of};
+ghost use Rattle.bundle_link_index.specs.Says.{target_of};
+ghost use Rattle.bundle_link_targets.specs.Lists.{list_in};
+ghost use Rattle.bundle_merge_names.specs.Named.{answered_in, held, holder_of, local_in, scopes_in};
+ghost use Rattle.bundle_merge_names.specs.Numbers.{position};
+ghost use Rattle.bundle_merge_names.specs.declared.names.Label as labels;
+ghost use Rattle.bundle_merge_names.specs.declared.names.Label.TheVariants as kinds;
+ghost use Rattle.bundle_merge_names.specs.declared.error.MergeError.TheVariants.{ContextsUsedUp};
+
+use crate::context::{Contexts, GLOBAL};
+use crate::error::MergeError;
+use bundle_link_targets::Target;
+use bundle_tree_places::Name;
+use indexmap::IndexMap;
+use std::alloc::{AllocError, Global};
+
+/// What a name that the linker gives stands for.
+#[derive(Clone, Copy, PartialEq, Eq, Hash)]
+pub enum Label<'a> {
+    /// What names of modules stand for, but for a declaration of a module, which keeps its own.
+    Of(Target<'a>),
+    /// The function that loads a CommonJS module.
+    Load { module: usize },
+    /// The object for `import.meta` in a module.
+    Meta { module: usize },
+    /// The helper that load functions are made by,
+    Helper,
+    /// its parameter,
+    HelperParameter,
+    /// and its variable.
+    HelperVariable,
+}
+
+/// The names of a bundle.
+pub struct Names<'a> {
+    // The context of the top of each module.
+    locals: Vec<u32>,
+    // For each module, the contexts of the scopes in its list that bind something,
+    scopes: Vec<Vec<Option<u32>>>,
+    // and of those in the list of what the hook answered for it.
+    answered: Vec<Vec<Option<u32>>>,
+    labels: IndexMap<Label<'a>, Name<'a>>,
+    // The contexts that are still free.
+    contexts: Contexts,
+}
+
+// By hand, so that who lets go of one only calls this.
+impl<'a> Drop for Names<'a> {
+    fn drop(self) {
+        let Names {
+            locals: _locals,
+            scopes: _scopes,
+            answered: _answered,
+            labels: _labels,
+            contexts: _contexts,
+        } = self;
+    }
+}
+
+impl<'a> Names<'a> {
+    /// No names, where these contexts are free.
+    pub fn new(alloc: Global, contexts: Contexts) -> Names<'a>
+        ensures locals { result.locals.items ≡ [] }
+        ensures scopes { result.scopes.items ≡ [] }
+        ensures answered { result.answered.items ≡ [] }
+        ensures labels { (label : labels.Label) → held result label ≡ None }
+        ensures contexts { result.contexts ≡ contexts }
+    {
+        Names {
+            locals: Vec::new(alloc),
+            scopes: Vec::new(alloc),
+            answered: Vec::new(alloc),
+            labels: IndexMap::new(alloc),
+            contexts,
+        }
+    }
+
+    /// The next context, for a scope of a module or of what the hook answered for it.
+    pub fn take(&mut self, module: usize) -> Result<u32, MergeError>
+        ensures taken { IfOk result (λ context. context ≡ position self.old.contexts) }
+        ensures next { IfOk result (λ context. position self.new.contexts ≡ suc context) }
+        ensures locals { self.new.locals ≡ self.old.locals }
+        ensures scopes { self.new.scopes ≡ self.old.scopes }
+        ensures answered { self.new.answered ≡ self.old.answered }
+        ensures labels { self.new.labels ≡ self.old.labels }
+        ensures refused { IfErr result (λ refusal. refusal ≡ ContextsUsedUp (Some «module»)) }
+        ensures none { IfErr result (λ refusal. self.old.contexts.next ≡ None) }
+    {
+        self.contexts.take(Some(module))
+    }
+
+    /// Adds the next module: the context of its top, and those of the scopes in its list and in what the hook answered.
+    pub fn add_module(
+        &mut self,
+        local: u32,
+        scopes: Vec<Option<u32>>,
+        answered: Vec<Option<u32>>,
+    ) -> Result<(), AllocError>
+        ensures locals { OnOk result (self.new.locals.items ≡ self.old.locals.items ++ local ∷ []) }
+        ensures scopes { OnOk result (self.new.scopes.items ≡ self.old.scopes.items ++ scopes ∷ []) }
+        ensures answered { OnOk result (self.new.answered.items ≡ self.old.answered.items ++ answered ∷ []) }
+        ensures labels { OnOk result (self.new.labels ≡ self.old.labels) }
+        ensures contexts { self.new.contexts ≡ self.old.contexts }
+    {
+        self.locals.push(local)?;
+        self.scopes.push(scopes)?;
+        self.answered.push(answered)?;
+        Ok(())
+    }
+
+    /// Gives a label the name of this symbol, with the next context, if it has none.
+    pub fn give(&mut self, label: Label<'a>, sym: &'a str) -> Result<(), MergeError>
+        ensures had { (ident : _) → held self.old label.entry ≡ Some ident → OnOk result
+            (position self.new.contexts ≡ position self.old.contexts) }
+        ensures given { held self.old label.entry ≡ None → OnOk result
+            (held self.new label.entry ≡ Some (sym.now, position self.old.contexts)) }
+        ensures next { held self.old label.entry ≡ None → OnOk result
+            (position self.new.contexts ≡ suc (position self.old.contexts)) }
+        ensures others { (other : labels.Label) → (ident : _) → held self.old other ≡ Some ident → OnOk result
+            (held self.new other ≡ Some ident) }
+        ensures new { (other : labels.Label) → held self.old other ≡ None → OnOk result
+            ((ident : _) → held self.new other ≡ Some ident → holder_of other ≡ holder_of label.entry) }
+        ensures locals { self.new.locals ≡ self.old.locals }
+        ensures scopes { self.new.scopes ≡ self.old.scopes }
+        ensures answered { self.new.answered ≡ self.old.answered }
+    {
+        if self.labels.contains_key(&label) {
+            return Ok(());
+        }
+        let ctxt = self.contexts.take(None)?;
+        self.labels.insert(label, Name { sym, ctxt })?;
+        Ok(())
+    }
+
+    /// The contexts that are free.
+    pub fn contexts(&self) -> Contexts
+        ensures { result ≡ self.now.contexts }
+    {
+        self.contexts
+    }
+
+    /// A name at the top of a module.
+    pub fn local(&self, module: usize, sym: &'a str) -> Name<'a>
+        ensures { ident_of result ≡ (sym.now, unwrap_or (local_in self.now «module») 1) }
+    {
+        let ctxt = self.locals.get(module).copied().unwrap_or(GLOBAL);
+        Name { sym, ctxt }
+    }
+
+    /// The contexts of the scopes in the list of a module.
+    pub fn scopes(&self, module: usize) -> &[Option<u32>]
+        ensures { result.now ≡ scopes_in self.now «module» }
+    {
+        contexts_at(&self.scopes, module)
+    }
+
+    /// The contexts of the scopes in the list of what the hook answered for a module.
+    pub fn answered(&self, module: usize) -> &[Option<u32>]
+        ensures { result.now ≡ answered_in self.now «module» }
+    {
+        contexts_at(&self.answered, module)
+    }
+
+    /// What stands for a target.
+    pub fn target(&self, target: Target<'a>) -> Name<'a>
+        ensures declared { (m : _) (x : _) → target_of target.entry ≡ linking.Declared m x →
+            ident_of result ≡ (x, unwrap_or (local_in self.now m) 1) }
+        ensures others { ((m : _) (x : _) → target_of target.entry ≡ linking.Declared m x → ⊥) →
+            ident_of result ≡ unwrap_or (held self.now (kinds.Of target.entry)) ([], 1) }
+    {
+        match target {
+            Target::Declared { module, name } => self.local(module, name),
+            _ => self.of(Label::Of(target)),
+        }
+    }
+
+    /// The name of a label. What no item of a bundle stands for may have none; it is then never written.
+    pub fn of(&self, label: Label<'a>) -> Name<'a>
+        ensures { ident_of result ≡ unwrap_or (held self.now label.entry) ([], 1) }
+    {
+        match self.labels.get(&label) {
+            Some(name) => *name,
+            None => Name {
+                sym: "",
+                ctxt: GLOBAL,
+            },
+        }
+    }
+}
+
+// The contexts of the module with this number.
+fn contexts_at(modules: &[Vec<Option<u32>>], module: usize) -> &[Option<u32>]
+    ensures { result.now ≡ list_in modules.now «module» }
+{
+    match modules.get(module) {
+        Some(contexts) => contexts.as_slice(),
+        None => &[],
+    }
+}
