@@ -1,4 +1,5 @@
 pub mod Given
+pub mod Steps
 pub mod Holders
 pub mod Numbers
 pub mod Named

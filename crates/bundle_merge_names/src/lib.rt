@@ -3,12 +3,14 @@
 //! names of the modules are linked to (`BundleParts`).
 #![tactic(auto)]
 
+pub mod body;
 pub mod context;
 pub mod error;
 pub mod given;
 pub mod names;
 pub mod part;
 
+pub use body::{Body, body_of, own_names};
 pub use context::{Contexts, local_context};
 pub use error::MergeError;
 pub use given::names_of;
