@@ -1,6 +1,6 @@
 //! Contexts that nothing has yet.
 
-ghost use Rattle.std.specs.Prelude.{◌≡◌, ◌+◌, ◌*◌, ◌<◌, ◌≤◌, suc, IfErr, IfNone, IfOk, IfSome, Some, None};
+ghost use Rattle.std.specs.Prelude.{◌≡◌, ◌+◌, ◌*◌, ◌<◌, ◌≤◌, suc, IfErr, IfNone, IfOk, IfSome, Some, None, unwrap_or};
 ghost use Rattle.bundle_rules.specs.Kept as kept;
 ghost use Rattle.bundle_merge_names.specs.Numbers.{position};
 ghost use Rattle.bundle_merge_names.specs.declared.error.MergeError.TheVariants.{ContextsUsedUp};
@@ -53,9 +53,16 @@ impl Contexts {
         let Some(context) = next else {
             return Err(MergeError::ContextsUsedUp { module });
         };
-        self.next = context.checked_add(1);
+        self.next = after(context);
         Ok(context)
     }
+}
+
+// The context after one, if there is one.
+fn after(context: u32) -> Option<u32>
+    ensures { unwrap_or result 4294967296 ≡ suc context }
+{
+    context.checked_add(1)
 }
 
 // The first context behind those of so many files.

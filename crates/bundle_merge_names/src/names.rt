@@ -1,15 +1,14 @@
 //! What is named in a bundle: an identifier, by symbol and context, for each label, and contexts for the scopes of its
 //! modules. All are given before any item is made.
 
-ghost use Rattle.std.specs.Prelude.{◌≡◌, ◌++◌, ◌∷◌, [], suc, IfErr, IfOk, OnOk, OnErr, Some, None, option_map, unwrap_or};
-ghost use Rattle.bundle_rules.specs.Linking as linking;
+ghost use Rattle.std.specs.Prelude.{◌≡◌, ◌++◌, ◌∷◌, [], suc, IfErr, IfOk, OnOk, Some, None, unwrap_or};
 ghost use Rattle.bundle_tree_places.specs.Marks.{ident_of};
-ghost use Rattle.bundle_link_index.specs.Says.{target_of};
 ghost use Rattle.bundle_link_targets.specs.Lists.{list_in};
-ghost use Rattle.bundle_merge_names.specs.Named.{answered_in, held, holder_of, local_in, scopes_in};
+ghost use Rattle.bundle_merge_names.specs.Held.{GivesName};
+ghost use Rattle.bundle_merge_names.specs.Named.{answered_in, held, local_in, scopes_in};
+ghost use Rattle.bundle_merge_names.specs.Idents.{label_ident, target_ident};
 ghost use Rattle.bundle_merge_names.specs.Numbers.{position};
 ghost use Rattle.bundle_merge_names.specs.declared.names.Label as labels;
-ghost use Rattle.bundle_merge_names.specs.declared.names.Label.TheVariants as kinds;
 ghost use Rattle.bundle_merge_names.specs.declared.error.MergeError.TheVariants.{ContextsUsedUp};
 
 use crate::context::{Contexts, GLOBAL};
@@ -115,19 +114,7 @@ impl<'a> Names<'a> {
 
     /// Gives a label the name of this symbol, with the next context, if it has none.
     pub fn give(&mut self, label: Label<'a>, sym: &'a str) -> Result<(), MergeError>
-        ensures had { (ident : _) → held self.old label.entry ≡ Some ident → OnOk result
-            (position self.new.contexts ≡ position self.old.contexts) }
-        ensures given { held self.old label.entry ≡ None → OnOk result
-            (held self.new label.entry ≡ Some (sym.now, position self.old.contexts)) }
-        ensures next { held self.old label.entry ≡ None → OnOk result
-            (position self.new.contexts ≡ suc (position self.old.contexts)) }
-        ensures others { (other : labels.Label) → (ident : _) → held self.old other ≡ Some ident → OnOk result
-            (held self.new other ≡ Some ident) }
-        ensures new { (other : labels.Label) → held self.old other ≡ None → OnOk result
-            ((ident : _) → held self.new other ≡ Some ident → holder_of other ≡ holder_of label.entry) }
-        ensures locals { self.new.locals ≡ self.old.locals }
-        ensures scopes { self.new.scopes ≡ self.old.scopes }
-        ensures answered { self.new.answered ≡ self.old.answered }
+        ensures { OnOk result (GivesName label.entry sym.now self.old self.new) }
     {
         if self.labels.contains_key(&label) {
             return Ok(());
@@ -168,10 +155,7 @@ impl<'a> Names<'a> {
 
     /// What stands for a target.
     pub fn target(&self, target: Target<'a>) -> Name<'a>
-        ensures declared { (m : _) (x : _) → target_of target.entry ≡ linking.Declared m x →
-            ident_of result ≡ (x, unwrap_or (local_in self.now m) 1) }
-        ensures others { ((m : _) (x : _) → target_of target.entry ≡ linking.Declared m x → ⊥) →
-            ident_of result ≡ unwrap_or (held self.now (kinds.Of target.entry)) ([], 1) }
+        ensures { ident_of result ≡ target_ident self.now target.entry }
     {
         match target {
             Target::Declared { module, name } => self.local(module, name),
@@ -181,7 +165,7 @@ impl<'a> Names<'a> {
 
     /// The name of a label. What no item of a bundle stands for may have none; it is then never written.
     pub fn of(&self, label: Label<'a>) -> Name<'a>
-        ensures { ident_of result ≡ unwrap_or (held self.now label.entry) ([], 1) }
+        ensures { ident_of result ≡ label_ident self.now label.entry }
     {
         match self.labels.get(&label) {
             Some(name) => *name,
