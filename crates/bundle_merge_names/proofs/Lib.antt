@@ -7,3 +7,4 @@ pub mod ScopeLemmas
 pub mod AddLemmas
 pub mod TakenLemmas
 pub mod OwnLemmas
+pub mod Reading

@@ -20,7 +20,6 @@ ghost use Rattle.bundle_merge_names.specs.Own as own;
 ghost use Rattle.bundle_merge_names.specs.Own.{IsOwnName};
 ghost use Rattle.bundle_merge_names.specs.Steps.{meta_ident, whole_of};
 
-
 use crate::context::GLOBAL;
 use crate::names::{Label, Names};
 use crate::part::Part;
@@ -81,9 +80,7 @@ fn rewrites_of<'a>(
     for occurrence in &part.denotations.occurrences {
         let place = occurrence.place;
         let own = own_of(part.pieces, part.denotations, scopes, occurrence);
-        rewrites.push(rewrite_of(
-            part, module, linking, names, uses, calls, place, own,
-        ))?;
+        rewrites.push(rewrite_of(part, module, linking, names, uses, calls, place, own))?;
         uses = uses_past(&part.tables.uses, uses, place);
         calls = calls_past(&part.tables.calls, calls, place);
     }

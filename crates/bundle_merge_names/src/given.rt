@@ -1,7 +1,7 @@
 //! The names of a bundle, given in one pass: a context for each scope of a module or of what the hook answered for it
 //! that binds something, and an identifier for each label. This alone may be refused for contexts.
 
-ghost use Rattle.std.specs.Prelude.{◌≡◌, ◌<◌, ℕ, true, IfOk, OnOk, List, Some, length, map, slice_get};
+ghost use Rattle.std.specs.Prelude.{◌≡◌, ◌<◌, ℕ, true, IfOk, OnOk, List, Some, None, length, map, slice_get, unwrap_or};
 ghost use Rattle.bundle_rules.specs.Entries as entries;
 ghost use Rattle.bundle_rules.specs.Linking as links;
 ghost use Rattle.bundle_rules.specs.Meaning as meaning;
@@ -13,7 +13,7 @@ ghost use Rattle.bundle_link_targets.specs.Symbols.{IsTakable};
 ghost use Rattle.bundle_merge_names.specs.Added.{AddsNames, IsNamedOf, IsOfHelper, IsTakenOf, IsWholeOf, with_taken};
 ghost use Rattle.bundle_merge_names.specs.Given.{NameOf};
 ghost use Rattle.bundle_merge_names.specs.Numbers as numbers;
-ghost use Rattle.bundle_merge_names.specs.Ranges.{GivesContexts};
+ghost use Rattle.bundle_merge_names.specs.Ranges.{GivesAnswered, GivesContexts};
 ghost use Rattle.bundle_merge_names.specs.Scoped.{AreMarks, GivesScope, flag_in, scope_number};
 
 use crate::error::MergeError;
@@ -68,7 +68,11 @@ fn answer_contexts<'a>(
     bundle: &BundleParts<'_, 'a, '_>,
     module: usize,
     local: u32,
-) -> Result<Vec<Option<u32>>, MergeError> {
+) -> Result<Vec<Option<u32>>, MergeError>
+    ensures { IfOk result (λ contexts.
+        GivesAnswered (unwrap_or (slice_get bundle.now.answers.now «module») None) local
+        names.old names.new contexts.items) }
+{
     match bundle.answer(module) {
         Some(answer) => scope_contexts(alloc, names, module, answer.denotations, local),
         None => Ok(Vec::new(alloc)),

@@ -1,5 +1,7 @@
 //! What comes in: the modules of a bundle as they were read, what linking tells of them, and what the hook answered.
 
+ghost use Rattle.std.specs.Prelude.{◌≡◌, None, slice_get, unwrap_or};
+
 use crate::context::Contexts;
 use bundle_link_tables::Tables;
 use bundle_link_targets::Linking;
@@ -75,7 +77,9 @@ impl<'t, 'a, 'h> BundleParts<'t, 'a, 'h> {
     }
 
     /// What the hook answered for a module, if something.
-    pub fn answer(&self, module: usize) -> Option<Answered<'t, 'h>> {
+    pub fn answer(&self, module: usize) -> Option<Answered<'t, 'h>>
+        ensures { result ≡ unwrap_or (slice_get self.now.answers.now «module») None }
+    {
         self.answers.get(module).copied().unwrap_or(None)
     }
 }
