@@ -1,0 +1,10 @@
+pub mod Rising
+pub mod Passing
+pub mod Keeping
+pub mod Walking
+pub mod LabelLemmas
+pub mod ScopeLemmas
+pub mod AddLemmas
+pub mod TakenLemmas
+pub mod OwnLemmas
+pub mod Reading

@@ -1,0 +1,49 @@
+-- Which names a bundle gives: a context to each scope of its modules, and an identifier to each
+-- label.
+use Rattle.std.specs.Prelude.{ℕ, ◌-◌, nat_lt, List, if◌then◌else◌, codes}
+use Rattle.bundle_rules.specs.Idents.{Ident}
+use Rattle.bundle_rules.specs.Program.{Program}
+use Rattle.bundle_rules.specs.Linking.{Declared}
+use Rattle.bundle_rules.specs.Meaning.{Label, Of, Parameter}
+use Rattle.bundle_rules.specs.Symbols.{symbol_of_label}
+use Rattle.bundle_scope_names.proofs.Numbering.{Numbering}
+
+-- what has a context of its own: the top of a module; a scope inside it, by where its node begins;
+-- a scope inside what the hook answered for it; a label; the parameter and the variable of the
+-- helper
+pub data Holder : Type 0 where
+  TopOf : (m : ℕ) → Holder
+  InsideOf : (m begins : ℕ) → Holder
+  AnsweredOf : (m begins : ℕ) → Holder
+  NameOf : Label → Holder
+  HelperParameter : Holder
+  HelperVariable : Holder
+
+-- the contexts of a bundle
+abbrev pub Contexts : Type 0
+Contexts = Holder → ℕ
+
+-- the context of the scope of this order in a list: the first two are the wrapper and the top
+abbrev pub in_order : ℕ → (ℕ → ℕ) → ℕ → ℕ
+in_order top inside order = if nat_lt order 2 then top else inside (order - 2)
+
+-- the contexts of the bindings of a module
+abbrev pub numbers_in : Contexts → ℕ → Numbering
+numbers_in context m order x = in_order (context (TopOf m)) (λ b. context (InsideOf m b)) order
+
+-- those of what the hook answered for it, as it stands alone
+abbrev pub numbers_answered : Contexts → ℕ → Numbering
+numbers_answered context m order x =
+    in_order (context (TopOf m)) (λ b. context (AnsweredOf m b)) order
+
+-- which identifier stands for a label: a declared name and a parameter of a CommonJS module keep
+-- their symbols and have the context of their module's top; what the linker adds is called as it
+-- calls it, and has a context of its own
+abbrev pub ident_of_label : Program → List ℕ → Contexts → Label → Ident
+ident_of_label p list context (Of (Declared m x)) = (x, context (TopOf m))
+ident_of_label p list context (Parameter c x) = (x, context (TopOf c))
+ident_of_label p list context l = (symbol_of_label p list l, context (NameOf l))
+
+-- the name of a default export that has none of its own
+abbrev pub default_ident : Contexts → ℕ → Ident
+default_ident context m = (codes "default", context (TopOf m))

@@ -1,0 +1,13 @@
+pub mod Given
+pub mod Steps
+pub mod Idents
+pub mod Own
+pub mod Body
+pub mod Holders
+pub mod Numbers
+pub mod Named
+pub mod Scoped
+pub mod Ranges
+pub mod Bundle
+pub mod Added
+pub mod Held
