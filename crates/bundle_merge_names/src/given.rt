@@ -1,7 +1,8 @@
 //! The names of a bundle, given in one pass: a context for each scope of a module or of what the hook answered for it
 //! that binds something, and an identifier for each label. This alone may be refused for contexts.
 
-ghost use Rattle.std.specs.Prelude.{◌≡◌, ◌<◌, ℕ, true, IfOk, OnOk, List, Some, None, length, map, slice_get, unwrap_or};
+ghost use Rattle.std.specs.Prelude.{◌≡◌, ◌<◌, ℕ, true, IfOk, OnOk, List, Option, Some, None, length, map, slice_get, unwrap_or};
+ghost use Rattle.bundle_tree_piece.specs.Item.{Item};
 ghost use Rattle.bundle_rules.specs.Entries as entries;
 ghost use Rattle.bundle_rules.specs.Linking as links;
 ghost use Rattle.bundle_rules.specs.Meaning as meaning;
@@ -11,7 +12,8 @@ ghost use Rattle.bundle_link_tables.specs.TablesOf.{taken_of};
 ghost use Rattle.bundle_link_targets.specs.Linked.{HandsOver};
 ghost use Rattle.bundle_link_targets.specs.Symbols.{IsTakable};
 ghost use Rattle.bundle_merge_names.specs.Added.{AddsNames, IsNamedOf, IsOfHelper, IsTakenOf, IsWholeOf, with_taken};
-ghost use Rattle.bundle_merge_names.specs.Given.{NameOf};
+ghost use Rattle.bundle_merge_names.specs.Bundle.{AreBundleParts, AreNamesOf};
+ghost use Rattle.bundle_merge_names.specs.Given.{Contexts, NameOf};
 ghost use Rattle.bundle_merge_names.specs.Numbers as numbers;
 ghost use Rattle.bundle_merge_names.specs.Ranges.{GivesAnswered, GivesContexts};
 ghost use Rattle.bundle_merge_names.specs.Scoped.{AreMarks, GivesScope, flag_in, scope_number};
@@ -29,7 +31,12 @@ use std::alloc::{AllocError, Global};
 pub fn names_of<'a>(
     alloc: Global,
     bundle: &BundleParts<'_, 'a, '_>,
-) -> Result<Names<'a>, MergeError> {
+) -> Result<Names<'a>, MergeError>
+    ensures { IfOk result (λ names.
+        (p : Program) (list : List ℕ) (answers : ℕ → Option (List Item)) →
+        AreBundleParts p list answers bundle.now →
+        (context : Contexts) × AreNamesOf p list answers context bundle.now names) }
+{
     let mut names = Names::new(alloc, bundle.contexts);
     give_names(alloc, &mut names, bundle)?;
     Ok(names)
