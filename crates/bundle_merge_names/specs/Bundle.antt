@@ -1,7 +1,8 @@
 -- When what a bundle is made of is that of a program, and its names are right.
-use Rattle.std.specs.Prelude.{◌≡◌, ℕ, zero, suc, ◌<◌, ◌↔◌, List, [], ◌∷◌, Option, Some, None, length, map, slice_get, unwrap_or, codes}
+use Rattle.std.specs.Prelude.{◌≡◌, ℕ, zero, suc, ◌<◌, ◌↔◌, List, [], ◌∷◌, Option, Some, None, Contains, length, map, slice_get, unwrap_or, codes}
 use Rattle.std.specs.List.{flat_map}
 use Rattle.indexmap.specs.IndexMap.{get_by_text}
+use Rattle.bundle_order_sort.specs.declared.plan.Block.{Block}
 use Rattle.bundle_tree_piece.specs.Item as h
 use Rattle.bundle_tree_piece.specs.Item.{Item, item_of}
 use Rattle.bundle_tree_listed.specs.Tree.{key_value_prop_items, module_item_items, node}
@@ -80,6 +81,11 @@ pub record AreBundleParts (p : Program) (list : List ℕ) (answers : ℕ → Opt
       slice_get bundle.parts.now n ≡ Some other →
       part.local ≡ other.local →
       m ≡ n
+  pub blocks : (block : Block) →
+      Contains bundle.blocks.now block →
+      (m : ℕ) →
+      Contains block.places.items m →
+      m < length bundle.parts.now
 
 -- what a holder of a context is called, if it is a label or one of the helper's
 abbrev pub holder_symbol : Program → List ℕ → Holder → Text
@@ -92,6 +98,9 @@ holder_symbol p list _ = []
 pub record AreNamesOf (p : Program) (list : List ℕ) (answers : ℕ → Option (List Item)) (context : Contexts) (bundle : BundleParts) (names : Names) : Type 0 where
   pub apart : TellApart p answers context
   pub locals : (m : ℕ) → m < length bundle.parts.now → local_in names m ≡ Some (context (TopOf m))
+  pub tops : (m : ℕ) (part : Part) →
+      slice_get bundle.parts.now m ≡ Some part →
+      context (TopOf m) ≡ part.local
   pub scopes : (m : ℕ) (part : Part) (kind : ModuleKind) →
       slice_get bundle.parts.now m ≡ Some part →
       HasKind p m kind →
