@@ -6,5 +6,10 @@ pub mod LabelLemmas
 pub mod ScopeLemmas
 pub mod AddLemmas
 pub mod TakenLemmas
+pub mod SomeLemmas
+pub mod GivenLemmas
+pub mod DueLemmas
 pub mod OwnLemmas
+pub mod Holding
 pub mod Reading
+pub mod Naming

@@ -16,7 +16,7 @@ use Rattle.bundle_rules.specs.Program.{Program, tree_of, calls_of, resolves, IsR
 use Rattle.bundle_rules.specs.Scopes.{ModuleKind}
 use Rattle.bundle_link_index.specs.Says.{target_of}
 use Rattle.bundle_link_index.specs.declared.target.Target.{Target}
-use Rattle.bundle_link_targets.specs.Meant.{IsShared}
+use Rattle.bundle_merge_whole.specs.made.Alone.{AreSound}
 use Rattle.bundle_merge_names.specs.declared.names.Label.{Label}
 use Rattle.bundle_merge_names.specs.declared.names.Label.TheVariants as n
 use Rattle.bundle_merge_names.specs.declared.names.Names.{Names}
@@ -28,25 +28,19 @@ use Rattle.bundle_merge_names.specs.Given.{Contexts, Holder, TopOf, NameOf, iden
 use Rattle.bundle_merge_names.specs.Holders.{IsHolder, added, defines as defines_label, holds_meta as holds_label}
 use Rattle.bundle_merge_names.specs.Idents.{label_ident, target_ident, ident_by}
 use Rattle.bundle_merge_names.specs.Named.{held, holder_of}
-
--- what is meant has a context, and literal calls lead to reached CommonJS modules
-pub record AreHolders (p : Program) (answers : ℕ → Option (List Item)) : Type 0 where
-  pub declared : (k : ℕ) (x : Text) → IsMeant p (Of (l.Declared k x)) → IsReached p k
-  pub shared : (t : l.Target) → IsShared t → IsMeant p (Of t) → IsHolder p answers (NameOf (Of t))
-  pub called : (k c : ℕ) (call : e.RequireCall) →
-      IsReached p k →
-      Contains (calls_of p k) call →
-      resolves p k call.specifier ≡ Some c →
-      IsReached p c × IsCommonJs p c
+use Rattle.bundle_merge_names.proofs.Holding.{AreHolders, are-holders}
 
 is-true : (b : Bool) → b ≡ true → IsTrue b
 is-true b is = is
 
-module _ (p : Program) (list : List ℕ) (answers : ℕ → Option (List Item)) (context : Contexts) (bundle : BundleParts) (names : Names) (parts : AreBundleParts p list answers bundle) (are : AreNamesOf p list answers context bundle names) (holders : AreHolders p answers) where
-  held-ident : (label : Label) → IsHolder p answers (holder_of label) → label_ident names label ≡ (holder_symbol p list (holder_of label), context (holder_of label))
+module _ (p : Program) (list : List ℕ) (answers : ℕ → Option (List Item)) (context : Contexts) (bundle : BundleParts) (names : Names) (parts : AreBundleParts p list answers bundle) (are : AreNamesOf p list answers context bundle names) (sound : AreSound p list) where
+  holders : AreHolders p answers
+  holders = are-holders p answers list sound
+
+  pub held-ident : (label : Label) → IsHolder p answers (holder_of label) → label_ident names label ≡ (holder_symbol p list (holder_of label), context (holder_of label))
   held-ident label holder = ap (λ (o : Option Ident). unwrap_or o ([], 1)) (are.labels label holder)
 
-  target-ident : (t : Target) (u : l.Target) → target_of t ≡ u → IsMeant p (Of u) → ident_by names (n.Of t) u ≡ ident_of_label p list context (Of u)
+  pub target-ident : (t : Target) (u : l.Target) → target_of t ≡ u → IsMeant p (Of u) → ident_by names (n.Of t) u ≡ ident_of_label p list context (Of u)
   target-ident t (l.Declared k x) is meant = ap (λ (o : Option ℕ). (x, unwrap_or o 1)) (are.locals k ((parts.reached k).0 (holders.declared k x meant)))
   target-ident t (l.Namespace d) is meant = held-ident (n.Of t) (subst (λ u. IsHolder p answers (NameOf (Of u))) (sym is) (holders.shared (l.Namespace d) tt meant)) ∙ ap (λ u. (holder_symbol p list (NameOf (Of u)), context (NameOf (Of u)))) is
   target-ident t (l.External s its) is meant = held-ident (n.Of t) (subst (λ u. IsHolder p answers (NameOf (Of u))) (sym is) (holders.shared (l.External s its) tt meant)) ∙ ap (λ u. (holder_symbol p list (NameOf (Of u)), context (NameOf (Of u)))) is

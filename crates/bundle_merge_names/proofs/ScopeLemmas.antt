@@ -155,7 +155,7 @@ scoped-next scopes i after scope marks local from old new contexts more context 
       all = λ n s at_n flag. has-one n s (scope-cases n s at_n) flag;
     }
 
-there-below : {A : Type 0} (xs : List A) (n : ℕ) → n < length xs → (x : A) × (slice_get xs n ≡ Some x)
+pub there-below : {A : Type 0} (xs : List A) (n : ℕ) → n < length xs → (x : A) × (slice_get xs n ≡ Some x)
 there-below [] n less = absurd (omega (arith, less))
 there-below (x ∷ xs) zero less = (x, refl)
 there-below (x ∷ xs) (suc n) less = there-below xs n (omega (arith, less))

@@ -1,12 +1,14 @@
 -- Which labels get names, with their symbols in a program.
 use Rattle.std.specs.Prelude.{◌≡◌, ◌≤◌, ◌⊎◌, ℕ, true, Bool, List, Some, Contains, slice_get}
 use Rattle.std.specs.Borrow.{Bor}
-use Rattle.bundle_rules.specs.Entries.{Taken, Named, Whole}
+use Rattle.bundle_rules.specs.Bundle.{AsksCommonJs, externals}
+use Rattle.bundle_rules.specs.Entries.{Taken, Named, Whole, has_import_meta}
 use Rattle.bundle_rules.specs.Idents.{Ident}
 use Rattle.bundle_rules.specs.Linking as l
+use Rattle.bundle_rules.specs.Linking.{IsCommonJs}
 use Rattle.bundle_rules.specs.Meaning as m
 use Rattle.bundle_rules.specs.Nodes.{Text}
-use Rattle.bundle_rules.specs.Program.{Program}
+use Rattle.bundle_rules.specs.Program.{Program, tree_of, IsReached}
 use Rattle.bundle_merge_names.specs.declared.names.Label.{Label}
 use Rattle.bundle_merge_names.specs.declared.names.Names.{Names}
 use Rattle.bundle_merge_names.specs.Bundle.{holder_symbol}
@@ -62,3 +64,53 @@ pub data IsTakenOf (base : l.Target) (names : List Text) (whole : Bool) (holder 
   by_whole : whole ≡ true →
       holder ≡ NameOf (m.Of (with_taken base Whole)) →
       IsTakenOf base names whole holder
+
+-- this one, where that is so
+pub record IsWhere (So : Type 0) (its holder : Holder) : Type 0 where
+  pub so : So
+  pub is : holder ≡ its
+
+-- what is meant of an external that modules of the list ask for
+pub record IsOfExternals (p : Program) (list : List ℕ) (holder : Holder) : Type 0 where
+  pub specifier : Text
+  pub its : Taken
+  pub asked : Contains (externals p list) specifier
+  pub meant : m.IsMeant p (m.Of (l.External specifier its))
+  pub is : holder ≡ NameOf (m.Of (l.External specifier its))
+
+-- what is meant of a CommonJS module that module k imports or re-exports from
+pub record IsOfLoads (p : Program) (k : ℕ) (holder : Holder) : Type 0 where
+  pub c : ℕ
+  pub its : Taken
+  pub asked : AsksCommonJs p k c
+  pub meant : m.IsMeant p (m.Of (l.CommonJs k c its))
+  pub is : holder ≡ NameOf (m.Of (l.CommonJs k c its))
+
+-- what module k needs: its load function, the object for its `import.meta`, what it takes of
+-- CommonJS modules, and the object of its namespace
+pub data IsOfModule (p : Program) (k : ℕ) (holder : Holder) : Type 0 where
+  its_load : IsWhere (IsCommonJs p k) (NameOf (m.Load k)) holder → IsOfModule p k holder
+  its_meta : IsWhere (has_import_meta (tree_of p k) ≡ true) (NameOf (m.Meta k)) holder →
+      IsOfModule p k holder
+  its_loads : IsOfLoads p k holder → IsOfModule p k holder
+  its_namespace : IsWhere (m.IsMeant p (m.Of (l.Namespace k))) (NameOf (m.Of (l.Namespace k))) holder →
+      IsOfModule p k holder
+
+-- what some reached module needs
+pub record IsOfModules (p : Program) (holder : Holder) : Type 0 where
+  pub k : ℕ
+  pub reached : IsReached p k
+  pub its : IsOfModule p k holder
+
+-- the helper, its parameter and its variable, where some reached module is CommonJS
+pub record IsOfHelpers (p : Program) (holder : Holder) : Type 0 where
+  pub c : ℕ
+  pub reached : IsReached p c
+  pub common_js : IsCommonJs p c
+  pub its : IsOfHelper holder
+
+-- what is meant of externals, the helper, and what modules need
+pub data IsOfLabels (p : Program) (list : List ℕ) (holder : Holder) : Type 0 where
+  of_externals : IsOfExternals p list holder → IsOfLabels p list holder
+  of_helpers : IsOfHelpers p holder → IsOfLabels p list holder
+  of_modules : IsOfModules p holder → IsOfLabels p list holder

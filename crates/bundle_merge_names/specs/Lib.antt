@@ -11,3 +11,4 @@ pub mod Ranges
 pub mod Bundle
 pub mod Added
 pub mod Held
+pub mod Naming

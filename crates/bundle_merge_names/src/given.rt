@@ -4,16 +4,20 @@
 ghost use Rattle.std.specs.Prelude.{◌≡◌, ◌<◌, ℕ, true, IfOk, OnOk, List, Option, Some, None, length, map, slice_get, unwrap_or};
 ghost use Rattle.bundle_tree_piece.specs.Item.{Item};
 ghost use Rattle.bundle_rules.specs.Entries as entries;
+ghost use Rattle.bundle_rules.specs.Entries.{has_import_meta};
 ghost use Rattle.bundle_rules.specs.Linking as links;
+ghost use Rattle.bundle_rules.specs.Linking.{IsCommonJs};
 ghost use Rattle.bundle_rules.specs.Meaning as meaning;
-ghost use Rattle.bundle_rules.specs.Program.{Program};
+ghost use Rattle.bundle_rules.specs.Program.{IsReached, Program, tree_of};
 ghost use Rattle.bundle_link_index.specs.Says.{target_of};
 ghost use Rattle.bundle_link_tables.specs.TablesOf.{taken_of};
-ghost use Rattle.bundle_link_targets.specs.Linked.{HandsOver};
+ghost use Rattle.bundle_link_targets.specs.Linked.{HandsOver, IsLinkingOf};
+ghost use Rattle.bundle_link_targets.specs.Meant.{AreModules};
 ghost use Rattle.bundle_link_targets.specs.Symbols.{IsTakable};
-ghost use Rattle.bundle_merge_names.specs.Added.{AddsNames, IsNamedOf, IsOfHelper, IsTakenOf, IsWholeOf, with_taken};
-ghost use Rattle.bundle_merge_names.specs.Bundle.{AreBundleParts, AreNamesOf};
+ghost use Rattle.bundle_merge_names.specs.Added.{AddsNames, IsNamedOf, IsOfExternals, IsOfHelper, IsOfHelpers, IsOfLoads, IsOfModule, IsOfModules, IsTakenOf, IsWhere, IsWholeOf, with_taken};
+ghost use Rattle.bundle_merge_names.specs.Bundle.{AreBundleParts, AreNamesOf, IsPartOf};
 ghost use Rattle.bundle_merge_names.specs.Given.{Contexts, NameOf};
+ghost use Rattle.bundle_merge_names.specs.Holders.{IsHolder};
 ghost use Rattle.bundle_merge_names.specs.Numbers as numbers;
 ghost use Rattle.bundle_merge_names.specs.Ranges.{GivesAnswered, GivesContexts};
 ghost use Rattle.bundle_merge_names.specs.Scoped.{AreMarks, GivesScope, flag_in, scope_number};
@@ -195,16 +199,25 @@ fn is_at_top(scope: Scope) -> bool
 fn give_labels<'a>(
     names: &mut Names<'a>,
     bundle: &BundleParts<'_, 'a, '_>,
-) -> Result<(), MergeError> {
-    let linking = bundle.linking;
+) -> Result<(), MergeError>
+    ensures { OnOk result ((p : Program) (list : List ℕ) (answers : ℕ → Option (List Item)) →
+        AreBundleParts p list answers bundle.now →
+        AddsNames p list (IsHolder p answers) names.old names.new) }
+{
+    give_externals(names, bundle.linking)?;
+    give_helpers(names, bundle)?;
+    give_modules(names, bundle)
+}
+
+// Gives names to what is meant of externals.
+fn give_externals<'a>(names: &mut Names<'a>, linking: &Linking<'a>) -> Result<(), MergeError>
+    ensures { OnOk result ((p : Program) (list : List ℕ) →
+        HandsOver p list linking.now →
+        AreModules p →
+        AddsNames p list (IsOfExternals p list) names.old names.new) }
+{
     for external in linking.externals() {
         give_external(names, linking, external)?;
-    }
-    if bundle.has_common_js() {
-        give_helper(names)?;
-    }
-    for (module, part) in bundle.parts.iter().enumerate() {
-        give_module(names, linking, module, part)?;
     }
     Ok(())
 }
@@ -317,6 +330,21 @@ fn give_target<'a>(
     names.give(Label::Of(target), linking.symbol_of(target))
 }
 
+// Gives names to the helper, its parameter and its variable, if some module is CommonJS.
+fn give_helpers(
+    names: &mut Names<'_>,
+    bundle: &BundleParts<'_, '_, '_>,
+) -> Result<(), MergeError>
+    ensures { OnOk result ((p : Program) (list : List ℕ) (answers : ℕ → Option (List Item)) →
+        AreBundleParts p list answers bundle.now →
+        AddsNames p list (IsOfHelpers p) names.old names.new) }
+{
+    if !bundle.has_common_js() {
+        return Ok(());
+    }
+    give_helper(names)
+}
+
 // Gives names to the helper, its parameter and its variable.
 fn give_helper(names: &mut Names<'_>) -> Result<(), MergeError>
     ensures { OnOk result ((p : Program) (list : List ℕ) →
@@ -328,28 +356,110 @@ fn give_helper(names: &mut Names<'_>) -> Result<(), MergeError>
     Ok(())
 }
 
-// Gives names to what a module needs: the load function of a CommonJS module; the object for `import.meta`, where no
-// statement holds it already, and what is loaded of an ES module; and the object of its namespace, where that is meant.
+// Gives names to what the modules need.
+fn give_modules<'a>(
+    names: &mut Names<'a>,
+    bundle: &BundleParts<'_, 'a, '_>,
+) -> Result<(), MergeError>
+    ensures { OnOk result ((p : Program) (list : List ℕ) (answers : ℕ → Option (List Item)) →
+        AreBundleParts p list answers bundle.now →
+        AddsNames p list (IsOfModules p) names.old names.new) }
+{
+    for (module, part) in bundle.parts.iter().enumerate() {
+        give_module(names, bundle.linking, module, part)?;
+    }
+    Ok(())
+}
+
+// Gives names to what a module needs: its load function, the object for its `import.meta`, what is taken of the CommonJS
+// modules that it loads, and the object of its namespace.
 fn give_module<'a>(
     names: &mut Names<'a>,
     linking: &Linking<'a>,
     module: usize,
     part: &Part<'_, 'a>,
-) -> Result<(), MergeError> {
-    if linking.is_common_js(module) {
-        names.give(Label::Load { module }, "load")?;
-    } else {
-        if part.tables.has_import_meta && part.written.is_none() {
-            names.give(Label::Meta { module }, "importMeta")?;
-        }
-        for loaded in linking.loads(module) {
-            give_loaded(names, linking, module, loaded)?;
-        }
+) -> Result<(), MergeError>
+    ensures { OnOk result ((p : Program) (list : List ℕ) →
+        IsLinkingOf p linking.now →
+        HandsOver p list linking.now →
+        AreModules p →
+        IsReached p «module» →
+        IsPartOf p «module» part.now →
+        AddsNames p list (IsOfModule p «module») names.old names.new) }
+{
+    give_load(names, linking, module)?;
+    give_meta(names, module, part)?;
+    give_loads(names, linking, module)?;
+    give_namespace(names, linking, module)
+}
+
+// Gives a name to the load function of a module, if it is CommonJS.
+fn give_load(names: &mut Names<'_>, linking: &Linking<'_>, module: usize) -> Result<(), MergeError>
+    ensures { OnOk result ((p : Program) (list : List ℕ) →
+        IsLinkingOf p linking.now →
+        AddsNames p list (IsWhere (IsCommonJs p «module») (NameOf (meaning.Load «module»)))
+        names.old names.new) }
+{
+    if !linking.is_common_js(module) {
+        return Ok(());
     }
-    if linking.is_object_meant(module) {
-        give_target(names, linking, Target::Namespace { module })?;
+    names.give(Label::Load { module }, "load")
+}
+
+// Gives a name to the object for the `import.meta` of a module, if it has that, and no statement holds it already.
+fn give_meta(names: &mut Names<'_>, module: usize, part: &Part<'_, '_>) -> Result<(), MergeError>
+    ensures { OnOk result ((p : Program) (list : List ℕ) →
+        IsPartOf p «module» part.now →
+        AddsNames p list
+        (IsWhere (has_import_meta (tree_of p «module») ≡ true) (NameOf (meaning.Meta «module»)))
+        names.old names.new) }
+{
+    if !part.tables.has_import_meta {
+        return Ok(());
+    }
+    if part.written.is_some() {
+        return Ok(());
+    }
+    names.give(Label::Meta { module }, "importMeta")
+}
+
+// Gives names to what a module takes of the CommonJS modules that it loads.
+fn give_loads<'a>(
+    names: &mut Names<'a>,
+    linking: &Linking<'a>,
+    module: usize,
+) -> Result<(), MergeError>
+    ensures { OnOk result ((p : Program) (list : List ℕ) →
+        HandsOver p list linking.now →
+        AreModules p →
+        IsReached p «module» →
+        AddsNames p list (IsOfLoads p «module») names.old names.new) }
+{
+    for loaded in linking.loads(module) {
+        give_loaded(names, linking, module, loaded)?;
     }
     Ok(())
+}
+
+// Gives a name to the object of a module's namespace, if that is meant.
+fn give_namespace<'a>(
+    names: &mut Names<'a>,
+    linking: &Linking<'a>,
+    module: usize,
+) -> Result<(), MergeError>
+    ensures { OnOk result ((p : Program) (list : List ℕ) →
+        IsLinkingOf p linking.now →
+        HandsOver p list linking.now →
+        AreModules p →
+        AddsNames p list
+        (IsWhere (meaning.IsMeant p (meaning.Of (links.Namespace «module»)))
+        (NameOf (meaning.Of (links.Namespace «module»))))
+        names.old names.new) }
+{
+    if !linking.is_object_meant(module) {
+        return Ok(());
+    }
+    give_target(names, linking, Target::Namespace { module })
 }
 
 // Gives names to what a module takes of a CommonJS module.

@@ -1,6 +1,9 @@
 //! What comes in: the modules of a bundle as they were read, what linking tells of them, and what the hook answered.
 
-ghost use Rattle.std.specs.Prelude.{◌≡◌, None, slice_get, unwrap_or};
+ghost use Rattle.std.specs.Prelude.{◌≡◌, ◌<◌, ◌↔◌, ℕ, IsTrue, None, length, slice_get, unwrap_or};
+ghost use Rattle.bundle_rules.specs.Linking.{IsCommonJs};
+ghost use Rattle.bundle_rules.specs.Program.{Program};
+ghost use Rattle.bundle_link_targets.specs.Linked.{IsLinkingOf};
 
 use crate::context::Contexts;
 use bundle_link_tables::Tables;
@@ -72,8 +75,17 @@ pub struct BundleParts<'t, 'a, 'h> {
 
 impl<'t, 'a, 'h> BundleParts<'t, 'a, 'h> {
     /// Whether some module is CommonJS.
-    pub fn has_common_js(&self) -> bool {
-        (0..self.parts.len()).any(|module| self.linking.is_common_js(module))
+    pub fn has_common_js(&self) -> bool
+        ensures { (p : Program) →
+            IsLinkingOf p self.now.linking.now →
+            IsTrue result ↔ ((m : ℕ) × (m < length self.now.parts.now) × IsCommonJs p m) }
+    {
+        for module in 0..self.parts.len() {
+            if self.linking.is_common_js(module) {
+                return true;
+            }
+        }
+        false
     }
 
     /// What the hook answered for a module, if something.
