@@ -93,7 +93,8 @@ pub data IsOfModule (p : Program) (k : ℕ) (holder : Holder) : Type 0 where
   its_meta : IsWhere (has_import_meta (tree_of p k) ≡ true) (NameOf (m.Meta k)) holder →
       IsOfModule p k holder
   its_loads : IsOfLoads p k holder → IsOfModule p k holder
-  its_namespace : IsWhere (m.IsMeant p (m.Of (l.Namespace k))) (NameOf (m.Of (l.Namespace k))) holder →
+  its_namespace :
+      IsWhere (m.IsMeant p (m.Of (l.Namespace k))) (NameOf (m.Of (l.Namespace k))) holder →
       IsOfModule p k holder
 
 -- what some reached module needs

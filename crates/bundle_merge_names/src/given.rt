@@ -331,10 +331,7 @@ fn give_target<'a>(
 }
 
 // Gives names to the helper, its parameter and its variable, if some module is CommonJS.
-fn give_helpers(
-    names: &mut Names<'_>,
-    bundle: &BundleParts<'_, '_, '_>,
-) -> Result<(), MergeError>
+fn give_helpers(names: &mut Names<'_>, bundle: &BundleParts<'_, '_, '_>) -> Result<(), MergeError>
     ensures { OnOk result ((p : Program) (list : List ℕ) (answers : ℕ → Option (List Item)) →
         AreBundleParts p list answers bundle.now →
         AddsNames p list (IsOfHelpers p) names.old names.new) }
