@@ -4,8 +4,8 @@ use Rattle.bundle_merge_names.proofs.AddLemmas.{on-ok}
 use Rattle.bundle_merge_names.proofs.GivenLemmas.{meta-none, meta-one, meta-written}
 use Rattle.bundle_merge_names.proofs.given.give_meta.Goals as goal
 
-pub returns-then-not-has_import_meta : goal.returns-then-not-has_import_meta
-returns-then-not-has_import_meta c = λ p list part. meta-none p c.args.module list c.args.part.now c.args.names.now part (search rules)
+pub returns-then-not-part : goal.returns-then-not-part
+returns-then-not-part c = λ p list part. meta-none p c.args.module list c.args.part.now c.args.names.now part (search rules)
 
 pub returns-then-is_some : goal.returns-then-is_some
 returns-then-is_some c = λ p list part. meta-written p c.args.module list c.args.part.now c.args.names.now part (search rules)

@@ -1,6 +1,6 @@
 -- Each module that is gone over gets names for what it needs.
-use Rattle.std.proofs.Common.{rules, ◌+◌, get_or, refl, subst, arith}
-use Rattle.std.proofs.lemmas.Option.{slice_get-get_or, slice_get_within}
+use Rattle.std.proofs.Common.{rules, ◌+◌, length, refl, subst, arith}
+use Rattle.std.proofs.lemmas.Option.{slice_get_read}
 use Rattle.bundle_scope_denote.proofs.LoopLemmas.{take-whole}
 use Rattle.bundle_merge_names.specs.Added.{AddsNames, IsOfModules}
 use Rattle.bundle_merge_names.proofs.GivenLemmas.{OfPart, modules-from, modules-to}
@@ -15,8 +15,8 @@ pub loop-module-preserved : goal.loop-module-preserved
 loop-module-preserved c = λ p list answers are.
     let parts = c.args.bundle.now.parts.now in
     let i = c.loop-module.«module» in
-    let part = get_or parts i _ in
-    let at = slice_get-get_or parts i _ c.loop-module-test.true in
+    let part = c.part-item.result in
+    let at = slice_get_read parts (length parts) i part refl c.loop-module-test.true c.part-item.is in
     some-next p list (OfPart p) parts i (i + 1) part c.args.names.now c.loop-module.names c.give_module.new.names at (omega arith)
     (c.loop-module.invariant p list answers are)
     (c.in_ok-give_module.ensures p list are.linking are.handed are.modules ((are.reached i).1 c.loop-module-test.true) (are.parts i part at))
