@@ -21,9 +21,9 @@ use Rattle.bundle_merge_names.specs.declared.names.Names.{Names}
 use Rattle.bundle_merge_names.specs.declared.part.BundleParts.{BundleParts}
 use Rattle.bundle_merge_names.specs.Added.{AddsNames, IsOfExternals, IsOfHelper, IsOfHelpers, IsOfLabels, IsOfLoads, IsOfModule, IsOfModules, its_load, its_loads, its_meta, its_name, its_namespace, its_parameter, its_variable, of_externals, of_helpers, of_modules}
 use Rattle.bundle_merge_names.specs.Bundle.{AreBundleParts}
-use Rattle.bundle_merge_names.specs.Given.{Holder, TopOf, InsideOf, AnsweredOf, NameOf, HelperParameter, HelperVariable}
-use Rattle.bundle_merge_names.specs.Holders as h
-use Rattle.bundle_merge_names.specs.Holders.{AddsLabel, IsHolder}
+use Rattle.bundle_merge_whole.specs.made.Given.{Holder, TopOf, InsideOf, AnsweredOf, NameOf, HelperParameter, HelperVariable}
+use Rattle.bundle_merge_whole.specs.made.Alone as h
+use Rattle.bundle_merge_whole.specs.made.Alone.{AddsLabel, IsHolder}
 use Rattle.bundle_merge_names.specs.Named.{holder_of}
 use Rattle.bundle_merge_names.proofs.AddLemmas.{adds-on}
 use Rattle.bundle_merge_names.proofs.SomeLemmas.{adds-labels}

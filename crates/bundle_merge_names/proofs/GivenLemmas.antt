@@ -25,7 +25,7 @@ use Rattle.bundle_merge_names.specs.declared.names.Names.{Names}
 use Rattle.bundle_merge_names.specs.declared.part.Part.{Part}
 use Rattle.bundle_merge_names.specs.Added.{AddsNames, IsOfExternals, IsOfLoads, IsOfModule, IsOfModules, IsTakenOf, IsWhere, by_name, by_whole, its_load, its_loads, its_meta, its_namespace, with_taken}
 use Rattle.bundle_merge_names.specs.Bundle.{IsPartOf}
-use Rattle.bundle_merge_names.specs.Given.{Holder, NameOf}
+use Rattle.bundle_merge_whole.specs.made.Given.{Holder, NameOf}
 use Rattle.bundle_merge_names.specs.Held.{GivesName}
 use Rattle.bundle_merge_names.proofs.AddLemmas.{adds-on, adds-one}
 use Rattle.bundle_merge_names.proofs.ScopeLemmas.{there-below}

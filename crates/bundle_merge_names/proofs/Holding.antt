@@ -14,9 +14,9 @@ use Rattle.bundle_merge_whole.specs.labels.Functions.{IsOfFunction, a_name, a_pa
 use Rattle.bundle_merge_whole.specs.made.Alone.{AreSound}
 use Rattle.bundle_merge_whole.proofs.labels.Labels.{call-given, meant-top}
 use Rattle.bundle_merge_whole.proofs.together.Holders.{HoldsLabel, by_module, by_name, holds}
-use Rattle.bundle_merge_names.specs.Given.{Holder, NameOf}
-use Rattle.bundle_merge_names.specs.Holders as a
-use Rattle.bundle_merge_names.specs.Holders.{AddsLabel, IsHolder, added}
+use Rattle.bundle_merge_whole.specs.made.Given.{Holder, NameOf}
+use Rattle.bundle_merge_whole.specs.made.Alone as a
+use Rattle.bundle_merge_whole.specs.made.Alone.{AddsLabel, IsHolder, added}
 
 -- declarations that are meant are of reached modules, all else that is meant has a context, and literal calls lead to
 -- reached CommonJS modules

@@ -10,9 +10,9 @@ use Rattle.bundle_merge_names.specs.declared.names.Label.TheVariants as n
 use Rattle.bundle_merge_names.specs.declared.names.Names.{Names}
 use Rattle.bundle_merge_names.specs.declared.part.BundleParts.{BundleParts}
 use Rattle.bundle_merge_names.specs.Bundle.{AreBundleParts, AreNamesOf, holder_symbol}
-use Rattle.bundle_merge_names.specs.Given.{Contexts}
-use Rattle.bundle_merge_names.specs.Holders as h
-use Rattle.bundle_merge_names.specs.Holders.{IsHolder}
+use Rattle.bundle_merge_whole.specs.made.Given.{Contexts}
+use Rattle.bundle_merge_whole.specs.made.Alone as h
+use Rattle.bundle_merge_whole.specs.made.Alone.{IsHolder}
 use Rattle.bundle_merge_names.specs.Idents.{label_ident}
 use Rattle.bundle_merge_names.specs.Named.{holder_of}
 use Rattle.bundle_merge_names.specs.Naming.{AreNamed}

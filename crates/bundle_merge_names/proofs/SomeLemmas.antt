@@ -6,7 +6,7 @@ use Rattle.bundle_rules.specs.Program.{Program}
 use Rattle.bundle_merge_names.specs.declared.names.Label.{Label}
 use Rattle.bundle_merge_names.specs.declared.names.Names.{Names}
 use Rattle.bundle_merge_names.specs.Added.{AddsNames, IsWhere}
-use Rattle.bundle_merge_names.specs.Given.{Holder}
+use Rattle.bundle_merge_whole.specs.made.Given.{Holder}
 use Rattle.bundle_merge_names.specs.Named.{holder_of}
 use Rattle.bundle_merge_names.proofs.AddLemmas.{adds-on, adds-none}
 use Rattle.bundle_merge_names.proofs.ScopeLemmas.{push-cases, push-old, push-last, take-long}

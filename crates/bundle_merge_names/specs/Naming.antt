@@ -6,7 +6,7 @@ use Rattle.bundle_rules.specs.Linking.{IsCommonJs}
 use Rattle.bundle_rules.specs.Meaning.{Of, Load, Meta, Helper, IsMeant}
 use Rattle.bundle_link_index.specs.Says.{target_of}
 use Rattle.bundle_link_index.specs.declared.target.Target.{Target}
-use Rattle.bundle_merge_names.specs.Given.{Contexts, TopOf, HelperParameter, HelperVariable, ident_of_label}
+use Rattle.bundle_merge_whole.specs.made.Given.{Contexts, TopOf, HelperParameter, HelperVariable, ident_of_label}
 use Rattle.bundle_merge_names.specs.Idents.{label_ident, target_ident}
 use Rattle.bundle_merge_names.specs.Named.{local_in}
 use Rattle.bundle_merge_names.specs.declared.names.Label.TheVariants as n

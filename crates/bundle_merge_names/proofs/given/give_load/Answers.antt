@@ -4,7 +4,7 @@ use Rattle.std.proofs.lemmas.Bool.{true≢false}
 use Rattle.bundle_rules.specs.Linking.{IsCommonJs}
 use Rattle.bundle_rules.specs.Meaning as m
 use Rattle.bundle_merge_names.specs.declared.names.Label.TheVariants as n
-use Rattle.bundle_merge_names.specs.Given.{NameOf}
+use Rattle.bundle_merge_whole.specs.made.Given.{NameOf}
 use Rattle.bundle_merge_names.proofs.AddLemmas.{adds-one, on-ok}
 use Rattle.bundle_merge_names.proofs.SomeLemmas.{adds-where, adds-not}
 use Rattle.bundle_merge_names.proofs.given.give_load.Goals as goal

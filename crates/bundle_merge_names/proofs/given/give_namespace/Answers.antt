@@ -3,7 +3,7 @@ use Rattle.std.proofs.Common.{rules, ◌≡◌, Bool, true, false, sym, ◌∙�
 use Rattle.std.proofs.lemmas.Bool.{true≢false}
 use Rattle.bundle_rules.specs.Linking as l
 use Rattle.bundle_rules.specs.Meaning as m
-use Rattle.bundle_merge_names.specs.Given.{NameOf}
+use Rattle.bundle_merge_whole.specs.made.Given.{NameOf}
 use Rattle.bundle_merge_names.proofs.AddLemmas.{on-ok}
 use Rattle.bundle_merge_names.proofs.SomeLemmas.{adds-where, adds-not}
 use Rattle.bundle_merge_names.proofs.given.give_namespace.Goals as goal
