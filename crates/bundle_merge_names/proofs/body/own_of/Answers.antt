@@ -1,5 +1,4 @@
 -- It is told by a record.
-use Rattle.bundle_merge_names.specs.Own.{IsOwnName}
 use Rattle.bundle_merge_names.proofs.body.own_of.Goals as goal
 
 pub returns : goal.returns

@@ -1,5 +1,5 @@
 -- A use becomes what it means, and the name of a call its load function.
-use Rattle.std.proofs.Common.{◌≡◌, true, false, Option, Some, None, sym, ap, subst, ◌∙◌}
+use Rattle.std.proofs.Common.{Option, sym, ap, subst, ◌∙◌}
 use Rattle.std.specs.Prelude.{slice_get}
 use Rattle.std.proofs.lemmas.Bool.{false≢true}
 use Rattle.bundle_link_targets.specs.Handed.{IsMeaningAt}

@@ -1,5 +1,5 @@
 -- The helper gets its names where some module is CommonJS.
-use Rattle.std.proofs.Common.{rules, ◌≡◌, Bool, true, false, sym, ◌∙◌}
+use Rattle.std.proofs.Common.{rules, ◌≡◌, true, false, sym, ◌∙◌}
 use Rattle.std.proofs.lemmas.Bool.{true≢false}
 use Rattle.bundle_merge_names.specs.Added.{IsOfHelper, IsOfHelpers}
 use Rattle.bundle_merge_names.proofs.AddLemmas.{adds-none, on-ok}

@@ -1,5 +1,5 @@
 -- The load function gets its name where the module is CommonJS.
-use Rattle.std.proofs.Common.{rules, ◌≡◌, Bool, true, false, refl, sym, ◌∙◌}
+use Rattle.std.proofs.Common.{rules, ◌≡◌, true, false, refl, sym, ◌∙◌}
 use Rattle.std.proofs.lemmas.Bool.{true≢false}
 use Rattle.bundle_rules.specs.Linking.{IsCommonJs}
 use Rattle.bundle_rules.specs.Meaning as m

@@ -1,5 +1,5 @@
 -- Each CommonJS module that is gone over gets names for what is taken of it.
-use Rattle.std.proofs.Common.{rules, ◌+◌, length, refl, subst, arith}
+use Rattle.std.proofs.Common.{◌+◌, length, refl, subst, arith}
 use Rattle.std.proofs.lemmas.Option.{slice_get_read}
 use Rattle.bundle_scope_denote.proofs.LoopLemmas.{take-whole}
 use Rattle.bundle_merge_names.specs.Added.{AddsNames, IsOfLoads}

@@ -1,5 +1,5 @@
 -- Each module that is gone over gets names for what it needs.
-use Rattle.std.proofs.Common.{rules, ◌+◌, length, refl, subst, arith}
+use Rattle.std.proofs.Common.{◌+◌, length, refl, subst, arith}
 use Rattle.std.proofs.lemmas.Option.{slice_get_read}
 use Rattle.bundle_scope_denote.proofs.LoopLemmas.{take-whole}
 use Rattle.bundle_merge_names.specs.Added.{AddsNames, IsOfModules}

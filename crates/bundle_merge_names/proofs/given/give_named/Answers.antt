@@ -1,5 +1,5 @@
 -- Each name that is gone over gets a name.
-use Rattle.std.proofs.Common.{rules, ◌+◌, get_or, refl, sym, subst, arith}
+use Rattle.std.proofs.Common.{◌+◌, get_or, refl, sym, subst, arith}
 use Rattle.std.proofs.lemmas.Option.{slice_get-get_or}
 use Rattle.bundle_link_index.specs.Says.{target_of}
 use Rattle.bundle_link_targets.specs.Symbols.{IsTakable}

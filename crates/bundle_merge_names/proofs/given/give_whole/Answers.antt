@@ -1,11 +1,11 @@
 -- The whole gets a name where it is taken.
-use Rattle.std.proofs.Common.{rules, ◌≡◌, Bool, true, false, sym, subst}
+use Rattle.std.proofs.Common.{rules, ◌≡◌, Bool, true, sym, subst}
 use Rattle.bundle_rules.specs.Entries.{Whole}
 use Rattle.bundle_link_index.specs.Says.{target_of}
 use Rattle.bundle_link_targets.specs.Symbols.{IsTakable}
 use Rattle.bundle_merge_names.specs.Added.{AddsNames, IsWholeOf}
 use Rattle.bundle_merge_names.proofs.AddLemmas.{on-ok}
-use Rattle.bundle_merge_names.proofs.TakenLemmas.{adds-whole, adds-no-whole, takable-with}
+use Rattle.bundle_merge_names.proofs.TakenLemmas.{adds-whole, takable-with}
 use Rattle.bundle_merge_names.proofs.given.give_whole.Goals as goal
 
 pub returns : goal.returns
