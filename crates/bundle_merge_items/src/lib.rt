@@ -6,17 +6,9 @@
 //! made, block by block, over these names.
 #![tactic(auto)]
 
-mod body;
-mod context;
-mod error;
-mod given;
 mod merge;
 mod module;
-mod names;
 mod outside;
-mod part;
 
-pub use context::{Contexts, local_context};
-pub use error::MergeError;
+pub use bundle_merge_names::{Answered, BundleParts, Contexts, MergeError, Part, local_context};
 pub use merge::{Merged, merge_modules};
-pub use part::{Answered, BundleParts, Part};

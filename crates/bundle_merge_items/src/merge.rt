@@ -1,12 +1,12 @@
 //! The modules of a bundle as one: what is imported, the helper, the modules block by block, and what is exported.
 
-use crate::context::Contexts;
-use crate::error::MergeError;
-use crate::given::names_of;
+use bundle_merge_names::Contexts;
+use bundle_merge_names::MergeError;
+use bundle_merge_names::names_of;
 use crate::module::{add_item, add_module, add_stmt};
-use crate::names::Names;
+use bundle_merge_names::Names;
 use crate::outside::{add_external, add_helper};
-use crate::part::BundleParts;
+use bundle_merge_names::BundleParts;
 use bundle_link_targets::Target;
 use bundle_merge_injected::{Pair, export_list, export_star, namespace_object};
 use bundle_order::sorted_numbers;

@@ -2,7 +2,7 @@
 //! load functions are made by, and the statements by which modules load CommonJS modules.
 
 use crate::module::{add_item, add_stmt};
-use crate::names::{Label, Names};
+use bundle_merge_names::{Label, Names};
 use bundle_link_tables::Taken;
 use bundle_link_targets::{External, Loaded, Target};
 use bundle_merge_injected::{

@@ -14,7 +14,7 @@ pub enum MergeError {
 
 impl From<AllocError> for MergeError {
     ghost use Rattle.std.specs.Prelude.{◌≡◌};
-    ghost use Rattle.bundle_merge_items.specs.declared.error.MergeError.TheVariants.{OutOfMemory};
+    ghost use Rattle.bundle_merge_names.specs.declared.error.MergeError.TheVariants.{OutOfMemory};
 
     ghost from_gives = { λ _ refusal. refusal ≡ OutOfMemory };
 
@@ -25,7 +25,7 @@ impl From<AllocError> for MergeError {
 
 impl<T: Drop> From<AllocFailed<T>> for MergeError {
     ghost use Rattle.std.specs.Prelude.{◌≡◌};
-    ghost use Rattle.bundle_merge_items.specs.declared.error.MergeError.TheVariants.{OutOfMemory};
+    ghost use Rattle.bundle_merge_names.specs.declared.error.MergeError.TheVariants.{OutOfMemory};
 
     ghost from_gives = { λ _ refusal. refusal ≡ OutOfMemory };
 

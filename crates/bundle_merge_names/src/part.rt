@@ -1,5 +1,10 @@
 //! What comes in: the modules of a bundle as they were read, what linking tells of them, and what the hook answered.
 
+ghost use Rattle.std.specs.Prelude.{◌≡◌, ◌<◌, ◌↔◌, ℕ, IsTrue, None, length, slice_get, unwrap_or};
+ghost use Rattle.bundle_rules.specs.Linking.{IsCommonJs};
+ghost use Rattle.bundle_rules.specs.Program.{Program};
+ghost use Rattle.bundle_link_targets.specs.Linked.{IsLinkingOf};
+
 use crate::context::Contexts;
 use bundle_link_tables::Tables;
 use bundle_link_targets::Linking;
@@ -31,7 +36,7 @@ pub struct Part<'t, 'a> {
 
 impl<'t, 'a> Part<'t, 'a> {
     /// The statement that holds its `import.meta`, if it is there already.
-    pub(crate) fn written_items(&self) -> &'a [ModuleItem] {
+    pub fn written_items(&self) -> &'a [ModuleItem] {
         match self.written {
             Some(_) => self.items.get(..1).unwrap_or(&[]),
             None => &[],
@@ -39,7 +44,7 @@ impl<'t, 'a> Part<'t, 'a> {
     }
 
     /// The items that are its own.
-    pub(crate) fn own_items(&self) -> &'a [ModuleItem] {
+    pub fn own_items(&self) -> &'a [ModuleItem] {
         match self.written {
             Some(_) => self.items.get(1..).unwrap_or(&[]),
             None => self.items,
@@ -70,12 +75,23 @@ pub struct BundleParts<'t, 'a, 'h> {
 
 impl<'t, 'a, 'h> BundleParts<'t, 'a, 'h> {
     /// Whether some module is CommonJS.
-    pub(crate) fn has_common_js(&self) -> bool {
-        (0..self.parts.len()).any(|module| self.linking.is_common_js(module))
+    pub fn has_common_js(&self) -> bool
+        ensures { (p : Program) →
+            IsLinkingOf p self.now.linking.now →
+            IsTrue result ↔ ((m : ℕ) × (m < length self.now.parts.now) × IsCommonJs p m) }
+    {
+        for module in 0..self.parts.len() {
+            if self.linking.is_common_js(module) {
+                return true;
+            }
+        }
+        false
     }
 
     /// What the hook answered for a module, if something.
-    pub(crate) fn answer(&self, module: usize) -> Option<Answered<'t, 'h>> {
+    pub fn answer(&self, module: usize) -> Option<Answered<'t, 'h>>
+        ensures { result ≡ unwrap_or (slice_get self.now.answers.now «module») None }
+    {
         self.answers.get(module).copied().unwrap_or(None)
     }
 }

@@ -1,6 +1,16 @@
 //! What is named in a bundle: an identifier, by symbol and context, for each label, and contexts for the scopes of its
 //! modules. All are given before any item is made.
 
+ghost use Rattle.std.specs.Prelude.{◌≡◌, ◌++◌, ◌∷◌, [], suc, IfErr, IfOk, OnOk, Some, None, unwrap_or};
+ghost use Rattle.bundle_tree_places.specs.Marks.{ident_of};
+ghost use Rattle.bundle_link_targets.specs.Lists.{list_in};
+ghost use Rattle.bundle_merge_names.specs.Held.{GivesName};
+ghost use Rattle.bundle_merge_names.specs.Named.{answered_in, held, local_in, scopes_in};
+ghost use Rattle.bundle_merge_names.specs.Idents.{label_ident, target_ident};
+ghost use Rattle.bundle_merge_names.specs.Numbers.{position};
+ghost use Rattle.bundle_merge_names.specs.declared.names.Label as labels;
+ghost use Rattle.bundle_merge_names.specs.declared.error.MergeError.TheVariants.{ContextsUsedUp};
+
 use crate::context::{Contexts, GLOBAL};
 use crate::error::MergeError;
 use bundle_link_targets::Target;
@@ -10,7 +20,7 @@ use std::alloc::{AllocError, Global};
 
 /// What a name that the linker gives stands for.
 #[derive(Clone, Copy, PartialEq, Eq, Hash)]
-pub(crate) enum Label<'a> {
+pub enum Label<'a> {
     /// What names of modules stand for, but for a declaration of a module, which keeps its own.
     Of(Target<'a>),
     /// The function that loads a CommonJS module.
@@ -26,7 +36,7 @@ pub(crate) enum Label<'a> {
 }
 
 /// The names of a bundle.
-pub(crate) struct Names<'a> {
+pub struct Names<'a> {
     // The context of the top of each module.
     locals: Vec<u32>,
     // For each module, the contexts of the scopes in its list that bind something,
@@ -53,7 +63,13 @@ impl<'a> Drop for Names<'a> {
 
 impl<'a> Names<'a> {
     /// No names, where these contexts are free.
-    pub(crate) fn new(alloc: Global, contexts: Contexts) -> Names<'a> {
+    pub fn new(alloc: Global, contexts: Contexts) -> Names<'a>
+        ensures locals { result.locals.items ≡ [] }
+        ensures scopes { result.scopes.items ≡ [] }
+        ensures answered { result.answered.items ≡ [] }
+        ensures labels { (label : labels.Label) → held result label ≡ None }
+        ensures contexts { result.contexts ≡ contexts }
+    {
         Names {
             locals: Vec::new(alloc),
             scopes: Vec::new(alloc),
@@ -64,17 +80,32 @@ impl<'a> Names<'a> {
     }
 
     /// The next context, for a scope of a module or of what the hook answered for it.
-    pub(crate) fn take(&mut self, module: usize) -> Result<u32, MergeError> {
+    pub fn take(&mut self, module: usize) -> Result<u32, MergeError>
+        ensures taken { IfOk result (λ context. context ≡ position self.old.contexts) }
+        ensures next { IfOk result (λ context. position self.new.contexts ≡ suc context) }
+        ensures locals { self.new.locals ≡ self.old.locals }
+        ensures scopes { self.new.scopes ≡ self.old.scopes }
+        ensures answered { self.new.answered ≡ self.old.answered }
+        ensures labels { self.new.labels ≡ self.old.labels }
+        ensures refused { IfErr result (λ refusal. refusal ≡ ContextsUsedUp (Some «module»)) }
+        ensures none { IfErr result (λ refusal. self.old.contexts.next ≡ None) }
+    {
         self.contexts.take(Some(module))
     }
 
     /// Adds the next module: the context of its top, and those of the scopes in its list and in what the hook answered.
-    pub(crate) fn add_module(
+    pub fn add_module(
         &mut self,
         local: u32,
         scopes: Vec<Option<u32>>,
         answered: Vec<Option<u32>>,
-    ) -> Result<(), AllocError> {
+    ) -> Result<(), AllocError>
+        ensures locals { OnOk result (self.new.locals.items ≡ self.old.locals.items ++ local ∷ []) }
+        ensures scopes { OnOk result (self.new.scopes.items ≡ self.old.scopes.items ++ scopes ∷ []) }
+        ensures answered { OnOk result (self.new.answered.items ≡ self.old.answered.items ++ answered ∷ []) }
+        ensures labels { OnOk result (self.new.labels ≡ self.old.labels) }
+        ensures contexts { self.new.contexts ≡ self.old.contexts }
+    {
         self.locals.push(local)?;
         self.scopes.push(scopes)?;
         self.answered.push(answered)?;
@@ -82,7 +113,9 @@ impl<'a> Names<'a> {
     }
 
     /// Gives a label the name of this symbol, with the next context, if it has none.
-    pub(crate) fn give(&mut self, label: Label<'a>, sym: &'a str) -> Result<(), MergeError> {
+    pub fn give(&mut self, label: Label<'a>, sym: &'a str) -> Result<(), MergeError>
+        ensures { OnOk result (GivesName label.entry sym.now self.old self.new) }
+    {
         if self.labels.contains_key(&label) {
             return Ok(());
         }
@@ -92,28 +125,38 @@ impl<'a> Names<'a> {
     }
 
     /// The contexts that are free.
-    pub(crate) fn contexts(&self) -> Contexts {
+    pub fn contexts(&self) -> Contexts
+        ensures { result ≡ self.now.contexts }
+    {
         self.contexts
     }
 
     /// A name at the top of a module.
-    pub(crate) fn local(&self, module: usize, sym: &'a str) -> Name<'a> {
+    pub fn local(&self, module: usize, sym: &'a str) -> Name<'a>
+        ensures { ident_of result ≡ (sym.now, unwrap_or (local_in self.now «module») 1) }
+    {
         let ctxt = self.locals.get(module).copied().unwrap_or(GLOBAL);
         Name { sym, ctxt }
     }
 
     /// The contexts of the scopes in the list of a module.
-    pub(crate) fn scopes(&self, module: usize) -> &[Option<u32>] {
+    pub fn scopes(&self, module: usize) -> &[Option<u32>]
+        ensures { result.now ≡ scopes_in self.now «module» }
+    {
         contexts_at(&self.scopes, module)
     }
 
     /// The contexts of the scopes in the list of what the hook answered for a module.
-    pub(crate) fn answered(&self, module: usize) -> &[Option<u32>] {
+    pub fn answered(&self, module: usize) -> &[Option<u32>]
+        ensures { result.now ≡ answered_in self.now «module» }
+    {
         contexts_at(&self.answered, module)
     }
 
     /// What stands for a target.
-    pub(crate) fn target(&self, target: Target<'a>) -> Name<'a> {
+    pub fn target(&self, target: Target<'a>) -> Name<'a>
+        ensures { ident_of result ≡ target_ident self.now target.entry }
+    {
         match target {
             Target::Declared { module, name } => self.local(module, name),
             _ => self.of(Label::Of(target)),
@@ -121,7 +164,9 @@ impl<'a> Names<'a> {
     }
 
     /// The name of a label. What no item of a bundle stands for may have none; it is then never written.
-    pub(crate) fn of(&self, label: Label<'a>) -> Name<'a> {
+    pub fn of(&self, label: Label<'a>) -> Name<'a>
+        ensures { ident_of result ≡ label_ident self.now label.entry }
+    {
         match self.labels.get(&label) {
             Some(name) => *name,
             None => Name {
@@ -133,7 +178,9 @@ impl<'a> Names<'a> {
 }
 
 // The contexts of the module with this number.
-fn contexts_at(modules: &[Vec<Option<u32>>], module: usize) -> &[Option<u32>] {
+fn contexts_at(modules: &[Vec<Option<u32>>], module: usize) -> &[Option<u32>]
+    ensures { result.now ≡ list_in modules.now «module» }
+{
     match modules.get(module) {
         Some(contexts) => contexts.as_slice(),
         None => &[],

@@ -1,0 +1,15 @@
+pub mod Rising
+pub mod Passing
+pub mod Keeping
+pub mod Walking
+pub mod LabelLemmas
+pub mod ScopeLemmas
+pub mod AddLemmas
+pub mod TakenLemmas
+pub mod SomeLemmas
+pub mod GivenLemmas
+pub mod DueLemmas
+pub mod OwnLemmas
+pub mod Holding
+pub mod Reading
+pub mod Naming

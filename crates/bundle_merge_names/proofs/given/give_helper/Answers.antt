@@ -1,0 +1,28 @@
+-- The helper, its parameter and its variable get names, one after another.
+use Rattle.std.proofs.Common.{◌≡◌, ◌⊎◌, inl, inr, refl, sym, subst, ℕ, List}
+use Rattle.bundle_rules.specs.Meaning as m
+use Rattle.bundle_rules.specs.Program.{Program}
+use Rattle.bundle_merge_names.specs.declared.names.Label.TheVariants as n
+use Rattle.bundle_merge_names.specs.declared.names.Names.{Names}
+use Rattle.bundle_merge_names.specs.Added.{AddsNames, IsOfHelper, its_name, its_parameter, its_variable}
+use Rattle.bundle_merge_whole.specs.made.Given.{Holder, NameOf, HelperParameter, HelperVariable}
+use Rattle.bundle_merge_names.proofs.AddLemmas.{adds-one, adds-on}
+use Rattle.bundle_merge_names.proofs.given.give_helper.Goals as goal
+
+abbrev FirstTwo : Holder → Type 0
+FirstTwo holder = (holder ≡ NameOf m.Helper) ⊎ (holder ≡ HelperParameter)
+
+split : (holder : Holder) → IsOfHelper holder → FirstTwo holder ⊎ (holder ≡ HelperVariable)
+split _ its_name = inl (inl refl)
+split _ its_parameter = inl (inr refl)
+split _ its_variable = inr refl
+
+first : (holder : Holder) → FirstTwo holder → IsOfHelper holder
+first holder (inl is) = subst IsOfHelper (sym is) its_name
+first holder (inr is) = subst IsOfHelper (sym is) its_parameter
+
+all-three : (p : Program) (list : List ℕ) (a b c d : Names) → AddsNames p list (λ h. h ≡ NameOf m.Helper) a b → AddsNames p list (λ h. h ≡ HelperParameter) b c → AddsNames p list (λ h. h ≡ HelperVariable) c d → AddsNames p list IsOfHelper a d
+all-three p list a b c d one two three = adds-on p list FirstTwo (λ h. h ≡ HelperVariable) IsOfHelper a c d split first (λ h is. subst IsOfHelper (sym is) its_variable) (adds-on p list (λ h. h ≡ NameOf m.Helper) (λ h. h ≡ HelperParameter) FirstTwo a b c (λ h is. is) (λ h is. inl is) (λ h is. inr is) one two) three
+
+pub returns : goal.returns
+returns c = λ p list. all-three p list c.args.names.now c.give.new.self c.give-2.new.self c.give-3.new.self (adds-one p list n.Helper _ c.args.names.now c.give.new.self refl c.in_ok-give.ensures) (adds-one p list n.HelperParameter _ c.give.new.self c.give-2.new.self refl c.in_ok-give-2.ensures) (adds-one p list n.HelperVariable _ c.give-2.new.self c.give-3.new.self refl c.in_ok-give-3.ensures)

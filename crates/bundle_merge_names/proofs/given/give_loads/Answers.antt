@@ -1,0 +1,34 @@
+-- Each CommonJS module that is gone over gets names for what is taken of it.
+use Rattle.std.proofs.Common.{◌+◌, length, refl, subst, arith}
+use Rattle.std.proofs.lemmas.Option.{slice_get_read}
+use Rattle.bundle_scope_denote.proofs.LoopLemmas.{take-whole}
+use Rattle.bundle_merge_names.specs.Added.{AddsNames, IsOfLoads}
+use Rattle.bundle_merge_names.proofs.GivenLemmas.{OfLoaded, loaded-takable, loads-from, loads-to}
+use Rattle.bundle_merge_names.proofs.SomeLemmas.{IsOfSome, some-first, some-next}
+use Rattle.bundle_merge_names.proofs.TakenLemmas.{adds-like}
+use Rattle.bundle_merge_names.proofs.given.give_loads.Goals as goal
+
+pub loop-loaded-init : goal.loop-loaded-init
+loop-loaded-init c = λ p list handed modules reached. some-first p list (OfLoaded c.args.module) _ c.args.names.now refl
+
+pub loop-loaded-preserved : goal.loop-loaded-preserved
+loop-loaded-preserved c = λ p list handed modules reached.
+    let k = c.args.module in
+    let loads = c.loads-loaded-items.result.now in
+    let i = c.loop-loaded.loaded-index in
+    let loaded = c.loaded-item.result in
+    let at = slice_get_read loads (length loads) i loaded refl c.loop-loaded-test.true c.loaded-item.is in
+    some-next p list (OfLoaded k) loads i (i + 1) loaded c.args.names.now c.loop-loaded.names c.give_loaded.new.names at (omega arith)
+    (c.loop-loaded.invariant p list handed modules reached)
+    (c.in_ok-give_loaded.ensures p list handed (loaded-takable p modules k loads (c.loads-loaded-items.ensures p list handed reached) reached i loaded at))
+
+pub returns : goal.returns
+returns c = λ p list handed modules reached.
+    let k = c.args.module in
+    let loads = c.loads-loaded-items.result.now in
+    let are = c.loads-loaded-items.ensures p list handed reached in
+    adds-like p list (IsOfSome (OfLoaded k) loads) (IsOfLoads p k) c.args.names.now c.loop-loaded.names
+    (loads-to p modules k loads are) (loads-from p modules k loads are)
+    (subst (λ l. AddsNames p list (IsOfSome (OfLoaded k) l) c.args.names.now c.loop-loaded.names)
+    (take-whole loads c.loop-loaded.loaded-index c.loop-loaded-test.false)
+    (c.loop-loaded.invariant p list handed modules reached))

@@ -1,0 +1,31 @@
+-- Each module that is gone over gets names for what it needs.
+use Rattle.std.proofs.Common.{◌+◌, length, refl, subst, arith}
+use Rattle.std.proofs.lemmas.Option.{slice_get_read}
+use Rattle.bundle_scope_denote.proofs.LoopLemmas.{take-whole}
+use Rattle.bundle_merge_names.specs.Added.{AddsNames, IsOfModules}
+use Rattle.bundle_merge_names.proofs.GivenLemmas.{OfPart, modules-from, modules-to}
+use Rattle.bundle_merge_names.proofs.SomeLemmas.{IsOfSome, some-first, some-next}
+use Rattle.bundle_merge_names.proofs.TakenLemmas.{adds-like}
+use Rattle.bundle_merge_names.proofs.given.give_modules.Goals as goal
+
+pub loop-module-init : goal.loop-module-init
+loop-module-init c = λ p list answers are. some-first p list (OfPart p) _ c.args.names.now refl
+
+pub loop-module-preserved : goal.loop-module-preserved
+loop-module-preserved c = λ p list answers are.
+    let parts = c.args.bundle.now.parts.now in
+    let i = c.loop-module.«module» in
+    let part = c.part-item.result in
+    let at = slice_get_read parts (length parts) i part refl c.loop-module-test.true c.part-item.is in
+    some-next p list (OfPart p) parts i (i + 1) part c.args.names.now c.loop-module.names c.give_module.new.names at (omega arith)
+    (c.loop-module.invariant p list answers are)
+    (c.in_ok-give_module.ensures p list are.linking are.handed are.modules ((are.reached i).1 c.loop-module-test.true) (are.parts i part at))
+
+pub returns : goal.returns
+returns c = λ p list answers are.
+    let parts = c.args.bundle.now.parts.now in
+    adds-like p list (IsOfSome (OfPart p) parts) (IsOfModules p) c.args.names.now c.loop-module.names
+    (modules-to p parts are.reached) (modules-from p parts are.reached)
+    (subst (λ l. AddsNames p list (IsOfSome (OfPart p) l) c.args.names.now c.loop-module.names)
+    (take-whole parts c.loop-module.«module» c.loop-module-test.false)
+    (c.loop-module.invariant p list answers are))

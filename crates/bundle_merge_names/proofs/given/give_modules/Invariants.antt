@@ -1,0 +1,15 @@
+-- The modules that were gone over have names for what they need.
+use Rattle.std.proofs.Common.{ℕ, List, Option, take}
+use Rattle.bundle_tree_piece.specs.Item.{Item}
+use Rattle.bundle_rules.specs.Program.{Program}
+use Rattle.bundle_merge_names.specs.Added.{AddsNames}
+use Rattle.bundle_merge_names.specs.Bundle.{AreBundleParts}
+use Rattle.bundle_merge_names.proofs.GivenLemmas.{OfPart}
+use Rattle.bundle_merge_names.proofs.SomeLemmas.{IsOfSome}
+use Rattle.bundle_merge_names.proofs.given.give_modules.Given as goal
+
+abbrev pub invariant-loop-module : goal.invariant-loop-module
+invariant-loop-module l =
+    (p : Program) (list : List ℕ) (answers : ℕ → Option (List Item)) →
+    AreBundleParts p list answers l.bundle →
+    AddsNames p list (IsOfSome (OfPart p) (take l.«module» l.bundle.parts.now)) l.initial.names l.names

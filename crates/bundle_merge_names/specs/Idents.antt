@@ -1,0 +1,22 @@
+-- The identifiers that the names of a bundle give.
+use Rattle.std.specs.Prelude.{ℕ, [], Option, unwrap_or}
+use Rattle.bundle_rules.specs.Idents.{Ident}
+use Rattle.bundle_rules.specs.Linking as l
+use Rattle.bundle_link_index.specs.Says.{target_of}
+use Rattle.bundle_link_index.specs.declared.target.Target.{Target}
+use Rattle.bundle_merge_names.specs.declared.names.Label.{Label}
+use Rattle.bundle_merge_names.specs.declared.names.Label.TheVariants as n
+use Rattle.bundle_merge_names.specs.declared.names.Names.{Names}
+use Rattle.bundle_merge_names.specs.Named.{held, local_in}
+
+-- the identifier that is held for a label, or that of nothing
+abbrev pub label_ident : Names → Label → Ident
+label_ident names label = unwrap_or (held names label) ([], 1)
+
+-- what stands for a target, by what it is: a declaration keeps its name
+abbrev pub ident_by : Names → Label → l.Target → Ident
+ident_by names label (l.Declared k x) = (x, unwrap_or (local_in names k) 1)
+ident_by names label _ = label_ident names label
+
+abbrev pub target_ident : Names → Target → Ident
+target_ident names target = ident_by names (n.Of target) (target_of target)

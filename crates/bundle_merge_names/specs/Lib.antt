@@ -1,0 +1,11 @@
+pub mod Idents
+pub mod Own
+pub mod Body
+pub mod Numbers
+pub mod Named
+pub mod Scoped
+pub mod Ranges
+pub mod Bundle
+pub mod Added
+pub mod Held
+pub mod Naming

@@ -1,0 +1,483 @@
+//! The names of a bundle, given in one pass: a context for each scope of a module or of what the hook answered for it
+//! that binds something, and an identifier for each label. This alone may be refused for contexts.
+
+ghost use Rattle.std.specs.Prelude.{◌≡◌, ◌<◌, ℕ, true, IfOk, OnOk, List, Option, Some, None, length, map, slice_get, unwrap_or};
+ghost use Rattle.bundle_tree_piece.specs.Item.{Item};
+ghost use Rattle.bundle_rules.specs.Entries as entries;
+ghost use Rattle.bundle_rules.specs.Entries.{has_import_meta};
+ghost use Rattle.bundle_rules.specs.Linking as links;
+ghost use Rattle.bundle_rules.specs.Linking.{IsCommonJs};
+ghost use Rattle.bundle_rules.specs.Meaning as meaning;
+ghost use Rattle.bundle_rules.specs.Program.{IsReached, Program, tree_of};
+ghost use Rattle.bundle_link_index.specs.Says.{target_of};
+ghost use Rattle.bundle_link_tables.specs.TablesOf.{taken_of};
+ghost use Rattle.bundle_link_targets.specs.Linked.{HandsOver, IsLinkingOf};
+ghost use Rattle.bundle_link_targets.specs.Meant.{AreModules};
+ghost use Rattle.bundle_link_targets.specs.Symbols.{IsTakable};
+ghost use Rattle.bundle_merge_names.specs.Added.{AddsNames, IsNamedOf, IsOfExternals, IsOfHelper, IsOfHelpers, IsOfLoads, IsOfModule, IsOfModules, IsTakenOf, IsWhere, IsWholeOf, with_taken};
+ghost use Rattle.bundle_merge_names.specs.Bundle.{AreBundleParts, AreNamesOf, IsPartOf};
+ghost use Rattle.bundle_merge_whole.specs.made.Given.{Contexts, NameOf};
+ghost use Rattle.bundle_merge_whole.specs.made.Alone.{IsHolder};
+ghost use Rattle.bundle_merge_names.specs.Numbers as numbers;
+ghost use Rattle.bundle_merge_names.specs.Ranges.{GivesAnswered, GivesContexts};
+ghost use Rattle.bundle_merge_names.specs.Scoped.{AreMarks, GivesScope, flag_in, scope_number};
+
+use crate::error::MergeError;
+use crate::names::{Label, Names};
+use crate::part::{BundleParts, Part};
+use bundle_link_tables::Taken;
+use bundle_link_targets::{External, Linking, Loaded, Target};
+use bundle_scope_denote::{Denotations, Scope, ScopeKind};
+use std::alloc::{AllocError, Global};
+
+/// Gives a bundle its names. Refused for contexts, with the module whose scopes get them or none for labels, and for
+/// memory.
+pub fn names_of<'a>(
+    alloc: Global,
+    bundle: &BundleParts<'_, 'a, '_>,
+) -> Result<Names<'a>, MergeError>
+    ensures { IfOk result (λ names.
+        (p : Program) (list : List ℕ) (answers : ℕ → Option (List Item)) →
+        AreBundleParts p list answers bundle.now →
+        (context : Contexts) × AreNamesOf p list answers context bundle.now names) }
+{
+    let mut names = Names::new(alloc, bundle.contexts);
+    give_names(alloc, &mut names, bundle)?;
+    Ok(names)
+}
+
+// Gives all names: first those of scopes, module by module, and then those of labels.
+fn give_names<'a>(
+    alloc: Global,
+    names: &mut Names<'a>,
+    bundle: &BundleParts<'_, 'a, '_>,
+) -> Result<(), MergeError> {
+    for (module, part) in bundle.parts.iter().enumerate() {
+        give_scopes(alloc, names, bundle, module, part)?;
+    }
+    give_labels(names, bundle)
+}
+
+// Gives contexts to the scopes of a module and of what the hook answered for it.
+fn give_scopes<'a>(
+    alloc: Global,
+    names: &mut Names<'a>,
+    bundle: &BundleParts<'_, 'a, '_>,
+    module: usize,
+    part: &Part<'_, 'a>,
+) -> Result<(), MergeError> {
+    let scopes = scope_contexts(alloc, names, module, part.denotations, part.local)?;
+    let answered = answer_contexts(alloc, names, bundle, module, part.local)?;
+    names.add_module(part.local, scopes, answered)?;
+    Ok(())
+}
+
+// Contexts for the scopes of what the hook answered for a module.
+fn answer_contexts<'a>(
+    alloc: Global,
+    names: &mut Names<'a>,
+    bundle: &BundleParts<'_, 'a, '_>,
+    module: usize,
+    local: u32,
+) -> Result<Vec<Option<u32>>, MergeError>
+    ensures { IfOk result (λ contexts.
+        GivesAnswered (unwrap_or (slice_get bundle.now.answers.now «module») None) local
+        names.old names.new contexts.items) }
+{
+    match bundle.answer(module) {
+        Some(answer) => scope_contexts(alloc, names, module, answer.denotations, local),
+        None => Ok(Vec::new(alloc)),
+    }
+}
+
+// Contexts for the scopes of a list that bind what occurs: that of the module at the top, and one that nothing has yet
+// for each other.
+fn scope_contexts(
+    alloc: Global,
+    names: &mut Names<'_>,
+    module: usize,
+    denotations: &Denotations<'_>,
+    local: u32,
+) -> Result<Vec<Option<u32>>, MergeError>
+    ensures { IfOk result (λ contexts.
+        GivesContexts denotations.now local names.old names.new contexts.items) }
+{
+    let marks = marks_of(alloc, denotations)?;
+    let mut contexts = Vec::new(alloc);
+    for scope in &denotations.scopes {
+        let binds = flag_at(&marks, contexts.len());
+        contexts.push(context_of(names, module, *scope, binds, local)?)?;
+    }
+    Ok(contexts)
+}
+
+// Whether each scope of a list binds what occurs.
+fn marks_of(alloc: Global, denotations: &Denotations<'_>) -> Result<Vec<bool>, AllocError>
+    ensures { IfOk result (λ marks.
+        AreMarks denotations.now.bindings.items denotations.now.occurrences.items
+        (length denotations.now.scopes.items) marks.items) }
+{
+    let mut marks = vec![in alloc; false; denotations.scopes.len()]?;
+    for occurrence in &denotations.occurrences {
+        let scope = scope_of(denotations, occurrence.binding);
+        mark(&mut marks, scope);
+    }
+    Ok(marks)
+}
+
+// The scope of a binding.
+fn scope_of(denotations: &Denotations<'_>, binding: Option<usize>) -> Option<usize>
+    ensures { result ≡ scope_number denotations.now.bindings.items binding }
+{
+    let binding = denotations.bindings.get(binding?)?;
+    Some(binding.scope)
+}
+
+// Marks a scope, if it is there.
+fn mark(marks: &mut Vec<bool>, scope: Option<usize>)
+    ensures long { length marks.new.items ≡ length marks.old.items }
+    ensures there { (n : ℕ) →
+        scope ≡ Some n → n < length marks.old.items → slice_get marks.new.items n ≡ Some true }
+    ensures kept { (n : ℕ) →
+        slice_get marks.old.items n ≡ Some true → slice_get marks.new.items n ≡ Some true }
+{
+    if let Some(scope) = scope {
+        mark_at(marks, scope);
+    }
+}
+
+// Marks the scope with this number, if it is there.
+fn mark_at(marks: &mut Vec<bool>, scope: usize)
+    ensures long { length marks.new.items ≡ length marks.old.items }
+    ensures there { scope < length marks.old.items → slice_get marks.new.items scope ≡ Some true }
+    ensures kept { (n : ℕ) →
+        slice_get marks.old.items n ≡ Some true → slice_get marks.new.items n ≡ Some true }
+{
+    if let Some(place) = marks.get_mut(scope) {
+        *place = true;
+    }
+}
+
+// The flag at a place. There is none past the last.
+fn flag_at(flags: &[bool], place: usize) -> bool
+    ensures { result ≡ flag_in flags.now place }
+{
+    flags.get(place).copied().unwrap_or(false)
+}
+
+// The context of a scope, if it binds something.
+fn context_of(
+    names: &mut Names<'_>,
+    module: usize,
+    scope: Scope,
+    binds: bool,
+    local: u32,
+) -> Result<Option<u32>, MergeError>
+    ensures { IfOk result (λ context.
+        GivesScope (numbers.is_at_top scope.kind) binds local names.old names.new context) }
+{
+    if is_at_top(scope) {
+        return Ok(Some(local));
+    }
+    if !binds {
+        return Ok(None);
+    }
+    Ok(Some(names.take(module)?))
+}
+
+// Whether a scope is the top of a module, or the function as which a CommonJS module is read.
+fn is_at_top(scope: Scope) -> bool
+    ensures { result ≡ numbers.is_at_top scope.kind }
+{
+    match scope.kind {
+        ScopeKind::Top | ScopeKind::Wrapper => true,
+        _ => false,
+    }
+}
+
+// Gives names to what is imported of externals, to the helper, and to what the modules need.
+fn give_labels<'a>(
+    names: &mut Names<'a>,
+    bundle: &BundleParts<'_, 'a, '_>,
+) -> Result<(), MergeError>
+    ensures { OnOk result ((p : Program) (list : List ℕ) (answers : ℕ → Option (List Item)) →
+        AreBundleParts p list answers bundle.now →
+        AddsNames p list (IsHolder p answers) names.old names.new) }
+{
+    give_externals(names, bundle.linking)?;
+    give_helpers(names, bundle)?;
+    give_modules(names, bundle)
+}
+
+// Gives names to what is meant of externals.
+fn give_externals<'a>(names: &mut Names<'a>, linking: &Linking<'a>) -> Result<(), MergeError>
+    ensures { OnOk result ((p : Program) (list : List ℕ) →
+        HandsOver p list linking.now →
+        AreModules p →
+        AddsNames p list (IsOfExternals p list) names.old names.new) }
+{
+    for external in linking.externals() {
+        give_external(names, linking, external)?;
+    }
+    Ok(())
+}
+
+// Gives names to what is meant of an external.
+fn give_external<'a>(
+    names: &mut Names<'a>,
+    linking: &Linking<'a>,
+    external: &External<'a>,
+) -> Result<(), MergeError>
+    ensures { OnOk result ((p : Program) (list : List ℕ) →
+        HandsOver p list linking.now →
+        IsTakable p (links.External external.now.specifier.now entries.Whole) →
+        AddsNames p list
+        (IsTakenOf (links.External external.now.specifier.now entries.Whole)
+        (map (λ name. name.now) external.now.names.items) external.now.whole)
+        names.old names.new) }
+{
+    let base = Target::External {
+        specifier: external.specifier,
+        taken: Taken::Whole,
+    };
+    give_taken(names, linking, base, &external.names, external.whole)
+}
+
+// Gives names to these names and to the whole, if it is taken, of what a target is taken of.
+fn give_taken<'a>(
+    names: &mut Names<'a>,
+    linking: &Linking<'a>,
+    base: Target<'a>,
+    its: &[&'a str],
+    whole: bool,
+) -> Result<(), MergeError>
+    ensures { OnOk result ((p : Program) (list : List ℕ) →
+        HandsOver p list linking.now →
+        IsTakable p (target_of base.entry) →
+        AddsNames p list
+        (IsTakenOf (target_of base.entry) (map (λ name. name.now) its.now) whole)
+        names.old names.new) }
+{
+    give_named(names, linking, base, its)?;
+    give_whole(names, linking, base, whole)?;
+    Ok(())
+}
+
+// Gives names to these names of what a target is taken of.
+fn give_named<'a>(
+    names: &mut Names<'a>,
+    linking: &Linking<'a>,
+    base: Target<'a>,
+    its: &[&'a str],
+) -> Result<(), MergeError>
+    ensures { OnOk result ((p : Program) (list : List ℕ) →
+        HandsOver p list linking.now →
+        IsTakable p (target_of base.entry) →
+        AddsNames p list (IsNamedOf (target_of base.entry) its.now) names.old names.new) }
+{
+    for name in its {
+        give_target(names, linking, taking(base, Taken::Named(*name)))?;
+    }
+    Ok(())
+}
+
+// Gives a name to the whole of what a target is taken of, if it is taken.
+fn give_whole<'a>(
+    names: &mut Names<'a>,
+    linking: &Linking<'a>,
+    base: Target<'a>,
+    whole: bool,
+) -> Result<(), MergeError>
+    ensures { OnOk result ((p : Program) (list : List ℕ) →
+        HandsOver p list linking.now →
+        IsTakable p (target_of base.entry) →
+        AddsNames p list (IsWholeOf (target_of base.entry) whole) names.old names.new) }
+{
+    if !whole {
+        return Ok(());
+    }
+    give_target(names, linking, taking(base, Taken::Whole))
+}
+
+// The target that is taken so of what another is taken of.
+fn taking<'a>(base: Target<'a>, taken: Taken<'a>) -> Target<'a>
+    ensures { target_of result ≡ with_taken (target_of base.entry) (taken_of taken.entry) }
+{
+    match base {
+        Target::External { specifier, .. } => Target::External { specifier, taken },
+        Target::CommonJs { taker, module, .. } => Target::CommonJs {
+            taker,
+            module,
+            taken,
+        },
+        Target::Declared { .. } => base,
+        Target::Namespace { .. } => base,
+    }
+}
+
+// Gives a name to a target, called as its modules call it.
+fn give_target<'a>(
+    names: &mut Names<'a>,
+    linking: &Linking<'a>,
+    target: Target<'a>,
+) -> Result<(), MergeError>
+    ensures { OnOk result ((p : Program) (list : List ℕ) →
+        HandsOver p list linking.now →
+        IsTakable p (target_of target.entry) →
+        AddsNames p list (λ holder. holder ≡ NameOf (meaning.Of (target_of target.entry)))
+        names.old names.new) }
+{
+    names.give(Label::Of(target), linking.symbol_of(target))
+}
+
+// Gives names to the helper, its parameter and its variable, if some module is CommonJS.
+fn give_helpers(names: &mut Names<'_>, bundle: &BundleParts<'_, '_, '_>) -> Result<(), MergeError>
+    ensures { OnOk result ((p : Program) (list : List ℕ) (answers : ℕ → Option (List Item)) →
+        AreBundleParts p list answers bundle.now →
+        AddsNames p list (IsOfHelpers p) names.old names.new) }
+{
+    if !bundle.has_common_js() {
+        return Ok(());
+    }
+    give_helper(names)
+}
+
+// Gives names to the helper, its parameter and its variable.
+fn give_helper(names: &mut Names<'_>) -> Result<(), MergeError>
+    ensures { OnOk result ((p : Program) (list : List ℕ) →
+        AddsNames p list IsOfHelper names.old names.new) }
+{
+    names.give(Label::Helper, "__swcpack_require__")?;
+    names.give(Label::HelperParameter, "fn")?;
+    names.give(Label::HelperVariable, "module")?;
+    Ok(())
+}
+
+// Gives names to what the modules need.
+fn give_modules<'a>(
+    names: &mut Names<'a>,
+    bundle: &BundleParts<'_, 'a, '_>,
+) -> Result<(), MergeError>
+    ensures { OnOk result ((p : Program) (list : List ℕ) (answers : ℕ → Option (List Item)) →
+        AreBundleParts p list answers bundle.now →
+        AddsNames p list (IsOfModules p) names.old names.new) }
+{
+    for (module, part) in bundle.parts.iter().enumerate() {
+        give_module(names, bundle.linking, module, part)?;
+    }
+    Ok(())
+}
+
+// Gives names to what a module needs: its load function, the object for its `import.meta`, what is taken of the CommonJS
+// modules that it loads, and the object of its namespace.
+fn give_module<'a>(
+    names: &mut Names<'a>,
+    linking: &Linking<'a>,
+    module: usize,
+    part: &Part<'_, 'a>,
+) -> Result<(), MergeError>
+    ensures { OnOk result ((p : Program) (list : List ℕ) →
+        IsLinkingOf p linking.now →
+        HandsOver p list linking.now →
+        AreModules p →
+        IsReached p «module» →
+        IsPartOf p «module» part.now →
+        AddsNames p list (IsOfModule p «module») names.old names.new) }
+{
+    give_load(names, linking, module)?;
+    give_meta(names, module, part)?;
+    give_loads(names, linking, module)?;
+    give_namespace(names, linking, module)
+}
+
+// Gives a name to the load function of a module, if it is CommonJS.
+fn give_load(names: &mut Names<'_>, linking: &Linking<'_>, module: usize) -> Result<(), MergeError>
+    ensures { OnOk result ((p : Program) (list : List ℕ) →
+        IsLinkingOf p linking.now →
+        AddsNames p list (IsWhere (IsCommonJs p «module») (NameOf (meaning.Load «module»)))
+        names.old names.new) }
+{
+    if !linking.is_common_js(module) {
+        return Ok(());
+    }
+    names.give(Label::Load { module }, "load")
+}
+
+// Gives a name to the object for the `import.meta` of a module, if it has that, and no statement holds it already.
+fn give_meta(names: &mut Names<'_>, module: usize, part: &Part<'_, '_>) -> Result<(), MergeError>
+    ensures { OnOk result ((p : Program) (list : List ℕ) →
+        IsPartOf p «module» part.now →
+        AddsNames p list
+        (IsWhere (has_import_meta (tree_of p «module») ≡ true) (NameOf (meaning.Meta «module»)))
+        names.old names.new) }
+{
+    if !part.tables.has_import_meta {
+        return Ok(());
+    }
+    if part.written.is_some() {
+        return Ok(());
+    }
+    names.give(Label::Meta { module }, "importMeta")
+}
+
+// Gives names to what a module takes of the CommonJS modules that it loads.
+fn give_loads<'a>(
+    names: &mut Names<'a>,
+    linking: &Linking<'a>,
+    module: usize,
+) -> Result<(), MergeError>
+    ensures { OnOk result ((p : Program) (list : List ℕ) →
+        HandsOver p list linking.now →
+        AreModules p →
+        IsReached p «module» →
+        AddsNames p list (IsOfLoads p «module») names.old names.new) }
+{
+    for loaded in linking.loads(module) {
+        give_loaded(names, linking, module, loaded)?;
+    }
+    Ok(())
+}
+
+// Gives a name to the object of a module's namespace, if that is meant.
+fn give_namespace<'a>(
+    names: &mut Names<'a>,
+    linking: &Linking<'a>,
+    module: usize,
+) -> Result<(), MergeError>
+    ensures { OnOk result ((p : Program) (list : List ℕ) →
+        IsLinkingOf p linking.now →
+        HandsOver p list linking.now →
+        AreModules p →
+        AddsNames p list
+        (IsWhere (meaning.IsMeant p (meaning.Of (links.Namespace «module»)))
+        (NameOf (meaning.Of (links.Namespace «module»))))
+        names.old names.new) }
+{
+    if !linking.is_object_meant(module) {
+        return Ok(());
+    }
+    give_target(names, linking, Target::Namespace { module })
+}
+
+// Gives names to what a module takes of a CommonJS module.
+fn give_loaded<'a>(
+    names: &mut Names<'a>,
+    linking: &Linking<'a>,
+    taker: usize,
+    loaded: &Loaded<'a>,
+) -> Result<(), MergeError>
+    ensures { OnOk result ((p : Program) (list : List ℕ) →
+        HandsOver p list linking.now →
+        IsTakable p (links.CommonJs taker loaded.now.module entries.Whole) →
+        AddsNames p list
+        (IsTakenOf (links.CommonJs taker loaded.now.module entries.Whole)
+        (map (λ name. name.now) loaded.now.names.items) loaded.now.whole)
+        names.old names.new) }
+{
+    let base = Target::CommonJs {
+        taker,
+        module: loaded.module,
+        taken: Taken::Whole,
+    };
+    give_taken(names, linking, base, &loaded.names, loaded.whole)
+}
