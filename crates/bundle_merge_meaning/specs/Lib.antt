@@ -1,2 +1,5 @@
 pub mod noted
 pub mod walked
+pub mod joined
+pub mod grouped
+pub mod loaded

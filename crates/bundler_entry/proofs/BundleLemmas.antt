@@ -17,7 +17,7 @@ use Rattle.bundle_rules.specs.Headline.{Named, reading_of, IsBundleOf}
 use Rattle.bundle_link.specs.Programs.{is_call}
 use Rattle.bundle_link_targets.specs.declared.linking.Linking.{Linking}
 use Rattle.bundle_merge_forms.specs.Wrapped.{CanBeWrapped}
-use Rattle.bundle_merge_joined.specs.joined.Joined.{joined}
+use Rattle.bundle_merge_meaning.specs.joined.Joined.{joined}
 use Rattle.bundle_merge_whole.specs.planned.Blocks.{block_of}
 use Rattle.bundle_merge_whole.specs.planned.Decided.{numbers_from}
 use Rattle.bundle_merge_whole.specs.planned.Placed.{id_at}

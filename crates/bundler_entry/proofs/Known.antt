@@ -15,7 +15,7 @@ use Rattle.bundle_rules.specs.Bundle.{Hooks}
 use Rattle.bundle_rules.specs.Kept.{local_context}
 use Rattle.bundle_link_reached.specs.Files.{number_of, numbers_of}
 use Rattle.bundle_link_reached.proofs.NumberLemmas.{got}
-use Rattle.bundle_merge_joined.specs.joined.Joined.{joined}
+use Rattle.bundle_merge_meaning.specs.joined.Joined.{joined}
 use Rattle.bundle_merge_whole.specs.planned.Blocks.{block_of}
 use Rattle.bundle_merge_whole.specs.planned.Decided.{Decided, numbers_from, plan_of}
 use Rattle.bundle_merge_whole.specs.planned.Placed.{id_at}

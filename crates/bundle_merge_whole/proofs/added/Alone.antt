@@ -17,9 +17,9 @@ use Rattle.bundle_rules.specs.Bundle.{Cause, Defines, AsModule, Hooks}
 use Rattle.bundle_scope_renamed.specs.fit.Sorts.{AnItem}
 use Rattle.bundle_scope_renamed.specs.fit.Fits.{IsFit}
 use Rattle.bundle_scope_renamed.specs.fit.Fits as f
-use Rattle.bundle_merge_joined.specs.joined.Notes.{its_name}
-use Rattle.bundle_merge_joined.specs.joined.Picked.{IsSingle}
-use Rattle.bundle_merge_joined.proofs.joined.Declarations.{IsNamed as HasNames}
+use Rattle.bundle_merge_meaning.specs.joined.Notes.{its_name}
+use Rattle.bundle_merge_meaning.specs.joined.Picked.{IsSingle}
+use Rattle.bundle_merge_meaning.proofs.joined.Declarations.{IsNamed as HasNames}
 use Rattle.bundle_merge_meaning.specs.walked.Renaming.{Told, IsMarked, HasNoLoneName}
 use Rattle.bundle_merge_whole.specs.composed.Noted.{AsWhole, MarksStandFor, as_whole, first_spot}
 use Rattle.bundle_merge_whole.specs.composed.Functions.{whole_form}

@@ -21,7 +21,7 @@ use Rattle.bundle_scope_renamed.specs.fit.Sorts.{AnItem, AnExport, ASource, Opti
 use Rattle.bundle_scope_renamed.specs.fit.Fits.{AreFit, no_more, over, a_name, a_node, IsFit, node}
 use Rattle.bundle_tree_places.specs.Edits as e
 use Rattle.bundle_merge_injected.specs.Listed as l
-use Rattle.bundle_merge_joined.proofs.joined.Declarations.{AreNamed}
+use Rattle.bundle_merge_meaning.proofs.joined.Declarations.{AreNamed}
 use Rattle.bundle_merge_meaning.specs.walked.Renaming.{IsMarked}
 use Rattle.bundle_merge_meaning.proofs.walked.Injecting.{means_of, written_of, export_list_marked}
 use Rattle.bundle_merge_meaning.proofs.walked.Lone.{export_list_lone}

@@ -20,9 +20,9 @@ use Rattle.bundle_scope_renamed.specs.fit.Sorts.{AnItem, AnExpr, AMemberKey, ASt
 use Rattle.bundle_scope_renamed.specs.fit.Fits.{AreFit, no_more, over, a_name, a_node, IsFit, node}
 use Rattle.bundle_tree_places.specs.Edits as e
 use Rattle.bundle_merge_injected.specs.Listed as l
-use Rattle.bundle_merge_joined.specs.joined.Joined.{own_declared}
-use Rattle.bundle_merge_joined.specs.joined.Notes.{own_denoted, is_inner_name}
-use Rattle.bundle_merge_joined.proofs.joined.Declarations.{AreNamed, IsNamed as HasNames}
+use Rattle.bundle_merge_meaning.specs.joined.Joined.{own_declared}
+use Rattle.bundle_merge_meaning.specs.joined.Notes.{own_denoted, is_inner_name}
+use Rattle.bundle_merge_meaning.proofs.joined.Declarations.{AreNamed, IsNamed as HasNames}
 use Rattle.bundle_merge_whole.specs.composed.Noted.{first_spot}
 use Rattle.bundle_merge_whole.specs.composed.Names.{own_from}
 

@@ -16,16 +16,16 @@ use Rattle.bundle_rules.specs.Mentions.{same_denoted}
 use Rattle.bundle_rules.specs.Program.{Program}
 use Rattle.bundle_rules.specs.Meaning.{Label, Helper, Meant, Known, Inside, is_inside}
 use Rattle.bundle_rules.specs.Bundle.{Helps, Defines, AsModule, Hooks, IsDue, helps as helps_due}
-use Rattle.bundle_merge_joined.specs.joined.Joined.{own_declared}
-use Rattle.bundle_merge_joined.specs.joined.Notes.{own_denoted, is_inner, is_inner_name, IsResolvedInside}
+use Rattle.bundle_merge_meaning.specs.joined.Joined.{own_declared}
+use Rattle.bundle_merge_meaning.specs.joined.Notes.{own_denoted, is_inner, is_inner_name, IsResolvedInside}
 use Rattle.bundle_merge_meaning.proofs.walked.Injecting.{helper_marked}
 use Rattle.bundle_merge_meaning.proofs.walked.Lone.{helper_lone}
 use Rattle.bundle_merge_whole.specs.composed.Noted.{AsWhole, as_whole, helps, first_spot}
 use Rattle.bundle_merge_whole.specs.composed.Functions.{whole_form}
 use Rattle.bundle_merge_whole.specs.made.Given.{Contexts, NameOf, HelperParameter, HelperVariable, ident_of_label}
-use Rattle.bundle_merge_joined.specs.loaded.Pieces.{is_told_inside, told_inside}
-use Rattle.bundle_merge_joined.proofs.loaded.Numbers.{told-filtered}
-use Rattle.bundle_merge_joined.specs.loaded.Pieces.{own_from}
+use Rattle.bundle_merge_meaning.specs.loaded.Pieces.{is_told_inside, told_inside}
+use Rattle.bundle_merge_meaning.proofs.loaded.Numbers.{told-filtered}
+use Rattle.bundle_merge_meaning.specs.loaded.Pieces.{own_from}
 use Rattle.bundle_rules.specs.Mentions.{each_denoted_once}
 use Rattle.bundle_merge_whole.specs.made.Alone.{DeclaresLabel, adds, helps as adds_helper, parameter, variable, helps_parameter, helps_variable, NameAlone, inside, of_top, IsAlone}
 use Rattle.bundle_merge_whole.proofs.added.Topped.{occurrences-item}

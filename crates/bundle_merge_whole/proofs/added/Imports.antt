@@ -23,7 +23,7 @@ use Rattle.bundle_scope_renamed.specs.fit.Sorts.{AnItem, AnImport, AnOuter, ASou
 use Rattle.bundle_scope_renamed.specs.fit.Fits.{AreFit, no_more, over, a_name, a_node, IsFit, node}
 use Rattle.bundle_tree_places.specs.Edits as e
 use Rattle.bundle_merge_injected.specs.Listed as l
-use Rattle.bundle_merge_joined.proofs.joined.Declarations.{AreNamed}
+use Rattle.bundle_merge_meaning.proofs.joined.Declarations.{AreNamed}
 use Rattle.bundle_merge_meaning.proofs.walked.Injecting.{imported_from, import_names_marked, import_whole_marked, import_bare_marked, export_star_marked}
 use Rattle.bundle_merge_meaning.proofs.walked.Lone.{import_names_lone, import_whole_lone, import_bare_lone, export_star_lone}
 use Rattle.bundle_merge_whole.specs.composed.Noted.{MarksStandFor, imports_names, imports_whole, imports_nothing, stars, first_spot}

@@ -19,7 +19,7 @@ use Rattle.bundle_scope_renamed.specs.fit.Sorts.{AnItem, AnExpr, AKey, APattern,
 use Rattle.bundle_scope_renamed.specs.fit.Fits.{AreFit, no_more, over, a_name, a_node, IsFit, node}
 use Rattle.bundle_tree_places.specs.Edits as e
 use Rattle.bundle_merge_injected.specs.Listed as l
-use Rattle.bundle_merge_joined.proofs.joined.Declarations.{AreNamed, IsNamed as HasNames}
+use Rattle.bundle_merge_meaning.proofs.joined.Declarations.{AreNamed, IsNamed as HasNames}
 use Rattle.bundle_merge_whole.specs.composed.Noted.{first_spot}
 use Rattle.bundle_merge_whole.proofs.added.Topped.{IsTopped}
 use Rattle.bundle_merge_whole.proofs.added.Rows.{Pair, bound_name}

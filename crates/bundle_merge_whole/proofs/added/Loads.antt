@@ -14,7 +14,7 @@ use Rattle.bundle_rules.specs.Linking.{CommonJs}
 use Rattle.bundle_rules.specs.Meaning.{Label, Of, Load, IsMeant, Known}
 use Rattle.bundle_rules.specs.Bundle.{Defines, Loads, AsModule, Hooks, IsDue, defines, loads as loads_due, AreNames}
 use Rattle.bundle_merge_injected.specs.Listed as l
-use Rattle.bundle_merge_joined.proofs.joined.Lists.{any-append}
+use Rattle.bundle_merge_meaning.proofs.joined.Lists.{any-append}
 use Rattle.bundle_merge_meaning.specs.walked.Renaming.{IsMarked}
 use Rattle.bundle_merge_meaning.proofs.walked.Injecting.{is_there, taken_from_c, load_means, load_marked}
 use Rattle.bundle_merge_meaning.proofs.walked.Lone.{load_lone}

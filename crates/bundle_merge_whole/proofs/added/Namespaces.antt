@@ -24,7 +24,7 @@ use Rattle.bundle_scope_renamed.specs.fit.Sorts.{AnItem, AnExpr, ACallee, AnArgu
 use Rattle.bundle_scope_renamed.specs.fit.Fits.{AreFit, no_more, over, a_name, a_node, IsFit, node}
 use Rattle.bundle_tree_places.specs.Edits as e
 use Rattle.bundle_merge_injected.specs.Listed as l
-use Rattle.bundle_merge_joined.proofs.joined.Declarations.{AreNamed, IsNamed as HasNames}
+use Rattle.bundle_merge_meaning.proofs.joined.Declarations.{AreNamed, IsNamed as HasNames}
 use Rattle.bundle_merge_meaning.specs.walked.Renaming.{IsMarked}
 use Rattle.bundle_merge_meaning.proofs.walked.Injecting.{means_of, written_of, namespace_marked}
 use Rattle.bundle_merge_meaning.proofs.walked.Lone.{namespace_lone}

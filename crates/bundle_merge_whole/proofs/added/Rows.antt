@@ -11,7 +11,7 @@ use Rattle.bundle_rules.specs.Injected.{NamedTarget}
 use Rattle.bundle_rules.specs.Program.{Program}
 use Rattle.bundle_rules.specs.Linking.{Target}
 use Rattle.bundle_rules.specs.Meaning.{Of, Known}
-use Rattle.bundle_merge_joined.proofs.joined.Tops.{Contains-cons, Contains-none}
+use Rattle.bundle_merge_meaning.proofs.joined.Tops.{Contains-cons, Contains-none}
 use Rattle.bundle_merge_meaning.proofs.walked.Injecting.{Row, means_of, written_of, target_of}
 use Rattle.bundle_merge_whole.specs.made.Given.{Contexts, ident_of_label}
 use Rattle.bundle_merge_whole.specs.made.Made.{named_idents, linked_idents}

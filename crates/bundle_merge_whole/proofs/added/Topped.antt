@@ -12,10 +12,10 @@ use Rattle.bundle_rules.specs.Nodes.{Text}
 use Rattle.bundle_rules.specs.Idents.{Ident, ident_of}
 use Rattle.bundle_rules.specs.Rebuilds.{Listed}
 use Rattle.bundle_rules.specs.Parts.{tree_of_items}
-use Rattle.bundle_merge_joined.specs.joined.Joined.{AllOf, own_declared}
-use Rattle.bundle_merge_joined.specs.joined.Notes.{its_name, is_inner_name}
-use Rattle.bundle_merge_joined.proofs.joined.Lists.{any-none}
-use Rattle.bundle_merge_joined.proofs.joined.Declarations.{IsNamed as HasNames, declared_by_names, declared-item}
+use Rattle.bundle_merge_meaning.specs.joined.Joined.{AllOf, own_declared}
+use Rattle.bundle_merge_meaning.specs.joined.Notes.{its_name, is_inner_name}
+use Rattle.bundle_merge_meaning.proofs.joined.Lists.{any-none}
+use Rattle.bundle_merge_meaning.proofs.joined.Declarations.{IsNamed as HasNames, declared_by_names, declared-item}
 use Rattle.bundle_merge_meaning.proofs.noted.Names.{occurrences_append}
 use Rattle.bundle_merge_whole.specs.composed.Noted.{first_spot}
 

@@ -7,12 +7,12 @@ use Rattle.bundle_rules.specs.Declarations.{Way, ByConst, ByContext, Name, name_
 use Rattle.bundle_rules.specs.Homes.{home_of}
 use Rattle.bundle_rules.specs.Denotes.{Bound, Global, is_written_in, is_implied_in, written_or_implied, denoted_by_context, bound_in, without_context, is_unresolved, own_or_found, denoted_of}
 use Rattle.bundle_rules.specs.Idents.{Ident, ident_of}
-use Rattle.bundle_merge_joined.specs.joined.Joined.{AllOf}
-use Rattle.bundle_merge_joined.specs.joined.Notes.{its_name, is_inner_name}
-use Rattle.bundle_merge_joined.specs.joined.Alike.{IsOneToOne, ScopesAlike, DeclaredAlike, DenotedAlike, bindings}
-use Rattle.bundle_merge_joined.proofs.joined.Declarations.{declared_by_names}
-use Rattle.bundle_merge_joined.proofs.joined.Denotes.{HasIdentifier, nothing-implied}
-use Rattle.bundle_merge_joined.proofs.joined.Alike.{home-alike, in-alike}
+use Rattle.bundle_merge_meaning.specs.joined.Joined.{AllOf}
+use Rattle.bundle_merge_meaning.specs.joined.Notes.{its_name, is_inner_name}
+use Rattle.bundle_merge_meaning.specs.joined.Alike.{IsOneToOne, ScopesAlike, DeclaredAlike, DenotedAlike, bindings}
+use Rattle.bundle_merge_meaning.proofs.joined.Declarations.{declared_by_names}
+use Rattle.bundle_merge_meaning.proofs.joined.Denotes.{HasIdentifier, nothing-implied}
+use Rattle.bundle_merge_meaning.proofs.joined.Alike.{home-alike, in-alike}
 
 -- a name that is made of another
 pub record IsMadeOf (R : ℕ → ℕ → Type 0) (o u : Occurrence) : Type 0 where

@@ -26,19 +26,19 @@ use Rattle.bundle_merge_injected.specs.Listed as l
 use Rattle.bundle_scope_renamed.specs.fit.Sorts.{AnItem}
 use Rattle.bundle_scope_renamed.specs.fit.Fits.{no_more, over, a_name, a_node, IsFit}
 use Rattle.bundle_scope_renamed.specs.fit.Fits as f
-use Rattle.bundle_merge_joined.specs.joined.Joined.{AllOf, own_declared}
-use Rattle.bundle_merge_joined.specs.joined.Notes.{its_name, own_denoted, is_inner, is_inner_name}
-use Rattle.bundle_merge_joined.proofs.joined.Declarations.{declared_by_names}
-use Rattle.bundle_merge_joined.proofs.joined.Lists.{any-none}
-use Rattle.bundle_merge_joined.proofs.joined.Notes.{agrees-itself}
+use Rattle.bundle_merge_meaning.specs.joined.Joined.{AllOf, own_declared}
+use Rattle.bundle_merge_meaning.specs.joined.Notes.{its_name, own_denoted, is_inner, is_inner_name}
+use Rattle.bundle_merge_meaning.proofs.joined.Declarations.{declared_by_names}
+use Rattle.bundle_merge_meaning.proofs.joined.Lists.{any-none}
+use Rattle.bundle_merge_meaning.proofs.joined.Notes.{agrees-itself}
 use Rattle.bundle_merge_meaning.proofs.walked.Lone.{meta_lone}
 use Rattle.bundle_merge_meaning.proofs.walked.Numbers.{numbers_agree}
 use Rattle.bundle_merge_whole.specs.composed.Noted.{AsWhole, as_whole, holds_meta, first_spot}
 use Rattle.bundle_merge_whole.specs.composed.Names.{own_from}
 use Rattle.bundle_merge_whole.specs.composed.Functions.{whole_form}
 use Rattle.bundle_merge_whole.proofs.fit.Owning.{are_own}
-use Rattle.bundle_merge_joined.specs.loaded.Pieces.{is_told_inside, told_inside}
-use Rattle.bundle_merge_joined.proofs.loaded.Numbers.{told-filtered}
+use Rattle.bundle_merge_meaning.specs.loaded.Pieces.{is_told_inside, told_inside}
+use Rattle.bundle_merge_meaning.proofs.loaded.Numbers.{told-filtered}
 use Rattle.bundle_merge_whole.specs.made.Given.{Contexts, AnsweredOf, ident_of_label}
 use Rattle.bundle_merge_whole.specs.made.Made.{IsMade, holds_meta as made_meta}
 use Rattle.bundle_merge_whole.specs.made.Alone.{DeclaresLabel, adds, holds_meta as adds_meta, TellApart, holds_meta as owns_answered, NameAlone, inside, of_top, free, IsAlone}

@@ -23,11 +23,11 @@ use Rattle.bundle_scope_names.proofs.Numbering.{Numbering, lifted, lift_all, giv
 use Rattle.bundle_scope_names.proofs.Kept.{resolved_by}
 use Rattle.bundle_scope_names.proofs.TreeLemmas.{set_by}
 use Rattle.bundle_scope_names.proofs.GivenLemmas.{its_context, declaration-given, denotation-at, denoted-given}
-use Rattle.bundle_merge_joined.specs.joined.Joined.{AllOf, own_declared}
-use Rattle.bundle_merge_joined.specs.joined.Alike.{tops, DeclaredAlike, DenotedAlike}
-use Rattle.bundle_merge_joined.proofs.joined.Declarations.{AreNamed, IsNamed as HasNames, declared_by_names, declared-item}
-use Rattle.bundle_merge_joined.proofs.joined.Denotes.{names-identified}
-use Rattle.bundle_merge_joined.proofs.joined.Alike.{written-alike}
+use Rattle.bundle_merge_meaning.specs.joined.Joined.{AllOf, own_declared}
+use Rattle.bundle_merge_meaning.specs.joined.Alike.{tops, DeclaredAlike, DenotedAlike}
+use Rattle.bundle_merge_meaning.proofs.joined.Declarations.{AreNamed, IsNamed as HasNames, declared_by_names, declared-item}
+use Rattle.bundle_merge_meaning.proofs.joined.Denotes.{names-identified}
+use Rattle.bundle_merge_meaning.proofs.joined.Alike.{written-alike}
 use Rattle.bundle_merge_meaning.proofs.noted.Names.{occurrences_append}
 use Rattle.bundle_merge_whole.specs.composed.Noted.{first_spot}
 use Rattle.bundle_merge_whole.specs.made.Given.{Contexts, ident_of_label, numbers_answered}

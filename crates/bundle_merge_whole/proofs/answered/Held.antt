@@ -13,7 +13,7 @@ use Rattle.bundle_rules.specs.Declarations.{Way, ByVar, ByLet, ByConst, ByFuncti
 use Rattle.bundle_rules.specs.Homes.{is_body, is_block, takes as takes_way}
 use Rattle.bundle_rules.specs.Callable.{is_module_head}
 use Rattle.bundle_tree_places.specs.Edits.{is_occurrence}
-use Rattle.bundle_merge_joined.specs.joined.Joined.{AllOf}
+use Rattle.bundle_merge_meaning.specs.joined.Joined.{AllOf}
 use Rattle.bundle_scope_renamed.specs.fit.Sorts.{Sort, AnItem, AStmt, ADecl, ACase, AHandler, AnInit, ALoopHead, ABlock, AnArrowBody, ADeclarator, AParameter, ALocal, APattern, APatternProperty, ABindingIdent, AnIdent, Slot, takes, takes_stmt, takes_decl, takes_var, takes_block, takes_case, takes_handler, takes_declarator, takes_parameter, takes_binding, names_in}
 use Rattle.bundle_scope_renamed.specs.fit.Fits.{AreFit}
 use Rattle.bundle_scope_renamed.specs.fit.Seen.{around, each_slot, AreSeen, Steps}

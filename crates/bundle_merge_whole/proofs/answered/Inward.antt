@@ -9,11 +9,11 @@ use Rattle.bundle_rules.specs.Scopes.{Es, Scope, ScopeKind, Wrapper, Top, Inner,
 use Rattle.bundle_rules.specs.Declarations.{Way, BySymbol, ByContext, Name, name_of, names_agree, Declared, declared_by, declaration_of, way_of}
 use Rattle.bundle_rules.specs.Homes.{is_parameters, is_wrapper, is_top, is_arguments, takes, from_taker, nearest, taker, parameters_of, joins_parameter, is_parameter, home_beside, home_of, is_declared_in, declares, binds}
 use Rattle.bundle_rules.specs.Denotes.{Denoted, Bound, Global, bound_in, has_identifier, is_written_in, denoted_by_symbol, own_or_found, denoted_of}
-use Rattle.bundle_merge_joined.specs.joined.Joined.{AllOf}
-use Rattle.bundle_merge_joined.proofs.joined.Lists.{any-none}
-use Rattle.bundle_merge_joined.proofs.joined.Declarations.{declared_by_names}
-use Rattle.bundle_merge_joined.proofs.joined.Denotes.{HasIdentifier}
-use Rattle.bundle_merge_joined.proofs.joined.Homes.{home-in}
+use Rattle.bundle_merge_meaning.specs.joined.Joined.{AllOf}
+use Rattle.bundle_merge_meaning.proofs.joined.Lists.{any-none}
+use Rattle.bundle_merge_meaning.proofs.joined.Declarations.{declared_by_names}
+use Rattle.bundle_merge_meaning.proofs.joined.Denotes.{HasIdentifier}
+use Rattle.bundle_merge_meaning.proofs.joined.Homes.{home-in}
 use Rattle.bundle_merge_whole.proofs.answered.Held.{is_held, IsHeld}
 
 -- whether a scope is one inside

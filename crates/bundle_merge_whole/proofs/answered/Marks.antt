@@ -21,7 +21,7 @@ use Rattle.bundle_rules.specs.Bundle.{Hooks, PropertiesMean, properties_tree}
 use Rattle.bundle_tree_places.specs.Edits.{InObject, node}
 use Rattle.bundle_tree_rebuild.specs.Work.{Step}
 use Rattle.bundle_merge_injected.specs.Listed as l
-use Rattle.bundle_merge_joined.proofs.joined.Tops.{Contains-cons}
+use Rattle.bundle_merge_meaning.proofs.joined.Tops.{Contains-cons}
 use Rattle.bundle_merge_meaning.specs.noted.Marked.{Note, Marked}
 use Rattle.bundle_merge_meaning.specs.noted.Agrees.{IsAt, AgreeInTurn, IsListing}
 use Rattle.bundle_merge_meaning.specs.walked.Keeps.{Entry, ByStep, ByMeta, meant_in, notes_in, AreOfMeta, Agree, alone, Same}

@@ -20,12 +20,12 @@ use Rattle.bundle_scope_names.proofs.Numbering.{context_of, is_written, given}
 use Rattle.bundle_scope_names.proofs.Lists.{find-nothing}
 use Rattle.bundle_scope_names.proofs.FoundLemmas.{arguments-bind, written-same_order}
 use Rattle.bundle_scope_names.proofs.Separation.{IsFor, denoted-for}
-use Rattle.bundle_merge_joined.specs.joined.Joined.{AllOf, own_declared}
-use Rattle.bundle_merge_joined.specs.joined.Notes.{its_name, own_denoted, is_inner_name}
-use Rattle.bundle_merge_joined.specs.joined.Alike.{IsOneToOne, ScopesAlike, tops, wrappers, inners, DenotedAlike, bindings, globals}
-use Rattle.bundle_merge_joined.proofs.joined.Declarations.{declared_by_names}
-use Rattle.bundle_merge_joined.proofs.joined.Denotes.{names-identified}
-use Rattle.bundle_merge_joined.proofs.joined.Lists.{any-none}
+use Rattle.bundle_merge_meaning.specs.joined.Joined.{AllOf, own_declared}
+use Rattle.bundle_merge_meaning.specs.joined.Notes.{its_name, own_denoted, is_inner_name}
+use Rattle.bundle_merge_meaning.specs.joined.Alike.{IsOneToOne, ScopesAlike, tops, wrappers, inners, DenotedAlike, bindings, globals}
+use Rattle.bundle_merge_meaning.proofs.joined.Declarations.{declared_by_names}
+use Rattle.bundle_merge_meaning.proofs.joined.Denotes.{names-identified}
+use Rattle.bundle_merge_meaning.proofs.joined.Lists.{any-none}
 use Rattle.bundle_merge_whole.specs.made.Given.{Contexts, AnsweredOf, NameOf}
 use Rattle.bundle_merge_whole.specs.made.Alone.{IsHolder, added, holds_meta as adds_meta}
 use Rattle.bundle_merge_whole.proofs.answered.Inward.{IsInwardDenoted, bound_inward, not_bound}

@@ -20,10 +20,10 @@ use Rattle.bundle_scope_renamed.specs.fit.Fits.{AreFit, no_more, over, a_node, I
 use Rattle.bundle_scope_renamed.specs.fit.Seen.{each_slot, AreSeen}
 use Rattle.bundle_scope_renamed.proofs.fit.Seeing.{seen}
 use Rattle.bundle_scope_renamed.proofs.fit.Owning.{is_own, own_head, own_at, steps}
-use Rattle.bundle_merge_joined.specs.joined.Joined.{AllOf}
-use Rattle.bundle_merge_joined.specs.grouped.Renaming.{HasWays}
-use Rattle.bundle_merge_joined.proofs.joined.Declarations.{AreNamed}
-use Rattle.bundle_merge_joined.proofs.joined.Items.{all-at}
+use Rattle.bundle_merge_meaning.specs.joined.Joined.{AllOf}
+use Rattle.bundle_merge_meaning.specs.grouped.Renaming.{HasWays}
+use Rattle.bundle_merge_meaning.proofs.joined.Declarations.{AreNamed}
+use Rattle.bundle_merge_meaning.proofs.joined.Items.{all-at}
 use Rattle.bundle_merge_whole.proofs.fit.Facts.{one_ways}
 use Rattle.bundle_merge_whole.specs.made.Given.{Contexts, Holder, TopOf, AnsweredOf, in_order, numbers_answered}
 use Rattle.bundle_merge_whole.specs.made.Alone.{IsHolder, answered_of, TellApart}

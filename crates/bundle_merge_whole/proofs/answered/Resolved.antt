@@ -17,9 +17,9 @@ use Rattle.bundle_rules.specs.Meaning.{is_inside}
 use Rattle.bundle_rules.specs.Symbols.{denoted_symbol}
 use Rattle.bundle_rules.specs.Bundle.{Hooks, properties_tree}
 use Rattle.bundle_scope_names.proofs.KindsLemmas.{DenotesOf, denoted-known, same-of, kind_in, occurrences-known}
-use Rattle.bundle_merge_joined.specs.joined.Notes.{own_denoted, is_inner, IsResolvedInside}
-use Rattle.bundle_merge_joined.specs.joined.Alike.{IsOneToOne}
-use Rattle.bundle_merge_joined.proofs.loaded.Numbers.{both_once, inside_zip}
+use Rattle.bundle_merge_meaning.specs.joined.Notes.{own_denoted, is_inner, IsResolvedInside}
+use Rattle.bundle_merge_meaning.specs.joined.Alike.{IsOneToOne}
+use Rattle.bundle_merge_meaning.proofs.loaded.Numbers.{both_once, inside_zip}
 use Rattle.bundle_merge_whole.specs.composed.Noted.{first_spot}
 use Rattle.bundle_merge_whole.specs.composed.Names.{own_from}
 use Rattle.bundle_merge_whole.specs.made.Given.{Contexts, AnsweredOf}

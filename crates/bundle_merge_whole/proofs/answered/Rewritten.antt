@@ -21,7 +21,7 @@ use Rattle.bundle_tree_rebuild.specs.declared.rewrite.Whole.TheVariants as w
 use Rattle.bundle_tree_rebuild.specs.Work.{Step, Work}
 use Rattle.bundle_scope_renamed.specs.fit.Sorts.{AProperty, Many, slot}
 use Rattle.bundle_scope_renamed.specs.fit.Fits.{AreFit}
-use Rattle.bundle_merge_joined.specs.joined.Alike.{IsOneToOne, tops}
+use Rattle.bundle_merge_meaning.specs.joined.Alike.{IsOneToOne, tops}
 use Rattle.bundle_merge_meaning.specs.walked.Names.{names_of}
 use Rattle.bundle_merge_meaning.specs.walked.Rewrites.{AreOwn, KeepsSymbol, Cover}
 use Rattle.bundle_merge_meaning.proofs.noted.Names.{occurrences_append}

@@ -14,7 +14,7 @@ use Rattle.bundle_rules.specs.Order.{IsGoodOrder, group_of}
 use Rattle.bundle_rules.specs.Bundle as b
 use Rattle.bundle_rules.specs.Bundle.{Form, AsModule, AsCall, Cause, Own, Loads, Stars, Helps, Exports, HoldsNamespace, IsDue, Chosen, nothing, chosen, left, import_causes, module_causes, owner_of, counted, StandsFor, Pairing, IsBlockLaidOut, lone, cycle, AreBlocksLaidOut, over, next, externals, IsLaidOut}
 use Rattle.bundle_rules.specs.Callable.{Every, none, more, module_with}
-use Rattle.bundle_merge_joined.proofs.joined.Lists.{map-get}
+use Rattle.bundle_merge_meaning.proofs.joined.Lists.{map-get}
 use Rattle.bundle_merge_whole.specs.called.Called.{AreTwins, call_with}
 use Rattle.bundle_merge_whole.proofs.called.Sides.{moved_item}
 use Rattle.bundle_merge_whole.proofs.called.Plain.{every-join, every-each}

@@ -13,7 +13,7 @@ use Rattle.bundle_rules.specs.Scopes.{Es, scopes_around}
 use Rattle.bundle_rules.specs.Declarations.{Way, Reading, name_of, Declared, way_of, is_nameless_default, declared_by, declaration_of, nameless_default, declared_at, declared_from}
 use Rattle.bundle_rules.specs.Denotes.{Denoted, Bound, Global, denoted_in, own_or_found, denoted_of}
 use Rattle.bundle_rules.specs.Callable.{Every, none, more, IsTaken, is_module_head, AreStatements, over, begun, ended, named, empty}
-use Rattle.bundle_merge_joined.proofs.joined.Paths.{cons_option-map}
+use Rattle.bundle_merge_meaning.proofs.joined.Paths.{cons_option-map}
 use Rattle.bundle_merge_whole.specs.called.Moved.{moved_denoted, moved_declared, is_module_way, AreFair, IsSeated}
 use Rattle.bundle_merge_whole.specs.called.Called.{around, IsMoved, within, IsMovedSpot}
 use Rattle.bundle_merge_whole.proofs.called.Homes.{home-moved, denoted_in-moved}

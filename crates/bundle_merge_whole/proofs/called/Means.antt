@@ -23,7 +23,7 @@ use Rattle.bundle_rules.specs.Meaning.{Label, Meant, Mark, View, denoted, is_ins
 use Rattle.bundle_rules.specs.Marks.{Begins, Ends, Name, computed_key, word_key, object_key, begin_marks, end_marks, name_marks}
 use Rattle.bundle_rules.specs.Shorthands.{is_object}
 use Rattle.bundle_rules.specs.Callable.{Every, none, more, AreStatements, module_with}
-use Rattle.bundle_merge_joined.proofs.joined.Paths.{cons_option-map}
+use Rattle.bundle_merge_meaning.proofs.joined.Paths.{cons_option-map}
 use Rattle.bundle_merge_whole.specs.called.Moved.{moved_denoted, AreFair, top, inner, IsFair, IsSeated}
 use Rattle.bundle_merge_whole.specs.called.Called.{call_with, AreTwins}
 use Rattle.bundle_merge_whole.proofs.called.Homes.{same-moved, home-fair}

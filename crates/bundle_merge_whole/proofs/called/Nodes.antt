@@ -11,8 +11,8 @@ use Rattle.bundle_rules.specs.Injected.{is_ascii_identifier}
 use Rattle.bundle_rules.specs.Rebuilds.{plain_key}
 use Rattle.bundle_rules.specs.Forms.{returned_key, returned_property, returned_object, exported_pairs, function_body}
 use Rattle.bundle_rules.specs.Callable.{Every, none, more, AreStatements, ExportedName, word, text, Specifier, name_items, specifier_items, export_items}
-use Rattle.bundle_merge_joined.proofs.joined.Paths.{flat-append}
-use Rattle.bundle_merge_joined.proofs.grouped.WholeLemmas.{put_all, put_all-cons}
+use Rattle.bundle_merge_meaning.proofs.joined.Paths.{flat-append}
+use Rattle.bundle_merge_meaning.proofs.grouped.WholeLemmas.{put_all, put_all-cons}
 use Rattle.bundle_merge_whole.proofs.called.Sides.{sides-flat, sides-append, no-lists, IsNoList}
 
 -- whole nodes

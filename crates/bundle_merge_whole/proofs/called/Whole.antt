@@ -26,7 +26,7 @@ use Rattle.bundle_rules.specs.Bundle as b
 use Rattle.bundle_rules.specs.Bundle.{Form, AsModule, AsCall, form_of, Cause, Exports, IsDue, Hooks, Labelled, ItemMeans, elements_of, AreLinked, Realises, Stars, Chosen, externals, function_front, function_back, HasBody, of_module, of_function, Pairing, labelled, IsPaired, IsLaidOut, IsBundle}
 use Rattle.bundle_rules.specs.Callable.{Every, none, more, IsTaken, AreStatements, module_with, Specifier, export_items, IsBack, nothing, exports, CanBeCalled, begins_list, StatesNoExports}
 use Rattle.bundle_merge_meaning.proofs.noted.ListFacts.{drop-past, first-there, later-there}
-use Rattle.bundle_merge_joined.proofs.grouped.EditLemmas.{zip-append}
+use Rattle.bundle_merge_meaning.proofs.grouped.EditLemmas.{zip-append}
 use Rattle.bundle_merge_whole.specs.called.Moved.{moved_denoted}
 use Rattle.bundle_merge_whole.specs.called.Called.{around, called_path, IsMoved, outside, call_with, module_start, call_start, AreTwins}
 use Rattle.bundle_merge_whole.proofs.called.Lists.{behind}

@@ -15,9 +15,9 @@ use Rattle.bundle_rules.specs.Denotes.{Denoted, Bound, Global, denotations}
 use Rattle.bundle_rules.specs.Mentions.{same_denoted, each_denoted_once}
 use Rattle.bundle_rules.specs.Meaning.{Label, Meant, Inside, Known, Unbound, Labelling, View, is_inside}
 use Rattle.bundle_rules.specs.Sorting.{flat}
-use Rattle.bundle_merge_joined.specs.joined.Joined.{joined, AllOf}
-use Rattle.bundle_merge_joined.proofs.joined.Lists.{all-append}
-use Rattle.bundle_merge_joined.proofs.joined.Paths.{occurrences-append, item-occurrences}
+use Rattle.bundle_merge_meaning.specs.joined.Joined.{joined, AllOf}
+use Rattle.bundle_merge_meaning.proofs.joined.Lists.{all-append}
+use Rattle.bundle_merge_meaning.proofs.joined.Paths.{occurrences-append, item-occurrences}
 use Rattle.bundle_merge_meaning.specs.walked.Names.{names_of}
 use Rattle.bundle_merge_meaning.proofs.noted.Spots.{fold-path, fold-place, field-twice}
 use Rattle.bundle_merge_meaning.specs.walked.Together.{IsBoundAs}
@@ -25,7 +25,7 @@ use Rattle.bundle_merge_meaning.specs.walked.Numbers.{IsOneToOne}
 use Rattle.bundle_merge_meaning.specs.walked.Renewed.{Renews}
 use Rattle.bundle_merge_meaning.specs.walked.Renaming.{Told}
 use Rattle.bundle_merge_meaning.proofs.walked.Numbers.{numbers_agree, both_filtered}
-use Rattle.bundle_merge_joined.proofs.joined.Tops.{Contains-cons}
+use Rattle.bundle_merge_meaning.proofs.joined.Tops.{Contains-cons}
 use Rattle.bundle_merge_whole.specs.composed.Noted.{AgreesWith, AgreeInTurn, denoted_here, denoted_from, view_of, StatementsAgree, StandsForLabel, Noted, ItemAgrees, ItemsAgree, first_spot, BundleAgrees}
 use Rattle.bundle_merge_whole.specs.composed.Becoming.{placed_scope, StandsIn, Becoming, labels_of}
 use Rattle.bundle_merge_whole.specs.composed.Turned.{IsScopeBelow, SpotsMatch, module_path, PartTurned, ItemTurned, whole_turned, function_turned, ItemsTurned}

@@ -12,8 +12,8 @@ use Rattle.bundle_rules.specs.Scopes.{Es, Scope, ScopeKind, Wrapper, Top, Inner,
 use Rattle.bundle_rules.specs.Declarations.{Way, Reading, BySymbol, ByContext, Name, name_of, Declared, declared_by, way_of}
 use Rattle.bundle_rules.specs.Homes.{takes, from_taker, nearest, taker, parameters_of, joins_parameter, is_parameter, home_beside, home_of, binds}
 use Rattle.bundle_rules.specs.Denotes.{Denoted, Bound, Global, without_context, bound_in, is_unresolved, is_written_in, is_implied_in, written_or_implied, denoted_by_context, denoted_in, own_or_found, denoted_of}
-use Rattle.bundle_merge_joined.specs.joined.Joined.{AllOf}
-use Rattle.bundle_merge_joined.proofs.joined.Lists.{all-append}
+use Rattle.bundle_merge_meaning.specs.joined.Joined.{AllOf}
+use Rattle.bundle_merge_meaning.proofs.joined.Lists.{all-append}
 use Rattle.bundle_merge_meaning.specs.noted.Nodes as nodes
 use Rattle.bundle_merge_meaning.specs.noted.Nodes.{AreNodes}
 use Rattle.bundle_merge_meaning.proofs.noted.Spots.{spot-behind, path-behind, place-behind, field-twice}

@@ -19,8 +19,8 @@ use Rattle.bundle_rules.specs.Linking.{Declared as IsDeclared}
 use Rattle.bundle_rules.specs.Meaning.{Of, Label, Labelling, is_inside}
 use Rattle.bundle_rules.specs.Program.{Program}
 use Rattle.bundle_rules.specs.Symbols.{denoted_symbol, symbol_of_label}
-use Rattle.bundle_merge_joined.specs.joined.Notes.{its_name}
-use Rattle.bundle_merge_joined.specs.joined.Joined.{joined}
+use Rattle.bundle_merge_meaning.specs.joined.Notes.{its_name}
+use Rattle.bundle_merge_meaning.specs.joined.Joined.{joined}
 use Rattle.bundle_merge_meaning.specs.walked.Renewed.{Renews}
 use Rattle.bundle_scope_renamed.proofs.kept.Lists.{map-in}
 use Rattle.bundle_merge_whole.specs.composed.Noted.{denoted_from, view_of}
@@ -33,7 +33,7 @@ use Rattle.bundle_merge_whole.proofs.composed.Aligned.{Turns, turns-one, Corresp
 use Rattle.bundle_merge_whole.proofs.composed.Keywords.{size, at-before, at-after, symbol-at, context-stays, as-long, zip-at, name_in}
 use Rattle.bundle_merge_whole.proofs.composed.Naming.{was-labelled}
 use Rattle.bundle_merge_whole.proofs.composed.ListFacts.{pick}
-use Rattle.bundle_merge_joined.proofs.loaded.Numbers.{both_once}
+use Rattle.bundle_merge_meaning.proofs.loaded.Numbers.{both_once}
 
 -- the context of what an occurrence denotes is its own, if it has one
 pub own-context : (all : List Declared) (o : Occurrence) (c : ℕ) →

@@ -16,19 +16,19 @@ use Rattle.bundle_rules.specs.Rebuilds.{with_idents}
 use Rattle.bundle_tree_places.specs.Edits.{Inside, node}
 use Rattle.bundle_tree_places.proofs.EditsLemmas.{rebuilt_so}
 use Rattle.bundle_merge_meaning.specs.noted.Agrees.{IsListing}
-use Rattle.bundle_merge_joined.specs.joined.Joined.{joined, AllOf}
-use Rattle.bundle_merge_joined.specs.joined.Notes.{AreApart}
-use Rattle.bundle_merge_joined.proofs.joined.Declarations.{IsNamed as HasNames}
-use Rattle.bundle_merge_joined.proofs.joined.Joining.{joined-names}
-use Rattle.bundle_merge_joined.proofs.joined.Resolved.{resolved}
-use Rattle.bundle_merge_joined.proofs.joined.Items.{occurrence-of-item}
+use Rattle.bundle_merge_meaning.specs.joined.Joined.{joined, AllOf}
+use Rattle.bundle_merge_meaning.specs.joined.Notes.{AreApart}
+use Rattle.bundle_merge_meaning.proofs.joined.Declarations.{IsNamed as HasNames}
+use Rattle.bundle_merge_meaning.proofs.joined.Joining.{joined-names}
+use Rattle.bundle_merge_meaning.proofs.joined.Resolved.{resolved}
+use Rattle.bundle_merge_meaning.proofs.joined.Items.{occurrence-of-item}
 use Rattle.bundle_rules.proofs.PlacesLemmas.{occurrences-at}
 use Rattle.bundle_merge_whole.proofs.composed.Contexts.{global-one}
 use Rattle.bundle_scope_renamed.proofs.kept.Named.{ArePlain}
 use Rattle.bundle_scope_renamed.proofs.kept.Faithful.{faithful-names, faithful-plain}
-use Rattle.bundle_merge_joined.specs.grouped.Renaming.{HasWays, HasObjects, AtOne}
-use Rattle.bundle_merge_joined.proofs.grouped.AlikeLemmas.{owners-refl}
-use Rattle.bundle_merge_joined.proofs.grouped.KeywordLemmas.{ways-edited, keyword-objects, keyword-good_order}
+use Rattle.bundle_merge_meaning.specs.grouped.Renaming.{HasWays, HasObjects, AtOne}
+use Rattle.bundle_merge_meaning.proofs.grouped.AlikeLemmas.{owners-refl}
+use Rattle.bundle_merge_meaning.proofs.grouped.KeywordLemmas.{ways-edited, keyword-objects, keyword-good_order}
 use Rattle.bundle_merge_whole.specs.composed.Noted.{Noted, IsNotedBundle, pairing_of}
 use Rattle.bundle_merge_whole.specs.composed.Names.{Table, IsTable, labels_in, ItemNoted}
 use Rattle.bundle_merge_whole.specs.composed.Becoming.{Becoming, labels_of}

@@ -16,12 +16,12 @@ use Rattle.bundle_rules.specs.Meaning.{Of, Label}
 use Rattle.bundle_rules.specs.Bundle.{Cause, labelled}
 use Rattle.bundle_rules.specs.Symbols.{denoted_symbol, symbol_of_label}
 use Rattle.bundle_rules.specs.Merged.{HasContexts}
-use Rattle.bundle_merge_joined.specs.joined.Joined.{joined, AllOf, IsWhole, moved, moved_denoted, offset}
-use Rattle.bundle_merge_joined.specs.joined.Notes.{its_name, IsNoted, inner, top_name, free, noted_denoted, IsListedIn, AreApart}
-use Rattle.bundle_merge_joined.proofs.joined.Declarations.{IsNamed}
-use Rattle.bundle_merge_joined.proofs.joined.Items.{IsOfItem, all-at, occurrence-of-item}
-use Rattle.bundle_merge_joined.proofs.joined.Notes.{viewed, note-told}
-use Rattle.bundle_merge_joined.proofs.joined.Resolved.{inner-of}
+use Rattle.bundle_merge_meaning.specs.joined.Joined.{joined, AllOf, IsWhole, moved, moved_denoted, offset}
+use Rattle.bundle_merge_meaning.specs.joined.Notes.{its_name, IsNoted, inner, top_name, free, noted_denoted, IsListedIn, AreApart}
+use Rattle.bundle_merge_meaning.proofs.joined.Declarations.{IsNamed}
+use Rattle.bundle_merge_meaning.proofs.joined.Items.{IsOfItem, all-at, occurrence-of-item}
+use Rattle.bundle_merge_meaning.proofs.joined.Notes.{viewed, note-told}
+use Rattle.bundle_merge_meaning.proofs.joined.Resolved.{inner-of}
 use Rattle.bundle_scope_renamed.proofs.kept.Lists.{IsIn}
 use Rattle.bundle_merge_whole.specs.composed.Noted.{pairing_of}
 use Rattle.bundle_merge_whole.specs.composed.Names.{Table, denoted_in_tree, labels_in, HasModuleContexts, IsCalledAsLabels}

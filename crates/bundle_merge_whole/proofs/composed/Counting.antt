@@ -20,10 +20,10 @@ use Rattle.bundle_merge_meaning.specs.walked.Names.{names_of}
 use Rattle.bundle_merge_meaning.specs.walked.Renaming.{AreAlone, Told, IsMarked}
 use Rattle.bundle_merge_meaning.specs.walked.Keeps.{alone}
 use Rattle.bundle_merge_meaning.proofs.walked.Renaming.{alone_left, alone_alone}
-use Rattle.bundle_merge_joined.specs.joined.Joined.{IsWhole}
-use Rattle.bundle_merge_joined.specs.joined.Picked.{IsSingle}
-use Rattle.bundle_merge_joined.proofs.joined.Joining.{whole-node}
-use Rattle.bundle_merge_joined.proofs.joined.TopItems.{single-name, single-hole, single-node}
+use Rattle.bundle_merge_meaning.specs.joined.Joined.{IsWhole}
+use Rattle.bundle_merge_meaning.specs.joined.Picked.{IsSingle}
+use Rattle.bundle_merge_meaning.proofs.joined.Joining.{whole-node}
+use Rattle.bundle_merge_meaning.proofs.joined.TopItems.{single-name, single-hole, single-node}
 use Rattle.bundle_merge_whole.proofs.composed.Aligned.{names-append}
 pub use Rattle.bundle_merge_whole.specs.composed.Single.{nodes_in}
 

@@ -15,7 +15,7 @@ use Rattle.bundle_rules.specs.Meaning.{Label, Mark, Known}
 use Rattle.bundle_rules.specs.Marks as k
 use Rattle.bundle_rules.proofs.PathLemmas.{cleared_path, cleared_spot}
 use Rattle.bundle_rules.proofs.DenotesLemmas.{scopes_around-cleared}
-use Rattle.bundle_merge_joined.specs.joined.Joined.{AllOf}
+use Rattle.bundle_merge_meaning.specs.joined.Joined.{AllOf}
 use Rattle.bundle_merge_meaning.specs.walked.Names.{names_of}
 use Rattle.bundle_merge_meaning.proofs.walked.Clearing.{twice}
 use Rattle.bundle_merge_whole.specs.composed.Noted.{are_plain, plain_marks, HasPlainMarks, function_ends}

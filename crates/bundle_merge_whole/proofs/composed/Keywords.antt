@@ -15,9 +15,9 @@ use Rattle.bundle_rules.specs.Keywords.{keyword_free, keyword_free_of, keyword_f
 use Rattle.bundle_rules.specs.Idents.{Ident, ident_of, idents}
 use Rattle.bundle_rules.specs.Rebuilds.{ident_eq}
 use Rattle.bundle_rules.specs.Renamed.{HasNamesOnly, IsRidOfKeywords}
-use Rattle.bundle_merge_joined.specs.joined.Joined.{AllOf}
-use Rattle.bundle_merge_joined.specs.joined.Notes.{its_name}
-use Rattle.bundle_merge_joined.proofs.joined.Denotes.{HasIdentifier, nothing-implied}
+use Rattle.bundle_merge_meaning.specs.joined.Joined.{AllOf}
+use Rattle.bundle_merge_meaning.specs.joined.Notes.{its_name}
+use Rattle.bundle_merge_meaning.proofs.joined.Denotes.{HasIdentifier, nothing-implied}
 use Rattle.bundle_scope_renamed.proofs.kept.Lists.{find-passes}
 use Rattle.bundle_scope_renamed.proofs.kept.Recalled.{Calling, is_written_one, IsFaithful}
 use Rattle.bundle_merge_whole.specs.composed.Names.{denoted_in_tree}

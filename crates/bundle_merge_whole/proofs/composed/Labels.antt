@@ -15,7 +15,7 @@ use Rattle.bundle_rules.proofs.PlacesLemmas.{occurrences-at}
 use Rattle.bundle_rules.specs.Idents.{Ident, ident_of}
 use Rattle.bundle_rules.specs.Rebuilds.{ident_eq}
 use Rattle.bundle_rules.specs.Meaning.{Label, IsOneToOne}
-use Rattle.bundle_merge_joined.proofs.joined.Tops.{Contains-cons, Contains-none}
+use Rattle.bundle_merge_meaning.proofs.joined.Tops.{Contains-cons, Contains-none}
 use Rattle.bundle_scope_renamed.proofs.kept.Lists.{IsIn, find-passes, find-in, find-some}
 use Rattle.bundle_merge_whole.specs.composed.Names.{Table, IsTable, denoted_in_tree, denoted_ident, labels_in}
 

@@ -12,10 +12,10 @@ use Rattle.bundle_rules.specs.Meaning.{Labelling}
 use Rattle.bundle_rules.specs.Program.{Program}
 use Rattle.bundle_rules.specs.Bundle.{Cause, Form, AsModule, Hooks, Pairing, StandsFor, IsBlockLaidOut, lone, cycle, AreBlocksLaidOut, over, next, IsLaidOut, IsBundle}
 use Rattle.bundle_merge_meaning.specs.noted.Agrees.{IsListing}
-use Rattle.bundle_merge_joined.specs.joined.Joined.{joined}
+use Rattle.bundle_merge_meaning.specs.joined.Joined.{joined}
 use Rattle.bundle_scope_renamed.proofs.kept.Named.{ArePlain}
-use Rattle.bundle_merge_joined.specs.grouped.Renaming.{HasWays, HasObjects, AtOne}
-use Rattle.bundle_merge_joined.proofs.grouped.ComposedLemmas.{named-good_order}
+use Rattle.bundle_merge_meaning.specs.grouped.Renaming.{HasWays, HasObjects, AtOne}
+use Rattle.bundle_merge_meaning.proofs.grouped.ComposedLemmas.{named-good_order}
 use Rattle.bundle_merge_whole.specs.composed.Noted.{pairing_of}
 use Rattle.bundle_merge_whole.specs.composed.Becoming.{Becoming}
 use Rattle.bundle_merge_whole.proofs.composed.ListFacts.{as-long, zip-length}

@@ -4,7 +4,7 @@ use Rattle.std.specs.Prelude.{slice_get}
 use Rattle.std.specs.List.{AllZip}
 use Rattle.std.proofs.lemmas.Option.{none-some, same_Some}
 use Rattle.std.proofs.lemmas.Slice.Zip.{AllZip-long}
-use Rattle.bundle_merge_joined.specs.joined.Joined.{AllOf}
+use Rattle.bundle_merge_meaning.specs.joined.Joined.{AllOf}
 
 -- what is so of the element at each place is so of all
 pub all-in : {A : Type 0} (P : A → Type 0) (xs : List A) →

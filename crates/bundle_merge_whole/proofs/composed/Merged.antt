@@ -13,15 +13,15 @@ use Rattle.bundle_rules.specs.Mentions.{same_denoted, same_context, each_denoted
 use Rattle.bundle_rules.specs.Meaning.{Label, Meant, Known, Labelling, View, is_inside}
 use Rattle.bundle_rules.specs.Parts.{tree_of_items}
 use Rattle.bundle_rules.specs.Sorting.{flat}
-use Rattle.bundle_merge_joined.specs.joined.Joined.{joined, AllOf, IsWhole, moved, moved_denoted, moved_occurrence, offset, is_top_name, is_written}
-use Rattle.bundle_merge_joined.specs.joined.Notes.{its_name, own_denoted, is_inner, IsNoted, inner, top_name, free, noted_denoted, IsListedIn}
-use Rattle.bundle_merge_joined.proofs.joined.Lists.{all-front, all-back}
-use Rattle.bundle_merge_joined.proofs.joined.Paths.{inside, moved-from, AreMoved, moved-past, moved-occurrences, occurrences-append, fold-append, moved-start, at-item, item-occurrences, flat-append}
-use Rattle.bundle_merge_joined.proofs.joined.Ranges.{same-moved}
-use Rattle.bundle_merge_joined.proofs.joined.Declarations.{IsNamed}
-use Rattle.bundle_merge_joined.proofs.joined.Items.{all-at, occurrence-in-whole}
-use Rattle.bundle_merge_joined.proofs.joined.Notes.{viewed, note-told}
-use Rattle.bundle_merge_joined.proofs.joined.Resolved.{InnerOf, inner-of}
+use Rattle.bundle_merge_meaning.specs.joined.Joined.{joined, AllOf, IsWhole, moved, moved_denoted, moved_occurrence, offset, is_top_name, is_written}
+use Rattle.bundle_merge_meaning.specs.joined.Notes.{its_name, own_denoted, is_inner, IsNoted, inner, top_name, free, noted_denoted, IsListedIn}
+use Rattle.bundle_merge_meaning.proofs.joined.Lists.{all-front, all-back}
+use Rattle.bundle_merge_meaning.proofs.joined.Paths.{inside, moved-from, AreMoved, moved-past, moved-occurrences, occurrences-append, fold-append, moved-start, at-item, item-occurrences, flat-append}
+use Rattle.bundle_merge_meaning.proofs.joined.Ranges.{same-moved}
+use Rattle.bundle_merge_meaning.proofs.joined.Declarations.{IsNamed}
+use Rattle.bundle_merge_meaning.proofs.joined.Items.{all-at, occurrence-in-whole}
+use Rattle.bundle_merge_meaning.proofs.joined.Notes.{viewed, note-told}
+use Rattle.bundle_merge_meaning.proofs.joined.Resolved.{InnerOf, inner-of}
 use Rattle.bundle_merge_meaning.specs.walked.Together.{IsBoundAs}
 use Rattle.bundle_merge_meaning.specs.walked.Numbers.{IsOneToOne}
 use Rattle.bundle_merge_meaning.specs.walked.Renaming.{Told}

@@ -28,9 +28,9 @@ use Rattle.bundle_merge_meaning.specs.noted.Nodes as nodes
 use Rattle.bundle_merge_meaning.specs.noted.Nodes.{AreNodes}
 use Rattle.bundle_merge_meaning.specs.noted.Agrees.{IsListing}
 use Rattle.bundle_merge_meaning.proofs.noted.Shapes.{join, one_node, marked_nodes}
-use Rattle.bundle_merge_joined.specs.joined.Joined.{joined, AllOf}
-use Rattle.bundle_merge_joined.specs.joined.Picked.{IsSingle}
-use Rattle.bundle_merge_joined.proofs.joined.Tops.{Contains-cons, Contains-none}
+use Rattle.bundle_merge_meaning.specs.joined.Joined.{joined, AllOf}
+use Rattle.bundle_merge_meaning.specs.joined.Picked.{IsSingle}
+use Rattle.bundle_merge_meaning.proofs.joined.Tops.{Contains-cons, Contains-none}
 use Rattle.bundle_scope_renamed.proofs.kept.Named.{ArePlain}
 use Rattle.bundle_merge_meaning.specs.walked.Names.{names_of}
 use Rattle.bundle_merge_meaning.specs.walked.Renaming.{KeepsText, Told, IsMarked}

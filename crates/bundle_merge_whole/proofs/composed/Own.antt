@@ -15,14 +15,14 @@ use Rattle.bundle_rules.specs.Program.{Program, tree_of}
 use Rattle.bundle_rules.specs.Bundle.{Hooks, Form}
 use Rattle.bundle_rules.specs.Bundle as bundle
 use Rattle.bundle_merge_meaning.specs.noted.Marked.{Note}
-use Rattle.bundle_merge_joined.specs.joined.Notes.{own_denoted}
+use Rattle.bundle_merge_meaning.specs.joined.Notes.{own_denoted}
 use Rattle.bundle_merge_meaning.specs.walked.Work.{Work}
 use Rattle.bundle_merge_meaning.specs.walked.Numbers.{IsOneToOne, AreBeside}
 use Rattle.bundle_merge_meaning.specs.walked.Keeps.{Entry, ByStep, ByMeta, meant_in}
 use Rattle.bundle_merge_meaning.specs.walked.Stated.{SameStated}
 use Rattle.bundle_merge_meaning.specs.walked.Renaming.{Told}
 use Rattle.bundle_merge_meaning.proofs.walked.Numbers.{numbers_agree, inside_beside}
-use Rattle.bundle_merge_joined.proofs.loaded.Numbers.{told-filtered}
+use Rattle.bundle_merge_meaning.proofs.loaded.Numbers.{told-filtered}
 use Rattle.bundle_merge_whole.specs.composed.Noted.{AsWhole, IsNotedFor, as_whole, own, first_spot}
 use Rattle.bundle_merge_whole.specs.composed.Names.{Table, NameNoted, is_one_inside, is_known, is_free, own_from, is_told_inside, told_inside, ItemNoted}
 use Rattle.bundle_merge_whole.specs.composed.Own.{OutsideNoted, out_known, out_free, MadeNoted, made_inside, made_outside, EntriesNoted}

@@ -27,9 +27,9 @@ use Rattle.bundle_merge_meaning.proofs.noted.Shapes.{join, marked_nodes}
 use Rattle.bundle_merge_meaning.proofs.noted.Steps.{is_object_around}
 use Rattle.bundle_merge_meaning.proofs.noted.Statements.{is_in_short}
 use Rattle.bundle_merge_meaning.proofs.noted.Tops.{StandsThere}
-use Rattle.bundle_merge_joined.specs.joined.Joined.{joined, AllOf}
-use Rattle.bundle_merge_joined.specs.joined.Picked.{IsSingle}
-use Rattle.bundle_merge_joined.proofs.joined.TopItems.{top_items-joined}
+use Rattle.bundle_merge_meaning.specs.joined.Joined.{joined, AllOf}
+use Rattle.bundle_merge_meaning.specs.joined.Picked.{IsSingle}
+use Rattle.bundle_merge_meaning.proofs.joined.TopItems.{top_items-joined}
 use Rattle.bundle_merge_meaning.specs.walked.Keeps.{alone}
 use Rattle.bundle_merge_meaning.specs.walked.Renaming.{Told, IsMarked}
 use Rattle.bundle_merge_meaning.proofs.walked.Denoting.{elements_denote, MeansNote, outside_position}

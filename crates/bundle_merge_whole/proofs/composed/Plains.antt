@@ -8,8 +8,8 @@ use Rattle.bundle_tree_piece.specs.Item as h
 use Rattle.bundle_tree_piece.specs.Item.{Item, Head}
 use Rattle.bundle_rules.specs.Declarations.{is_nameless_default}
 use Rattle.bundle_rules.specs.Sorting.{flat}
-use Rattle.bundle_merge_joined.specs.joined.Joined.{joined, AllOf}
-use Rattle.bundle_merge_joined.proofs.joined.Declarations.{AreNamed, IsNamed}
+use Rattle.bundle_merge_meaning.specs.joined.Joined.{joined, AllOf}
+use Rattle.bundle_merge_meaning.proofs.joined.Declarations.{AreNamed, IsNamed}
 use Rattle.bundle_scope_renamed.proofs.kept.Named.{spells_default, ArePlain}
 
 -- whether such a node is a default export

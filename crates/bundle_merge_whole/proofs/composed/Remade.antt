@@ -15,7 +15,7 @@ use Rattle.bundle_rules.specs.Meaning.{Label}
 use Rattle.bundle_tree_places.specs.Edits as c
 use Rattle.bundle_tree_places.specs.Edits.{Around, Anywhere, Edits, node}
 use Rattle.bundle_tree_places.proofs.EditsLemmas.{rebuilt_so}
-use Rattle.bundle_merge_joined.specs.joined.Joined.{joined, AllOf}
+use Rattle.bundle_merge_meaning.specs.joined.Joined.{joined, AllOf}
 use Rattle.bundle_merge_meaning.specs.walked.Names.{names_of}
 use Rattle.bundle_merge_meaning.specs.walked.Renaming.{KeepsText, Told, IsMarked, HasNoLoneName}
 use Rattle.bundle_merge_meaning.proofs.walked.NameLemmas.{names_of-append}

@@ -12,10 +12,10 @@ use Rattle.bundle_rules.specs.Meaning.{Meant, is_inside}
 use Rattle.bundle_rules.specs.Bundle.{Labelled, sense_of}
 use Rattle.bundle_rules.specs.Symbols.{denoted_symbol, item_symbols}
 use Rattle.bundle_merge_meaning.specs.noted.Agrees.{IsAt}
-use Rattle.bundle_merge_joined.specs.joined.Joined.{joined, AllOf, IsWhole, offset}
-use Rattle.bundle_merge_joined.specs.joined.Notes.{own_denoted, IsListedIn}
-use Rattle.bundle_merge_joined.proofs.joined.Paths.{AreMoved}
-use Rattle.bundle_merge_joined.proofs.joined.Declarations.{IsNamed}
+use Rattle.bundle_merge_meaning.specs.joined.Joined.{joined, AllOf, IsWhole, offset}
+use Rattle.bundle_merge_meaning.specs.joined.Notes.{own_denoted, IsListedIn}
+use Rattle.bundle_merge_meaning.proofs.joined.Paths.{AreMoved}
+use Rattle.bundle_merge_meaning.proofs.joined.Declarations.{IsNamed}
 use Rattle.bundle_merge_meaning.specs.walked.Numbers.{IsOneToOne}
 use Rattle.bundle_merge_meaning.specs.walked.Keeps.{Entry}
 use Rattle.bundle_merge_meaning.specs.walked.Renaming.{Told}
@@ -25,7 +25,7 @@ use Rattle.bundle_merge_whole.specs.composed.Noted.{denoted_from, first_spot, vi
 use Rattle.bundle_merge_whole.specs.composed.Names.{Table, own_from, told_inside, StatementNoted}
 use Rattle.bundle_merge_whole.specs.composed.Own.{OutsideNoted, EntriesNoted}
 use Rattle.bundle_merge_whole.proofs.composed.Merged.{Moves, moves-one, beside, in_turn}
-use Rattle.bundle_merge_joined.proofs.loaded.Numbers.{both_once}
+use Rattle.bundle_merge_meaning.proofs.loaded.Numbers.{both_once}
 use Rattle.bundle_merge_whole.proofs.composed.Own.{all-beside, front-filtered}
 
 zipped-symbols : (R : Denoted → Denoted → Type 0) →

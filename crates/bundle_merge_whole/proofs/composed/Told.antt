@@ -9,7 +9,7 @@ use Rattle.bundle_rules.specs.Scopes.{Es, Scope, scope_order, same_scope, scopes
 use Rattle.bundle_rules.specs.Declarations.{Reading, Name, declared}
 use Rattle.bundle_rules.specs.Denotes.{Denoted, Bound, Global, denoted_of, denotations}
 use Rattle.bundle_rules.specs.Mentions.{same_context, same_denoted}
-use Rattle.bundle_merge_joined.specs.joined.Joined.{AllOf}
+use Rattle.bundle_merge_meaning.specs.joined.Joined.{AllOf}
 use Rattle.bundle_scope_renamed.proofs.kept.Lists.{map-in}
 use Rattle.bundle_scope_renamed.proofs.kept.Tables.{Table, AreOf, rest-known, same-known}
 use Rattle.bundle_scope_renamed.proofs.kept.Known.{table_in, occurrences-known}

@@ -10,7 +10,7 @@ use Rattle.bundle_rules.specs.Cleared.{cleared_head, cleared, without_note, with
 use Rattle.bundle_rules.specs.Sorting.{flat}
 use Rattle.bundle_merge_meaning.specs.noted.Nodes as nodes
 use Rattle.bundle_merge_meaning.specs.noted.Nodes.{AreNodes}
-use Rattle.bundle_merge_joined.specs.joined.Joined.{joined}
+use Rattle.bundle_merge_meaning.specs.joined.Joined.{joined}
 use Rattle.bundle_merge_meaning.specs.walked.Renaming.{Told, IsMarked}
 use Rattle.bundle_merge_meaning.proofs.walked.Renaming.{alone_alone}
 use Rattle.bundle_merge_meaning.proofs.walked.Clearing.{cleared-append, marked-cleared, items-cleared}

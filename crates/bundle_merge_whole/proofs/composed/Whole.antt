@@ -10,10 +10,10 @@ use Rattle.bundle_rules.specs.Declarations.{ByContext}
 use Rattle.bundle_rules.specs.Denotes.{denotations, IsResolved}
 use Rattle.bundle_rules.specs.Program.{Program}
 use Rattle.bundle_rules.specs.Bundle.{Cause, Form, AsModule, Hooks}
-use Rattle.bundle_merge_joined.specs.joined.Joined.{joined, AllOf, IsWhole}
-use Rattle.bundle_merge_joined.specs.joined.Notes.{AreApart}
-use Rattle.bundle_merge_joined.proofs.joined.Declarations.{IsNamed}
-use Rattle.bundle_merge_joined.proofs.joined.Resolved.{resolved}
+use Rattle.bundle_merge_meaning.specs.joined.Joined.{joined, AllOf, IsWhole}
+use Rattle.bundle_merge_meaning.specs.joined.Notes.{AreApart}
+use Rattle.bundle_merge_meaning.proofs.joined.Declarations.{IsNamed}
+use Rattle.bundle_merge_meaning.proofs.joined.Resolved.{resolved}
 use Rattle.bundle_merge_meaning.proofs.noted.Shapes.{marked_nodes}
 use Rattle.bundle_merge_whole.specs.composed.Noted.{Noted, function_ends, IsMadeOf, IsNotedFor, as_whole, as_function, AreNotedFor, IsNotedBundle}
 use Rattle.bundle_merge_whole.specs.composed.Names.{Table, IsTable, denoted_in_tree, labels_in, ItemNoted}

@@ -17,8 +17,8 @@ use Rattle.bundle_scope_renamed.specs.fit.Sorts.{AnItem, AStmt}
 use Rattle.bundle_scope_renamed.specs.fit.Fits.{IsFit}
 use Rattle.bundle_scope_renamed.proofs.fit.Rows.{last}
 use Rattle.bundle_merge_injected.specs.Listed as l
-use Rattle.bundle_merge_joined.specs.joined.Joined.{joined}
-use Rattle.bundle_merge_joined.proofs.joined.Paths.{flat-append}
+use Rattle.bundle_merge_meaning.specs.joined.Joined.{joined}
+use Rattle.bundle_merge_meaning.proofs.joined.Paths.{flat-append}
 use Rattle.bundle_merge_meaning.specs.walked.Renaming.{KeepsText}
 use Rattle.bundle_merge_whole.specs.planned.Decided.{one_if}
 use Rattle.bundle_merge_whole.specs.made.Given.{Contexts}

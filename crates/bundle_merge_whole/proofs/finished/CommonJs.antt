@@ -14,8 +14,8 @@ use Rattle.bundle_rules.specs.Injected.{load_front}
 use Rattle.bundle_rules.specs.Bundle as b
 use Rattle.bundle_rules.specs.Bundle.{Form, AsModule, Cause, Defines, Hooks, Labelled, IsLoadFunction, Realises}
 use Rattle.bundle_rules.proofs.LoadLemmas.{inside_is}
-use Rattle.bundle_merge_joined.specs.joined.Joined.{AllOf}
-use Rattle.bundle_merge_joined.specs.joined.Picked.{IsSingle}
+use Rattle.bundle_merge_meaning.specs.joined.Joined.{AllOf}
+use Rattle.bundle_merge_meaning.specs.joined.Picked.{IsSingle}
 use Rattle.bundle_scope_renamed.proofs.kept.Lists.{map-twice}
 use Rattle.bundle_merge_whole.specs.composed.Noted as w
 use Rattle.bundle_merge_whole.specs.composed.Noted.{MarksStandFor, Noted, AsFunction, function_ends, IsNotedFor, as_whole, as_function, AreNotedFor}

@@ -17,9 +17,9 @@ use Rattle.bundle_rules.specs.Symbols.{denoted_symbol, inner_symbols}
 use Rattle.bundle_rules.specs.Sorting.{flat}
 use Rattle.bundle_merge_meaning.specs.noted.Agrees.{IsAt}
 use Rattle.bundle_merge_meaning.proofs.noted.Spots.{fold-place, fold-path, field-twice, at-first, at-past, at-behind, at-as}
-use Rattle.bundle_merge_joined.specs.joined.Joined.{joined}
-use Rattle.bundle_merge_joined.proofs.joined.Paths.{occurrences-append, item-occurrences}
-use Rattle.bundle_merge_joined.proofs.joined.Tops.{Contains-cons}
+use Rattle.bundle_merge_meaning.specs.joined.Joined.{joined}
+use Rattle.bundle_merge_meaning.proofs.joined.Paths.{occurrences-append, item-occurrences}
+use Rattle.bundle_merge_meaning.proofs.joined.Tops.{Contains-cons}
 use Rattle.bundle_merge_meaning.specs.walked.Names.{names_of}
 use Rattle.bundle_merge_meaning.proofs.walked.Denoting.{elements_denote}
 use Rattle.bundle_merge_whole.specs.composed.Noted.{Noted, denoted_here, denoted_from, first_spot, view_of}

@@ -22,12 +22,12 @@ use Rattle.bundle_rules.specs.Merged.{HasContexts, BindsOwn, IsMerged}
 use Rattle.bundle_tree_places.specs.Edits.{Anywhere, Edits, Inside, node}
 use Rattle.bundle_merge_meaning.specs.noted.Agrees.{IsListing}
 use Rattle.bundle_merge_meaning.specs.noted.Listed.{AreListed, Other}
-use Rattle.bundle_merge_joined.specs.joined.Joined.{joined}
+use Rattle.bundle_merge_meaning.specs.joined.Joined.{joined}
 use Rattle.bundle_scope_renamed.proofs.kept.Named.{ArePlain}
 use Rattle.bundle_scope_renamed.proofs.kept.Recalled.{Calling, IsFaithful}
-use Rattle.bundle_merge_joined.specs.grouped.Renaming.{HasWays, HasObjects, AtOne}
-use Rattle.bundle_merge_joined.proofs.grouped.AlikeLemmas.{owners-refl}
-use Rattle.bundle_merge_joined.proofs.grouped.KeywordLemmas.{keyword-good_order, keyword-own}
+use Rattle.bundle_merge_meaning.specs.grouped.Renaming.{HasWays, HasObjects, AtOne}
+use Rattle.bundle_merge_meaning.proofs.grouped.AlikeLemmas.{owners-refl}
+use Rattle.bundle_merge_meaning.proofs.grouped.KeywordLemmas.{keyword-good_order, keyword-own}
 use Rattle.bundle_merge_meaning.specs.walked.Renaming.{KeepsText}
 use Rattle.bundle_merge_whole.specs.composed.Noted.{Noted, BundleAgrees, IsNotedBundle, pairing_of}
 use Rattle.bundle_merge_whole.specs.composed.Becoming.{AllOccur}

@@ -22,7 +22,7 @@ use Rattle.bundle_rules.specs.Bundle as due
 use Rattle.bundle_link_targets.specs.declared.linking.Linking.{Linking}
 use Rattle.bundle_scope_renamed.specs.Undoubled.{IsUndoubled}
 use Rattle.bundle_scope_renamed.proofs.kept.Grouped.{HasPlainKeys}
-use Rattle.bundle_merge_joined.specs.joined.Joined.{joined}
+use Rattle.bundle_merge_meaning.specs.joined.Joined.{joined}
 use Rattle.bundle_merge_whole.specs.planned.Blocks.{block_of}
 use Rattle.bundle_merge_whole.specs.planned.Decided.{Decided, AreDecided, HandsOut, exported, numbers_from, one_if, front_plan, back_plan, blocks_plan, plan_of}
 use Rattle.bundle_merge_whole.specs.planned.Placed.{id_at}

@@ -20,9 +20,9 @@ use Rattle.bundle_rules.specs.Bundle.{Cause, Defines, Hooks, AsModule, labelled,
 use Rattle.bundle_rules.specs.Symbols.{item_symbols, inner_symbols, CalledAlike, AreCalled}
 use Rattle.bundle_rules.specs.Merged.{HasContexts, BindsOwn, IsMerged}
 use Rattle.bundle_merge_meaning.specs.noted.Agrees.{IsListing}
-use Rattle.bundle_merge_joined.specs.joined.Joined.{joined, AllOf}
-use Rattle.bundle_merge_joined.specs.joined.Picked.{IsSingle}
-use Rattle.bundle_merge_joined.proofs.joined.TopItems.{top_items-joined}
+use Rattle.bundle_merge_meaning.specs.joined.Joined.{joined, AllOf}
+use Rattle.bundle_merge_meaning.specs.joined.Picked.{IsSingle}
+use Rattle.bundle_merge_meaning.proofs.joined.TopItems.{top_items-joined}
 use Rattle.bundle_scope_renamed.proofs.kept.Lists.{map-twice}
 use Rattle.bundle_scope_renamed.proofs.kept.Named.{ArePlain}
 use Rattle.bundle_scope_renamed.proofs.kept.Recalled.{Calling, IsFaithful}

@@ -12,7 +12,7 @@ use Rattle.bundle_rules.specs.Denotes.{Denoted, Bound, Global, denoted_by_contex
 use Rattle.bundle_rules.specs.Renaming.{Numbering, numbered, number_of, group, comes_before, is_kept_outside, symbol_after}
 use Rattle.bundle_rules.specs.Mentions.{same_denoted}
 use Rattle.bundle_rules.specs.Renamed.{HasNamesOnly}
-use Rattle.bundle_merge_joined.specs.joined.Notes.{its_name}
+use Rattle.bundle_merge_meaning.specs.joined.Notes.{its_name}
 use Rattle.bundle_scope_renamed.proofs.kept.Lists.{IsIn, map-in, in-map, find-in, find-passes, find-some}
 use Rattle.bundle_scope_renamed.proofs.kept.Tables.{Table}
 use Rattle.bundle_scope_renamed.proofs.kept.Known.{table_in}

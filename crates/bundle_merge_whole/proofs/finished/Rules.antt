@@ -14,8 +14,8 @@ use Rattle.bundle_rules.specs.Keywords.{is_keyword, keyword_free_of, has_ident, 
 use Rattle.bundle_rules.specs.Idents.{Ident, ident_of}
 use Rattle.bundle_rules.specs.Rebuilds.{ident_eq}
 use Rattle.bundle_rules.specs.Renamed.{HasNamesOnly}
-use Rattle.bundle_merge_joined.specs.joined.Joined.{AllOf}
-use Rattle.bundle_merge_joined.proofs.joined.Denotes.{HasIdentifier}
+use Rattle.bundle_merge_meaning.specs.joined.Joined.{AllOf}
+use Rattle.bundle_merge_meaning.proofs.joined.Denotes.{HasIdentifier}
 use Rattle.bundle_scope_renamed.proofs.kept.Lists.{IsIn, any-here, map-congr, find-some, find-passes, find-in}
 use Rattle.bundle_scope_renamed.proofs.kept.Recalled.{Calling, IsFaithful}
 use Rattle.bundle_merge_whole.proofs.composed.Keywords.{symbol-stays}

@@ -32,8 +32,8 @@ use Rattle.bundle_merge_meaning.proofs.noted.Listing.{is_listing}
 use Rattle.bundle_merge_meaning.proofs.walked.Clearing.{twice}
 use Rattle.bundle_merge_meaning.proofs.walked.Keeping.{alike, alike_inside}
 use Rattle.bundle_merge_meaning.proofs.walked.Renaming.{alone_left, alone_stays, alone_alone}
-use Rattle.bundle_merge_joined.specs.joined.Joined.{joined}
-use Rattle.bundle_merge_joined.proofs.grouped.TidiedLemmas.{denoted-tidied, tidied-good_order}
+use Rattle.bundle_merge_meaning.specs.joined.Joined.{joined}
+use Rattle.bundle_merge_meaning.proofs.grouped.TidiedLemmas.{denoted-tidied, tidied-good_order}
 use Rattle.bundle_merge_whole.specs.composed.Noted.{Noted, AsWhole, AsFunction, function_ends, pairing_of}
 use Rattle.bundle_merge_whole.specs.composed.Names.{denoted_in_tree}
 use Rattle.bundle_merge_whole.specs.composed.Becoming.{placed_scope, StandsIn, Becoming}

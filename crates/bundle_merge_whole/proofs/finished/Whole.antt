@@ -23,7 +23,7 @@ use Rattle.bundle_tree_places.specs.Edits.{Inside, node}
 use Rattle.bundle_merge_meaning.specs.noted.Agrees.{IsListing}
 use Rattle.bundle_merge_meaning.specs.noted.Listed.{AreListed, Other}
 use Rattle.bundle_merge_meaning.proofs.noted.Listing.{is_listing}
-use Rattle.bundle_merge_joined.specs.joined.Joined.{joined}
+use Rattle.bundle_merge_meaning.specs.joined.Joined.{joined}
 use Rattle.bundle_scope_renamed.proofs.kept.Lists.{map-congr}
 use Rattle.bundle_scope_renamed.proofs.kept.Named.{ArePlain}
 use Rattle.bundle_scope_renamed.proofs.kept.Grouped.{HasPlainKeys}

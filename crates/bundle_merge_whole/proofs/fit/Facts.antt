@@ -16,9 +16,9 @@ use Rattle.bundle_merge_meaning.proofs.noted.Listing.{is_listing, listed_nodes}
 use Rattle.bundle_merge_meaning.specs.walked.Rewrites.{AreOwn}
 use Rattle.bundle_scope_renamed.proofs.kept.Named.{ArePlain}
 use Rattle.bundle_scope_renamed.proofs.kept.Grouped.{HasPlainKeys}
-use Rattle.bundle_merge_joined.specs.grouped.Renaming.{HasWays}
-use Rattle.bundle_merge_joined.specs.joined.Joined.{IsWhole, open_behind}
-use Rattle.bundle_merge_joined.proofs.grouped.WholeLemmas as gw
+use Rattle.bundle_merge_meaning.specs.grouped.Renaming.{HasWays}
+use Rattle.bundle_merge_meaning.specs.joined.Joined.{IsWhole, open_behind}
+use Rattle.bundle_merge_meaning.proofs.grouped.WholeLemmas as gw
 use Rattle.bundle_merge_whole.specs.called.Within.{AreIn}
 use Rattle.bundle_merge_whole.proofs.called.Filed.{IsListless}
 use Rattle.bundle_scope_renamed.specs.fit.Sorts.{Sort, AModule, AnItem, Slot}

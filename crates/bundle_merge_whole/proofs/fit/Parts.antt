@@ -9,7 +9,7 @@ use Rattle.bundle_tree_piece.specs.Item.{Item, Head}
 use Rattle.bundle_rules.specs.Nodes.{put_first, side_by_side, begins_in, parts}
 use Rattle.bundle_scope_renamed.specs.fit.Sorts.{Sort, One, Slot, slot, AModule, AnItem, Many, takes, takes_name, names_in, slots}
 use Rattle.bundle_scope_renamed.specs.fit.Fits.{AreFit, no_more, over, a_name, a_hole, a_node, IsFit, name, node, AreEach, ended, next}
-use Rattle.bundle_merge_joined.proofs.grouped.WholeLemmas.{put_all, put_all-cons}
+use Rattle.bundle_merge_meaning.proofs.grouped.WholeLemmas.{put_all, put_all-cons}
 
 put_all_append : (xs ys : List Item) (lists : List (List Item)) →
     put_all (xs ++ ys) lists ≡ put_all xs (put_all ys lists)

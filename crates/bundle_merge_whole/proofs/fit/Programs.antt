@@ -9,8 +9,8 @@ use Rattle.bundle_rules.specs.Program.{Program, tree_of, IsReached}
 use Rattle.bundle_merge_meaning.specs.noted.Agrees.{IsListing}
 use Rattle.bundle_scope_renamed.proofs.kept.Named.{ArePlain}
 use Rattle.bundle_scope_renamed.proofs.kept.Grouped.{HasPlainKeys}
-use Rattle.bundle_merge_joined.specs.grouped.Renaming.{HasWays}
-use Rattle.bundle_merge_joined.specs.joined.Joined.{joined}
+use Rattle.bundle_merge_meaning.specs.grouped.Renaming.{HasWays}
+use Rattle.bundle_merge_meaning.specs.joined.Joined.{joined}
 use Rattle.bundle_merge_whole.proofs.called.HandedOut.{AreListless}
 use Rattle.bundle_scope_renamed.specs.fit.Sorts.{AnItem, AModule}
 use Rattle.bundle_scope_renamed.specs.fit.Fits.{IsFit, AreEach, ended, next}

@@ -12,7 +12,7 @@ use Rattle.bundle_rules.specs.Declarations.{Way, way_of, way_of_declarator}
 use Rattle.bundle_scope_renamed.specs.fit.Sorts.{Sort, ALocal, AnIdent, Slot, takes_name, takes_binding, takes_declarator, names_in}
 use Rattle.bundle_scope_renamed.specs.fit.Fits.{AreFit}
 use Rattle.bundle_scope_renamed.specs.fit.Seen.{each_slot, AreSeen, Steps}
-use Rattle.bundle_merge_joined.specs.grouped.Renaming.{HasWays}
+use Rattle.bundle_merge_meaning.specs.grouped.Renaming.{HasWays}
 use Rattle.bundle_scope_renamed.proofs.fit.Seeing.{seen}
 
 -- where names are bound something declares them; a declarator stands in a declaration

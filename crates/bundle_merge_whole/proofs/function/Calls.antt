@@ -20,8 +20,8 @@ use Rattle.bundle_rules.specs.Program.{Program, tree_of}
 use Rattle.bundle_merge_meaning.proofs.noted.ListFacts.{drop-next}
 use Rattle.bundle_merge_meaning.proofs.noted.Names.{occurrence_here}
 use Rattle.bundle_merge_meaning.proofs.noted.Replaces.{IsCallThere, required_there, linked_there}
-use Rattle.bundle_merge_joined.specs.joined.Joined.{open_behind}
-use Rattle.bundle_merge_joined.specs.loaded.Walk.{KeepsIt}
+use Rattle.bundle_merge_meaning.specs.joined.Joined.{open_behind}
+use Rattle.bundle_merge_meaning.specs.loaded.Walk.{KeepsIt}
 use Rattle.bundle_merge_whole.specs.made.Given.{Contexts}
 use Rattle.bundle_merge_whole.specs.made.Steps.{IsCalled}
 use Rattle.bundle_merge_whole.specs.function.Suited.{Suits, nothing, begun, ended, empty, word, named, called}

@@ -8,8 +8,8 @@ use Rattle.bundle_rules.specs.Idents.{Ident}
 use Rattle.bundle_rules.specs.Cleared.{cleared_head, cleared}
 use Rattle.bundle_rules.specs.Callable.{is_module_head}
 use Rattle.bundle_merge_injected.specs.Listed as l
-use Rattle.bundle_merge_joined.specs.loaded.Item.{back_items, front_items, load_item}
-use Rattle.bundle_merge_joined.specs.loaded.Turned.{Turned, over, begun, declares, ended, named, word, empty, called, skipped}
+use Rattle.bundle_merge_meaning.specs.loaded.Item.{back_items, front_items, load_item}
+use Rattle.bundle_merge_meaning.specs.loaded.Turned.{Turned, over, begun, declares, ended, named, word, empty, called, skipped}
 
 -- seven ends, one behind the other (a copy of `seven` of bundle_merge_meaning, walked/Loading)
 seven : (xs : List Item) →

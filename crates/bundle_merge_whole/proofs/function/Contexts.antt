@@ -16,11 +16,11 @@ use Rattle.bundle_rules.specs.Bundle as b
 use Rattle.bundle_scope_names.proofs.Numbering.{Numbering}
 use Rattle.bundle_scope_names.proofs.FoundLemmas.{with}
 use Rattle.bundle_scope_names.proofs.GivenLemmas.{denotation-at}
-use Rattle.bundle_merge_joined.proofs.joined.Paths.{item-occurrences}
-use Rattle.bundle_merge_joined.specs.loaded.Turned.{Turned}
-use Rattle.bundle_merge_joined.specs.loaded.Loaded.{module_declared, module_names, IsLoaded}
-use Rattle.bundle_merge_joined.specs.loaded.Contexts.{GivesLocal}
-use Rattle.bundle_merge_joined.proofs.loaded.Noted.{IsStrange}
+use Rattle.bundle_merge_meaning.proofs.joined.Paths.{item-occurrences}
+use Rattle.bundle_merge_meaning.specs.loaded.Turned.{Turned}
+use Rattle.bundle_merge_meaning.specs.loaded.Loaded.{module_declared, module_names, IsLoaded}
+use Rattle.bundle_merge_meaning.specs.loaded.Contexts.{GivesLocal}
+use Rattle.bundle_merge_meaning.proofs.loaded.Noted.{IsStrange}
 use Rattle.bundle_merge_whole.specs.made.Given.{Contexts, TopOf, InsideOf, NameOf, numbers_in}
 use Rattle.bundle_merge_whole.specs.made.Alone.{IsHolder, TellApart}
 use Rattle.bundle_merge_whole.specs.made.Alone as a

@@ -13,16 +13,16 @@ use Rattle.bundle_scope_names.proofs.Numbering.{Numbering}
 use Rattle.bundle_scope_names.proofs.Lists.{list_any-found, list_any-here}
 use Rattle.bundle_scope_names.proofs.FoundLemmas.{with}
 use Rattle.bundle_scope_names.proofs.HomesLemmas.{same_symbol}
-use Rattle.bundle_merge_joined.specs.joined.Joined.{own_declared}
-use Rattle.bundle_merge_joined.specs.joined.Notes.{own_denoted, is_inner}
-use Rattle.bundle_merge_joined.specs.loaded.Kept.{load_declared, DenotedBeside, globals, bindings}
-use Rattle.bundle_merge_joined.specs.loaded.Turned.{Turned, Goes}
-use Rattle.bundle_merge_joined.specs.loaded.Item.{load_item, parameter_named, declared_by_names}
-use Rattle.bundle_merge_joined.specs.loaded.Loaded.{module_declared, body_names, IsLoaded}
-use Rattle.bundle_merge_joined.proofs.joined.Bindings.{scope_in, bound-global}
-use Rattle.bundle_merge_joined.proofs.joined.Notes.{agrees-itself}
-use Rattle.bundle_merge_joined.proofs.loaded.Whole.{picked, declared-body}
-use Rattle.bundle_merge_joined.proofs.loaded.Noted.{NamedHere, of_kept, of_changed, named-here, beside-inner}
+use Rattle.bundle_merge_meaning.specs.joined.Joined.{own_declared}
+use Rattle.bundle_merge_meaning.specs.joined.Notes.{own_denoted, is_inner}
+use Rattle.bundle_merge_meaning.specs.loaded.Kept.{load_declared, DenotedBeside, globals, bindings}
+use Rattle.bundle_merge_meaning.specs.loaded.Turned.{Turned, Goes}
+use Rattle.bundle_merge_meaning.specs.loaded.Item.{load_item, parameter_named, declared_by_names}
+use Rattle.bundle_merge_meaning.specs.loaded.Loaded.{module_declared, body_names, IsLoaded}
+use Rattle.bundle_merge_meaning.proofs.joined.Bindings.{scope_in, bound-global}
+use Rattle.bundle_merge_meaning.proofs.joined.Notes.{agrees-itself}
+use Rattle.bundle_merge_meaning.proofs.loaded.Whole.{picked, declared-body}
+use Rattle.bundle_merge_meaning.proofs.loaded.Noted.{NamedHere, of_kept, of_changed, named-here, beside-inner}
 
 module _ {L : Ident → Type 0} {xs ys : List Item} (w : Turned L zero xs ys) (g : Numbering)
     (load helper m e : Ident) (its : IsLoaded g w load m e) where

@@ -23,7 +23,7 @@ use Rattle.bundle_merge_meaning.proofs.noted.Names.{node_ahead}
 use Rattle.bundle_merge_meaning.specs.walked.Rewrites.{Rewrites, TakesStep}
 use Rattle.bundle_merge_meaning.specs.walked.Rewrites as e
 use Rattle.bundle_merge_meaning.proofs.walked.Keeping.{reads_found, call_found}
-use Rattle.bundle_merge_joined.specs.loaded.Walk.{IsLiteral, KeepsIt, IsFine}
+use Rattle.bundle_merge_meaning.specs.loaded.Walk.{IsLiteral, KeepsIt, IsFine}
 use Rattle.bundle_merge_whole.specs.function.Suited.{Suits, nothing, begun, ended, empty, word, named, called}
 
 -- what a walk goes over is whole nodes

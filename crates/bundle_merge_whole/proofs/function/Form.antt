@@ -8,7 +8,7 @@ use Rattle.bundle_rules.specs.Statements.{no_notes}
 use Rattle.bundle_scope_renamed.specs.fit.Sorts.{AnItem, AStmt, Many, slot}
 use Rattle.bundle_scope_renamed.specs.fit.Fits.{AreFit, no_more, over, a_name, a_node, IsFit, node}
 use Rattle.bundle_merge_injected.specs.Listed as l
-use Rattle.bundle_merge_joined.specs.loaded.Item.{front_items}
+use Rattle.bundle_merge_meaning.specs.loaded.Item.{front_items}
 use Rattle.bundle_merge_whole.specs.composed.Noted.{HasPlainMarks}
 use Rattle.bundle_merge_whole.specs.composed.Functions.{function_items, function_front, function_names}
 

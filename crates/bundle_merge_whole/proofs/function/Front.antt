@@ -13,12 +13,12 @@ use Rattle.bundle_rules.specs.Program.{Program, tree_of, IsReached}
 use Rattle.bundle_rules.specs.Linking.{IsCommonJs}
 use Rattle.bundle_rules.specs.Meaning.{Label, Load, Helper, is_inside}
 use Rattle.bundle_rules.specs.Bundle as b
-use Rattle.bundle_merge_joined.specs.joined.Notes.{own_denoted, is_inner}
-use Rattle.bundle_merge_joined.specs.loaded.Turned.{Turned}
-use Rattle.bundle_merge_joined.specs.loaded.Item.{front_items, load_item, helper_name}
-use Rattle.bundle_merge_joined.specs.loaded.Loaded.{IsLoaded}
-use Rattle.bundle_merge_joined.specs.loaded.Contexts.{parameter_entry}
-use Rattle.bundle_merge_joined.proofs.loaded.Noted.{IsStrange, strange-outside, strange-own}
+use Rattle.bundle_merge_meaning.specs.joined.Notes.{own_denoted, is_inner}
+use Rattle.bundle_merge_meaning.specs.loaded.Turned.{Turned}
+use Rattle.bundle_merge_meaning.specs.loaded.Item.{front_items, load_item, helper_name}
+use Rattle.bundle_merge_meaning.specs.loaded.Loaded.{IsLoaded}
+use Rattle.bundle_merge_meaning.specs.loaded.Contexts.{parameter_entry}
+use Rattle.bundle_merge_meaning.proofs.loaded.Noted.{IsStrange, strange-outside, strange-own}
 use Rattle.bundle_merge_whole.specs.composed.Noted.{first_spot}
 use Rattle.bundle_merge_whole.specs.composed.Functions.{function_names}
 use Rattle.bundle_merge_whole.specs.made.Given.{Contexts, TopOf, NameOf, numbers_in, ident_of_label}

@@ -21,12 +21,12 @@ use Rattle.bundle_scope_renamed.specs.fit.Fits.{IsFit}
 use Rattle.bundle_merge_injected.specs.Listed as l
 use Rattle.bundle_scope_names.proofs.Numbering.{Numbering}
 use Rattle.bundle_merge_meaning.specs.noted.Nodes.{AreNodes}
-use Rattle.bundle_merge_joined.specs.joined.Joined.{own_declared}
-use Rattle.bundle_merge_joined.specs.loaded.Turned.{Turned}
-use Rattle.bundle_merge_joined.specs.loaded.Item.{front_items, load_item, module_start, body_start}
-use Rattle.bundle_merge_joined.specs.loaded.Loaded.{module_declared, IsLoaded}
-use Rattle.bundle_merge_joined.proofs.loaded.Noted.{item-named}
-use Rattle.bundle_merge_joined.proofs.loaded.Stating.{IsPart, whole-part}
+use Rattle.bundle_merge_meaning.specs.joined.Joined.{own_declared}
+use Rattle.bundle_merge_meaning.specs.loaded.Turned.{Turned}
+use Rattle.bundle_merge_meaning.specs.loaded.Item.{front_items, load_item, module_start, body_start}
+use Rattle.bundle_merge_meaning.specs.loaded.Loaded.{module_declared, IsLoaded}
+use Rattle.bundle_merge_meaning.proofs.loaded.Noted.{item-named}
+use Rattle.bundle_merge_meaning.proofs.loaded.Stating.{IsPart, whole-part}
 use Rattle.bundle_merge_whole.specs.composed.Noted.{Noted, AsFunction, as_function}
 use Rattle.bundle_merge_whole.specs.composed.Functions.{IsOfForm, function_form, function_items, function_names}
 use Rattle.bundle_merge_whole.proofs.fit.Facts.{one_listed}

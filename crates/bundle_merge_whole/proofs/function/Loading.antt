@@ -28,15 +28,15 @@ use Rattle.bundle_scope_names.proofs.Lists.{Each}
 use Rattle.bundle_merge_meaning.specs.walked.Names.{names_of}
 use Rattle.bundle_merge_meaning.proofs.walked.NameLemmas.{names_of-append}
 use Rattle.bundle_merge_meaning.proofs.noted.Names.{occurrences_append}
-use Rattle.bundle_merge_joined.specs.loaded.Kept.{IsTaken as HasTaker}
-use Rattle.bundle_merge_joined.specs.loaded.Turned.{Turned, over, skipped, FitsName, FitNames}
-use Rattle.bundle_merge_joined.specs.loaded.Item.{module_start, body_start}
-use Rattle.bundle_merge_joined.specs.loaded.Loaded.{module_declared, IsLoaded}
-use Rattle.bundle_merge_joined.specs.loaded.Pieces.{inner_there}
-use Rattle.bundle_merge_joined.proofs.loaded.Parts.{turned-append}
-use Rattle.bundle_merge_joined.proofs.loaded.Following.{fit-names}
-use Rattle.bundle_merge_joined.proofs.loaded.Taking.{taken-by-es}
-use Rattle.bundle_merge_joined.proofs.loaded.Parameters.{tells-apart}
+use Rattle.bundle_merge_meaning.specs.loaded.Kept.{IsTaken as HasTaker}
+use Rattle.bundle_merge_meaning.specs.loaded.Turned.{Turned, over, skipped, FitsName, FitNames}
+use Rattle.bundle_merge_meaning.specs.loaded.Item.{module_start, body_start}
+use Rattle.bundle_merge_meaning.specs.loaded.Loaded.{module_declared, IsLoaded}
+use Rattle.bundle_merge_meaning.specs.loaded.Pieces.{inner_there}
+use Rattle.bundle_merge_meaning.proofs.loaded.Parts.{turned-append}
+use Rattle.bundle_merge_meaning.proofs.loaded.Following.{fit-names}
+use Rattle.bundle_merge_meaning.proofs.loaded.Taking.{taken-by-es}
+use Rattle.bundle_merge_meaning.proofs.loaded.Parameters.{tells-apart}
 use Rattle.bundle_merge_whole.proofs.called.Seated.{can-be-called}
 use Rattle.bundle_merge_whole.proofs.fit.Within.{are_in}
 use Rattle.bundle_merge_whole.specs.made.Given.{Contexts, TopOf, NameOf, numbers_in, ident_of_label}

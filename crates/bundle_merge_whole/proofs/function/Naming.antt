@@ -1,5 +1,5 @@
 -- The names of a statement of a CommonJS module in the item of its load function, by itself (what
--- loaded/Stating of bundle_merge_joined says beside other items; what is private there is copied).
+-- loaded/Stating of bundle_merge_meaning says beside other items; what is private there is copied).
 use Rattle.std.proofs.Common.{◌≡◌, ℕ, zero, suc, ◌<◌, ◌≤◌, true, false, cond, List, [], ◌∷◌, Option, Some, None, filter, map, slice_get, refl, ap, ap₂, sym, ◌∙◌, subst, arith, find, is_some}
 use Rattle.std.specs.Prelude.{position, nat_le}
 use Rattle.std.specs.List.{AllZip}
@@ -24,29 +24,29 @@ use Rattle.bundle_scope_names.proofs.FoundLemmas.{plain, with}
 use Rattle.bundle_scope_names.proofs.Separation.{IsFor, denoted-for}
 use Rattle.bundle_scope_names.proofs.TreeLemmas.{DeclaresOrNot, DoesNot, Does, declares_or_not}
 use Rattle.bundle_merge_meaning.proofs.walked.Numbers.{numbers_agree}
-use Rattle.bundle_merge_joined.specs.joined.Joined.{AllOf, own_declared, is_written}
-use Rattle.bundle_merge_joined.specs.joined.Notes.{own_denoted, is_inner, is_inner_name}
-use Rattle.bundle_merge_joined.specs.loaded.Framed.{top, wrapper, inner, Framed, outside, within}
-use Rattle.bundle_merge_joined.specs.loaded.Kept.{DenotedBeside, globals, bindings, StandsBeside, KeepsName}
-use Rattle.bundle_merge_joined.specs.loaded.Turned.{Turned, Goes, Follows, done, kept, changed}
-use Rattle.bundle_merge_joined.specs.loaded.Item.{load_item}
-use Rattle.bundle_merge_joined.specs.loaded.Paths.{PathBeside, at_top}
-use Rattle.bundle_merge_joined.specs.loaded.Loaded.{module_declared, module_names, IsLoaded}
-use Rattle.bundle_merge_joined.specs.loaded.Names.{NamedAs, one_inside, of_top, of_wrapper, unbound}
-use Rattle.bundle_merge_joined.specs.loaded.Contexts.{OwnEntry, top_entry, wrapper_entry}
-use Rattle.bundle_merge_joined.proofs.loaded.Turning.{goes-from, turned-frame}
-use Rattle.bundle_merge_joined.proofs.loaded.Following.{follows-turned}
-use Rattle.bundle_merge_joined.proofs.loaded.Whole.{kept-there}
-use Rattle.bundle_merge_joined.proofs.loaded.One.{denoted-one}
-use Rattle.bundle_merge_joined.proofs.loaded.Numbers.{both_once, inside_zip, told-filtered}
-use Rattle.bundle_merge_joined.specs.loaded.Pieces.{is_told_inside, told_inside}
-use Rattle.bundle_merge_joined.proofs.loaded.Noted.{strange-outside, strange-own, beside-inner}
-use Rattle.bundle_merge_joined.proofs.loaded.Parameters.{bound-top}
-use Rattle.bundle_merge_joined.proofs.loaded.Apart.{arguments-bound}
-use Rattle.bundle_merge_joined.proofs.loaded.Stating.{IsPart}
-use Rattle.bundle_merge_joined.proofs.joined.Homes.{home-in}
-use Rattle.bundle_merge_joined.proofs.joined.Bindings.{scope_in, bound-global}
-use Rattle.bundle_merge_joined.proofs.joined.Notes.{find-has}
+use Rattle.bundle_merge_meaning.specs.joined.Joined.{AllOf, own_declared, is_written}
+use Rattle.bundle_merge_meaning.specs.joined.Notes.{own_denoted, is_inner, is_inner_name}
+use Rattle.bundle_merge_meaning.specs.loaded.Framed.{top, wrapper, inner, Framed, outside, within}
+use Rattle.bundle_merge_meaning.specs.loaded.Kept.{DenotedBeside, globals, bindings, StandsBeside, KeepsName}
+use Rattle.bundle_merge_meaning.specs.loaded.Turned.{Turned, Goes, Follows, done, kept, changed}
+use Rattle.bundle_merge_meaning.specs.loaded.Item.{load_item}
+use Rattle.bundle_merge_meaning.specs.loaded.Paths.{PathBeside, at_top}
+use Rattle.bundle_merge_meaning.specs.loaded.Loaded.{module_declared, module_names, IsLoaded}
+use Rattle.bundle_merge_meaning.specs.loaded.Names.{NamedAs, one_inside, of_top, of_wrapper, unbound}
+use Rattle.bundle_merge_meaning.specs.loaded.Contexts.{OwnEntry, top_entry, wrapper_entry}
+use Rattle.bundle_merge_meaning.proofs.loaded.Turning.{goes-from, turned-frame}
+use Rattle.bundle_merge_meaning.proofs.loaded.Following.{follows-turned}
+use Rattle.bundle_merge_meaning.proofs.loaded.Whole.{kept-there}
+use Rattle.bundle_merge_meaning.proofs.loaded.One.{denoted-one}
+use Rattle.bundle_merge_meaning.proofs.loaded.Numbers.{both_once, inside_zip, told-filtered}
+use Rattle.bundle_merge_meaning.specs.loaded.Pieces.{is_told_inside, told_inside}
+use Rattle.bundle_merge_meaning.proofs.loaded.Noted.{strange-outside, strange-own, beside-inner}
+use Rattle.bundle_merge_meaning.proofs.loaded.Parameters.{bound-top}
+use Rattle.bundle_merge_meaning.proofs.loaded.Apart.{arguments-bound}
+use Rattle.bundle_merge_meaning.proofs.loaded.Stating.{IsPart}
+use Rattle.bundle_merge_meaning.proofs.joined.Homes.{home-in}
+use Rattle.bundle_merge_meaning.proofs.joined.Bindings.{scope_in, bound-global}
+use Rattle.bundle_merge_meaning.proofs.joined.Notes.{find-has}
 use Rattle.bundle_merge_whole.specs.made.Given.{Contexts, InsideOf, numbers_in}
 use Rattle.bundle_merge_whole.specs.made.Alone.{IsTopLabel, IsHolder, TellApart, NameAlone}
 use Rattle.bundle_merge_whole.specs.made.Alone as a

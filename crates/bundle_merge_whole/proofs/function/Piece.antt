@@ -38,10 +38,10 @@ use Rattle.bundle_merge_meaning.specs.walked.Stated as s
 use Rattle.bundle_merge_meaning.specs.walked.Keeps.{AreOfMeta, steps_in, notes_in, ident_in, meant_in}
 use Rattle.bundle_merge_meaning.proofs.walked.Rewriting.{Fits, fits}
 use Rattle.bundle_merge_meaning.proofs.walked.Owning.{own_made, own_lone}
-use Rattle.bundle_merge_joined.specs.loaded.Turned.{Turned, over}
-use Rattle.bundle_merge_joined.specs.loaded.Item.{module_start}
-use Rattle.bundle_merge_joined.specs.loaded.Pieces.{inner_there}
-use Rattle.bundle_merge_joined.proofs.loaded.Walk.{walk-turns}
+use Rattle.bundle_merge_meaning.specs.loaded.Turned.{Turned, over}
+use Rattle.bundle_merge_meaning.specs.loaded.Item.{module_start}
+use Rattle.bundle_merge_meaning.specs.loaded.Pieces.{inner_there}
+use Rattle.bundle_merge_meaning.proofs.loaded.Walk.{walk-turns}
 use Rattle.bundle_merge_whole.proofs.composed.Own.{told_of}
 use Rattle.bundle_merge_whole.specs.made.Given.{Contexts, ident_of_label}
 use Rattle.bundle_merge_whole.specs.made.Steps.{IsCalled, IsStep, occurrences_in, meta_ident}

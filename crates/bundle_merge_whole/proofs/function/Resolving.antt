@@ -1,5 +1,5 @@
 -- Symbols and contexts tell the inner bindings of a load function's item apart, whatever stands
--- beside it (a copy of loaded/Resolving of bundle_merge_joined, over fewer premises).
+-- beside it (a copy of loaded/Resolving of bundle_merge_meaning, over fewer premises).
 use Rattle.std.proofs.Common.{◌≡◌, ◌↔◌, ℕ, zero, suc, ◌⊎◌, inl, inr, true, false, cond, List, ◌∷◌, Option, Some, None, slice_get, refl, ap, sym, ◌∙◌, subst, codes, eq-eqb, eqb-true}
 use Rattle.std.proofs.lemmas.Bool.{false≢true}
 use Rattle.std.proofs.lemmas.Option.{same_Some}
@@ -20,20 +20,20 @@ use Rattle.bundle_scope_names.proofs.GivenLemmas.{denotation-at}
 use Rattle.bundle_scope_names.proofs.Separation.{IsFor, denoted-for}
 use Rattle.bundle_scope_names.proofs.KindsLemmas.{DenotesOf, denoted-known, same-of, kind_in, occurrences-known}
 use Rattle.bundle_rules.specs.Symbols.{denoted_symbol}
-use Rattle.bundle_merge_joined.specs.joined.Notes.{own_denoted, is_inner, IsListedIn, IsResolvedInside}
-use Rattle.bundle_merge_joined.proofs.joined.Paths.{item-occurrences}
-use Rattle.bundle_merge_joined.specs.loaded.Framed.{IsFrame, Beside, top, wrapper, inner}
-use Rattle.bundle_merge_joined.specs.loaded.Kept.{DenotedBeside, globals, bindings, KeepsName}
-use Rattle.bundle_merge_joined.specs.loaded.Turned.{Turned, Goes}
-use Rattle.bundle_merge_joined.specs.loaded.Item.{load_name, helper_name, parameter_name, load_item}
-use Rattle.bundle_merge_joined.specs.loaded.Loaded.{module_declared, module_names, body_names, IsLoaded}
-use Rattle.bundle_merge_joined.proofs.loaded.Turning.{turned-frame}
-use Rattle.bundle_merge_joined.proofs.loaded.Beside.{same-beside}
-use Rattle.bundle_merge_joined.proofs.loaded.Whole.{declared-module}
-use Rattle.bundle_merge_joined.proofs.loaded.Noted.{IsStrange, NamedHere, of_kept, of_changed, named-here, occurrences-item, strange-own}
-use Rattle.bundle_merge_joined.proofs.joined.Bindings.{scope_in}
+use Rattle.bundle_merge_meaning.specs.joined.Notes.{own_denoted, is_inner, IsListedIn, IsResolvedInside}
+use Rattle.bundle_merge_meaning.proofs.joined.Paths.{item-occurrences}
+use Rattle.bundle_merge_meaning.specs.loaded.Framed.{IsFrame, Beside, top, wrapper, inner}
+use Rattle.bundle_merge_meaning.specs.loaded.Kept.{DenotedBeside, globals, bindings, KeepsName}
+use Rattle.bundle_merge_meaning.specs.loaded.Turned.{Turned, Goes}
+use Rattle.bundle_merge_meaning.specs.loaded.Item.{load_name, helper_name, parameter_name, load_item}
+use Rattle.bundle_merge_meaning.specs.loaded.Loaded.{module_declared, module_names, body_names, IsLoaded}
+use Rattle.bundle_merge_meaning.proofs.loaded.Turning.{turned-frame}
+use Rattle.bundle_merge_meaning.proofs.loaded.Beside.{same-beside}
+use Rattle.bundle_merge_meaning.proofs.loaded.Whole.{declared-module}
+use Rattle.bundle_merge_meaning.proofs.loaded.Noted.{IsStrange, NamedHere, of_kept, of_changed, named-here, occurrences-item, strange-own}
+use Rattle.bundle_merge_meaning.proofs.joined.Bindings.{scope_in}
 use Rattle.bundle_merge_whole.proofs.function.Strange.{AreStrange}
-use Rattle.bundle_merge_joined.proofs.joined.Notes.{agrees-itself}
+use Rattle.bundle_merge_meaning.proofs.joined.Notes.{agrees-itself}
 
 -- the scope beside another is one
 beside-one : {R : ℕ → ℕ → Type 0} → IsFrame R → {s t u : Scope} → Beside R s t → Beside R s u →

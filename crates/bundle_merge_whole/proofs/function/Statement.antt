@@ -23,9 +23,9 @@ use Rattle.bundle_rules.specs.Meaning as n
 use Rattle.bundle_link_tables.specs.Used.{is_use}
 use Rattle.bundle_merge_meaning.specs.noted.Marked.{Note}
 use Rattle.bundle_merge_meaning.specs.walked.Keeps.{Entry, ByStep, ByMeta, ident_in, meant_in, steps_in, notes_in, AreOfMeta}
-use Rattle.bundle_merge_joined.specs.loaded.Names.{NamedAs, one_inside, of_top, of_wrapper, unbound}
-use Rattle.bundle_merge_joined.specs.loaded.Walk.{KeepsIt}
-use Rattle.bundle_merge_joined.proofs.loaded.Own.{script-imports, stands-declared}
+use Rattle.bundle_merge_meaning.specs.loaded.Names.{NamedAs, one_inside, of_top, of_wrapper, unbound}
+use Rattle.bundle_merge_meaning.specs.loaded.Walk.{KeepsIt}
+use Rattle.bundle_merge_meaning.proofs.loaded.Own.{script-imports, stands-declared}
 use Rattle.bundle_merge_whole.specs.made.Given.{Contexts}
 use Rattle.bundle_merge_whole.specs.made.Steps.{IsStepTo, IsCalled, IsStep, keeps, uses, calls}
 use Rattle.bundle_merge_whole.specs.made.Told.{denoted_there, kept_ident, IsNamedFor, inside, known, IsNotedStep, AllNoted}

@@ -20,13 +20,13 @@ use Rattle.bundle_scope_renamed.specs.fit.Sorts.{AStmt}
 use Rattle.bundle_scope_renamed.specs.fit.Fits.{IsFit, name, node}
 use Rattle.bundle_merge_meaning.specs.walked.Names.{names_of}
 use Rattle.bundle_merge_meaning.specs.walked.Renaming.{Told, IsMarked, HasNoLoneName}
-use Rattle.bundle_merge_joined.specs.joined.Joined.{AllOf}
-use Rattle.bundle_merge_joined.specs.joined.Picked.{IsSingle}
-use Rattle.bundle_merge_joined.specs.loaded.Turned.{Turned, over, skipped}
-use Rattle.bundle_merge_joined.specs.loaded.Item.{load_item}
-use Rattle.bundle_merge_joined.specs.loaded.Loaded.{module_declared, IsLoaded}
-use Rattle.bundle_merge_joined.specs.loaded.Pieces.{inner_there}
-use Rattle.bundle_merge_joined.proofs.loaded.Stating.{IsPart, first-part, next-part}
+use Rattle.bundle_merge_meaning.specs.joined.Joined.{AllOf}
+use Rattle.bundle_merge_meaning.specs.joined.Picked.{IsSingle}
+use Rattle.bundle_merge_meaning.specs.loaded.Turned.{Turned, over, skipped}
+use Rattle.bundle_merge_meaning.specs.loaded.Item.{load_item}
+use Rattle.bundle_merge_meaning.specs.loaded.Loaded.{module_declared, IsLoaded}
+use Rattle.bundle_merge_meaning.specs.loaded.Pieces.{inner_there}
+use Rattle.bundle_merge_meaning.proofs.loaded.Stating.{IsPart, first-part, next-part}
 use Rattle.bundle_merge_whole.proofs.composed.Counting.{nodes_in}
 use Rattle.bundle_merge_whole.proofs.composed.Naming.{node-count}
 use Rattle.bundle_merge_whole.proofs.fit.Parts.{beside}

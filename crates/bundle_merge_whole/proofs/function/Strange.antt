@@ -4,9 +4,9 @@ use Rattle.bundle_tree_piece.specs.Item.{Item}
 use Rattle.bundle_rules.specs.Homes.{is_arguments}
 use Rattle.bundle_rules.specs.Idents.{Ident}
 use Rattle.bundle_scope_names.proofs.Numbering.{Numbering}
-use Rattle.bundle_merge_joined.specs.loaded.Turned.{Turned}
-use Rattle.bundle_merge_joined.specs.loaded.Loaded.{IsLoaded}
-use Rattle.bundle_merge_joined.proofs.loaded.Noted.{IsStrange}
+use Rattle.bundle_merge_meaning.specs.loaded.Turned.{Turned}
+use Rattle.bundle_merge_meaning.specs.loaded.Loaded.{IsLoaded}
+use Rattle.bundle_merge_meaning.proofs.loaded.Noted.{IsStrange}
 
 pub record AreStrange {L : Ident → Type 0} {xs ys : List Item} (w : Turned L zero xs ys)
     (g : Numbering) (load helper m e : Ident) (its : IsLoaded g w load m e) : Type 0 where

@@ -22,7 +22,7 @@ use Rattle.bundle_merge_meaning.specs.noted.Agrees.{IsListing}
 use Rattle.bundle_merge_meaning.specs.walked.Rewrites.{AreOwn}
 use Rattle.bundle_scope_renamed.proofs.kept.Named.{ArePlain}
 use Rattle.bundle_scope_renamed.proofs.kept.Grouped.{HasPlainKeys}
-use Rattle.bundle_merge_joined.specs.grouped.Renaming.{HasWays}
+use Rattle.bundle_merge_meaning.specs.grouped.Renaming.{HasWays}
 use Rattle.bundle_merge_whole.specs.called.Within.{AreIn}
 use Rattle.bundle_merge_whole.proofs.called.Filed.{IsListless}
 use Rattle.bundle_scope_renamed.specs.fit.Sorts.{AModule, AnItem, AStmt, ADecl, AnExpr}

@@ -16,7 +16,7 @@ use Rattle.bundle_rules.specs.Meaning.{plain}
 use Rattle.bundle_rules.specs.Statements.{TopItem, placed}
 use Rattle.bundle_scope_renamed.specs.fit.Sorts.{One, Many, slot, AnItem, takes, takes_name, slots}
 use Rattle.bundle_scope_renamed.specs.fit.Fits.{AreFit, no_more, over, a_name, a_node, node}
-use Rattle.bundle_merge_joined.specs.grouped.Renaming.{HasWays}
+use Rattle.bundle_merge_meaning.specs.grouped.Renaming.{HasWays}
 use Rattle.bundle_merge_whole.proofs.fit.Parts.{beside}
 use Rattle.bundle_link_targets.proofs.ListLemmas.{none-there, there-cases, there-place, map-on, filter-on}
 use Rattle.bundle_merge_whole.proofs.labels.Walked.{put-later, put-first}

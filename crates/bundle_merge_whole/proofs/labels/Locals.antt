@@ -18,7 +18,7 @@ use Rattle.bundle_rules.specs.Faults.{IsFaultless, undeclared_export, ListedName
 use Rattle.bundle_rules.specs.Statements.{TopItem, top_items, default_name}
 use Rattle.bundle_scope_renamed.specs.fit.Sorts.{Sort, One, Many, Optional, slot, AModule, AnItem, AnExport, AnInner, AnOuter, ASource, takes, takes_name, names_in, slots}
 use Rattle.bundle_scope_renamed.specs.fit.Fits.{AreFit, no_more, over, a_name, a_node, IsFit, name, node}
-use Rattle.bundle_merge_joined.specs.grouped.Renaming.{HasWays}
+use Rattle.bundle_merge_meaning.specs.grouped.Renaming.{HasWays}
 use Rattle.bundle_merge_whole.proofs.fit.Facts.{one_ways}
 use Rattle.bundle_merge_whole.proofs.fit.Parts.{beside, ends}
 use Rattle.bundle_link_targets.proofs.ListLemmas.{none-there, first-there, there-cases, there-place, only-one, map-back, filter-back, filter-on, flat-back}

@@ -8,7 +8,7 @@ use Rattle.bundle_rules.specs.Declarations.{ByContext}
 use Rattle.bundle_rules.specs.Meaning.{Labelling}
 use Rattle.bundle_rules.specs.Program.{Program}
 use Rattle.bundle_rules.specs.Bundle.{Cause, AsModule, Hooks, IsDue, IsLaidOut}
-use Rattle.bundle_merge_joined.specs.joined.Joined.{joined}
+use Rattle.bundle_merge_meaning.specs.joined.Joined.{joined}
 use Rattle.bundle_merge_whole.specs.composed.Noted.{pairing_of}
 use Rattle.bundle_merge_whole.specs.planned.Decided.{Decided, AreDecided, plan_of}
 use Rattle.bundle_merge_whole.specs.made.Given.{Contexts}

@@ -3,7 +3,7 @@ use Rattle.std.proofs.Common.{◌≡◌, ℕ, zero, suc, ◌+◌, ◌<◌, List,
 use Rattle.std.specs.Prelude.{filter_map, slice_get}
 use Rattle.std.specs.List.{AllZip, cons_option}
 use Rattle.std.proofs.lemmas.Option.{none-some}
-use Rattle.bundle_merge_joined.specs.joined.Joined.{AllOf}
+use Rattle.bundle_merge_meaning.specs.joined.Joined.{AllOf}
 use Rattle.bundle_merge_whole.proofs.composed.ListFacts.{zip-at, zip-length, as-long}
 use Rattle.bundle_merge_whole.proofs.planned.ListLemmas.{ReadBy, here}
 use Rattle.bundle_merge_whole.proofs.planned.LayoutLemmas.{get-behind, get-front}

@@ -10,10 +10,10 @@ use Rattle.bundle_rules.specs.Sorting.{flat, group_of_items}
 use Rattle.bundle_rules.specs.Meaning.{Labelling}
 use Rattle.bundle_rules.specs.Program.{Program}
 use Rattle.bundle_rules.specs.Bundle.{Cause, AsModule, Hooks, IsDue, IsLaidOut, owner_of}
-use Rattle.bundle_merge_joined.specs.joined.Joined.{AllOf, IsWhole, joined}
-use Rattle.bundle_merge_joined.specs.joined.Picked.{BindsOwn, IsSingle}
-use Rattle.bundle_merge_joined.proofs.joined.Declarations.{IsNamed}
-use Rattle.bundle_merge_joined.proofs.joined.TopItems.{top_items-joined}
+use Rattle.bundle_merge_meaning.specs.joined.Joined.{AllOf, IsWhole, joined}
+use Rattle.bundle_merge_meaning.specs.joined.Picked.{BindsOwn, IsSingle}
+use Rattle.bundle_merge_meaning.proofs.joined.Declarations.{IsNamed}
+use Rattle.bundle_merge_meaning.proofs.joined.TopItems.{top_items-joined}
 use Rattle.bundle_merge_whole.specs.composed.Noted.{pairing_of}
 use Rattle.bundle_merge_whole.specs.planned.Decided.{Decided, DecidedBlock, AreDecided, block_plan, front_plan, back_plan, merged_blocks, numbers_from, block_order, blocks_order, whole_order, plan_of}
 use Rattle.bundle_merge_whole.specs.planned.Sorted.{AreBlocksGood, IsBlockGood, IsItem}

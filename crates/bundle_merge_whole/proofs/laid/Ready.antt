@@ -14,10 +14,10 @@ use Rattle.bundle_rules.specs.Program.{Program, IsReached}
 use Rattle.bundle_rules.specs.Bundle as b
 use Rattle.bundle_rules.specs.Bundle.{Cause, Own, AsModule, Hooks, IsDue}
 use Rattle.bundle_rules.specs.Meaning.{Label}
-use Rattle.bundle_merge_joined.specs.joined.Joined.{AllOf, IsWhole, own_declared, is_top_name}
-use Rattle.bundle_merge_joined.specs.joined.Picked.{IsSingle, BindsOwn}
-use Rattle.bundle_merge_joined.specs.grouped.Renaming.{HasWays}
-use Rattle.bundle_merge_joined.proofs.joined.Declarations.{IsNamed as HasNames}
+use Rattle.bundle_merge_meaning.specs.joined.Joined.{AllOf, IsWhole, own_declared, is_top_name}
+use Rattle.bundle_merge_meaning.specs.joined.Picked.{IsSingle, BindsOwn}
+use Rattle.bundle_merge_meaning.specs.grouped.Renaming.{HasWays}
+use Rattle.bundle_merge_meaning.proofs.joined.Declarations.{IsNamed as HasNames}
 use Rattle.bundle_merge_whole.proofs.fit.Facts.{fit_is_whole}
 use Rattle.bundle_merge_whole.proofs.fit.Programs.{joined_ways}
 use Rattle.bundle_scope_renamed.specs.fit.Sorts.{AnItem}

@@ -5,12 +5,12 @@ use Rattle.bundle_rules.specs.Idents.{Ident}
 use Rattle.bundle_rules.specs.Sorting.{flat}
 use Rattle.bundle_scope_names.proofs.Numbering.{Numbering}
 use Rattle.bundle_merge_meaning.specs.walked.Renaming.{Told}
-use Rattle.bundle_merge_joined.specs.loaded.Item.{front_items, load_item, body_start, module_start}
-use Rattle.bundle_merge_joined.specs.loaded.Loaded.{module_declared, IsLoaded}
-use Rattle.bundle_merge_joined.specs.loaded.Names.{AreTabled}
-use Rattle.bundle_merge_joined.specs.loaded.Pieces.{Pieced, AllTold, IsTabledFront}
-use Rattle.bundle_merge_joined.proofs.loaded.Noted.{AreKnown}
-use Rattle.bundle_merge_joined.proofs.loaded.Pieces.{together, front-noted, function-noted}
+use Rattle.bundle_merge_meaning.specs.loaded.Item.{front_items, load_item, body_start, module_start}
+use Rattle.bundle_merge_meaning.specs.loaded.Loaded.{module_declared, IsLoaded}
+use Rattle.bundle_merge_meaning.specs.loaded.Names.{AreTabled}
+use Rattle.bundle_merge_meaning.specs.loaded.Pieces.{Pieced, AllTold, IsTabledFront}
+use Rattle.bundle_merge_meaning.proofs.loaded.Noted.{AreKnown}
+use Rattle.bundle_merge_meaning.proofs.loaded.Pieces.{together, front-noted, function-noted}
 use Rattle.bundle_merge_whole.specs.composed.Noted.{AsFunction}
 use Rattle.bundle_merge_whole.specs.composed.Names.{Table, ItemNoted}
 use Rattle.bundle_merge_whole.specs.composed.Functions.{function_names}

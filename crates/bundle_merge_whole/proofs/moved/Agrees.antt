@@ -13,7 +13,7 @@ use Rattle.bundle_rules.specs.Meaning.{Label, Of, Parameter, Load, Meta, Helper,
 use Rattle.bundle_rules.specs.Bundle.{Cause, AsModule, Hooks, IsPaired}
 use Rattle.bundle_link_index.proofs.ProgramLemmas.{map_back}
 use Rattle.bundle_link_reached.proofs.ElementLemmas.{map_on}
-use Rattle.bundle_merge_joined.specs.joined.Joined.{joined}
+use Rattle.bundle_merge_meaning.specs.joined.Joined.{joined}
 use Rattle.bundle_merge_meaning.specs.walked.Renaming.{Told}
 use Rattle.bundle_merge_meaning.specs.walked.Together.{IsBoundAs}
 use Rattle.bundle_merge_whole.specs.composed.Noted.{Noted, AsWhole, AsFunction, AgreesWith, StandsForLabel, StatementsAgree, ItemAgrees, ItemsAgree, first_spot, view_of, IsNotedBundle, pairing_of}

@@ -19,9 +19,9 @@ use Rattle.bundle_rules.specs.Bundle.{Cause, Own, ImportsNames, ImportsWhole, Im
 use Rattle.bundle_link_reached.specs.Alike.{IsAlike}
 use Rattle.bundle_link_reached.proofs.ElementLemmas.{later, first_or_later}
 use Rattle.bundle_link_index.proofs.ProgramLemmas.{map_back}
-use Rattle.bundle_merge_joined.specs.grouped.Alike.{OwnersAlike}
-use Rattle.bundle_merge_joined.specs.grouped.Standing.{SameFlags, object_in, ItemsAlike, DenoteTop, Stands, Correspond}
-use Rattle.bundle_merge_joined.proofs.grouped.GroupLemmas.{good_order-corresponds}
+use Rattle.bundle_merge_meaning.specs.grouped.Alike.{OwnersAlike}
+use Rattle.bundle_merge_meaning.specs.grouped.Standing.{SameFlags, object_in, ItemsAlike, DenoteTop, Stands, Correspond}
+use Rattle.bundle_merge_meaning.proofs.grouped.GroupLemmas.{good_order-corresponds}
 use Rattle.bundle_merge_whole.specs.composed.Noted.{pairing_of}
 use Rattle.bundle_merge_whole.proofs.planned.CauseLemmas.{Chosen-in}
 use Rattle.bundle_merge_whole.proofs.planned.ListLemmas.{here, no_element, contains-get}

@@ -10,7 +10,7 @@ use Rattle.bundle_rules.specs.Meaning.{Labelling}
 use Rattle.bundle_rules.specs.Program.{Program, IsReached}
 use Rattle.bundle_rules.specs.Kept.{local_context}
 use Rattle.bundle_rules.specs.Bundle.{Cause, AsModule, Hooks, IsDue, IsLaidOut}
-use Rattle.bundle_merge_joined.specs.joined.Joined.{joined}
+use Rattle.bundle_merge_meaning.specs.joined.Joined.{joined}
 use Rattle.bundle_merge_whole.specs.composed.Noted.{pairing_of}
 use Rattle.bundle_merge_whole.specs.planned.Placed.{id_at}
 use Rattle.bundle_merge_whole.proofs.composed.Contexts.{has-contexts}

@@ -10,9 +10,9 @@ use Rattle.bundle_rules.specs.Program.{Program, tree_of, IsReached}
 use Rattle.bundle_rules.specs.Meaning.{Label}
 use Rattle.bundle_rules.specs.Bundle as b
 use Rattle.bundle_rules.specs.Bundle.{Cause, Form, AsModule, Hooks, AsksCommonJs, IsDue}
-use Rattle.bundle_merge_joined.specs.joined.Joined.{joined}
-use Rattle.bundle_merge_joined.specs.loaded.Contexts as own
-use Rattle.bundle_merge_joined.specs.loaded.Contexts.{OwnEntry}
+use Rattle.bundle_merge_meaning.specs.joined.Joined.{joined}
+use Rattle.bundle_merge_meaning.specs.loaded.Contexts as own
+use Rattle.bundle_merge_meaning.specs.loaded.Contexts.{OwnEntry}
 use Rattle.bundle_merge_whole.specs.composed.Names.{labels_in}
 use Rattle.bundle_merge_whole.proofs.composed.Labels.{label-from}
 use Rattle.bundle_merge_whole.proofs.planned.RequestLemmas.{declared_leads, meant-reached}

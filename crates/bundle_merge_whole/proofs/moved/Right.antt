@@ -6,7 +6,7 @@ use Rattle.bundle_rules.specs.Kept.{local_context}
 use Rattle.bundle_rules.specs.Program.{Program, IsReached}
 use Rattle.bundle_rules.specs.Bundle.{Cause, AsModule, Hooks, IsDue}
 use Rattle.bundle_link_targets.specs.Meant.{AreModules}
-use Rattle.bundle_merge_joined.specs.joined.Joined.{joined}
+use Rattle.bundle_merge_meaning.specs.joined.Joined.{joined}
 use Rattle.bundle_merge_whole.specs.planned.Decided.{Decided, AreDecided, plan_of, numbers_from}
 use Rattle.bundle_merge_whole.specs.planned.Placed.{id_at}
 use Rattle.bundle_merge_whole.proofs.finished.Bundles.{IsMergedRight}

@@ -15,14 +15,14 @@ use Rattle.bundle_scope_names.proofs.Lists.{Each}
 use Rattle.bundle_scope_names.proofs.FoundLemmas.{plain}
 use Rattle.bundle_scope_names.proofs.TreeLemmas.{DeclaresOrNot, DoesNot, Does, declares_or_not, declaration_by_way}
 use Rattle.bundle_scope_names.proofs.GivenLemmas.{its_context, declaration-given}
-use Rattle.bundle_merge_joined.specs.joined.Joined.{AllOf}
-use Rattle.bundle_merge_joined.specs.joined.Alike.{IsOneToOne, ScopesAlike, tops, wrappers, inners, DeclaredAlike, DenotedAlike, bindings, globals}
-use Rattle.bundle_merge_joined.proofs.joined.Alike.{home-alike, by_symbol-alike}
-use Rattle.bundle_merge_joined.proofs.joined.Lists.{get-right, get-append, all-append}
-use Rattle.bundle_merge_joined.proofs.joined.Homes.{home-in}
-use Rattle.bundle_merge_joined.proofs.joined.Declarations.{declared_by_names}
-use Rattle.bundle_merge_joined.proofs.joined.Ranges.{IsIn, IsDeclaredIn, IsOccurrenceIn}
-use Rattle.bundle_merge_joined.proofs.loaded.Whole.{picked}
+use Rattle.bundle_merge_meaning.specs.joined.Joined.{AllOf}
+use Rattle.bundle_merge_meaning.specs.joined.Alike.{IsOneToOne, ScopesAlike, tops, wrappers, inners, DeclaredAlike, DenotedAlike, bindings, globals}
+use Rattle.bundle_merge_meaning.proofs.joined.Alike.{home-alike, by_symbol-alike}
+use Rattle.bundle_merge_meaning.proofs.joined.Lists.{get-right, get-append, all-append}
+use Rattle.bundle_merge_meaning.proofs.joined.Homes.{home-in}
+use Rattle.bundle_merge_meaning.proofs.joined.Declarations.{declared_by_names}
+use Rattle.bundle_merge_meaning.proofs.joined.Ranges.{IsIn, IsDeclaredIn, IsOccurrenceIn}
+use Rattle.bundle_merge_meaning.proofs.loaded.Whole.{picked}
 use Rattle.bundle_merge_whole.specs.own.Beside.{Pairs, Paired, Rise, Below, origin, MadeOf, AllMade, done, made, added, IsFront, AreFront, no_front, one_front}
 use Rattle.bundle_merge_whole.proofs.own.Pairs.{rises-from, below-all, one-to-one, origin-is}
 use Rattle.bundle_merge_whole.proofs.own.Padded.{IsAway, IsDeclaredAway, IsPadded, pad-home, pad-binds, inner-found}

@@ -15,8 +15,8 @@ use Rattle.bundle_rules.specs.Statements.{Element, taken, written, taken_from, t
 use Rattle.bundle_rules.proofs.HeadLemmas.{of_head}
 use Rattle.bundle_tree_places.specs.Edits.{node}
 use Rattle.bundle_tree_rebuild.specs.Work.{Work}
-use Rattle.bundle_merge_joined.proofs.joined.Tops.{Contains-cons, Contains-none}
-use Rattle.bundle_merge_joined.proofs.grouped.ClearedLemmas.{length-cleared}
+use Rattle.bundle_merge_meaning.proofs.joined.Tops.{Contains-cons, Contains-none}
+use Rattle.bundle_merge_meaning.proofs.grouped.ClearedLemmas.{length-cleared}
 use Rattle.bundle_merge_meaning.specs.noted.Stated.{states_itself, declares_default}
 use Rattle.bundle_merge_meaning.specs.walked.Stated.{StatesList}
 use Rattle.bundle_merge_meaning.specs.walked.Stated as t

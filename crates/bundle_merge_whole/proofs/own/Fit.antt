@@ -33,7 +33,7 @@ use Rattle.bundle_rules.specs.Declarations.{is_nameless_default}
 use Rattle.bundle_scope_renamed.specs.fit.Seen.{AreSeen}
 use Rattle.bundle_scope_renamed.proofs.fit.Seeing.{seen}
 use Rattle.bundle_scope_renamed.proofs.fit.Owning.{own_at, steps}
-use Rattle.bundle_merge_joined.proofs.joined.Declarations.{AreNamed, IsNamed}
+use Rattle.bundle_merge_meaning.proofs.joined.Declarations.{AreNamed, IsNamed}
 use Rattle.bundle_merge_meaning.specs.walked.Rewrites.{AreOwn}
 use Rattle.bundle_merge_meaning.proofs.walked.Owning.{own_node}
 use Rattle.bundle_merge_whole.proofs.fit.Owning.{are_own}

@@ -14,7 +14,7 @@ use Rattle.bundle_rules.specs.Statements.{moved_to}
 use Rattle.bundle_rules.proofs.HeadLemmas.{of_head}
 use Rattle.bundle_rules.proofs.PathLemmas.{cleared_path, cleared_spot, cleared_occurrence, past-cleared, occurrence_of-cleared}
 use Rattle.bundle_tree_rebuild.specs.Work.{Step}
-use Rattle.bundle_merge_joined.specs.joined.Alike.{ScopesAlike, tops, wrappers, inners}
+use Rattle.bundle_merge_meaning.specs.joined.Alike.{ScopesAlike, tops, wrappers, inners}
 use Rattle.bundle_merge_meaning.proofs.noted.Spots.{around}
 use Rattle.bundle_merge_whole.specs.own.Beside.{PathsBeside, AllMade, done, made, added}
 use Rattle.bundle_merge_whole.proofs.own.Paths.{node-same}

@@ -24,16 +24,16 @@ use Rattle.bundle_scope_names.proofs.Lists.{find-nothing}
 use Rattle.bundle_scope_names.proofs.TreeLemmas.{DeclaresOrNot, DoesNot, Does, declares_or_not}
 use Rattle.bundle_scope_names.proofs.Separation.{IsFor, denoted-for}
 use Rattle.bundle_scope_names.proofs.TestLemmas.{iff}
-use Rattle.bundle_merge_joined.specs.joined.Joined.{AllOf, own_declared}
-use Rattle.bundle_merge_joined.specs.joined.Notes.{its_name, own_denoted, is_inner, is_inner_name, IsListedIn}
-use Rattle.bundle_merge_joined.specs.joined.Alike.{ScopesAlike, tops, wrappers, inners}
-use Rattle.bundle_merge_joined.proofs.joined.Declarations.{IsNamed}
-use Rattle.bundle_merge_joined.proofs.joined.Paths.{item-occurrences}
+use Rattle.bundle_merge_meaning.specs.joined.Joined.{AllOf, own_declared}
+use Rattle.bundle_merge_meaning.specs.joined.Notes.{its_name, own_denoted, is_inner, is_inner_name, IsListedIn}
+use Rattle.bundle_merge_meaning.specs.joined.Alike.{ScopesAlike, tops, wrappers, inners}
+use Rattle.bundle_merge_meaning.proofs.joined.Declarations.{IsNamed}
+use Rattle.bundle_merge_meaning.proofs.joined.Paths.{item-occurrences}
 use Rattle.bundle_merge_meaning.specs.noted.Marked.{Note}
 use Rattle.bundle_merge_meaning.specs.walked.Keeps.{Entry, meant_in}
 use Rattle.bundle_merge_meaning.specs.walked.Numbers.{IsOneToOne}
 use Rattle.bundle_merge_meaning.proofs.walked.Numbers.{numbers_agree, both_filtered}
-use Rattle.bundle_merge_joined.specs.loaded.Pieces.{is_told_inside, told_inside}
+use Rattle.bundle_merge_meaning.specs.loaded.Pieces.{is_told_inside, told_inside}
 use Rattle.bundle_merge_whole.specs.composed.Noted.{first_spot}
 use Rattle.bundle_merge_whole.proofs.composed.ListFacts.{pick}
 use Rattle.bundle_merge_whole.specs.made.Given.{Contexts, numbers_in, ident_of_label}
@@ -43,7 +43,7 @@ use Rattle.bundle_merge_whole.specs.own.Beside.{Pairs, Paired, MadeOf, IsFront, 
 use Rattle.bundle_merge_whole.proofs.own.Lifted.{declared_names}
 use Rattle.bundle_merge_whole.proofs.own.Alongside.{its_numbering, IsAlongside, one, IsKnownName}
 use Rattle.bundle_merge_whole.proofs.own.Aligning.{FrontAligned}
-use Rattle.bundle_merge_joined.proofs.joined.Lists.{get-right}
+use Rattle.bundle_merge_meaning.proofs.joined.Lists.{get-right}
 use Rattle.bundle_merge_whole.proofs.own.Outer.{top-not-inner, outer-own, AreTold, IsStrange, strange-outside, inside-own}
 
 -- a copy of both_once of bundle_merge_meaning proofs/walked/Numbers

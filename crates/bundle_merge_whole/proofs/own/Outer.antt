@@ -23,15 +23,15 @@ use Rattle.bundle_rules.specs.Meaning.{Label}
 use Rattle.bundle_rules.specs.Program.{Program}
 use Rattle.bundle_merge_whole.specs.made.Given.{Contexts, ident_of_label}
 use Rattle.bundle_merge_whole.specs.made.Alone.{IsTopLabel, IsInnerAlone}
-use Rattle.bundle_merge_joined.proofs.joined.Resolved.{InnerOf, inner-of}
-use Rattle.bundle_merge_joined.specs.joined.Joined.{own_declared, is_written as is_written_binding}
-use Rattle.bundle_merge_joined.specs.joined.Notes.{its_name, own_denoted, is_inner, is_inner_name, IsListedIn}
-use Rattle.bundle_merge_joined.specs.joined.Alike.{inners}
-use Rattle.bundle_merge_joined.proofs.joined.Declarations.{IsNamed, declared_by_names, declared-item}
-use Rattle.bundle_merge_joined.proofs.joined.Denotes.{identified, nothing-implied}
-use Rattle.bundle_merge_joined.proofs.joined.Lists.{get-map}
-use Rattle.bundle_merge_joined.proofs.joined.Notes.{Viewed, written, implicit, unbound, viewed, inner-declared}
-use Rattle.bundle_merge_joined.proofs.joined.Paths.{item-occurrences}
+use Rattle.bundle_merge_meaning.proofs.joined.Resolved.{InnerOf, inner-of}
+use Rattle.bundle_merge_meaning.specs.joined.Joined.{own_declared, is_written as is_written_binding}
+use Rattle.bundle_merge_meaning.specs.joined.Notes.{its_name, own_denoted, is_inner, is_inner_name, IsListedIn}
+use Rattle.bundle_merge_meaning.specs.joined.Alike.{inners}
+use Rattle.bundle_merge_meaning.proofs.joined.Declarations.{IsNamed, declared_by_names, declared-item}
+use Rattle.bundle_merge_meaning.proofs.joined.Denotes.{identified, nothing-implied}
+use Rattle.bundle_merge_meaning.proofs.joined.Lists.{get-map}
+use Rattle.bundle_merge_meaning.proofs.joined.Notes.{Viewed, written, implicit, unbound, viewed, inner-declared}
+use Rattle.bundle_merge_meaning.proofs.joined.Paths.{item-occurrences}
 use Rattle.bundle_merge_whole.specs.composed.Noted.{first_spot}
 use Rattle.bundle_merge_whole.specs.own.Beside.{Pairs, Paired, MadeOf}
 use Rattle.bundle_merge_whole.proofs.own.Lifted.{declared_names, names-plain, names-known, told-at, denotes-given}

@@ -34,12 +34,12 @@ use Rattle.bundle_scope_names.proofs.TreeLemmas.{declaration_by_way, way-identif
 use Rattle.bundle_scope_renamed.specs.fit.Sorts.{AnItem}
 use Rattle.bundle_scope_renamed.specs.fit.Fits.{IsFit}
 use Rattle.bundle_scope_renamed.specs.fit.Fits as f
-use Rattle.bundle_merge_joined.specs.joined.Joined.{AllOf, own_declared}
-use Rattle.bundle_merge_joined.specs.joined.Notes.{own_denoted, is_inner}
-use Rattle.bundle_merge_joined.specs.joined.Alike.{ScopesAlike, tops, wrappers, inners}
-use Rattle.bundle_merge_joined.proofs.joined.Declarations.{IsNamed}
-use Rattle.bundle_merge_joined.proofs.joined.Lists.{get-right, get-append}
-use Rattle.bundle_merge_joined.proofs.loaded.Whole.{picked}
+use Rattle.bundle_merge_meaning.specs.joined.Joined.{AllOf, own_declared}
+use Rattle.bundle_merge_meaning.specs.joined.Notes.{own_denoted, is_inner}
+use Rattle.bundle_merge_meaning.specs.joined.Alike.{ScopesAlike, tops, wrappers, inners}
+use Rattle.bundle_merge_meaning.proofs.joined.Declarations.{IsNamed}
+use Rattle.bundle_merge_meaning.proofs.joined.Lists.{get-right, get-append}
+use Rattle.bundle_merge_meaning.proofs.loaded.Whole.{picked}
 use Rattle.bundle_merge_meaning.specs.noted.Marked.{Note}
 use Rattle.bundle_merge_meaning.specs.noted.Stated.{declares_default}
 use Rattle.bundle_merge_meaning.specs.walked.Keeps.{meant_in}

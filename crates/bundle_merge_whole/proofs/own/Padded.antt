@@ -10,11 +10,11 @@ use Rattle.bundle_rules.specs.Declarations.{Way, Name, names_agree, Declared}
 use Rattle.bundle_rules.specs.Homes.{is_parameters, is_wrapper, is_function, is_arguments, takes, from_taker, nearest, taker, parameters_of, joins_parameter, is_parameter, home_beside, home_of, is_declared_in, declares, binds}
 use Rattle.bundle_scope_names.proofs.Lists.{Each, list_any-found, list_any-here}
 use Rattle.bundle_scope_names.proofs.TestLemmas.{iff}
-use Rattle.bundle_merge_joined.specs.joined.Joined.{AllOf}
-use Rattle.bundle_merge_joined.proofs.joined.Ranges.{IsIn, IsDeclaredIn}
-use Rattle.bundle_merge_joined.proofs.joined.Homes.{HasIn, taker-in, home-in}
+use Rattle.bundle_merge_meaning.specs.joined.Joined.{AllOf}
+use Rattle.bundle_merge_meaning.proofs.joined.Ranges.{IsIn, IsDeclaredIn}
+use Rattle.bundle_merge_meaning.proofs.joined.Homes.{HasIn, taker-in, home-in}
 
--- copies of from_taker-in, nearest-in and parameters-in of bundle_merge_joined proofs/joined/Homes
+-- copies of from_taker-in, nearest-in and parameters-in of bundle_merge_meaning proofs/joined/Homes
 
 from_taker-in : (P : Scope → Type 0) (way : Way) (scopes : List Scope) → AllOf P scopes →
     AllOf P (from_taker way scopes)

@@ -1,6 +1,6 @@
 -- Places that go to places in order.
 use Rattle.std.proofs.Common.{◌≡◌, ◌≤◌, ◌<◌, inl, inr, ℕ, suc, cond, [], ◌∷◌, ◌++◌, ap, sym, ◌∙◌, arith, eq-eqb, ne_eqb}
-use Rattle.bundle_merge_joined.specs.joined.Alike.{IsOneToOne}
+use Rattle.bundle_merge_meaning.specs.joined.Alike.{IsOneToOne}
 use Rattle.bundle_merge_whole.specs.own.Beside.{Pairs, Paired, Rise, Below, origin}
 
 -- from where on

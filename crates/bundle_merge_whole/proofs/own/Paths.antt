@@ -9,7 +9,7 @@ use Rattle.bundle_tree_piece.specs.Item.{Item, Head}
 use Rattle.bundle_rules.specs.Places.{Around, Spot, in_field, past}
 use Rattle.bundle_rules.specs.Scopes.{Es, ScopeKind, FunctionName, ClassName, kind_of_scope, scope_at, scopes_around}
 use Rattle.bundle_rules.specs.Declarations.{Way, ByFunction, ByFunctionName, ByClass, ByClassName, ByLoop, ByLet, ByConst, is_pattern, way_of_variable, way_in, way_of}
-use Rattle.bundle_merge_joined.specs.joined.Alike.{ScopesAlike, inners}
+use Rattle.bundle_merge_meaning.specs.joined.Alike.{ScopesAlike, inners}
 use Rattle.bundle_merge_meaning.specs.noted.Nodes.{AreNodes}
 use Rattle.bundle_merge_meaning.proofs.noted.Spots.{around, field-twice, fold-path}
 use Rattle.bundle_merge_whole.specs.own.Beside.{PathsBeside, SpotsBeside}

@@ -1,4 +1,4 @@
--- Names of a list whose scopes begin in a range: copies of private lemmas of bundle_merge_joined
+-- Names of a list whose scopes begin in a range: copies of private lemmas of bundle_merge_meaning
 -- proofs/joined/Ranges.
 use Rattle.std.proofs.Common.{◌≤◌, inl, inr, ℕ, ◌+◌, List, [], ◌∷◌, length, arith}
 use Rattle.bundle_tree_piece.specs.declared.piece.Role.TheVariants as r
@@ -6,9 +6,9 @@ use Rattle.bundle_tree_piece.specs.Item as h
 use Rattle.bundle_tree_piece.specs.Item.{Item}
 use Rattle.bundle_rules.specs.Places.{Around, Spot, in_field, outer_path, past, occurrences_from}
 use Rattle.bundle_rules.specs.Scopes.{Es, scopes_around}
-use Rattle.bundle_merge_joined.specs.joined.Joined.{AllOf}
-use Rattle.bundle_merge_joined.proofs.joined.Lists.{all-more}
-use Rattle.bundle_merge_joined.proofs.joined.Ranges.{IsIn, IsNodeIn, IsSpotIn, IsOccurrenceIn, scopes-in}
+use Rattle.bundle_merge_meaning.specs.joined.Joined.{AllOf}
+use Rattle.bundle_merge_meaning.proofs.joined.Lists.{all-more}
+use Rattle.bundle_merge_meaning.proofs.joined.Ranges.{IsIn, IsNodeIn, IsSpotIn, IsOccurrenceIn, scopes-in}
 
 node-wider : (low high more : ℕ) → high ≤ more → (node : Around) → IsNodeIn low high node →
     IsNodeIn low more node

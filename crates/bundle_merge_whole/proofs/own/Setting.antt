@@ -32,9 +32,9 @@ use Rattle.bundle_scope_names.proofs.Separation.{IsFor, denoted-for}
 use Rattle.bundle_scope_renamed.specs.fit.Sorts.{AModule, AnItem, AStmt}
 use Rattle.bundle_scope_renamed.specs.fit.Fits.{IsFit}
 use Rattle.bundle_scope_renamed.proofs.fit.Rows.{last}
-use Rattle.bundle_merge_joined.specs.joined.Joined.{AllOf}
-use Rattle.bundle_merge_joined.proofs.grouped.ClearedLemmas.{length-cleared}
-use Rattle.bundle_merge_joined.proofs.joined.Ranges.{IsOccurrenceIn}
+use Rattle.bundle_merge_meaning.specs.joined.Joined.{AllOf}
+use Rattle.bundle_merge_meaning.proofs.grouped.ClearedLemmas.{length-cleared}
+use Rattle.bundle_merge_meaning.proofs.joined.Ranges.{IsOccurrenceIn}
 use Rattle.bundle_merge_meaning.specs.noted.Marked.{Note}
 use Rattle.bundle_merge_meaning.specs.noted.Agrees.{IsAt}
 use Rattle.bundle_merge_meaning.specs.noted.Nodes.{AreNodes}

@@ -15,7 +15,7 @@ use Rattle.bundle_rules.specs.Statements.{declaration_head, no_notes}
 use Rattle.bundle_tree_places.specs.Edits.{Anywhere, node}
 use Rattle.bundle_tree_rebuild.specs.Work.{Step, Work}
 use Rattle.bundle_tree_rebuild.specs.Becomes.{Becomes, named}
-use Rattle.bundle_merge_joined.specs.joined.Alike.{tops}
+use Rattle.bundle_merge_meaning.specs.joined.Alike.{tops}
 use Rattle.bundle_merge_meaning.specs.noted.Stated.{states_itself, is_default_head, declares_default}
 use Rattle.bundle_merge_meaning.specs.walked.Rewrites.{AreOwn, Cover, KeepsSymbol, is_own_item}
 use Rattle.bundle_merge_meaning.specs.walked.Stated.{StatesList}

@@ -19,10 +19,10 @@ use Rattle.bundle_scope_names.proofs.TreeLemmas.{each-declared, each-occurrence,
 use Rattle.bundle_scope_renamed.specs.fit.Sorts.{AModule, AnItem, takes, takes_name}
 use Rattle.bundle_scope_renamed.specs.fit.Fits.{AreFit, IsFit}
 use Rattle.bundle_scope_renamed.specs.fit.Fits as f
-use Rattle.bundle_merge_joined.specs.joined.Joined.{AllOf}
-use Rattle.bundle_merge_joined.specs.grouped.Renaming.{HasWays}
-use Rattle.bundle_merge_joined.proofs.joined.Lists.{all-more, get-append, get-right, get-left}
-use Rattle.bundle_merge_joined.proofs.joined.Ranges.{IsIn, IsNodeIn, IsSpotIn, IsOccurrenceIn}
+use Rattle.bundle_merge_meaning.specs.joined.Joined.{AllOf}
+use Rattle.bundle_merge_meaning.specs.grouped.Renaming.{HasWays}
+use Rattle.bundle_merge_meaning.proofs.joined.Lists.{all-more, get-append, get-right, get-left}
+use Rattle.bundle_merge_meaning.proofs.joined.Ranges.{IsIn, IsNodeIn, IsSpotIn, IsOccurrenceIn}
 use Rattle.bundle_merge_whole.proofs.own.Ranges.{occurrences-in}
 use Rattle.bundle_merge_meaning.specs.noted.Nodes.{AreNodes}
 use Rattle.bundle_merge_meaning.specs.noted.Agrees.{IsAt}

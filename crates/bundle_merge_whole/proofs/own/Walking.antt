@@ -20,7 +20,7 @@ use Rattle.bundle_rules.specs.Idents.{Ident, ident_of}
 use Rattle.bundle_rules.specs.Rebuilds.{Change, plain_key, key_in_object}
 use Rattle.bundle_tree_rebuild.specs.Work.{Step, Work, upcoming, after, change_at}
 use Rattle.bundle_tree_rebuild.specs.Becomes.{reference, kept_notes, name_for_meta}
-use Rattle.bundle_merge_joined.specs.joined.Alike.{ScopesAlike}
+use Rattle.bundle_merge_meaning.specs.joined.Alike.{ScopesAlike}
 use Rattle.bundle_merge_meaning.specs.noted.Nodes as n
 use Rattle.bundle_merge_meaning.specs.noted.Nodes.{AreNodes}
 use Rattle.bundle_merge_meaning.specs.walked.Rewrites.{Rewrites, TakesStep, is_in_no_specifier}

@@ -10,10 +10,10 @@ use Rattle.bundle_rules.specs.Statements.{TopItem, top_items, placed}
 use Rattle.bundle_rules.specs.Order.{IsGoodOrder}
 use Rattle.bundle_rules.specs.Sorting.{flat, group_of_items}
 use Rattle.bundle_rules.specs.Bundle.{Cause, owner_of}
-use Rattle.bundle_merge_joined.specs.joined.Joined.{AllOf, IsWhole, joined, is_top_name}
-use Rattle.bundle_merge_joined.proofs.joined.Declarations.{IsNamed}
-use Rattle.bundle_merge_joined.specs.joined.Picked.{BindsOwn, IsPlaced, IsSingle}
-use Rattle.bundle_merge_joined.proofs.joined.TopItems.{order-of-block, placed-joined, top_items-joined}
+use Rattle.bundle_merge_meaning.specs.joined.Joined.{AllOf, IsWhole, joined, is_top_name}
+use Rattle.bundle_merge_meaning.proofs.joined.Declarations.{IsNamed}
+use Rattle.bundle_merge_meaning.specs.joined.Picked.{BindsOwn, IsPlaced, IsSingle}
+use Rattle.bundle_merge_meaning.proofs.joined.TopItems.{order-of-block, placed-joined, top_items-joined}
 use Rattle.bundle_merge_whole.specs.planned.Sorted.{AreItemsOf, IsBlockGood}
 use Rattle.bundle_merge_whole.proofs.planned.ListLemmas.{get-contains, length-mapped}
 use Rattle.bundle_merge_whole.proofs.composed.ListFacts.{all-in}

@@ -17,7 +17,7 @@ use Rattle.bundle_rules.specs.Sorting.{flat}
 use Rattle.bundle_rules.specs.Statements.{Element, own_statements}
 use Rattle.bundle_scope_renamed.specs.fit.Sorts.{AModule}
 use Rattle.bundle_scope_renamed.specs.fit.Fits.{IsFit}
-use Rattle.bundle_merge_joined.specs.joined.Joined.{joined}
+use Rattle.bundle_merge_meaning.specs.joined.Joined.{joined}
 use Rattle.bundle_merge_whole.specs.made.Given.{Contexts, HelperParameter, HelperVariable, TopOf, ident_of_label}
 use Rattle.bundle_merge_whole.specs.made.Made.{IsStatedAs, IsAnsweredAs, named_idents, linked_idents, IsMade}
 use Rattle.bundle_merge_whole.specs.made.Made as made

@@ -14,13 +14,13 @@ use Rattle.bundle_rules.specs.Program.{Program}
 use Rattle.bundle_rules.specs.Meaning.{Label, Meant, Known}
 use Rattle.bundle_rules.specs.Symbols.{denoted_symbol}
 use Rattle.bundle_rules.specs.Bundle.{Cause, Defines, AsModule, Hooks}
-use Rattle.bundle_merge_joined.specs.joined.Joined.{AllOf, own_declared, is_written}
-use Rattle.bundle_merge_joined.specs.joined.Notes.{its_name, own_denoted, is_inner_name, IsListedIn, IsInnerAmong, AreApart}
-use Rattle.bundle_merge_joined.proofs.joined.Lists.{get-append}
-use Rattle.bundle_merge_joined.proofs.joined.Paths.{occurrences-append, item-occurrences}
-use Rattle.bundle_merge_joined.proofs.joined.Declarations.{IsNamed as HasNames}
-use Rattle.bundle_merge_joined.proofs.joined.Notes.{viewed}
-use Rattle.bundle_merge_joined.proofs.joined.Resolved.{InnerOf, inner-of}
+use Rattle.bundle_merge_meaning.specs.joined.Joined.{AllOf, own_declared, is_written}
+use Rattle.bundle_merge_meaning.specs.joined.Notes.{its_name, own_denoted, is_inner_name, IsListedIn, IsInnerAmong, AreApart}
+use Rattle.bundle_merge_meaning.proofs.joined.Lists.{get-append}
+use Rattle.bundle_merge_meaning.proofs.joined.Paths.{occurrences-append, item-occurrences}
+use Rattle.bundle_merge_meaning.proofs.joined.Declarations.{IsNamed as HasNames}
+use Rattle.bundle_merge_meaning.proofs.joined.Notes.{viewed}
+use Rattle.bundle_merge_meaning.proofs.joined.Resolved.{InnerOf, inner-of}
 use Rattle.bundle_merge_meaning.specs.walked.Renaming.{Told}
 use Rattle.bundle_merge_whole.specs.composed.Noted.{Noted, AsFunction, function_ends, IsNotedFor, as_whole, as_function, first_spot}
 use Rattle.bundle_merge_whole.proofs.composed.Contexts.{own-symbol}

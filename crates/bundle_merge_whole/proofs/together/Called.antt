@@ -17,12 +17,12 @@ use Rattle.bundle_rules.specs.Injected.{load_front}
 use Rattle.bundle_rules.specs.Bundle.{Cause, Own, Defines, Helps, HoldsMeta, AsModule, Hooks, Labelled, labelled, StandsFor, IsLoadFunction}
 use Rattle.bundle_rules.specs.Symbols.{inner_symbols, item_symbols, CalledAlike, AreCalled}
 use Rattle.bundle_rules.proofs.LoadLemmas.{inside_is}
-use Rattle.bundle_merge_joined.specs.joined.Joined.{joined, AllOf, offset}
-use Rattle.bundle_merge_joined.specs.joined.Picked.{IsSingle}
-use Rattle.bundle_merge_joined.specs.joined.Notes.{IsListedIn}
-use Rattle.bundle_merge_joined.proofs.joined.Lists.{all-front, all-back}
-use Rattle.bundle_merge_joined.proofs.joined.Paths.{inside, AreMoved, moved-past, occurrences-append, fold-place}
-use Rattle.bundle_merge_joined.proofs.joined.TopItems.{top_items-joined}
+use Rattle.bundle_merge_meaning.specs.joined.Joined.{joined, AllOf, offset}
+use Rattle.bundle_merge_meaning.specs.joined.Picked.{IsSingle}
+use Rattle.bundle_merge_meaning.specs.joined.Notes.{IsListedIn}
+use Rattle.bundle_merge_meaning.proofs.joined.Lists.{all-front, all-back}
+use Rattle.bundle_merge_meaning.proofs.joined.Paths.{inside, AreMoved, moved-past, occurrences-append, fold-place}
+use Rattle.bundle_merge_meaning.proofs.joined.TopItems.{top_items-joined}
 use Rattle.bundle_merge_meaning.specs.noted.Agrees.{IsAt}
 use Rattle.bundle_merge_meaning.proofs.noted.Spots.{at-behind, at-as}
 use Rattle.bundle_merge_meaning.specs.walked.Renaming.{Told}

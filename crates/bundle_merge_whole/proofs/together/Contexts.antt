@@ -23,16 +23,16 @@ use Rattle.bundle_rules.specs.Merged.{BindsOwn}
 use Rattle.bundle_scope_names.proofs.Lists.{list_any-found}
 use Rattle.bundle_scope_renamed.specs.fit.Sorts.{AnItem}
 use Rattle.bundle_scope_renamed.specs.fit.Fits.{IsFit}
-use Rattle.bundle_merge_joined.specs.joined.Joined.{joined, AllOf, IsWhole, moved_declared, moved_occurrence, offset, own_declared, is_written}
-use Rattle.bundle_merge_joined.specs.joined.Notes.{its_name, own_denoted, is_inner_name, IsListedIn}
-use Rattle.bundle_merge_joined.specs.grouped.Renaming.{HasWays}
-use Rattle.bundle_merge_joined.proofs.joined.Bindings.{bound-global}
-use Rattle.bundle_merge_joined.proofs.joined.Declarations.{IsNamed as HasNames, declared-item, declaration-moved}
-use Rattle.bundle_merge_joined.proofs.joined.Items.{occurrence-of-item, occurrence-in-whole}
-use Rattle.bundle_merge_joined.proofs.joined.Notes.{Viewed, written, implicit, unbound, viewed, own-top, free-own}
-use Rattle.bundle_merge_joined.specs.loaded.Contexts as entry
-use Rattle.bundle_merge_joined.specs.loaded.Contexts.{OwnEntry}
-use Rattle.bundle_merge_joined.proofs.loaded.Whole.{picked}
+use Rattle.bundle_merge_meaning.specs.joined.Joined.{joined, AllOf, IsWhole, moved_declared, moved_occurrence, offset, own_declared, is_written}
+use Rattle.bundle_merge_meaning.specs.joined.Notes.{its_name, own_denoted, is_inner_name, IsListedIn}
+use Rattle.bundle_merge_meaning.specs.grouped.Renaming.{HasWays}
+use Rattle.bundle_merge_meaning.proofs.joined.Bindings.{bound-global}
+use Rattle.bundle_merge_meaning.proofs.joined.Declarations.{IsNamed as HasNames, declared-item, declaration-moved}
+use Rattle.bundle_merge_meaning.proofs.joined.Items.{occurrence-of-item, occurrence-in-whole}
+use Rattle.bundle_merge_meaning.proofs.joined.Notes.{Viewed, written, implicit, unbound, viewed, own-top, free-own}
+use Rattle.bundle_merge_meaning.specs.loaded.Contexts as entry
+use Rattle.bundle_merge_meaning.specs.loaded.Contexts.{OwnEntry}
+use Rattle.bundle_merge_meaning.proofs.loaded.Whole.{picked}
 use Rattle.bundle_merge_whole.specs.composed.Names.{Table, HasModuleContexts, IsCalledAsLabels}
 use Rattle.bundle_merge_whole.proofs.composed.Contexts.{declared-name}
 use Rattle.bundle_merge_whole.proofs.fit.Programs.{joined_ways}

@@ -5,7 +5,7 @@ use Rattle.bundle_rules.specs.Kept.{local_context}
 use Rattle.bundle_rules.specs.Program.{Program, IsReached}
 use Rattle.bundle_rules.specs.Meaning.{Label, IsMeant}
 use Rattle.bundle_rules.specs.Bundle.{Cause, Own, ImportsNames, ImportsWhole, ImportsNothing, Helps, Defines, Loads, HoldsMeta, HoldsNamespace, Stars, Exports, AsModule, Hooks, IsDue}
-use Rattle.bundle_merge_joined.specs.joined.Joined.{joined}
+use Rattle.bundle_merge_meaning.specs.joined.Joined.{joined}
 use Rattle.bundle_merge_whole.specs.planned.Decided.{Decided, AreDecided, plan_of}
 use Rattle.bundle_merge_whole.specs.made.Given.{Contexts, TopOf}
 use Rattle.bundle_merge_whole.specs.made.Made.{IsMade, AreMade}

@@ -6,8 +6,8 @@ use Rattle.std.proofs.lemmas.List.Elements.{Contains-append_left, Contains-appen
 use Rattle.bundle_rules.specs.Places.{Occurrence}
 use Rattle.bundle_rules.specs.Idents.{Ident, ident_of}
 use Rattle.bundle_rules.specs.Meaning.{Label, Meant, Inside, Known, Unbound}
-use Rattle.bundle_merge_joined.proofs.joined.Lists.{get-left, get-right}
-use Rattle.bundle_merge_joined.proofs.joined.Tops.{Contains-cons, Contains-none}
+use Rattle.bundle_merge_meaning.proofs.joined.Lists.{get-left, get-right}
+use Rattle.bundle_merge_meaning.proofs.joined.Tops.{Contains-cons, Contains-none}
 use Rattle.bundle_merge_whole.specs.composed.Names.{Table}
 use Rattle.bundle_merge_whole.specs.together.Table.{known_entries, front_entries}
 

@@ -10,9 +10,9 @@ use Rattle.bundle_rules.specs.Meaning.{Labelling}
 use Rattle.bundle_rules.specs.Bundle.{Cause, Form, AsModule, Hooks, StandsFor, IsBlockLaidOut, lone, cycle, AreBlocksLaidOut, over, next, IsLaidOut}
 use Rattle.bundle_scope_renamed.specs.fit.Sorts.{AnItem}
 use Rattle.bundle_scope_renamed.specs.fit.Fits.{IsFit}
-use Rattle.bundle_merge_joined.specs.joined.Joined.{joined, AllOf, IsWhole}
-use Rattle.bundle_merge_joined.specs.joined.Picked.{IsSingle}
-use Rattle.bundle_merge_joined.proofs.joined.Resolved.{resolved}
+use Rattle.bundle_merge_meaning.specs.joined.Joined.{joined, AllOf, IsWhole}
+use Rattle.bundle_merge_meaning.specs.joined.Picked.{IsSingle}
+use Rattle.bundle_merge_meaning.proofs.joined.Resolved.{resolved}
 use Rattle.bundle_merge_whole.specs.composed.Noted.{Noted, IsNotedFor, AreNotedFor, IsNotedBundle, pairing_of}
 use Rattle.bundle_merge_whole.proofs.composed.Naming.{OneNode}
 use Rattle.bundle_merge_whole.proofs.composed.Remade.{NoLone, AllOfForm}

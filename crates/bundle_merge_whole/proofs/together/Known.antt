@@ -9,7 +9,7 @@ use Rattle.bundle_rules.specs.Kept.{local_context}
 use Rattle.bundle_rules.specs.Program.{Program, IsReached}
 use Rattle.bundle_rules.specs.Bundle.{Hooks}
 use Rattle.bundle_link_targets.specs.declared.linking.Linking.{Linking}
-use Rattle.bundle_merge_joined.specs.joined.Joined.{joined}
+use Rattle.bundle_merge_meaning.specs.joined.Joined.{joined}
 use Rattle.bundle_merge_whole.specs.planned.Blocks.{block_of}
 use Rattle.bundle_merge_whole.specs.planned.Decided.{Decided, plan_of, numbers_from}
 use Rattle.bundle_merge_whole.specs.planned.Placed.{id_at}

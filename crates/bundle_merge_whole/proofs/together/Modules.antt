@@ -23,12 +23,12 @@ use Rattle.bundle_scope_renamed.specs.fit.Seen.{each_slot}
 use Rattle.bundle_scope_renamed.proofs.fit.Owning.{is_own, own_head, own_slots, occurs}
 use Rattle.bundle_scope_renamed.proofs.fit.Rows.{last}
 use Rattle.bundle_scope_renamed.proofs.fit.Seeing.{after_slot}
-use Rattle.bundle_merge_joined.specs.loaded.Contexts.{OwnEntry}
-use Rattle.bundle_merge_joined.specs.loaded.Kept.{IsTaken}
-use Rattle.bundle_merge_joined.specs.loaded.Loaded.{module_declared}
-use Rattle.bundle_merge_joined.specs.loaded.Turned.{Turned, over as turned_over, begun, ended as turned_ended, named, empty}
-use Rattle.bundle_merge_joined.proofs.loaded.Parameters.{one-label, one-ident}
-use Rattle.bundle_merge_joined.proofs.loaded.Taking.{taken-by-es}
+use Rattle.bundle_merge_meaning.specs.loaded.Contexts.{OwnEntry}
+use Rattle.bundle_merge_meaning.specs.loaded.Kept.{IsTaken}
+use Rattle.bundle_merge_meaning.specs.loaded.Loaded.{module_declared}
+use Rattle.bundle_merge_meaning.specs.loaded.Turned.{Turned, over as turned_over, begun, ended as turned_ended, named, empty}
+use Rattle.bundle_merge_meaning.proofs.loaded.Parameters.{one-label, one-ident}
+use Rattle.bundle_merge_meaning.proofs.loaded.Taking.{taken-by-es}
 use Rattle.bundle_merge_whole.proofs.fit.Parts.{beside, each_of}
 use Rattle.bundle_merge_whole.specs.made.Given.{Contexts, numbers_in}
 use Rattle.bundle_merge_whole.specs.made.Alone.{AreSound}

@@ -12,10 +12,10 @@ use Rattle.bundle_rules.specs.Idents.{Ident, ident_of}
 use Rattle.bundle_rules.specs.Program.{Program, tree_of}
 use Rattle.bundle_rules.specs.Meaning.{Label, Meant, Known}
 use Rattle.bundle_rules.specs.Bundle.{Cause, Defines, AsModule, Hooks, IsDue}
-use Rattle.bundle_merge_joined.specs.joined.Joined.{is_top_name}
-use Rattle.bundle_merge_joined.specs.joined.Notes.{its_name, own_denoted, is_inner, IsNoted, inner, top_name, free}
-use Rattle.bundle_merge_joined.specs.loaded.Contexts as entry
-use Rattle.bundle_merge_joined.specs.loaded.Contexts.{OwnEntry}
+use Rattle.bundle_merge_meaning.specs.joined.Joined.{is_top_name}
+use Rattle.bundle_merge_meaning.specs.joined.Notes.{its_name, own_denoted, is_inner, IsNoted, inner, top_name, free}
+use Rattle.bundle_merge_meaning.specs.loaded.Contexts as entry
+use Rattle.bundle_merge_meaning.specs.loaded.Contexts.{OwnEntry}
 use Rattle.bundle_merge_whole.specs.composed.Names.{Table, NameNoted, is_one_inside, is_known, is_known_top, is_free, labelled_inner}
 use Rattle.bundle_merge_whole.specs.made.Given.{Contexts, Holder, TopOf, numbers_in, ident_of_label}
 use Rattle.bundle_merge_whole.specs.made.Alone as a

@@ -17,13 +17,13 @@ use Rattle.bundle_rules.specs.Parts.{tree_of_items}
 use Rattle.bundle_rules.specs.Sorting.{flat}
 use Rattle.bundle_rules.specs.Statements.{TopItem, placed, taken_from}
 use Rattle.bundle_rules.specs.Symbols.{denoted_symbol, inner_symbols}
-use Rattle.bundle_merge_joined.specs.joined.Joined.{joined, AllOf, IsWhole, moved_denoted, offset}
-use Rattle.bundle_merge_joined.specs.joined.Notes.{own_denoted, IsListedIn}
-use Rattle.bundle_merge_joined.proofs.joined.Declarations.{IsNamed as HasNames}
-use Rattle.bundle_merge_joined.proofs.joined.Items.{split-at}
-use Rattle.bundle_merge_joined.proofs.joined.Lists.{all-front}
-use Rattle.bundle_merge_joined.proofs.joined.Paths.{inside, AreMoved, moved-start, at-item, item-occurrences, flat-append}
-use Rattle.bundle_merge_joined.proofs.joined.Ranges.{same-moved}
+use Rattle.bundle_merge_meaning.specs.joined.Joined.{joined, AllOf, IsWhole, moved_denoted, offset}
+use Rattle.bundle_merge_meaning.specs.joined.Notes.{own_denoted, IsListedIn}
+use Rattle.bundle_merge_meaning.proofs.joined.Declarations.{IsNamed as HasNames}
+use Rattle.bundle_merge_meaning.proofs.joined.Items.{split-at}
+use Rattle.bundle_merge_meaning.proofs.joined.Lists.{all-front}
+use Rattle.bundle_merge_meaning.proofs.joined.Paths.{inside, AreMoved, moved-start, at-item, item-occurrences, flat-append}
+use Rattle.bundle_merge_meaning.proofs.joined.Ranges.{same-moved}
 use Rattle.bundle_merge_meaning.specs.noted.Agrees.{IsAt}
 use Rattle.bundle_merge_meaning.proofs.walked.Denoting.{elements_denote}
 use Rattle.bundle_merge_whole.specs.composed.Noted.{view_of}
@@ -33,7 +33,7 @@ use Rattle.bundle_merge_whole.proofs.composed.ListFacts.{all-in}
 use Rattle.bundle_merge_whole.proofs.composed.Merged.{Moves, beside, in_turn, in_whole}
 use Rattle.bundle_merge_whole.specs.made.Alone.{symbols_inside}
 
--- Lists that have moved: copies of private lemmas of joined/Meant of crate bundle_merge_joined.
+-- Lists that have moved: copies of private lemmas of joined/Meant of crate bundle_merge_meaning.
 
 same_denoted-moved : (k : ℕ) (d e : Denoted) →
     same_denoted (moved_denoted k d) (moved_denoted k e) ≡ same_denoted d e

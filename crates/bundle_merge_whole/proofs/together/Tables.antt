@@ -12,11 +12,11 @@ use Rattle.bundle_rules.specs.Program.{Program, tree_of, IsReached}
 use Rattle.bundle_rules.specs.Linking.{IsCommonJs, Declared}
 use Rattle.bundle_rules.specs.Meaning.{Label, Of, Parameter, Meant, Known}
 use Rattle.bundle_rules.specs.Bundle.{Cause, Defines, AsModule, Hooks, IsDue}
-use Rattle.bundle_merge_joined.specs.joined.Notes.{IsListedIn}
-use Rattle.bundle_merge_joined.proofs.joined.Tops.{Contains-cons, Contains-none}
-use Rattle.bundle_merge_joined.proofs.joined.Paths.{occurrences-append, item-occurrences}
-use Rattle.bundle_merge_joined.specs.loaded.Contexts as own
-use Rattle.bundle_merge_joined.specs.loaded.Contexts.{OwnEntry}
+use Rattle.bundle_merge_meaning.specs.joined.Notes.{IsListedIn}
+use Rattle.bundle_merge_meaning.proofs.joined.Tops.{Contains-cons, Contains-none}
+use Rattle.bundle_merge_meaning.proofs.joined.Paths.{occurrences-append, item-occurrences}
+use Rattle.bundle_merge_meaning.specs.loaded.Contexts as own
+use Rattle.bundle_merge_meaning.specs.loaded.Contexts.{OwnEntry}
 use Rattle.bundle_merge_meaning.specs.walked.Renaming.{Told}
 use Rattle.bundle_merge_whole.specs.composed.Noted.{Noted, AsWhole, AsFunction, function_ends, IsNotedFor, as_whole, as_function, first_spot}
 use Rattle.bundle_merge_whole.specs.composed.Names.{Table, IsTable, IsLabelled, NameNoted, is_known, is_known_top, labelled_top, StatementNoted, StatementsNoted, ItemNoted}

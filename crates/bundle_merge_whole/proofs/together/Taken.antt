@@ -20,7 +20,7 @@ use Rattle.bundle_scope_renamed.specs.fit.Sorts.{Sort, ALocal, AnIdent, Slot, ta
 use Rattle.bundle_scope_renamed.specs.fit.Fits.{AreFit}
 use Rattle.bundle_scope_renamed.specs.fit.Seen.{each_slot, AreSeen, Steps}
 use Rattle.bundle_scope_renamed.proofs.fit.Seeing.{seen}
-use Rattle.bundle_merge_joined.specs.loaded.Kept.{IsTaken}
+use Rattle.bundle_merge_meaning.specs.loaded.Kept.{IsTaken}
 
 -- Where parameters stand.
 

@@ -11,7 +11,7 @@ use Rattle.bundle_rules.specs.Program.{Program}
 use Rattle.bundle_rules.specs.Meaning.{Label}
 use Rattle.bundle_rules.specs.Bundle.{Cause, AsModule, Hooks, IsDue}
 use Rattle.bundle_scope_names.proofs.Lists.{list_any-here, list_any-found}
-use Rattle.bundle_merge_joined.specs.joined.Joined.{own_declared, is_top_name}
+use Rattle.bundle_merge_meaning.specs.joined.Joined.{own_declared, is_top_name}
 use Rattle.bundle_merge_whole.proofs.composed.ListFacts.{as-long, zip-at, zip-length}
 use Rattle.bundle_merge_whole.specs.made.Given.{Contexts, ident_of_label}
 use Rattle.bundle_merge_whole.specs.made.Alone.{IsTopLabel, IsAlone}

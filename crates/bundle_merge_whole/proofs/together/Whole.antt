@@ -7,9 +7,9 @@ use Rattle.bundle_rules.specs.Program.{Program, IsReached}
 use Rattle.bundle_rules.specs.Kept.{local_context}
 use Rattle.bundle_rules.specs.Bundle.{Cause, AsModule, Hooks, IsLaidOut}
 use Rattle.bundle_rules.proofs.PlacesLemmas.{occurrences-at}
-use Rattle.bundle_merge_joined.specs.joined.Joined.{joined}
-use Rattle.bundle_merge_joined.proofs.joined.Items.{occurrence-of-item}
-use Rattle.bundle_merge_joined.proofs.joined.Joining.{joined-names}
+use Rattle.bundle_merge_meaning.specs.joined.Joined.{joined}
+use Rattle.bundle_merge_meaning.proofs.joined.Items.{occurrence-of-item}
+use Rattle.bundle_merge_meaning.proofs.joined.Joining.{joined-names}
 use Rattle.bundle_merge_whole.specs.composed.Noted.{pairing_of}
 use Rattle.bundle_merge_whole.specs.composed.Names.{Table, labels_in}
 use Rattle.bundle_merge_whole.proofs.composed.Chain.{IsWholeBundle}

@@ -30,7 +30,7 @@ use Rattle.bundle_link_targets.proofs.ChainLemmas.{not-open}
 use Rattle.bundle_link_targets.proofs.LinkedNameLemmas.{one-stands, imports-es}
 use Rattle.bundle_link_targets.proofs.ListLemmas.{place-there, map-on, filter-on}
 use Rattle.bundle_link_targets.proofs.MeantLemmas.{taken-meant}
-use Rattle.bundle_merge_joined.specs.grouped.Renaming.{HasWays}
+use Rattle.bundle_merge_meaning.specs.grouped.Renaming.{HasWays}
 use Rattle.bundle_merge_whole.proofs.fit.Programs.{program_ways}
 use Rattle.bundle_merge_meaning.specs.noted.Marked.{Note}
 use Rattle.bundle_merge_meaning.specs.noted.Agrees.{Agrees, IsReplacedAround, StandsForCall}

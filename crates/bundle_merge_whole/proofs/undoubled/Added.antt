@@ -7,7 +7,7 @@ use Rattle.bundle_rules.specs.Doubled.{excludes}
 use Rattle.bundle_rules.specs.Idents.{Ident}
 use Rattle.bundle_rules.specs.Nodes.{Text}
 use Rattle.bundle_merge_injected.specs.Listed as l
-use Rattle.bundle_merge_joined.specs.joined.Joined.{own_declared}
+use Rattle.bundle_merge_meaning.specs.joined.Joined.{own_declared}
 use Rattle.bundle_merge_whole.specs.undoubled.Clashing.{IsAmong, NoneClash}
 use Rattle.bundle_merge_whole.proofs.undoubled.Clash.{agree_turned}
 

@@ -12,9 +12,9 @@ use Rattle.bundle_scope_names.proofs.Numbering.{Numbering, lifted}
 use Rattle.bundle_scope_names.proofs.Lists.{Each, each-rest}
 use Rattle.bundle_scope_names.proofs.HomesLemmas.{IsBySymbol}
 use Rattle.bundle_scope_names.proofs.TreeLemmas.{declared-by_symbol}
-use Rattle.bundle_merge_joined.specs.joined.Alike.{ScopesAlike, DeclaredAlike}
-use Rattle.bundle_merge_joined.specs.joined.Joined.{own_declared}
-use Rattle.bundle_merge_joined.proofs.joined.Items.{all-at}
+use Rattle.bundle_merge_meaning.specs.joined.Alike.{ScopesAlike, DeclaredAlike}
+use Rattle.bundle_merge_meaning.specs.joined.Joined.{own_declared}
+use Rattle.bundle_merge_meaning.proofs.joined.Items.{all-at}
 use Rattle.bundle_merge_whole.specs.made.Given.{Contexts}
 use Rattle.bundle_merge_whole.specs.made.Made.{IsMade}
 use Rattle.bundle_merge_whole.specs.made.Made as made

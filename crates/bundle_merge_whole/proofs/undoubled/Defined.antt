@@ -11,9 +11,9 @@ use Rattle.bundle_rules.specs.Program.{Program, tree_of}
 use Rattle.bundle_rules.specs.Meaning.{Load, Helper, is_common_js}
 use Rattle.bundle_rules.specs.Bundle.{Defines, AsModule, Hooks, IsDue}
 use Rattle.bundle_rules.specs.Bundle as b
-use Rattle.bundle_merge_joined.specs.joined.Joined.{own_declared}
-use Rattle.bundle_merge_joined.specs.loaded.Item.{module_start}
-use Rattle.bundle_merge_joined.specs.loaded.Loaded.{module_declared}
+use Rattle.bundle_merge_meaning.specs.joined.Joined.{own_declared}
+use Rattle.bundle_merge_meaning.specs.loaded.Item.{module_start}
+use Rattle.bundle_merge_meaning.specs.loaded.Loaded.{module_declared}
 use Rattle.bundle_merge_whole.specs.made.Given.{Contexts, TopOf, numbers_in, ident_of_label}
 use Rattle.bundle_merge_whole.specs.made.Made.{IsStatedAs, IsMade}
 use Rattle.bundle_merge_whole.specs.made.Made as made

@@ -14,16 +14,16 @@ use Rattle.bundle_rules.specs.Idents.{Ident}
 use Rattle.bundle_scope_names.proofs.Numbering.{Numbering, lifted}
 use Rattle.bundle_scope_names.proofs.Lists.{Each}
 use Rattle.bundle_scope_names.proofs.HomesLemmas.{IsBySymbol}
-use Rattle.bundle_merge_joined.specs.joined.Joined.{own_declared}
-use Rattle.bundle_merge_joined.specs.loaded.Framed.{Beside, top, wrapper, inner, Framed, outside, within, is_module_way, IsSeated, DeclaredBeside, of_wrapper, of_body, AllBeside, none, more}
-use Rattle.bundle_merge_joined.specs.loaded.Item.{load_item, module_start, declared_by_names}
-use Rattle.bundle_merge_joined.specs.loaded.Kept.{load_declared, moved_numbering}
-use Rattle.bundle_merge_joined.proofs.loaded.Turning.{turned-frame}
-use Rattle.bundle_merge_joined.specs.loaded.Loaded.{module_declared, module_names, function_declared, IsLoaded}
-use Rattle.bundle_merge_joined.specs.loaded.Turned.{Turned, Goes as Leads}
-use Rattle.bundle_merge_joined.proofs.loaded.Beside.{same-beside}
-use Rattle.bundle_merge_joined.proofs.joined.Relocating.{takes-relocated}
-use Rattle.bundle_merge_joined.proofs.loaded.Whole.{declared-module, all-beside, plainly, declared-item}
+use Rattle.bundle_merge_meaning.specs.joined.Joined.{own_declared}
+use Rattle.bundle_merge_meaning.specs.loaded.Framed.{Beside, top, wrapper, inner, Framed, outside, within, is_module_way, IsSeated, DeclaredBeside, of_wrapper, of_body, AllBeside, none, more}
+use Rattle.bundle_merge_meaning.specs.loaded.Item.{load_item, module_start, declared_by_names}
+use Rattle.bundle_merge_meaning.specs.loaded.Kept.{load_declared, moved_numbering}
+use Rattle.bundle_merge_meaning.proofs.loaded.Turning.{turned-frame}
+use Rattle.bundle_merge_meaning.specs.loaded.Loaded.{module_declared, module_names, function_declared, IsLoaded}
+use Rattle.bundle_merge_meaning.specs.loaded.Turned.{Turned, Goes as Leads}
+use Rattle.bundle_merge_meaning.proofs.loaded.Beside.{same-beside}
+use Rattle.bundle_merge_meaning.proofs.joined.Relocating.{takes-relocated}
+use Rattle.bundle_merge_meaning.proofs.loaded.Whole.{declared-module, all-beside, plainly, declared-item}
 use Rattle.bundle_merge_whole.specs.undoubled.Clashing.{IsAmong, NoneClash, TellsScopes, passed, Goes, Corresponds, ComesFrom}
 use Rattle.bundle_merge_whole.proofs.undoubled.Alike.{none_alike, source_of}
 use Rattle.bundle_merge_whole.proofs.undoubled.Rising.{rises_within, rises_once, names_rise}

@@ -7,11 +7,11 @@ use Rattle.bundle_rules.specs.Scopes.{Scope, ScopeKind, Wrapper, Top, Inner, Fun
 use Rattle.bundle_rules.specs.Declarations.{Way, ByImport, ByFunction, Declared}
 use Rattle.bundle_rules.specs.Doubled.{may_double_functions, stands_once}
 use Rattle.bundle_rules.specs.Homes.{takes, from_taker, nearest, group_of}
-use Rattle.bundle_merge_joined.specs.joined.Alike.{ScopesAlike, tops, wrappers, inners, IsOneToOne}
-use Rattle.bundle_merge_joined.specs.joined.Joined.{moved, moved_scope, moved_declared}
-use Rattle.bundle_merge_joined.proofs.joined.Alike.{same-alike}
-use Rattle.bundle_merge_joined.proofs.joined.Ranges.{moved-same}
-use Rattle.bundle_merge_joined.proofs.joined.Relocating.{takes-relocated}
+use Rattle.bundle_merge_meaning.specs.joined.Alike.{ScopesAlike, tops, wrappers, inners, IsOneToOne}
+use Rattle.bundle_merge_meaning.specs.joined.Joined.{moved, moved_scope, moved_declared}
+use Rattle.bundle_merge_meaning.proofs.joined.Alike.{same-alike}
+use Rattle.bundle_merge_meaning.proofs.joined.Ranges.{moved-same}
+use Rattle.bundle_merge_meaning.proofs.joined.Relocating.{takes-relocated}
 use Rattle.bundle_merge_whole.specs.undoubled.Clashing.{TellsScopes, Goes}
 
 module _ (R : ℕ → ℕ → Type 0) where

@@ -14,11 +14,11 @@ use Rattle.bundle_rules.specs.Doubled.{is_lexical, is_var, stands_beside, passes
 use Rattle.bundle_rules.specs.Homes.{takes, is_body, taker}
 use Rattle.bundle_rules.specs.Sorting.{flat}
 use Rattle.bundle_scope_renamed.specs.Undoubled.{IsUndoubled}
-use Rattle.bundle_merge_joined.specs.joined.Joined.{joined, AllOf, IsWhole, moved_scope, moved_declared, offset, each_moved, own_declared}
-use Rattle.bundle_merge_joined.proofs.joined.Declarations.{declared-joined}
-use Rattle.bundle_merge_joined.proofs.joined.Homes.{taker-moved}
-use Rattle.bundle_merge_joined.proofs.joined.Lists.{get-append}
-use Rattle.bundle_merge_joined.specs.joined.Alike.{ScopesAlike}
+use Rattle.bundle_merge_meaning.specs.joined.Joined.{joined, AllOf, IsWhole, moved_scope, moved_declared, offset, each_moved, own_declared}
+use Rattle.bundle_merge_meaning.proofs.joined.Declarations.{declared-joined}
+use Rattle.bundle_merge_meaning.proofs.joined.Homes.{taker-moved}
+use Rattle.bundle_merge_meaning.proofs.joined.Lists.{get-append}
+use Rattle.bundle_merge_meaning.specs.joined.Alike.{ScopesAlike}
 use Rattle.bundle_merge_whole.specs.undoubled.Clashing.{IsAmong, IsClash, NoneClash, TopsStandTogether}
 use Rattle.bundle_merge_whole.proofs.undoubled.Clash.{agree_turned, undoubled_from}
 use Rattle.bundle_merge_whole.proofs.undoubled.Alike.{excludes_alike}

@@ -11,8 +11,8 @@ use Rattle.bundle_rules.specs.Meaning.{Of, Helper}
 use Rattle.bundle_rules.specs.Entries.{Whole}
 use Rattle.bundle_rules.specs.Linking.{External, Namespace}
 use Rattle.bundle_scope_renamed.specs.Undoubled.{IsUndoubled}
-use Rattle.bundle_merge_joined.specs.joined.Joined.{joined, own_declared}
-use Rattle.bundle_merge_joined.proofs.joined.Declarations.{IsNamed}
+use Rattle.bundle_merge_meaning.specs.joined.Joined.{joined, own_declared}
+use Rattle.bundle_merge_meaning.proofs.joined.Declarations.{IsNamed}
 use Rattle.bundle_merge_whole.proofs.composed.ListFacts.{zip-at}
 use Rattle.bundle_merge_whole.specs.made.Given.{Contexts, HelperParameter, HelperVariable, ident_of_label}
 use Rattle.bundle_merge_whole.specs.made.Made.{IsMade, linked_idents}

@@ -16,12 +16,12 @@ use Rattle.bundle_rules.specs.Meaning.{Of}
 use Rattle.bundle_rules.specs.Program.{Program}
 use Rattle.bundle_rules.specs.Bundle.{IsAscending}
 use Rattle.bundle_scope_renamed.proofs.kept.Lists.{any-here}
-use Rattle.bundle_merge_joined.specs.joined.Joined.{own_declared}
-use Rattle.bundle_merge_joined.specs.joined.Notes.{its_name}
-use Rattle.bundle_merge_joined.proofs.joined.Declarations.{IsNamed as HasNames, declared_by_names, declared-item}
-use Rattle.bundle_merge_joined.proofs.joined.Lists.{any-append}
-use Rattle.bundle_merge_joined.proofs.joined.Tops.{Contains-cons}
-use Rattle.bundle_merge_joined.proofs.loaded.Whole.{picked}
+use Rattle.bundle_merge_meaning.specs.joined.Joined.{own_declared}
+use Rattle.bundle_merge_meaning.specs.joined.Notes.{its_name}
+use Rattle.bundle_merge_meaning.proofs.joined.Declarations.{IsNamed as HasNames, declared_by_names, declared-item}
+use Rattle.bundle_merge_meaning.proofs.joined.Lists.{any-append}
+use Rattle.bundle_merge_meaning.proofs.joined.Tops.{Contains-cons}
+use Rattle.bundle_merge_meaning.proofs.loaded.Whole.{picked}
 use Rattle.bundle_merge_whole.specs.composed.Noted.{first_spot}
 use Rattle.bundle_merge_whole.specs.made.Given.{Contexts, ident_of_label}
 use Rattle.bundle_merge_whole.specs.made.Made.{named_idents}

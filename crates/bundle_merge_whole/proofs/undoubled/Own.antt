@@ -18,9 +18,9 @@ use Rattle.bundle_rules.specs.Linking.{IsCommonJs}
 use Rattle.bundle_rules.specs.Meaning.{Label, IsMeant, is_es}
 use Rattle.bundle_rules.specs.Bundle.{Own, AsModule, Hooks, IsDue}
 use Rattle.bundle_rules.specs.Bundle as b
-use Rattle.bundle_merge_joined.specs.joined.Alike.{ScopesAlike, tops, wrappers, inners}
-use Rattle.bundle_merge_joined.specs.joined.Joined.{AllOf, own_declared}
-use Rattle.bundle_merge_joined.proofs.joined.Declarations.{IsNamed}
+use Rattle.bundle_merge_meaning.specs.joined.Alike.{ScopesAlike, tops, wrappers, inners}
+use Rattle.bundle_merge_meaning.specs.joined.Joined.{AllOf, own_declared}
+use Rattle.bundle_merge_meaning.proofs.joined.Declarations.{IsNamed}
 use Rattle.bundle_merge_meaning.specs.noted.Agrees.{IsAt}
 use Rattle.bundle_merge_whole.specs.made.Given.{Contexts, numbers_in}
 use Rattle.bundle_merge_whole.specs.made.Steps.{occurrences_in}

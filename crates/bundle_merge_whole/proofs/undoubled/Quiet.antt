@@ -21,7 +21,7 @@ use Rattle.bundle_rules.specs.Parts.{tree_of_items}
 use Rattle.bundle_rules.specs.Rebuilds.{plain_key}
 use Rattle.bundle_rules.specs.Statements.{no_notes}
 use Rattle.bundle_merge_injected.specs.Listed as l
-use Rattle.bundle_merge_joined.specs.joined.Joined.{own_declared}
+use Rattle.bundle_merge_meaning.specs.joined.Joined.{own_declared}
 use Rattle.bundle_merge_whole.specs.undoubled.Clashing.{IsAmong, NoneClash}
 use Rattle.bundle_merge_whole.proofs.undoubled.Added.{none_of_none, none_of_one}
 use Rattle.bundle_merge_whole.proofs.undoubled.Function.{more_none}

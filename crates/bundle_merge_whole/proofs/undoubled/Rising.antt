@@ -8,7 +8,7 @@ use Rattle.bundle_tree_piece.specs.Item.{Item}
 use Rattle.bundle_rules.specs.Places.{Spot, in_field, past, Occurrence, occurrences_from, is_binding}
 use Rattle.bundle_rules.specs.Scopes.{ModuleKind, scopes_around}
 use Rattle.bundle_rules.specs.Declarations.{Reading, Way, name_of, Declared, declared_by, declaration_of, declared_at, declared_from, way_of}
-use Rattle.bundle_merge_joined.specs.loaded.Item.{declared_by_names}
+use Rattle.bundle_merge_meaning.specs.loaded.Item.{declared_by_names}
 use Rattle.bundle_merge_whole.specs.undoubled.Clashing.{IsAmong}
 
 -- they come in order, from this place on and before that

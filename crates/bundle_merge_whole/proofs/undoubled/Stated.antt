@@ -20,12 +20,12 @@ use Rattle.bundle_scope_names.proofs.Numbering.{Numbering}
 use Rattle.bundle_tree_places.specs.Edits.{node}
 use Rattle.bundle_tree_rebuild.specs.Becomes.{named}
 use Rattle.bundle_tree_rebuild.specs.Work.{Step, Work}
-use Rattle.bundle_merge_joined.specs.joined.Alike.{ScopesAlike, tops}
-use Rattle.bundle_merge_joined.specs.joined.Joined.{AllOf, own_declared}
-use Rattle.bundle_merge_joined.specs.loaded.Item.{declared_by_names}
-use Rattle.bundle_merge_joined.proofs.joined.Declarations.{declared-item, IsNamed}
-use Rattle.bundle_merge_joined.proofs.joined.Paths.{item-occurrences}
-use Rattle.bundle_merge_joined.proofs.loaded.Whole.{picked}
+use Rattle.bundle_merge_meaning.specs.joined.Alike.{ScopesAlike, tops}
+use Rattle.bundle_merge_meaning.specs.joined.Joined.{AllOf, own_declared}
+use Rattle.bundle_merge_meaning.specs.loaded.Item.{declared_by_names}
+use Rattle.bundle_merge_meaning.proofs.joined.Declarations.{declared-item, IsNamed}
+use Rattle.bundle_merge_meaning.proofs.joined.Paths.{item-occurrences}
+use Rattle.bundle_merge_meaning.proofs.loaded.Whole.{picked}
 use Rattle.bundle_merge_meaning.specs.noted.Agrees.{IsAt}
 use Rattle.bundle_merge_meaning.specs.noted.Stated.{states_itself, is_default_head, declares_default}
 use Rattle.bundle_merge_meaning.specs.walked.Stated.{StatesList}

@@ -13,7 +13,7 @@ use Rattle.bundle_rules.specs.Linking.{Target, External, CommonJs}
 use Rattle.bundle_rules.specs.Meaning.{Of, Load, IsMeant}
 use Rattle.bundle_rules.specs.Bundle.{ImportsNames, Loads, AsModule, Hooks, IsDue, AreNames, MeansName}
 use Rattle.bundle_merge_injected.specs.Listed as l
-use Rattle.bundle_merge_joined.specs.joined.Joined.{own_declared}
+use Rattle.bundle_merge_meaning.specs.joined.Joined.{own_declared}
 use Rattle.bundle_merge_whole.specs.made.Given.{Contexts, ident_of_label}
 use Rattle.bundle_merge_whole.specs.made.Made.{IsMade, named_idents}
 use Rattle.bundle_merge_whole.specs.made.Made as made

@@ -22,12 +22,12 @@ use Rattle.bundle_rules.specs.Bundle.{Cause, Own, AsModule, Hooks, IsDue}
 use Rattle.bundle_rules.specs.Statements.{Element, TopItem, top_items, stated, own_statements}
 use Rattle.bundle_scope_renamed.specs.Undoubled.{IsUndoubled}
 use Rattle.bundle_scope_renamed.proofs.kept.Lists.{list_any-in, any-here}
-use Rattle.bundle_merge_joined.specs.joined.Joined.{joined, AllOf, own_declared, is_written}
-use Rattle.bundle_merge_joined.specs.joined.Notes.{own_denoted, is_inner, IsListedIn, AreApart}
-use Rattle.bundle_merge_joined.proofs.joined.Declarations.{declared-item, IsNamed as HasNames}
-use Rattle.bundle_merge_joined.proofs.joined.Homes.{home-in}
-use Rattle.bundle_merge_joined.proofs.joined.Lists.{all-append}
-use Rattle.bundle_merge_joined.proofs.loaded.Whole.{picked}
+use Rattle.bundle_merge_meaning.specs.joined.Joined.{joined, AllOf, own_declared, is_written}
+use Rattle.bundle_merge_meaning.specs.joined.Notes.{own_denoted, is_inner, IsListedIn, AreApart}
+use Rattle.bundle_merge_meaning.proofs.joined.Declarations.{declared-item, IsNamed as HasNames}
+use Rattle.bundle_merge_meaning.proofs.joined.Homes.{home-in}
+use Rattle.bundle_merge_meaning.proofs.joined.Lists.{all-append}
+use Rattle.bundle_merge_meaning.proofs.loaded.Whole.{picked}
 use Rattle.bundle_merge_whole.specs.made.Given.{Contexts, ident_of_label}
 use Rattle.bundle_merge_whole.specs.made.Alone.{AddsLabel, imports_name, imports_whole, helps, defines, loads, holds_meta, holds_namespace, DeclaresLabel, adds, IsTopLabel}
 use Rattle.bundle_merge_whole.specs.made.Alone as a

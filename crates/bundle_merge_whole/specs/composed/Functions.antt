@@ -10,7 +10,7 @@ use Rattle.bundle_tree_piece.specs.Item.{Item}
 use Rattle.bundle_rules.specs.Idents.{Ident}
 use Rattle.bundle_rules.specs.Sorting.{flat}
 use Rattle.bundle_tree_places.specs.Edits.{node}
-pub use Rattle.bundle_merge_joined.specs.loaded.Pieces.{function_names}
+pub use Rattle.bundle_merge_meaning.specs.loaded.Pieces.{function_names}
 use Rattle.bundle_merge_meaning.specs.walked.Renaming.{Told, IsMarked}
 use Rattle.bundle_merge_whole.specs.composed.Noted.{Noted, AsWhole, AsFunction}
 

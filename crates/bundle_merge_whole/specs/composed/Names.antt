@@ -16,10 +16,10 @@ use Rattle.bundle_rules.specs.Program.{Program}
 use Rattle.bundle_rules.specs.Linking.{Declared as IsDeclared}
 use Rattle.bundle_rules.specs.Meaning.{Of, Label, Labelling}
 use Rattle.bundle_rules.specs.Symbols.{symbol_of_label}
-pub use Rattle.bundle_merge_joined.specs.loaded.Names.{Table, IsLabelled, labelled_top, labelled_inner}
-pub use Rattle.bundle_merge_joined.specs.loaded.Names.{NameNoted, is_one_inside, is_known, is_known_top, is_free}
-use Rattle.bundle_merge_joined.specs.loaded.Pieces as pieces
-pub use Rattle.bundle_merge_joined.specs.loaded.Pieces.{own_from, is_told_inside, told_inside}
+pub use Rattle.bundle_merge_meaning.specs.loaded.Names.{Table, IsLabelled, labelled_top, labelled_inner}
+pub use Rattle.bundle_merge_meaning.specs.loaded.Names.{NameNoted, is_one_inside, is_known, is_known_top, is_free}
+use Rattle.bundle_merge_meaning.specs.loaded.Pieces as pieces
+pub use Rattle.bundle_merge_meaning.specs.loaded.Pieces.{own_from, is_told_inside, told_inside}
 use Rattle.bundle_merge_meaning.specs.walked.Renaming.{Told}
 use Rattle.bundle_merge_whole.specs.composed.Noted.{Noted, AsWhole, AsFunction, first_spot}
 

@@ -25,8 +25,8 @@ use Rattle.bundle_rules.specs.Injected.{NamedTarget, import_names, import_whole,
 use Rattle.bundle_rules.specs.Bundle.{Cause, Own, ImportsNames, ImportsWhole, ImportsNothing, Helps, Defines, Loads, HoldsMeta, HoldsNamespace, Stars, Exports, Form, AsModule, AsCall, MeansName, AreNames, AreLinked, Hooks, MayHold, AreFaultless, PropertiesMean, IsDue, Pairing}
 use Rattle.bundle_merge_meaning.specs.noted.Nodes.{AreNodes}
 use Rattle.bundle_merge_meaning.specs.noted.Agrees.{IsListing}
-use Rattle.bundle_merge_joined.specs.joined.Joined.{joined, AllOf}
-use Rattle.bundle_merge_joined.specs.joined.Picked.{IsSingle}
+use Rattle.bundle_merge_meaning.specs.joined.Joined.{joined, AllOf}
+use Rattle.bundle_merge_meaning.specs.joined.Picked.{IsSingle}
 use Rattle.bundle_merge_meaning.specs.walked.Together.{IsBoundAs}
 use Rattle.bundle_merge_meaning.specs.walked.Renaming.{Told, IsMarked}
 pub use Rattle.bundle_merge_meaning.proofs.walked.Denoting.{denoted_here}

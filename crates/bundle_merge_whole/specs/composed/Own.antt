@@ -6,8 +6,8 @@ use Rattle.bundle_rules.specs.Places.{Occurrence}
 use Rattle.bundle_rules.specs.Denotes.{Denoted}
 use Rattle.bundle_rules.specs.Mentions.{same_denoted}
 use Rattle.bundle_rules.specs.Meaning.{Label, Meant, Inside, Known, Unbound, is_inside}
-use Rattle.bundle_merge_joined.specs.joined.Joined.{own_declared, is_top_name, is_written}
-use Rattle.bundle_merge_joined.specs.joined.Notes.{its_name, own_denoted, is_inner, is_inner_name}
+use Rattle.bundle_merge_meaning.specs.joined.Joined.{own_declared, is_top_name, is_written}
+use Rattle.bundle_merge_meaning.specs.joined.Notes.{its_name, own_denoted, is_inner, is_inner_name}
 use Rattle.bundle_merge_meaning.specs.walked.Keeps.{Entry, ByStep, ByMeta}
 use Rattle.bundle_merge_whole.specs.composed.Names.{Table, IsLabelled}
 

@@ -2,7 +2,7 @@
 use Rattle.std.specs.Prelude.{◌≡◌, ℕ, zero, suc, List, [], ◌∷◌}
 use Rattle.bundle_tree_piece.specs.Item as h
 use Rattle.bundle_tree_piece.specs.Item.{Item}
-use Rattle.bundle_merge_joined.specs.joined.Joined.{AllOf}
+use Rattle.bundle_merge_meaning.specs.joined.Joined.{AllOf}
 use Rattle.bundle_merge_meaning.specs.walked.Renaming.{HasNoLoneName}
 use Rattle.bundle_merge_whole.specs.composed.Noted.{Noted, AsWhole, AsFunction}
 

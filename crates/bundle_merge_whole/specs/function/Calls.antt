@@ -11,7 +11,7 @@ use Rattle.bundle_rules.specs.Callable.{is_module_head}
 use Rattle.bundle_rules.specs.Program.{Program, IsReached}
 use Rattle.bundle_rules.specs.Linking.{IsCommonJs}
 use Rattle.bundle_rules.specs.Meaning.{Load}
-use Rattle.bundle_merge_joined.specs.loaded.Walk.{KeepsIt}
+use Rattle.bundle_merge_meaning.specs.loaded.Walk.{KeepsIt}
 use Rattle.bundle_merge_whole.specs.made.Given.{Contexts, ident_of_label}
 use Rattle.bundle_merge_whole.specs.made.Steps.{IsCalled}
 

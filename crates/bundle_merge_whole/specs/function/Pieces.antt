@@ -15,9 +15,9 @@ use Rattle.bundle_scope_renamed.specs.fit.Fits.{IsFit}
 use Rattle.bundle_scope_names.proofs.Numbering.{context_of}
 use Rattle.bundle_merge_meaning.specs.walked.Names.{names_of}
 use Rattle.bundle_merge_meaning.specs.walked.Renaming.{Told, IsMarked, HasNoLoneName}
-use Rattle.bundle_merge_joined.specs.loaded.Names.{NamedAs}
-use Rattle.bundle_merge_joined.specs.loaded.Pieces.{inner_there}
-use Rattle.bundle_merge_joined.specs.loaded.Turned.{Turned}
+use Rattle.bundle_merge_meaning.specs.loaded.Names.{NamedAs}
+use Rattle.bundle_merge_meaning.specs.loaded.Pieces.{inner_there}
+use Rattle.bundle_merge_meaning.specs.loaded.Turned.{Turned}
 use Rattle.bundle_merge_whole.specs.made.Given.{Contexts, numbers_in}
 use Rattle.bundle_merge_whole.specs.function.Calls.{IsLoadName}
 

@@ -11,7 +11,7 @@ use Rattle.bundle_tree_rebuild.specs.Work.{Step}
 use Rattle.bundle_rules.specs.Nodes.{Text}
 use Rattle.bundle_rules.specs.Idents.{Ident}
 use Rattle.bundle_rules.specs.Callable.{is_module_head}
-use Rattle.bundle_merge_joined.specs.loaded.Walk.{KeepsIt}
+use Rattle.bundle_merge_meaning.specs.loaded.Walk.{KeepsIt}
 
 -- these steps belong to the occurrences of these elements in turn, where `L` tells the names of
 -- load functions

@@ -28,11 +28,11 @@ use Rattle.bundle_rules.specs.Bundle.{Cause, Own, ImportsNames, ImportsWhole, He
 use Rattle.bundle_scope_renamed.specs.fit.Sorts.{AnItem}
 use Rattle.bundle_scope_renamed.specs.fit.Fits.{IsFit}
 use Rattle.bundle_link_targets.specs.Meant.{AreModules}
-use Rattle.bundle_merge_joined.specs.joined.Joined.{own_declared, is_written}
-use Rattle.bundle_merge_joined.specs.joined.Picked.{IsSingle}
-use Rattle.bundle_merge_joined.specs.joined.Notes.{its_name, own_denoted, is_inner, is_inner_name, IsListedIn}
-use Rattle.bundle_merge_joined.proofs.joined.Declarations.{IsNamed as HasNames}
-use Rattle.bundle_merge_joined.specs.loaded.Contexts.{OwnEntry}
+use Rattle.bundle_merge_meaning.specs.joined.Joined.{own_declared, is_written}
+use Rattle.bundle_merge_meaning.specs.joined.Picked.{IsSingle}
+use Rattle.bundle_merge_meaning.specs.joined.Notes.{its_name, own_denoted, is_inner, is_inner_name, IsListedIn}
+use Rattle.bundle_merge_meaning.proofs.joined.Declarations.{IsNamed as HasNames}
+use Rattle.bundle_merge_meaning.specs.loaded.Contexts.{OwnEntry}
 use Rattle.bundle_merge_whole.specs.composed.Noted.{Noted, AsWhole, AsFunction, IsNotedFor, first_spot}
 use Rattle.bundle_merge_whole.specs.composed.Names.{own_from, told_inside}
 use Rattle.bundle_merge_whole.specs.composed.Functions.{IsOfForm}

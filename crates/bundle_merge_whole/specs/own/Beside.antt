@@ -16,7 +16,7 @@ use Rattle.bundle_merge_meaning.specs.noted.Stated.{declares_default}
 use Rattle.bundle_rules.specs.Meaning.{Meant}
 use Rattle.bundle_merge_meaning.specs.noted.Marked.{Note}
 use Rattle.bundle_merge_meaning.specs.walked.Keeps.{Entry, ByStep, ByMeta}
-use Rattle.bundle_merge_joined.specs.joined.Alike.{ScopesAlike}
+use Rattle.bundle_merge_meaning.specs.joined.Alike.{ScopesAlike}
 use Rattle.bundle_merge_whole.specs.composed.Noted.{first_spot}
 
 -- Places.

@@ -7,7 +7,7 @@ use Rattle.bundle_rules.specs.Program.{Program, tree_of, IsReached}
 use Rattle.bundle_rules.specs.Linking.{IsCommonJs}
 use Rattle.bundle_rules.specs.Meaning.{Label, Meant, Inside, Known, Unbound}
 use Rattle.bundle_rules.specs.Bundle.{Cause, Hooks}
-use Rattle.bundle_merge_joined.specs.loaded.Contexts.{OwnEntry}
+use Rattle.bundle_merge_meaning.specs.loaded.Contexts.{OwnEntry}
 use Rattle.bundle_merge_meaning.specs.walked.Renaming.{Told}
 use Rattle.bundle_merge_whole.specs.composed.Noted.{Noted, AsWhole, AsFunction, first_spot}
 use Rattle.bundle_merge_whole.specs.composed.Names.{Table}

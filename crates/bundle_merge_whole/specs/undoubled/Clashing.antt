@@ -9,7 +9,7 @@ use Rattle.bundle_rules.specs.Statements.{Element, TopItem, top_items, stated, o
 use Rattle.bundle_rules.specs.Declarations.{BySymbol, names_agree, Declared, declared}
 use Rattle.bundle_rules.specs.Homes.{takes, from_taker, taker, group_of}
 use Rattle.bundle_rules.specs.Doubled.{is_lexical, is_var, excludes}
-use Rattle.bundle_merge_joined.specs.joined.Joined.{own_declared}
+use Rattle.bundle_merge_meaning.specs.joined.Joined.{own_declared}
 
 -- an element of a list
 abbrev pub IsAmong : {A : Type 0} → List A → A → Type 0

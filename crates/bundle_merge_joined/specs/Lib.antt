@@ -1,3 +1,0 @@
-pub mod joined
-pub mod grouped
-pub mod loaded
