@@ -14,12 +14,8 @@ use Rattle.bundle_tree_places.specs.Edits.{is_occurrence}
 use Rattle.bundle_merge_meaning.specs.noted.Listed.{is_reference}
 use Rattle.bundle_merge_meaning.specs.noted.Agrees.{IsAt, is_read_or_call, IsListing}
 use Rattle.bundle_merge_meaning.proofs.noted.Spots.{around, spot-in, at-past, at-as, at-get, at-path}
+pub use Rattle.bundle_merge_meaning.specs.noted.Spots.{occurrence_here}
 use Rattle.bundle_merge_meaning.proofs.noted.Shapes.{IsReads, base, read, IsLiteralCall}
-
--- the occurrence that an identifier is
-abbrev pub occurrence_here : Spot → ℕ → Text → ℕ → Role → Occurrence
-occurrence_here s field x ctxt role =
-    record { place = s.place; sym = x; ctxt = ctxt; role = role; path = in_field field s.path }
 
 pub name_first : (s : Spot) (field : ℕ) (x : Text) (ctxt : ℕ) (role : Role) (rest : List Item) →
     is_occurrence role ≡ true →

@@ -7,10 +7,8 @@ use Rattle.bundle_tree_piece.specs.Item.{Item, Head}
 use Rattle.bundle_rules.specs.Places.{Around, Spot, in_field, outer_path, past, start, spot_before, path_to_option, path_at}
 use Rattle.bundle_merge_meaning.specs.noted.Nodes.{AreNodes, nothing, name, hole, node}
 use Rattle.bundle_merge_meaning.specs.noted.Agrees.{IsAt}
+pub use Rattle.bundle_merge_meaning.specs.noted.Spots.{around}
 use Rattle.bundle_merge_meaning.proofs.noted.ListFacts.{get-behind}
-
-abbrev pub around : Head → ℕ → ℕ → Around
-around head begins field = record { head = head; begins = begins; field = field }
 
 -- ---- behind whole nodes the path is as before them, but for a field
 pub fold-append : (s : Spot) (xs ys : List Item) →

@@ -4,7 +4,7 @@ use Rattle.bundle_tree_piece.specs.Item as h
 use Rattle.bundle_tree_piece.specs.Item.{Head}
 use Rattle.bundle_rules.specs.Places.{Around}
 use Rattle.bundle_rules.specs.Scopes.{Scope, Wrapper, Top, Inner}
-use Rattle.bundle_merge_meaning.proofs.noted.Spots.{around}
+use Rattle.bundle_merge_meaning.specs.noted.Spots.{around}
 
 -- one is the path in an item that stands alone, the other that of the same item in a module; or
 -- the two are the same but for what is spelled out

@@ -9,7 +9,7 @@ use Rattle.bundle_rules.specs.Nodes.{in_field, node_at}
 use Rattle.bundle_rules.specs.Entries.{is_call_head}
 use Rattle.bundle_rules.specs.Reads.{property_of}
 use Rattle.bundle_rules.specs.Order.{is_declarator, is_nothing, is_text}
-use Rattle.bundle_merge_meaning.proofs.noted.Spots.{around}
+use Rattle.bundle_merge_meaning.specs.noted.Spots.{around}
 
 -- whether an element is an identifier that binds or refers
 abbrev pub is_named : Item → Bool

@@ -9,7 +9,7 @@ use Rattle.bundle_rules.specs.Scopes.{ModuleKind, Top, Inner, Parameters, Functi
 use Rattle.bundle_rules.specs.Declarations.{Reading, ByParameter, Declared, declaration_of}
 use Rattle.bundle_rules.specs.Idents.{Ident}
 use Rattle.bundle_rules.specs.Statements.{no_notes}
-use Rattle.bundle_merge_meaning.proofs.noted.Spots.{around}
+use Rattle.bundle_merge_meaning.specs.noted.Spots.{around}
 pub use Rattle.bundle_merge_meaning.specs.walked.Loaded.{load_front_items as front_items}
 
 -- `});`

@@ -6,7 +6,7 @@ use Rattle.bundle_tree_piece.specs.Item as h
 use Rattle.bundle_tree_piece.specs.Item.{Head}
 use Rattle.bundle_rules.specs.Places.{Around}
 use Rattle.bundle_rules.specs.Callable.{is_module_head}
-use Rattle.bundle_merge_meaning.proofs.noted.Spots.{around}
+use Rattle.bundle_merge_meaning.specs.noted.Spots.{around}
 use Rattle.bundle_merge_meaning.specs.loaded.Item.{body_path}
 
 -- the same node but for notes

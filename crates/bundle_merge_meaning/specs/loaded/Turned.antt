@@ -16,7 +16,7 @@ use Rattle.bundle_rules.specs.Idents.{Ident}
 use Rattle.bundle_scope_names.proofs.Numbering.{Numbering, context_of}
 use Rattle.bundle_rules.specs.Callable.{is_module_head}
 use Rattle.bundle_tree_places.specs.Edits.{is_occurrence}
-use Rattle.bundle_merge_meaning.proofs.noted.Names.{occurrence_here}
+use Rattle.bundle_merge_meaning.specs.noted.Spots.{occurrence_here}
 use Rattle.bundle_merge_meaning.specs.loaded.Kept.{StandsBeside, KeepsName}
 
 -- `Turned L depth xs ys`, where `L` tells the names of load functions: whole nodes, of which
