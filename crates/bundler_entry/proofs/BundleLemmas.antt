@@ -27,8 +27,9 @@ use Rattle.bundle_merge_whole.specs.made.Made.{AreMade}
 use Rattle.bundle_merge_whole.specs.made.Alone.{TellApart}
 use Rattle.bundle_merge_whole.specs.sound.Known.{AreKnown, IsByPlaces}
 use Rattle.bundle_merge_whole.specs.sound.Decided.{AreLinkedBy, decided_by}
+use Rattle.bundle_merge_whole.proofs.finished.Accepted.{merged-accepted}
 use Rattle.bundle_merge_whole.proofs.finished.Bundles.{IsEnded, module-bundle, call-bundle}
-use Rattle.bundle_merge_whole.proofs.finished.Made.{made-ended, made-statements}
+use Rattle.bundle_merge_whole.proofs.finished.Made.{made-right, made-ended, made-statements}
 use Rattle.bundle_merge_whole.proofs.fit.Programs.{program_listless}
 use Rattle.bundle_merge_whole.proofs.moved.Owed.{AreMoved}
 use Rattle.bundler_entry.specs.Finished.{is_renaming, IsFinished}
@@ -47,16 +48,22 @@ pub made-bundle : (p q : Program) (ids : List ℕ) (g : Modules) → IsByPlaces 
     TellApart q answers context →
     ((k : ℕ) → IsReached q k → context (TopOf k) ≡ local_context (id_at ids k)) →
     (settings : Settings) (kept : Kept) (entry : Entry) → IsProgramOf kept settings entry p →
-    AcceptsProgram p parties → (config : Config) → settings.renames ≡ is_renaming config →
+    (config : Config) → settings.renames ≡ is_renaming config →
     settings.iife ≡ is_call config.«module» → (handed : List Item) →
     IsFinished config (joined items) handed →
     IsBundleOf parties settings kept
     (record { kind = Named entry.name; id = p.entry; tree = handed }) entry
 made-bundle p q ids g places known its_moved linking meta count linked plan planned parties context
-    answers orders items made apart locals settings kept entry its accepted config renames iife
-    handed finished =
+    answers orders items made apart locals settings kept entry its config renames iife handed
+    finished =
     by_form (is_call config.«module») refl
   where
+    accepted : AcceptsProgram p parties
+    accepted =
+        merged-accepted p parties ids _ (joined items) known.is_list known.faultless
+        (made-right p q ids g places known its_moved linking meta count linked plan planned
+        parties.hooks context answers orders items made apart locals)
+
     named : IsNamedAtOnce settings.renames (joined items) (module_items 0 finished.named)
     named =
         subst (λ b. IsNamedAtOnce b (joined items) (module_items 0 finished.named)) (sym renames)

@@ -25,7 +25,7 @@ use Rattle.bundle_merge_whole.specs.made.Given.{Contexts}
 use Rattle.bundle_merge_whole.specs.made.Made.{IsMade, linked_idents}
 use Rattle.bundle_merge_whole.specs.made.Made as made
 use Rattle.bundle_merge_whole.specs.made.Alone.{AreSound, IsAlone}
-use Rattle.bundle_merge_whole.specs.finished.Statements.{AreStatements, IsOfStatements}
+use Rattle.bundle_merge_whole.specs.finished.Statements.{AreStatementNodes, IsOfStatements}
 use Rattle.bundle_merge_whole.specs.together.Table.{HasNotes}
 use Rattle.bundle_merge_whole.proofs.called.Whole.{Split, zip-split}
 use Rattle.bundle_merge_whole.proofs.composed.Naming.{changes-keep, module-names}
@@ -105,7 +105,7 @@ module _ (p : Program) (hooks : Hooks) (list : List ℕ) (context : Contexts)
   MadeFit cause item = Made cause item × IsFit AnItem 0 item
 
   all_statements : (plan : List Cause) (items : List (List Item)) → AreInside plan →
-      AllZip MadeFit plan items → AllByRecursion AreStatements items
+      AllZip MadeFit plan items → AllByRecursion AreStatementNodes items
   all_statements [] [] inside are = tt
   all_statements [] (item ∷ items) inside are = absurd are
   all_statements (cause ∷ plan) [] inside are = absurd are

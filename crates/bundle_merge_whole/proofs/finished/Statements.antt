@@ -29,7 +29,7 @@ use Rattle.bundle_merge_injected.specs.Listed as l
 use Rattle.bundle_merge_meaning.specs.noted.Nodes as n
 use Rattle.bundle_merge_meaning.specs.noted.Nodes.{AreNodes}
 use Rattle.bundle_merge_meaning.proofs.noted.Shapes.{join, one_node}
-use Rattle.bundle_merge_whole.specs.finished.Statements.{is_inner, AreStatements}
+use Rattle.bundle_merge_whole.specs.finished.Statements.{is_inner, AreStatementNodes}
 use Rattle.bundle_merge_whole.proofs.composed.Remade.{IsEdited}
 use Rattle.bundle_merge_whole.proofs.fit.Facts.{fit_nodes}
 
@@ -66,11 +66,11 @@ inner_within field head inside its =
     (not_so (is_module_head head) parts.0, (inner_parts inside (h.Close ∷ []) parts.1).0)
 
 -- statements one after another
-pub no_statements : AreStatements []
+pub no_statements : AreStatementNodes []
 no_statements = record { nodes = n.nothing; inner = refl }
 
-pub both_statements : {xs ys : List Item} → AreStatements xs → AreStatements ys →
-    AreStatements (xs ++ ys)
+pub both_statements : {xs ys : List Item} → AreStatementNodes xs → AreStatementNodes ys →
+    AreStatementNodes (xs ++ ys)
 both_statements {xs = xs} {ys = ys} one two =
     record { nodes = join one.nodes two.nodes; inner = inner_both xs ys one.inner two.inner }
 
@@ -88,7 +88,7 @@ seen_inner s (h.Ident field x ctxt role ∷ items) them =
 seen_inner s (h.Hole field ∷ items) them = seen_inner (past s (h.Hole field)) items them.1
 seen_inner s (h.Close ∷ items) them = seen_inner (past s h.Close) items them.1
 
-pub stmt_statements : {items : List Item} → IsFit AStmt 0 items → AreStatements items
+pub stmt_statements : {items : List Item} → IsFit AStmt 0 items → AreStatementNodes items
 stmt_statements {items = items} it = record {
   nodes = fit_nodes (last it);
   inner = seen_inner start items (seen own_at steps (last it) start refl);
@@ -216,13 +216,13 @@ edited_well (c.Shorthand {changes = changes} field x ctxt role {default = defaul
     (edited_well one (inner_parts (binding None 0 x ctxt role) default parts.1).1)
 
 -- STATEMENTS
-pub edited_statements : {item made : List Item} → IsEdited item made → AreStatements item →
-    AreStatements made
+pub edited_statements : {item made : List Item} → IsEdited item made → AreStatementNodes item →
+    AreStatementNodes made
 edited_statements its statements =
     let it = edited_well its.edits statements.inner in record { nodes = it.0; inner = it.1 }
 
 pub all_edited : (items made : List (List Item)) → AllZip IsEdited items made →
-    AllByRecursion AreStatements items → AreStatements (flat made)
+    AllByRecursion AreStatementNodes items → AreStatementNodes (flat made)
 all_edited [] [] each statements = no_statements
 all_edited [] (other ∷ made) each statements = absurd each
 all_edited (item ∷ items) [] each statements = absurd each

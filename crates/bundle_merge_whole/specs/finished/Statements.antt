@@ -14,7 +14,7 @@ is_inner (h.Hole field) = true
 is_inner h.Close = true
 
 -- whole nodes, none of which is such a one
-pub record AreStatements (items : List Item) : Type 0 where
+pub record AreStatementNodes (items : List Item) : Type 0 where
   pub nodes : AreNodes items
   pub inner : list_all is_inner items ≡ true
 
@@ -23,5 +23,5 @@ pub record IsOfStatements (tree : List Item) : Type 0 where
   pub stmts : List Item
   pub back : List Item
   pub is : tree ≡ module_with stmts (back ++ h.Close ∷ [])
-  pub statements : AreStatements stmts
+  pub statements : AreStatementNodes stmts
   pub ends : IsBack back
