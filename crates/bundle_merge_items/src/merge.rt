@@ -1,14 +1,10 @@
 //! The modules of a bundle as one: what is imported, the helper, the modules block by block, and what is exported.
 
-use bundle_merge_names::Contexts;
-use bundle_merge_names::MergeError;
-use bundle_merge_names::names_of;
 use crate::module::{add_item, add_module, add_stmt};
-use bundle_merge_names::Names;
 use crate::outside::{add_external, add_helper};
-use bundle_merge_names::BundleParts;
 use bundle_link_targets::Target;
 use bundle_merge_injected::{Pair, export_list, export_star, namespace_object};
+use bundle_merge_names::{BundleParts, Contexts, MergeError, Names, names_of};
 use bundle_order::sorted_numbers;
 use bundle_order_sort::{Block, arrange};
 use bundle_tree_ast::{ExportMetadata, Module};

@@ -1,11 +1,9 @@
 //! The items of one module: the object for `import.meta`, the statements that load CommonJS modules and the module's own
 //! statements; or, of a CommonJS module, its load function.
 
-use bundle_merge_names::{Body, body_of, own_names};
-use bundle_merge_names::{Label, Names};
 use crate::outside::add_load;
-use bundle_merge_names::{Answered, BundleParts, Part};
 use bundle_merge_injected::{LoadNames, constant, load_function};
+use bundle_merge_names::{Answered, Body, BundleParts, Label, Names, Part, body_of, own_names};
 use bundle_tree_ast::{ExportMetadata, Module, ModuleItem, Stmt};
 use bundle_tree_piece::{Piece, Role};
 use bundle_tree_places::Name;

@@ -2,12 +2,12 @@
 //! load functions are made by, and the statements by which modules load CommonJS modules.
 
 use crate::module::{add_item, add_stmt};
-use bundle_merge_names::{Label, Names};
 use bundle_link_tables::Taken;
 use bundle_link_targets::{External, Loaded, Target};
 use bundle_merge_injected::{
     HelperNames, Pair, helper, import_bare, import_names, import_whole, load_statement,
 };
+use bundle_merge_names::{Label, Names};
 use bundle_tree_ast::Module;
 use bundle_tree_places::Name;
 use std::alloc::{AllocError, Global};
