@@ -33,7 +33,7 @@ last-there (y ∷ ys) x = last-there ys x
 pub push-last : {A : Type 0} (xs : List A) (x : A) (n : ℕ) → n ≡ length xs → slice_get (xs ++ x ∷ []) n ≡ Some x
 push-last xs x n e = ap (slice_get (xs ++ x ∷ [])) e ∙ last-there xs x
 
-push-long : {A : Type 0} (xs : List A) (x : A) → length (xs ++ x ∷ []) ≡ suc (length xs)
+pub push-long : {A : Type 0} (xs : List A) (x : A) → length (xs ++ x ∷ []) ≡ suc (length xs)
 push-long [] x = refl
 push-long (a ∷ xs) x = ap suc (push-long xs x)
 
@@ -155,7 +155,7 @@ scoped-next scopes i after scope marks local from old new contexts more context 
       all = λ n s at_n flag. has-one n s (scope-cases n s at_n) flag;
     }
 
-there-below : {A : Type 0} (xs : List A) (n : ℕ) → n < length xs → (x : A) × (slice_get xs n ≡ Some x)
+pub there-below : {A : Type 0} (xs : List A) (n : ℕ) → n < length xs → (x : A) × (slice_get xs n ≡ Some x)
 there-below [] n less = absurd (omega (arith, less))
 there-below (x ∷ xs) zero less = (x, refl)
 there-below (x ∷ xs) (suc n) less = there-below xs n (omega (arith, less))
@@ -163,6 +163,7 @@ there-below (x ∷ xs) (suc n) less = there-below xs n (omega (arith, less))
 -- all scopes
 pub scoped-all : (table : Denotations) (marks : List Bool) (local from to i : ℕ) (contexts : List (Option ℕ)) → length table.scopes.items ≤ i → AreMarks table.bindings.items table.occurrences.items (length table.scopes.items) marks → AreScoped (take i table.scopes.items) marks local from to contexts → HasContexts table local from to contexts
 scoped-all table marks local from to i contexts past are_marks scoped = record {
+  later = are.later;
   given = record { top = are.top; within = are.within; apart = are.apart };
   all = λ n less binds. let s = there-below table.scopes.items n less in are.all n s.0 s.1 (ap (λ o. unwrap_or o false) (are_marks.marked n less binds));
 }

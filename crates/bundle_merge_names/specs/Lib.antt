@@ -8,6 +8,7 @@ pub mod Numbers
 pub mod Named
 pub mod Scoped
 pub mod Ranges
+pub mod Inside
 pub mod Bundle
 pub mod Added
 pub mod Held

@@ -1,5 +1,5 @@
 -- The contexts that a table's scopes have, all of which a name occurs.
-use Rattle.std.specs.Prelude.{◌≡◌, ℕ, ◌<◌, List, [], Option, Some, None, length, slice_get}
+use Rattle.std.specs.Prelude.{◌≡◌, ℕ, ◌<◌, ◌≤◌, List, [], Option, Some, None, length, slice_get}
 use Rattle.bundle_scope_denote.specs.declared.table.Denotations.{Denotations}
 use Rattle.bundle_merge_names.specs.declared.names.Names.{Names}
 use Rattle.bundle_merge_names.specs.declared.part.Answered.{Answered}
@@ -8,6 +8,7 @@ use Rattle.bundle_merge_names.specs.Scoped.{Binds, KeepsNames}
 
 -- the scopes of a table have contexts of a range, each of which a name occurs
 pub record HasContexts (table : Denotations) (local from to : ℕ) (contexts : List (Option ℕ)) : Type 0 where
+  pub later : from ≤ to
   pub given : AreGivenTo table local from to contexts
   pub all : (n : ℕ) →
       n < length table.scopes.items →

@@ -14,6 +14,8 @@ ghost use Rattle.bundle_link_targets.specs.Symbols.{IsTakable};
 ghost use Rattle.bundle_merge_names.specs.Added.{AddsNames, IsNamedOf, IsOfHelper, IsTakenOf, IsWholeOf, with_taken};
 ghost use Rattle.bundle_merge_names.specs.Bundle.{AreBundleParts, AreNamesOf};
 ghost use Rattle.bundle_merge_names.specs.Given.{Contexts, NameOf};
+ghost use Rattle.bundle_merge_names.specs.Holders.{IsHolder};
+ghost use Rattle.bundle_merge_names.specs.Inside.{AreScopesNamed, GivesModule, HoldsNothing, answer_of};
 ghost use Rattle.bundle_merge_names.specs.Numbers as numbers;
 ghost use Rattle.bundle_merge_names.specs.Ranges.{GivesAnswered, GivesContexts};
 ghost use Rattle.bundle_merge_names.specs.Scoped.{AreMarks, GivesScope, flag_in, scope_number};
@@ -47,11 +49,30 @@ fn give_names<'a>(
     alloc: Global,
     names: &mut Names<'a>,
     bundle: &BundleParts<'_, 'a, '_>,
-) -> Result<(), MergeError> {
+) -> Result<(), MergeError>
+    ensures { OnOk result (HoldsNothing bundle.now names.old →
+        (p : Program) (list : List ℕ) (answers : ℕ → Option (List Item)) →
+        AreBundleParts p list answers bundle.now →
+        (context : Contexts) × AreNamesOf p list answers context bundle.now names.new) }
+{
+    give_contexts(alloc, names, bundle)?;
+    give_labels(names, bundle)
+}
+
+// Gives contexts to the scopes of the modules and of what the hook answered for them, module by module.
+fn give_contexts<'a>(
+    alloc: Global,
+    names: &mut Names<'a>,
+    bundle: &BundleParts<'_, 'a, '_>,
+) -> Result<(), MergeError>
+    ensures scopes { OnOk result (HoldsNothing bundle.now names.old →
+        AreScopesNamed bundle.now names.new (length bundle.now.parts.now)) }
+    ensures labels { OnOk result (names.new.labels ≡ names.old.labels) }
+{
     for (module, part) in bundle.parts.iter().enumerate() {
         give_scopes(alloc, names, bundle, module, part)?;
     }
-    give_labels(names, bundle)
+    Ok(())
 }
 
 // Gives contexts to the scopes of a module and of what the hook answered for it.
@@ -61,7 +82,11 @@ fn give_scopes<'a>(
     bundle: &BundleParts<'_, 'a, '_>,
     module: usize,
     part: &Part<'_, 'a>,
-) -> Result<(), MergeError> {
+) -> Result<(), MergeError>
+    ensures { OnOk result
+        (GivesModule part.now.denotations.now (answer_of bundle.now «module») part.now.local
+        names.old names.new) }
+{
     let scopes = scope_contexts(alloc, names, module, part.denotations, part.local)?;
     let answered = answer_contexts(alloc, names, bundle, module, part.local)?;
     names.add_module(part.local, scopes, answered)?;
@@ -195,7 +220,11 @@ fn is_at_top(scope: Scope) -> bool
 fn give_labels<'a>(
     names: &mut Names<'a>,
     bundle: &BundleParts<'_, 'a, '_>,
-) -> Result<(), MergeError> {
+) -> Result<(), MergeError>
+    ensures { OnOk result ((p : Program) (list : List ℕ) (answers : ℕ → Option (List Item)) →
+        AreBundleParts p list answers bundle.now →
+        AddsNames p list (IsHolder p answers) names.old names.new) }
+{
     let linking = bundle.linking;
     for external in linking.externals() {
         give_external(names, linking, external)?;
