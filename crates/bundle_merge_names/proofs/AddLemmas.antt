@@ -8,7 +8,7 @@ use Rattle.bundle_merge_names.specs.declared.names.Label.{Label}
 use Rattle.bundle_merge_names.specs.declared.names.Names.{Names}
 use Rattle.bundle_merge_names.specs.Added.{AddsNames}
 use Rattle.bundle_merge_names.specs.Bundle.{holder_symbol}
-use Rattle.bundle_merge_names.specs.Given.{Holder}
+use Rattle.bundle_merge_whole.specs.made.Given.{Holder}
 use Rattle.bundle_merge_names.specs.Held.{AreHeld, GivesName}
 use Rattle.bundle_merge_names.specs.Named.{held, holder_of}
 use Rattle.bundle_merge_names.specs.Numbers.{position}

@@ -19,7 +19,7 @@ use Rattle.bundle_merge_names.specs.contracts.names.LabelPartialEq.TheImpl as la
 use Rattle.bundle_merge_names.specs.declared.names.Label.{Label}
 use Rattle.bundle_merge_names.specs.declared.names.Label.TheVariants as n
 use Rattle.bundle_merge_names.specs.declared.names.Names.{Names}
-use Rattle.bundle_merge_names.specs.Given.{Holder, NameOf, HelperParameter, HelperVariable}
+use Rattle.bundle_merge_whole.specs.made.Given.{Holder, NameOf, HelperParameter, HelperVariable}
 use Rattle.bundle_merge_names.specs.Held.{AreHeld, GivesName}
 use Rattle.bundle_merge_names.specs.Named.{held, holder_of}
 use Rattle.bundle_merge_names.specs.Numbers.{position}

@@ -41,9 +41,9 @@ use Rattle.bundle_merge_names.specs.declared.part.BundleParts.{BundleParts}
 use Rattle.bundle_merge_names.specs.declared.part.Part.{Part}
 use Rattle.bundle_merge_names.specs.Added.{AddsNames}
 use Rattle.bundle_merge_names.specs.Bundle.{AreAnswers, AreBundleParts, AreNamesOf, IsAnswerOf, IsPartOf, answered_items, holder_symbol}
-use Rattle.bundle_merge_names.specs.Given.{Contexts, Holder, TopOf, InsideOf, AnsweredOf, NameOf, HelperParameter, HelperVariable, in_order, numbers_answered, numbers_in}
+use Rattle.bundle_merge_whole.specs.made.Given.{Contexts, Holder, TopOf, InsideOf, AnsweredOf, NameOf, HelperParameter, HelperVariable, in_order, numbers_answered, numbers_in}
 use Rattle.bundle_merge_names.specs.Held.{AreHeld}
-use Rattle.bundle_merge_names.specs.Holders.{AddsLabel, IsHolder, TellApart, added, answered_of, defines, helps, holds_meta, holds_namespace, imports_name, imports_whole, inside_of, loads, parameter, top_of, variable}
+use Rattle.bundle_merge_whole.specs.made.Alone.{AddsLabel, IsHolder, TellApart, added, answered_of, defines, helps, holds_meta, holds_namespace, imports_name, imports_whole, inside_of, loads, parameter, top_of, variable}
 use Rattle.bundle_merge_names.specs.Idents.{label_ident}
 use Rattle.bundle_merge_names.specs.Inside.{AreScopesNamed, HasContext, HoldsNothing, IsScoped, answer_of, contexts_at, scopes_at, scopes_by}
 use Rattle.bundle_merge_names.specs.Named.{answered_in, held, holder_of, local_in, scopes_in}

@@ -20,7 +20,7 @@ use Rattle.bundle_link_targets.proofs.ChainLemmas.{map-some}
 use Rattle.bundle_merge_names.specs.Numbers.{AreNumbersOf}
 use Rattle.bundle_merge_names.specs.Own.{told, own_told, binding_in, context_by}
 use Rattle.bundle_merge_names.specs.Body.{AreOwnSteps, numbered_ident}
-use Rattle.bundle_merge_names.specs.Steps.{IsStepTo}
+use Rattle.bundle_merge_whole.specs.made.Steps.{IsStepTo}
 use Rattle.bundle_merge_names.proofs.Keeping.{entry-symbol, entry-context}
 use Rattle.bundle_merge_names.proofs.Walking.{step-to, zip-long, map-long}
 

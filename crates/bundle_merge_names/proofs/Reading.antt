@@ -24,8 +24,8 @@ use Rattle.bundle_merge_names.specs.declared.part.BundleParts.{BundleParts}
 use Rattle.bundle_merge_names.specs.declared.part.Part.{Part}
 use Rattle.bundle_merge_names.specs.Body.{IsReadAs}
 use Rattle.bundle_merge_names.specs.Bundle.{AreBundleParts, AreNamesOf, IsPartOf, holder_symbol}
-use Rattle.bundle_merge_names.specs.Given.{Contexts, Holder, TopOf, NameOf, ident_of_label}
-use Rattle.bundle_merge_names.specs.Holders.{IsHolder, added, defines as defines_label, holds_meta as holds_label}
+use Rattle.bundle_merge_whole.specs.made.Given.{Contexts, Holder, TopOf, NameOf, ident_of_label}
+use Rattle.bundle_merge_whole.specs.made.Alone.{IsHolder, added, defines as defines_label, holds_meta as holds_label}
 use Rattle.bundle_merge_names.specs.Idents.{label_ident, target_ident, ident_by}
 use Rattle.bundle_merge_names.specs.Named.{held, holder_of}
 

@@ -13,7 +13,7 @@ use Rattle.bundle_link_targets.specs.Symbols.{IsTakable}
 use Rattle.bundle_link_targets.proofs.ListLemmas.{place-there, there-place, map-back, map-on}
 use Rattle.bundle_merge_names.specs.declared.names.Names.{Names}
 use Rattle.bundle_merge_names.specs.Added.{AddsNames, IsNamedOf, IsTakenOf, IsWholeOf, by_name, by_whole, with_taken}
-use Rattle.bundle_merge_names.specs.Given.{Holder, NameOf}
+use Rattle.bundle_merge_whole.specs.made.Given.{Holder, NameOf}
 use Rattle.bundle_merge_names.proofs.AddLemmas.{adds-on, adds-none}
 use Rattle.bundle_merge_names.proofs.ScopeLemmas.{push-cases, push-old, push-last, take-long}
 use Rattle.bundle_merge_names.proofs.Walking.{take-next}

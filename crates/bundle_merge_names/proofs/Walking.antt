@@ -47,11 +47,11 @@ use Rattle.bundle_merge_names.specs.declared.names.Names.{Names}
 use Rattle.bundle_merge_names.specs.declared.part.Part.{Part}
 use Rattle.bundle_merge_names.specs.Body as b
 use Rattle.bundle_merge_names.specs.Body.{IsReadAs, IsRewritten, MeansNothing, IsFound, AreSteps, called_by, is_use_at, is_call_at, past_by}
-use Rattle.bundle_merge_names.specs.Given.{Contexts, ident_of_label, numbers_in}
+use Rattle.bundle_merge_whole.specs.made.Given.{Contexts, ident_of_label, numbers_in}
 use Rattle.bundle_merge_names.specs.Named.{scopes_in}
 use Rattle.bundle_merge_names.specs.Own.{told, own_told, binding_in, context_by}
-use Rattle.bundle_merge_names.specs.Steps as t
-use Rattle.bundle_merge_names.specs.Steps.{IsStep, IsStepTo, IsUsed, IsCalled, whole_of}
+use Rattle.bundle_merge_whole.specs.made.Steps as t
+use Rattle.bundle_merge_whole.specs.made.Steps.{IsStep, IsStepTo, IsUsed, IsCalled, whole_of}
 use Rattle.bundle_merge_names.proofs.Rising.{Rises, rises-filter, occurrences-rise, place_of, name_place, linked-rise, linked-stands}
 use Rattle.bundle_merge_names.proofs.Passing.{SplitsAt, splits-first, passes, next-there, told-next}
 use Rattle.bundle_merge_names.proofs.Keeping.{entry-place, entry-symbol, entry-context}

@@ -10,7 +10,7 @@ use Rattle.bundle_rules.specs.Program.{Program}
 use Rattle.bundle_merge_names.specs.declared.names.Label.{Label}
 use Rattle.bundle_merge_names.specs.declared.names.Names.{Names}
 use Rattle.bundle_merge_names.specs.Bundle.{holder_symbol}
-use Rattle.bundle_merge_names.specs.Given.{Holder, NameOf, HelperParameter, HelperVariable}
+use Rattle.bundle_merge_whole.specs.made.Given.{Holder, NameOf, HelperParameter, HelperVariable}
 use Rattle.bundle_merge_names.specs.Held.{AreHeld}
 use Rattle.bundle_merge_names.specs.Named.{held, holder_of}
 use Rattle.bundle_merge_names.specs.Numbers.{position}

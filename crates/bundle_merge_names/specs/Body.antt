@@ -32,12 +32,12 @@ use Rattle.bundle_tree_rebuild.specs.declared.rewrite.Whole.TheVariants as w
 use Rattle.bundle_merge_names.specs.declared.names.Label.TheVariants as n
 use Rattle.bundle_merge_names.specs.declared.names.Names.{Names}
 use Rattle.bundle_merge_names.specs.declared.part.Part.{Part}
-use Rattle.bundle_merge_names.specs.Given.{Contexts, ident_of_label, numbers_in}
+use Rattle.bundle_merge_whole.specs.made.Given.{Contexts, ident_of_label, numbers_in}
 use Rattle.bundle_merge_names.specs.Named.{scopes_in}
 use Rattle.bundle_merge_names.specs.Idents.{label_ident, target_ident}
 use Rattle.bundle_merge_names.specs.Numbers.{AreNumbersOf}
 use Rattle.bundle_merge_names.specs.Own.{told}
-use Rattle.bundle_merge_names.specs.Steps.{IsStep, IsStepTo, whole_of}
+use Rattle.bundle_merge_whole.specs.made.Steps.{IsStep, IsStepTo, whole_of}
 
 -- whether what is told stands at this place
 abbrev pub is_at : {A : Type 0} → (A → ℕ) → ℕ → Option A → Bool

@@ -20,20 +20,16 @@ use Rattle.bundle_scope_denote.specs.Listed.{IsTable}
 use Rattle.bundle_link_index.specs.Programs.{IsTableOf}
 use Rattle.bundle_link_targets.specs.Linked.{HandsOver, IsLinkingOf}
 use Rattle.bundle_link_targets.specs.Meant.{AreModules}
+use Rattle.bundle_merge_whole.specs.planned.Decided.{numbers_from}
 use Rattle.bundle_merge_names.specs.declared.names.Label.{Label}
 use Rattle.bundle_merge_names.specs.declared.names.Names.{Names}
 use Rattle.bundle_merge_names.specs.declared.part.Answered.{Answered}
 use Rattle.bundle_merge_names.specs.declared.part.BundleParts.{BundleParts}
 use Rattle.bundle_merge_names.specs.declared.part.Part.{Part}
-use Rattle.bundle_merge_names.specs.Given.{Contexts, Holder, TopOf, NameOf, HelperParameter, HelperVariable, numbers_in, numbers_answered}
-use Rattle.bundle_merge_names.specs.Holders.{IsHolder, TellApart}
+use Rattle.bundle_merge_whole.specs.made.Given.{Contexts, Holder, TopOf, NameOf, HelperParameter, HelperVariable, numbers_in, numbers_answered}
+use Rattle.bundle_merge_whole.specs.made.Alone.{IsHolder, TellApart}
 use Rattle.bundle_merge_names.specs.Named.{answered_in, held, holder_of, local_in, scopes_in}
 use Rattle.bundle_merge_names.specs.Numbers.{AreNumbersOf, position}
-
--- the numbers from one on, so many
-abbrev pub numbers_from : ℕ → ℕ → List ℕ
-numbers_from n zero = []
-numbers_from n (suc count) = n ∷ numbers_from (suc n) count
 
 -- a part is that of a module: its list, its items, its tables, and where its requests lead
 pub record IsPartOf (p : Program) (m : ℕ) (part : Part) : Type 0 where

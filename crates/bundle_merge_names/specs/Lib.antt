@@ -1,9 +1,6 @@
-pub mod Given
-pub mod Steps
 pub mod Idents
 pub mod Own
 pub mod Body
-pub mod Holders
 pub mod Numbers
 pub mod Named
 pub mod Scoped

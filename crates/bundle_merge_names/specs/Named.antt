@@ -12,7 +12,7 @@ use Rattle.bundle_merge_names.specs.declared.names.Label.{Label}
 use Rattle.bundle_merge_names.specs.declared.names.Label.TheVariants as n
 use Rattle.bundle_merge_names.specs.declared.names.Names.{Names}
 use Rattle.bundle_merge_names.specs.contracts.names.LabelPartialEq.TheImpl as label_impl
-use Rattle.bundle_merge_names.specs.Given.{Holder, NameOf, HelperParameter, HelperVariable}
+use Rattle.bundle_merge_whole.specs.made.Given.{Holder, NameOf, HelperParameter, HelperVariable}
 
 -- what a label of the code stands for
 abbrev pub holder_of : Label → Holder

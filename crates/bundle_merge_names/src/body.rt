@@ -12,13 +12,13 @@ ghost use Rattle.bundle_rules.specs.Scopes.{ModuleKind};
 ghost use Rattle.bundle_scope_denote.specs.Listed.{IsTable};
 ghost use Rattle.bundle_scope_names.proofs.Numbering.{Numbering};
 ghost use Rattle.bundle_merge_names.specs.declared.names.Label.TheVariants as kinds;
-ghost use Rattle.bundle_merge_names.specs.Given as given;
+ghost use Rattle.bundle_merge_whole.specs.made.Given as given;
 ghost use Rattle.bundle_merge_names.specs.Body.{IsReadAs, IsRewritten, AreOwnSteps, AreSteps, called_by, is_call_at, is_use_at, past_by};
 ghost use Rattle.bundle_merge_names.specs.Idents.{label_ident, target_ident};
 ghost use Rattle.bundle_merge_names.specs.Numbers.{AreNumbersOf};
 ghost use Rattle.bundle_merge_names.specs.Own as own;
 ghost use Rattle.bundle_merge_names.specs.Own.{IsOwnName};
-ghost use Rattle.bundle_merge_names.specs.Steps.{meta_ident, whole_of};
+ghost use Rattle.bundle_merge_whole.specs.made.Steps.{meta_ident, whole_of};
 
 use crate::context::GLOBAL;
 use crate::names::{Label, Names};

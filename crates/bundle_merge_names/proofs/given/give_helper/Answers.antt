@@ -5,7 +5,7 @@ use Rattle.bundle_rules.specs.Program.{Program}
 use Rattle.bundle_merge_names.specs.declared.names.Label.TheVariants as n
 use Rattle.bundle_merge_names.specs.declared.names.Names.{Names}
 use Rattle.bundle_merge_names.specs.Added.{AddsNames, IsOfHelper, its_name, its_parameter, its_variable}
-use Rattle.bundle_merge_names.specs.Given.{Holder, NameOf, HelperParameter, HelperVariable}
+use Rattle.bundle_merge_whole.specs.made.Given.{Holder, NameOf, HelperParameter, HelperVariable}
 use Rattle.bundle_merge_names.proofs.AddLemmas.{adds-one, adds-on}
 use Rattle.bundle_merge_names.proofs.given.give_helper.Goals as goal
 
