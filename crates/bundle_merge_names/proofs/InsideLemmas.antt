@@ -82,8 +82,23 @@ order-inner k.Catch b e = refl
 order-inner k.FunctionName b e = refl
 order-inner k.ClassName b e = refl
 
+-- a scope that is not at the top is one inside
+pub inner-scope : (kind : ScopeKind) (b : ℕ) → is_at_top kind ≡ false → (its : r.ScopeKind) × (scope_as kind b ≡ r.Inner its b)
+inner-scope k.Wrapper b e = absurd (false≢true (sym e))
+inner-scope k.Top b e = absurd (false≢true (sym e))
+inner-scope k.Parameters b e = (r.Parameters, refl)
+inner-scope k.ArrowParameters b e = (r.ArrowParameters, refl)
+inner-scope k.FunctionBody b e = (r.FunctionBody, refl)
+inner-scope k.StaticBody b e = (r.StaticBody, refl)
+inner-scope k.Block b e = (r.Block, refl)
+inner-scope k.CatchBlock b e = (r.CatchBlock, refl)
+inner-scope k.Loop b e = (r.Loop, refl)
+inner-scope k.Catch b e = (r.Catch, refl)
+inner-scope k.FunctionName b e = (r.FunctionName, refl)
+inner-scope k.ClassName b e = (r.ClassName, refl)
+
 -- the scope of the table with this number
-scope-there : (table : Denotations) (n : ℕ) (scope : r.Scope) → scope_of table n ≡ Some scope → (s : Scope) × (slice_get table.scopes.items n ≡ Some s) × (scope_as s.kind s.begins ≡ scope)
+pub scope-there : (table : Denotations) (n : ℕ) (scope : r.Scope) → scope_of table n ≡ Some scope → (s : Scope) × (slice_get table.scopes.items n ≡ Some s) × (scope_as s.kind s.begins ≡ scope)
 scope-there table n scope at =
     let x = map-there (λ (y : Numbered). y.scope) (slice_get (map numbered table.scopes.items) n) scope at in
     let s = map-there numbered (slice_get table.scopes.items n) x.0 (sym (slice_get-map numbered table.scopes.items n) ∙ x.1) in

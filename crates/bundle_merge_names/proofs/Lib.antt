@@ -7,6 +7,7 @@ pub mod ScopeLemmas
 pub mod InsideLemmas
 pub mod ModuleLemmas
 pub mod NamesLemmas
+pub mod RefusedLemmas
 pub mod AddLemmas
 pub mod TakenLemmas
 pub mod OwnLemmas

@@ -4,18 +4,21 @@ use Rattle.std.specs.Prelude.{slice_get}
 use Rattle.std.specs.declared.vec.Vec.{Vec}
 use Rattle.std.specs.Global.{Global}
 use Rattle.std.proofs.lemmas.Bool.{cases_order}
-use Rattle.std.proofs.lemmas.Option.{none-some, same_Some}
+use Rattle.std.proofs.lemmas.Option.{none-some, same_Some, slice_get_within}
 use Rattle.bundle_scope_denote.specs.declared.table.Denotations.{Denotations}
 use Rattle.bundle_scope_denote.specs.declared.table.Scope.{Scope}
 use Rattle.bundle_link_targets.specs.Lists.{items_in, list_in}
+use Rattle.bundle_merge_names.specs.declared.error.MergeError.{MergeError}
 use Rattle.bundle_merge_names.specs.declared.names.Names.{Names}
 use Rattle.bundle_merge_names.specs.declared.part.Answered.{Answered}
 use Rattle.bundle_merge_names.specs.declared.part.BundleParts.{BundleParts}
 use Rattle.bundle_merge_names.specs.declared.part.Part.{Part}
-use Rattle.bundle_merge_names.specs.Inside.{AreApart, AreScopesNamed, GivesModule, HasAnswered, HasContext, IsScoped, answer_of, contexts_at, scopes_at, scopes_by}
+use Rattle.bundle_merge_names.specs.Inside as n
+use Rattle.bundle_merge_names.specs.Inside.{AreApart, AreScopesNamed, AreTakenBy, AreTakenUpTo, GivesModule, HasAnswered, HasContext, IsScoped, RefusesModule, RefusesScopes, answer_of, contexts_at, scopes_at, scopes_by, table_at}
 use Rattle.bundle_merge_names.specs.Named.{answered_in, local_in, scopes_in}
 use Rattle.bundle_merge_names.specs.Numbers.{position}
-use Rattle.bundle_merge_names.specs.Ranges.{GivesAnswered, GivesContexts, HasContexts}
+use Rattle.bundle_merge_names.specs.Ranges as r
+use Rattle.bundle_merge_names.specs.Ranges.{AreTaken, GivesAnswered, GivesContexts, HasContexts, RefusesAnswered, RefusesContexts}
 use Rattle.bundle_merge_names.specs.Scoped.{KeepsNames}
 use Rattle.bundle_merge_names.proofs.ScopeLemmas.{push-last, push-long, push-old}
 
@@ -99,6 +102,16 @@ module _ (local from to : ℕ) (contexts : List (Option ℕ)) where
   answered-scoped None its is has = absurd (none-some its is)
   answered-scoped (Some answer) its is has = subst (λ (x : Answered). IsScoped x.denotations.now local contexts) (same_Some answer its is) (record { from = from; to = to; has = has })
 
+-- what is taken for what the hook answered
+answered-taken : (local from to : ℕ) (contexts : List (Option ℕ)) (answer : Option Answered) → HasAnswered answer local from to contexts → AreTakenBy (option_map (λ (its : Answered). its.denotations.now) answer) from to
+answered-taken local from to contexts None has = has.1
+answered-taken local from to contexts (Some its) has = has.taken
+
+-- nothing is taken
+nothing-taken : (table : Option Denotations) (n : ℕ) → AreTakenBy table n n
+nothing-taken None n = refl
+nothing-taken (Some table) n = record { numbers = []; fall = tt; count = omega arith }
+
 -- no module has a context yet
 pub modules-first : (bundle : BundleParts) (names : Names) (count : ℕ) → names.locals.items ≡ [] → names.scopes.items ≡ [] → names.answered.items ≡ [] → names.contexts ≡ bundle.contexts → count ≡ 0 → AreScopesNamed bundle names count
 modules-first bundle names count locals scopes answered contexts none = record {
@@ -109,6 +122,7 @@ modules-first bundle names count locals scopes answered contexts none = record {
   scopes = λ m part less at. absurd (omega (arith, less, none));
   answered = λ m part its less at is. absurd (omega (arith, less, none));
   later = let same = ap position contexts in omega (arith, same);
+  taken = subst (λ n. AreTakenUpTo bundle (position bundle.contexts) n (position names.contexts)) (sym none) (sym (ap position contexts));
   apart = record {
     within = λ a m n c has. absurd (never a m n c has);
     apart = λ a b m k n i c x y. absurd (never a m n c x);
@@ -121,6 +135,9 @@ modules-first bundle names count locals scopes answered contexts none = record {
 
     never : (a : Bool) (m n c : ℕ) → HasContext (scopes_at bundle a m) (contexts_at names a m) n c → ⊥
     never a m n c has = none-some (Some c) (sym (ap (λ l. slice_get l n) (no-list a m)) ∙ has.its)
+
+list-table : (bundle : BundleParts) (m : ℕ) (part : Part) → slice_get bundle.parts.now m ≡ Some part → table_at bundle false m ≡ Some part.denotations.now
+list-table bundle m part at = ap (option_map (λ (x : Part). x.denotations.now)) at
 
 -- one module more
 pub modules-next : (bundle : BundleParts) (old new : Names) (k count : ℕ) (part : Part)
@@ -137,6 +154,11 @@ modules-next bundle old new k count part at gives next are = subst (AreScopesNam
   scopes = λ m other less at_m. scopes m other at_m (or-last m less);
   answered = λ m other its less at_m is. answers m other its at_m is (or-last m less);
   later = let l = are.later in let t = later in omega (arith, l, t);
+  taken = (position old.contexts, are.taken, record {
+    middle = gives.middle;
+    list = subst (λ o. AreTakenBy o (position old.contexts) gives.middle) (sym (list-table bundle k part at)) gives.has.taken;
+    answer = answered-taken part.local gives.middle (position new.contexts) gives.answered.items (answer_of bundle k) gives.has_answered;
+  });
   apart = apart-next (scopes_at bundle) (contexts_at old) (contexts_at new) k (position bundle.contexts) (position old.contexts) gives.middle (position new.contexts)
       cases
       (λ n c has. range-within part.denotations.now part.local (position old.contexts) gives.middle gives.scopes.items gives.has n c (in-list n c has))
@@ -191,6 +213,42 @@ modules-next bundle old new k count part at gives next are = subst (AreScopesNam
     answers : (m : ℕ) (other : Part) (its : Answered) → slice_get bundle.parts.now m ≡ Some other → answer_of bundle m ≡ Some its → (m < k) ⊎ (m ≡ k) → IsScoped its.denotations.now other.local (answered_in new m)
     answers m other its at_m is (inl less) = subst (IsScoped its.denotations.now other.local) (sym (answered-old m less)) (are.answered m other its less at_m is)
     answers m other its at_m is (inr same) = subst (λ j. IsScoped its.denotations.now other.local (answered_in new j)) (sym same) (subst (IsScoped its.denotations.now other.local) (sym answered-last) (subst (λ (x : Part). IsScoped its.denotations.now x.local gives.answered.items) (same-part m other at_m same) (answered-scoped part.local gives.middle (position new.contexts) gives.answered.items (answer_of bundle k) its (ap (answer_of bundle) (sym same) ∙ is) gives.has_answered)))
+
+-- one module more is refused
+pub modules-refused : (bundle : BundleParts) (names : Names) (k : ℕ) (part : Part) (refusal : MergeError)
+    → slice_get bundle.parts.now k ≡ Some part
+    → RefusesModule part.denotations.now (answer_of bundle k) (position names.contexts) k refusal
+    → AreScopesNamed bundle names k
+    → RefusesScopes bundle refusal
+modules-refused bundle names k part refusal at refuses are = by refuses
+  where
+    within : k < length bundle.parts.now
+    within = slice_get_within bundle.parts.now k part at
+
+    in-list : (refusal : MergeError) → RefusesContexts part.denotations.now (position names.contexts) k refusal → RefusesScopes bundle refusal
+    in-list _ r.for_memory = n.for_memory
+    in-list _ (r.for_contexts i needs taken) = n.for_contexts false k i part.denotations.now (position names.contexts) within (list-table bundle k part at) needs are.taken (record {
+      middle = 4294967296;
+      list = subst (λ o. AreTakenBy o (position names.contexts) 4294967296) (sym (list-table bundle k part at)) taken;
+      answer = nothing-taken (table_at bundle true k) 4294967296;
+    })
+
+    in-answer : (middle : ℕ) → AreTaken part.denotations.now (position names.contexts) middle → (its : Answered) → answer_of bundle k ≡ Some its → (refusal : MergeError) → RefusesContexts its.denotations.now middle k refusal → RefusesScopes bundle refusal
+    in-answer middle before its is _ r.for_memory = n.for_memory
+    in-answer middle before its is _ (r.for_contexts i needs taken) = n.for_contexts true k i its.denotations.now (position names.contexts) within (ap (option_map (λ (x : Answered). x.denotations.now)) is) needs are.taken (record {
+      middle = middle;
+      list = subst (λ o. AreTakenBy o (position names.contexts) middle) (sym (list-table bundle k part at)) before;
+      answer = subst (λ o. AreTakenBy (option_map (λ (x : Answered). x.denotations.now) o) middle 4294967296) (sym is) taken;
+    })
+
+    by-answer : (middle : ℕ) → AreTaken part.denotations.now (position names.contexts) middle → (answer : Option Answered) → answer_of bundle k ≡ answer → RefusesAnswered answer middle k refusal → RefusesScopes bundle refusal
+    by-answer middle before None is refuses = absurd refuses
+    by-answer middle before (Some its) is refuses = in-answer middle before its is refusal refuses
+
+    by : RefusesModule part.denotations.now (answer_of bundle k) (position names.contexts) k refusal → RefusesScopes bundle refusal
+    by (n.memory is) = subst (RefusesScopes bundle) (sym is) n.for_memory
+    by (n.in_list refuses) = in-list refusal refuses
+    by (n.in_answer middle before refuses) = by-answer middle before (answer_of bundle k) refl refuses
 
 -- a module's scopes have the next contexts, and then those of what the hook answered
 pub gives-module : (table : Denotations) (answer : Option Answered) (local : ℕ) (old between last new : Names) (scopes answered : Vec (Option ℕ) Global)

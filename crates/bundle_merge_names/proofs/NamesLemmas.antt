@@ -125,7 +125,7 @@ cleared-append : (xs ys : List Item) → cleared (xs ++ ys) ≡ cleared xs ++ cl
 cleared-append [] ys = refl
 cleared-append (x ∷ xs) ys = ap (λ rest. cleared_item x ∷ rest) (cleared-append xs ys)
 
-tree-cleared : (items : List Item) → properties_tree (cleared items) ≡ cleared (properties_tree items)
+pub tree-cleared : (items : List Item) → properties_tree (cleared items) ≡ cleared (properties_tree items)
 tree-cleared items = ap (λ rest. h.Open 0 h.Module ∷ h.Open 0 h.ExprStmt ∷ h.Open 0 h.ObjectLit ∷ rest) (sym (cleared-append items (h.Close ∷ h.Close ∷ h.Close ∷ [])))
 
 -- how a holder stands in a bundle: at the top of a module, in a list, or by a label

@@ -7,5 +7,6 @@ pub mod Scoped
 pub mod Ranges
 pub mod Inside
 pub mod Bundle
+pub mod Refused
 pub mod Added
 pub mod Held
