@@ -1,5 +1,5 @@
 -- The scopes of a table are told apart by where their nodes begin, and so are the contexts that they have.
-use Rattle.std.proofs.Common.{◌≡◌, ◌≤◌, ◌<◌, ◌+◌, ◌⊎◌, inl, inr, ℕ, zero, suc, Bool, true, false, cond, List, [], ◌∷◌, Option, Some, None, length, map, refl, ap, sym, subst, ◌∙◌, arith, eqb-true, eq-eqb}
+use Rattle.std.proofs.Common.{◌≡◌, ◌<◌, ◌+◌, ℕ, zero, suc, Bool, true, false, cond, List, [], ◌∷◌, Option, Some, None, map, refl, ap, sym, subst, ◌∙◌, arith, eqb-true, eq-eqb}
 use Rattle.std.specs.Prelude.{◌&&◌, ◌==◌, not, option_map, slice_get}
 use Rattle.std.specs.List.{AllZip}
 use Rattle.std.proofs.lemmas.Bool.{false≢true}
@@ -127,12 +127,16 @@ bound-number kind items table is i scope name at =
   where
     by : (entry : Denoted) → slice_get table.occurrences.items i ≡ Some entry → (number : Option ℕ) → entry.binding ≡ number → IsDenoted (map numbered table.scopes.items) table.bindings.items number (e.Bound scope name) → (n : ℕ) × (scope_of table n ≡ Some scope) × Binds table.bindings.items table.occurrences.items n
     by entry there None e t = absurd t
-    by entry there (Some number) e t = (t.binding.scope, t.in_scope, record {
-      i = i;
-      entry = entry;
-      there = there;
-      scope = ap (scope_number table.bindings.items) e ∙ ap (option_map (λ (b : Binding). b.scope)) t.at;
-    })
+    by entry there (Some number) e t = (
+      t.binding.scope,
+      t.in_scope,
+      record {
+        i = i;
+        entry = entry;
+        there = there;
+        scope = ap (scope_number table.bindings.items) e ∙ ap (option_map (λ (b : Binding). b.scope)) t.at;
+      },
+    )
 
 -- a scope of which a name occurs has a context
 pub has-context : (table : Denotations) (local from to : ℕ) (contexts : List (Option ℕ)) → HasContexts table local from to contexts → (n begins : ℕ) (scope : r.Scope) → scope_of table n ≡ Some scope → scope_order scope ≡ begins + 2 → Binds table.bindings.items table.occurrences.items n → (c : ℕ) × (its : HasContext table.scopes.items contexts n c) × (its.scope.begins ≡ begins)

@@ -1,5 +1,5 @@
 -- Modules get the contexts of their scopes one by one.
-use Rattle.std.proofs.Common.{◌≡◌, ◌≤◌, ◌<◌, ◌⊎◌, inl, inr, ℕ, zero, suc, Bool, true, false, List, [], ◌∷◌, ◌++◌, Option, Some, None, length, option_map, refl, ap, sym, subst, ◌∙◌, arith, ⊎_elim}
+use Rattle.std.proofs.Common.{◌≡◌, ◌≤◌, ◌<◌, ◌⊎◌, inl, inr, ℕ, zero, suc, Bool, true, false, List, [], ◌∷◌, ◌++◌, Option, Some, None, length, option_map, refl, ap, sym, subst, ◌∙◌, arith}
 use Rattle.std.specs.Prelude.{slice_get}
 use Rattle.std.specs.declared.vec.Vec.{Vec}
 use Rattle.std.specs.Global.{Global}
@@ -45,7 +45,6 @@ module _ (scopes : Bool → ℕ → List Scope) (old new : Bool → ℕ → List
     (answer : (n c : ℕ) → HasContext (scopes true k) (new true k) n c → (middle ≤ c) × (c < to))
     (answer_apart : (n i c : ℕ) → HasContext (scopes true k) (new true k) n c → HasContext (scopes true k) (new true k) i c → n ≡ i)
     (low : first ≤ from) (mid : from ≤ middle) (high : middle ≤ to) (are : AreApart first from scopes old) where
-
   has-cases : (a : Bool) (m n c : ℕ) → HasContext (scopes a m) (new a m) n c → (m ≡ k) ⊎ HasContext (scopes a m) (old a m) n c
   has-cases a m n c has = elim (cases a m) [ inl last ↦ inl last | inr same ↦ inr (subst (λ l. HasContext (scopes a m) l n c) same has) ]
 
@@ -154,11 +153,15 @@ modules-next bundle old new k count part at gives next are = subst (AreScopesNam
   scopes = λ m other less at_m. scopes m other at_m (or-last m less);
   answered = λ m other its less at_m is. answers m other its at_m is (or-last m less);
   later = let l = are.later in let t = later in omega (arith, l, t);
-  taken = (position old.contexts, are.taken, record {
-    middle = gives.middle;
-    list = subst (λ o. AreTakenBy o (position old.contexts) gives.middle) (sym (list-table bundle k part at)) gives.has.taken;
-    answer = answered-taken part.local gives.middle (position new.contexts) gives.answered.items (answer_of bundle k) gives.has_answered;
-  });
+  taken = (
+    position old.contexts,
+    are.taken,
+    record {
+      middle = gives.middle;
+      list = subst (λ o. AreTakenBy o (position old.contexts) gives.middle) (sym (list-table bundle k part at)) gives.has.taken;
+      answer = answered-taken part.local gives.middle (position new.contexts) gives.answered.items (answer_of bundle k) gives.has_answered;
+    },
+  );
   apart = apart-next (scopes_at bundle) (contexts_at old) (contexts_at new) k (position bundle.contexts) (position old.contexts) gives.middle (position new.contexts)
       cases
       (λ n c has. range-within part.denotations.now part.local (position old.contexts) gives.middle gives.scopes.items gives.has n c (in-list n c has))
