@@ -1,5 +1,5 @@
 -- What a bundle's names hold are contexts that tell apart what has one.
-use Rattle.std.proofs.Common.{◌≡◌, ◌≤◌, ◌<◌, ◌+◌, ◌-◌, ◌⊎◌, inl, inr, ℕ, zero, suc, nat_lt, Bool, true, false, List, [], ◌∷◌, ◌++◌, Option, Some, None, unwrap_or, length, map, option_map, refl, ap, ap₂, sym, subst, ◌∙◌, arith, ltb-true, if◌then◌else◌}
+use Rattle.std.proofs.Common.{◌≡◌, ◌≤◌, ◌<◌, ◌+◌, ◌-◌, inl, inr, ℕ, zero, suc, nat_lt, Bool, true, false, List, [], ◌∷◌, ◌++◌, Option, Some, None, unwrap_or, length, map, option_map, refl, ap, ap₂, sym, subst, ◌∙◌, arith, ltb-true, if◌then◌else◌}
 use Rattle.std.specs.Prelude.{slice_get}
 use Rattle.std.specs.Borrow.{Bor}
 use Rattle.std.specs.declared.vec.Vec.{Vec}
@@ -8,7 +8,7 @@ use Rattle.std.proofs.lemmas.Option.{none-some, same_Some, slice_get_within}
 use Rattle.indexmap.specs.IndexMap.{get_by}
 use Rattle.bundle_tree_piece.specs.Item as h
 use Rattle.bundle_tree_piece.specs.Item.{Item, item_of}
-use Rattle.bundle_rules.specs.Bundle.{Cause, AsModule, IsDue, properties_tree}
+use Rattle.bundle_rules.specs.Bundle.{Cause, properties_tree}
 use Rattle.bundle_rules.specs.Cleared.{cleared, cleared_item}
 use Rattle.bundle_rules.specs.Declarations.{BySymbol, Name}
 use Rattle.bundle_rules.specs.Denotes.{Bound, denotations, denoted_as}
@@ -16,15 +16,12 @@ use Rattle.bundle_rules.specs.Entries as e
 use Rattle.bundle_rules.specs.Idents.{Ident}
 use Rattle.bundle_rules.specs.Linking as l
 use Rattle.bundle_rules.specs.Meaning as m
-use Rattle.bundle_rules.specs.Meaning.{HasKind}
 use Rattle.bundle_rules.specs.Nodes.{Text}
 use Rattle.bundle_rules.specs.Program.{Program, tree_of, IsReached}
 use Rattle.bundle_rules.specs.Scopes.{ModuleKind, ScopeKind, Es, Inner}
 use Rattle.bundle_tree_places.specs.Marks.{ident_of}
 use Rattle.bundle_rules.proofs.DenotesLemmas.{denotations-cleared}
-use Rattle.bundle_scope_denote.specs.declared.table.Denotations.{Denotations}
 use Rattle.bundle_scope_denote.specs.declared.table.Scope.{Scope}
-use Rattle.bundle_scope_denote.specs.Listed.{IsTable}
 use Rattle.bundle_link_tables.specs.declared.table.Taken.{Taken}
 use Rattle.bundle_link_tables.specs.declared.table.Taken.TheVariants as k
 use Rattle.bundle_link_tables.specs.TablesOf.{taken_of}
@@ -40,14 +37,14 @@ use Rattle.bundle_merge_names.specs.declared.part.Answered.{Answered}
 use Rattle.bundle_merge_names.specs.declared.part.BundleParts.{BundleParts}
 use Rattle.bundle_merge_names.specs.declared.part.Part.{Part}
 use Rattle.bundle_merge_names.specs.Added.{AddsNames}
-use Rattle.bundle_merge_names.specs.Bundle.{AreAnswers, AreBundleParts, AreNamesOf, IsAnswerOf, IsPartOf, answered_items, holder_symbol}
+use Rattle.bundle_merge_names.specs.Bundle.{AreAnswers, AreBundleParts, AreNamesOf, IsAnswerOf, answered_items, holder_symbol}
 use Rattle.bundle_merge_whole.specs.made.Given.{Contexts, Holder, TopOf, InsideOf, AnsweredOf, NameOf, HelperParameter, HelperVariable, in_order, numbers_answered, numbers_in}
 use Rattle.bundle_merge_names.specs.Held.{AreHeld}
-use Rattle.bundle_merge_whole.specs.made.Alone.{AddsLabel, IsHolder, TellApart, added, answered_of, defines, helps, holds_meta, holds_namespace, imports_name, imports_whole, inside_of, loads, parameter, top_of, variable}
+use Rattle.bundle_merge_whole.specs.made.Alone.{AddsLabel, IsHolder, added, answered_of, defines, helps, holds_meta, holds_namespace, imports_name, imports_whole, inside_of, loads, parameter, top_of, variable}
 use Rattle.bundle_merge_names.specs.Idents.{label_ident}
 use Rattle.bundle_merge_names.specs.Inside.{AreScopesNamed, HasContext, HoldsNothing, IsScoped, answer_of, contexts_at, scopes_at, scopes_by}
 use Rattle.bundle_merge_names.specs.Named.{answered_in, held, holder_of, local_in, scopes_in}
-use Rattle.bundle_merge_names.specs.Numbers.{AreNumbersOf, position}
+use Rattle.bundle_merge_names.specs.Numbers.{position}
 use Rattle.bundle_merge_names.proofs.InsideLemmas.{context_at, inside-has, numbers-are}
 use Rattle.bundle_merge_names.proofs.LabelLemmas.{same-held}
 use Rattle.bundle_merge_names.proofs.ScopeLemmas.{there-below}

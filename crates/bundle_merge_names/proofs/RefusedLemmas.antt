@@ -1,9 +1,9 @@
 -- Where no context is left, the modules of a bundle have too many bindings.
-use Rattle.std.proofs.Common.{◌≡◌, ◌≤◌, ◌<◌, ◌+◌, ◌⊎◌, inl, inr, ℕ, zero, suc, Bool, true, false, List, [], ◌∷◌, Option, Some, None, length, map, option_map, refl, ap, sym, subst, ◌∙◌, arith}
+use Rattle.std.proofs.Common.{◌≡◌, ◌≤◌, ◌<◌, ◌+◌, ℕ, zero, suc, Bool, true, false, List, [], ◌∷◌, Option, Some, None, length, map, option_map, refl, ap, sym, subst, ◌∙◌, arith}
 use Rattle.std.specs.Prelude.{slice_get}
 use Rattle.std.specs.List.{AllZip}
 use Rattle.std.proofs.lemmas.Bool.{false≢true}
-use Rattle.std.proofs.lemmas.Option.{none-some, same_Some, slice_get_within}
+use Rattle.std.proofs.lemmas.Option.{none-some, same_Some}
 use Rattle.bundle_tree_piece.specs.Item.{Item, item_of}
 use Rattle.bundle_rules.specs.Bundle.{properties_tree}
 use Rattle.bundle_rules.specs.Cleared.{cleared}
@@ -29,7 +29,6 @@ use Rattle.bundle_scope_denote.proofs.OutwardLemmas.{entry-at, same-number}
 use Rattle.bundle_scope_names.proofs.Counting.{Key, key_of, all_keys, all-length, counted}
 use Rattle.bundle_scope_names.proofs.Pigeons.{pigeons}
 use Rattle.bundle_link_index.specs.Leads.{flagged}
-use Rattle.bundle_link_targets.specs.Linked.{IsLinkingOf}
 use Rattle.bundle_merge_names.specs.declared.error.MergeError.{MergeError}
 use Rattle.bundle_merge_names.specs.declared.error.MergeError.TheVariants.{ContextsUsedUp}
 use Rattle.bundle_merge_names.specs.declared.part.Answered.{Answered}
@@ -38,8 +37,7 @@ use Rattle.bundle_merge_names.specs.declared.part.Part.{Part}
 use Rattle.bundle_merge_whole.specs.planned.Counted.{sum_of}
 use Rattle.bundle_merge_whole.specs.planned.Decided.{numbers_from}
 use Rattle.bundle_merge_names.specs.Bundle.{AreAnswers, AreBundleParts, IsAnswerOf, answered_items}
-use Rattle.bundle_merge_whole.specs.made.Given.{InsideOf, AnsweredOf}
-use Rattle.bundle_merge_whole.specs.made.Alone.{IsHolder, answered_of, inside_of}
+use Rattle.bundle_merge_whole.specs.made.Alone.{answered_of, inside_of}
 use Rattle.bundle_merge_names.specs.Inside as n
 use Rattle.bundle_merge_names.specs.Inside.{AreTakenAt, AreTakenBy, AreTakenUpTo, RefusesScopes, answer_of, table_at}
 use Rattle.bundle_merge_names.specs.Numbers.{is_at_top, position, scope_of}

@@ -1,6 +1,6 @@
 -- Contexts are given to the scopes of a list, one by one.
-use Rattle.std.proofs.Common.{◌≡◌, ◌≤◌, ◌<◌, ◌+◌, ◌⊎◌, inl, inr, ℕ, zero, suc, Bool, true, false, List, [], ◌∷◌, ◌++◌, Option, Some, None, length, take, refl, ap, sym, subst, ◌∙◌, arith}
-use Rattle.std.specs.Prelude.{Err, IfErr, Ok, Result, option_map, option_and_then, replicate, slice_get, unwrap_or}
+use Rattle.std.proofs.Common.{◌≡◌, ◌≤◌, ◌<◌, ◌+◌, ◌⊎◌, inl, inr, ℕ, zero, suc, Bool, true, false, List, [], ◌∷◌, ◌++◌, Option, Some, length, take, refl, ap, sym, subst, ◌∙◌, arith}
+use Rattle.std.specs.Prelude.{Err, IfErr, Ok, Result, replicate, slice_get, unwrap_or}
 use Rattle.std.specs.Result.{IsErrAnd}
 use Rattle.std.proofs.lemmas.Bool.{false≢true}
 use Rattle.std.proofs.lemmas.Option.{none-some, same_Some, slice_get_within}
@@ -11,7 +11,7 @@ use Rattle.bundle_scope_denote.specs.declared.table.Scope.{Scope}
 use Rattle.bundle_scope_denote.proofs.LoopLemmas.{take-whole}
 use Rattle.bundle_merge_names.specs.declared.error.MergeError.{MergeError}
 use Rattle.bundle_merge_names.specs.declared.names.Names.{Names}
-use Rattle.bundle_merge_names.specs.Numbers.{AreGivenTo, is_at_top, position}
+use Rattle.bundle_merge_names.specs.Numbers.{is_at_top, position}
 use Rattle.bundle_merge_names.specs.Ranges.{AreTaken, GivesContexts, HasContexts, NeedsContext, RefusesContexts, for_contexts}
 use Rattle.bundle_merge_names.specs.Scoped.{AreMarkedTaken, AreMarks, AreScoped, Binds, Falls, GivesScope, IsMarked, KeepsNames, RefusesScope, scope_number, flag_in, context_for, next_after}
 use Rattle.bundle_merge_names.proofs.Walking.{take-next}

@@ -1,5 +1,5 @@
 -- Each module that is gone over gets its contexts.
-use Rattle.std.proofs.Common.{◌≡◌, ◌+◌, Some, ap, sym, get_or, length, refl, ◌∙◌, arith, subst}
+use Rattle.std.proofs.Common.{◌≡◌, ◌+◌, Some, ap, sym, length, refl, ◌∙◌, arith, subst}
 use Rattle.std.proofs.lemmas.Option.{slice_get-get_or}
 use Rattle.bundle_merge_names.specs.Inside.{AreScopesNamed}
 use Rattle.bundle_merge_names.proofs.ModuleLemmas.{modules-first, modules-next, modules-refused}
