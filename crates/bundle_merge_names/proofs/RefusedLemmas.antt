@@ -19,7 +19,6 @@ use Rattle.bundle_rules.specs.Tables.{TellsCommonJs}
 use Rattle.bundle_rules.proofs.CountLemmas.{binding_count-cleared}
 use Rattle.bundle_rules.proofs.DenotesLemmas.{denotations-cleared}
 use Rattle.bundle_scope_denote.specs.declared.table.Binding.{Binding}
-use Rattle.bundle_scope_denote.specs.declared.table.Denoted.{Denoted}
 use Rattle.bundle_scope_denote.specs.declared.table.Denotations.{Denotations}
 use Rattle.bundle_scope_denote.specs.declared.table.Scope.{Scope}
 use Rattle.bundle_scope_denote.specs.Chains.{IsOnce}
