@@ -1,7 +1,6 @@
 -- Names are added one by one.
-use Rattle.std.proofs.Common.{◌≡◌, ◌≤◌, ◌⊎◌, inl, inr, ℕ, List, Option, Some, None, refl, ap, sym, subst, ◌∙◌, arith}
+use Rattle.std.proofs.Common.{◌≡◌, ◌⊎◌, inl, inr, ℕ, List, refl, ap, sym, ◌∙◌, arith}
 use Rattle.std.specs.Prelude.{Result, Ok, Err, OnOk}
-use Rattle.bundle_rules.specs.Idents.{Ident}
 use Rattle.bundle_rules.specs.Nodes.{Text}
 use Rattle.bundle_rules.specs.Program.{Program}
 use Rattle.bundle_merge_names.specs.declared.names.Label.{Label}
@@ -9,9 +8,8 @@ use Rattle.bundle_merge_names.specs.declared.names.Names.{Names}
 use Rattle.bundle_merge_names.specs.Added.{AddsNames}
 use Rattle.bundle_merge_names.specs.Bundle.{holder_symbol}
 use Rattle.bundle_merge_whole.specs.made.Given.{Holder}
-use Rattle.bundle_merge_names.specs.Held.{AreHeld, GivesName}
-use Rattle.bundle_merge_names.specs.Named.{held, holder_of}
-use Rattle.bundle_merge_names.specs.Numbers.{position}
+use Rattle.bundle_merge_names.specs.Held.{GivesName}
+use Rattle.bundle_merge_names.specs.Named.{holder_of}
 use Rattle.bundle_merge_names.proofs.LabelLemmas.{same-held}
 
 -- what holds where all went well

@@ -1,5 +1,5 @@
 -- What is meant in a bundle has a context, and literal calls lead to load functions that have one.
-use Rattle.std.proofs.Common.{◌≡◌, ◌⊎◌, inl, inr, ℕ, List, Option, Some, refl, sym, subst}
+use Rattle.std.proofs.Common.{◌≡◌, inl, inr, ℕ, List, Option, Some, refl, subst}
 use Rattle.std.specs.Prelude.{Contains}
 use Rattle.bundle_tree_piece.specs.Item.{Item}
 use Rattle.bundle_rules.specs.Bundle.{Cause}

@@ -1,5 +1,5 @@
 -- Labels are equal exactly where they stand for the same, and what is held for them changes so where one is given a name.
-use Rattle.std.proofs.Common.{◌≡◌, ◌≤◌, ◌<◌, ◌⊎◌, inl, inr, ℕ, suc, Bool, true, false, cond, List, [], ◌∷◌, Option, Some, None, option_map, refl, ap, ap₂, sym, subst, ◌∙◌, arith}
+use Rattle.std.proofs.Common.{◌≡◌, ◌≤◌, ◌<◌, ◌⊎◌, inl, inr, ℕ, suc, Bool, true, false, cond, List, [], ◌∷◌, Option, Some, None, option_map, refl, ap, ap₂, sym, ◌∙◌, arith}
 use Rattle.std.specs.Prelude.{is_some}
 use Rattle.std.specs.Bool.{Decides}
 use Rattle.std.specs.HashMap.{HashMap, UpdatesBy, get_by}
@@ -8,7 +8,6 @@ use Rattle.std.proofs.lemmas.Bool.{false≢true}
 use Rattle.std.proofs.lemmas.Bool.Decides.{Decides-eqb, Decides-like}
 use Rattle.std.proofs.lemmas.Option.{none-some, same_Some}
 use Rattle.bundle_rules.specs.Idents.{Ident}
-use Rattle.bundle_rules.specs.Linking as l
 use Rattle.bundle_rules.specs.Meaning as m
 use Rattle.bundle_rules.specs.Nodes.{Text}
 use Rattle.bundle_tree_places.specs.Marks.{ident_of}
@@ -19,7 +18,7 @@ use Rattle.bundle_merge_names.specs.contracts.names.LabelPartialEq.TheImpl as la
 use Rattle.bundle_merge_names.specs.declared.names.Label.{Label}
 use Rattle.bundle_merge_names.specs.declared.names.Label.TheVariants as n
 use Rattle.bundle_merge_names.specs.declared.names.Names.{Names}
-use Rattle.bundle_merge_whole.specs.made.Given.{Holder, NameOf, HelperParameter, HelperVariable}
+use Rattle.bundle_merge_whole.specs.made.Given.{NameOf}
 use Rattle.bundle_merge_names.specs.Held.{AreHeld, GivesName}
 use Rattle.bundle_merge_names.specs.Named.{held, holder_of}
 use Rattle.bundle_merge_names.specs.Numbers.{position}

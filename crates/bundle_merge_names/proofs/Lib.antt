@@ -4,6 +4,10 @@ pub mod Keeping
 pub mod Walking
 pub mod LabelLemmas
 pub mod ScopeLemmas
+pub mod InsideLemmas
+pub mod ModuleLemmas
+pub mod NamesLemmas
+pub mod RefusedLemmas
 pub mod AddLemmas
 pub mod TakenLemmas
 pub mod SomeLemmas

@@ -1,7 +1,7 @@
 -- The names of a bundle give each label that is due its identifier.
 use Rattle.std.proofs.Common.{◌≡◌, ℕ, List, Option, refl}
 use Rattle.bundle_tree_piece.specs.Item.{Item}
-use Rattle.bundle_rules.specs.Bundle.{AsModule, Defines, Helps, HoldsMeta, helps, defines, holds_meta}
+use Rattle.bundle_rules.specs.Bundle.{Defines, Helps, HoldsMeta, helps, defines, holds_meta}
 use Rattle.bundle_rules.specs.Program.{Program}
 use Rattle.bundle_link_index.specs.Says.{target_of}
 use Rattle.bundle_merge_whole.specs.made.Alone.{AreSound}

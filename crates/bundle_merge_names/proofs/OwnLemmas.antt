@@ -1,5 +1,5 @@
 -- The names of a list, by its table, are steps to what they denote.
-use Rattle.std.proofs.Common.{◌≡◌, ◌<◌, ℕ, zero, suc, List, [], ◌∷◌, Option, Some, None, length, map, refl, ap, sym, ◌∙◌, arith}
+use Rattle.std.proofs.Common.{◌≡◌, ℕ, suc, List, [], ◌∷◌, Option, Some, length, map, refl, ap, sym, ◌∙◌, arith}
 use Rattle.std.specs.Prelude.{option_map, slice_get}
 use Rattle.std.specs.List.{AllZip}
 use Rattle.std.proofs.lemmas.Option.{slice_get-map}
@@ -12,7 +12,7 @@ use Rattle.bundle_scope_denote.specs.declared.table.Denoted.{Denoted}
 use Rattle.bundle_scope_denote.specs.declared.table.Denotations.{Denotations}
 use Rattle.bundle_scope_denote.specs.Listed.{IsTable}
 use Rattle.bundle_scope_names.proofs.GivenLemmas.{denotation-at}
-use Rattle.bundle_scope_names.proofs.Numbering.{Numbering, context_of}
+use Rattle.bundle_scope_names.proofs.Numbering.{Numbering}
 use Rattle.bundle_tree_rebuild.specs.declared.rewrite.Rewrite.{Rewrite}
 use Rattle.bundle_tree_rebuild.specs.declared.rewrite.Whole.TheVariants as w
 use Rattle.bundle_tree_rebuild.specs.Work.{rewrite_step}

@@ -1,18 +1,15 @@
 -- A module of a bundle is read as a module of the program whose bundle it is.
-use Rattle.std.proofs.Common.{◌≡◌, ◌<◌, ℕ, Bool, true, List, [], Option, Some, unwrap_or, length, refl, ap, sym, subst, ◌∙◌}
-use Rattle.std.specs.Prelude.{Contains, IsTrue, slice_get}
+use Rattle.std.proofs.Common.{◌≡◌, ℕ, Bool, true, List, [], Option, Some, unwrap_or, refl, ap, sym, subst, ◌∙◌}
+use Rattle.std.specs.Prelude.{IsTrue, slice_get}
 use Rattle.std.proofs.lemmas.Option.{slice_get_within}
 use Rattle.bundle_tree_piece.specs.Item.{Item}
-use Rattle.bundle_rules.specs.Bundle.{Cause, Defines, HoldsMeta, AsModule, defines, holds_meta}
-use Rattle.bundle_rules.specs.Entries as e
+use Rattle.bundle_rules.specs.Bundle.{Defines, HoldsMeta, defines, holds_meta}
 use Rattle.bundle_rules.specs.Entries.{has_import_meta}
 use Rattle.bundle_rules.specs.Idents.{Ident}
 use Rattle.bundle_rules.specs.Linking as l
 use Rattle.bundle_rules.specs.Linking.{IsCommonJs}
-use Rattle.bundle_rules.specs.Meaning as m
 use Rattle.bundle_rules.specs.Meaning.{HasKind, IsMeant, Of}
-use Rattle.bundle_rules.specs.Nodes.{Text}
-use Rattle.bundle_rules.specs.Program.{Program, tree_of, calls_of, resolves, IsReached}
+use Rattle.bundle_rules.specs.Program.{Program, tree_of, IsReached}
 use Rattle.bundle_rules.specs.Scopes.{ModuleKind}
 use Rattle.bundle_link_index.specs.Says.{target_of}
 use Rattle.bundle_link_index.specs.declared.target.Target.{Target}
@@ -24,10 +21,10 @@ use Rattle.bundle_merge_names.specs.declared.part.BundleParts.{BundleParts}
 use Rattle.bundle_merge_names.specs.declared.part.Part.{Part}
 use Rattle.bundle_merge_names.specs.Body.{IsReadAs}
 use Rattle.bundle_merge_names.specs.Bundle.{AreBundleParts, AreNamesOf, IsPartOf, holder_symbol}
-use Rattle.bundle_merge_whole.specs.made.Given.{Contexts, Holder, TopOf, NameOf, ident_of_label}
+use Rattle.bundle_merge_whole.specs.made.Given.{Contexts, NameOf, ident_of_label}
 use Rattle.bundle_merge_whole.specs.made.Alone.{IsHolder, added, defines as defines_label, holds_meta as holds_label}
-use Rattle.bundle_merge_names.specs.Idents.{label_ident, target_ident, ident_by}
-use Rattle.bundle_merge_names.specs.Named.{held, holder_of}
+use Rattle.bundle_merge_names.specs.Idents.{label_ident, ident_by}
+use Rattle.bundle_merge_names.specs.Named.{holder_of}
 use Rattle.bundle_merge_names.proofs.Holding.{AreHolders, are-holders}
 
 is-true : (b : Bool) → b ≡ true → IsTrue b

@@ -1,5 +1,5 @@
 -- The places of occurrences rise, and so do those of what stands at some of them.
-use Rattle.std.proofs.Common.{◌≡◌, inl, inr, ◌⊎◌, ◌≤◌, ◌<◌, ◌+◌, ℕ, zero, suc, Bool, true, false, not, cond, List, [], ◌∷◌, ◌++◌, Option, Some, None, refl, ap, sym, ◌∙◌, subst, if◌then◌else◌, arith}
+use Rattle.std.proofs.Common.{◌≡◌, inl, inr, ◌≤◌, ◌<◌, ◌+◌, ℕ, zero, suc, Bool, true, false, not, cond, List, [], ◌∷◌, ◌++◌, Option, Some, None, refl, subst, if◌then◌else◌, arith}
 use Rattle.std.specs.Prelude.{Contains, filter, option_map, slice_get}
 use Rattle.std.proofs.lemmas.Bool.{false≢true}
 use Rattle.std.proofs.lemmas.List.Elements.{Contains-append_cases}
@@ -12,7 +12,7 @@ use Rattle.bundle_rules.specs.Denotes.{denoted_of}
 use Rattle.bundle_rules.specs.Declarations.{BySymbol, declared}
 use Rattle.bundle_rules.specs.Entries.{RequireCall, call_at, require_calls_from, require_calls, required_at}
 use Rattle.bundle_rules.specs.Nodes.{Text, has_text}
-use Rattle.bundle_rules.specs.Places.{Spot, past, start, Occurrence, occurrence_at, occurrences_from, occurrences}
+use Rattle.bundle_rules.specs.Places.{Spot, past, Occurrence, occurrence_at, occurrences_from}
 use Rattle.bundle_rules.specs.Program.{Program, tree_of, calls_of}
 use Rattle.bundle_rules.specs.Scopes.{Es}
 use Rattle.bundle_link_targets.proofs.ListLemmas.{none-there, only-one, filter-back}

@@ -1,6 +1,6 @@
 -- What is taken of externals and CommonJS modules gets names, one by one.
 use Rattle.std.proofs.Common.{◌≡◌, ◌⊎◌, inl, inr, ℕ, suc, Bool, true, false, List, [], ◌∷◌, ◌++◌, Some, map, take, length, refl, ap, sym, subst, ◌∙◌}
-use Rattle.std.specs.Prelude.{Contains, slice_get}
+use Rattle.std.specs.Prelude.{slice_get}
 use Rattle.std.specs.Borrow.{Bor}
 use Rattle.std.proofs.lemmas.Bool.{false≢true}
 use Rattle.std.proofs.lemmas.Option.{none-some}
@@ -15,7 +15,7 @@ use Rattle.bundle_merge_names.specs.declared.names.Names.{Names}
 use Rattle.bundle_merge_names.specs.Added.{AddsNames, IsNamedOf, IsTakenOf, IsWholeOf, by_name, by_whole, with_taken}
 use Rattle.bundle_merge_whole.specs.made.Given.{Holder, NameOf}
 use Rattle.bundle_merge_names.proofs.AddLemmas.{adds-on, adds-none}
-use Rattle.bundle_merge_names.proofs.ScopeLemmas.{push-cases, push-old, push-last, take-long}
+use Rattle.bundle_merge_names.proofs.ScopeLemmas.{push-cases, push-old, push-last}
 use Rattle.bundle_merge_names.proofs.Walking.{take-next}
 
 -- what is taken otherwise can be taken too

@@ -1,5 +1,5 @@
 -- The names of a module are gone over in turn, with its uses and its calls.
-use Rattle.std.proofs.Common.{◌≡◌, inl, inr, ◌⊎◌, ◌≤◌, ◌<◌, ◌+◌, ℕ, zero, suc, ◌==◌, Bool, true, false, List, [], ◌∷◌, ◌++◌, Option, Some, None, length, map, take, refl, ap, sym, ◌∙◌, subst, arith, eqb-true, eq-eqb, if◌then◌else◌}
+use Rattle.std.proofs.Common.{◌≡◌, ◌≤◌, ℕ, zero, suc, ◌==◌, Bool, true, false, List, [], ◌∷◌, ◌++◌, Option, Some, None, length, map, take, refl, ap, sym, ◌∙◌, subst, arith, eqb-true, eq-eqb, if◌then◌else◌}
 use Rattle.std.specs.Prelude.{Contains, filter, option_map, slice_get}
 use Rattle.std.specs.List.{AllZip}
 use Rattle.std.proofs.lemmas.Bool.{false≢true}
@@ -7,18 +7,16 @@ use Rattle.std.proofs.lemmas.Option.{none-some, same_Some, slice_get-map}
 use Rattle.std.proofs.lemmas.Slice.Zip.{all_zipped_more}
 use Rattle.indexmap.specs.IndexMap.{get_by_text}
 use Rattle.bundle_tree_piece.specs.Item.{Item, item_of}
-use Rattle.bundle_rules.specs.Cleared.{cleared}
 use Rattle.bundle_rules.specs.Entries as e
 use Rattle.bundle_rules.specs.Idents.{Ident}
-use Rattle.bundle_rules.specs.Nodes.{Text}
 use Rattle.bundle_rules.specs.Places.{start, Occurrence, occurrence_at, occurrences}
 use Rattle.bundle_rules.specs.Scopes.{ModuleKind}
 use Rattle.bundle_rules.specs.Declarations.{BySymbol, declared}
 use Rattle.bundle_rules.specs.Denotes as d
 use Rattle.bundle_rules.specs.Denotes.{denotations, denoted_of}
 use Rattle.bundle_rules.specs.Linking as l
-use Rattle.bundle_rules.specs.Meaning.{Of, Load, IsMeant}
-use Rattle.bundle_rules.specs.Program.{Program, tree_of, calls_of, resolves}
+use Rattle.bundle_rules.specs.Meaning.{Of, IsMeant}
+use Rattle.bundle_rules.specs.Program.{Program, tree_of, calls_of}
 use Rattle.bundle_rules.proofs.DenotesLemmas.{denotations-cleared}
 use Rattle.bundle_rules.proofs.PathLemmas.{cleared_occurrence, occurrences-cleared}
 use Rattle.bundle_rules.proofs.PlacesLemmas.{occurrences-at, occurrence_at-listed}
@@ -47,7 +45,7 @@ use Rattle.bundle_merge_names.specs.declared.names.Names.{Names}
 use Rattle.bundle_merge_names.specs.declared.part.Part.{Part}
 use Rattle.bundle_merge_names.specs.Body as b
 use Rattle.bundle_merge_names.specs.Body.{IsReadAs, IsRewritten, MeansNothing, IsFound, AreSteps, called_by, is_use_at, is_call_at, past_by}
-use Rattle.bundle_merge_whole.specs.made.Given.{Contexts, ident_of_label, numbers_in}
+use Rattle.bundle_merge_whole.specs.made.Given.{Contexts, numbers_in}
 use Rattle.bundle_merge_names.specs.Named.{scopes_in}
 use Rattle.bundle_merge_names.specs.Own.{told, own_told, binding_in, context_by}
 use Rattle.bundle_merge_whole.specs.made.Steps as t

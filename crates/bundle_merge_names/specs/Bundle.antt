@@ -1,5 +1,5 @@
 -- When what a bundle is made of is that of a program, and its names are right.
-use Rattle.std.specs.Prelude.{◌≡◌, ℕ, zero, suc, ◌<◌, ◌↔◌, List, [], ◌∷◌, Option, Some, None, Contains, length, map, slice_get, unwrap_or, codes}
+use Rattle.std.specs.Prelude.{◌≡◌, ℕ, zero, suc, ◌<◌, ◌↔◌, List, [], Option, Some, None, Contains, length, map, slice_get, unwrap_or, codes}
 use Rattle.std.specs.List.{flat_map}
 use Rattle.indexmap.specs.IndexMap.{get_by_text}
 use Rattle.bundle_order_sort.specs.declared.plan.Block.{Block}
@@ -10,7 +10,6 @@ use Rattle.bundle_rules.specs.Bundle.{properties_tree}
 use Rattle.bundle_rules.specs.Cleared.{cleared}
 use Rattle.bundle_rules.specs.Declarations.{BySymbol}
 use Rattle.bundle_rules.specs.Entries.{has_import_meta}
-use Rattle.bundle_rules.specs.Idents.{Ident}
 use Rattle.bundle_rules.specs.Meaning.{HasKind}
 use Rattle.bundle_rules.specs.Nodes.{Text}
 use Rattle.bundle_rules.specs.Program.{Program, tree_of, IsReached}

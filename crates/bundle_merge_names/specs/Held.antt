@@ -1,5 +1,5 @@
 -- What is held for labels, where each has a context of its own.
-use Rattle.std.specs.Prelude.{◌≡◌, ◌≤◌, ◌<◌, ◌⊎◌, ℕ, Option, Some}
+use Rattle.std.specs.Prelude.{◌≡◌, ◌≤◌, ◌<◌, ◌⊎◌, ℕ, Some}
 use Rattle.bundle_rules.specs.Idents.{Ident}
 use Rattle.bundle_rules.specs.Nodes.{Text}
 use Rattle.bundle_merge_names.specs.declared.names.Label.{Label}

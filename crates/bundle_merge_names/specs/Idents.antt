@@ -1,5 +1,5 @@
 -- The identifiers that the names of a bundle give.
-use Rattle.std.specs.Prelude.{ℕ, [], Option, unwrap_or}
+use Rattle.std.specs.Prelude.{[], unwrap_or}
 use Rattle.bundle_rules.specs.Idents.{Ident}
 use Rattle.bundle_rules.specs.Linking as l
 use Rattle.bundle_link_index.specs.Says.{target_of}

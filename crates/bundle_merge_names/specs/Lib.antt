@@ -5,7 +5,9 @@ pub mod Numbers
 pub mod Named
 pub mod Scoped
 pub mod Ranges
+pub mod Inside
 pub mod Bundle
+pub mod Refused
 pub mod Added
 pub mod Held
 pub mod Naming

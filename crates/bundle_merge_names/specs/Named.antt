@@ -1,8 +1,6 @@
 -- What the names of a bundle hold.
-use Rattle.std.specs.Prelude.{◌≡◌, ℕ, ◌<◌, ◌≤◌, List, [], Option, Some, None, option_map, slice_get, unwrap_or}
+use Rattle.std.specs.Prelude.{ℕ, List, Option, option_map, slice_get}
 use Rattle.indexmap.specs.IndexMap.{get_by}
-use Rattle.std.specs.declared.vec.Vec.{Vec}
-use Rattle.std.specs.Global.{Global}
 use Rattle.bundle_rules.specs.Idents.{Ident}
 use Rattle.bundle_rules.specs.Meaning as m
 use Rattle.bundle_tree_places.specs.Marks.{ident_of}

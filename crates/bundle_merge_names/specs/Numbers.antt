@@ -1,5 +1,5 @@
 -- The contexts that the scopes of a list have, by their numbers in its table.
-use Rattle.std.specs.Prelude.{◌≡◌, ℕ, ◌<◌, ◌≤◌, Bool, true, false, List, Option, Some, None, map, slice_get, unwrap_or}
+use Rattle.std.specs.Prelude.{◌≡◌, ℕ, ◌<◌, ◌≤◌, Bool, true, false, List, Option, Some, map, slice_get, unwrap_or}
 use Rattle.bundle_tree_piece.specs.Item.{Item}
 use Rattle.bundle_rules.specs.Scopes.{ModuleKind, Scope, scope_order}
 use Rattle.bundle_rules.specs.Declarations.{BySymbol}

@@ -1,7 +1,7 @@
 //! The names of a bundle, given in one pass: a context for each scope of a module or of what the hook answered for it
 //! that binds something, and an identifier for each label. This alone may be refused for contexts.
 
-ghost use Rattle.std.specs.Prelude.{◌≡◌, ◌<◌, ℕ, true, IfOk, OnOk, List, Option, Some, None, length, map, slice_get, unwrap_or};
+ghost use Rattle.std.specs.Prelude.{◌≡◌, ◌<◌, ◌⊎◌, ℕ, true, IfErr, IfOk, OnOk, List, Option, Some, None, length, map, slice_get, unwrap_or};
 ghost use Rattle.bundle_tree_piece.specs.Item.{Item};
 ghost use Rattle.bundle_rules.specs.Entries as entries;
 ghost use Rattle.bundle_rules.specs.Entries.{has_import_meta};
@@ -18,9 +18,11 @@ ghost use Rattle.bundle_merge_names.specs.Added.{AddsNames, IsNamedOf, IsOfExter
 ghost use Rattle.bundle_merge_names.specs.Bundle.{AreBundleParts, AreNamesOf, IsPartOf};
 ghost use Rattle.bundle_merge_whole.specs.made.Given.{Contexts, NameOf};
 ghost use Rattle.bundle_merge_whole.specs.made.Alone.{IsHolder};
+ghost use Rattle.bundle_merge_names.specs.Inside.{AreScopesNamed, GivesModule, HoldsNothing, RefusesModule, answer_of};
 ghost use Rattle.bundle_merge_names.specs.Numbers as numbers;
-ghost use Rattle.bundle_merge_names.specs.Ranges.{GivesAnswered, GivesContexts};
-ghost use Rattle.bundle_merge_names.specs.Scoped.{AreMarks, GivesScope, flag_in, scope_number};
+ghost use Rattle.bundle_merge_names.specs.Ranges.{GivesAnswered, GivesContexts, RefusesAnswered, RefusesContexts};
+ghost use Rattle.bundle_merge_names.specs.Refused.{RefusesContextsIn};
+ghost use Rattle.bundle_merge_names.specs.Scoped.{AreMarks, GivesScope, RefusesScope, flag_in, scope_number};
 
 use crate::error::MergeError;
 use crate::names::{Label, Names};
@@ -51,11 +53,35 @@ fn give_names<'a>(
     alloc: Global,
     names: &mut Names<'a>,
     bundle: &BundleParts<'_, 'a, '_>,
-) -> Result<(), MergeError> {
+) -> Result<(), MergeError>
+    ensures { OnOk result (HoldsNothing bundle.now names.old →
+        (p : Program) (list : List ℕ) (answers : ℕ → Option (List Item)) →
+        AreBundleParts p list answers bundle.now →
+        (context : Contexts) × AreNamesOf p list answers context bundle.now names.new) }
+{
+    give_contexts(alloc, names, bundle)?;
+    give_labels(names, bundle)
+}
+
+// Gives contexts to the scopes of the modules and of what the hook answered for them, module by module.
+fn give_contexts<'a>(
+    alloc: Global,
+    names: &mut Names<'a>,
+    bundle: &BundleParts<'_, 'a, '_>,
+) -> Result<(), MergeError>
+    ensures scopes { OnOk result (HoldsNothing bundle.now names.old →
+        AreScopesNamed bundle.now names.new (length bundle.now.parts.now)) }
+    ensures labels { OnOk result (names.new.labels ≡ names.old.labels) }
+    ensures refused { IfErr result (λ refusal.
+        HoldsNothing bundle.now names.old →
+        (p : Program) (list : List ℕ) (answers : ℕ → Option (List Item)) →
+        AreBundleParts p list answers bundle.now →
+        RefusesContextsIn p list answers (numbers.position bundle.now.contexts) refusal) }
+{
     for (module, part) in bundle.parts.iter().enumerate() {
         give_scopes(alloc, names, bundle, module, part)?;
     }
-    give_labels(names, bundle)
+    Ok(())
 }
 
 // Gives contexts to the scopes of a module and of what the hook answered for it.
@@ -65,7 +91,14 @@ fn give_scopes<'a>(
     bundle: &BundleParts<'_, 'a, '_>,
     module: usize,
     part: &Part<'_, 'a>,
-) -> Result<(), MergeError> {
+) -> Result<(), MergeError>
+    ensures given { OnOk result
+        (GivesModule part.now.denotations.now (answer_of bundle.now «module») part.now.local
+        names.old names.new) }
+    ensures refused { IfErr result (λ refusal.
+        RefusesModule part.now.denotations.now (answer_of bundle.now «module»)
+        (numbers.position names.old.contexts) «module» refusal) }
+{
     let scopes = scope_contexts(alloc, names, module, part.denotations, part.local)?;
     let answered = answer_contexts(alloc, names, bundle, module, part.local)?;
     names.add_module(part.local, scopes, answered)?;
@@ -80,9 +113,12 @@ fn answer_contexts<'a>(
     module: usize,
     local: u32,
 ) -> Result<Vec<Option<u32>>, MergeError>
-    ensures { IfOk result (λ contexts.
-        GivesAnswered (unwrap_or (slice_get bundle.now.answers.now «module») None) local
+    ensures given { IfOk result (λ contexts.
+        GivesAnswered (answer_of bundle.now «module») local
         names.old names.new contexts.items) }
+    ensures refused { IfErr result (λ refusal.
+        RefusesAnswered (answer_of bundle.now «module») (numbers.position names.old.contexts)
+        «module» refusal) }
 {
     match bundle.answer(module) {
         Some(answer) => scope_contexts(alloc, names, module, answer.denotations, local),
@@ -99,8 +135,10 @@ fn scope_contexts(
     denotations: &Denotations<'_>,
     local: u32,
 ) -> Result<Vec<Option<u32>>, MergeError>
-    ensures { IfOk result (λ contexts.
+    ensures given { IfOk result (λ contexts.
         GivesContexts denotations.now local names.old names.new contexts.items) }
+    ensures refused { IfErr result (λ refusal.
+        RefusesContexts denotations.now (numbers.position names.old.contexts) «module» refusal) }
 {
     let marks = marks_of(alloc, denotations)?;
     let mut contexts = Vec::new(alloc);
@@ -140,6 +178,9 @@ fn mark(marks: &mut Vec<bool>, scope: Option<usize>)
         scope ≡ Some n → n < length marks.old.items → slice_get marks.new.items n ≡ Some true }
     ensures kept { (n : ℕ) →
         slice_get marks.old.items n ≡ Some true → slice_get marks.new.items n ≡ Some true }
+    ensures only { (n : ℕ) →
+        slice_get marks.new.items n ≡ Some true →
+        (slice_get marks.old.items n ≡ Some true) ⊎ (scope ≡ Some n) }
 {
     if let Some(scope) = scope {
         mark_at(marks, scope);
@@ -152,6 +193,9 @@ fn mark_at(marks: &mut Vec<bool>, scope: usize)
     ensures there { scope < length marks.old.items → slice_get marks.new.items scope ≡ Some true }
     ensures kept { (n : ℕ) →
         slice_get marks.old.items n ≡ Some true → slice_get marks.new.items n ≡ Some true }
+    ensures only { (n : ℕ) →
+        slice_get marks.new.items n ≡ Some true →
+        (slice_get marks.old.items n ≡ Some true) ⊎ (scope ≡ n) }
 {
     if let Some(place) = marks.get_mut(scope) {
         *place = true;
@@ -173,8 +217,10 @@ fn context_of(
     binds: bool,
     local: u32,
 ) -> Result<Option<u32>, MergeError>
-    ensures { IfOk result (λ context.
+    ensures given { IfOk result (λ context.
         GivesScope (numbers.is_at_top scope.kind) binds local names.old names.new context) }
+    ensures refused { IfErr result (λ refusal.
+        RefusesScope (numbers.is_at_top scope.kind) binds «module» names.old refusal) }
 {
     if is_at_top(scope) {
         return Ok(Some(local));

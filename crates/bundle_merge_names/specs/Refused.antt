@@ -1,0 +1,45 @@
+-- Why the modules of a bundle get no contexts.
+use Rattle.std.specs.Prelude.{ℕ, ◌+◌, ◌<◌, ◌≤◌, List, Option, Some, None}
+use Rattle.bundle_tree_piece.specs.Item.{Item}
+use Rattle.bundle_rules.specs.Bundle.{properties_tree}
+use Rattle.bundle_rules.specs.Counts.{binding_count}
+use Rattle.bundle_rules.specs.Meaning.{HasKind}
+use Rattle.bundle_rules.specs.Program.{Program, tree_of, IsReached}
+use Rattle.bundle_rules.specs.Scopes.{ModuleKind, Es}
+use Rattle.bundle_merge_whole.specs.planned.Counted.{sum_of}
+use Rattle.bundle_merge_names.specs.declared.error.MergeError.{MergeError}
+use Rattle.bundle_merge_names.specs.declared.error.MergeError.TheVariants.{ContextsUsedUp, OutOfMemory}
+use Rattle.bundle_merge_whole.specs.made.Given.{InsideOf, AnsweredOf}
+use Rattle.bundle_merge_whole.specs.made.Alone.{IsHolder}
+
+-- the bindings of what the hook answered
+abbrev pub answered_count : Option (List Item) → ℕ
+answered_count None = 0
+answered_count (Some properties) = binding_count Es (properties_tree properties)
+
+-- a module of a program, with what the hook answered for it, has at most so many bindings
+pub record HasAtMost (p : Program) (answers : ℕ → Option (List Item)) (m most : ℕ) : Type 0 where
+  pub kind : ModuleKind
+  pub has_kind : HasKind p m kind
+  pub few : binding_count kind (tree_of p m) + answered_count (answers m) ≤ most
+
+-- from the next one on there are fewer contexts than the modules of a list have bindings
+pub record LacksContexts (p : Program) (list : List ℕ) (answers : ℕ → Option (List Item))
+    (next : ℕ) : Type 0 where
+  pub above : (most : ℕ → ℕ) →
+      ((m : ℕ) → IsReached p m → HasAtMost p answers m (most m)) →
+      4294967295 < next + sum_of most list
+
+-- contexts are refused to the modules of a bundle: for memory, or since none is left for a scope
+-- inside a module or inside what the hook answered for it
+pub data RefusesContextsIn (p : Program) (list : List ℕ) (answers : ℕ → Option (List Item))
+    (next : ℕ) : MergeError → Type 0 where
+  for_memory : RefusesContextsIn p list answers next OutOfMemory
+  for_module : (m begins : ℕ) →
+      IsHolder p answers (InsideOf m begins) →
+      LacksContexts p list answers next →
+      RefusesContextsIn p list answers next (ContextsUsedUp (Some m))
+  for_answer : (m begins : ℕ) →
+      IsHolder p answers (AnsweredOf m begins) →
+      LacksContexts p list answers next →
+      RefusesContextsIn p list answers next (ContextsUsedUp (Some m))
