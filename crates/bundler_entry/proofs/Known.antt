@@ -1,6 +1,6 @@
 -- What is known of the program of an entry that is linked, of the same program by the places of its
 -- modules, and what is linked and planned of that.
-use Rattle.std.proofs.Common.{◌≡◌, ℕ, Bool, zero, List, Option, Some, length, map, refl, sym, ap, ◌∙◌}
+use Rattle.std.proofs.Common.{◌≡◌, ℕ, ◌<◌, Bool, zero, List, Option, Some, length, map, refl, sym, ap, ◌∙◌}
 use Rattle.std.specs.Prelude.{option_map, slice_get}
 use Rattle.std.specs.Option.{option_and_then}
 use Rattle.std.proofs.lemmas.Option.{same_Some, slice_get-map}
@@ -14,7 +14,7 @@ use Rattle.bundle_rules.specs.Program.{Program, tree_of, IsReached}
 use Rattle.bundle_rules.specs.Bundle.{Hooks}
 use Rattle.bundle_rules.specs.Kept.{local_context}
 use Rattle.bundle_link_reached.specs.Files.{number_of, numbers_of}
-use Rattle.bundle_link_reached.proofs.NumberLemmas.{got}
+use Rattle.bundle_link_reached.proofs.NumberLemmas.{got, held}
 use Rattle.bundle_merge_meaning.specs.joined.Joined.{joined}
 use Rattle.bundle_merge_whole.specs.planned.Blocks.{block_of}
 use Rattle.bundle_merge_whole.specs.planned.Decided.{Decided, numbers_from, plan_of}
@@ -30,7 +30,7 @@ use Rattle.bundle_merge_whole.proofs.moved.Owed.{AreMoved}
 use Rattle.bundle_merge_whole.proofs.together.Known.{known-right}
 use Rattle.bundle_merge_whole.proofs.sound.Decided.{linked-by}
 use Rattle.bundle_merge_whole.proofs.sound.Noted.{graph-noted, leads-all}
-use Rattle.bundler_entry.specs.Linked.{IsCallOf, IsFileAt, IsLinkedEntry, source_in}
+use Rattle.bundler_entry.specs.Linked.{IsCallOf, IsFileAt, IsLinkedEntry, ids_of, source_in}
 use Rattle.bundler_entry.specs.Source.{IsSourceOf}
 use Rattle.bundler_entry.specs.declared.call.Call.{Call}
 use Rattle.bundler_entry.specs.declared.linked.Linked.{Linked}
@@ -78,6 +78,12 @@ module _ (p : Program) (entry : ℕ) (call : Call) (w : IsCallOf p entry call) (
       ∙ ap (slice_get (numbers_of files)) same
       ∙ ap (λ (numbers : List ℕ). slice_get numbers place.0) (sym w.program.files.ids)
       ∙ place.2)
+
+  -- which is below the count of the call
+  pub below-count : (k m : ℕ) → slice_get ids k ≡ Some m → m < call.program.now.count
+  below-count k m at =
+      let place = place_of p entry call w linked.reached l.reached k m at in
+      w.program.count m (held (ids_of call) m place.0 place.2)
 
   -- the second program is the first by places
   pub are-places : IsByPlaces p by_place ids graph

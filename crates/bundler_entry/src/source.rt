@@ -65,9 +65,10 @@ pub fn source_of<'x>(
     let pieces = pieces_of_module(alloc, &loaded.module)?;
     let names = denotations(alloc, pieces.as_slice(), ModuleKind::Es, Reading::BySymbol)?;
     let tables = tables_in(alloc, pieces.as_slice(), &names, config)?;
+    let items = loaded.module.body.as_slice();
     Ok(Source {
         given: &loaded.file_name,
-        items: loaded.module.body.as_slice(),
+        items,
         pieces,
         names,
         tables,
