@@ -124,6 +124,23 @@ const of_names = {
     entries: [['main', 'main.js']],
   }),
 };
+// So many entries that import all of so many files, each of which has import.meta.
+const with_metas = (entries) => (count) => {
+  const own = (name) => member(meta(), name);
+  const listed = (name) => [property('url', { type: 'Str', value: name }), property('at', lambda(['n'], [given(binary('n', '+', 'n'))]))];
+  return {
+    config: {},
+    files: {
+      ...Object.fromEntries(upTo(count, (at) => [`m${at}.js`, [
+        exported(declared(`f${at}`, ['n'], [given(array(['n', own('url')]))])), run(call(own('at'), at)),
+      ]])),
+      ...Object.fromEntries(upTo(entries, (at) => [`e${at}.js`, main_of_all(count)])),
+    },
+    entries: upTo(entries, (at) => [`bundle${at}`, `e${at}.js`]),
+    meta: Object.fromEntries(upTo(count, (at) => [`m${at}.js`, listed(`m${at}`)])),
+  };
+};
+
 const of_kind = (kind) => (kind === 'files' ? 'file' : 'text');
 const with_names = (kind, which) => (count) => of_names[kind](names(of_kind(kind), count)[which]);
 
@@ -183,6 +200,9 @@ export const shapes = {
     entries: upTo(count, (at) => [`bundle${at}`, `e${at}.js`]),
     meta: Object.fromEntries(upTo(count, (at) => ['e', 'm'].map((kind) => [`${kind}${at}.js`, [property('url', { type: 'Str', value: `${kind}${at}` })]])).flat()),
   })],
+  metas_1: [250, 'one entry over so many files, each with import.meta', with_metas(1)],
+  metas_10: [250, 'ten entries, each over all of so many files with import.meta', with_metas(10)],
+  metas_100: [250, 'a hundred entries, each over all of so many files with import.meta', with_metas(100)],
   ...Object.fromEntries(Object.keys(of_names).flatMap((kind) => ['apart', 'alike'].map((which) => [
     `${kind}_${which}`, [4096, `${kind} that strangers chose, with hashes ${which}`, with_names(kind, which)],
   ]))),

@@ -6,5 +6,5 @@ set -eu
 bench=$(cd "$(dirname "$0")" && pwd)
 top=$(dirname "$bench")
 program=${BUNDLE_JSON:-$top/bridge/out/bundle_json}
-[ -n "${BUNDLE_JSON:-}" ] || "$top/bridge/build" bundle_json
+[ -n "${BUNDLE_JSON:-}" ] || "$top/bridge/build"
 exec node "$bench/time.mjs" "$program" "$@"
