@@ -1,0 +1,15 @@
+mod Adding
+mod Stating
+mod Made
+mod MetaLemmas
+mod Lifting
+mod Parting
+mod Turning
+mod Owning
+mod Owned
+mod Planning
+mod Together
+mod Planned
+mod Sorting
+mod Behind
+pub mod Once

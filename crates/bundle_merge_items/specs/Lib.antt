@@ -1,0 +1,5 @@
+pub mod Added
+pub mod Adds
+pub mod Merged
+pub mod Stated
+pub mod Blocks

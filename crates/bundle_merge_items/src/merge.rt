@@ -1,5 +1,23 @@
 //! The modules of a bundle as one: what is imported, the helper, the modules block by block, and what is exported.
 
+ghost use Rattle.std.specs.Prelude.{◌≡◌, ◌<◌, ◌-◌, ◌++◌, ◌∷◌, ℕ, Bool, true, List, [], Option, Contains, IfOk, OnOk, flat_map, length, map, replicate};
+ghost use Rattle.std.specs.List.{list_any};
+ghost use Rattle.bundle_rules.specs.Bundle.{Helps, Stars};
+ghost use Rattle.bundle_rules.specs.Program.{Program};
+ghost use Rattle.bundle_merge_whole.specs.made.Alone.{AreSound};
+ghost use Rattle.bundle_merge_whole.specs.planned.Decided.{back_plan, external_plan, front_plan, module_plan, object_plan, one_if};
+ghost use Rattle.bundle_merge_whole.specs.sound.Decided.{AreTold};
+ghost use Rattle.bundle_merge_names.specs.Bundle.{AreBundleParts};
+ghost use Rattle.bundle_merge_items.specs.Adds.{AreAnswered};
+ghost use Rattle.bundle_merge_items.specs.Blocks.{AddsBlocks, AddsOwned, AddsPlan, AreItemsMade, AreWithin, InBundle, IsBlockPut, IsPlaced};
+ghost use Rattle.bundle_merge_items.specs.Merged.{AddsBlock, AreBlocksOnce, IsMergedOf};
+ghost use Rattle.bundle_order.specs.Owned.{AreTogether};
+ghost use Rattle.bundle_tree_piece.specs.Item.{Item};
+ghost use Rattle.bundle_tree_listed.specs.Tree.{stmt_items};
+ghost use Rattle.bundle_merge_injected.specs.Listed.{pair_of};
+ghost use Rattle.bundle_merge_items.specs.Added as added;
+ghost use Rattle.bundle_merge_items.specs.Added.{AreExports, AreLinkedPairs, IsObject, exports_of, items_of};
+
 use crate::module::{add_item, add_module, add_stmt};
 use crate::outside::{add_external, add_helper};
 use bundle_link_targets::Target;
@@ -7,7 +25,7 @@ use bundle_merge_injected::{Pair, export_list, export_star, namespace_object};
 use bundle_merge_names::{BundleParts, Contexts, MergeError, Names, names_of};
 use bundle_order::sorted_numbers;
 use bundle_order_sort::{Block, arrange};
-use bundle_tree_ast::{ExportMetadata, Module};
+use bundle_tree_ast::{ExportMetadata, Module, Stmt};
 use std::alloc::{AllocError, Global};
 
 /// The items of a bundle in their order, as a module, and the contexts that are free.
@@ -18,10 +36,17 @@ pub struct Merged {
 }
 
 /// The modules of a bundle as one. Refused where contexts run out, and for memory.
-pub fn merge_modules(
-    alloc: Global,
-    bundle: &BundleParts<'_, '_, '_>,
-) -> Result<Merged, MergeError> {
+pub fn merge_modules(alloc: Global, bundle: &BundleParts<'_, '_, '_>) -> Result<Merged, MergeError>
+    ensures { IfOk result (λ merged.
+        (q : Program) (list : List ℕ) (answers : ℕ → Option (List Item))
+        (meta : ℕ → Bool) (count : ℕ → ℕ) →
+        AreSound q list →
+        AreBundleParts q list answers bundle.now →
+        AreBlocksOnce bundle.now →
+        AreAnswered q answers →
+        AreTold q (length bundle.now.parts.now) meta count →
+        IsMergedOf q list answers bundle.now meta count merged.module) }
+{
     let names = names_of(alloc, bundle)?;
     let module = merged_module(alloc, bundle, &names)?;
     Ok(Merged {
@@ -35,38 +60,123 @@ fn merged_module<'a>(
     alloc: Global,
     bundle: &BundleParts<'_, 'a, '_>,
     names: &Names<'a>,
-) -> Result<Module, AllocError> {
+) -> Result<Module, AllocError>
+    ensures { IfOk result (λ merged. AreBlocksOnce bundle.now →
+        InBundle bundle.now names.now (λ q list answers context d.
+        AreItemsMade q list answers context d merged)) }
+{
     let mut items = no_items(alloc);
-    add_items(alloc, bundle, names, &mut items)?;
+    add_front(alloc, bundle, names, &mut items)?;
+    add_blocks(alloc, bundle, names, &mut items)?;
+    add_back(alloc, bundle, names, &mut items)?;
     Ok(items)
 }
 
-fn no_items(alloc: Global) -> Module {
+fn no_items(alloc: Global) -> Module
+    ensures { items_of result ≡ [] }
+{
     Module {
         body: Vec::new(alloc),
     }
 }
 
-// Adds all items: what is imported, the helper, the blocks, and what is exported.
-fn add_items<'a>(
+// Adds what stands in front of the blocks: what is imported, and the helper.
+fn add_front<'a>(
     alloc: Global,
     bundle: &BundleParts<'_, 'a, '_>,
     names: &Names<'a>,
     items: &mut Module,
-) -> Result<(), AllocError> {
+) -> Result<(), AllocError>
+    ensures { OnOk result
+        (AddsPlan bundle.now names.now (λ d. front_plan d) items.old items.new) }
+{
+    add_externals(alloc, bundle, names, items)?;
+    add_helpers(alloc, bundle, names, items)?;
+    Ok(())
+}
+
+// Adds what is imported.
+fn add_externals<'a>(
+    alloc: Global,
+    bundle: &BundleParts<'_, 'a, '_>,
+    names: &Names<'a>,
+    items: &mut Module,
+) -> Result<(), AllocError>
+    ensures { OnOk result
+        (AddsPlan bundle.now names.now (λ d. flat_map external_plan d.externals)
+        items.old items.new) }
+{
     for external in bundle.linking.externals() {
         add_external(alloc, names, external, items)?;
     }
-    if bundle.has_common_js() {
-        add_helper(alloc, names, items)?;
+    Ok(())
+}
+
+// Adds the helper, where some module is CommonJS.
+fn add_helpers<'a>(
+    alloc: Global,
+    bundle: &BundleParts<'_, 'a, '_>,
+    names: &Names<'a>,
+    items: &mut Module,
+) -> Result<(), AllocError>
+    ensures { OnOk result
+        (AddsPlan bundle.now names.now (λ d. one_if (list_any d.is_common_js d.list) Helps)
+        items.old items.new) }
+{
+    if !bundle.has_common_js() {
+        return Ok(());
     }
-    for block in bundle.blocks {
-        add_block(alloc, bundle, names, block, items)?;
-    }
+    add_helper(alloc, names, items)?;
+    Ok(())
+}
+
+// Adds what stands behind the blocks: the stars of externals, and what is exported.
+fn add_back<'a>(
+    alloc: Global,
+    bundle: &BundleParts<'_, 'a, '_>,
+    names: &Names<'a>,
+    items: &mut Module,
+) -> Result<(), AllocError>
+    ensures { OnOk result
+        (AddsPlan bundle.now names.now (λ d. back_plan d) items.old items.new) }
+{
+    add_stars(alloc, bundle, names, items)?;
+    add_exports(alloc, bundle, names, items)?;
+    Ok(())
+}
+
+// Adds the stars of externals.
+fn add_stars<'a>(
+    alloc: Global,
+    bundle: &BundleParts<'_, 'a, '_>,
+    names: &Names<'a>,
+    items: &mut Module,
+) -> Result<(), AllocError>
+    ensures { OnOk result
+        (AddsPlan bundle.now names.now (λ d. map Stars d.stars) items.old items.new) }
+{
     for specifier in bundle.linking.external_stars() {
         add_item(items, export_star(alloc, *specifier)?)?;
     }
-    add_exports(alloc, bundle, names, items)
+    Ok(())
+}
+
+// Adds the blocks.
+fn add_blocks<'a>(
+    alloc: Global,
+    bundle: &BundleParts<'_, 'a, '_>,
+    names: &Names<'a>,
+    items: &mut Module,
+) -> Result<(), AllocError>
+    ensures { OnOk result (
+        AreBlocksOnce bundle.now →
+        InBundle bundle.now names.now (λ q list answers context d.
+        AddsBlocks q list answers context d bundle.now.blocks.now items.old items.new)) }
+{
+    for block in bundle.blocks {
+        add_block(alloc, bundle, names, block, items)?;
+    }
+    Ok(())
 }
 
 // Adds the items of a block in their order.
@@ -76,7 +186,13 @@ fn add_block<'a>(
     names: &Names<'a>,
     block: &Block,
     items: &mut Module,
-) -> Result<(), AllocError> {
+) -> Result<(), AllocError>
+    ensures { OnOk result (
+        AreBlocksOnce bundle.now →
+        Contains bundle.now.blocks.now block.now →
+        InBundle bundle.now names.now (λ q list answers context d.
+        AddsBlock q list answers context d block.now items.old items.new)) }
+{
     let mut its = no_items(alloc);
     put_block(alloc, bundle, names, block, &mut its)?;
     items.body.append(&mut its.body)?;
@@ -90,20 +206,49 @@ fn put_block<'a>(
     names: &Names<'a>,
     block: &Block,
     its: &mut Module,
-) -> Result<(), AllocError> {
+) -> Result<(), AllocError>
+    ensures { OnOk result (
+        AreBlocksOnce bundle.now →
+        Contains bundle.now.blocks.now block.now →
+        items_of its.old ≡ [] →
+        InBundle bundle.now names.now (λ q list answers context d.
+        IsBlockPut q list answers context d block.now its.new)) }
+{
     let mut owners = Vec::new(alloc);
     add_modules(alloc, bundle, names, block, its, &mut owners)?;
     add_objects(alloc, bundle, names, block, its, &mut owners)?;
+    sort_cycle(alloc, block, its, &owners)?;
+    Ok(())
+}
+
+// Puts the items of a block into their order, where it is a cycle.
+fn sort_cycle(
+    alloc: Global,
+    block: &Block,
+    its: &mut Module,
+    owners: &[Option<usize>],
+) -> Result<(), AllocError>
+    ensures { OnOk result (
+        length owners.now ≡ length its.old.body.items →
+        AreTogether owners.now →
+        IsPlaced block.now.is_cycle (items_of its.old) owners.now (items_of its.new)) }
+{
     if block.is_cycle {
-        sort(alloc, its, &owners)?;
+        return sort(alloc, its, owners);
     }
     Ok(())
 }
 
 // Puts items into the order in which they are to stand, where each is of the module that is told, or free.
-fn sort(alloc: Global, items: &mut Module, owners: &[Option<usize>]) -> Result<(), AllocError> {
+fn sort(alloc: Global, items: &mut Module, owners: &[Option<usize>]) -> Result<(), AllocError>
+    ensures { OnOk result (
+        length owners.now ≡ length items.old.body.items →
+        AreTogether owners.now →
+        IsPlaced true (items_of items.old) owners.now (items_of items.new)) }
+{
     let order = sorted_numbers(alloc, &items.body, owners)?;
-    arrange(alloc, &mut items.body, &order)
+    arrange(alloc, &mut items.body, &order)?;
+    Ok(())
 }
 
 // Adds the items of the modules of a block.
@@ -114,13 +259,37 @@ fn add_modules<'a>(
     block: &Block,
     its: &mut Module,
     owners: &mut Vec<Option<usize>>,
-) -> Result<(), AllocError> {
+) -> Result<(), AllocError>
+    ensures { OnOk result (
+        AreWithin bundle.now block.now.places.items →
+        AddsOwned bundle.now names.now (λ d. flat_map (module_plan d) block.now.places.items)
+        its.old its.new owners.old.items owners.new.items) }
+{
     for module in &block.places {
-        if let Some(part) = bundle.parts.get(*module) {
-            add_module(alloc, bundle, names, *module, part, its)?;
-            note_owner(owners, Some(*module), its.body.len())?;
-        }
+        put_module(alloc, bundle, names, *module, its, owners)?;
     }
+    Ok(())
+}
+
+// Adds the items of a module, and notes that they are of it.
+fn put_module<'a>(
+    alloc: Global,
+    bundle: &BundleParts<'_, 'a, '_>,
+    names: &Names<'a>,
+    module: usize,
+    its: &mut Module,
+    owners: &mut Vec<Option<usize>>,
+) -> Result<(), AllocError>
+    ensures { OnOk result (
+        «module» < length bundle.now.parts.now →
+        AddsOwned bundle.now names.now (λ d. module_plan d «module»)
+        its.old its.new owners.old.items owners.new.items) }
+{
+    let Some(part) = bundle.parts.get(module) else {
+        return Ok(());
+    };
+    add_module(alloc, bundle, names, module, part, its)?;
+    note_owner(owners, Some(module), its.body.len())?;
     Ok(())
 }
 
@@ -132,13 +301,34 @@ fn add_objects<'a>(
     block: &Block,
     its: &mut Module,
     owners: &mut Vec<Option<usize>>,
-) -> Result<(), AllocError> {
+) -> Result<(), AllocError>
+    ensures { OnOk result (
+        AddsOwned bundle.now names.now (λ d. flat_map (object_plan d) block.now.places.items)
+        its.old its.new owners.old.items owners.new.items) }
+{
     for module in &block.places {
-        if bundle.linking.is_object_meant(*module) {
-            add_object(alloc, bundle, names, *module, its)?;
-            note_owner(owners, None, its.body.len())?;
-        }
+        put_object(alloc, bundle, names, *module, its, owners)?;
     }
+    Ok(())
+}
+
+// Adds the object of a module's namespace, if it is meant, and notes that it is free.
+fn put_object<'a>(
+    alloc: Global,
+    bundle: &BundleParts<'_, 'a, '_>,
+    names: &Names<'a>,
+    module: usize,
+    its: &mut Module,
+    owners: &mut Vec<Option<usize>>,
+) -> Result<(), AllocError>
+    ensures { OnOk result (AddsOwned bundle.now names.now (λ d. object_plan d «module»)
+        its.old its.new owners.old.items owners.new.items) }
+{
+    if !bundle.linking.is_object_meant(module) {
+        return Ok(());
+    }
+    add_object(alloc, bundle, names, module, its)?;
+    note_owner(owners, None, its.body.len())?;
     Ok(())
 }
 
@@ -147,7 +337,10 @@ fn note_owner(
     owners: &mut Vec<Option<usize>>,
     owner: Option<usize>,
     count: usize,
-) -> Result<(), AllocError> {
+) -> Result<(), AllocError>
+    ensures { OnOk result (owners.new.items
+        ≡ owners.old.items ++ replicate (count - length owners.old.items) owner) }
+{
     for _ in owners.len()..count {
         owners.push(owner)?;
     }
@@ -161,11 +354,31 @@ fn add_object<'a>(
     names: &Names<'a>,
     module: usize,
     its: &mut Module,
-) -> Result<(), AllocError> {
+) -> Result<(), AllocError>
+    ensures { OnOk result ((made : List Item) × IsObject bundle.now.linking.now names.now «module» made
+        × (items_of its.new ≡ items_of its.old ++ made ∷ [])) }
+{
+    let object = namespace_stmt(alloc, bundle, names, module)?;
+    add_stmt(its, object)
+}
+
+// The object of a module's namespace.
+fn namespace_stmt<'a>(
+    alloc: Global,
+    bundle: &BundleParts<'_, 'a, '_>,
+    names: &Names<'a>,
+    module: usize,
+) -> Result<Stmt, AllocError>
+    ensures { IfOk result (λ made.
+        IsObject bundle.now.linking.now names.now «module» (stmt_items 0 made)) }
+{
     let object = names.target(Target::Namespace { module });
     let pairs = linked_pairs(alloc, bundle, names, module)?;
-    let notes = ExportMetadata::default();
-    add_stmt(its, namespace_object(alloc, object, &pairs, notes)?)
+    let notes = ExportMetadata {
+        injected: false,
+        export_ctxt: None,
+    };
+    namespace_object(alloc, object, &pairs, notes)
 }
 
 // Adds the export list, where the entry exports something.
@@ -174,15 +387,33 @@ fn add_exports<'a>(
     bundle: &BundleParts<'_, 'a, '_>,
     names: &Names<'a>,
     items: &mut Module,
-) -> Result<(), AllocError> {
-    let Some(entry) = bundle.parts.len().checked_sub(1) else {
-        return Ok(());
-    };
-    let pairs = linked_pairs(alloc, bundle, names, entry)?;
-    if !pairs.is_empty() {
-        add_item(items, export_list(alloc, &pairs)?)?;
+) -> Result<(), AllocError>
+    ensures { OnOk result ((made : List (List Item)) ×
+        AreExports bundle.now.linking.now names.now (length bundle.now.parts.now) made
+        × (items_of items.new ≡ items_of items.old ++ made)) }
+{
+    match bundle.parts.len().checked_sub(1) {
+        Some(entry) => {
+            let pairs = linked_pairs(alloc, bundle, names, entry)?;
+            add_export_list(alloc, &pairs, items)
+        }
+        None => Ok(()),
     }
-    Ok(())
+}
+
+// Adds the export list of these pairs, where there are some.
+fn add_export_list<'a>(
+    alloc: Global,
+    pairs: &[Pair<'a>],
+    items: &mut Module,
+) -> Result<(), AllocError>
+    ensures { OnOk result
+        (items_of items.new ≡ items_of items.old ++ exports_of (map pair_of pairs.now)) }
+{
+    if pairs.is_empty() {
+        return Ok(());
+    }
+    add_item(items, export_list(alloc, pairs)?)
 }
 
 // The names that linking gives a module, with what stands for them.
@@ -191,9 +422,25 @@ fn linked_pairs<'a>(
     bundle: &BundleParts<'_, 'a, '_>,
     names: &Names<'a>,
     module: usize,
-) -> Result<Vec<Pair<'a>>, AllocError> {
+) -> Result<Vec<Pair<'a>>, AllocError>
+    ensures { IfOk result (λ pairs.
+        AreLinkedPairs bundle.now.linking.now names.now «module» (map pair_of pairs.items)) }
+{
+    pairs_of(alloc, names, bundle.linking.linked_names(module))
+}
+
+// Linked names, with what stands for them.
+#[tactic(auto, using(crate::proofs::Adding::adding))]
+fn pairs_of<'a>(
+    alloc: Global,
+    names: &Names<'a>,
+    linked: &[(&'a str, Target<'a>)],
+) -> Result<Vec<Pair<'a>>, AllocError>
+    ensures { IfOk result (λ pairs.
+        map pair_of pairs.items ≡ added.linked_pairs names.now linked.now) }
+{
     let mut pairs = Vec::new(alloc);
-    for (name, target) in bundle.linking.linked_names(module) {
+    for (name, target) in linked {
         let local = names.target(*target);
         pairs.push(Pair { name: *name, local })?;
     }

@@ -1,12 +1,37 @@
 //! The items of one module: the object for `import.meta`, the statements that load CommonJS modules and the module's own
 //! statements; or, of a CommonJS module, its load function.
 
+ghost use Rattle.std.specs.Prelude.{◌≡◌, ◌++◌, ◌∷◌, ℕ, Bool, List, [], Option, Some, None, OnOk, IfOk, codes, drop, filter, length, map, option_map, slice_get};
+ghost use Rattle.bundle_rules.specs.Bundle.{HoldsMeta};
+ghost use Rattle.bundle_rules.specs.Entries.{has_import_meta};
+ghost use Rattle.bundle_rules.specs.Meaning.{HasKind};
+ghost use Rattle.bundle_rules.specs.Program.{IsReached, Program, tree_of};
+ghost use Rattle.bundle_rules.specs.Scopes.{Es, ModuleKind};
+ghost use Rattle.bundle_tree_piece.specs.Item.{Item, item_of};
+ghost use Rattle.bundle_tree_places.specs.Marks.{ident_of};
+ghost use Rattle.bundle_tree_places.specs.Parted.{part_items};
+ghost use Rattle.bundle_tree_ast.specs.declared.stmt.Stmt as tree;
+ghost use Rattle.bundle_tree_listed.specs.Tree.{module_item_items, option_items, stmt_items};
+ghost use Rattle.bundle_tree_rewrite.specs.Stated.{States};
+ghost use Rattle.bundle_merge_whole.specs.made.Given as given;
+ghost use Rattle.bundle_merge_whole.specs.planned.Decided.{es_plan, module_plan, one_if};
+ghost use Rattle.bundle_merge_whole.specs.sound.Decided.{AreTold};
+ghost use Rattle.bundle_merge_names.specs.Idents.{label_ident};
+ghost use Rattle.bundle_merge_names.specs.declared.names.Label.TheVariants as labels;
+ghost use Rattle.bundle_merge_items.specs.Added as added;
+ghost use Rattle.bundle_merge_items.specs.Added.{items_of, local_ident};
+ghost use Rattle.bundle_merge_items.specs.Adds.{Adds, AddsFor, AddsMeta, IsNamedBundle, IsPlanned, decided_of};
+ghost use Rattle.bundle_merge_items.specs.Stated as stated;
+ghost use Rattle.bundle_merge_items.specs.Stated.{AreStatedAs, StateInTurn, names_in, work_by};
+
 use crate::outside::add_load;
+use bundle_link_targets::Loaded;
 use bundle_merge_injected::{LoadNames, constant, load_function};
 use bundle_merge_names::{Answered, Body, BundleParts, Label, Names, Part, body_of, own_names};
 use bundle_tree_ast::{ExportMetadata, Module, ModuleItem, Stmt};
 use bundle_tree_piece::{Piece, Role};
-use bundle_tree_places::Name;
+use bundle_tree_places::{Name, parts};
+use bundle_tree_rebuild::Rewrite;
 use bundle_tree_rewrite::{Rewriting, rebuild_item, rewritten_object, stated_item};
 use std::alloc::{AllocError, Global};
 
@@ -18,41 +43,70 @@ pub(crate) fn add_module<'a>(
     module: usize,
     part: &Part<'_, 'a>,
     items: &mut Module,
-) -> Result<(), AllocError> {
+) -> Result<(), AllocError>
+    ensures { OnOk result (
+        slice_get bundle.now.parts.now «module» ≡ Some part.now →
+        AddsFor bundle.now names.now (IsPlanned bundle.now (λ d. module_plan d «module»))
+        items.old items.new) }
+{
     add_written(alloc, part, items)?;
-    let body = body_of(alloc, part, module, bundle.linking, names)?;
+    let own = own_statements(alloc, bundle, names, module, part)?;
     if bundle.linking.is_common_js(module) {
-        add_load_function(alloc, names, module, part, &body, items)
+        add_load_function(alloc, names, module, own, items)
     } else {
-        add_es(alloc, bundle, names, module, part, &body, items)
+        add_es(alloc, bundle, names, module, own, items)
     }
 }
 
 // Adds the statement that holds the `import.meta` of a module as it is, if it is there already.
-fn add_written(alloc: Global, part: &Part<'_, '_>, items: &mut Module) -> Result<(), AllocError> {
+fn add_written(alloc: Global, part: &Part<'_, '_>, items: &mut Module) -> Result<(), AllocError>
+    ensures { OnOk result (part.now.written ≡ None → items_of items.new ≡ items_of items.old) }
+{
+    if part.written.is_none() {
+        return Ok(());
+    }
     for item in part.written_items() {
         add_item(items, rebuild_item(alloc, item, &[])?)?;
     }
     Ok(())
 }
 
-// Adds the load function of a CommonJS module.
+// Adds the load function of a CommonJS module, in which these are its statements.
 fn add_load_function<'a>(
     alloc: Global,
     names: &Names<'a>,
     module: usize,
-    part: &Part<'_, 'a>,
-    body: &Body<'a>,
+    own: Vec<Stmt>,
     items: &mut Module,
-) -> Result<(), AllocError> {
-    let default = names.local(module, "default");
-    let own = own_statements(alloc, part, body, default)?;
-    let load = load_function(alloc, load_names(names, module), own)?;
+) -> Result<(), AllocError>
+    ensures { OnOk result (items_of items.new ≡ items_of items.old
+        ++ added.definition_of names.now «module» (map (stmt_items 0) own.items) ∷ []) }
+{
+    let load = definition(alloc, names, module, own)?;
     add_stmt(items, load)
 }
 
+// The load function of a CommonJS module.
+#[tactic(auto, using(crate::proofs::Adding::adding))]
+fn definition<'a>(
+    alloc: Global,
+    names: &Names<'a>,
+    module: usize,
+    own: Vec<Stmt>,
+) -> Result<Stmt, AllocError>
+    ensures { IfOk result (λ made. stmt_items 0 made
+        ≡ added.definition_of names.now «module» (map (stmt_items 0) own.items)) }
+{
+    load_function(alloc, load_names(names, module), own)
+}
+
 // The names of the load function of a CommonJS module.
-fn load_names<'a>(names: &Names<'a>, module: usize) -> LoadNames<'a> {
+fn load_names<'a>(names: &Names<'a>, module: usize) -> LoadNames<'a>
+    ensures load { ident_of result.load ≡ label_ident names.now (labels.Load «module») }
+    ensures helper { ident_of result.helper ≡ label_ident names.now labels.Helper }
+    ensures own { ident_of result.module ≡ local_ident names.now «module» (codes "module") }
+    ensures exports { ident_of result.exports ≡ local_ident names.now «module» (codes "exports") }
+{
     LoadNames {
         load: names.of(Label::Load { module }),
         helper: names.of(Label::Helper),
@@ -61,25 +115,68 @@ fn load_names<'a>(names: &Names<'a>, module: usize) -> LoadNames<'a> {
     }
 }
 
-// Adds the items of an ES module.
+// Adds the items of an ES module, of which these are its own statements.
 fn add_es<'a>(
     alloc: Global,
     bundle: &BundleParts<'_, 'a, '_>,
     names: &Names<'a>,
     module: usize,
-    part: &Part<'_, 'a>,
-    body: &Body<'a>,
+    own: Vec<Stmt>,
     items: &mut Module,
-) -> Result<(), AllocError> {
-    if let Some(answer) = bundle.answer(module) {
-        add_meta_object(alloc, names, module, answer, items)?;
+) -> Result<(), AllocError>
+    ensures { OnOk result (
+        (q : Program) (list : List ℕ) (answers : ℕ → Option (List Item))
+        (context : given.Contexts) (meta : ℕ → Bool) (count : ℕ → ℕ) →
+        IsNamedBundle q list answers context bundle.now names.now →
+        AreTold q (length bundle.now.parts.now) meta count →
+        IsReached q «module» →
+        AreStatedAs q list context «module» Es (map (stmt_items 0) own.items) →
+        Adds q list answers context (es_plan (decided_of bundle.now meta count) «module»)
+        items.old items.new) }
+{
+    add_meta(alloc, bundle, names, module, items)?;
+    add_loads(alloc, names, module, bundle.linking.loads(module), items)?;
+    add_stmts(items, own)
+}
+
+// Adds the object for the `import.meta` of a module, if the hook answered something for it.
+fn add_meta(
+    alloc: Global,
+    bundle: &BundleParts<'_, '_, '_>,
+    names: &Names<'_>,
+    module: usize,
+    items: &mut Module,
+) -> Result<(), AllocError>
+    ensures { OnOk result (
+        (q : Program) (list : List ℕ) (answers : ℕ → Option (List Item))
+        (context : given.Contexts) →
+        IsNamedBundle q list answers context bundle.now names.now →
+        IsReached q «module» →
+        Adds q list answers context (one_if (has_import_meta (tree_of q «module»)) (HoldsMeta «module»))
+        items.old items.new) }
+{
+    match bundle.answer(module) {
+        Some(answer) => add_meta_object(alloc, names, module, answer, items),
+        None => Ok(()),
     }
-    for loaded in bundle.linking.loads(module) {
+}
+
+// Adds the statements by which a module loads these CommonJS modules.
+#[tactic(auto, using(crate::proofs::Adding::adding))]
+fn add_loads<'a>(
+    alloc: Global,
+    names: &Names<'a>,
+    module: usize,
+    loads: &[Loaded<'a>],
+    items: &mut Module,
+) -> Result<(), AllocError>
+    ensures { OnOk result (items_of items.new
+        ≡ items_of items.old ++ map (added.load_of names.now «module») loads.now) }
+{
+    for loaded in loads {
         add_load(alloc, names, module, loaded, items)?;
     }
-    let default = names.local(module, "default");
-    let own = own_statements(alloc, part, body, default)?;
-    add_stmts(items, own)
+    Ok(())
 }
 
 // Adds `const importMeta = { .. };`.
@@ -89,7 +186,9 @@ fn add_meta_object(
     module: usize,
     answer: Answered<'_, '_>,
     items: &mut Module,
-) -> Result<(), AllocError> {
+) -> Result<(), AllocError>
+    ensures { OnOk result (AddsMeta names.now «module» answer.entry items.old items.new) }
+{
     let rewrites = own_names(
         alloc,
         answer.pieces,
@@ -111,81 +210,162 @@ fn add_meta_object(
 // The own statements of a module.
 fn own_statements<'a>(
     alloc: Global,
+    bundle: &BundleParts<'_, 'a, '_>,
+    names: &Names<'a>,
+    module: usize,
     part: &Part<'_, 'a>,
+) -> Result<Vec<Stmt>, AllocError>
+    ensures { IfOk result (λ own.
+        (q : Program) (list : List ℕ) (answers : ℕ → Option (List Item))
+        (context : given.Contexts) (kind : ModuleKind) →
+        IsNamedBundle q list answers context bundle.now names.now →
+        slice_get bundle.now.parts.now «module» ≡ Some part.now →
+        HasKind q «module» kind →
+        AreStatedAs q list context «module» kind (map (stmt_items 0) own.items)) }
+{
+    let body = body_of(alloc, part, module, bundle.linking, names)?;
+    let default = names.local(module, "default");
+    let nodes = parts::top_items(alloc, part.pieces)?;
+    stated_items(alloc, own_items(part), &nodes, &body, default)
+}
+
+// The items of a module that are its own.
+fn own_items<'t, 'a>(part: &Part<'t, 'a>) -> &'a [ModuleItem]
+    ensures { part.now.written ≡ None → result.now ≡ part.now.items.now }
+{
+    match part.written {
+        Some(_) => part.own_items(),
+        None => part.items,
+    }
+}
+
+// What items state in turn, where these are the nodes of their list.
+fn stated_items<'a>(
+    alloc: Global,
+    items: &[ModuleItem],
+    nodes: &[parts::Part<'_, 'a>],
     body: &Body<'a>,
     default: Name<'a>,
-) -> Result<Vec<Stmt>, AllocError> {
-    let firsts = firsts_of(alloc, part.pieces)?;
+) -> Result<Vec<Stmt>, AllocError>
+    ensures { IfOk result (λ stmts.
+        StateInTurn (option_map ident_of body.now.meta) (ident_of default.entry) items.now
+        (map part_items nodes.now) body.now.rewrites.items (map (stmt_items 0) stmts.items)) }
+{
+    let mut rewrites: &[Rewrite<'a>] = &body.rewrites;
     let mut stmts = Vec::new(alloc);
-    for (item, first) in part.own_items().iter().zip(&firsts) {
-        add_stated(alloc, body, default, item, *first, &mut stmts)?;
+    for (item, node) in items.iter().zip(nodes) {
+        add_stated(alloc, rewrites, body.meta, default, item, &mut stmts)?;
+        rewrites = rewrites_behind(rewrites, node.pieces);
     }
     Ok(stmts)
 }
 
-// How many occurrences of a module's list stand before each of its items.
-fn firsts_of(alloc: Global, pieces: &[Piece<'_>]) -> Result<Vec<usize>, AllocError> {
-    let mut firsts = Vec::new(alloc);
-    let mut depth: usize = 0;
-    let mut count: usize = 0;
-    for piece in pieces {
-        match piece {
-            Piece::Open { .. } => {
-                if depth == 1 {
-                    firsts.push(count)?;
-                }
-                depth = depth.saturating_add(1);
-            }
-            Piece::Close => depth = depth.saturating_sub(1),
-            Piece::Ident { role, .. } => {
-                if *role != Role::Word {
-                    count = count.saturating_add(1);
-                }
-            }
-            Piece::Hole { .. } => {}
-        }
-    }
-    Ok(firsts)
-}
-
-// Adds what an item states, if it states something. So many occurrences of its module stand before it.
+// Adds what an item states, if it states something, where these become its occurrences in turn.
 fn add_stated<'a>(
     alloc: Global,
-    body: &Body<'a>,
+    rewrites: &[Rewrite<'a>],
+    meta: Option<Name<'a>>,
     default: Name<'a>,
     item: &ModuleItem,
-    first: usize,
     stmts: &mut Vec<Stmt>,
-) -> Result<(), AllocError> {
-    let rewriting = Rewriting {
-        rewrites: body.rewrites.get(first..).unwrap_or(&[]),
-        meta: body.meta,
-    };
-    match stated_item(alloc, item, rewriting, default)? {
+) -> Result<(), AllocError>
+    ensures { OnOk result ((made : Option tree.Stmt)
+        × States (work_by rewrites.now (option_map ident_of meta.entry)) (ident_of default.entry)
+        item.now (option_items (stmt_items 0) made)
+        × (map (stmt_items 0) stmts.new.items
+        ≡ map (stmt_items 0) stmts.old.items ++ stated.as_list made)) }
+{
+    match stated_by(alloc, rewrites, meta, default, item)? {
         Some(stmt) => add_own(stmts, stmt),
         None => Ok(()),
     }
 }
 
+// What an item states, if it states something.
+fn stated_by<'a>(
+    alloc: Global,
+    rewrites: &[Rewrite<'a>],
+    meta: Option<Name<'a>>,
+    default: Name<'a>,
+    item: &ModuleItem,
+) -> Result<Option<Stmt>, AllocError>
+    ensures { IfOk result (λ made. States (work_by rewrites.now (option_map ident_of meta.entry))
+        (ident_of default.entry) item.now (option_items (stmt_items 0) made)) }
+{
+    let rewriting = Rewriting { rewrites, meta };
+    stated_item(alloc, item, rewriting, default)
+}
+
+// What becomes of the occurrences behind those of a list.
+#[tactic(auto, using(crate::proofs::Parting::drop_end))]
+fn rewrites_behind<'b, 'a>(rewrites: &'b [Rewrite<'a>], pieces: &[Piece<'_>]) -> &'b [Rewrite<'a>]
+    ensures { result.now ≡ drop (names_in (map item_of pieces.now)) rewrites.now }
+{
+    let many = count(pieces);
+    if many < rewrites.len() {
+        &rewrites[many..]
+    } else {
+        &rewrites[rewrites.len()..]
+    }
+}
+
+// How many occurrences stand in a list.
+#[tactic(auto, using(crate::proofs::Parting::filter_mapped))]
+fn count(pieces: &[Piece<'_>]) -> usize
+    ensures { result ≡ names_in (map item_of pieces.now) }
+{
+    count_names(pieces)
+}
+
+// The same, asked of each element.
+fn count_names(pieces: &[Piece<'_>]) -> usize
+    ensures { result ≡ length (filter (λ piece. stated.is_name (item_of piece)) pieces.now) }
+{
+    pieces.iter().filter(|piece| is_name(piece)).count()
+}
+
+// Whether an element is an occurrence.
+fn is_name(piece: &Piece<'_>) -> bool
+    ensures { result ≡ stated.is_name (item_of piece.now) }
+{
+    match piece {
+        Piece::Ident { role, .. } => *role != Role::Word,
+        _ => false,
+    }
+}
+
 // Adds an own statement.
-fn add_own(stmts: &mut Vec<Stmt>, stmt: Stmt) -> Result<(), AllocError> {
+fn add_own(stmts: &mut Vec<Stmt>, stmt: Stmt) -> Result<(), AllocError>
+    ensures { OnOk result
+        (map (stmt_items 0) stmts.new.items
+        ≡ map (stmt_items 0) stmts.old.items ++ stmt_items 0 stmt ∷ []) }
+{
     stmts.push(stmt)?;
     Ok(())
 }
 
 /// Adds an item.
-pub(crate) fn add_item(items: &mut Module, item: ModuleItem) -> Result<(), AllocError> {
+pub(crate) fn add_item(items: &mut Module, item: ModuleItem) -> Result<(), AllocError>
+    ensures { OnOk result
+        (items_of items.new ≡ items_of items.old ++ module_item_items 0 item ∷ []) }
+{
     items.body.push(item)?;
     Ok(())
 }
 
 /// Adds a statement.
-pub(crate) fn add_stmt(items: &mut Module, stmt: Stmt) -> Result<(), AllocError> {
+pub(crate) fn add_stmt(items: &mut Module, stmt: Stmt) -> Result<(), AllocError>
+    ensures { OnOk result
+        (items_of items.new ≡ items_of items.old ++ stmt_items 0 stmt ∷ []) }
+{
     add_item(items, ModuleItem::Stmt(stmt))
 }
 
 // Adds statements.
-fn add_stmts(items: &mut Module, stmts: Vec<Stmt>) -> Result<(), AllocError> {
+fn add_stmts(items: &mut Module, stmts: Vec<Stmt>) -> Result<(), AllocError>
+    ensures { OnOk result
+        (items_of items.new ≡ items_of items.old ++ map (stmt_items 0) stmts.items) }
+{
     for stmt in stmts {
         add_stmt(items, stmt)?;
     }

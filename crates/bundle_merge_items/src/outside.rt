@@ -1,6 +1,13 @@
 //! The items by which a bundle gets what does not stand in it as it was written: imports of externals, the helper that
 //! load functions are made by, and the statements by which modules load CommonJS modules.
 
+ghost use Rattle.std.specs.Prelude.{◌≡◌, ◌++◌, ◌∷◌, [], OnOk, IfOk, map, option_map};
+ghost use Rattle.bundle_tree_places.specs.Marks.{ident_of};
+ghost use Rattle.bundle_merge_injected.specs.Listed as listed;
+ghost use Rattle.bundle_merge_injected.specs.Listed.{pair_of};
+ghost use Rattle.bundle_merge_items.specs.Added as added;
+ghost use Rattle.bundle_merge_items.specs.Added.{items_of};
+
 use crate::module::{add_item, add_stmt};
 use bundle_link_tables::Taken;
 use bundle_link_targets::{External, Loaded, Target};
@@ -13,47 +20,73 @@ use bundle_tree_places::Name;
 use std::alloc::{AllocError, Global};
 
 /// Adds the import declarations of an external: of the names that are meant, of the whole, or of nothing.
+#[tactic(auto, using(crate::proofs::Adding::adding))]
 pub(crate) fn add_external<'a>(
     alloc: Global,
     names: &Names<'a>,
     external: &External<'a>,
     items: &mut Module,
-) -> Result<(), AllocError> {
-    let specifier = external.specifier;
-    if !external.names.is_empty() {
-        add_named_import(alloc, names, external, items)?;
-    }
-    if external.whole {
-        let taken = Taken::Whole;
-        let name = names.target(Target::External { specifier, taken });
-        add_item(items, import_whole(alloc, specifier, name)?)?;
-    } else if external.names.is_empty() {
-        add_item(items, import_bare(alloc, specifier)?)?;
-    }
-    Ok(())
+) -> Result<(), AllocError>
+    ensures { OnOk result (items_of items.new
+        ≡ items_of items.old ++ added.imports_of names.now external.now) }
+{
+    add_named_import(alloc, names, external, items)?;
+    add_other_import(alloc, names, external, items)
 }
 
-// Adds the import of the names of an external that are meant.
+// Adds the import of the names of an external that are meant, where there are some.
 fn add_named_import<'a>(
     alloc: Global,
     names: &Names<'a>,
     external: &External<'a>,
     items: &mut Module,
-) -> Result<(), AllocError> {
+) -> Result<(), AllocError>
+    ensures { OnOk result (items_of items.new
+        ≡ items_of items.old ++ added.name_imports names.now external.now.specifier external.now.names.items) }
+{
+    if external.names.is_empty() {
+        return Ok(());
+    }
     let pairs = external_pairs(alloc, names, external)?;
     add_item(items, import_names(alloc, external.specifier, &pairs)?)
 }
 
+// Adds the import of the whole of an external, or of nothing where no name of it is taken.
+fn add_other_import<'a>(
+    alloc: Global,
+    names: &Names<'a>,
+    external: &External<'a>,
+    items: &mut Module,
+) -> Result<(), AllocError>
+    ensures { OnOk result (items_of items.new ≡ items_of items.old
+        ++ added.other_imports names.now external.now.specifier external.now.whole external.now.names.items) }
+{
+    let specifier = external.specifier;
+    if external.whole {
+        let taken = Taken::Whole;
+        let name = names.target(Target::External { specifier, taken });
+        add_item(items, import_whole(alloc, specifier, name)?)
+    } else if external.names.is_empty() {
+        add_item(items, import_bare(alloc, specifier)?)
+    } else {
+        Ok(())
+    }
+}
+
 // The names of an external that are meant, with what stands for them.
+#[tactic(auto, using(crate::proofs::Adding::adding))]
 fn external_pairs<'a>(
     alloc: Global,
     names: &Names<'a>,
     external: &External<'a>,
-) -> Result<Vec<Pair<'a>>, AllocError> {
-    let specifier = external.specifier;
+) -> Result<Vec<Pair<'a>>, AllocError>
+    ensures { IfOk result (λ pairs. map pair_of pairs.items
+        ≡ added.external_pairs names.now external.now.specifier external.now.names.items) }
+{
     let mut pairs = Vec::new(alloc);
     for name in &external.names {
         let taken = Taken::Named(*name);
+        let specifier = external.specifier;
         let local = names.target(Target::External { specifier, taken });
         pairs.push(Pair { name: *name, local })?;
     }
@@ -65,7 +98,10 @@ pub(crate) fn add_helper(
     alloc: Global,
     names: &Names<'_>,
     items: &mut Module,
-) -> Result<(), AllocError> {
+) -> Result<(), AllocError>
+    ensures { OnOk result
+        (items_of items.new ≡ items_of items.old ++ added.helper_of names.now ∷ []) }
+{
     let helper_names = HelperNames {
         helper: names.of(Label::Helper),
         func: names.of(Label::HelperParameter),
@@ -81,7 +117,10 @@ pub(crate) fn add_load<'a>(
     taker: usize,
     loaded: &Loaded<'a>,
     items: &mut Module,
-) -> Result<(), AllocError> {
+) -> Result<(), AllocError>
+    ensures { OnOk result
+        (items_of items.new ≡ items_of items.old ++ added.load_of names.now taker loaded.now ∷ []) }
+{
     let module = loaded.module;
     let load = names.of(Label::Load { module });
     let whole = loaded_whole(names, taker, loaded);
@@ -90,7 +129,10 @@ pub(crate) fn add_load<'a>(
 }
 
 // What stands for the whole of a CommonJS module, where it is taken.
-fn loaded_whole<'a>(names: &Names<'a>, taker: usize, loaded: &Loaded<'a>) -> Option<Name<'a>> {
+fn loaded_whole<'a>(names: &Names<'a>, taker: usize, loaded: &Loaded<'a>) -> Option<Name<'a>>
+    ensures { option_map ident_of result
+        ≡ added.loaded_whole names.now taker loaded.now.module loaded.now.whole }
+{
     if !loaded.whole {
         return None;
     }
@@ -104,12 +146,16 @@ fn loaded_whole<'a>(names: &Names<'a>, taker: usize, loaded: &Loaded<'a>) -> Opt
 }
 
 // The names that are taken of a CommonJS module, with what stands for them.
+#[tactic(auto, using(crate::proofs::Adding::adding))]
 fn loaded_pairs<'a>(
     alloc: Global,
     names: &Names<'a>,
     taker: usize,
     loaded: &Loaded<'a>,
-) -> Result<Vec<Pair<'a>>, AllocError> {
+) -> Result<Vec<Pair<'a>>, AllocError>
+    ensures { IfOk result (λ pairs.
+        map pair_of pairs.items ≡ added.loaded_pairs names.now taker loaded.now) }
+{
     let module = loaded.module;
     let mut pairs = Vec::new(alloc);
     for name in &loaded.names {

@@ -1,0 +1,10 @@
+-- The pairs so far are those of the names passed.
+use Rattle.std.proofs.Common.{◌≡◌, map, take}
+use Rattle.bundle_merge_injected.specs.Listed.{pair_of}
+use Rattle.bundle_merge_items.specs.Added as added
+use Rattle.bundle_merge_items.proofs.outside.external_pairs.Given as goal
+
+abbrev pub invariant-loop-name : goal.invariant-loop-name
+invariant-loop-name l =
+    map pair_of l.pairs.items
+    ≡ added.external_pairs l.names l.external.specifier (take l.name-index l.name-items)

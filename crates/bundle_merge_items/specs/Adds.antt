@@ -1,0 +1,82 @@
+-- When a bundle whose modules are merged is that of a program, and what is added is made for causes.
+use Rattle.std.specs.Prelude.{◌≡◌, ℕ, true, Bool, List, ◌++◌, ◌∷◌, [], Option, Some, None, length, map, slice_get, unwrap_or, ⊤}
+use Rattle.std.specs.List.{AllZip}
+use Rattle.bundle_tree_ast.specs.declared.module.Module.{Module}
+use Rattle.bundle_tree_piece.specs.Item.{Item}
+use Rattle.bundle_rules.specs.Bundle.{Cause, HoldsMeta, Hooks, MayHold, AreFaultless}
+use Rattle.bundle_rules.specs.Entries.{has_import_meta}
+use Rattle.bundle_rules.specs.Program.{Program, tree_of, IsReached}
+use Rattle.bundle_scope_renamed.specs.fit.Sorts.{AProperty, Many, slot}
+use Rattle.bundle_scope_renamed.specs.fit.Fits.{AreFit}
+use Rattle.bundle_merge_whole.specs.made.Given.{Contexts}
+use Rattle.bundle_merge_whole.specs.made.Made.{IsMade}
+use Rattle.bundle_merge_whole.specs.made.Alone.{AreSound}
+use Rattle.bundle_merge_whole.specs.planned.Decided.{Decided}
+use Rattle.bundle_merge_whole.specs.sound.Decided.{AreTold, decided_by}
+use Rattle.bundle_merge_whole.specs.planned.Blocks.{block_of}
+use Rattle.bundle_merge_names.specs.Bundle.{AreBundleParts, AreNamesOf}
+use Rattle.bundle_merge_names.specs.declared.names.Names.{Names}
+use Rattle.bundle_merge_names.specs.declared.part.Answered.{Answered}
+use Rattle.bundle_merge_names.specs.declared.part.BundleParts.{BundleParts}
+use Rattle.bundle_merge_items.specs.Added.{items_of}
+
+-- a hook that may answer anything: which hook was asked is not known here
+abbrev pub any_hooks : Hooks
+any_hooks = record { may_answer = λ file is_entry properties. ⊤ }
+
+-- what was answered for modules is there for just those that have an `import.meta`; it is a list of
+-- properties, and has no fault
+pub record AreAnswered (q : Program) (answers : ℕ → Option (List Item)) : Type 0 where
+  pub there : (m : ℕ) → IsReached q m → has_import_meta (tree_of q m) ≡ true →
+      (properties : List Item) × (answers m ≡ Some properties)
+  pub asked : (m : ℕ) (properties : List Item) → answers m ≡ Some properties →
+      has_import_meta (tree_of q m) ≡ true
+  pub held : (m : ℕ) (properties : List Item) → answers m ≡ Some properties →
+      MayHold q any_hooks m properties
+  pub faultless : (m : ℕ) (properties : List Item) → answers m ≡ Some properties →
+      AreFaultless q properties
+  pub fit : (m : ℕ) (properties : List Item) → answers m ≡ Some properties →
+      AreFit (slot 0 Many AProperty ∷ []) properties
+
+-- a bundle is that of a program whose modules are numbered by their places, and has these names
+pub record IsNamedBundle (q : Program) (list : List ℕ) (answers : ℕ → Option (List Item))
+    (context : Contexts) (bundle : BundleParts) (names : Names) : Type 0 where
+  pub sound : AreSound q list
+  pub parts : AreBundleParts q list answers bundle
+  pub answered : AreAnswered q answers
+  pub named : AreNamesOf q list answers context bundle names
+
+-- what linking, the tables and the plan decide of its modules
+abbrev pub decided_of : BundleParts → (ℕ → Bool) → (ℕ → ℕ) → Decided
+decided_of bundle meta count =
+    decided_by bundle.linking.now meta count (length bundle.parts.now)
+    (map block_of bundle.blocks.now)
+
+-- items are added behind those that are there, each made for one of these causes in turn
+pub record Adds (q : Program) (list : List ℕ) (answers : ℕ → Option (List Item))
+    (context : Contexts) (causes : List Cause) (old new : Module) : Type 0 where
+  pub made : List (List Item)
+  pub each : AllZip (IsMade q any_hooks list context answers) causes made
+  pub is : items_of new ≡ items_of old ++ made
+
+-- the same for each program whose bundle this is, where such causes are its
+abbrev pub AddsFor : BundleParts → Names → (Program → List Cause → Type 0) → Module → Module → Type 0
+AddsFor bundle names Are old new =
+    (q : Program) (list : List ℕ) (answers : ℕ → Option (List Item)) (context : Contexts)
+    (causes : List Cause) → IsNamedBundle q list answers context bundle names → Are q causes →
+    Adds q list answers context causes old new
+
+-- the causes are what a plan makes of what is decided of the modules, as their tables have it
+abbrev pub IsPlanned : BundleParts → (Decided → List Cause) → Program → List Cause → Type 0
+IsPlanned bundle plan q causes =
+    (meta : ℕ → Bool) × (count : ℕ → ℕ) × AreTold q (length bundle.parts.now) meta count
+    × (causes ≡ plan (decided_of bundle meta count))
+
+-- the object that holds the `import.meta` of module m is added, in each bundle that has this answer
+-- for it
+abbrev pub AddsMeta : Names → ℕ → Answered → Module → Module → Type 0
+AddsMeta names m answer old new =
+    (q : Program) (list : List ℕ) (answers : ℕ → Option (List Item)) (context : Contexts)
+    (bundle : BundleParts) → IsNamedBundle q list answers context bundle names → IsReached q m →
+    unwrap_or (slice_get bundle.answers.now m) None ≡ Some answer →
+    Adds q list answers context (HoldsMeta m ∷ []) old new

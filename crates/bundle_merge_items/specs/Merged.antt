@@ -1,0 +1,43 @@
+-- The modules of a bundle as one: the items that it is made of.
+use Rattle.std.specs.Prelude.{◌≡◌, ℕ, nat_eq, Bool, List, ◌++◌, Option, Some, Contains, map, slice_get}
+use Rattle.std.specs.List.{IsDistinct}
+use Rattle.bundle_tree_ast.specs.declared.module.Module.{Module}
+use Rattle.bundle_tree_piece.specs.Item.{Item}
+use Rattle.bundle_order_sort.specs.declared.plan.Block.{Block}
+use Rattle.bundle_rules.specs.Program.{Program}
+use Rattle.bundle_merge_whole.specs.made.Given.{Contexts, TopOf}
+use Rattle.bundle_merge_whole.specs.made.Made.{AreMade, IsBlockMade}
+use Rattle.bundle_merge_whole.specs.made.Alone.{TellApart}
+use Rattle.bundle_merge_whole.specs.planned.Blocks.{block_of}
+use Rattle.bundle_merge_whole.specs.planned.Decided.{Decided}
+use Rattle.bundle_merge_names.specs.declared.part.BundleParts.{BundleParts}
+use Rattle.bundle_merge_names.specs.declared.part.Part.{Part}
+use Rattle.bundle_merge_items.specs.Added.{items_of}
+use Rattle.bundle_merge_items.specs.Adds.{any_hooks, decided_of}
+
+-- no module stands twice in one of the blocks of a bundle
+abbrev pub AreBlocksOnce : BundleParts → Type 0
+AreBlocksOnce bundle =
+    (block : Block) → Contains bundle.blocks.now block → IsDistinct nat_eq block.places.items
+
+-- the items of a block are added behind those that are there, in some order that is good
+pub record AddsBlock (q : Program) (list : List ℕ) (answers : ℕ → Option (List Item))
+    (context : Contexts) (d : Decided) (block : Block) (old new : Module) : Type 0 where
+  pub order : List ℕ
+  pub placed : List (List Item)
+  pub made : IsBlockMade q any_hooks list context answers d (block_of block) order placed
+  pub is : items_of new ≡ items_of old ++ placed
+
+-- a module is what the modules of a bundle make, where contexts tell apart what has one, and each
+-- module keeps that of its top
+pub record IsMergedOf (q : Program) (list : List ℕ) (answers : ℕ → Option (List Item))
+    (bundle : BundleParts) (meta : ℕ → Bool) (count : ℕ → ℕ) (merged : Module) : Type 0 where
+  pub context : Contexts
+  pub apart : TellApart q answers context
+  pub tops : (m : ℕ) (part : Part) →
+      slice_get bundle.parts.now m ≡ Some part →
+      context (TopOf m) ≡ part.local
+  pub orders : List (List ℕ)
+  pub items : List (List Item)
+  pub made : AreMade q any_hooks list context answers (decided_of bundle meta count) orders items
+  pub is : items_of merged ≡ items
