@@ -1,19 +1,21 @@
 -- The modules of a bundle as one: the items that it is made of.
-use Rattle.std.specs.Prelude.{◌≡◌, ℕ, nat_eq, Bool, List, ◌++◌, Option, Some, Contains, map, slice_get}
+use Rattle.std.specs.Prelude.{◌≡◌, ◌<◌, ℕ, nat_eq, Bool, List, ◌++◌, Option, Some, Contains, map, slice_get}
 use Rattle.std.specs.List.{IsDistinct}
 use Rattle.bundle_tree_ast.specs.declared.module.Module.{Module}
 use Rattle.bundle_tree_piece.specs.Item.{Item}
 use Rattle.bundle_order_sort.specs.declared.plan.Block.{Block}
 use Rattle.bundle_rules.specs.Program.{Program}
-use Rattle.bundle_merge_whole.specs.made.Given.{Contexts, TopOf}
+use Rattle.bundle_merge_whole.specs.made.Given.{Contexts, Holder, TopOf}
 use Rattle.bundle_merge_whole.specs.made.Made.{AreMade, IsBlockMade}
-use Rattle.bundle_merge_whole.specs.made.Alone.{TellApart}
+use Rattle.bundle_merge_whole.specs.made.Alone.{IsHolder, TellApart}
 use Rattle.bundle_merge_whole.specs.planned.Blocks.{block_of}
 use Rattle.bundle_merge_whole.specs.planned.Decided.{Decided}
+use Rattle.bundle_merge_names.specs.Numbers.{position}
 use Rattle.bundle_merge_names.specs.declared.part.BundleParts.{BundleParts}
 use Rattle.bundle_merge_names.specs.declared.part.Part.{Part}
 use Rattle.bundle_merge_items.specs.Added.{items_of}
 use Rattle.bundle_merge_items.specs.Adds.{any_hooks, decided_of}
+use Rattle.bundle_merge_items.specs.declared.merge.Merged.{Merged}
 
 -- no module stands twice in one of the blocks of a bundle
 abbrev pub AreBlocksOnce : BundleParts → Type 0
@@ -28,16 +30,17 @@ pub record AddsBlock (q : Program) (list : List ℕ) (answers : ℕ → Option (
   pub made : IsBlockMade q any_hooks list context answers d (block_of block) order placed
   pub is : items_of new ≡ items_of old ++ placed
 
--- a module is what the modules of a bundle make, where contexts tell apart what has one, and each
--- module keeps that of its top
+-- what is merged is what the modules of a bundle make, where contexts tell apart what has one, each
+-- module keeps that of its top, and the next free one is above all
 pub record IsMergedOf (q : Program) (list : List ℕ) (answers : ℕ → Option (List Item))
-    (bundle : BundleParts) (meta : ℕ → Bool) (count : ℕ → ℕ) (merged : Module) : Type 0 where
+    (bundle : BundleParts) (meta : ℕ → Bool) (count : ℕ → ℕ) (merged : Merged) : Type 0 where
   pub context : Contexts
   pub apart : TellApart q answers context
   pub tops : (m : ℕ) (part : Part) →
       slice_get bundle.parts.now m ≡ Some part →
       context (TopOf m) ≡ part.local
+  pub below : (a : Holder) → IsHolder q answers a → context a < position merged.contexts
   pub orders : List (List ℕ)
   pub items : List (List Item)
   pub made : AreMade q any_hooks list context answers (decided_of bundle meta count) orders items
-  pub is : items_of merged ≡ items
+  pub is : items_of merged.«module» ≡ items

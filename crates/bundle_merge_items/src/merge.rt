@@ -1,6 +1,6 @@
 //! The modules of a bundle as one: what is imported, the helper, the modules block by block, and what is exported.
 
-ghost use Rattle.std.specs.Prelude.{◌≡◌, ◌<◌, ◌-◌, ◌++◌, ◌∷◌, ℕ, Bool, true, List, [], Option, Contains, IfOk, OnOk, flat_map, length, map, replicate};
+ghost use Rattle.std.specs.Prelude.{◌≡◌, ◌<◌, ◌-◌, ◌++◌, ◌∷◌, ℕ, Bool, true, List, [], Option, Contains, IfErr, IfOk, OnOk, flat_map, length, map, replicate};
 ghost use Rattle.std.specs.List.{list_any};
 ghost use Rattle.bundle_rules.specs.Bundle.{Helps, Stars};
 ghost use Rattle.bundle_rules.specs.Program.{Program};
@@ -8,6 +8,8 @@ ghost use Rattle.bundle_merge_whole.specs.made.Alone.{AreSound};
 ghost use Rattle.bundle_merge_whole.specs.planned.Decided.{back_plan, external_plan, front_plan, module_plan, object_plan, one_if};
 ghost use Rattle.bundle_merge_whole.specs.sound.Decided.{AreTold};
 ghost use Rattle.bundle_merge_names.specs.Bundle.{AreBundleParts};
+ghost use Rattle.bundle_merge_names.specs.Numbers.{position};
+ghost use Rattle.bundle_merge_names.specs.Refused.{RefusesNames};
 ghost use Rattle.bundle_merge_items.specs.Adds.{AreAnswered};
 ghost use Rattle.bundle_merge_items.specs.Blocks.{AddsBlocks, AddsOwned, AddsPlan, AreItemsMade, AreWithin, InBundle, IsBlockPut, IsPlaced};
 ghost use Rattle.bundle_merge_items.specs.Merged.{AddsBlock, AreBlocksOnce, IsMergedOf};
@@ -37,7 +39,7 @@ pub struct Merged {
 
 /// The modules of a bundle as one. Refused where contexts run out, and for memory.
 pub fn merge_modules(alloc: Global, bundle: &BundleParts<'_, '_, '_>) -> Result<Merged, MergeError>
-    ensures { IfOk result (λ merged.
+    ensures merged { IfOk result (λ merged.
         (q : Program) (list : List ℕ) (answers : ℕ → Option (List Item))
         (meta : ℕ → Bool) (count : ℕ → ℕ) →
         AreSound q list →
@@ -45,7 +47,11 @@ pub fn merge_modules(alloc: Global, bundle: &BundleParts<'_, '_, '_>) -> Result<
         AreBlocksOnce bundle.now →
         AreAnswered q answers →
         AreTold q (length bundle.now.parts.now) meta count →
-        IsMergedOf q list answers bundle.now meta count merged.module) }
+        IsMergedOf q list answers bundle.now meta count merged) }
+    ensures refused { IfErr result (λ refusal.
+        (q : Program) (list : List ℕ) (answers : ℕ → Option (List Item)) →
+        AreBundleParts q list answers bundle.now →
+        RefusesNames q list answers (position bundle.now.contexts) refusal) }
 {
     let names = names_of(alloc, bundle)?;
     let module = merged_module(alloc, bundle, &names)?;

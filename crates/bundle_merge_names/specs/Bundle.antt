@@ -89,9 +89,11 @@ holder_symbol p list HelperParameter = codes "fn"
 holder_symbol p list HelperVariable = codes "module"
 holder_symbol p list _ = []
 
--- the names of a bundle are those of these contexts, which tell apart what has one
+-- the names of a bundle are those of these contexts, which tell apart what has one; the next free one
+-- is above all
 pub record AreNamesOf (p : Program) (list : List ℕ) (answers : ℕ → Option (List Item)) (context : Contexts) (bundle : BundleParts) (names : Names) : Type 0 where
   pub apart : TellApart p answers context
+  pub below : (a : Holder) → IsHolder p answers a → context a < position names.contexts
   pub locals : (m : ℕ) → m < length bundle.parts.now → local_in names m ≡ Some (context (TopOf m))
   pub tops : (m : ℕ) (part : Part) →
       slice_get bundle.parts.now m ≡ Some part →

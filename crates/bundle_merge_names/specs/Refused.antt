@@ -1,5 +1,5 @@
 -- Why the modules of a bundle get no contexts.
-use Rattle.std.specs.Prelude.{ℕ, ◌+◌, ◌<◌, ◌≤◌, List, Option, Some, None}
+use Rattle.std.specs.Prelude.{◌≡◌, ℕ, ◌+◌, ◌<◌, ◌≤◌, List, Option, Some, None, Contains, length, slice_get}
 use Rattle.bundle_tree_piece.specs.Item.{Item}
 use Rattle.bundle_rules.specs.Bundle.{properties_tree}
 use Rattle.bundle_rules.specs.Counts.{binding_count}
@@ -7,9 +7,10 @@ use Rattle.bundle_rules.specs.Meaning.{HasKind}
 use Rattle.bundle_rules.specs.Program.{Program, tree_of, IsReached}
 use Rattle.bundle_rules.specs.Scopes.{ModuleKind, Es}
 use Rattle.bundle_merge_whole.specs.planned.Counted.{sum_of}
+use Rattle.bundle_merge_names.specs.Added.{IsOfLabels}
 use Rattle.bundle_merge_names.specs.declared.error.MergeError.{MergeError}
 use Rattle.bundle_merge_names.specs.declared.error.MergeError.TheVariants.{ContextsUsedUp, OutOfMemory}
-use Rattle.bundle_merge_whole.specs.made.Given.{InsideOf, AnsweredOf}
+use Rattle.bundle_merge_whole.specs.made.Given.{Holder, InsideOf, AnsweredOf}
 use Rattle.bundle_merge_whole.specs.made.Alone.{IsHolder}
 
 -- the bindings of what the hook answered
@@ -43,3 +44,31 @@ pub data RefusesContextsIn (p : Program) (list : List ℕ) (answers : ℕ → Op
       IsHolder p answers (AnsweredOf m begins) →
       LacksContexts p list answers next →
       RefusesContextsIn p list answers next (ContextsUsedUp (Some m))
+
+-- different holders of contexts that are labels of the linker's own or names of the helper
+pub record AreLabels (p : Program) (list : List ℕ) (holders : List Holder) : Type 0 where
+  pub each : (holder : Holder) → Contains holders holder → IsOfLabels p list holder
+  pub once : (i j : ℕ) (holder : Holder) →
+      slice_get holders i ≡ Some holder →
+      slice_get holders j ≡ Some holder →
+      i ≡ j
+
+-- from the next one on there are fewer contexts than the modules of a list have bindings and the
+-- linker has labels
+pub record LacksForLabels (p : Program) (list : List ℕ) (answers : ℕ → Option (List Item))
+    (next : ℕ) : Type 0 where
+  pub holders : List Holder
+  pub are : AreLabels p list holders
+  pub above : (most : ℕ → ℕ) →
+      ((m : ℕ) → IsReached p m → HasAtMost p answers m (most m)) →
+      4294967295 < next + sum_of most list + length holders
+
+-- a bundle gets no names: for memory, or since no context is left for a scope of a module or of what
+-- the hook answered for it, or for a label
+pub data RefusesNames (p : Program) (list : List ℕ) (answers : ℕ → Option (List Item))
+    (next : ℕ) : MergeError → Type 0 where
+  for_scopes : {refusal : MergeError} →
+      RefusesContextsIn p list answers next refusal →
+      RefusesNames p list answers next refusal
+  for_labels : LacksForLabels p list answers next →
+      RefusesNames p list answers next (ContextsUsedUp None)

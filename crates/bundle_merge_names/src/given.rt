@@ -21,7 +21,7 @@ ghost use Rattle.bundle_merge_whole.specs.made.Alone.{IsHolder};
 ghost use Rattle.bundle_merge_names.specs.Inside.{AreScopesNamed, GivesModule, HoldsNothing, RefusesModule, answer_of};
 ghost use Rattle.bundle_merge_names.specs.Numbers as numbers;
 ghost use Rattle.bundle_merge_names.specs.Ranges.{GivesAnswered, GivesContexts, RefusesAnswered, RefusesContexts};
-ghost use Rattle.bundle_merge_names.specs.Refused.{RefusesContextsIn};
+ghost use Rattle.bundle_merge_names.specs.Refused.{RefusesContextsIn, RefusesNames};
 ghost use Rattle.bundle_merge_names.specs.Scoped.{AreMarks, GivesScope, RefusesScope, flag_in, scope_number};
 
 use crate::error::MergeError;
@@ -38,10 +38,14 @@ pub fn names_of<'a>(
     alloc: Global,
     bundle: &BundleParts<'_, 'a, '_>,
 ) -> Result<Names<'a>, MergeError>
-    ensures { IfOk result (λ names.
+    ensures named { IfOk result (λ names.
         (p : Program) (list : List ℕ) (answers : ℕ → Option (List Item)) →
         AreBundleParts p list answers bundle.now →
         (context : Contexts) × AreNamesOf p list answers context bundle.now names) }
+    ensures refused { IfErr result (λ refusal.
+        (p : Program) (list : List ℕ) (answers : ℕ → Option (List Item)) →
+        AreBundleParts p list answers bundle.now →
+        RefusesNames p list answers (numbers.position bundle.now.contexts) refusal) }
 {
     let mut names = Names::new(alloc, bundle.contexts);
     give_names(alloc, &mut names, bundle)?;

@@ -7,3 +7,4 @@ pub mod PartLemmas
 pub mod SourceLemmas
 pub mod StatementLemmas
 pub mod BundleLemmas
+mod PartsLemmas

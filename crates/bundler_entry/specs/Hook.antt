@@ -1,5 +1,5 @@
 -- What the hook is asked for, and what may be wrong there.
-use Rattle.std.specs.Prelude.{◌≡◌, Bool, List, flat_map, map}
+use Rattle.std.specs.Prelude.{◌≡◌, ℕ, Bool, List, Option, Some, flat_map, map, slice_get}
 use Rattle.bundle_tree_piece.specs.Item.{Item, item_of}
 use Rattle.bundle_tree_ast.specs.declared.expr.Expr.{Expr}
 use Rattle.bundle_tree_ast.specs.declared.prop.KeyValueProp.{KeyValueProp}
@@ -46,3 +46,9 @@ pub record IsRead (given : List (KeyValueProp Expr)) (meta : ReadMeta) : Type 0 
   pub properties : meta.properties.now ≡ given
   pub list : map item_of meta.pieces.items ≡ properties_tree (flat_map (key_value_prop_items 0) given)
   pub names : IsTable BySymbol Es (map item_of meta.pieces.items) meta.names
+
+-- what was read of answers is these answers
+abbrev pub AreRead : List (Option ReadMeta) → Type 0
+AreRead metas = (k : ℕ) (meta : ReadMeta) →
+    slice_get metas k ≡ Some (Some meta) →
+    IsRead meta.properties.now meta

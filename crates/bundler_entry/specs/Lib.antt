@@ -4,3 +4,6 @@ pub mod Linked
 pub mod Hook
 pub mod Asked
 pub mod Finished
+pub mod Parts
+pub mod Merged
+pub mod Made

@@ -1,5 +1,5 @@
 -- When the modules that an entry reaches are those of a program, and linked.
-use Rattle.std.specs.Prelude.{◌≡◌, ℕ, suc, ◌<◌, List, Option, Some, Contains, IfSome, length, map, slice_get}
+use Rattle.std.specs.Prelude.{◌≡◌, ℕ, suc, ◌<◌, ◌≤◌, List, Option, Some, Contains, IfSome, length, map, slice_get}
 use Rattle.std.specs.Borrow.{Bor}
 use Rattle.std.specs.Option.{option_and_then}
 use Rattle.std.specs.declared.alloc.Global.{Global}
@@ -9,8 +9,8 @@ use Rattle.bundle_tree_names.specs.FileName.{Name, name_of}
 use Rattle.bundle_tree_names.specs.declared.file_name.FileName.{FileName}
 use Rattle.bundle_tree_piece.specs.declared.piece.Piece.{Piece}
 use Rattle.bundle_rules.specs.Nodes.{Text}
-use Rattle.bundle_rules.specs.Program.{Program, module_of}
-use Rattle.bundle_rules.specs.Faults.{IsFaultlessProgram, fault_of}
+use Rattle.bundle_rules.specs.Program.{Program, file_of, module_of}
+use Rattle.bundle_rules.specs.Faults.{IsFaultlessProgram, fault_of, last_number}
 use Rattle.bundle_link_index.specs.declared.target.LinkModule.{LinkModule}
 use Rattle.bundle_link.specs.Programs.{is_call}
 use Rattle.bundle_link.specs.Refusals.{Links}
@@ -23,6 +23,7 @@ use Rattle.bundle_link_reached.specs.Reached.{IsReachedOf}
 use Rattle.bundle_link_reached.specs.declared.judging.Told.{Told}
 use Rattle.bundle_link_reached.specs.declared.reached.Reached.{Reached}
 use Rattle.bundle_order_sort.specs.Plan.{IsPlanOf}
+use Rattle.bundler_entry.specs.Finished.{is_renaming}
 use Rattle.bundler_entry.specs.Source.{IsProgramOf, IsSourceOf}
 use Rattle.bundler_entry.specs.Unlinked.{error_of}
 use Rattle.bundler_entry.specs.declared.call.Call.{Call}
@@ -34,13 +35,18 @@ use Rattle.bundler_entry.specs.declared.unlinked.Unlinked.{Unlinked}
 abbrev pub ids_of : Call → List ℕ
 ids_of call = call.program.now.files.ids.keys
 
--- the files and the settings of a call are those of a program, whose entry is this
+-- the files and the settings of a call are those of a program, whose entry is this; their numbers
+-- have contexts of their own, and there are as many as the program knows
 pub record IsCallOf (p : Program) (entry : ℕ) (call : Call) : Type 0 where
   pub program : IsProgramOf p call.program.now
   pub links : Links call.config.now p.settings
   pub iife : p.settings.iife ≡ is_call call.config.now.«module»
+  pub renames : p.settings.renames ≡ is_renaming call.config.now
   pub begins : p.entry ≡ entry
   pub there : Contains (ids_of call) entry
+  pub named : file_of p entry ≡ Some (name_of call.entry.now)
+  pub bounded : (m : ℕ) → Contains (ids_of call) m → m ≤ last_number
+  pub counted : call.program.now.count ≤ p.count
 
 -- the modules are those that the entry reaches
 abbrev pub IsReachedIn : Program → Call → Reached → Type 0
@@ -123,6 +129,11 @@ pub record AreLists (sources : List Source) (reached : Reached) (n : ℕ) (lists
 -- the file of a call at a place
 abbrev pub IsFileAt : Call → Reached → ℕ → FileName × ℕ → Type 0
 IsFileAt call reached k file = (place : ℕ) × (slice_get reached.places.items k ≡ Some place) × (slice_get call.program.now.files.files.now.entries place ≡ Some file)
+
+-- the files of the first n modules are there
+abbrev pub HasFiles : Call → Reached → ℕ → Type 0
+HasFiles call reached n =
+    (k : ℕ) → k < n → (file : FileName × ℕ) × IsFileAt call reached k file
 
 -- the refusal tells what is told of the file of its module
 abbrev pub TellsFileAt : Call → Reached → Told → Unlinked → Type 0

@@ -1,12 +1,16 @@
 //! The module of an entry that has no fault, and what the hook answers for its modules.
 
-ghost use Rattle.std.specs.Prelude.{◌≡◌, ℕ, false, IfErr, IfNone, IfOk, IfSome, IsTrue, Some, length, slice_get};
+ghost use Rattle.std.specs.Prelude.{◌≡◌, ◌<◌, ℕ, false, Contains, IfErr, IfNone, IfOk, IfSome, IsSome, IsTrue, List, Option, Some, length, option_map, slice_get};
 ghost use Rattle.bundle_tree_names.specs.FileName.{name_of};
 ghost use Rattle.bundle_rules.specs.Entries.{has_import_meta};
 ghost use Rattle.bundle_rules.specs.Faults.{fault_of};
 ghost use Rattle.bundle_rules.specs.Program as program;
 ghost use Rattle.bundle_rules.specs.Program.{tree_of};
-ghost use Rattle.bundler_entry.specs.Asked.{AreAnsweredBefore, IsAnsweredFor, IsAskedModule, IsRefusedAt, IsRefusedFor};
+ghost use Rattle.bundle_tree_piece.specs.Item.{Item};
+ghost use Rattle.bundler_entry.specs.Asked.{AreAnswersBefore, AreAskedAnswers, IsAnswerOf, IsAskedModule, IsRefusedAt, IsRefusedFor};
+ghost use Rattle.bundler_entry.specs.Hook.{AreRead};
+ghost use Rattle.bundler_entry.specs.Made.{AreOfAnswers, IsMadeOf, IsRefusedMaking, answers_in};
+ghost use Rattle.bundler_entry.specs.declared.entry.Answer as answer;
 ghost use Rattle.bundler_entry.specs.Linked.{IsCallOf, IsLinkedEntry, IsReachedIn};
 ghost use Rattle.bundler_entry.specs.Unlinked.{MayBeMerging, error_of};
 
@@ -36,7 +40,16 @@ pub fn module_of<'p, 'x>(
     linked: &Linked<'x>,
     answers: &[Answer],
 ) -> Result<Module, Unlinked>
-    ensures { IfErr result MayBeMerging }
+    ensures made { IfOk result (λ made. (p : program.Program) (entry : ℕ) →
+        IsCallOf p entry call.now → (its : IsLinkedEntry p call.now linked.now) →
+        AreAskedAnswers its.links.places answers.now →
+        (given : ℕ → Option (List Item)) × AreOfAnswers answers.now given
+        × IsMadeOf its.links.places call.now linked.now given made) }
+    ensures refused { IfErr result (λ unlinked. (p : program.Program) (entry : ℕ) →
+        IsCallOf p entry call.now → (its : IsLinkedEntry p call.now linked.now) →
+        AreAskedAnswers its.links.places answers.now →
+        (given : ℕ → Option (List Item)) × AreOfAnswers answers.now given
+        × IsRefusedMaking its.links.places call.now linked.now given unlinked) }
 {
     let metas = read_answers(alloc, linked.reached.places.len(), answers)?;
     made(alloc, call, linked, metas.as_slice())
@@ -47,7 +60,13 @@ fn read_answers<'y>(
     alloc: Global,
     count: usize,
     answers: &'y [Answer],
-) -> Result<Vec<Option<ReadMeta<'y>>>, AllocError> {
+) -> Result<Vec<Option<ReadMeta<'y>>>, AllocError>
+    ensures read { IfOk result (λ metas. AreRead metas.items) }
+    ensures of { IfOk result (λ metas. AreOfAnswers answers.entry.now (answers_in metas.items)) }
+    ensures all { IfOk result (λ metas. (answer : answer.Answer) →
+        Contains answers.entry.now answer → answer.«module» < count →
+        IsSome (answers_in metas.items answer.«module»)) }
+{
     let mut metas = Vec::new(alloc);
     for _ in 0..count {
         metas.push(None)?;
@@ -71,8 +90,8 @@ pub fn ask_all<'p, 'x>(
 ) -> Result<Vec<Answer>, Unlinked>
     ensures answered { IfOk result (λ answers. (p : program.Program) (entry : ℕ) →
         IsCallOf p entry call.now → IsLinkedEntry p call.now linked.now →
-        AreAnsweredBefore (may_give hook.now) p linked.now.reached.list.items
-        (length linked.now.reached.list.items)) }
+        AreAnswersBefore (may_give hook.now) p linked.now.reached.list.items
+        (length linked.now.reached.list.items) answers.items) }
     ensures refused { IfErr result (λ unlinked.
         (p : program.Program) (entry : ℕ) →
         IsCallOf p entry call.now →
@@ -102,7 +121,7 @@ fn ask_at<'p, 'x>(
     ensures answered { IfOk result (λ answer. (p : program.Program) (entry m : ℕ) →
         IsCallOf p entry call.now → IsReachedIn p call.now reached.now →
         slice_get reached.now.list.items «module» ≡ Some m →
-        IsTrue (has_import_meta (tree_of p m)) → IsAnsweredFor (may_give hook.now) p m) }
+        IsAnswerOf (may_give hook.now) p m (option_map (λ given. given.items) answer)) }
     ensures refused { IfErr result (λ unlinked. (p : program.Program) (entry m : ℕ) →
         IsCallOf p entry call.now → IsReachedIn p call.now reached.now →
         slice_get reached.now.list.items «module» ≡ Some m →

@@ -1,6 +1,19 @@
 //! The module that the modules of an entry make.
 
-ghost use Rattle.std.specs.Prelude.{IfErr, IfOk};
+ghost use Rattle.std.specs.Prelude.{◌≡◌, ℕ, IfErr, IfOk, IfSome, IsSome, List, Some, length, map, slice_get};
+ghost use Rattle.std.specs.List.{AllZip};
+ghost use Rattle.bundle_tree_names.specs.declared.file_name.FileName as names;
+ghost use Rattle.bundle_tree_piece.specs.Item.{item_of};
+ghost use Rattle.bundle_rules.specs.Declarations.{BySymbol};
+ghost use Rattle.bundle_rules.specs.Program as program;
+ghost use Rattle.bundle_rules.specs.Scopes.{Cjs};
+ghost use Rattle.bundle_scope_denote.specs.Listed.{IsTable};
+ghost use Rattle.bundle_merge_items.specs.Adds.{AreAnswered};
+ghost use Rattle.bundler_entry.specs.Hook.{AreRead};
+ghost use Rattle.bundler_entry.specs.Linked.{HasFiles, HasPlace, HasPlaces, IsCallOf, IsFileAt, IsLinkedEntry};
+ghost use Rattle.bundler_entry.specs.Made.{IsMadeOf, IsRefusedMaking, answers_in};
+ghost use Rattle.bundler_entry.specs.Merged.{IsMergedIn};
+ghost use Rattle.bundler_entry.specs.Parts.{AreBodies, AreEntryParts, IsAnswerRead, IsBodyAt, IsEntryPart};
 ghost use Rattle.bundler_entry.specs.Unlinked.{MayBeMerging};
 
 use crate::call::{Call, file_at, file_of, source_at};
@@ -20,24 +33,46 @@ use indexmap::IndexMap;
 use std::alloc::{AllocError, Global};
 
 // What the names of each CommonJS module denote, read as the body of a function.
-fn read_common_js<'p, 'x>(
+fn bodies_of<'p, 'x>(
     alloc: Global,
     call: &Call<'p, 'x>,
     reached: &Reached,
     linking: &Linking<'x>,
-) -> Result<Vec<Option<Denotations<'x>>>, AllocError> {
-    let mut kinds = Vec::new(alloc);
+) -> Result<Vec<Option<Denotations<'x>>>, AllocError>
+    ensures { IfOk result (λ bodies.
+        AreBodies call.now reached.now linking.now (length reached.now.places.items) bodies.items) }
+{
+    let mut bodies = Vec::new(alloc);
     for module in 0..reached.places.len() {
-        let mut names = None;
-        if linking.is_common_js(module) {
-            if let Some(source) = source_at(call, reached, module) {
-                let pieces = source.pieces.as_slice();
-                names = Some(denotations(alloc, pieces, ModuleKind::Cjs, Reading::BySymbol)?);
-            }
-        }
-        kinds.push(names)?;
+        bodies.push(body_at(alloc, call, reached, linking, module)?)?;
     }
-    Ok(kinds)
+    Ok(bodies)
+}
+
+// What the names of a module denote as the body of a function, where it is a CommonJS module.
+fn body_at<'p, 'x>(
+    alloc: Global,
+    call: &Call<'p, 'x>,
+    reached: &Reached,
+    linking: &Linking<'x>,
+    module: usize,
+) -> Result<Option<Denotations<'x>>, AllocError>
+    ensures { IfOk result (IsBodyAt call.now reached.now linking.now «module») }
+{
+    if !linking.is_common_js(module) {
+        return Ok(None);
+    }
+    match source_at(call, reached, module) {
+        Some(source) => Ok(Some(body_of(alloc, source)?)),
+        None => Ok(None),
+    }
+}
+
+// What the names of a module denote, read as the body of a function.
+fn body_of<'x>(alloc: Global, source: &Source<'x>) -> Result<Denotations<'x>, AllocError>
+    ensures { IfOk result (IsTable BySymbol Cjs (map item_of source.now.pieces.items)) }
+{
+    denotations(alloc, source.pieces.as_slice(), ModuleKind::Cjs, Reading::BySymbol)
 }
 
 /// The module that all modules make, where this is what the hook answered, by their numbers.
@@ -47,11 +82,18 @@ pub fn made<'p, 'x, 'h>(
     linked: &Linked<'x>,
     metas: &[Option<ReadMeta<'h>>],
 ) -> Result<Module, Unlinked>
-    ensures { IfErr result MayBeMerging }
+    ensures made { IfOk result (λ made. (p : program.Program) (entry : ℕ) →
+        IsCallOf p entry call.now → (its : IsLinkedEntry p call.now linked.now) →
+        AreRead metas.now → AreAnswered its.links.places (answers_in metas.now) →
+        IsMadeOf its.links.places call.now linked.now (answers_in metas.now) made) }
+    ensures refused { IfErr result (λ unlinked. (p : program.Program) (entry : ℕ) →
+        IsCallOf p entry call.now → (its : IsLinkedEntry p call.now linked.now) →
+        AreRead metas.now → AreAnswered its.links.places (answers_in metas.now) →
+        IsRefusedMaking its.links.places call.now linked.now (answers_in metas.now) unlinked) }
 {
     let (reached, linking) = (&linked.reached, &linked.linking);
-    let kinds = read_common_js(alloc, call, reached, linking)?;
-    let merged = merged_of(alloc, call, linked, kinds.as_slice(), metas)?;
+    let bodies = bodies_of(alloc, call, reached, linking)?;
+    let merged = merged_of(alloc, call, linked, bodies.as_slice(), metas)?;
     finished(alloc, &merged.module, call.config)
 }
 
@@ -60,12 +102,23 @@ fn merged_of<'t, 'p: 't, 'x, 'h>(
     alloc: Global,
     call: &Call<'p, 'x>,
     linked: &'t Linked<'x>,
-    kinds: &'t [Option<Denotations<'x>>],
+    bodies: &'t [Option<Denotations<'x>>],
     metas: &'t [Option<ReadMeta<'h>>],
 ) -> Result<Merged, Unlinked>
-    ensures { IfErr result MayBeMerging }
+    ensures merged { IfOk result (λ merged. (p : program.Program) (entry : ℕ) →
+        IsCallOf p entry call.now → (its : IsLinkedEntry p call.now linked.now) →
+        AreBodies call.now linked.now.reached linked.now.linking
+        (length linked.now.reached.places.items) bodies.now →
+        AreRead metas.now → AreAnswered its.links.places (answers_in metas.now) →
+        IsMergedIn its.links.places linked.now (answers_in metas.now) merged.module) }
+    ensures refused { IfErr result (λ unlinked. (p : program.Program) (entry : ℕ) →
+        IsCallOf p entry call.now → (its : IsLinkedEntry p call.now linked.now) →
+        AreBodies call.now linked.now.reached linked.now.linking
+        (length linked.now.reached.places.items) bodies.now →
+        AreRead metas.now → AreAnswered its.links.places (answers_in metas.now) →
+        IsRefusedMaking its.links.places call.now linked.now (answers_in metas.now) unlinked) }
 {
-    let parts = parts_of(alloc, call, &linked.reached, kinds)?;
+    let parts = parts_of(alloc, call, &linked.reached, bodies)?;
     let answers = answers_of(alloc, metas)?;
     let bundle = BundleParts {
         parts: parts.as_slice(),
@@ -88,11 +141,18 @@ fn parts_of<'t, 'p: 't, 'x>(
     alloc: Global,
     call: &Call<'p, 'x>,
     reached: &'t Reached,
-    kinds: &'t [Option<Denotations<'x>>],
-) -> Result<Vec<Part<'t, 'x>>, AllocError> {
+    bodies: &'t [Option<Denotations<'x>>],
+) -> Result<Vec<Part<'t, 'x>>, AllocError>
+    ensures { IfOk result (λ parts.
+        HasPlaces call.now.program.now.sources.items reached.entry.now
+        (length reached.entry.now.leads.items) →
+        HasFiles call.now reached.entry.now (length reached.entry.now.leads.items) →
+        AreEntryParts call.now reached.entry.now bodies.entry.now
+        (length reached.entry.now.leads.items) parts.items) }
+{
     let mut parts = Vec::new(alloc);
     for (module, leads) in reached.leads.iter().enumerate() {
-        if let Some(part) = part_of(call, reached, module, leads, kinds) {
+        if let Some(part) = part_of(call, reached, module, leads, bodies) {
             parts.push(part)?;
         }
     }
@@ -105,11 +165,18 @@ fn part_of<'t, 'p: 't, 'x>(
     reached: &Reached,
     module: usize,
     leads: &'t IndexMap<String, usize>,
-    kinds: &'t [Option<Denotations<'x>>],
-) -> Option<Part<'t, 'x>> {
+    bodies: &'t [Option<Denotations<'x>>],
+) -> Option<Part<'t, 'x>>
+    ensures part { IfSome result (λ part.
+        slice_get reached.now.leads.items «module» ≡ Some leads.entry.now →
+        IsEntryPart call.now reached.now bodies.entry.now «module» part) }
+    ensures there { HasPlace call.now.program.now.sources.items reached.now «module» →
+        (file : names.FileName × ℕ) → IsFileAt call.now reached.now «module» file →
+        IsSome result }
+{
     let source = source_at(call, reached, module)?;
     let (_, id) = file_at(call, reached, module)?;
-    let denotations = match kinds.get(module) {
+    let denotations = match bodies.get(module) {
         Some(Some(names)) => names,
         _ => &source.names,
     };
@@ -128,7 +195,9 @@ fn part_of<'t, 'p: 't, 'x>(
 fn answers_of<'t, 'h>(
     alloc: Global,
     metas: &'t [Option<ReadMeta<'h>>],
-) -> Result<Vec<Option<Answered<'t, 'h>>>, AllocError> {
+) -> Result<Vec<Option<Answered<'t, 'h>>>, AllocError>
+    ensures { IfOk result (λ answers. AllZip IsAnswerRead metas.entry.now answers.items) }
+{
     let mut answers = Vec::new(alloc);
     for meta in metas {
         answers.push(answer_of(meta))?;
@@ -136,7 +205,9 @@ fn answers_of<'t, 'h>(
     Ok(answers)
 }
 
-fn answer_of<'t, 'h>(meta: &'t Option<ReadMeta<'h>>) -> Option<Answered<'t, 'h>> {
+fn answer_of<'t, 'h>(meta: &'t Option<ReadMeta<'h>>) -> Option<Answered<'t, 'h>>
+    ensures { IsAnswerRead meta.entry.now result }
+{
     match meta {
         Some(meta) => Some(Answered {
             properties: meta.properties,

@@ -1,0 +1,80 @@
+-- What the modules of an entry are as they are merged, and what the hook answered for them.
+use Rattle.std.specs.Prelude.{◌≡◌, ℕ, ◌<◌, Bool, true, false, List, Option, Some, None, length, map, slice_get, unwrap_or}
+use Rattle.bundle_tree_piece.specs.Item.{item_of}
+use Rattle.bundle_tree_ast.specs.declared.expr.Expr.{Expr}
+use Rattle.bundle_tree_ast.specs.declared.prop.KeyValueProp.{KeyValueProp}
+use Rattle.bundle_tree_names.specs.declared.file_name.FileName.{FileName}
+use Rattle.bundle_rules.specs.Declarations.{BySymbol}
+use Rattle.bundle_rules.specs.Kept.{local_context}
+use Rattle.bundle_rules.specs.Scopes.{Cjs}
+use Rattle.bundle_scope_denote.specs.Listed.{IsTable}
+use Rattle.bundle_scope_denote.specs.declared.table.Denotations.{Denotations}
+use Rattle.bundle_link_index.specs.Leads.{flagged}
+use Rattle.bundle_link_reached.specs.declared.reached.Reached.{Reached}
+use Rattle.bundle_link_targets.specs.declared.linking.Linking.{Linking}
+use Rattle.bundle_merge_names.specs.declared.part.Answered.{Answered}
+use Rattle.bundle_merge_names.specs.declared.part.Part.{Part}
+use Rattle.bundler_entry.specs.Hook.{IsRead}
+use Rattle.bundler_entry.specs.Linked.{IsFileAt, source_in}
+use Rattle.bundler_entry.specs.declared.call.Call.{Call}
+use Rattle.bundler_entry.specs.declared.meta.ReadMeta.{ReadMeta}
+use Rattle.bundler_entry.specs.declared.source.Source.{Source}
+
+-- what stands at a place, if something does
+abbrev pub found_at : {A : Type 0} → List (Option A) → ℕ → Option A
+found_at list k = unwrap_or (slice_get list k) None
+
+-- a CommonJS module was read as the body of a function, and another was not
+abbrev pub IsReadAsBody : Bool → Source → Option Denotations → Type 0
+IsReadAsBody true source None = ⊥
+IsReadAsBody true source (Some names) = IsTable BySymbol Cjs (map item_of source.pieces.items) names
+IsReadAsBody false source found = found ≡ None
+
+-- the same of module k, as linking tells what it is
+abbrev pub IsBodyAt : Call → Reached → Linking → ℕ → Option Denotations → Type 0
+IsBodyAt call reached linking k found =
+    (source : Source) → source_in call reached k ≡ Some source →
+    IsReadAsBody (flagged linking.common_js.items k) source found
+
+-- the same of the first n modules
+pub record AreBodies (call : Call) (reached : Reached) (linking : Linking) (n : ℕ)
+    (bodies : List (Option Denotations)) : Type 0 where
+  pub long : length bodies ≡ n
+  pub each : (k : ℕ) (found : Option Denotations) → slice_get bodies k ≡ Some found →
+      IsBodyAt call reached linking k found
+
+-- what the names of a module denote: as in the body of a function, where that was read
+abbrev pub names_by : Source → Option Denotations → Denotations
+names_by source None = source.names
+names_by source (Some names) = names
+
+-- a part is what was read of module k, with where its requests lead and the context of its file
+pub record IsEntryPart (call : Call) (reached : Reached) (bodies : List (Option Denotations))
+    (k : ℕ) (part : Part) : Type 0 where
+  pub source : Source
+  pub there : source_in call reached k ≡ Some source
+  pub file : FileName × ℕ
+  pub its_file : IsFileAt call reached k file
+  pub items : part.items.now ≡ source.items.now
+  pub pieces : part.pieces.now ≡ source.pieces.items
+  pub denotations : part.denotations.now ≡ names_by source (found_at bodies k)
+  pub tables : part.tables.now ≡ source.tables
+  pub leads : slice_get reached.leads.items k ≡ Some part.leads.now
+  pub local : 2 * file.1 + 2 ≤ 4294967295 → part.local ≡ local_context file.1
+  pub written : part.written ≡ None
+
+-- the first n modules are parts of a bundle
+pub record AreEntryParts (call : Call) (reached : Reached) (bodies : List (Option Denotations))
+    (n : ℕ) (parts : List Part) : Type 0 where
+  pub long : length parts ≡ n
+  pub each : (k : ℕ) (part : Part) → slice_get parts k ≡ Some part →
+      IsEntryPart call reached bodies k part
+
+-- what the hook answered is handed on as it was read
+abbrev pub IsAnswerRead : Option ReadMeta → Option Answered → Type 0
+IsAnswerRead None answered = answered ≡ None
+IsAnswerRead (Some meta) None = ⊥
+IsAnswerRead (Some meta) (Some answered) =
+    (answered.properties.now ≡ meta.properties.now)
+    × (answered.pieces.now ≡ meta.pieces.items)
+    × (answered.denotations.now ≡ meta.names)
