@@ -75,7 +75,7 @@ pub data IsRefusedMaking (q : Program) (call : Call) (linked : Linked)
 
 -- the fault is that contexts are used up: for one of the modules that get some, or else for the
 -- entry, and the counted sum is above the last one
-pub record LacksContexts (p : Program) (hooks : Hooks) (fault : Fault) : Type 0 where
+pub record IsContextsFaultOf (p : Program) (hooks : Hooks) (fault : Fault) : Type 0 where
   pub m : ℕ
   pub named : IsNamedForContexts p hooks m
   pub file : Name
