@@ -62,9 +62,6 @@ pub(crate) fn add_module<'a>(
 fn add_written(alloc: Global, part: &Part<'_, '_>, items: &mut Module) -> Result<(), AllocError>
     ensures { OnOk result (part.now.written ≡ None → items_of items.new ≡ items_of items.old) }
 {
-    if part.written.is_none() {
-        return Ok(());
-    }
     for item in part.written_items() {
         add_item(items, rebuild_item(alloc, item, &[])?)?;
     }
@@ -226,17 +223,7 @@ fn own_statements<'a>(
     let body = body_of(alloc, part, module, bundle.linking, names)?;
     let default = names.local(module, "default");
     let nodes = parts::top_items(alloc, part.pieces)?;
-    stated_items(alloc, own_items(part), &nodes, &body, default)
-}
-
-// The items of a module that are its own.
-fn own_items<'t, 'a>(part: &Part<'t, 'a>) -> &'a [ModuleItem]
-    ensures { part.now.written ≡ None → result.now ≡ part.now.items.now }
-{
-    match part.written {
-        Some(_) => part.own_items(),
-        None => part.items,
-    }
+    stated_items(alloc, part.own_items(), &nodes, &body, default)
 }
 
 // What items state in turn, where these are the nodes of their list.

@@ -26,6 +26,7 @@ module _ (p : Program) (list : List ℕ) where
     others = λ other ident at. elim (gives.others other ident at) [ inl was ↦ inl was | inr its ↦ inr (its.0, its.1 ∙ is ∙ ap (holder_symbol p list) (sym its.0)) ];
     later = gives.later;
     held_so = gives.held_so;
+    all_so = gives.all_so;
     locals = gives.locals;
     scopes = gives.scopes;
     answered = gives.answered;
@@ -39,6 +40,7 @@ module _ (p : Program) (list : List ℕ) where
     others = λ other ident is. inl is;
     later = omega arith;
     held_so = λ from low are. are;
+    all_so = λ from are. are;
     locals = refl;
     scopes = refl;
     answered = refl;
@@ -56,6 +58,7 @@ module _ (p : Program) (list : List ℕ) where
     others = λ other ident at. elim (two.others other ident at) [ inl was ↦ (elim (one.others other ident was) [ inl before ↦ inl before | inr its ↦ inr (first (holder_of other) its.0, its.1) ]) | inr its ↦ inr (second (holder_of other) its.0, its.1) ];
     later = let x = one.later in let y = two.later in omega (arith, x, y);
     held_so = λ from low are. let x = one.later in two.held_so from (omega (arith, low, x)) (one.held_so from low are);
+    all_so = λ from are. two.all_so from (one.all_so from are);
     locals = two.locals ∙ one.locals;
     scopes = two.scopes ∙ one.scopes;
     answered = two.answered ∙ one.answered;

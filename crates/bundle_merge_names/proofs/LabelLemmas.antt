@@ -1,10 +1,10 @@
 -- Labels are equal exactly where they stand for the same, and what is held for them changes so where one is given a name.
-use Rattle.std.proofs.Common.{◌≡◌, ◌≤◌, ◌<◌, ◌⊎◌, inl, inr, ℕ, suc, Bool, true, false, cond, List, [], ◌∷◌, Option, Some, None, option_map, refl, ap, ap₂, sym, ◌∙◌, arith}
+use Rattle.std.proofs.Common.{◌≡◌, ◌≤◌, ◌<◌, ◌⊎◌, inl, inr, ℕ, suc, Bool, true, false, cond, List, [], ◌∷◌, Option, Some, None, option_map, unwrap_or, refl, ap, ap₂, sym, ◌∙◌, arith}
 use Rattle.std.specs.Prelude.{is_some}
 use Rattle.std.specs.Bool.{Decides}
 use Rattle.std.specs.HashMap.{HashMap, UpdatesBy, get_by}
 use Rattle.std.specs.Map.{lookup}
-use Rattle.std.proofs.lemmas.Bool.{false≢true}
+use Rattle.std.proofs.lemmas.Bool.{cases_order, false≢true}
 use Rattle.std.proofs.lemmas.Bool.Decides.{Decides-eqb, Decides-like}
 use Rattle.std.proofs.lemmas.Option.{none-some, same_Some}
 use Rattle.bundle_rules.specs.Idents.{Ident}
@@ -15,11 +15,12 @@ use Rattle.bundle_tree_places.specs.declared.mark.Name.{Name}
 use Rattle.bundle_link_index.specs.Says.{target_of}
 use Rattle.bundle_link_index.proofs.EqualLemmas as equal
 use Rattle.bundle_merge_names.specs.contracts.names.LabelPartialEq.TheImpl as label_impl
+use Rattle.bundle_merge_names.specs.declared.error.MergeError.TheVariants.{ContextsUsedUp}
 use Rattle.bundle_merge_names.specs.declared.names.Label.{Label}
 use Rattle.bundle_merge_names.specs.declared.names.Label.TheVariants as n
 use Rattle.bundle_merge_names.specs.declared.names.Names.{Names}
 use Rattle.bundle_merge_whole.specs.made.Given.{NameOf}
-use Rattle.bundle_merge_names.specs.Held.{AreHeld, GivesName}
+use Rattle.bundle_merge_names.specs.Held.{AreAllHeld, AreHeld, GivesName, IsHeldAs, RefusesName, for_contexts}
 use Rattle.bundle_merge_names.specs.Named.{held, holder_of}
 use Rattle.bundle_merge_names.specs.Numbers.{position}
 
@@ -105,10 +106,15 @@ gives-none names own symbol has = record {
   others = λ other ident is. inl is;
   later = omega arith;
   held_so = λ from low are. are;
+  all_so = λ from are. are;
   locals = refl;
   scopes = refl;
   answered = refl;
 }
+
+-- a label that has none gets none where no context is left
+pub refuses-full : (names : Names) (own : Label) → is_some (get_by (label_impl.ghosts.eq own) names.labels) ≡ false → names.contexts.next ≡ None → RefusesName own names (ContextsUsedUp None)
+refuses-full names own free full = for_contexts (ap (option_map ident_of) (not-some (get_by (label_impl.ghosts.eq own) names.labels) free)) (ap (λ (o : Option ℕ). unwrap_or o 4294967296) full)
 
 -- a label that had none has the next
 module _ (old new : Names) (own : Label) (name : Name) (symbol : Text) (free : is_some (get_by (label_impl.ghosts.eq own) old.labels) ≡ false) (put : UpdatesBy label_impl.ghosts.eq (label_impl.ghosts.eq own) old.labels new.labels (Some name)) (is : ident_of name ≡ (symbol, position old.contexts)) (next : position new.contexts ≡ suc (position old.contexts)) where
@@ -125,14 +131,15 @@ module _ (old new : Names) (own : Label) (name : Name) (symbol : Text) (free : i
 
   pub gives-one : new.locals ≡ old.locals → new.scopes ≡ old.scopes → new.answered ≡ old.answered → GivesName own symbol old new
   gives-one l s a = record {
-    kept = λ other ident at. held-put old.labels new.labels own name put other ∙ kept other ident at (label_impl.ghosts.eq own other) refl;
-    there = (ident_of name, held-put old.labels new.labels own name put own ∙ ap (λ yes. cond yes (Some (ident_of name)) (held old own)) ((label own own).1 refl));
+    kept = still;
+    there = (ident_of name, its-own);
     others = λ other ident at. elim (cases other ident at) [ inl its ↦ inr (sym its.0, ap (λ (x : Ident). x.0) its.1) | inr was ↦ inl was ];
     later = omega (arith, next);
     held_so = λ from low are. record {
       within = λ other ident at. within from low are other ident (cases other ident at);
       apart = λ x y i j at_x at_y same. apart from low are x y i j (cases x i at_x) (cases y j at_y) same;
     };
+    all_so = λ from are. record { each = λ c low high. all from are c low high (cases_order c (position old.contexts)) };
     locals = l;
     scopes = s;
     answered = a;
@@ -141,6 +148,18 @@ module _ (old new : Names) (own : Label) (name : Name) (symbol : Text) (free : i
       kept : (other : Label) (ident : Ident) → held old other ≡ Some ident → (yes : Bool) → label_impl.ghosts.eq own other ≡ yes → cond yes (Some (ident_of name)) (held old other) ≡ Some ident
       kept other ident at true agrees = absurd (none-some ident (sym none ∙ same-held old own other ((label own other).0 agrees) ∙ at))
       kept other ident at false differ = at
+
+      still : (other : Label) (ident : Ident) → held old other ≡ Some ident → held new other ≡ Some ident
+      still other ident at = held-put old.labels new.labels own name put other ∙ kept other ident at (label_impl.ghosts.eq own other) refl
+
+      its-own : held new own ≡ Some (ident_of name)
+      its-own = held-put old.labels new.labels own name put own ∙ ap (λ yes. cond yes (Some (ident_of name)) (held old own)) ((label own own).1 refl)
+
+      -- the context that was the next is now that of the label
+      all : (from : ℕ) → AreAllHeld from old → (c : ℕ) → from ≤ c → c < position new.contexts → (c ≡ position old.contexts) ⊎ ((c < position old.contexts) ⊎ (position old.contexts < c)) → IsHeldAs new c
+      all from are c low high (inl same) = record { label = own; ident = ident_of name; there = its-own; is = ap (λ (x : Ident). x.1) is ∙ sym same }
+      all from are c low high (inr (inl below)) = let one = are.each c low below in record { label = one.label; ident = one.ident; there = still one.label one.ident one.there; is = one.is }
+      all from are c low high (inr (inr above)) = absurd (omega (arith, high, next, above))
 
       within : (from : ℕ) → from ≤ position old.contexts → AreHeld from old → (other : Label) (ident : Ident) → ((holder_of own ≡ holder_of other) × (ident ≡ (symbol, position old.contexts))) ⊎ (held old other ≡ Some ident) → (from ≤ ident.1) × (ident.1 < position new.contexts)
       within from low are other ident (inl its) = let e = ap (λ (x : Ident). x.1) its.1 in (omega (arith, e, low), omega (arith, e, next))

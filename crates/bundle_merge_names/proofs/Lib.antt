@@ -13,6 +13,7 @@ pub mod TakenLemmas
 pub mod SomeLemmas
 pub mod GivenLemmas
 pub mod DueLemmas
+pub mod LackLemmas
 pub mod OwnLemmas
 pub mod Holding
 pub mod Reading

@@ -298,12 +298,19 @@ module _ (p : Program) (list : List ℕ) (answers : ℕ → Option (List Item)) 
       let ctxt : there.0.1 ≡ context (holder_of label) = sym (label-context label ∙ ap (λ (o : Option Ident). (unwrap_or o ([], 1)).1) there.1) in
       there.1 ∙ ap₂ (λ x c. Some (x, c)) symbol ctxt
 
+  -- the next free one is above all
+  below : (a : Holder) → Stands bundle names a → context a < position names.contexts
+  below a (stands_top j part is at same) = let high = parts.free j part at in let later = named.later in let last = adds.later in omega (arith, high, later, last, same)
+  below a (stands_inside w j n c has is same) = let range = in-range w j n c has in let high = range.1 in let last = adds.later in omega (arith, high, last, same)
+  below a (stands_label label ident is there same) = let w = held-from.within label ident there in let high = w.1 in omega (arith, high, same)
+
   are-names : AreNamesOf p list answers context bundle names
   are-names = record {
     apart = record {
       own = λ a holder. own a (stands a holder);
       apart = λ a b holder_a holder_b same. apart a b (stands a holder_a) (stands b holder_b) same;
     };
+    below = λ a holder. below a (stands a holder);
     locals = λ j less. let part = there-below bundle.parts.now j less in local j part.0 part.1 ∙ ap (λ c. Some c) (sym (local-top j part.0 part.1));
     tops = local-top;
     scopes = λ j part kind at has_kind. let range = scoped j part at in numbers-are kind (map item_of part.pieces.now) part.denotations.now ((parts.parts j part at).table kind has_kind) part.local range.from range.to (scopes_in names j) range.has (numbers_in context j)
@@ -319,7 +326,7 @@ module _ (p : Program) (list : List ℕ) (answers : ℕ → Option (List Item)) 
     labels = label-held;
   }
 
-same-labels : (a b : Names) → a.labels ≡ b.labels → (label : Label) → held a label ≡ held b label
+pub same-labels : (a b : Names) → a.labels ≡ b.labels → (label : Label) → held a label ≡ held b label
 same-labels a b same label = ap (λ x. option_map ident_of (get_by (label_impl.ghosts.eq label) x)) same
 
 -- first the scopes get contexts, and then labels their names

@@ -185,7 +185,7 @@ module _ (p : Program) (list : List ℕ) (answers : ℕ → Option (List Item)) 
         let all = its.few in
         omega (arith, few, count, answered, all)
 
-    up-few : (m to : ℕ) → m ≤ length bundle.parts.now → AreTakenUpTo bundle first m to → to ≤ first + sum_of most (numbers_from 0 m)
+    pub up-few : (m to : ℕ) → m ≤ length bundle.parts.now → AreTakenUpTo bundle first m to → to ≤ first + sum_of most (numbers_from 0 m)
     up-few zero to within taken = omega (arith, taken)
     up-few (suc m) to within taken =
         let before = up-few m taken.0 (omega (arith, within)) taken.1 in

@@ -228,7 +228,7 @@ flag-there [] n e = absurd (false≢true e)
 flag-there (m ∷ marks) zero e = ap (λ b. Some b) e
 flag-there (m ∷ marks) (suc n) e = flag-there marks n e
 
-taken-there : {A : Type 0} (xs : List A) (i n : ℕ) (x : A) → slice_get (take i xs) n ≡ Some x → slice_get xs n ≡ Some x
+pub taken-there : {A : Type 0} (xs : List A) (i n : ℕ) (x : A) → slice_get (take i xs) n ≡ Some x → slice_get xs n ≡ Some x
 taken-there xs zero n x e = absurd (none-some x e)
 taken-there [] (suc i) n x e = absurd (none-some x e)
 taken-there (y ∷ xs) (suc i) zero x e = e

@@ -32,6 +32,7 @@ module _ (p : Program) (list : List ℕ) where
     others = λ other ident at. elim (adds.others other ident at) [ inl was ↦ inl was | inr its ↦ inr (to other its.0, its.1) ];
     later = adds.later;
     held_so = adds.held_so;
+    all_so = adds.all_so;
     locals = adds.locals;
     scopes = adds.scopes;
     answered = adds.answered;

@@ -34,6 +34,7 @@ module _ (p : Program) (list : List ℕ) where
     others = λ other ident at. elim (adds.others other ident at) [ inl was ↦ inl was | inr its ↦ inr (to _ its.0, its.1) ];
     later = adds.later;
     held_so = adds.held_so;
+    all_so = adds.all_so;
     locals = adds.locals;
     scopes = adds.scopes;
     answered = adds.answered;
@@ -69,8 +70,14 @@ module _ (p : Program) (list : List ℕ) where
         one two)
 
     -- names, and the whole
+    pub named-taken : (its : List (Bor Text)) (whole : Bool) (holder : Holder) → IsNamedOf base its holder → IsTakenOf base (map (λ (name : Bor Text). name.now) its) whole holder
+    named-taken its whole holder is = by_name is.name.now (map-on (λ (name : Bor Text). name.now) its is.name (place-there its is.i is.name is.there)) is.is
+
+    pub whole-taken : (its : List (Bor Text)) (whole : Bool) (holder : Holder) → IsWholeOf base whole holder → IsTakenOf base (map (λ (name : Bor Text). name.now) its) whole holder
+    whole-taken its whole holder is = by_whole is.taken is.is
+
     pub adds-taken : (its : List (Bor Text)) (whole : Bool) (a b c : Names) → AddsNames p list (IsNamedOf base its) a b → AddsNames p list (IsWholeOf base whole) b c → AddsNames p list (IsTakenOf base (map (λ (name : Bor Text). name.now) its) whole) a c
-    adds-taken its whole a b c one two = adds-on p list (IsNamedOf base its) (IsWholeOf base whole) (IsTakenOf base (map (λ (name : Bor Text). name.now) its) whole) a b c split first second one two
+    adds-taken its whole a b c one two = adds-on p list (IsNamedOf base its) (IsWholeOf base whole) (IsTakenOf base (map (λ (name : Bor Text). name.now) its) whole) a b c split (named-taken its whole) (whole-taken its whole) one two
       where
         split : (holder : Holder) → IsTakenOf base (map (λ (name : Bor Text). name.now) its) whole holder → IsNamedOf base its holder ⊎ IsWholeOf base whole holder
         split holder (by_name x there is) =
@@ -78,9 +85,3 @@ module _ (p : Program) (list : List ℕ) where
             let at = there-place its back.0 back.1 in
             inl (record { name = back.0; i = at.0; there = at.1; is = is ∙ ap (λ (y : Text). NameOf (m.Of (with_taken base (Named y)))) (sym back.2) })
         split holder (by_whole taken is) = inr (record { taken = taken; is = is })
-
-        first : (holder : Holder) → IsNamedOf base its holder → IsTakenOf base (map (λ (name : Bor Text). name.now) its) whole holder
-        first holder is = by_name is.name.now (map-on (λ (name : Bor Text). name.now) its is.name (place-there its is.i is.name is.there)) is.is
-
-        second : (holder : Holder) → IsWholeOf base whole holder → IsTakenOf base (map (λ (name : Bor Text). name.now) its) whole holder
-        second holder is = by_whole is.taken is.is

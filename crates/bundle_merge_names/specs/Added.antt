@@ -1,5 +1,5 @@
 -- Which labels get names, with their symbols in a program.
-use Rattle.std.specs.Prelude.{◌≡◌, ◌≤◌, ◌⊎◌, ℕ, true, Bool, List, Some, Contains, slice_get}
+use Rattle.std.specs.Prelude.{◌≡◌, ◌≤◌, ◌⊎◌, ℕ, true, Bool, List, Some, None, Contains, slice_get}
 use Rattle.std.specs.Borrow.{Bor}
 use Rattle.bundle_rules.specs.Bundle.{AsksCommonJs, externals}
 use Rattle.bundle_rules.specs.Entries.{Taken, Named, Whole, has_import_meta}
@@ -9,11 +9,13 @@ use Rattle.bundle_rules.specs.Linking.{IsCommonJs}
 use Rattle.bundle_rules.specs.Meaning as m
 use Rattle.bundle_rules.specs.Nodes.{Text}
 use Rattle.bundle_rules.specs.Program.{Program, tree_of, IsReached}
+use Rattle.bundle_merge_names.specs.declared.error.MergeError.{MergeError}
+use Rattle.bundle_merge_names.specs.declared.error.MergeError.TheVariants.{ContextsUsedUp, OutOfMemory}
 use Rattle.bundle_merge_names.specs.declared.names.Label.{Label}
 use Rattle.bundle_merge_names.specs.declared.names.Names.{Names}
 use Rattle.bundle_merge_names.specs.Bundle.{holder_symbol}
 use Rattle.bundle_merge_whole.specs.made.Given.{Holder, NameOf, HelperParameter, HelperVariable}
-use Rattle.bundle_merge_names.specs.Held.{AreHeld}
+use Rattle.bundle_merge_names.specs.Held.{AreAllHeld, AreHeld}
 use Rattle.bundle_merge_names.specs.Named.{held, holder_of}
 use Rattle.bundle_merge_names.specs.Numbers.{position}
 
@@ -27,9 +29,29 @@ pub record AddsNames (p : Program) (list : List ℕ) (Those : Holder → Type 0)
       ⊎ (Those (holder_of other) × (ident.0 ≡ holder_symbol p list (holder_of other)))
   pub later : position old.contexts ≤ position new.contexts
   pub held_so : (from : ℕ) → from ≤ position old.contexts → AreHeld from old → AreHeld from new
+  pub all_so : (from : ℕ) → AreAllHeld from old → AreAllHeld from new
   pub locals : new.locals ≡ old.locals
   pub scopes : new.scopes ≡ old.scopes
   pub answered : new.answered ≡ old.answered
+
+-- all contexts are used up: just such labels got names since, and one of them has none
+pub record AreUsedUp (Those : Holder → Type 0) (old last : Names) : Type 0 where
+  pub label : Label
+  pub due : Those (holder_of label)
+  pub none : held last label ≡ None
+  pub full : position last.contexts ≡ 4294967296
+  pub others : (other : Label) (ident : Ident) →
+      held last other ≡ Some ident →
+      (held old other ≡ Some ident) ⊎ Those (holder_of other)
+  pub later : position old.contexts ≤ position last.contexts
+  pub all_so : (from : ℕ) → AreAllHeld from old → AreAllHeld from last
+
+-- such labels get no names: for memory, or since all contexts are used up before each has one
+pub data RefusesLabels (Those : Holder → Type 0) (old : Names) : MergeError → Type 0 where
+  for_memory : RefusesLabels Those old OutOfMemory
+  for_contexts : (last : Names) →
+      AreUsedUp Those old last →
+      RefusesLabels Those old (ContextsUsedUp None)
 
 -- the helper, its parameter and its variable
 pub data IsOfHelper : Holder → Type 0 where

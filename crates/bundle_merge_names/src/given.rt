@@ -14,7 +14,7 @@ ghost use Rattle.bundle_link_tables.specs.TablesOf.{taken_of};
 ghost use Rattle.bundle_link_targets.specs.Linked.{HandsOver, IsLinkingOf};
 ghost use Rattle.bundle_link_targets.specs.Meant.{AreModules};
 ghost use Rattle.bundle_link_targets.specs.Symbols.{IsTakable};
-ghost use Rattle.bundle_merge_names.specs.Added.{AddsNames, IsNamedOf, IsOfExternals, IsOfHelper, IsOfHelpers, IsOfLoads, IsOfModule, IsOfModules, IsTakenOf, IsWhere, IsWholeOf, with_taken};
+ghost use Rattle.bundle_merge_names.specs.Added.{AddsNames, IsNamedOf, IsOfExternals, IsOfHelper, IsOfHelpers, IsOfLabels, IsOfLoads, IsOfModule, IsOfModules, IsTakenOf, IsWhere, IsWholeOf, RefusesLabels, with_taken};
 ghost use Rattle.bundle_merge_names.specs.Bundle.{AreBundleParts, AreNamesOf, IsPartOf};
 ghost use Rattle.bundle_merge_whole.specs.made.Given.{Contexts, NameOf};
 ghost use Rattle.bundle_merge_whole.specs.made.Alone.{IsHolder};
@@ -58,10 +58,15 @@ fn give_names<'a>(
     names: &mut Names<'a>,
     bundle: &BundleParts<'_, 'a, '_>,
 ) -> Result<(), MergeError>
-    ensures { OnOk result (HoldsNothing bundle.now names.old →
+    ensures given { OnOk result (HoldsNothing bundle.now names.old →
         (p : Program) (list : List ℕ) (answers : ℕ → Option (List Item)) →
         AreBundleParts p list answers bundle.now →
         (context : Contexts) × AreNamesOf p list answers context bundle.now names.new) }
+    ensures refused { IfErr result (λ refusal.
+        HoldsNothing bundle.now names.old →
+        (p : Program) (list : List ℕ) (answers : ℕ → Option (List Item)) →
+        AreBundleParts p list answers bundle.now →
+        RefusesNames p list answers (numbers.position bundle.now.contexts) refusal) }
 {
     give_contexts(alloc, names, bundle)?;
     give_labels(names, bundle)
@@ -250,9 +255,13 @@ fn give_labels<'a>(
     names: &mut Names<'a>,
     bundle: &BundleParts<'_, 'a, '_>,
 ) -> Result<(), MergeError>
-    ensures { OnOk result ((p : Program) (list : List ℕ) (answers : ℕ → Option (List Item)) →
+    ensures given { OnOk result ((p : Program) (list : List ℕ) (answers : ℕ → Option (List Item)) →
         AreBundleParts p list answers bundle.now →
         AddsNames p list (IsHolder p answers) names.old names.new) }
+    ensures refused { IfErr result (λ refusal.
+        (p : Program) (list : List ℕ) (answers : ℕ → Option (List Item)) →
+        AreBundleParts p list answers bundle.now →
+        RefusesLabels (IsOfLabels p list) names.old refusal) }
 {
     give_externals(names, bundle.linking)?;
     give_helpers(names, bundle)?;
@@ -261,10 +270,14 @@ fn give_labels<'a>(
 
 // Gives names to what is meant of externals.
 fn give_externals<'a>(names: &mut Names<'a>, linking: &Linking<'a>) -> Result<(), MergeError>
-    ensures { OnOk result ((p : Program) (list : List ℕ) →
+    ensures given { OnOk result ((p : Program) (list : List ℕ) →
         HandsOver p list linking.now →
         AreModules p →
         AddsNames p list (IsOfExternals p list) names.old names.new) }
+    ensures refused { IfErr result (λ refusal. (p : Program) (list : List ℕ) →
+        HandsOver p list linking.now →
+        AreModules p →
+        RefusesLabels (IsOfExternals p list) names.old refusal) }
 {
     for external in linking.externals() {
         give_external(names, linking, external)?;
@@ -278,13 +291,20 @@ fn give_external<'a>(
     linking: &Linking<'a>,
     external: &External<'a>,
 ) -> Result<(), MergeError>
-    ensures { OnOk result ((p : Program) (list : List ℕ) →
+    ensures given { OnOk result ((p : Program) (list : List ℕ) →
         HandsOver p list linking.now →
         IsTakable p (links.External external.now.specifier.now entries.Whole) →
         AddsNames p list
         (IsTakenOf (links.External external.now.specifier.now entries.Whole)
         (map (λ name. name.now) external.now.names.items) external.now.whole)
         names.old names.new) }
+    ensures refused { IfErr result (λ refusal. (p : Program) (list : List ℕ) →
+        HandsOver p list linking.now →
+        IsTakable p (links.External external.now.specifier.now entries.Whole) →
+        RefusesLabels
+        (IsTakenOf (links.External external.now.specifier.now entries.Whole)
+        (map (λ name. name.now) external.now.names.items) external.now.whole)
+        names.old refusal) }
 {
     let base = Target::External {
         specifier: external.specifier,
@@ -301,12 +321,18 @@ fn give_taken<'a>(
     its: &[&'a str],
     whole: bool,
 ) -> Result<(), MergeError>
-    ensures { OnOk result ((p : Program) (list : List ℕ) →
+    ensures given { OnOk result ((p : Program) (list : List ℕ) →
         HandsOver p list linking.now →
         IsTakable p (target_of base.entry) →
         AddsNames p list
         (IsTakenOf (target_of base.entry) (map (λ name. name.now) its.now) whole)
         names.old names.new) }
+    ensures refused { IfErr result (λ refusal. (p : Program) (list : List ℕ) →
+        HandsOver p list linking.now →
+        IsTakable p (target_of base.entry) →
+        RefusesLabels
+        (IsTakenOf (target_of base.entry) (map (λ name. name.now) its.now) whole)
+        names.old refusal) }
 {
     give_named(names, linking, base, its)?;
     give_whole(names, linking, base, whole)?;
@@ -320,10 +346,14 @@ fn give_named<'a>(
     base: Target<'a>,
     its: &[&'a str],
 ) -> Result<(), MergeError>
-    ensures { OnOk result ((p : Program) (list : List ℕ) →
+    ensures given { OnOk result ((p : Program) (list : List ℕ) →
         HandsOver p list linking.now →
         IsTakable p (target_of base.entry) →
         AddsNames p list (IsNamedOf (target_of base.entry) its.now) names.old names.new) }
+    ensures refused { IfErr result (λ refusal. (p : Program) (list : List ℕ) →
+        HandsOver p list linking.now →
+        IsTakable p (target_of base.entry) →
+        RefusesLabels (IsNamedOf (target_of base.entry) its.now) names.old refusal) }
 {
     for name in its {
         give_target(names, linking, taking(base, Taken::Named(*name)))?;
@@ -338,10 +368,12 @@ fn give_whole<'a>(
     base: Target<'a>,
     whole: bool,
 ) -> Result<(), MergeError>
-    ensures { OnOk result ((p : Program) (list : List ℕ) →
+    ensures given { OnOk result ((p : Program) (list : List ℕ) →
         HandsOver p list linking.now →
         IsTakable p (target_of base.entry) →
         AddsNames p list (IsWholeOf (target_of base.entry) whole) names.old names.new) }
+    ensures refused { IfErr result
+        (RefusesLabels (IsWholeOf (target_of base.entry) whole) names.old) }
 {
     if !whole {
         return Ok(());
@@ -371,20 +403,27 @@ fn give_target<'a>(
     linking: &Linking<'a>,
     target: Target<'a>,
 ) -> Result<(), MergeError>
-    ensures { OnOk result ((p : Program) (list : List ℕ) →
+    ensures given { OnOk result ((p : Program) (list : List ℕ) →
         HandsOver p list linking.now →
         IsTakable p (target_of target.entry) →
         AddsNames p list (λ holder. holder ≡ NameOf (meaning.Of (target_of target.entry)))
         names.old names.new) }
+    ensures refused { IfErr result
+        (RefusesLabels (λ holder. holder ≡ NameOf (meaning.Of (target_of target.entry)))
+        names.old) }
 {
     names.give(Label::Of(target), linking.symbol_of(target))
 }
 
 // Gives names to the helper, its parameter and its variable, if some module is CommonJS.
 fn give_helpers(names: &mut Names<'_>, bundle: &BundleParts<'_, '_, '_>) -> Result<(), MergeError>
-    ensures { OnOk result ((p : Program) (list : List ℕ) (answers : ℕ → Option (List Item)) →
+    ensures given { OnOk result ((p : Program) (list : List ℕ) (answers : ℕ → Option (List Item)) →
         AreBundleParts p list answers bundle.now →
         AddsNames p list (IsOfHelpers p) names.old names.new) }
+    ensures refused { IfErr result (λ refusal.
+        (p : Program) (list : List ℕ) (answers : ℕ → Option (List Item)) →
+        AreBundleParts p list answers bundle.now →
+        RefusesLabels (IsOfHelpers p) names.old refusal) }
 {
     if !bundle.has_common_js() {
         return Ok(());
@@ -394,8 +433,9 @@ fn give_helpers(names: &mut Names<'_>, bundle: &BundleParts<'_, '_, '_>) -> Resu
 
 // Gives names to the helper, its parameter and its variable.
 fn give_helper(names: &mut Names<'_>) -> Result<(), MergeError>
-    ensures { OnOk result ((p : Program) (list : List ℕ) →
+    ensures given { OnOk result ((p : Program) (list : List ℕ) →
         AddsNames p list IsOfHelper names.old names.new) }
+    ensures refused { IfErr result (RefusesLabels IsOfHelper names.old) }
 {
     names.give(Label::Helper, "__swcpack_require__")?;
     names.give(Label::HelperParameter, "fn")?;
@@ -408,9 +448,13 @@ fn give_modules<'a>(
     names: &mut Names<'a>,
     bundle: &BundleParts<'_, 'a, '_>,
 ) -> Result<(), MergeError>
-    ensures { OnOk result ((p : Program) (list : List ℕ) (answers : ℕ → Option (List Item)) →
+    ensures given { OnOk result ((p : Program) (list : List ℕ) (answers : ℕ → Option (List Item)) →
         AreBundleParts p list answers bundle.now →
         AddsNames p list (IsOfModules p) names.old names.new) }
+    ensures refused { IfErr result (λ refusal.
+        (p : Program) (list : List ℕ) (answers : ℕ → Option (List Item)) →
+        AreBundleParts p list answers bundle.now →
+        RefusesLabels (IsOfModules p) names.old refusal) }
 {
     for (module, part) in bundle.parts.iter().enumerate() {
         give_module(names, bundle.linking, module, part)?;
@@ -426,13 +470,20 @@ fn give_module<'a>(
     module: usize,
     part: &Part<'_, 'a>,
 ) -> Result<(), MergeError>
-    ensures { OnOk result ((p : Program) (list : List ℕ) →
+    ensures given { OnOk result ((p : Program) (list : List ℕ) →
         IsLinkingOf p linking.now →
         HandsOver p list linking.now →
         AreModules p →
         IsReached p «module» →
         IsPartOf p «module» part.now →
         AddsNames p list (IsOfModule p «module») names.old names.new) }
+    ensures refused { IfErr result (λ refusal. (p : Program) (list : List ℕ) →
+        IsLinkingOf p linking.now →
+        HandsOver p list linking.now →
+        AreModules p →
+        IsReached p «module» →
+        IsPartOf p «module» part.now →
+        RefusesLabels (IsOfModule p «module») names.old refusal) }
 {
     give_load(names, linking, module)?;
     give_meta(names, module, part)?;
@@ -442,10 +493,14 @@ fn give_module<'a>(
 
 // Gives a name to the load function of a module, if it is CommonJS.
 fn give_load(names: &mut Names<'_>, linking: &Linking<'_>, module: usize) -> Result<(), MergeError>
-    ensures { OnOk result ((p : Program) (list : List ℕ) →
+    ensures given { OnOk result ((p : Program) (list : List ℕ) →
         IsLinkingOf p linking.now →
         AddsNames p list (IsWhere (IsCommonJs p «module») (NameOf (meaning.Load «module»)))
         names.old names.new) }
+    ensures refused { IfErr result (λ refusal. (p : Program) →
+        IsLinkingOf p linking.now →
+        RefusesLabels (IsWhere (IsCommonJs p «module») (NameOf (meaning.Load «module»)))
+        names.old refusal) }
 {
     if !linking.is_common_js(module) {
         return Ok(());
@@ -455,11 +510,16 @@ fn give_load(names: &mut Names<'_>, linking: &Linking<'_>, module: usize) -> Res
 
 // Gives a name to the object for the `import.meta` of a module, if it has that, and no statement holds it already.
 fn give_meta(names: &mut Names<'_>, module: usize, part: &Part<'_, '_>) -> Result<(), MergeError>
-    ensures { OnOk result ((p : Program) (list : List ℕ) →
+    ensures given { OnOk result ((p : Program) (list : List ℕ) →
         IsPartOf p «module» part.now →
         AddsNames p list
         (IsWhere (has_import_meta (tree_of p «module») ≡ true) (NameOf (meaning.Meta «module»)))
         names.old names.new) }
+    ensures refused { IfErr result (λ refusal. (p : Program) →
+        IsPartOf p «module» part.now →
+        RefusesLabels
+        (IsWhere (has_import_meta (tree_of p «module») ≡ true) (NameOf (meaning.Meta «module»)))
+        names.old refusal) }
 {
     if !part.tables.has_import_meta {
         return Ok(());
@@ -476,11 +536,16 @@ fn give_loads<'a>(
     linking: &Linking<'a>,
     module: usize,
 ) -> Result<(), MergeError>
-    ensures { OnOk result ((p : Program) (list : List ℕ) →
+    ensures given { OnOk result ((p : Program) (list : List ℕ) →
         HandsOver p list linking.now →
         AreModules p →
         IsReached p «module» →
         AddsNames p list (IsOfLoads p «module») names.old names.new) }
+    ensures refused { IfErr result (λ refusal. (p : Program) (list : List ℕ) →
+        HandsOver p list linking.now →
+        AreModules p →
+        IsReached p «module» →
+        RefusesLabels (IsOfLoads p «module») names.old refusal) }
 {
     for loaded in linking.loads(module) {
         give_loaded(names, linking, module, loaded)?;
@@ -494,7 +559,7 @@ fn give_namespace<'a>(
     linking: &Linking<'a>,
     module: usize,
 ) -> Result<(), MergeError>
-    ensures { OnOk result ((p : Program) (list : List ℕ) →
+    ensures given { OnOk result ((p : Program) (list : List ℕ) →
         IsLinkingOf p linking.now →
         HandsOver p list linking.now →
         AreModules p →
@@ -502,6 +567,13 @@ fn give_namespace<'a>(
         (IsWhere (meaning.IsMeant p (meaning.Of (links.Namespace «module»)))
         (NameOf (meaning.Of (links.Namespace «module»))))
         names.old names.new) }
+    ensures refused { IfErr result (λ refusal. (p : Program) →
+        IsLinkingOf p linking.now →
+        AreModules p →
+        RefusesLabels
+        (IsWhere (meaning.IsMeant p (meaning.Of (links.Namespace «module»)))
+        (NameOf (meaning.Of (links.Namespace «module»))))
+        names.old refusal) }
 {
     if !linking.is_object_meant(module) {
         return Ok(());
@@ -516,13 +588,20 @@ fn give_loaded<'a>(
     taker: usize,
     loaded: &Loaded<'a>,
 ) -> Result<(), MergeError>
-    ensures { OnOk result ((p : Program) (list : List ℕ) →
+    ensures given { OnOk result ((p : Program) (list : List ℕ) →
         HandsOver p list linking.now →
         IsTakable p (links.CommonJs taker loaded.now.module entries.Whole) →
         AddsNames p list
         (IsTakenOf (links.CommonJs taker loaded.now.module entries.Whole)
         (map (λ name. name.now) loaded.now.names.items) loaded.now.whole)
         names.old names.new) }
+    ensures refused { IfErr result (λ refusal. (p : Program) (list : List ℕ) →
+        HandsOver p list linking.now →
+        IsTakable p (links.CommonJs taker loaded.now.module entries.Whole) →
+        RefusesLabels
+        (IsTakenOf (links.CommonJs taker loaded.now.module entries.Whole)
+        (map (λ name. name.now) loaded.now.names.items) loaded.now.whole)
+        names.old refusal) }
 {
     let base = Target::CommonJs {
         taker,

@@ -4,7 +4,7 @@
 ghost use Rattle.std.specs.Prelude.{◌≡◌, ◌++◌, ◌∷◌, [], suc, IfErr, IfOk, OnOk, Some, None, unwrap_or};
 ghost use Rattle.bundle_tree_places.specs.Marks.{ident_of};
 ghost use Rattle.bundle_link_targets.specs.Lists.{list_in};
-ghost use Rattle.bundle_merge_names.specs.Held.{GivesName};
+ghost use Rattle.bundle_merge_names.specs.Held.{GivesName, RefusesName};
 ghost use Rattle.bundle_merge_names.specs.Named.{answered_in, held, local_in, scopes_in};
 ghost use Rattle.bundle_merge_names.specs.Idents.{label_ident, target_ident};
 ghost use Rattle.bundle_merge_names.specs.Numbers.{position};
@@ -114,7 +114,8 @@ impl<'a> Names<'a> {
 
     /// Gives a label the name of this symbol, with the next context, if it has none.
     pub fn give(&mut self, label: Label<'a>, sym: &'a str) -> Result<(), MergeError>
-        ensures { OnOk result (GivesName label.entry sym.now self.old self.new) }
+        ensures given { OnOk result (GivesName label.entry sym.now self.old self.new) }
+        ensures refused { IfErr result (RefusesName label.entry self.old) }
     {
         if self.labels.contains_key(&label) {
             return Ok(());

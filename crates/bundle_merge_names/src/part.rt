@@ -1,6 +1,6 @@
 //! What comes in: the modules of a bundle as they were read, what linking tells of them, and what the hook answered.
 
-ghost use Rattle.std.specs.Prelude.{◌≡◌, ◌<◌, ◌↔◌, ℕ, IsTrue, None, length, slice_get, unwrap_or};
+ghost use Rattle.std.specs.Prelude.{◌≡◌, ◌<◌, ◌↔◌, ℕ, IsTrue, None, drop, is_some, length, slice_get, take, unwrap_or, if◌then◌else◌};
 ghost use Rattle.bundle_rules.specs.Linking.{IsCommonJs};
 ghost use Rattle.bundle_rules.specs.Program.{Program};
 ghost use Rattle.bundle_link_targets.specs.Linked.{IsLinkingOf};
@@ -36,7 +36,10 @@ pub struct Part<'t, 'a> {
 
 impl<'t, 'a> Part<'t, 'a> {
     /// The statement that holds its `import.meta`, if it is there already.
-    pub fn written_items(&self) -> &'a [ModuleItem] {
+    pub fn written_items(&self) -> &'a [ModuleItem]
+        ensures { result.now
+            ≡ take (if is_some self.now.written then 1 else 0) self.now.items.now }
+    {
         match self.written {
             Some(_) => self.items.get(..1).unwrap_or(&[]),
             None => &[],
@@ -44,7 +47,10 @@ impl<'t, 'a> Part<'t, 'a> {
     }
 
     /// The items that are its own.
-    pub fn own_items(&self) -> &'a [ModuleItem] {
+    pub fn own_items(&self) -> &'a [ModuleItem]
+        ensures { result.now
+            ≡ drop (if is_some self.now.written then 1 else 0) self.now.items.now }
+    {
         match self.written {
             Some(_) => self.items.get(1..).unwrap_or(&[]),
             None => self.items,

@@ -1,5 +1,6 @@
 -- What the items of a module state is what its own statements become.
-use Rattle.std.proofs.Common.{ap, ◌∙◌, map, option_map}
+use Rattle.std.proofs.Common.{ap, ◌∙◌, drop, map, option_map, if◌then◌else◌}
+use Rattle.std.specs.Prelude.{is_some}
 use Rattle.std.proofs.lemmas.Result.{IfOk-weaker}
 use Rattle.bundle_tree_listed.specs.Tree.{stmt_items}
 use Rattle.bundle_tree_places.specs.Marks.{ident_of}
@@ -16,7 +17,9 @@ returns c =
     c.in_ok-body.body.rewrites.items c.in_ok-body.ensures.rewrites
     (option_map ident_of c.in_ok-body.body.meta) c.in_ok-body.ensures.meta
     (ident_of c.local-default.result) c.local-default.ensures
-    c.own_items.result.now c.own_items.ensures
+    c.own_items.result.now
+    (λ none. c.own_items.ensures
+    ∙ ap (λ written. drop (if is_some written then 1 else 0) c.args.part.now.items.now) none)
     (map part_items c.deref.result.now)
     (ap (map part_items) c.deref.ensures.value ∙ c.in_ok-nodes.ensures)
     (map (stmt_items 0) made.items) its)

@@ -1,14 +1,24 @@
 -- The object for `import.meta` gets its name where the module has that.
-use Rattle.std.proofs.Common.{rules}
+use Rattle.std.proofs.Common.{rules, ◌≡◌, ◌∙◌, true, sym}
+use Rattle.std.proofs.lemmas.Result.{IfErr-weaker}
+use Rattle.bundle_rules.specs.Entries.{has_import_meta}
+use Rattle.bundle_rules.specs.Program.{tree_of}
+use Rattle.bundle_merge_names.specs.declared.names.Label.TheVariants as n
 use Rattle.bundle_merge_names.proofs.AddLemmas.{on-ok}
+use Rattle.bundle_merge_names.proofs.LackLemmas.{where-refused}
 use Rattle.bundle_merge_names.proofs.GivenLemmas.{meta-none, meta-one, meta-written}
 use Rattle.bundle_merge_names.proofs.given.give_meta.Goals as goal
 
-pub returns-then-not-part : goal.returns-then-not-part
-returns-then-not-part c = λ p list part. meta-none p c.args.module list c.args.part.now c.args.names.now part (search rules)
+pub returns-then-not-part-clause-given : goal.returns-then-not-part-clause-given
+returns-then-not-part-clause-given c = λ p list part. meta-none p c.args.module list c.args.part.now c.args.names.now part (search rules)
 
-pub returns-then-is_some : goal.returns-then-is_some
-returns-then-is_some c = λ p list part. meta-written p c.args.module list c.args.part.now c.args.names.now part (search rules)
+pub returns-then-is_some-clause-given : goal.returns-then-is_some-clause-given
+returns-then-is_some-clause-given c = λ p list part. meta-written p c.args.module list c.args.part.now c.args.names.now part (search rules)
 
-pub returns : goal.returns
-returns c = on-ok c.give.result _ _ (λ gives p list part. meta-one p c.args.module list c.args.part.now c.args.names.now c.give.new.self part (search rules) gives) c.give.ensures
+pub returns-clause-given : goal.returns-clause-given
+returns-clause-given c = on-ok c.give.result _ _ (λ gives p list part. meta-one p c.args.module list c.args.part.now c.args.names.now c.give.new.self part (search rules) gives) c.give.ensures.given
+
+pub returns-clause-refused : goal.returns-clause-refused
+returns-clause-refused c =
+    let yes : c.args.part.now.tables.now.has_import_meta ≡ true = search rules in
+    IfErr-weaker c.give.result _ _ (λ refusal refuses p part. where-refused (has_import_meta (tree_of p c.args.module) ≡ true) (n.Meta c.args.module) c.args.names.now refusal (sym part.meta ∙ yes) refuses) c.give.ensures.refused
