@@ -8,3 +8,9 @@ pub mod SourceLemmas
 pub mod StatementLemmas
 pub mod BundleLemmas
 mod PartsLemmas
+pub mod InnerLemmas
+pub mod NeedsLemmas
+pub mod LackLemmas
+pub mod HeldLemmas
+pub mod Bundled
+pub mod Lacking
