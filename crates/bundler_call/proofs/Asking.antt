@@ -27,10 +27,9 @@ use Rattle.bundler_kept.proofs.Keeping.{absent_nowhere, kept_or_added}
 use Rattle.bundler_call.specs.Kept.{handed_in, kept_as, parties_of, IsKept}
 use Rattle.bundler_call.specs.Judged.{Ends}
 use Rattle.bundler_call.specs.Refusal.{load_refusal, resolve_refusal}
-use Rattle.bundler_call.proofs.Growing.{found, holds, kept_same, numbers_left, refused_owes, with_names, with_resolved, with_trees}
+use Rattle.bundler_call.proofs.Growing.{found, holds, kept_same, no_err, numbers_left, refused_owes, with_names, with_resolved, with_trees}
 use Rattle.bundler_call.proofs.Finding.{asked_eq-refl}
 use Rattle.bundler_call.proofs.Judging.{ends_err, ends_ok}
-use Rattle.bundler_call.proofs.Refusing.{no_err}
 
 -- Numbers.
 

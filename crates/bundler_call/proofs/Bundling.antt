@@ -1,5 +1,5 @@
 -- Bundles of entries that stand in turn, and why there may be none of one of them.
-use Rattle.std.proofs.Common.{◌≡◌, ◌⊎◌, ℕ, List, [], ◌∷◌, ◌++◌, Contains, map, refl, sym, subst, inl, inr, append-nil, append_assoc}
+use Rattle.std.proofs.Common.{◌≡◌, ◌⊎◌, ℕ, List, [], ◌∷◌, ◌++◌, Contains, map, refl, sym, ap, subst, inl, inr, append-nil, append_assoc}
 use Rattle.std.specs.List.{AllZip}
 use Rattle.std.proofs.lemmas.List.Elements.{Contains-append_left, Contains-append_right, Contains-push}
 use Rattle.std.specs.declared.alloc.Global.{Global}
@@ -8,21 +8,22 @@ use Rattle.bundle_tree_names.specs.FileName.{Name, name_of}
 use Rattle.bundle_tree_names.specs.declared.file_name.FileName.{FileName}
 use Rattle.bundle_rules.specs.Entries.{Settings}
 use Rattle.bundle_rules.specs.Faults.{Fault, Parties, fault_of}
-use Rattle.bundle_rules.specs.Judging.{AcceptsProgram, IsProgramOf, RefusesEntries}
+use Rattle.bundle_rules.specs.Judging.{IsProgramOf, RefusesEntries}
 use Rattle.bundle_rules.specs.Kept.{Kept, program_of}
 use Rattle.bundler_entry.specs.Unlinked.{error_of}
 use Rattle.bundler_entry.specs.declared.unlinked.Unlinked.{Unlinked}
+use Rattle.bundler_call.specs.Answer.{kind_of}
 use Rattle.bundler_call.specs.Bundler.{files_of, HasNumber}
-use Rattle.bundler_call.specs.Judged.{IsBundledFor, LacksContexts}
+use Rattle.bundler_call.specs.Judged.{IsBundledFor}
 use Rattle.bundler_call.specs.Kept.{entry_of}
-use Rattle.bundler_call.specs.Linking.{IsNumberedOn, IsRefusalOfEntries, IsRefusalOfProgram}
+use Rattle.bundler_call.specs.Linking.{IsModuleFor, IsNumberedOn, IsRefusalOfEntries, IsRefusalOfProgram, LacksContexts}
 use Rattle.bundler_call.specs.Loading.{files_on, AreNumbered, Begins}
 use Rattle.bundler_call.specs.declared.bundle.Bundle.{Bundle}
 use Rattle.bundler_call.specs.declared.bundle.BundleKind.TheVariants.{Named}
 use Rattle.bundler_call.specs.declared.load.LoadList.{LoadList}
 use Rattle.bundler_call.proofs.Judging.{told_as}
 use Rattle.bundler_call.proofs.Leading.{number_listed}
-use Rattle.bundler_call.proofs.Linking.{accepts_as, refuses_first, refuses_later, lacks_first, lacks_later, AsMuch}
+use Rattle.bundler_call.proofs.Linking.{refuses_first, refuses_later, lacks_first, lacks_later}
 
 module _ (parties : Parties) (settings : Settings) (kept : Kept) (list : LoadList) where
   -- the program of an entry whose file has this number
@@ -69,14 +70,24 @@ module _ (parties : Parties) (settings : Settings) (kept : Kept) (list : LoadLis
     lacks_on fault lacks = so_far.3 fault (subst (λ xs. LacksContexts kept settings parties (map entry_of xs) fault) (sym is_rest) lacks)
 
     -- one more
-    pub made_more : (made : List Bundle) (bundle : Bundle) → made ≡ bundles ++ bundle ∷ [] → bundle.kind ≡ Named entry.0 → bundle.id ≡ id → AcceptsProgram (program_of kept settings id) parties → AreMadeSoFar entries left numbers made
-    made_more made bundle is_made named numbered accepted =
+    pub made_more : (made : List Bundle) (bundle : Bundle) → made ≡ bundles ++ bundle ∷ [] → bundle.kind ≡ Named entry.0 → bundle.id ≡ id → IsModuleFor parties (program_of kept settings id) bundle.«module» → AreMadeSoFar entries left numbers made
+    made_more made bundle is_made named numbered is_module =
         let program : IsProgramOf kept settings (entry_of entry) (program_of kept settings id) = program_here entry id number_here.0 in
-        let its : IsBundledFor parties settings kept entry bundle = record { its_name = named; p = program_of kept settings id; its_program = program; its_id = numbered; accepted = accepted } in (
+        let its : IsBundledFor parties settings kept entry bundle = record {
+          its_kind = ap kind_of named;
+          p = program_of kept settings id;
+          its_program = program;
+          its_id = numbered;
+          accepted = is_module.accepted;
+          clean = is_module.bundle.clean;
+          undoubled = is_module.bundle.undoubled;
+          is_bundle = is_module.bundle.is_bundle;
+          names = is_module.bundle.names;
+        } in (
           all_left.1,
           λ more are. subst (λ xs. AllZip (IsBundledFor parties settings kept) entries (xs ++ more)) (sym is_made) (subst (λ xs. AllZip (IsBundledFor parties settings kept) entries xs) (sym (append_assoc bundles (bundle ∷ []) more)) (so_far.1 (bundle ∷ more) (subst (λ xs. AllZip (IsBundledFor parties settings kept) xs (bundle ∷ more)) (sym is_rest) (its, are)))),
-          λ fault refuses. refuses_on fault (refuses_later kept settings parties (entry_of entry) (map entry_of left) (program_of kept settings id) fault program accepted refuses),
-          λ fault lacks. lacks_on fault (lacks_later kept settings parties (entry_of entry) (map entry_of left) (program_of kept settings id) fault program accepted lacks),
+          λ fault refuses. refuses_on fault (refuses_later kept settings parties (entry_of entry) (map entry_of left) (program_of kept settings id) fault program is_module.accepted refuses),
+          λ fault lacks. lacks_on fault (lacks_later kept settings parties (entry_of entry) (map entry_of left) (program_of kept settings id) fault program is_module.accepted lacks),
         )
 
     -- this one is refused
@@ -102,14 +113,6 @@ module _ (kept : Kept) (list : LoadList) (numbered : AreNumbered kept list) wher
   pub all_on : (entries : List (String Global × FileName)) (ids : List ℕ) (files : List Name) → Begins files (files_on list) → files ≡ files_of entries → AllZip (HasNumber kept) entries ids → AllZip (IsNumberedOn kept list) entries ids
   all_on entries ids files begins same all =
       each_on entries ids (λ file there. subst (λ xs. Contains xs file) (sym begins.1) (Contains-append_left files begins.0 file (subst (λ xs. Contains xs file) (sym same) there))) all
-
--- bundles are such by other parties too
-pub all_bundled_as : (a b : Parties) → AsMuch a b → (settings : Settings) (kept : Kept) (entries : List (String Global × FileName)) (bundles : List Bundle) → AllZip (IsBundledFor a settings kept) entries bundles → AllZip (IsBundledFor b settings kept) entries bundles
-all_bundled_as a b as_much settings kept [] [] all = tt
-all_bundled_as a b as_much settings kept [] (bundle ∷ bundles) all = absurd all
-all_bundled_as a b as_much settings kept (entry ∷ entries) [] all = absurd all
-all_bundled_as a b as_much settings kept (entry ∷ entries) (bundle ∷ bundles) all =
-    (record { its_name = all.0.its_name; p = all.0.p; its_program = all.0.its_program; its_id = all.0.its_id; accepted = accepts_as a b as_much all.0.p all.0.accepted }, all_bundled_as a b as_much settings kept entries bundles all.1)
 
 -- what is so of a value is so of one that is the same
 pub along : {A : Type 0} {a b : A} → a ≡ b → (P : A → Type 0) → P a → P b

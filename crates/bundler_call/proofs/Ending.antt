@@ -1,9 +1,11 @@
 -- How a call ends.
-use Rattle.std.proofs.Common.{◌≡◌, ℕ, Bool, List, [], Result, map, sym, subst, ◌∙◌, inl, inr}
+use Rattle.std.proofs.Common.{◌≡◌, ◌⊎◌, ℕ, suc, ◌<◌, Bool, false, eqb, List, [], ◌∷◌, Option, Some, None, Result, Ok, Err, length, map, refl, sym, ap, subst, ◌∙◌, inl, inr, arith, true≢false}
+use Rattle.std.specs.List.{AllZip}
 use Rattle.std.specs.Prelude.{IfErr, IfSome}
 use Rattle.std.specs.Result.{IsErrAnd}
 use Rattle.std.specs.declared.alloc.Global.{Global}
 use Rattle.std.specs.declared.string.String.{String}
+use Rattle.std.specs.declared.vec.Vec.{Vec}
 use Rattle.bundle_tree_ast.specs.declared.expr.Expr.{Expr}
 use Rattle.bundle_tree_ast.specs.declared.prop.KeyValueProp.{KeyValueProp}
 use Rattle.bundler_entry.specs.Unlinked.{error_of}
@@ -15,16 +17,25 @@ use Rattle.bundle_tree.specs.declared.load.ModuleData.{ModuleData}
 use Rattle.bundle_rules.specs.Entries.{Settings}
 use Rattle.bundle_rules.specs.Kept.{Kept}
 use Rattle.bundle_rules.specs.Faults.{Fault, Parties, fault_of}
+use Rattle.bundle_rules.specs.Headline.{Answer, Bundles, AnswersNothing, IsBundleOf, IsContextsFault, IsHeadline, IsRight}
 use Rattle.bundle_rules.specs.Judging as j
-use Rattle.bundle_rules.specs.Judging.{Entry, Outcome, GoesOn, Refused, NumbersEach, LoadsAll, Refuses, Completes, IsDoubledEntry}
+use Rattle.bundle_rules.specs.Judging.{Entry, Outcome, GoesOn, Refused, Grows, NumbersEach, LoadsAll, Refuses, Completes, IsDoubledEntry}
+use Rattle.bundle_rules.proofs.KeptLemmas.{stays}
+use Rattle.bundler_call.specs.Answer.{answer_of, bundled_of, refusal_of}
 use Rattle.bundler_call.specs.Bundler.{files_of}
-use Rattle.bundler_call.specs.Judged.{asked_by, AreApart, IsFaultOfList, IsRefusedBy}
+use Rattle.bundler_call.specs.Judged.{asked_by, AreApart, IsBundledFor, IsFaultOfList}
 use Rattle.bundler_call.specs.Kept.{entry_of, parties_of}
 use Rattle.bundler_call.specs.Linking.{IsRefusalOfEntries}
+use Rattle.bundler_call.specs.declared.bundle.Bundle.{Bundle}
 use Rattle.bundler_call.proofs.Counting.{same_files}
 use Rattle.bundler_call.proofs.Doubling.{apart_distinct}
 use Rattle.bundler_call.proofs.Finding.{handed_on}
 use Rattle.bundler_call.proofs.Judging.{as_before, loads_all_as, told_as}
+
+-- why there is no bundle: the first fault in the order of judging, or want of memory; or contexts do not suffice
+abbrev pub IsRefusedBy : Parties → Settings → List Entry → (old new : Kept) → Error → Type 0
+IsRefusedBy parties settings entries old new refusal =
+    IfSome (fault_of refusal) (λ fault. Refuses parties settings entries old fault new ⊎ IsContextsFault parties settings entries old new fault)
 
 -- what is loaded without regard to a hook, by a loader and a resolver as they were
 module _ {L R : Type 0} (may_load : L → Name → ModuleData → Type 0) (may_fail_load : L → Name → Type 0) (may_resolve : R → Name → List ℕ → Name → Type 0) (may_fail_resolve : R → Name → List ℕ → Type 0) (may_give : Name → Bool → List (KeyValueProp Expr) → Type 0) (may_fail_hook : Name → Bool → Type 0) (settings : Settings) where
@@ -72,11 +83,72 @@ module _ (parties : Parties) (settings : Settings) where
   refused_list result e entries old is told =
       handed_on result e (IsRefusedBy parties settings (map entry_of entries) old old) is (told_as (fault_of e) (IsFaultOfList (map entry_of entries)) _ (λ f (later, doubled, same). inl (subst (λ x. Refuses parties settings (map entry_of entries) old x old) (sym same) (j.by_list later doubled))) told)
 
-  -- an entry is refused, or contexts are used up
+  -- an entry is refused, or contexts do not suffice
   linking : (entries : List Entry) (old new : Kept) → Completes parties settings entries old new → (unlinked : Unlinked) → IsRefusalOfEntries parties settings new entries unlinked → IsRefusedBy parties settings entries old new (error_of unlinked)
   linking entries old new done unlinked told =
-      told_as (fault_of (error_of unlinked)) _ _ (λ fault why. elim why [ inl refuses ↦ inl (j.by_entry done.distinct done.numbered done.loaded refuses) | inr contexts ↦ inr (done, contexts) ]) told
+      told_as (fault_of (error_of unlinked)) _ _ (λ fault why. elim why [ inl refuses ↦ inl (j.by_entry done.distinct done.numbered done.loaded refuses) | inr lacks ↦ inr (record {
+        completes = done;
+        i = lacks.i;
+        entry = lacks.entry;
+        there = lacks.there;
+        accepted_before = lacks.accepted_before;
+        p = lacks.p;
+        its_program = lacks.its_program;
+        accepted = lacks.accepted;
+        m = lacks.contexts.m;
+        named = lacks.contexts.named;
+        file = lacks.contexts.file;
+        its_file = lacks.contexts.its_file;
+        is = lacks.contexts.is;
+        too_many = lacks.contexts.too_many;
+      }) ]) told
 
   pub refused_linking : {T : Type 0} (result : Result T Error) (entries : List Entry) (old new : Kept) (unlinked : Unlinked) → IsErrAnd result (λ x. x ≡ error_of unlinked) → Completes parties settings entries old new → IsRefusalOfEntries parties settings new entries unlinked → IfErr result (IsRefusedBy parties settings entries old new)
   refused_linking result entries old new unlinked is done told =
       handed_on result (error_of unlinked) (IsRefusedBy parties settings entries old new) is (linking entries old new done unlinked told)
+
+-- some entry is there where the list is not empty
+pub some_entry : (xs ys : List (String Global × FileName)) (n : ℕ) (test : Bool) → n ≡ length xs → test ≡ eqb n 0 → test ≡ false → ys ≡ xs → 0 < length ys
+some_entry [] ys n test counted is off same = absurd (true≢false (sym (is ∙ ap (λ k. eqb k 0) counted) ∙ off))
+some_entry (x ∷ xs) ys n test counted is off same = let long : length ys ≡ suc (length xs) = ap length same in omega (arith, long)
+
+-- The headline.
+
+module _ (parties : Parties) (settings : Settings) where
+  -- bundles one by one, in the words of the definitions
+  all_bundled : (kept : Kept) (entries : List (String Global × FileName)) (bundles : List Bundle) → AllZip (IsBundledFor parties settings kept) entries bundles → AllZip (IsBundleOf parties settings kept) (map bundled_of bundles) (map entry_of entries)
+  all_bundled kept [] [] all = tt
+  all_bundled kept [] (bundle ∷ bundles) all = absurd all
+  all_bundled kept (entry ∷ entries) [] all = absurd all
+  all_bundled kept (entry ∷ entries) (bundle ∷ bundles) all = (all.0, all_bundled kept entries bundles all.1)
+
+  module _ (entries : List (String Global × FileName)) (old new : Kept) where
+    right_headline : (answer : Answer) → Grows parties.answers settings (files_of entries) old new → IsRight parties settings (map entry_of entries) old answer new → IsHeadline parties settings (map entry_of entries) old answer new
+    right_headline answer grows right = record {
+      right = right;
+      grows = subst (λ files. Grows parties.answers settings files old new) (sym (same_files entries)) grows;
+      stays = stays parties.answers settings (files_of entries) old new grows;
+    }
+
+    -- bundles
+    pub bundled_headline : (bundles : List Bundle) → Grows parties.answers settings (files_of entries) old new → Completes parties settings (map entry_of entries) old new → AllZip (IsBundledFor parties settings new) entries bundles → IsHeadline parties settings (map entry_of entries) old (Bundles (map bundled_of bundles)) new
+    bundled_headline bundles grows done all = right_headline (Bundles (map bundled_of bundles)) grows (done, all_bundled new entries bundles all)
+
+    told_right : (told : Option Fault) → IfSome told (λ fault. Refuses parties settings (map entry_of entries) old fault new ⊎ IsContextsFault parties settings (map entry_of entries) old new fault) → IsRight parties settings (map entry_of entries) old (refusal_of told) new
+    told_right None why = tt
+    told_right (Some fault) why = why
+
+    -- a refusal
+    pub refused_headline : (result : Result (Vec Bundle Global) Error) (e : Error) → IsErrAnd result (λ x. x ≡ e) → Grows parties.answers settings (files_of entries) old new → IfErr result (IsRefusedBy parties settings (map entry_of entries) old new) → IsHeadline parties settings (map entry_of entries) old (answer_of result) new
+    refused_headline (Ok bundles) e is grows why = absurd is
+    refused_headline (Err refusal) e is grows why = right_headline (refusal_of (fault_of refusal)) grows (told_right (fault_of refusal) why)
+
+  -- no entry
+  pub empty_headline : (entries : List (String Global × FileName)) (bundles : List Bundle) (kept : Kept) → entries ≡ [] → bundles ≡ [] → IsHeadline parties settings (map entry_of entries) kept (Bundles (map bundled_of bundles)) kept
+  empty_headline entries bundles kept none nothing =
+      bundled_headline entries kept kept bundles j.same (completes_none parties settings kept entries none)
+      (subst (λ xs. AllZip (IsBundledFor parties settings kept) xs bundles) (sym none) (subst (λ xs. AllZip (IsBundledFor parties settings kept) [] xs) (sym nothing) tt))
+
+-- no entry is answered by no bundle
+pub answers_none : (bundles : List Bundle) (kept : Kept) → bundles ≡ [] → AnswersNothing kept (Bundles (map bundled_of bundles)) kept
+answers_none bundles kept nothing = record { none = ap (λ xs. Bundles (map bundled_of xs)) nothing; same = refl }

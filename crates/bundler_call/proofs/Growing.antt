@@ -1,9 +1,10 @@
 -- How what is kept grows, step by step.
-use Rattle.std.proofs.Common.{◌≡◌, ℕ, suc, ◌+◌, ◌<◌, ◌≤◌, Bool, true, false, cond, not, eqb, nat_lt, List, [], ◌∷◌, ◌++◌, length, get_or, map, slice_get, position, Contains, Option, Some, None, Result, Ok, Err, IsOk, OnOk, OnErr, refl, sym, ap, subst, ◌∙◌, inl, inr, arith, lt-ltb, append-nil, append_assoc, length-append}
+use Rattle.std.proofs.Common.{◌≡◌, ℕ, suc, ◌+◌, ◌<◌, ◌≤◌, Bool, true, false, cond, not, eqb, nat_lt, List, [], ◌∷◌, ◌++◌, length, get_or, map, slice_get, position, Contains, Option, Some, None, Result, Ok, Err, IsOk, OnOk, OnErr, refl, sym, ap, subst, ◌∙◌, inl, inr, arith, true≢false, lt-ltb, append-nil, append_assoc, length-append}
 use Rattle.std.specs.Prelude.{IfOk, IfErr}
 use Rattle.std.specs.List.{position_or_len}
 use Rattle.std.specs.Map.{lookup}
 use Rattle.std.specs.Option.{IsSome}
+use Rattle.std.proofs.lemmas.Bool.{cases_lt}
 use Rattle.std.proofs.lemmas.Grind.{common_steps}
 use Rattle.std.proofs.lemmas.List.{length_push}
 use Rattle.std.proofs.lemmas.List.Elements.{Contains-get_or}
@@ -21,14 +22,14 @@ use Rattle.bundle_tree.specs.declared.resolve.ResolveError.{ResolveError}
 use Rattle.bundle_rules.specs.Program.{Loaded}
 use Rattle.bundle_rules.specs.Kept.{Asked, Answers, Kept, Stays, asked_eq, kept_file, kept_module, number_in}
 use Rattle.bundle_rules.specs.Entries.{Settings}
-use Rattle.bundle_rules.specs.Faults.{NumbersUsedUp}
+use Rattle.bundle_rules.specs.Faults.{NumbersUsedUp, last_number}
 use Rattle.bundle_rules.specs.Judging as j
 use Rattle.bundle_rules.specs.Judging.{Grows}
 use Rattle.bundle_rules.proofs.KeptLemmas.{stays}
 use Rattle.bundler_kept.specs.declared.kept.Request.{Request}
 use Rattle.bundler_kept.specs.Kept.{asked_of}
 use Rattle.bundler_kept.proofs.Keeping.{kept_or_added}
-use Rattle.bundler_call.specs.Kept.{answers_of, handed_in, kept_as, Advances, IsKept, IsMet, IsRequested, MayBeMet, Remains}
+use Rattle.bundler_call.specs.Kept.{answers_of, handed_in, kept_as, Advances, IsBounded, IsKept, IsMet, IsRequested, MayBeMet, Remains}
 use Rattle.bundler_call.specs.Loading.{IsSound}
 use Rattle.bundler_call.specs.Refusal.{load_refusal, resolve_refusal}
 
@@ -62,6 +63,15 @@ has_room trees count most is less = subst (λ (n : ℕ). n < most) (is ∙ sym (
 pub is_full : (trees : List (Name × ModuleData)) (count most : ℕ) → count ≡ length trees → most ≤ count → most ≤ length (read_trees trees)
 is_full trees count most is full = subst (λ (n : ℕ). most ≤ n) (is ∙ sym (as_many trees)) full
 
+-- where a number is left, one more file may be met
+one_left : (c : Kept) (file : Name) → (NumbersUsedUp c → ⊥) → length (c.names ++ file ∷ []) ≤ last_number + 1
+one_left c file left =
+    let longer : length (c.names ++ file ∷ []) ≡ length c.names + 1 = length_push c.names file in
+    elim (cases_lt last_number (length c.names)) [
+      | inl above ↦ absurd (left above)
+      | inr within ↦ omega (arith, within, longer)
+    ]
+
 module _ (answers : Answers) (settings : Settings) (entries : List Name) where
   -- nothing is new
   pub grows_along : (c d : Kept) → d ≡ c → Grows answers settings entries c d
@@ -74,6 +84,13 @@ module _ (answers : Answers) (settings : Settings) (entries : List Name) where
   grows_trans x y z (j.Grows.loaded file answer there none room may rest) h = j.Grows.loaded file answer there none room may (grows_trans _ y z rest h)
   grows_trans x y z (j.Grows.resolved asked asking file there faultless requested none may rest) h =
       j.Grows.resolved asked asking file there faultless requested none may (grows_trans _ y z rest h)
+
+  -- no more files are met than there are numbers
+  pub still_bounded : (x y : Kept) → Grows answers settings entries x y → IsBounded x → IsBounded y
+  still_bounded x y j.same bounded = bounded
+  still_bounded x y (j.met file none room due rest) bounded = still_bounded _ y rest (one_left x file room)
+  still_bounded x y (j.Grows.loaded file answer there none room may rest) bounded = still_bounded _ y rest bounded
+  still_bounded x y (j.Grows.resolved asked asking file there faultless requested none may rest) bounded = still_bounded _ y rest bounded
 
 module _ {L R : Type 0} (may_load : L → Name → ModuleData → Type 0) (may_resolve : R → Name → List ℕ → Name → Type 0) (settings : Settings) (entries : List Name) where
   pub advances_refl : (l : L) (r : R) (c : Kept) → Advances may_load may_resolve settings entries l l r r c c
@@ -204,6 +221,11 @@ unmet c d file (Err e) unchanged absent = subst (λ (names : List Name). Contain
 pub holds : {T E : Type 0} (r : Result T E) (P : Type 0) → P → OnOk r P
 holds (Ok x) P p = p
 holds (Err e) P p = tt
+
+-- a success is no refusal
+pub no_err : {T E : Type 0} (r : Result T E) (P : E → Type 0) → IsOk r → IfErr r P
+no_err (Ok x) P is = tt
+no_err (Err e) P is = absurd (true≢false (sym is))
 
 -- of what is refused, nothing is owed
 pub refused_owes : {T E : Type 0} (r : Result T E) (e : E) (P : Type 0) → r ≡ Err e → OnOk r P

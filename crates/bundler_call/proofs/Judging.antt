@@ -1,5 +1,5 @@
 -- The parts of the judging, one after the other.
-use Rattle.std.proofs.Common.{◌≡◌, ℕ, List, ◌∷◌, ◌++◌, Option, None, Some, Result, Ok, Err, IsOk, sym, subst, true≢false}
+use Rattle.std.proofs.Common.{◌≡◌, ℕ, List, ◌∷◌, ◌++◌, Option, None, Some, Result, Ok, Err, IsOk, refl, sym, subst, true≢false}
 use Rattle.std.specs.Prelude.{IfSome}
 use Rattle.std.specs.Result.{IsErrAnd}
 use Rattle.bundle_tree_names.specs.FileName.{Name}
@@ -18,6 +18,11 @@ use Rattle.bundler_call.specs.Judged.{Ends, LeadsOn}
 pub told_as : (o : Option Fault) (P Q : Fault → Type 0) → ((f : Fault) → P f → Q f) → IfSome o P → IfSome o Q
 told_as None P Q give told = tt
 told_as (Some f) P Q give told = give f told
+
+-- what holds of the fault, if one is told
+pub told_where : (o : Option Fault) (Q : Fault → Type 0) → ((f : Fault) → o ≡ Some f → Q f) → IfSome o Q
+told_where None Q give = tt
+told_where (Some f) Q give = give f refl
 
 module _ {T : Type 0} where
   -- what goes on

@@ -50,7 +50,7 @@ item_at {X = X} f xs i y at = by (slice_get xs i) (sym (slice_get-map f xs i) �
     by (Some x) is = (x, refl, same_Some (f x) y is)
 
 -- some item of which this is read
-item_of : {X Y : Type 0} (f : X → Y) (xs : List X) (y : Y) → Contains (map f xs) y → (i : ℕ) × (x : X) × (slice_get xs i ≡ Some x) × (f x ≡ y)
+pub item_of : {X Y : Type 0} (f : X → Y) (xs : List X) (y : Y) → Contains (map f xs) y → (i : ℕ) × (x : X) × (slice_get xs i ≡ Some x) × (f x ≡ y)
 item_of f xs y there =
     let its = item_at f xs there.0 y (slice_get-get_or (map f xs) there.0 y there.1 ∙ ap Some there.2) in (there.0, its.0, its.1, its.2)
 

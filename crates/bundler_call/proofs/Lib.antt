@@ -1,7 +1,6 @@
 pub mod Finding
 pub mod Growing
 pub mod Loading
-pub mod Refusing
 pub mod Numbered
 pub mod Judging
 pub mod Asking
@@ -17,3 +16,5 @@ pub mod Programs
 pub mod Linking
 pub mod Sources
 pub mod Bundling
+pub mod Headlines
+pub mod PostOrder

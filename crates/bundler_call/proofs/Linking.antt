@@ -1,13 +1,16 @@
 -- What linking and the hook tell of the program of an entry, and what that says of all entries.
-use Rattle.std.proofs.Common.{◌≡◌, ◌==◌, ℕ, suc, zero, ◌<◌, Bool, List, [], ◌∷◌, Some, Contains, length, slice_get, refl, sym, ap, subst, ◌∙◌, inl, inr, arith}
-use Rattle.std.specs.Prelude.{IfSome, IsTrue}
-use Rattle.std.proofs.lemmas.Option.{same_Some, get_or_from_slice_get, slice_get_within}
-use Rattle.std.proofs.lemmas.List.Elements.{Contains-get_or, Contains-push_cases}
+use Rattle.std.proofs.Common.{◌≡◌, ◌==◌, ℕ, suc, zero, ◌<◌, Bool, List, [], ◌∷◌, Some, length, slice_get, refl, sym, ap, subst, ◌∙◌, inl, inr, arith}
+use Rattle.std.specs.Prelude.{IfSome, Option}
+use Rattle.std.specs.List.{AllZip}
+use Rattle.std.specs.declared.alloc.Global.{Global}
+use Rattle.std.specs.declared.string.String.{String}
+use Rattle.std.proofs.lemmas.Option.{same_Some}
 use Rattle.bundle_tree_ast.specs.declared.expr.Expr.{Expr}
+use Rattle.bundle_tree_ast.specs.declared.module.Module.{Module}
 use Rattle.bundle_tree_ast.specs.declared.prop.KeyValueProp.{KeyValueProp}
-use Rattle.bundle_order_graph.specs.Walks.{Reaches}
-use Rattle.bundle_order_graph.proofs.OrderLemmas.{Lists-sound}
+use Rattle.bundle_tree_piece.specs.Item.{Item}
 use Rattle.bundle_tree_names.specs.FileName.{Name}
+use Rattle.bundle_tree_names.specs.declared.file_name.FileName.{FileName}
 use Rattle.bundle_tree.specs.declared.load.ModuleData.{ModuleData}
 use Rattle.bundle_rules.specs.Cleared.{cleared}
 use Rattle.bundle_rules.specs.Entries.{Settings}
@@ -16,33 +19,25 @@ use Rattle.bundle_rules.specs.Faults as f
 use Rattle.bundle_rules.specs.Judging as j
 use Rattle.bundle_rules.specs.Judging.{AcceptsProgram, AnsweredBefore, Entry, IsProgramOf, RefusesEntries, RefusesProgram}
 use Rattle.bundle_rules.specs.Kept.{Kept, program_of}
-use Rattle.bundle_rules.specs.Program.{Loaded, Program, IsList, IsReached, Requests, module_of}
-use Rattle.bundler_entry.specs.Asked.{AreAnsweredBefore, IsAnsweredFor, IsRefusedAt}
-use Rattle.bundler_entry.specs.Hook.{IsAskedFault}
+use Rattle.bundle_rules.specs.Program.{Loaded, Program, IsList, module_of}
+use Rattle.bundler_entry.specs.Asked.{AreAnsweredBefore, AreAnswersBefore, IsAnsweredFor, IsRefusedAt}
+use Rattle.bundler_entry.specs.Hook.{Holds, IsAskedFault}
 use Rattle.bundler_entry.specs.Hook as h
-use Rattle.bundler_entry.specs.Unlinked.{MayBeMerging, error_of}
+use Rattle.bundler_entry.specs.Linked.{IsCallOf, IsLinkedEntry}
+use Rattle.bundler_entry.specs.Made.{AreOfAnswers, IsContextsFaultOf, IsMadeOf, IsRefusedMaking}
+use Rattle.bundler_entry.specs.Unlinked.{error_of}
+use Rattle.bundler_entry.specs.declared.call.Call.{Call}
+use Rattle.bundler_entry.specs.declared.entry.Answer.{Answer}
+use Rattle.bundler_entry.specs.declared.linked.Linked.{Linked}
 use Rattle.bundler_entry.specs.declared.unlinked.Unlinked.{Unlinked}
-use Rattle.bundler_entry.specs.declared.unlinked.Unlinked.TheVariants as u
-use Rattle.bundler_call.specs.Judged.{may_be_contexts, LacksContexts}
+use Rattle.bundler_entry.proofs.AskedLemmas.{answered-before}
+use Rattle.bundler_entry.proofs.Bundled.{answers-held, entry-bundle}
+use Rattle.bundler_entry.proofs.Lacking.{contexts-lack}
+use Rattle.bundler_call.specs.Judged.{IsBundledFor}
 use Rattle.bundler_call.specs.Kept.{parties_of}
-use Rattle.bundler_call.specs.Linking.{answered_by, IsRefusalOfEntries, IsRefusalOfProgram}
-use Rattle.bundler_call.proofs.Judging.{told_as}
-
--- A module on the list of a program is reached.
-
-none_there : (x : ℕ) → Contains [] x → ⊥
-none_there x (k, less, is) = omega (arith, less)
-
-on_list : (p : Program) (list : List ℕ) (i m : ℕ) → IsList p list → slice_get list i ≡ Some m → IsReached p m
-on_list p list i m is_list at =
-    let there : Contains list m = subst (Contains list) (get_or_from_slice_get list i m m at) (Contains-get_or list i m (slice_get_within list i m at)) in
-    elim (Lists-sound is_list m there) [
-      | inl none ↦ absurd (none_there m none)
-      | inr from ↦ elim (Contains-push_cases [] p.entry from.0 from.1) [
-        | inl none ↦ absurd (none_there from.0 none)
-        | inr same ↦ subst (λ (t : ℕ). Reaches (Requests p) t m) (sym same) from.2
-      ]
-    ]
+use Rattle.bundler_call.specs.Linking.{answered_by, IsModuleFor, IsRefusalOfEntries, IsRefusalOfProgram, LacksContexts}
+use Rattle.bundler_call.specs.declared.bundle.Bundle.{Bundle}
+use Rattle.bundler_call.proofs.Judging.{told_as, told_where}
 
 -- What the hook answers.
 
@@ -79,10 +74,22 @@ module _ (may_give : Name → Bool → List (KeyValueProp Expr) → Type 0) (may
   pub refused_hook : (list : List ℕ) (unlinked : Unlinked) → IsFaultlessProgram p → IsList p list → IfSome (fault_of (error_of unlinked)) (IsRefusedAt may_give may_fail p list) → IsRefusalOfProgram (answered_by may_give may_fail) p unlinked
   refused_hook list unlinked faultless is_list told = told_as (fault_of (error_of unlinked)) (IsRefusedAt may_give may_fail p list) _ (λ fault at. inl (refuses_hook list fault faultless is_list at)) told
 
-  pub refused_merging : (unlinked : Unlinked) → AcceptsProgram p (answered_by may_give may_fail) → MayBeMerging unlinked → IsRefusalOfProgram (answered_by may_give may_fail) p unlinked
-  refused_merging u.OutOfMemory accepted may = tt
-  refused_merging (u.ContextsUsedUp file) accepted may = inr (accepted, refl)
-  refused_merging _ accepted may = absurd may
+  -- What is made of it, or why nothing is.
+
+  module _ (entry : ℕ) (call : Call) (is_call : IsCallOf p entry call) (linked : Linked) (its : IsLinkedEntry p call linked)
+      (given : List Answer) (asked : AreAnswersBefore may_give p linked.reached.list.items (length linked.reached.list.items) given) where
+    pub accepted : AcceptsProgram p (answered_by may_give may_fail)
+    accepted = accepts linked.reached.list.items its.links.faultless its.reached.is_list (answered-before may_give p linked.reached.list.items (length linked.reached.list.items) given asked)
+
+    pub module_right : (made : Module) → (answers : ℕ → Option (List Item)) × AreOfAnswers given answers × IsMadeOf its.links.places call linked answers made → IsModuleFor (answered_by may_give may_fail) p made
+    module_right made (answers, of, is_made) = record {
+      accepted = accepted;
+      bundle = entry-bundle p entry call is_call linked its (record { may_answer = Holds may_give }) answers (answers-held p entry call is_call linked its may_give given asked answers of) made is_made;
+    }
+
+    pub refused_merging : (unlinked : Unlinked) → (answers : ℕ → Option (List Item)) × AreOfAnswers given answers × IsRefusedMaking its.links.places call linked answers unlinked → IsRefusalOfProgram (answered_by may_give may_fail) p unlinked
+    refused_merging unlinked (answers, of, is_refused) =
+        told_where (fault_of (error_of unlinked)) _ (λ fault is. inr (accepted, contexts-lack p entry call is_call linked its (record { may_answer = Holds may_give }) answers (answers-held p entry call is_call linked its may_give given asked answers of) unlinked fault is_refused is))
 
 -- Entries.
 
@@ -120,8 +127,8 @@ module _ (kept : Kept) (settings : Settings) (parties : Parties) where
           subst (λ x. AcceptsProgram x parties) (one_program entry p q its (subst (λ e. IsProgramOf kept settings e q) (sym (same_Some entry other at)) is)) accepted
       before (suc k) other q less at is = let fewer : k < later.i = omega (arith, less) in later.accepted_before k other q fewer at is
 
-  -- contexts are used up for the first entry
-  pub lacks_first : (entry : Entry) (rest : List Entry) (p : Program) (fault : Fault) → IsProgramOf kept settings entry p → AcceptsProgram p parties → IsTrue (may_be_contexts fault) → LacksContexts kept settings parties (entry ∷ rest) fault
+  -- contexts do not suffice for the first entry
+  pub lacks_first : (entry : Entry) (rest : List Entry) (p : Program) (fault : Fault) → IsProgramOf kept settings entry p → AcceptsProgram p parties → IsContextsFaultOf p parties.hooks fault → LacksContexts kept settings parties (entry ∷ rest) fault
   lacks_first entry rest p fault its accepted contexts = record {
     contexts = contexts;
     i = 0;
@@ -133,7 +140,7 @@ module _ (kept : Kept) (settings : Settings) (parties : Parties) where
     accepted_before = λ k other q less at is. (let no : ⊥ = omega (arith, less) in absurd no);
   }
 
-  -- the first is accepted, and contexts are used up for one of the others
+  -- the first is accepted, and contexts do not suffice for one of the others
   pub lacks_later : (entry : Entry) (rest : List Entry) (p : Program) (fault : Fault) → IsProgramOf kept settings entry p → AcceptsProgram p parties → LacksContexts kept settings parties rest fault → LacksContexts kept settings parties (entry ∷ rest) fault
   lacks_later entry rest p fault its accepted later = record {
     contexts = later.contexts;
@@ -177,22 +184,6 @@ module _ (a b : Parties) where
       accepted_before = λ k other q less at is. accepts_as q (its.accepted_before k other q less at is);
     }
 
-    pub lacks_as : (kept : Kept) (settings : Settings) (entries : List Entry) (fault : Fault) → LacksContexts kept settings a entries fault → LacksContexts kept settings b entries fault
-    lacks_as kept settings entries fault its = record {
-      contexts = its.contexts;
-      i = its.i;
-      entry = its.entry;
-      p = its.p;
-      there = its.there;
-      its_program = its.its_program;
-      accepted = accepts_as its.p its.accepted;
-      accepted_before = λ k other q less at is. accepts_as q (its.accepted_before k other q less at is);
-    }
-
-    pub refusal_as : (kept : Kept) (settings : Settings) (entries : List Entry) (unlinked : Unlinked) → IsRefusalOfEntries a settings kept entries unlinked → IsRefusalOfEntries b settings kept entries unlinked
-    refusal_as kept settings entries unlinked told =
-        told_as (fault_of (error_of unlinked)) _ _ (λ fault why. elim why [ inl refuses ↦ inl (entries_as kept settings entries fault refuses) | inr lacks ↦ inr (lacks_as kept settings entries fault lacks) ]) told
-
 module _ (may_load : Name → ModuleData → Type 0) (may_fail_load : Name → Type 0) (may_resolve : Name → List ℕ → Name → Type 0) (may_fail_resolve : Name → List ℕ → Type 0) (may_give : Name → Bool → List (KeyValueProp Expr) → Type 0) (may_fail_hook : Name → Bool → Type 0) where
   -- the same hook
   hook_as : (p : Program) (m : ℕ) (file : Name) (fault : Fault) → HookFault p (answered_by may_give may_fail_hook) m file fault → HookFault p (parties_of may_load may_fail_load may_resolve may_fail_resolve may_give may_fail_hook) m file fault
@@ -201,3 +192,41 @@ module _ (may_load : Name → ModuleData → Type 0) (may_fail_load : Name → T
 
   pub by_hook_alone : AsMuch (answered_by may_give may_fail_hook) (parties_of may_load may_fail_load may_resolve may_fail_resolve may_give may_fail_hook)
   by_hook_alone = λ p m. (λ its. record { properties = its.properties; held = its.held; right = its.right }, hook_as p m)
+
+  -- why an entry lacks contexts does not depend on loader and resolver
+  lacks_as : (kept : Kept) (settings : Settings) (entries : List Entry) (fault : Fault) → LacksContexts kept settings (answered_by may_give may_fail_hook) entries fault → LacksContexts kept settings (parties_of may_load may_fail_load may_resolve may_fail_resolve may_give may_fail_hook) entries fault
+  lacks_as kept settings entries fault its = record {
+    i = its.i;
+    entry = its.entry;
+    there = its.there;
+    accepted_before = λ k other q less at is. accepts_as _ _ by_hook_alone q (its.accepted_before k other q less at is);
+    p = its.p;
+    its_program = its.its_program;
+    accepted = accepts_as _ _ by_hook_alone its.p its.accepted;
+    contexts = its.contexts;
+  }
+
+  pub refusal_as : (kept : Kept) (settings : Settings) (entries : List Entry) (unlinked : Unlinked) → IsRefusalOfEntries (answered_by may_give may_fail_hook) settings kept entries unlinked → IsRefusalOfEntries (parties_of may_load may_fail_load may_resolve may_fail_resolve may_give may_fail_hook) settings kept entries unlinked
+  refusal_as kept settings entries unlinked told =
+      told_as (fault_of (error_of unlinked)) _ _ (λ fault why. elim why [ inl refuses ↦ inl (entries_as _ _ by_hook_alone kept settings entries fault refuses) | inr lacks ↦ inr (lacks_as kept settings entries fault lacks) ]) told
+
+  -- nor does what a bundle of an entry is
+  bundled_as : (settings : Settings) (kept : Kept) (entry : String Global × FileName) (bundle : Bundle) → IsBundledFor (answered_by may_give may_fail_hook) settings kept entry bundle → IsBundledFor (parties_of may_load may_fail_load may_resolve may_fail_resolve may_give may_fail_hook) settings kept entry bundle
+  bundled_as settings kept entry bundle its = record {
+    its_kind = its.its_kind;
+    p = its.p;
+    its_program = its.its_program;
+    its_id = its.its_id;
+    accepted = accepts_as _ _ by_hook_alone its.p its.accepted;
+    clean = its.clean;
+    undoubled = its.undoubled;
+    is_bundle = its.is_bundle;
+    names = its.names;
+  }
+
+  pub all_bundled_as : (settings : Settings) (kept : Kept) (entries : List (String Global × FileName)) (bundles : List Bundle) → AllZip (IsBundledFor (answered_by may_give may_fail_hook) settings kept) entries bundles
+      → AllZip (IsBundledFor (parties_of may_load may_fail_load may_resolve may_fail_resolve may_give may_fail_hook) settings kept) entries bundles
+  all_bundled_as settings kept [] [] all = tt
+  all_bundled_as settings kept [] (bundle ∷ bundles) all = absurd all
+  all_bundled_as settings kept (entry ∷ entries) [] all = absurd all
+  all_bundled_as settings kept (entry ∷ entries) (bundle ∷ bundles) all = (bundled_as settings kept entry bundle all.0, all_bundled_as settings kept entries bundles all.1)

@@ -1,16 +1,18 @@
 -- What is read of the files of a load list is that of the program of what is kept.
-use Rattle.std.proofs.Common.{Bor, ◌≡◌, ℕ, suc, zero, List, [], ◌∷◌, ◌++◌, Some, Result, Ok, Err, Contains, length, map, slice_get, refl, sym, ap, subst, ◌∙◌, append-nil, append_assoc}
+use Rattle.std.proofs.Common.{Bor, ◌≡◌, ℕ, ◌+◌, ◌<◌, ◌≤◌, suc, zero, List, [], ◌∷◌, ◌++◌, Some, Result, Ok, Err, Contains, length, map, slice_get, refl, sym, ap, subst, ◌∙◌, append-nil, append_assoc, arith}
 use Rattle.std.specs.Prelude.{IfOk}
 use Rattle.std.specs.List.{AllZip}
 use Rattle.std.specs.Option.{option_and_then}
 use Rattle.std.specs.declared.alloc.Global.{Global}
 use Rattle.std.specs.declared.string.String.{String}
 use Rattle.std.specs.declared.vec.Vec.{Vec}
+use Rattle.std.proofs.lemmas.List.Quantifiers.{position-Some}
 use Rattle.std.proofs.lemmas.Option.{same_Some}
 use Rattle.indexmap.specs.IndexMap.{IndexMap}
-use Rattle.bundle_tree_names.specs.FileName.{Name, name_of}
+use Rattle.bundle_tree_names.specs.FileName.{Name, name_of, name_eq}
 use Rattle.bundle_tree_names.specs.declared.file_name.FileName.{FileName}
 use Rattle.bundle_rules.specs.Entries.{Settings}
+use Rattle.bundle_rules.specs.Faults.{last_number}
 use Rattle.bundle_rules.specs.Kept.{Kept, kept_module, number_in, program_of}
 use Rattle.bundle_rules.specs.Program.{Loaded, Program, module_of}
 use Rattle.bundle_link_reached.specs.Files.{AreFilesOf, numbers_of}
@@ -20,10 +22,10 @@ use Rattle.bundler_entry.specs.declared.source.Program.{Program as Read}
 use Rattle.bundler_entry.specs.declared.call.Call.{Call}
 use Rattle.bundler_entry.specs.declared.source.Source.{Source}
 use Rattle.bundler_call.specs.Kept.{settings_of}
-use Rattle.bundler_call.specs.Linking.{IsLoaded, IsReadOf}
+use Rattle.bundler_call.specs.Linking.{IsFileOn, IsLoaded, IsReadOf}
 use Rattle.bundler_call.specs.Loading.{ids_on, AreNumbered}
 use Rattle.bundler_call.specs.declared.load.LoadList.{LoadList}
-use Rattle.bundler_call.proofs.Leading.{AreNumberedIn}
+use Rattle.bundler_call.proofs.Leading.{AreNumberedIn, item_of}
 use Rattle.bundler_call.proofs.Programs.{are_files, file_numbered}
 
 module _ (kept : Kept) (settings : Settings) where
@@ -87,12 +89,24 @@ read_of (Ok made) settings kept list files deps sources same noted read program 
     (subst (λ x. AreSourcesOf (program_of kept settings entry) (numbers_of x) sources) (sym same) (read entry loaded.numbered)) in
     record { loaded = loaded; program = each; ids = (each 0).files.ids ∙ ap (λ (b : Bor (IndexMap FileName ℕ _)). numbers_of b.now) its ∙ ap numbers_of same }
 
+-- a number on a list is one of those that were given
+number_below : (kept : Kept) (list : LoadList) → AreNumbered kept list → (m : ℕ) → Contains (ids_on list) m → m < length kept.names
+number_below kept list numbered m there =
+    let its = item_of (λ (e : FileName × ℕ). e.1) list.files.entries m there in
+    (position-Some (name_eq (name_of its.1.0)) kept.names m (name_of its.1.0) (numbered its.0 its.1 its.2 ∙ ap Some its.3)).0
+
 -- a call whose files were read of a list is that of an entry on it
-pub call_of : (kept : Kept) (list : LoadList) (call : Call) (entry : ℕ) → IsReadOf (settings_of call.config.now) kept list call.program.now → Contains (ids_on list) entry → IsCallOf (program_of kept (settings_of call.config.now) entry) entry call
-call_of kept list call entry read there = record {
+pub call_of : (kept : Kept) (list : LoadList) (call : Call) (entry : ℕ) → IsReadOf (settings_of call.config.now) kept list call.program.now → IsFileOn kept list (name_of call.entry.now) entry → IsCallOf (program_of kept (settings_of call.config.now) entry) entry call
+call_of kept list call entry read its = record {
   program = read.program entry;
   links = (refl, refl);
   iife = refl;
+  renames = refl;
   begins = refl;
-  there = subst (λ ids. Contains ids entry) (sym read.ids) there;
+  there = subst (λ ids. Contains ids entry) (sym read.ids) its.1;
+  named = file_numbered kept (name_of call.entry.now) entry its.0;
+  bounded = λ m there. (let below : m < length kept.names = number_below kept list read.loaded.numbered m (subst (λ ids. Contains ids m) read.ids there) in
+      let most : length kept.names ≤ last_number + 1 = read.loaded.bounded in
+      omega (arith, below, most));
+  counted = (read.program entry).least (length kept.names) (λ m there. number_below kept list read.loaded.numbered m (subst (λ ids. Contains ids m) read.ids there));
 }

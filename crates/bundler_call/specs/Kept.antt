@@ -1,5 +1,5 @@
 -- What a bundler keeps, its parties and its settings, in the words of the definitions.
-use Rattle.std.specs.Prelude.{◌≡◌, ◌⊎◌, ℕ, Bool, not, List, Some, Contains, IsSome, map}
+use Rattle.std.specs.Prelude.{◌≡◌, ◌⊎◌, ℕ, ◌+◌, ◌≤◌, Bool, not, List, Some, Contains, IsSome, length, map}
 use Rattle.std.specs.String.{string_bytes}
 use Rattle.std.specs.declared.alloc.Global.{Global}
 use Rattle.std.specs.declared.string.String.{String}
@@ -14,7 +14,7 @@ use Rattle.bundle_rules.specs.Nodes.{Text}
 use Rattle.bundle_rules.specs.Entries.{Settings}
 use Rattle.bundle_rules.specs.Program.{Loaded}
 use Rattle.bundle_rules.specs.Kept.{Asked, Answers, Kept, Stays, kept_file, kept_module}
-use Rattle.bundle_rules.specs.Faults.{Parties, IsFaultless}
+use Rattle.bundle_rules.specs.Faults.{Parties, IsFaultless, last_number}
 use Rattle.bundle_rules.specs.Judging.{Entry, Grows, requests_in}
 use Rattle.bundler_kept.specs.Kept.{names_in, trees_in, resolved_in}
 use Rattle.bundler_kept.specs.declared.kept.Kept as store
@@ -67,6 +67,10 @@ MayBeMet kept file entries = Contains entries file ⊎ ((asked : Asked) × (kept
 -- a file was met
 abbrev pub IsMet : Kept → Name → Type 0
 IsMet kept file = Contains kept.names file
+
+-- no more files were met than there are numbers
+abbrev pub IsBounded : Kept → Type 0
+IsBounded kept = length kept.names ≤ last_number + 1
 
 -- the module of a file is kept
 abbrev pub IsKept : Kept → Name → Type 0

@@ -1,4 +1,5 @@
 pub mod Kept
+pub mod Answer
 pub mod Library
 pub mod Bundler
 pub mod Loading

@@ -1,11 +1,9 @@
 -- How the part of a bundler that asks loader and resolver moves on.
 use Rattle.std.specs.Prelude.{ℕ, List}
 use Rattle.bundle_tree_names.specs.FileName.{Name}
-use Rattle.bundle_tree_names.specs.declared.error.Error.{Error}
 use Rattle.bundle_tree.specs.declared.load.ModuleData.{ModuleData}
 use Rattle.bundle_rules.specs.Entries.{Settings}
 use Rattle.bundler_call.specs.Kept.{kept_of, Advances, Remains}
-use Rattle.bundler_call.specs.Refusal.{IsTold}
 use Rattle.bundler_call.specs.declared.library.Library.{Library}
 
 -- the parties stay what they are, and what is kept stays so
@@ -16,8 +14,3 @@ Keeps old new = Remains old.loader new.loader old.resolver new.resolver (kept_of
 abbrev pub MovesOn : {L R : Type 0} → (L → Name → ModuleData → Type 0) → (R → Name → List ℕ → Name → Type 0) → Settings → List Name → Library L R → Library L R → Type 0
 MovesOn may_load may_resolve settings entries old new =
     Advances may_load may_resolve settings entries old.loader new.loader old.resolver new.resolver (kept_of old.kept) (kept_of new.kept)
-
--- what a refusal tells while files are loaded is so, for these parties and what is kept
-abbrev pub IsToldOf : {L R : Type 0} → (L → Name → Type 0) → (R → Name → List ℕ → Type 0) → ℕ → Library L R → Error → Type 0
-IsToldOf may_fail_load may_fail_resolve max_modules library =
-    IsTold (may_fail_load library.loader) (may_fail_resolve library.resolver) max_modules (kept_of library.kept)

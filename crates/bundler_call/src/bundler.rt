@@ -1,19 +1,20 @@
 //! The bundler.
 
-ghost use Rattle.std.specs.Prelude.{◌≡◌, ℕ, List, [], Some, IsOk, IfOk, IfErr, IfSome, OnOk, map, string_bytes};
+ghost use Rattle.std.specs.Prelude.{◌≡◌, ◌<◌, [], Some, IfOk, IfErr, IfSome, OnOk, length, map, string_bytes};
 ghost use Rattle.std.specs.List.{AllZip};
 ghost use Rattle.bundle_tree_names.specs.FileName.{name_of};
 ghost use Rattle.bundle_rules.specs.Faults.{DoubledEntry, fault_of};
 ghost use Rattle.bundle_rules.specs.Entries.{Settings};
-ghost use Rattle.bundle_rules.specs.Judging.{Completes, Grows, NumbersEach};
-ghost use Rattle.bundle_rules.specs.Kept.{nothing_kept, Kept, Stays};
+ghost use Rattle.bundle_rules.specs.Headline.{AnswersNothing, IsHeadline};
+ghost use Rattle.bundle_rules.specs.Judging.{NumbersEach};
+ghost use Rattle.bundle_rules.specs.Kept.{nothing_kept, Kept};
+ghost use Rattle.bundler_call.specs.Answer.{answer_of};
 ghost use Rattle.bundler_call.specs.Bundler.{config_of, files_of, hook_of, kept_by, loader_of, parties_held, resolver_of, settings_held, HasNumber};
-ghost use Rattle.bundler_call.specs.Judged.{Ends, AreApart, IsBundledFor, IsFaultOfList, IsRefusedBy};
-ghost use Rattle.bundler_call.specs.Kept.{entry_of, kept_of, settings_of};
-ghost use Rattle.bundler_call.specs.Library.{IsToldOf, MovesOn};
+ghost use Rattle.bundler_call.specs.Judged.{Ends, AreApart, IsBundledFor, IsFaultOfList};
+ghost use Rattle.bundler_call.specs.Kept.{entry_of, kept_of, settings_of, IsBounded};
+ghost use Rattle.bundler_call.specs.Library.{MovesOn};
 ghost use Rattle.bundler_call.specs.Linking.{answered_by, IsLoaded, IsNumberedOn, IsReadOf, IsRefusalOfEntries};
 ghost use Rattle.bundler_call.specs.Loading.{files_on, AreMet, AreNumbered, AreSound};
-ghost use Rattle.bundler_call.specs.Refusal.{IsRefusedLoading};
 ghost use Rattle.bundler_call.specs.declared.load.LoadList.{LoadList};
 
 use crate::bundle::{Bundle, BundleKind};
@@ -69,30 +70,17 @@ impl<L: Load + Drop, R: Resolve + Drop> Bundler<L, R> {
         alloc: Global,
         entries: Vec<(String, FileName)>,
     ) -> Result<Vec<Bundle>, Error>
-        ensures grows { Grows
-            (parties_held L.Load R.Resolve ⟦<dyn Hook as Hook>⟧ self.old).answers
-            (settings_held self.old) (files_of entries.items)
-            (kept_by self.old) (kept_by self.new) }
-        ensures stays { Stays (kept_by self.old) (kept_by self.new) }
+        ensures headline { IsHeadline
+            (parties_held L.Load R.Resolve ⟦<dyn Hook as Hook>⟧ self.old)
+            (settings_held self.old) (map entry_of entries.items)
+            (kept_by self.old) (answer_of result) (kept_by self.new) }
         ensures loader { loader_of self.new ≡ loader_of self.old }
         ensures resolver { resolver_of self.new ≡ resolver_of self.old }
         ensures config { config_of self.new ≡ config_of self.old }
         ensures hook { hook_of self.new ≡ hook_of self.old }
-        ensures bundles { IfOk result (λ bundles. AllZip (IsBundledFor
-            (parties_held L.Load R.Resolve ⟦<dyn Hook as Hook>⟧ self.old)
-            (settings_held self.old) (kept_by self.new)) entries.items bundles.items) }
-        ensures refused { IfErr result (IsRefusedLoading
-            (parties_held L.Load R.Resolve ⟦<dyn Hook as Hook>⟧ self.old)
-            (settings_held self.old) (kept_by self.new)) }
-        ensures completes { OnOk result (Completes
-            (parties_held L.Load R.Resolve ⟦<dyn Hook as Hook>⟧ self.old)
-            (settings_held self.old) (map entry_of entries.items)
-            (kept_by self.old) (kept_by self.new)) }
-        ensures judged { IfErr result (IsRefusedBy
-            (parties_held L.Load R.Resolve ⟦<dyn Hook as Hook>⟧ self.old)
-            (settings_held self.old) (map entry_of entries.items)
-            (kept_by self.old) (kept_by self.new)) }
-        ensures no_entry { entries.items ≡ [] → IsOk result × (self.new ≡ self.old) }
+        ensures no_entry { entries.items ≡ [] →
+            AnswersNothing (kept_by self.old) (answer_of result) (kept_by self.new)
+            × (self.new ≡ self.old) }
     {
         if entries.is_empty() {
             return Ok(Vec::new(alloc));
@@ -150,13 +138,13 @@ fn numbered<L: Load + Drop, R: Resolve + Drop>(
 ) -> Result<(LoadList, Vec<ModuleId>), Error>
     ensures numbered { IfOk result (λ made.
         AllZip (HasNumber (kept_of library.new.kept)) entries.now made.1.items) }
+    ensures bounded { IfOk result (λ made.
+        0 < length entries.now → IsBounded (kept_of library.new.kept)) }
     ensures listed { IfOk result (λ made. AreNumbered (kept_of library.new.kept) made.0) }
     ensures unasked { IfOk result (λ made. made.0.deps.items ≡ []) }
     ensures met { IfOk result (λ made. AreMet (kept_of library.new.kept) (files_on made.0)) }
     ensures grows { (settings : Settings) →
         MovesOn L.may_load R.may_resolve settings (files_of entries.now) library.old library.new }
-    ensures refused { (max_modules : ℕ) →
-        IfErr result (IsToldOf L.may_fail_load R.may_fail_resolve max_modules library.new) }
     ensures judged { Ends result (λ outcome.
         NumbersEach (kept_of library.old.kept) (files_of entries.now) outcome
         (kept_of library.new.kept)) }

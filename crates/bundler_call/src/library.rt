@@ -1,6 +1,6 @@
 //! The modules that a bundler knows, and the parties that it asks for those that it lacks.
 
-ghost use Rattle.std.specs.Prelude.{◌≡◌, ◌<◌, ◌++◌, ◌∷◌, [], false, Some, None, Err, IsOk, IsSome, IsTrue, IfOk, IfErr, IfSome, OnOk, OnErr, List, ℕ};
+ghost use Rattle.std.specs.Prelude.{◌≡◌, ◌<◌, ◌++◌, ◌∷◌, [], false, Some, None, Err, IsOk, IsSome, IsTrue, IfOk, IfErr, IfSome, OnOk, OnErr, List};
 ghost use Rattle.std.specs.Map.{lookup};
 ghost use Rattle.std.specs.Option.{option_map};
 ghost use Rattle.std.specs.String.{string_bytes};
@@ -10,9 +10,9 @@ ghost use Rattle.bundle_rules.specs.Faults.{ResolveFails, fault_of};
 ghost use Rattle.bundle_rules.specs.Judging.{Loads, Numbers, Resolves};
 ghost use Rattle.bundle_rules.specs.Kept.{asked_eq, kept_file, kept_module, nothing_kept, number_in};
 ghost use Rattle.bundler_kept.specs.Kept.{asked_of, resolved_in, target_room, tree_room, trees_in};
-ghost use Rattle.bundler_call.specs.Kept.{kept_as, kept_of, settings_of, IsKept, IsMet, IsRequested, MayBeMet};
+ghost use Rattle.bundler_call.specs.Kept.{kept_as, kept_of, settings_of, IsBounded, IsKept, IsMet, IsRequested, MayBeMet};
 ghost use Rattle.bundler_call.specs.Judged.{Ends, asked_by};
-ghost use Rattle.bundler_call.specs.Library.{IsToldOf, Keeps, MovesOn};
+ghost use Rattle.bundler_call.specs.Library.{Keeps, MovesOn};
 ghost use Rattle.bundler_call.specs.Refusal.{load_refusal, resolve_refusal};
 
 use bundle_tree::load::{Load, LoadError, ModuleData};
@@ -51,12 +51,11 @@ impl<L: Load + Drop, R: Resolve + Drop> Library<L, R> {
         ensures numbered { IfOk result (λ id.
             number_in (kept_of self.new.kept) (name_of file.now) ≡ Some id) }
         ensures met { OnOk result (IsMet (kept_of self.new.kept) (name_of file.now)) }
+        ensures bounded { IsBounded (kept_of self.new.kept) }
         ensures keeps { Keeps self.old self.new }
         ensures grows { (settings : Settings) (entries : List Name) →
             MayBeMet (kept_of self.old.kept) (name_of file.now) entries →
             MovesOn L.may_load R.may_resolve settings entries self.old self.new }
-        ensures refused { (max_modules : ℕ) →
-            IfErr result (IsToldOf L.may_fail_load R.may_fail_resolve max_modules self.new) }
         ensures judged { Ends result (λ outcome.
             Numbers (kept_of self.old.kept) (name_of file.now) outcome (kept_of self.new.kept)) }
         ensures known { IsMet (kept_of self.old.kept) (name_of file.now) →
@@ -96,8 +95,6 @@ impl<L: Load + Drop, R: Resolve + Drop> Library<L, R> {
         ensures there { OnOk result (IsKept (kept_of self.new.kept) (name_of file.now)) }
         ensures grows { (entries : List Name) →
             MovesOn L.may_load R.may_resolve (settings_of config.now) entries self.old self.new }
-        ensures refused { IfErr result
-            (IsToldOf L.may_fail_load R.may_fail_resolve config.now.max_modules self.new) }
         ensures judged { Ends result (λ outcome.
             Loads
             (asked_by L.may_load L.may_fail_load R.may_resolve R.may_fail_resolve self.old.loader
@@ -145,8 +142,6 @@ impl<L: Load + Drop, R: Resolve + Drop> Library<L, R> {
         ensures grows { (settings : Settings) (entries : List Name) →
             IsRequested settings (kept_of self.old.kept) (asked_of request.now) →
             MovesOn L.may_load R.may_resolve settings entries self.old self.new }
-        ensures refused { (max_modules : ℕ) →
-            IfErr result (IsToldOf L.may_fail_load R.may_fail_resolve max_modules self.new) }
         ensures resolved { OnOk result
             ((found : Name) →
             kept_file (kept_of self.new.kept) (asked_of request.now) ≡ Some found →

@@ -12,7 +12,7 @@ ghost use Rattle.bundle_rules.specs.Program.{Loaded};
 ghost use Rattle.bundler_kept.specs.Kept.{asked_of};
 ghost use Rattle.bundler_call.specs.Judged.{Ends, LeadsOn, asked_by};
 ghost use Rattle.bundler_call.specs.Kept.{kept_of, settings_of, AreRequested, IsKept, IsMet, IsRequested};
-ghost use Rattle.bundler_call.specs.Library.{IsToldOf, Keeps, MovesOn};
+ghost use Rattle.bundler_call.specs.Library.{Keeps, MovesOn};
 ghost use Rattle.bundler_call.specs.Loading.{files_on, ids_on, AllLead, AreAsked, AreMet, AreNumbered, AreSound, Begins, IsNoted, IsPlaced, IsSound, LeadsTo};
 
 use crate::library::Library;
@@ -99,8 +99,6 @@ pub(crate) fn load_all<L: Load + Drop, R: Resolve + Drop>(
     requires { AreMet (kept_of library.old.kept) (files_on list) }
     ensures grows { (entries : List Name) →
         MovesOn L.may_load R.may_resolve (settings_of config.now) entries library.old library.new }
-    ensures refused { IfErr result
-        (IsToldOf L.may_fail_load R.may_fail_resolve config.now.max_modules library.new) }
     ensures loaded { IfOk result (λ list. AreSound (kept_of library.new.kept) (files_on list)) }
     ensures begins { IfOk result (λ made. Begins (files_on list) (files_on made)) }
     ensures once { IfOk result (λ made. IsDistinct (files_on made)) }
@@ -144,8 +142,6 @@ fn work_on<L: Load + Drop, R: Resolve + Drop>(
     requires listed { IsMet (kept_of library.old.kept) (name_of file.now) }
     ensures grows { (entries : List Name) →
         MovesOn L.may_load R.may_resolve (settings_of config.now) entries library.old library.new }
-    ensures refused { IfErr result
-        (IsToldOf L.may_fail_load R.may_fail_resolve config.now.max_modules library.new) }
     ensures loaded { OnOk result (IsSound (kept_of library.new.kept) (name_of file.now)) }
     ensures met { OnOk result (AreMet (kept_of library.new.kept) (files_on list.new)) }
     ensures begins { OnOk result (Begins (files_on list.old) (files_on list.new)) }
@@ -189,8 +185,6 @@ fn ask_each<L: Load + Drop, R: Resolve + Drop>(
         AreRequested settings (kept_of library.old.kept) (name_of file.now)
         (map string_bytes specifiers.items) →
         MovesOn L.may_load R.may_resolve settings entries library.old library.new }
-    ensures refused { (max_modules : ℕ) →
-        IfErr result (IsToldOf L.may_fail_load R.may_fail_resolve max_modules library.new) }
     ensures met { OnOk result (AreMet (kept_of library.new.kept) (files_on list.new)) }
     ensures begins { OnOk result (Begins (files_on list.old) (files_on list.new)) }
     ensures numbered { OnOk result
@@ -231,8 +225,6 @@ fn id_of<L: Load + Drop, R: Resolve + Drop>(
         IsRequested settings (kept_of library.old.kept)
         (record { file = name_of file.now; specifier = string_bytes specifier.now }) →
         MovesOn L.may_load R.may_resolve settings entries library.old library.new }
-    ensures refused { (max_modules : ℕ) →
-        IfErr result (IsToldOf L.may_fail_load R.may_fail_resolve max_modules library.new) }
     ensures met { OnOk result (AreMet (kept_of library.new.kept) (files_on list.new)) }
     ensures begins { OnOk result (Begins (files_on list.old) (files_on list.new)) }
     ensures numbered { OnOk result

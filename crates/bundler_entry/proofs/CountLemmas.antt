@@ -1,5 +1,5 @@
--- A number that is above all numbers of files.
-use Rattle.std.proofs.Common.{◌≡◌, ℕ, zero, suc, ◌<◌, ◌≤◌, List, [], ◌∷◌, Contains, map, sym, subst, arith}
+-- A number that is above all numbers of files, and the least that is.
+use Rattle.std.proofs.Common.{◌≡◌, ℕ, zero, suc, ◌<◌, ◌≤◌, List, [], ◌∷◌, Contains, map, refl, sym, subst, arith}
 use Rattle.bundle_tree_names.specs.declared.file_name.FileName.{FileName}
 use Rattle.bundle_link_reached.specs.Files.{number_of}
 
@@ -36,3 +36,30 @@ pub above-all : (all rest : Entries) (count : ℕ) → rest ≡ [] → IsAboveSo
 above-all all rest count none so_far =
     so_far count (omega arith)
     (subst (AreBelow count) (sym none) (λ m there. absurd (omega (arith, there.1))))
+
+-- what is above all is not below so many, and is above the files that are left
+abbrev pub IsLeastSoFar : (all rest : Entries) → ℕ → Type 0
+IsLeastSoFar all rest count = (n : ℕ) → AreBelow n all → (count ≤ n) × AreBelow n rest
+
+-- the first is below, and so are the others
+first-below : (n : ℕ) (e : FileName × ℕ) (rest : Entries) → AreBelow n (e ∷ rest) → e.1 < n
+first-below n e rest below = below e.1 (zero, omega arith, refl)
+
+others-below : (n : ℕ) (e : FileName × ℕ) (rest : Entries) → AreBelow n (e ∷ rest) →
+    AreBelow n rest
+others-below n e rest below m (i, within, at) = below m (suc i, omega (arith, within), at)
+
+pub least-none : (all rest : Entries) → rest ≡ all → IsLeastSoFar all rest 0
+least-none all rest same n below = (omega arith, subst (AreBelow n) (sym same) below)
+
+pub least-more : (all rest left : Entries) (count more : ℕ) (e : FileName × ℕ) → rest ≡ e ∷ left →
+    ((n : ℕ) → count ≤ n → e.1 < n → more ≤ n) → IsLeastSoFar all rest count →
+    IsLeastSoFar all left more
+least-more all rest left count more e is enough so_far n below =
+    let its = so_far n below in
+    let here : AreBelow n (e ∷ left) = subst (AreBelow n) is its.1 in
+    (enough n its.0 (first-below n e left here), others-below n e left here)
+
+pub least-all : (all rest : Entries) (count : ℕ) → IsLeastSoFar all rest count → (n : ℕ) →
+    AreBelow n all → count ≤ n
+least-all all rest count so_far n below = (so_far n below).0

@@ -1,5 +1,5 @@
 -- What is read of the files of a call, as what is kept of them says it.
-use Rattle.std.specs.Prelude.{◌≡◌, ℕ, ◌<◌, List, Some, true, Contains, length, map, slice_get}
+use Rattle.std.specs.Prelude.{◌≡◌, ℕ, ◌<◌, ◌≤◌, List, Some, true, Contains, length, map, slice_get}
 use Rattle.std.specs.List.{flat_map}
 use Rattle.bundle_tree_names.specs.FileName.{Name, name_of}
 use Rattle.bundle_tree_piece.specs.Item as h
@@ -57,9 +57,10 @@ pub record AreSourcesOf (p : Program) (numbers : List ℕ) (sources : List Sourc
       slice_get sources place ≡ Some source →
       IsSourceOf p m source
 
--- the files of a call and what was read of them are those of a program, and their numbers are below
--- the count
+-- the files of a call and what was read of them are those of a program, and the count is the least
+-- that is above their numbers
 pub record IsProgramOf (p : Program) (read : Read) : Type 0 where
   pub files : AreNotedOf p read.files
   pub sources : AreSourcesOf p read.files.ids.keys read.sources.items
   pub count : (m : ℕ) → Contains read.files.ids.keys m → m < read.count
+  pub least : (n : ℕ) → ((m : ℕ) → Contains read.files.ids.keys m → m < n) → read.count ≤ n

@@ -1,6 +1,6 @@
 //! What the modules of a call say: of each file its list, what its names denote, and its tables.
 
-ghost use Rattle.std.specs.Prelude.{◌≡◌, ℕ, ◌<◌, Contains, Some, IfOk, map};
+ghost use Rattle.std.specs.Prelude.{◌≡◌, ℕ, ◌<◌, ◌≤◌, Contains, Some, IfOk, map};
 ghost use Rattle.bundle_scope_denote.specs.Listed.{IsTable};
 ghost use Rattle.bundle_tree_names.specs.FileName.{Name};
 ghost use Rattle.bundle_tree_piece.specs.Item.{item_of};
@@ -121,7 +121,9 @@ pub fn program_of<'x>(
 
 // How many numbers there are up to the last one of a file.
 fn count_of_files(files: &IndexMap<FileName, ModuleId>) -> usize
-    ensures { (m : ℕ) → Contains (numbers_of files.now) m → m < result }
+    ensures above { (m : ℕ) → Contains (numbers_of files.now) m → m < result }
+    ensures least { (n : ℕ) → ((m : ℕ) → Contains (numbers_of files.now) m → m < n) →
+        result ≤ n }
 {
     let mut count: usize = 0;
     for (_, id) in files {

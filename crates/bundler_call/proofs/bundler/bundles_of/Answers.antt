@@ -11,7 +11,7 @@ loop-entry-preserved-in_ok-push g c = (
   counted_less _ _ _ _ _ c.in-Some.ensures.steps.0.0 c.in-Some.ensures.steps.0.1 c.loop-entry.invariant.0,
   counted_less _ _ _ _ _ c.in-Some.ensures.steps.1.0 c.in-Some.ensures.steps.1.1 c.loop-entry.invariant.1,
   λ kept list read all. made_more _ (settings_of c.args.config.now) kept list c.args.entries.items _ _ _ _ _ c.in-Some.entry c.in-Some.id c.in-Some.ensures.steps.0.0 c.in-Some.ensures.steps.1.0 (c.loop-entry.invariant.2 kept list read all) _ _ c.in_ok-push.ensures.items refl refl
-      (c.in_ok-module.ensures.accepted kept list read (number_here _ (settings_of c.args.config.now) kept list c.args.entries.items _ _ _ _ _ c.in-Some.entry c.in-Some.id c.in-Some.ensures.steps.0.0 c.in-Some.ensures.steps.1.0 (c.loop-entry.invariant.2 kept list read all)).1),
+      (c.in_ok-module.ensures.made kept list read (number_here _ (settings_of c.args.config.now) kept list c.args.entries.items _ _ _ _ _ c.in-Some.entry c.in-Some.id c.in-Some.ensures.steps.0.0 c.in-Some.ensures.steps.1.0 (c.loop-entry.invariant.2 kept list read all))),
 )
 
 pub loop-entry-preserved : goal.loop-entry-preserved
@@ -19,7 +19,7 @@ loop-entry-preserved g c = (
   counted_less _ _ _ _ _ c.in-Some.ensures.steps.0.0 c.in-Some.ensures.steps.0.1 c.loop-entry.invariant.0,
   counted_less _ _ _ _ _ c.in-Some.ensures.steps.1.0 c.in-Some.ensures.steps.1.1 c.loop-entry.invariant.1,
   λ kept list read all. made_more _ (settings_of c.args.config.now) kept list c.args.entries.items _ _ _ _ _ c.in-Some.entry c.in-Some.id c.in-Some.ensures.steps.0.0 c.in-Some.ensures.steps.1.0 (c.loop-entry.invariant.2 kept list read all) _ _ c.in_ok-push.ensures.items refl refl
-      (c.in_ok-module.ensures.accepted kept list read (number_here _ (settings_of c.args.config.now) kept list c.args.entries.items _ _ _ _ _ c.in-Some.entry c.in-Some.id c.in-Some.ensures.steps.0.0 c.in-Some.ensures.steps.1.0 (c.loop-entry.invariant.2 kept list read all)).1),
+      (c.in_ok-module.ensures.made kept list read (number_here _ (settings_of c.args.config.now) kept list c.args.entries.items _ _ _ _ _ c.in-Some.entry c.in-Some.id c.in-Some.ensures.steps.0.0 c.in-Some.ensures.steps.1.0 (c.loop-entry.invariant.2 kept list read all))),
 )
 
 pub returns-clause-bundles : goal.returns-clause-bundles
@@ -30,4 +30,4 @@ pub returns-in_err-module-clause-refused : goal.returns-in_err-module-clause-ref
 returns-in_err-module-clause-refused g c =
     handed_on c.from_residual.result c.in_err-module.field-0.0 _ c.from_residual.ensures.1 (λ kept list read all.
     refused_here _ (settings_of c.args.config.now) kept list c.args.entries.items _ _ _ _ _ c.in-Some.entry c.in-Some.id c.in-Some.ensures.steps.0.0 c.in-Some.ensures.steps.1.0 (c.loop-entry.invariant.2 kept list read all) c.in_err-module.field-0.0
-    (c.in_err-module.ensures.refused kept list read (number_here _ (settings_of c.args.config.now) kept list c.args.entries.items _ _ _ _ _ c.in-Some.entry c.in-Some.id c.in-Some.ensures.steps.0.0 c.in-Some.ensures.steps.1.0 (c.loop-entry.invariant.2 kept list read all)).1))
+    (c.in_err-module.ensures.refused kept list read (number_here _ (settings_of c.args.config.now) kept list c.args.entries.items _ _ _ _ _ c.in-Some.entry c.in-Some.id c.in-Some.ensures.steps.0.0 c.in-Some.ensures.steps.1.0 (c.loop-entry.invariant.2 kept list read all))))

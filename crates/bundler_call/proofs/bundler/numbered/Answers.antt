@@ -1,11 +1,10 @@
 -- What is kept grows by the number of each file, the files before it keep theirs, and those on the list were met.
-use Rattle.std.proofs.Common.{[], ap, inl, subst, sym, ◌∙◌}
+use Rattle.std.proofs.Common.{[], ap, arith, inl, subst, sym, ◌∙◌}
 use Rattle.std.specs.List.{AllZip}
 use Rattle.bundler_call.specs.Bundler.{files_of, HasNumber}
 use Rattle.bundler_call.specs.Kept.{kept_of}
 use Rattle.bundler_call.specs.Loading.{files_on}
 use Rattle.bundler_call.proofs.Counting.{as_many_files, files_from, listed_all, listed_more, numbers_end, numbers_next, numbers_stop}
-use Rattle.bundler_call.proofs.Finding.{handed_on}
 use Rattle.bundler_call.proofs.Growing.{advances_refl, advances_trans}
 use Rattle.bundler_call.proofs.Judging.{ends_handed}
 use Rattle.bundler_call.proofs.Leading.{none_numbered, still_all_numbered}
@@ -14,14 +13,11 @@ use Rattle.bundler_call.proofs.Numbered.{entry_listed, numbered_more}
 use Rattle.bundler_call.proofs.bundler.numbered.Goals as goal
 
 pub loop-file-init : goal.loop-file-init
-loop-file-init g c = (λ settings. advances_refl _ _ settings (files_of c.args.entries.now) _ _ (kept_of c.args.library.now.kept), subst (λ ids. AllZip (HasNumber (kept_of c.args.library.now.kept)) [] ids) (sym c.new-ids.ensures.items) tt, none_met_of (kept_of c.args.library.now.kept) (files_on c.new-list.result) c.new-list.ensures.files, λ outcome last numbers. numbers, λ apart. c.new-list.ensures.files, none_numbered (kept_of c.args.library.now.kept) c.new-list.result.files.entries c.new-list.ensures.files, c.new-list.ensures.deps)
+loop-file-init g c = (λ settings. advances_refl _ _ settings (files_of c.args.entries.now) _ _ (kept_of c.args.library.now.kept), subst (λ ids. AllZip (HasNumber (kept_of c.args.library.now.kept)) [] ids) (sym c.new-ids.ensures.items) tt, none_met_of (kept_of c.args.library.now.kept) (files_on c.new-list.result) c.new-list.ensures.files, λ outcome last numbers. numbers, λ apart. c.new-list.ensures.files, none_numbered (kept_of c.args.library.now.kept) c.new-list.result.files.entries c.new-list.ensures.files, c.new-list.ensures.deps, λ less. (let no : ⊥ = omega (arith, less) in absurd no))
 
 pub returns-in_err-id-clause-grows : goal.returns-in_err-id-clause-grows
 returns-in_err-id-clause-grows g c = λ settings.
     advances_trans _ _ settings (files_of c.args.entries.now) _ _ _ _ _ _ _ _ _ (c.loop-file.invariant.0 settings) (c.in_err-id.ensures.grows settings (files_of c.args.entries.now) (inl (entry_listed c.args.entries.now c.loop-file.file-index _ c.loop-file-test.true (sym c.loop-file-item.is))))
-
-pub returns-in_err-id-clause-refused : goal.returns-in_err-id-clause-refused
-returns-in_err-id-clause-refused g c m = handed_on _ _ _ c.from_residual.ensures.1 (c.in_err-id.ensures.refused m)
 
 pub returns-in_err-place-clause-grows : goal.returns-in_err-place-clause-grows
 returns-in_err-place-clause-grows g c = λ settings.
@@ -41,7 +37,11 @@ loop-file-preserved g c =
       listed_more c.args.entries.now c.loop-file.file-index _ c.loop-file-test.true (sym c.loop-file-item.is) (files_on c.loop-file.list) (files_on c.place.new.self) c.in_ok-place.ensures.placed c.loop-file.invariant.4,
       c.in_ok-place.ensures.numbered (kept_of c.id.new.self.kept) c.in_ok-id.ensures.numbered (still_all_numbered _ _ stays c.loop-file.list.files.entries c.loop-file.invariant.5),
       ap (λ deps. deps.items) c.in_ok-place.ensures.deps ∙ c.loop-file.invariant.6,
+      λ less. c.in_ok-id.ensures.bounded,
     )
+
+pub returns-clause-bounded : goal.returns-clause-bounded
+returns-clause-bounded g c = λ some. c.loop-file.invariant.7 (omega (arith, some, c.loop-file-test.false))
 
 pub returns-in_err-id-clause-judged : goal.returns-in_err-id-clause-judged
 returns-in_err-id-clause-judged g c =

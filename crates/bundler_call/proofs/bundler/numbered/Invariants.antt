@@ -1,12 +1,12 @@
 -- What was kept is still kept, the files before the index have these numbers and stand on the list, if they are apart, those on
 -- the list were met, and what is numbered from the index on is numbered of the whole; each file on the list has its number there, and
--- none was worked on.
-use Rattle.std.proofs.Common.{◌≡◌, [], drop, map, take}
+-- none was worked on; where one was passed there are no more than numbers.
+use Rattle.std.proofs.Common.{◌≡◌, ◌<◌, [], drop, map, take}
 use Rattle.std.specs.List.{AllZip}
 use Rattle.bundle_rules.specs.Entries.{Settings}
 use Rattle.bundler_call.specs.Bundler.{files_of, HasNumber}
 use Rattle.bundler_call.specs.Judged.{AreApart}
-use Rattle.bundler_call.specs.Kept.{entry_of, kept_of, Advances}
+use Rattle.bundler_call.specs.Kept.{entry_of, kept_of, Advances, IsBounded}
 use Rattle.bundler_call.specs.Loading.{files_on, AreMet, AreNumbered}
 use Rattle.bundler_call.proofs.Counting.{NumbersOn}
 use Rattle.bundler_call.proofs.bundler.numbered.Given as goal
@@ -20,3 +20,4 @@ invariant-loop-file g l =
     × (AreApart (map entry_of l.entries) → files_on l.list ≡ take l.file-index (files_of l.entries))
     × AreNumbered (kept_of l.library.kept) l.list
     × (l.list.deps.items ≡ [])
+    × (0 < l.file-index → IsBounded (kept_of l.library.kept))

@@ -1,10 +1,12 @@
 -- What linking, the hook and merging tell is told of the program of the entry.
-use Rattle.std.proofs.lemmas.Result.{IfErr-weaker}
+use Rattle.std.proofs.Common.{length, subst, sym}
+use Rattle.std.proofs.lemmas.Result.{IfErr-weaker, IfOk-weaker}
 use Rattle.bundle_rules.specs.Kept.{program_of}
+use Rattle.bundler_entry.specs.Asked.{AreAnswersBefore}
+use Rattle.bundler_entry.proofs.Bundled.{asked-answers}
 use Rattle.bundler_call.specs.Kept.{settings_of}
 use Rattle.bundler_call.proofs.Finding.{handed_on}
-use Rattle.bundler_call.proofs.Growing.{holds}
-use Rattle.bundler_call.proofs.Linking.{accepts, refused_hook, refused_linking, refused_merging}
+use Rattle.bundler_call.proofs.Linking.{module_right, refused_hook, refused_linking, refused_merging}
 use Rattle.bundler_call.proofs.Sources.{call_of}
 use Rattle.bundler_call.proofs.linked.module_on.Goals as goal
 
@@ -22,18 +24,22 @@ returns-in_err-answers-clause-refused g c =
     let its = c.in_ok-linked.ensures.linked p is_call in
     refused_hook _ _ p c.in_ok-linked.linked.reached.list.items c.in_err-answers.field-0.0 its.links.faultless its.reached.is_list (c.in_err-answers.ensures.refused p c.args.entry is_call its))
 
-pub returns-clause-accepted : goal.returns-clause-accepted
-returns-clause-accepted g c =
-    holds c.module_of.result _ (λ kept list read there.
+pub returns-clause-made : goal.returns-clause-made
+returns-clause-made g c =
+    IfOk-weaker c.module_of.result _ _ (λ made right kept list read there.
     let p = program_of kept (settings_of c.args.call.now.config.now) c.args.entry in
     let is_call = call_of kept list c.args.call.now c.args.entry read there in
     let its = c.in_ok-linked.ensures.linked p is_call in
-    accepts _ _ p c.in_ok-linked.linked.reached.list.items its.links.faultless its.reached.is_list (c.in_ok-answers.ensures.answered p c.args.entry is_call its))
+    let asked = subst (AreAnswersBefore ((goal.Hook-dyn g c.args.hook.now).may_give c.args.hook.now.1) p c.in_ok-linked.linked.reached.list.items (length c.in_ok-linked.linked.reached.list.items)) (sym c.deref.ensures.value) (c.in_ok-answers.ensures.answered p c.args.entry is_call its) in
+    module_right _ _ p c.args.entry c.args.call.now is_call c.in_ok-linked.linked its _ asked made
+    (right p c.args.entry is_call its (asked-answers p c.args.entry c.args.call.now is_call c.in_ok-linked.linked its _ _ asked))) c.module_of.ensures.made
 
 pub returns-clause-refused : goal.returns-clause-refused
 returns-clause-refused g c =
-    IfErr-weaker c.module_of.result _ _ (λ unlinked may kept list read there.
+    IfErr-weaker c.module_of.result _ _ (λ unlinked why kept list read there.
     let p = program_of kept (settings_of c.args.call.now.config.now) c.args.entry in
     let is_call = call_of kept list c.args.call.now c.args.entry read there in
     let its = c.in_ok-linked.ensures.linked p is_call in
-    refused_merging _ _ p unlinked (accepts _ _ p c.in_ok-linked.linked.reached.list.items its.links.faultless its.reached.is_list (c.in_ok-answers.ensures.answered p c.args.entry is_call its)) may) c.module_of.ensures
+    let asked = subst (AreAnswersBefore ((goal.Hook-dyn g c.args.hook.now).may_give c.args.hook.now.1) p c.in_ok-linked.linked.reached.list.items (length c.in_ok-linked.linked.reached.list.items)) (sym c.deref.ensures.value) (c.in_ok-answers.ensures.answered p c.args.entry is_call its) in
+    refused_merging _ _ p c.args.entry c.args.call.now is_call c.in_ok-linked.linked its _ asked unlinked
+    (why p c.args.entry is_call its (asked-answers p c.args.entry c.args.call.now is_call c.in_ok-linked.linked its _ _ asked))) c.module_of.ensures.refused

@@ -7,7 +7,6 @@ use Rattle.bundle_rules.specs.Judging.{Asks, GoesOn, Refused}
 use Rattle.bundler_call.specs.Judged.{asked_by}
 use Rattle.bundler_call.specs.Kept.{kept_of}
 use Rattle.bundler_call.specs.Loading.{files_on, ids_on}
-use Rattle.bundler_call.proofs.Finding.{handed_on}
 use Rattle.bundler_call.proofs.Growing.{advances_refl, advances_trans, remains_refl, remains_trans, still_kept}
 use Rattle.bundler_call.proofs.Judging.{as_before, ends_handed}
 use Rattle.bundler_call.proofs.Leading.{all_lead_more, all_lead_none, texts_all, texts_more, texts_of}
@@ -36,9 +35,6 @@ returns-in_err-id-clause-grows g c = λ settings entries are.
 
 pub returns-in_err-id-clause-keeps : goal.returns-in_err-id-clause-keeps
 returns-in_err-id-clause-keeps g c = remains_trans _ _ _ _ _ _ _ _ _ c.loop-specifier.invariant.0 c.in_err-id.ensures.keeps
-
-pub returns-in_err-id-clause-refused : goal.returns-in_err-id-clause-refused
-returns-in_err-id-clause-refused g c m = handed_on _ _ _ c.from_residual.ensures.1 (c.in_err-id.ensures.refused m)
 
 pub returns-in_err-id-clause-judged : goal.returns-in_err-id-clause-judged
 returns-in_err-id-clause-judged g c =

@@ -6,7 +6,6 @@ use Rattle.bundler_kept.specs.Kept.{asked_of}
 use Rattle.bundler_call.specs.Judged.{asked_by}
 use Rattle.bundler_call.specs.Kept.{kept_of}
 use Rattle.bundler_call.specs.Loading.{files_on}
-use Rattle.bundler_call.proofs.Finding.{handed_on}
 use Rattle.bundler_call.proofs.Leading.{leads_placed, still_all_numbered}
 use Rattle.bundler_call.proofs.Growing.{advances_refl, advances_trans, remains_refl, remains_trans, stays_trans}
 use Rattle.bundler_call.proofs.Loading.{all_met_placed, begins_placed, still_all_met}
@@ -24,9 +23,6 @@ pub returns-in_err-resolve-clause-grows : goal.returns-in_err-resolve-clause-gro
 returns-in_err-resolve-clause-grows g c = λ settings entries its.
     c.in_err-resolve.ensures.grows settings entries (requested_as _ (kept_of c.args.library.now.kept) _ _ c.in_ok-request.request c.in_ok-request.ensures.file c.in_ok-request.ensures.specifier its)
 
-pub returns-in_err-resolve-clause-refused : goal.returns-in_err-resolve-clause-refused
-returns-in_err-resolve-clause-refused g c m = handed_on _ _ _ c.from_residual-in_err-resolve.ensures.1 (c.in_err-resolve.ensures.refused m)
-
 pub returns-in_err-target-clause-grows : goal.returns-in_err-target-clause-grows
 returns-in_err-target-clause-grows g c = λ settings entries its.
     c.in_ok-resolve.ensures.grows settings entries (requested_as _ (kept_of c.args.library.now.kept) _ _ c.in_ok-request.request c.in_ok-request.ensures.file c.in_ok-request.ensures.specifier its)
@@ -38,9 +34,6 @@ pub returns-in_err-id-clause-grows : goal.returns-in_err-id-clause-grows
 returns-in_err-id-clause-grows g c = λ settings entries its.
     advances_trans _ _ settings entries _ _ _ _ _ _ _ _ _ (c.in_ok-resolve.ensures.grows settings entries (requested_as _ (kept_of c.args.library.now.kept) _ _ c.in_ok-request.request c.in_ok-request.ensures.file c.in_ok-request.ensures.specifier its))
     (c.in_err-id.ensures.grows settings entries (inr (asked_of c.in_ok-request.request, c.in_ok-target.ensures)))
-
-pub returns-in_err-id-clause-refused : goal.returns-in_err-id-clause-refused
-returns-in_err-id-clause-refused g c m = handed_on _ _ _ c.from_residual-in_err-id.ensures.1 (c.in_err-id.ensures.refused m)
 
 pub returns-in_err-place-clause-keeps : goal.returns-in_err-place-clause-keeps
 returns-in_err-place-clause-keeps g c = remains_trans _ _ _ _ _ _ _ _ _ c.in_ok-resolve.ensures.keeps c.in_ok-id.ensures.keeps

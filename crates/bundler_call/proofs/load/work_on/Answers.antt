@@ -2,18 +2,15 @@
 use Rattle.std.proofs.Common.{[], ap, map, subst, sym}
 use Rattle.std.specs.String.{string_bytes}
 use Rattle.bundle_tree_names.specs.FileName.{name_of}
-use Rattle.bundle_rules.specs.Kept.{kept_module}
 use Rattle.bundle_rules.specs.Judging as j
 use Rattle.bundle_rules.specs.Judging.{Asks, GoesOn, Refused}
 use Rattle.bundler_call.specs.Judged.{asked_by}
 use Rattle.bundler_call.specs.Kept.{kept_of, settings_of}
 use Rattle.bundler_call.specs.Loading.{files_on, ids_on}
-use Rattle.bundler_call.proofs.Finding.{handed_on}
-use Rattle.bundler_call.proofs.Growing.{advances_stays, advances_trans, found, still_sound}
+use Rattle.bundler_call.proofs.Growing.{advances_stays, advances_trans, still_sound}
 use Rattle.bundler_call.proofs.Judging.{as_before, leads_handed}
 use Rattle.bundler_call.proofs.Leading.{all_asked, noted_last, still_all_numbered, AreNumberedIn}
 use Rattle.bundler_call.proofs.Loading.{begins_along, names_of_entries, still_all_met}
-use Rattle.bundler_call.proofs.Refusing.{tree_right}
 use Rattle.bundler_call.proofs.Working.{requested, sound, work_done, work_faulty, work_stopped}
 use Rattle.bundler_call.proofs.load.work_on.Goals as goal
 
@@ -23,20 +20,12 @@ ask_each-requires g c = record { met = still_all_met _ (kept_of c.load.new.self.
 pub returns-in_err-load-clause-judged : goal.returns-in_err-load-clause-judged
 returns-in_err-load-clause-judged g c = λ place there. leads_handed _ _ _ _ _ _ c.from_residual.ensures.1 (λ f its. j.not_loaded there its) c.in_err-load.ensures.judged
 
-pub returns-in_err-specifiers-clause-refused : goal.returns-in_err-specifiers-clause-refused
-returns-in_err-specifiers-clause-refused g c =
-    let its = found (kept_module (kept_of c.load.new.self.kept) (name_of c.args.file.now)) c.in_ok-load.ensures.there in
-    handed_on _ _ _ c.from_residual-in_err-specifiers.ensures.1 (tree_right (g.L.Load.may_fail_load c.load.new.self.loader) (g.R.Resolve.may_fail_resolve c.load.new.self.resolver) c.args.config.now.max_modules (kept_of c.load.new.self.kept) (name_of c.args.file.now) its.0.items _ (c.in_err-specifiers.ensures.faulty its.0 its.1))
-
 pub returns-in_err-specifiers-clause-judged : goal.returns-in_err-specifiers-clause-judged
 returns-in_err-specifiers-clause-judged g c = λ place there. work_faulty (asked_by g.L.Load.may_load g.L.Load.may_fail_load g.R.Resolve.may_resolve g.R.Resolve.may_fail_resolve c.args.library.now.loader c.args.library.now.resolver) (settings_of c.args.config.now) (files_on c.args.list.now) place (name_of c.args.file.now) there (kept_of c.args.library.now.kept) (kept_of c.load.new.self.kept) c.in_ok-load.ensures.judged c.in_ok-load.ensures.there _ _ _ c.from_residual-in_err-specifiers.ensures.1 c.in_err-specifiers.ensures.faulty
 
 pub returns-in_err-deps-clause-grows : goal.returns-in_err-deps-clause-grows
 returns-in_err-deps-clause-grows g c = λ entries.
     advances_trans _ _ (settings_of c.args.config.now) entries _ _ _ _ _ _ _ _ _ (c.in_ok-load.ensures.grows entries) (c.in_err-deps.ensures.grows (settings_of c.args.config.now) entries (requested (kept_of c.load.new.self.kept) (name_of c.args.file.now) (map string_bytes c.in_ok-specifiers.specifiers.items) (settings_of c.args.config.now) c.in_ok-load.ensures.there c.in_ok-specifiers.ensures.faultless))
-
-pub returns-in_err-deps-clause-refused : goal.returns-in_err-deps-clause-refused
-returns-in_err-deps-clause-refused g c = handed_on _ _ _ c.from_residual-in_err-deps.ensures.1 (c.in_err-deps.ensures.refused c.args.config.now.max_modules)
 
 pub returns-in_err-deps-clause-judged : goal.returns-in_err-deps-clause-judged
 returns-in_err-deps-clause-judged g c = λ place there.

@@ -17,5 +17,6 @@ returns-clause-program c = λ p files sources.
         long = sources.long ∙ sym (ap length ids);
         each = λ place m source at there. sources.each place m source (ap (λ l. slice_get l place) (sym ids) ∙ at) there;
       };
-      count = λ m there. c.count_of_files-count.ensures m (subst (λ (numbers : List ℕ). Contains numbers m) ids there);
+      count = λ m there. c.count_of_files-count.ensures.above m (subst (λ (numbers : List ℕ). Contains numbers m) ids there);
+      least = λ n above. c.count_of_files-count.ensures.least n (λ m there. above m (subst (λ (numbers : List ℕ). Contains numbers m) (sym ids) there));
     }

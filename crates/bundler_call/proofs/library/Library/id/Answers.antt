@@ -9,6 +9,9 @@ use Rattle.bundler_call.proofs.library.Library.id.Goals as goal
 pub returns-clause-met : goal.returns-clause-met
 returns-clause-met g c = numbered_is_met (kept_of c.id.new.self) (name_of c.args.file.now) c.id.result c.id.ensures.numbered
 
+pub returns-clause-bounded : goal.returns-clause-bounded
+returns-clause-bounded g c = c.id.ensures.bounded
+
 pub returns-clause-grows : goal.returns-clause-grows
 returns-clause-grows g c = λ settings entries due. record {
   loader = refl;

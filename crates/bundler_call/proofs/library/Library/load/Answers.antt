@@ -6,7 +6,6 @@ use Rattle.bundler_call.specs.Kept.{kept_of, settings_of}
 use Rattle.bundler_call.proofs.Asking.{load_full, load_judged, load_kept}
 use Rattle.bundler_call.proofs.Finding.{tree_found}
 use Rattle.bundler_call.proofs.Growing.{advances_along, advances_refl, has_room, is_full, load_grows}
-use Rattle.bundler_call.proofs.Refusing.{load_right}
 use Rattle.bundler_call.proofs.library.Library.load.Goals as goal
 
 pub returns-clause-there : goal.returns-clause-there
@@ -19,11 +18,6 @@ returns-clause-grows g c = λ entries. record {
   grows = load_grows _ _ (settings_of c.args.config.now) entries _ _ _ (name_of c.args.file.now) _ _ _ c.requires (c.has.ensures.none c.if-has.false)
       (has_room (trees_in c.args.self.now.kept) _ _ c.count.ensures c.if-count-config.false) c.in_ok-name.ensures.cases c.in_ok-reserve_tree.ensures.same c.load-loaded.ensures.answer c.keep_loaded.ensures.given c.keep_loaded.ensures.refused;
 }
-
-pub returns-clause-refused : goal.returns-clause-refused
-returns-clause-refused g c =
-    load_right (g.L.Load.may_fail_load c.args.self.now.loader) (g.R.Resolve.may_fail_resolve c.args.self.now.resolver) _ _ _ _ (name_of c.args.file.now) _ _ _ c.requires (c.has.ensures.none c.if-has.false)
-    (has_room (trees_in c.args.self.now.kept) _ _ c.count.ensures c.if-count-config.false) c.in_ok-name.ensures.cases c.in_ok-reserve_tree.ensures.same c.load-loaded.ensures.failure c.keep_loaded.ensures.given c.keep_loaded.ensures.refused
 
 pub returns-then-has-clause-grows : goal.returns-then-has-clause-grows
 returns-then-has-clause-grows g c = λ entries. advances_refl _ _ (settings_of c.args.config.now) entries _ _ (kept_of c.args.self.now.kept)

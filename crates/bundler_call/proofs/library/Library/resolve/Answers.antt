@@ -5,7 +5,6 @@ use Rattle.bundler_call.specs.Kept.{kept_of}
 use Rattle.bundler_call.proofs.Asking.{resolve_failed, resolve_judged, resolve_kept}
 use Rattle.bundler_call.proofs.Finding.{asked_same, target_found}
 use Rattle.bundler_call.proofs.Growing.{advances_along, advances_refl, remains_along, remains_refl, resolve_grows, resolve_stays}
-use Rattle.bundler_call.proofs.Refusing.{resolve_right}
 use Rattle.bundler_call.proofs.library.Library.resolve.Goals as goal
 
 pub returns-clause-there : goal.returns-clause-there
@@ -25,10 +24,6 @@ returns-clause-keeps g c = record {
   resolver = refl;
   stays = resolve_stays _ _ _ _ _ _ c.in_ok-reserve_target.ensures.same c.keep_resolved.ensures.given c.keep_resolved.ensures.refused;
 }
-
-pub returns-clause-refused : goal.returns-clause-refused
-returns-clause-refused g c = λ max_modules.
-    resolve_right (g.L.Load.may_fail_load c.args.self.now.loader) (g.R.Resolve.may_fail_resolve c.args.self.now.resolver) max_modules _ _ _ (asked_of c.args.request.now) _ _ _ _ c.requires (c.leads.ensures.none c.if-leads.false) (asked_same _ _ _ _ c.in_ok-clone.ensures.cases c.in_ok-clone-2.ensures.cases) c.in_ok-reserve_target.ensures.same c.as_str.ensures.value c.resolve-resolved.ensures.failure c.keep_resolved.ensures.given c.keep_resolved.ensures.refused
 
 pub returns-then-leads-clause-grows : goal.returns-then-leads-clause-grows
 returns-then-leads-clause-grows g c = λ settings entries its. advances_refl _ _ settings entries _ _ (kept_of c.args.self.now.kept)
