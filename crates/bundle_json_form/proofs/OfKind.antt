@@ -1,5 +1,5 @@
 -- A name is that of one kind of node; what stands in nodes of a kind is told by the kind.
-use Rattle.std.proofs.Common.{◌≡◌, ◌≢◌, ℕ, List, [], ◌∷◌, Bool, Option, Some, None, option_map, refl, sym, ap, ◌∙◌, subst, codes}
+use Rattle.std.proofs.Common.{◌≡◌, ℕ, List, [], ◌∷◌, Bool, Option, Some, None, option_map, refl, sym, ap, ◌∙◌, subst, codes}
 use Rattle.std.specs.List.{AllByRecursion}
 use Rattle.serde_json.specs.Data.{Data}
 use Rattle.bundle_tree_leaf.specs.declared.kind.ExportMetadata.{ExportMetadata}
@@ -7,8 +7,7 @@ use Rattle.bundle_tree_piece.specs.declared.piece.Role.{Role}
 use Rattle.bundle_tree_piece.specs.declared.piece.Role.TheVariants.{Reference}
 use Rattle.bundle_tree_piece.specs.Item as h
 use Rattle.bundle_tree_piece.specs.Item.{Head}
-use Rattle.bundle_json_form.specs.declared.role.Place.{Place}
-use Rattle.bundle_json_form.specs.Form.{Field, Scalar, text, optional_text, truth, given, allows_holes, fields, ident_role, is_given, name, names_role, place_in, scalars, text_at, IsHeadOf, IsRead}
+use Rattle.bundle_json_form.specs.Form.{Field, Scalar, text, optional_text, truth, given, fields, ident_role, is_given, name, names_role, place_in, scalars, text_at, IsHeadOf, IsRead}
 use Rattle.bundle_json_form.specs.Kinds.{kind_of}
 use Rattle.bundle_json_form.specs.Reading.{HasScalars, IsReadable}
 

@@ -1,15 +1,15 @@
 -- What is refused is no form.
-use Rattle.std.proofs.Common.{◌≡◌, ◌≢◌, ℕ, zero, suc, ◌<◌, List, [], ◌∷◌, length, get_or, Option, Some, None, true, false, ◌⊎◌, inl, inr, refl, sym, ap, ◌∙◌, subst, codes, option_map, bytes_eq, arith, true≢false}
+use Rattle.std.proofs.Common.{◌≡◌, ◌≢◌, ℕ, zero, suc, ◌<◌, List, [], ◌∷◌, length, get_or, Option, Some, None, false, ◌⊎◌, inl, inr, refl, sym, ap, ◌∙◌, subst, codes, option_map, bytes_eq, arith, true≢false}
 use Rattle.std.specs.Prelude.{IsErrAnd, IsSomeAnd, IfErr, Result, Ok, Err}
 use Rattle.std.proofs.lemmas.Slice.Eq.{bytes_eq-Decides}
 use Rattle.std.specs.declared.alloc.Global.{Global}
 use Rattle.json.specs.declared.value.Value as j
-use Rattle.serde_json.specs.Data.{Data, Items, no_items, item}
+use Rattle.serde_json.specs.Data.{Data, Items}
 use Rattle.serde_json.specs.Find.{as_array, get}
 use Rattle.bundle_tree_leaf.specs.declared.kind.ExportMetadata.{ExportMetadata}
 use Rattle.bundle_tree_piece.specs.declared.piece.Role.{Role}
 use Rattle.bundle_tree_piece.specs.Item.{Item, Head}
-use Rattle.bundle_json_form.specs.Form.{Field, fields, Tree, ident, hole, node, Fields, no_fields, in_field, Trees, no_trees, tree, name, text_at, IsHeadOf, Reads, ReadsEach, ReadsFields, allows_holes, place_in, values, is_null, top, IsForm, AreForms}
+use Rattle.bundle_json_form.specs.Form.{Field, fields, Tree, ident, hole, node, Fields, no_fields, in_field, Trees, no_trees, tree, name, text_at, IsHeadOf, Reads, ReadsEach, ReadsFields, place_in, values, is_null, top, AreForms}
 use Rattle.bundle_json_form.specs.Kinds.{kind_of}
 use Rattle.bundle_json_form.specs.Layout.{listed, field_of}
 use Rattle.bundle_json_form.specs.Plain.{seen, items_seen}
@@ -72,29 +72,32 @@ fields_too : (meta : ExportMetadata) (names : Role) (d : Data) (one other : Head
 fields_too meta names d one other [] no_fields same h = h
 fields_too meta names d one other [] (in_field number them rest) same h = absurd h
 fields_too meta names d one other (f ∷ fs) no_fields same h = absurd h
-fields_too meta names d one other (f ∷ fs) (in_field number them rest) same h =
-    (h.0,
-     subst (λ (at : Place). IsSomeAnd (values f.shape (get f.key d)) (λ ds. ReadsEach meta at ds them))
-     (same_place one other names d f same) h.1,
-     fields_too meta names d one other fs rest same h.2)
+fields_too meta names d one other (f ∷ fs) (in_field number them rest) same h = (
+  h.0,
+  subst (λ (at : Place). IsSomeAnd (values f.shape (get f.key d)) (λ ds. ReadsEach meta at ds them))
+      (same_place one other names d f same) h.1,
+  fields_too meta names d one other fs rest same h.2,
+)
 
 -- what is read for all fields is read for each
 in_one : (meta : ExportMetadata) (names : Role) (d : Data) (head : Head)
     (fs : List (Option r_field.Field)) (i : ℕ) (f : r_field.Field) (inside : Fields)
     → i < length fs → get_or fs i None ≡ Some f → ReadsFields meta names d head (listed fs) inside
     → (them : Trees) × IsSomeAnd (values f.shape (get f.key.now d))
-      (λ ds. ReadsEach meta (place_in head names d (field_of f)) ds them)
+    (λ ds. ReadsEach meta (place_in head names d (field_of f)) ds them)
 in_one meta names d head [] i f inside within is h = absurd (omega arith)
 in_one meta names d head (None ∷ fs) zero f inside within is h = cc
 in_one meta names d head (None ∷ fs) (suc i) f inside within is h =
     in_one meta names d head fs i f inside (omega arith) is h
 in_one meta names d head (Some g ∷ fs) i f no_fields within is h = absurd h
 in_one meta names d head (Some g ∷ fs) zero f (in_field number them rest) within is h =
-    let same : g ≡ f = cc in
-    (them, subst
-      (λ (x : r_field.Field). IsSomeAnd (values x.shape (get x.key.now d))
-        (λ ds. ReadsEach meta (place_in head names d (field_of x)) ds them))
-      same h.1)
+    let same : g ≡ f = cc in (
+      them,
+      subst
+          (λ (x : r_field.Field). IsSomeAnd (values x.shape (get x.key.now d))
+          (λ ds. ReadsEach meta (place_in head names d (field_of x)) ds them))
+          same h.1,
+    )
 in_one meta names d head (Some g ∷ fs) (suc i) f (in_field number them rest) within is h =
     in_one meta names d head fs i f rest (omega arith) is h.2
 
@@ -109,9 +112,9 @@ no_field meta at d head all i f named is its within at_i none hole reads = refl
 no_field meta at d head all i f named is its within at_i none (node other inside) reads =
     let e = reads.0.named in let e' = is.named in let same : name other ≡ name head = cc in
     let there = subst (λ (fs : List Field). ReadsFields meta at.names d other fs inside)
-      (same_fields meta d other head reads.0 is same ∙ sym its) reads.1 in
+    (same_fields meta d other head reads.0 is same ∙ sym its) reads.1 in
     let found = in_one meta at.names d head all i f inside within at_i
-      (fields_too meta at.names d other head (listed all) inside same there) in
+    (fields_too meta at.names d other head (listed all) inside same there) in
     absurd (none found.0 found.1)
 
 -- What stands under a key.
@@ -145,4 +148,4 @@ pub no_forms : (meta : ExportMetadata) (at : Place) (d : Data) (ds : Items) → 
     → HasNoNodes meta at ds → (list : List Item) → ¬ IsSomeAnd (as_array d) (λ forms. AreForms meta top forms list)
 no_forms meta at d ds same is none list =
     rw is (λ (forms : AreForms meta top ds list).
-      subst (λ (x : Place). HasNoNodes meta x ds) same none forms.them forms.read)
+    subst (λ (x : Place). HasNoNodes meta x ds) same none forms.them forms.read)

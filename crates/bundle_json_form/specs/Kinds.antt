@@ -106,9 +106,9 @@ of_many it =
     if length it == 15 then Some h.KeyValuePatProp
     else if length it == 16 then Some h.ComputedPropName
     else if length it == 17 then
-      (if is_letter 68 (slice_get it 13) then Some h.ExportDefaultDecl else Some h.ExportDefaultExpr)
+    (if is_letter 68 (slice_get it 13) then Some h.ExportDefaultDecl else Some h.ExportDefaultExpr)
     else if length it == 20 then
-      (if is_letter 73 (slice_get it 0) then Some h.ImportNamedSpecifier else Some h.ExportNamedSpecifier)
+    (if is_letter 73 (slice_get it 0) then Some h.ImportNamedSpecifier else Some h.ExportNamedSpecifier)
     else if length it == 21 then Some h.ImportStarAsSpecifier
     else if length it == 22 then Some h.ImportDefaultSpecifier
     else if length it == 24 then Some h.ExportNamespaceSpecifier

@@ -1,5 +1,5 @@
 -- The kind that may have a name has it, or none has it.
-use Rattle.std.proofs.Common.{◌≡◌, ℕ, List, Option, Some, None, Bool, true, false, bytes_eq, option_map, sym, ap, ◌∙◌, true≢false}
+use Rattle.std.proofs.Common.{◌≡◌, ℕ, List, Option, Some, None, false, bytes_eq, option_map, sym, ap, ◌∙◌, true≢false}
 use Rattle.std.proofs.lemmas.Slice.Eq.{bytes_eq-Decides}
 use Rattle.bundle_tree_piece.specs.declared.piece.Node.{Node}
 use Rattle.bundle_tree_piece.specs.Item.{head_of, Head}

@@ -1,5 +1,5 @@
 -- What is read is added, what stands in a value is smaller than it, and what is refused is no form.
-use Rattle.std.proofs.Common.{◌≡◌, ◌⊎◌, inl, inr, ap, ◌∙◌, sym, take, codes, false, arith}
+use Rattle.std.proofs.Common.{◌≡◌, ◌⊎◌, inl, inr, ap, ◌∙◌, sym, take, false, arith}
 use Rattle.std.proofs.lemmas.List.{take_all}
 use Rattle.bundle_json_form.proofs.Growth.{on_ok, list_step, field_step, no_field_step, none_there, one_there, optional_there, null_there, nothing_read, hole_read, no_field_read, node_read}
 use Rattle.bundle_json_form.proofs.Refusals.{another_name, handed, no_field, no_item, no_list_there, on_err}
@@ -62,9 +62,9 @@ pub read_list-returns-in_err-read_node-clause-refused : goal.read_list-returns-i
 read_list-returns-in_err-read_node-clause-refused t c =
     let whole : (c.args.place.has_holes ≡ false) ⊎ (is_null (seen c.value-item.result) ≡ false)
     = elim c.else-place.branch [
-        | read_list-else-place-via-then-place+else-is_null w ↦ inr (sym w.if-is_null.ensures)
-        | read_list-else-place-via-else-place w ↦ inl w.if-place.false
-      ] in
+      | read_list-else-place-via-then-place+else-is_null w ↦ inr (sym w.if-is_null.ensures)
+      | read_list-else-place-via-else-place w ↦ inl w.if-place.false
+    ] in
     handed _ _ c.from_residual-in_err-read_node.ensures.1
     (no_item _ _ _ _ _ c.loop-value-test.true c.value-item.is whole)
     c.in_err-read_node.ensures.refused
@@ -73,8 +73,8 @@ pub read_node-returns-in_err-read_field-clause-refused : goal.read_node-returns-
 read_node-returns-in_err-read_field-clause-refused t c =
     handed _ _ c.from_residual-in_err-read_field.ensures.1
     (no_field _ _ _ _ c.fields_of-field-items.result c.loop-field.field-index _
-      (another_name _ _ _ c.in_ok-text.ensures.read c.if-eq.ensures)
-      c.in_ok-node.ensures.read c.fields_of-field-items.ensures (omega arith) c.in-Some.is)
+    (another_name _ _ _ c.in_ok-text.ensures.read c.if-eq.ensures)
+    c.in_ok-node.ensures.read c.fields_of-field-items.ensures (omega arith) c.in-Some.is)
     c.in_err-read_field.ensures.refused
 
 -- That it ends.
