@@ -1,6 +1,7 @@
 pub mod Entries
 pub mod Error
 pub mod Form
+pub mod Kinds
 pub mod Layout
 pub mod Plain
 pub mod Plan

@@ -1,12 +1,13 @@
 //! A node by its name, read with what stands in it and is no node.
 
-ghost use Rattle.std.specs.Prelude.{◌≡◌, Some, IfOk, option_map, codes};
+ghost use Rattle.std.specs.Prelude.{◌≡◌, ◌≢◌, ℕ, Bool, List, Option, Some, IfOk, IfErr, option_map, codes};
 ghost use Rattle.bundle_tree_leaf.specs.Text.{unary_text, update_text, binary_text, assign_text, declaration_word, method_word, meta_prop_text};
-ghost use Rattle.bundle_tree_piece.specs.Item.{head_of};
+ghost use Rattle.bundle_tree_piece.specs.Item.{head_of, Head};
 ghost use Rattle.bundle_json_form.specs.Form as form;
 ghost use Rattle.bundle_json_form.specs.Form.{text_at, optional_text_at, truth_at, is_given, IsHeadOf};
+ghost use Rattle.bundle_json_form.specs.Kinds as kinds;
 ghost use Rattle.bundle_json_form.specs.Plain.{seen};
-ghost use Rattle.bundle_json_form.specs.Reading.{IsFilled};
+ghost use Rattle.bundle_json_form.specs.Reading.{HasScalars, IsFilled};
 
 use crate::error::FormError;
 use crate::layout::name_of;
@@ -17,7 +18,10 @@ use bundle_tree_piece::Node;
 use json::Value;
 
 // Where names have three to six letters: the kind that this letter leaves.
-fn of_three<'a>(first: u8) -> Option<Node<'a>> {
+fn of_three<'a>(first: u8) -> Option<Node<'a>>
+    ensures { option_map (λ it. form.name (head_of it)) result
+        ≡ option_map form.name (kinds.of_three first) }
+{
     match first {
         b'T' => Some(Node::Tpl),
         b'S' => Some(Node::Str {
@@ -28,7 +32,10 @@ fn of_three<'a>(first: u8) -> Option<Node<'a>> {
     }
 }
 
-fn of_four<'a>(first: u8) -> Option<Node<'a>> {
+fn of_four<'a>(first: u8) -> Option<Node<'a>>
+    ensures { option_map (λ it. form.name (head_of it)) result
+        ≡ option_map form.name (kinds.of_four first) }
+{
     match first {
         b'B' => Some(Node::Bool { value: false }),
         b'N' => Some(Node::Null),
@@ -36,7 +43,10 @@ fn of_four<'a>(first: u8) -> Option<Node<'a>> {
     }
 }
 
-fn of_five<'a>(first: u8) -> Option<Node<'a>> {
+fn of_five<'a>(first: u8) -> Option<Node<'a>>
+    ensures { option_map (λ it. form.name (head_of it)) result
+        ≡ option_map form.name (kinds.of_five first) }
+{
     match first {
         b'S' => Some(Node::Super),
         b'P' => Some(Node::Param),
@@ -46,7 +56,10 @@ fn of_five<'a>(first: u8) -> Option<Node<'a>> {
     }
 }
 
-fn of_six<'a>(third: u8) -> Option<Node<'a>> {
+fn of_six<'a>(third: u8) -> Option<Node<'a>>
+    ensures { option_map (λ it. form.name (head_of it)) result
+        ≡ option_map form.name (kinds.of_six third) }
+{
     match third {
         b'd' => Some(Node::Module),
         b'S' => Some(Node::IfStmt),
@@ -60,7 +73,10 @@ fn of_six<'a>(third: u8) -> Option<Node<'a>> {
 }
 
 // Where names have seven to nine letters.
-fn of_seven<'a>(first: u8, meta: &'a ExportMetadata) -> Option<Node<'a>> {
+fn of_seven<'a>(first: u8, meta: &'a ExportMetadata) -> Option<Node<'a>>
+    ensures { option_map (λ it. form.name (head_of it)) result
+        ≡ option_map form.name (kinds.of_seven first) }
+{
     match first {
         b'T' => Some(Node::TryStmt),
         b'F' => Some(Node::ForStmt),
@@ -77,7 +93,10 @@ fn of_seven<'a>(first: u8, meta: &'a ExportMetadata) -> Option<Node<'a>> {
     }
 }
 
-fn of_eight<'a>(second: u8, sixth: u8) -> Option<Node<'a>> {
+fn of_eight<'a>(second: u8, sixth: u8) -> Option<Node<'a>>
+    ensures { option_map (λ it. form.name (head_of it)) result
+        ≡ option_map form.name (kinds.of_eight second sixth) }
+{
     match (second, sixth) {
         (b'i', b't') => Some(Node::WithStmt),
         (b'x', b't') => Some(Node::ExprStmt),
@@ -94,7 +113,10 @@ fn of_eight<'a>(second: u8, sixth: u8) -> Option<Node<'a>> {
     }
 }
 
-fn of_nine<'a>(fourth: u8, seventh: u8, meta: &'a ExportMetadata) -> Option<Node<'a>> {
+fn of_nine<'a>(fourth: u8, seventh: u8, meta: &'a ExportMetadata) -> Option<Node<'a>>
+    ensures { option_map (λ it. form.name (head_of it)) result
+        ≡ option_map form.name (kinds.of_nine fourth seventh) }
+{
     match (fourth, seventh) {
         (b'o', b'A') => Some(Node::ExportAll { meta }),
         (b'c', b't') => Some(Node::BlockStmt),
@@ -113,7 +135,10 @@ fn of_nine<'a>(fourth: u8, seventh: u8, meta: &'a ExportMetadata) -> Option<Node
     }
 }
 
-fn expression_of_nine<'a>(fourth: u8, seventh: u8) -> Option<Node<'a>> {
+fn expression_of_nine<'a>(fourth: u8, seventh: u8) -> Option<Node<'a>>
+    ensures { option_map (λ it. form.name (head_of it)) result
+        ≡ option_map form.name (kinds.expression_of_nine fourth seventh) }
+{
     match (fourth, seventh) {
         (b'e', b'L') => Some(Node::ObjectLit),
         (b'r', b'x') => Some(Node::UnaryExpr { op: UnaryOp::Minus }),
@@ -128,7 +153,10 @@ fn expression_of_nine<'a>(fourth: u8, seventh: u8) -> Option<Node<'a>> {
 }
 
 // Where names have ten to thirteen letters.
-fn of_ten<'a>(first: u8, seventh: u8, meta: &'a ExportMetadata) -> Option<Node<'a>> {
+fn of_ten<'a>(first: u8, seventh: u8, meta: &'a ExportMetadata) -> Option<Node<'a>>
+    ensures { option_map (λ it. form.name (head_of it)) result
+        ≡ option_map form.name (kinds.of_ten first seventh) }
+{
     match (first, seventh) {
         (b'I', b'D') => Some(Node::ImportDecl { meta }),
         (b'E', b'D') => Some(Node::ExportDecl),
@@ -151,7 +179,10 @@ fn of_ten<'a>(first: u8, seventh: u8, meta: &'a ExportMetadata) -> Option<Node<'
     }
 }
 
-fn of_eleven<'a>(first: u8, eighth: u8, meta: &'a ExportMetadata) -> Option<Node<'a>> {
+fn of_eleven<'a>(first: u8, eighth: u8, meta: &'a ExportMetadata) -> Option<Node<'a>>
+    ensures { option_map (λ it. form.name (head_of it)) result
+        ≡ option_map form.name (kinds.of_eleven first eighth) }
+{
     match (first, eighth) {
         (b'N', b'p') => Some(Node::NamedExport { meta }),
         (b'L', b'S') => Some(Node::LabeledStmt),
@@ -169,7 +200,10 @@ fn of_eleven<'a>(first: u8, eighth: u8, meta: &'a ExportMetadata) -> Option<Node
     }
 }
 
-fn of_twelve<'a>(first: u8) -> Option<Node<'a>> {
+fn of_twelve<'a>(first: u8) -> Option<Node<'a>>
+    ensures { option_map (λ it. form.name (head_of it)) result
+        ≡ option_map form.name (kinds.of_twelve first) }
+{
     match first {
         b'D' => Some(Node::DebuggerStmt),
         b'C' => Some(Node::ContinueStmt),
@@ -184,7 +218,10 @@ fn of_twelve<'a>(first: u8) -> Option<Node<'a>> {
     }
 }
 
-fn of_thirteen<'a>(second: u8) -> Option<Node<'a>> {
+fn of_thirteen<'a>(second: u8) -> Option<Node<'a>>
+    ensures { option_map (λ it. form.name (head_of it)) result
+        ≡ option_map form.name (kinds.of_thirteen second) }
+{
     match second {
         b'a' => Some(Node::VarDeclarator),
         b'u' => Some(Node::SuperPropExpr),
@@ -199,7 +236,10 @@ fn of_thirteen<'a>(second: u8) -> Option<Node<'a>> {
 }
 
 // Where names are longer.
-fn of_many<'a>(name: &[u8]) -> Option<Node<'a>> {
+fn of_many<'a>(name: &[u8]) -> Option<Node<'a>>
+    ensures { option_map (λ it. form.name (head_of it)) result
+        ≡ option_map form.name (kinds.of_many name.now) }
+{
     match (name.len(), name.get(13)) {
         (15, _) => Some(Node::KeyValuePatProp),
         (16, _) => Some(Node::ComputedPropName),
@@ -217,26 +257,31 @@ fn of_many<'a>(name: &[u8]) -> Option<Node<'a>> {
 }
 
 // The one kind that may have this name, by its length and a letter or two of it.
-fn guess<'a>(name: &[u8], meta: &'a ExportMetadata) -> Option<Node<'a>> {
-    match name {
-        [first, _, _] => of_three(*first),
-        [first, _, _, _] => of_four(*first),
-        [first, _, _, _, _] => of_five(*first),
-        [_, _, third, _, _, _] => of_six(*third),
-        [first, _, _, _, _, _, _] => of_seven(*first, meta),
-        [_, second, _, _, _, sixth, _, _] => of_eight(*second, *sixth),
-        [_, _, _, fourth, _, _, seventh, _, _] => of_nine(*fourth, *seventh, meta),
-        [first, _, _, _, _, _, seventh, _, _, _] => of_ten(*first, *seventh, meta),
-        [first, _, _, _, _, _, _, eighth, _, _, _] => of_eleven(*first, *eighth, meta),
-        [first, _, _, _, _, _, _, _, _, _, _, _] => of_twelve(*first),
-        [_, second, _, _, _, _, _, _, _, _, _, _, _] => of_thirteen(*second),
+#[tactic(auto, unfolding(crate::specs::Kinds::kind_of))]
+fn guess<'a>(name: &[u8], meta: &'a ExportMetadata) -> Option<Node<'a>>
+    ensures { option_map (λ it. form.name (head_of it)) result
+        ≡ option_map form.name (kinds.kind_of name.now) }
+{
+    match name.len() {
+        3 => of_three(name[0]),
+        4 => of_four(name[0]),
+        5 => of_five(name[0]),
+        6 => of_six(name[2]),
+        7 => of_seven(name[0], meta),
+        8 => of_eight(name[1], name[5]),
+        9 => of_nine(name[3], name[6], meta),
+        10 => of_ten(name[0], name[6], meta),
+        11 => of_eleven(name[0], name[7], meta),
+        12 => of_twelve(name[0]),
+        13 => of_thirteen(name[1]),
         _ => of_many(name),
     }
 }
 
 /// A node of this name, with stand-ins for what stands in it and is no node.
 pub fn kind_named<'a>(name: &str, meta: &'a ExportMetadata) -> Result<Node<'a>, FormError>
-    ensures { IfOk result (λ it. form.name (head_of it) ≡ name.now) }
+    ensures named { IfOk result (λ it. form.name (head_of it) ≡ name.now) }
+    ensures refused { IfErr result (λ _. (kind : Head) → form.name kind ≢ name.now) }
 {
     match guess(name.as_bytes(), meta) {
         Some(kind) if name_of(&kind) == name => Ok(kind),
@@ -254,15 +299,20 @@ pub struct Object<'v, 'a> {
 impl<'v, 'a> Object<'v, 'a> {
     /// The text under `key`.
     pub fn text(&self, key: &str) -> Result<&'a str, FormError>
-        ensures { IfOk result (λ it. text_at key.now (seen self.now.value.now) ≡ Some it.now) }
+        ensures read { IfOk result (λ it.
+            text_at key.now (seen self.now.value.now) ≡ Some it.now) }
+        ensures refused { IfErr result (λ _.
+            (it : List ℕ) → text_at key.now (seen self.now.value.now) ≢ Some it) }
     {
         get(self.value, key).and_then(as_str).ok_or(FormError::Form)
     }
 
     fn optional_text(&self, key: &str) -> Result<Option<&'a str>, FormError>
-        ensures { IfOk result (λ it.
+        ensures read { IfOk result (λ it.
             optional_text_at key.now (seen self.now.value.now)
             ≡ Some (option_map (λ text. text.now) it)) }
+        ensures refused { IfErr result (λ _.
+            (it : Option (List ℕ)) → optional_text_at key.now (seen self.now.value.now) ≢ Some it) }
     {
         match get(self.value, key) {
             None => Ok(None),
@@ -275,7 +325,9 @@ impl<'v, 'a> Object<'v, 'a> {
     }
 
     fn truth(&self, key: &str) -> Result<bool, FormError>
-        ensures { IfOk result (λ it. truth_at key.now (seen self.now.value.now) ≡ Some it) }
+        ensures read { IfOk result (λ it. truth_at key.now (seen self.now.value.now) ≡ Some it) }
+        ensures refused { IfErr result (λ _.
+            (it : Bool) → truth_at key.now (seen self.now.value.now) ≢ Some it) }
     {
         match get(self.value, key) {
             None => Ok(false),
@@ -295,67 +347,85 @@ impl<'v, 'a> Object<'v, 'a> {
 
     /// The node that the value stands for.
     pub fn node(&self) -> Result<Node<'a>, FormError>
-        ensures { IfOk result (λ it.
+        ensures read { IfOk result (λ it.
             IsHeadOf self.now.meta.now (seen self.now.value.now) (head_of it)) }
+        ensures refused { IfErr result (λ _.
+            (head : Head) → ¬ IsHeadOf self.now.meta.now (seen self.now.value.now) head) }
     {
         let kind = kind_named(self.text("type")?, self.meta)?;
         self.filled(kind)
     }
 
     fn declaration(&self) -> Result<VarDeclKind, FormError>
-        ensures { IfOk result (λ it.
+        ensures read { IfOk result (λ it.
             text_at (codes "kind") (seen self.now.value.now) ≡ Some (declaration_word it)) }
+        ensures refused { IfErr result (λ _. (it : VarDeclKind) →
+            text_at (codes "kind") (seen self.now.value.now) ≢ Some (declaration_word it)) }
     {
         VarDeclKind::from_text(self.text("kind")?).ok_or(FormError::Form)
     }
 
     fn method(&self) -> Result<MethodKind, FormError>
-        ensures { IfOk result (λ it.
+        ensures read { IfOk result (λ it.
             text_at (codes "kind") (seen self.now.value.now) ≡ Some (method_word it)) }
+        ensures refused { IfErr result (λ _. (it : MethodKind) →
+            text_at (codes "kind") (seen self.now.value.now) ≢ Some (method_word it)) }
     {
         MethodKind::from_text(self.text("kind")?).ok_or(FormError::Form)
     }
 
     fn meta_prop(&self) -> Result<MetaPropKind, FormError>
-        ensures { IfOk result (λ it.
+        ensures read { IfOk result (λ it.
             text_at (codes "kind") (seen self.now.value.now) ≡ Some (meta_prop_text it)) }
+        ensures refused { IfErr result (λ _. (it : MetaPropKind) →
+            text_at (codes "kind") (seen self.now.value.now) ≢ Some (meta_prop_text it)) }
     {
         MetaPropKind::from_text(self.text("kind")?).ok_or(FormError::Form)
     }
 
     fn unary(&self) -> Result<UnaryOp, FormError>
-        ensures { IfOk result (λ it.
+        ensures read { IfOk result (λ it.
             text_at (codes "op") (seen self.now.value.now) ≡ Some (unary_text it)) }
+        ensures refused { IfErr result (λ _. (it : UnaryOp) →
+            text_at (codes "op") (seen self.now.value.now) ≢ Some (unary_text it)) }
     {
         UnaryOp::from_text(self.text("op")?).ok_or(FormError::Form)
     }
 
     fn update(&self) -> Result<UpdateOp, FormError>
-        ensures { IfOk result (λ it.
+        ensures read { IfOk result (λ it.
             text_at (codes "op") (seen self.now.value.now) ≡ Some (update_text it)) }
+        ensures refused { IfErr result (λ _. (it : UpdateOp) →
+            text_at (codes "op") (seen self.now.value.now) ≢ Some (update_text it)) }
     {
         UpdateOp::from_text(self.text("op")?).ok_or(FormError::Form)
     }
 
     fn binary(&self) -> Result<BinaryOp, FormError>
-        ensures { IfOk result (λ it.
+        ensures read { IfOk result (λ it.
             text_at (codes "op") (seen self.now.value.now) ≡ Some (binary_text it)) }
+        ensures refused { IfErr result (λ _. (it : BinaryOp) →
+            text_at (codes "op") (seen self.now.value.now) ≢ Some (binary_text it)) }
     {
         BinaryOp::from_text(self.text("op")?).ok_or(FormError::Form)
     }
 
     fn assign(&self) -> Result<AssignOp, FormError>
-        ensures { IfOk result (λ it.
+        ensures read { IfOk result (λ it.
             text_at (codes "op") (seen self.now.value.now) ≡ Some (assign_text it)) }
+        ensures refused { IfErr result (λ _. (it : AssignOp) →
+            text_at (codes "op") (seen self.now.value.now) ≢ Some (assign_text it)) }
     {
         AssignOp::from_text(self.text("op")?).ok_or(FormError::Form)
     }
 
     // A node of this kind, with what stands in the value.
     fn filled(&self, kind: Node<'a>) -> Result<Node<'a>, FormError>
-        ensures { IfOk result (λ it.
+        ensures read { IfOk result (λ it.
             IsFilled self.now.meta.now (seen self.now.value.now) (head_of kind.entry)
             (head_of it)) }
+        ensures refused { IfErr result (λ _.
+            ¬ HasScalars (seen self.now.value.now) (head_of kind.entry)) }
     {
         match kind {
             Node::ImportDecl { .. } => Ok(Node::ImportDecl { meta: self.meta }),

@@ -1,11 +1,12 @@
 //! From the JSON form of a tree to its list.
 
-ghost use Rattle.std.specs.Prelude.{◌≡◌, ◌+◌, [], ◌∷◌, ◌++◌, Some, map, codes, IfOk, OnOk, IsSomeAnd};
+ghost use Rattle.std.specs.Prelude.{◌≡◌, [], ◌∷◌, ◌++◌, List, Some, map, codes, IfErr, IfOk, OnOk, IsSomeAnd};
 ghost use Rattle.serde_json.specs.Find.{as_array, get};
-ghost use Rattle.bundle_tree_piece.specs.Item.{head_of, item_of};
+ghost use Rattle.bundle_tree_piece.specs.Item.{head_of, item_of, Item};
 ghost use Rattle.bundle_json_form.specs.Form.{text_at, top, values, place_in as place_of_field, IsForm, AreForms};
 ghost use Rattle.bundle_json_form.specs.Layout.{field_of};
-ghost use Rattle.bundle_json_form.specs.Reading.{Grows};
+ghost use Rattle.bundle_json_form.specs.Reading.{Grows, HasNoField, HasNoNode, HasNoNodes, RefusesFor};
+ghost use Rattle.bundle_json_form.specs.declared.error.FormError.TheVariants.{OutOfMemory};
 ghost use Rattle.bundle_json_form.specs.Plain.{items_seen, seen};
 
 use crate::error::FormError;
@@ -18,53 +19,49 @@ use bundle_tree_piece::{Node, Piece, Role};
 use json::Value;
 use std::alloc::Global;
 
-/// How deep nodes may nest: deeper than a document may.
-const LEVELS: u8 = 255;
-
 /// The pieces of the module whose JSON form `value` is; its declarations have the notes `meta`. Refused
-/// where it is another form, and for memory.
+/// only where it is the form of none, and for memory.
 pub fn read_module<'v, 'a>(
     alloc: Global,
     value: &'v Value<'a>,
     meta: &'a ExportMetadata,
 ) -> Result<Vec<Piece<'a>>, FormError>
-    ensures { IfOk result (λ list. IsForm meta.now top (seen value.now) (map item_of list.items)) }
+    ensures read { IfOk result (λ list.
+        IsForm meta.now top (seen value.now) (map item_of list.items)) }
+    ensures refused { IfErr result (RefusesFor
+        ((list : List Item) → ¬ IsForm meta.now top (seen value.now) list)) }
 {
     let mut pieces = Vec::new(alloc);
-    read_node(&mut pieces, Object { value, meta }, Place::top(), LEVELS)?;
+    read_node(&mut pieces, Object { value, meta }, Place::top())?;
     Ok(pieces)
 }
 
 /// The pieces of the properties whose JSON forms stand in the list `value`, each in field 0. Refused
-/// where it is no list of forms, and for memory.
+/// only where it is no list of forms, and for memory.
 pub fn read_properties<'v, 'a>(
     alloc: Global,
     value: &'v Value<'a>,
     meta: &'a ExportMetadata,
 ) -> Result<Vec<Piece<'a>>, FormError>
-    ensures { IfOk result (λ list. IsSomeAnd (as_array (seen value.now))
+    ensures read { IfOk result (λ list. IsSomeAnd (as_array (seen value.now))
         (λ forms. AreForms meta.now top forms (map item_of list.items))) }
+    ensures refused { IfErr result (RefusesFor
+        ((list : List Item) → ¬ IsSomeAnd (as_array (seen value.now))
+        (λ forms. AreForms meta.now top forms list))) }
 {
     let mut pieces = Vec::new(alloc);
-    let list = items(value).ok_or(FormError::Form)?;
-    read_list(&mut pieces, list, meta, Place::top(), LEVELS)?;
+    let Some(list) = items(value) else {
+        return Err(FormError::Form);
+    };
+    read_list(&mut pieces, list, meta, Place::top())?;
     Ok(pieces)
 }
 
-// How many levels are left below.
-fn below(levels: u8) -> Result<u8, FormError>
-    ensures { IfOk result (λ less. less + 1 ≡ levels) }
-{
-    match levels.checked_sub(1) {
-        Some(less) => Ok(less),
-        None => Err(FormError::Form),
-    }
-}
-
 fn add<'a>(pieces: &mut Vec<Piece<'a>>, piece: Piece<'a>) -> Result<(), FormError>
-    ensures { OnOk result
+    ensures added { OnOk result
         (map item_of pieces.new.items
         ≡ map item_of pieces.old.items ++ item_of piece.entry ∷ []) }
+    ensures refused { IfErr result (λ refusal. refusal ≡ OutOfMemory) }
 {
     pieces.push(piece)?;
     Ok(())
@@ -76,10 +73,11 @@ fn read_node<'v, 'a>(
     pieces: &mut Vec<Piece<'a>>,
     object: Object<'v, 'a>,
     place: Place,
-    levels: u8,
 ) -> Result<(), FormError>
-    ensures { OnOk result (Grows (IsForm object.entry.meta.now place (seen object.entry.value.now))
+    ensures read { OnOk result (Grows (IsForm object.entry.meta.now place (seen object.entry.value.now))
         (map item_of pieces.old.items) (map item_of pieces.new.items)) }
+    ensures refused { IfErr result (RefusesFor
+        (HasNoNode object.entry.meta.now place (seen object.entry.value.now))) }
 {
     if object.text("type")? == "Ident" {
         return read_ident(pieces, object, place);
@@ -87,10 +85,9 @@ fn read_node<'v, 'a>(
     let node = object.node()?;
     let field = place.field;
     add(pieces, Piece::Open { field, node })?;
-    let less = below(levels)?;
     for field in fields_of(&node) {
         if let Some(field) = field {
-            read_field(pieces, object, &node, place.names, field, less)?;
+            read_field(pieces, object, &node, place.names, field)?;
         }
     }
     add(pieces, Piece::Close)
@@ -103,8 +100,10 @@ fn read_ident<'v, 'a>(
     place: Place,
 ) -> Result<(), FormError>
     requires { text_at (codes "type") (seen object.value.now) ≡ Some (codes "Ident") }
-    ensures { OnOk result (Grows (IsForm object.entry.meta.now place (seen object.entry.value.now))
+    ensures read { OnOk result (Grows (IsForm object.entry.meta.now place (seen object.entry.value.now))
         (map item_of pieces.old.items) (map item_of pieces.new.items)) }
+    ensures refused { IfErr result (RefusesFor
+        (HasNoNode object.entry.meta.now place (seen object.entry.value.now))) }
 {
     let sym = object.text("sym")?;
     let Place {
@@ -148,15 +147,18 @@ fn read_field<'v, 'a>(
     node: &Node<'a>,
     names: Role,
     field: Field,
-    levels: u8,
 ) -> Result<(), FormError>
-    ensures { OnOk result (IsSomeAnd
+    ensures read { OnOk result (IsSomeAnd
         (values field.shape (get field.key.now (seen object.entry.value.now)))
         (λ forms. Grows
         (AreForms object.entry.meta.now
         (place_of_field (head_of node.now) names (seen object.entry.value.now) (field_of field))
         forms)
         (map item_of pieces.old.items) (map item_of pieces.new.items))) }
+    ensures refused { IfErr result (RefusesFor
+        (HasNoField object.entry.meta.now
+        (place_of_field (head_of node.now) names (seen object.entry.value.now) (field_of field))
+        field.shape (get field.key.now (seen object.entry.value.now)))) }
 {
     let place = place_in(object, node, names, field);
     let meta = object.meta;
@@ -167,16 +169,16 @@ fn read_field<'v, 'a>(
         };
     };
     match field.shape {
-        Shape::One => read_node(pieces, Object { value, meta }, place, levels),
+        Shape::One => read_node(pieces, Object { value, meta }, place),
         Shape::Optional => {
             if is_null(value) {
                 Ok(())
             } else {
-                read_node(pieces, Object { value, meta }, place, levels)
+                read_node(pieces, Object { value, meta }, place)
             }
         }
         Shape::List | Shape::Places => match items(value) {
-            Some(list) => read_list(pieces, list, meta, place, levels),
+            Some(list) => read_list(pieces, list, meta, place),
             None => Err(FormError::Form),
         },
     }
@@ -189,17 +191,18 @@ fn read_list<'v, 'a>(
     list: &'v [Value<'a>],
     meta: &'a ExportMetadata,
     place: Place,
-    levels: u8,
 ) -> Result<(), FormError>
-    ensures { OnOk result (Grows (AreForms meta.now place (items_seen list.now))
+    ensures read { OnOk result (Grows (AreForms meta.now place (items_seen list.now))
         (map item_of pieces.old.items) (map item_of pieces.new.items)) }
+    ensures refused { IfErr result (RefusesFor
+        (HasNoNodes meta.now place (items_seen list.now))) }
 {
     for value in list {
         if place.has_holes && is_null(value) {
             let field = place.field;
             add(pieces, Piece::Hole { field })?;
         } else {
-            read_node(pieces, Object { value, meta }, place, levels)?;
+            read_node(pieces, Object { value, meta }, place)?;
         }
     }
     Ok(())

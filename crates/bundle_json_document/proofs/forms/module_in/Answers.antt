@@ -10,4 +10,4 @@ pub returns : goal.returns
 returns c =
     let d = seen c.args.value.now in
     let listed : module_items 0 c.in_ok-made.made ≡ map item_of c.in_ok-pieces.pieces.items = c.in_ok-made.ensures ∙ ap (map item_of) c.as_slice.ensures.value in
-    subst (IsForm no_notes top d) (sym listed) (subst (λ notes. IsForm notes top d (map item_of c.in_ok-pieces.pieces.items)) c.requires c.in_ok-pieces.ensures)
+    subst (IsForm no_notes top d) (sym listed) (subst (λ notes. IsForm notes top d (map item_of c.in_ok-pieces.pieces.items)) c.requires c.in_ok-pieces.ensures.read)

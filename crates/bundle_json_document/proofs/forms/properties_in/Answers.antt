@@ -12,4 +12,4 @@ returns c =
     let d = seen c.args.value.now in
     let listed : flat_map (key_value_prop_items 0) c.in_ok-made.made.items ≡ map item_of c.in_ok-pieces.pieces.items = c.in_ok-made.ensures ∙ ap (map item_of) c.as_slice.ensures.value in
     subst (λ list. IsSomeAnd (as_array d) (λ ds. AreForms no_notes top ds list)) (sym listed)
-    (subst (λ notes. IsSomeAnd (as_array d) (λ ds. AreForms notes top ds (map item_of c.in_ok-pieces.pieces.items))) c.requires c.in_ok-pieces.ensures)
+    (subst (λ notes. IsSomeAnd (as_array d) (λ ds. AreForms notes top ds (map item_of c.in_ok-pieces.pieces.items))) c.requires c.in_ok-pieces.ensures.read)

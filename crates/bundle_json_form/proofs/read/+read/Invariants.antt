@@ -1,6 +1,6 @@
--- The levels below a node are fewer than its own. What the loops keep: the list grew by the fields, or the
--- elements, so far.
+-- What stands in a node is smaller than it. What the loops keep: the list grew by the fields, or the elements, so far.
 use Rattle.std.proofs.Common.{◌+◌, ◌*◌, map, take}
+use Rattle.bundle_json_form.proofs.Size.{items_size, size}
 use Rattle.bundle_json_form.specs.Plain.{items_seen, seen}
 use Rattle.bundle_tree_piece.specs.Item.{head_of, item_of}
 use Rattle.bundle_json_form.specs.Form.{AreForms}
@@ -9,13 +9,13 @@ use Rattle.bundle_json_form.specs.Reading.{Grows, AreFields}
 use Rattle.bundle_json_form.proofs.read.+read.Given as goal
 
 abbrev pub decreases-read_field : goal.decreases-read_field
-decreases-read_field l = 3 * l.levels + 2
+decreases-read_field l = 2 * size (seen l.object.value.now)
 
 abbrev pub decreases-read_list : goal.decreases-read_list
-decreases-read_list l = 3 * l.levels + 1
+decreases-read_list l = 2 * items_size (items_seen l.list.now)
 
 abbrev pub decreases-read_node : goal.decreases-read_node
-decreases-read_node l = 3 * l.levels
+decreases-read_node l = 2 * size (seen l.object.value.now) + 1
 
 abbrev pub invariant-read_list-loop-value : goal.invariant-read_list-loop-value
 invariant-read_list-loop-value l = Grows (AreForms l.meta l.place (items_seen (take l.value-index l.list))) (map item_of l.initial.pieces.items) (map item_of l.pieces.items)
