@@ -5,5 +5,6 @@ mod KeptLemmas
 mod OwnedLemmas
 mod PourLemmas
 mod PutLemmas
+mod RefusedLemmas
 mod RestLemmas
 mod UndoLemmas

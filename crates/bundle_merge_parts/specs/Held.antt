@@ -1,9 +1,11 @@
 -- What a part holds, as items by module, and what a closure answers for those of a module.
-use Rattle.std.specs.Prelude.{◌≡◌, ℕ, Bool, List, Option, Result, Ok, map}
+use Rattle.std.specs.Prelude.{◌≡◌, ℕ, Bool, List, Option, Result, Ok, Err, map}
 use Rattle.std.specs.Borrow.{Bor}
 use Rattle.std.specs.declared.alloc.Global.{Global}
 use Rattle.std.specs.declared.vec.Vec.{Vec}
 use Rattle.bundle_merge_parts.specs.Groups.{Groups}
+use Rattle.bundle_merge_parts.specs.Parts.{Owned}
+use Rattle.bundle_merge_parts.specs.Refused.{StopsAt}
 use Rattle.bundle_merge_parts.specs.declared.part.Part.{Part}
 
 -- a module with its items
@@ -29,3 +31,19 @@ Replies calls m item answer = (given : Bor _) × (given.now ≡ item) × calls m
 -- a call for a module and an item may answer an item, or none
 abbrev pub Picks : {A E : Type 0} → (ℕ → Bor A → Result (Option A) E → Type 0) → ℕ → A → Option A → Type 0
 Picks calls m item answer = (given : Bor _) × (given.now ≡ item) × calls m given (Ok answer)
+
+-- a call for a module and what it has may be refused so
+abbrev pub Refuses : {A B E : Type 0} → (ℕ → Bor A → Result B E → Type 0) → E → ℕ × A → Type 0
+Refuses calls refusal one = (given : Bor _) × (given.now ≡ one.1) × calls one.0 given (Err refusal)
+
+-- of calls for these lists of modules in turn, one may be refused so, where all before it are answered
+abbrev pub RefusesList : {A E : Type 0} → (ℕ → Bor (List A) → Result (Vec A Global) E → Type 0) → E → List (ℕ × List A) → Type 0
+RefusesList calls refusal lists = StopsAt (λ one. (answer : List _) × Answers calls one.0 one.1 answer) (Refuses calls refusal) lists
+
+-- the same of calls for items
+abbrev pub RefusesItem : {A E : Type 0} → (ℕ → Bor A → Result A E → Type 0) → E → List (Owned A) → Type 0
+RefusesItem calls refusal items = StopsAt (λ one. (answer : _) × Replies calls one.0 one.1 answer) (Refuses calls refusal) items
+
+-- the same where none may be answered too
+abbrev pub RefusesPick : {A E : Type 0} → (ℕ → Bor A → Result (Option A) E → Type 0) → E → List (Owned A) → Type 0
+RefusesPick calls refusal items = StopsAt (λ one. (answer : Option _) × Picks calls one.0 one.1 answer) (Refuses calls refusal) items

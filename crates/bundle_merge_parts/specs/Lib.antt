@@ -1,4 +1,5 @@
 pub mod Groups
 pub mod Held
 pub mod Parts
+pub mod Refused
 pub mod Rest

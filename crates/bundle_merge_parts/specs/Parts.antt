@@ -80,6 +80,14 @@ once (n ∷ rest) = n ∷ filter (λ m. not (n == m)) (once rest)
 abbrev pub modules_in : {A : Type 0} → List (Owned A) → List ℕ
 modules_in pairs = once (map (λ pair. pair.0) pairs)
 
+-- the lists of a part, each with its module
+abbrev pub lists_of : {A : Type 0} → List (Owned A) → List (ℕ × List A)
+lists_of pairs = map (λ m. (m, items_in pairs m)) (modules_in pairs)
+
+-- the lists in the order in which they are gone through: the parts in turn
+abbrev pub lists_in_order : {A : Type 0} → Held A → List (ℕ × List A)
+lists_in_order held = lists_of held.prepended ++ (lists_of held.bodies ++ lists_of held.appended)
+
 -- something holds of each part before and after
 pub record HoldsOfParts {A : Type 0} (Holds : List (Owned A) → List (Owned A) → Type 0) (before after : Held A) : Type 0 where
   pub prepended : Holds before.prepended after.prepended

@@ -1,7 +1,8 @@
 //! One part of what a linker holds.
 
-ghost use Rattle.std.specs.Prelude.{◌≡◌, ◌+◌, ◌^◌, ◌<◌, ◌≤◌, [], ◌∷◌, ◌++◌, map, length, vec_len, vec_capacity, IfOk, OnOk, OnErr, SomeIff};
-ghost use Rattle.bundle_merge_parts.specs.Held.{Answers, Asks, Picks, Replies, groups_of};
+ghost use Rattle.std.specs.Prelude.{◌≡◌, ◌+◌, ◌^◌, ◌<◌, ◌≤◌, [], ◌∷◌, ◌++◌, ◌⊎◌, alloc_error, map, length, vec_len, vec_capacity, IfErr, IfOk, OnOk, OnErr, SomeIff};
+ghost use Rattle.bundle_merge_parts.specs.Held.{Answers, Asks, Picks, RefusesItem, RefusesList, RefusesPick, Replies, groups_of};
+ghost use Rattle.bundle_merge_parts.specs.Parts.{owned_by};
 ghost use Rattle.bundle_merge_parts.specs.Groups.{IsKept, IsMapped, IsSifted, ItemsAnswered, ItemsPicked, Picked, count_of, cut, is_any, owned, put, put_any, put_all, put_each, undone};
 ghost use Rattle.std.specs.List.{AllZip};
 ghost use Rattle.indexmap.specs.IndexMap.{spare};
@@ -173,8 +174,10 @@ impl<T: Drop> Part<T> {
     where
         F: Fn(ModuleId, &[T]) -> Result<Vec<T>, E>,
         requires { F.IsAlwaysCallable f.now }
-        ensures { IfOk result (λ mapped.
+        ensures mapped { IfOk result (λ mapped.
             IsMapped (Answers (F.post f.now)) [] (groups_of self.now) (groups_of mapped)) }
+        ensures why { IfErr result (λ refusal. E.from_gives alloc_error refusal
+            ⊎ RefusesList (F.post f.now) refusal (groups_of self.now)) }
     {
         let mut mapped = Part::new(*self.modules.allocator());
         for (id, items) in &self.modules {
@@ -189,9 +192,11 @@ impl<T: Drop> Part<T> {
     where
         F: Fn(ModuleId, &T) -> Result<T, E>,
         requires { F.IsAlwaysCallable f.now }
-        ensures { IfOk result (λ mapped.
+        ensures mapped { IfOk result (λ mapped.
             IsMapped (ItemsAnswered (Replies (F.post f.now))) [] (groups_of self.now)
             (groups_of mapped)) }
+        ensures why { IfErr result (λ refusal. E.from_gives alloc_error refusal
+            ⊎ RefusesItem (F.post f.now) refusal (owned (groups_of self.now))) }
     {
         let alloc = *self.modules.allocator();
         let mut mapped = Part::new(alloc);
@@ -207,9 +212,11 @@ impl<T: Drop> Part<T> {
     where
         F: Fn(ModuleId, &T) -> Result<Option<T>, E>,
         requires { F.IsAlwaysCallable f.now }
-        ensures { IfOk result (λ picked.
+        ensures mapped { IfOk result (λ picked.
             IsMapped (ItemsPicked (Picks (F.post f.now))) [] (groups_of self.now)
             (groups_of picked)) }
+        ensures why { IfErr result (λ refusal. E.from_gives alloc_error refusal
+            ⊎ RefusesPick (F.post f.now) refusal (owned (groups_of self.now))) }
     {
         let alloc = *self.modules.allocator();
         let mut mapped = Part::new(alloc);
@@ -292,7 +299,10 @@ fn replies<T: Drop, F, E: From<AllocError> + Drop>(
 where
     F: Fn(ModuleId, &T) -> Result<T, E>,
     requires { F.IsAlwaysCallable f.now }
-    ensures { IfOk result (λ replies. AllZip (Replies (F.post f.now) id) items.now replies.items) }
+    ensures replies { IfOk result (λ replies.
+        AllZip (Replies (F.post f.now) id) items.now replies.items) }
+    ensures why { IfErr result (λ refusal. E.from_gives alloc_error refusal
+        ⊎ RefusesItem (F.post f.now) refusal (owned_by id items.now)) }
 {
     let mut replies = Vec::new(alloc);
     for item in items {
@@ -314,7 +324,9 @@ fn picks<T: Drop, F, E: From<AllocError> + Drop>(
 where
     F: Fn(ModuleId, &T) -> Result<Option<T>, E>,
     requires { F.IsAlwaysCallable f.now }
-    ensures { IfOk result (λ picks. Picked (Picks (F.post f.now) id) items.now picks.items) }
+    ensures picks { IfOk result (λ picks. Picked (Picks (F.post f.now) id) items.now picks.items) }
+    ensures why { IfErr result (λ refusal. E.from_gives alloc_error refusal
+        ⊎ RefusesPick (F.post f.now) refusal (owned_by id items.now)) }
 {
     let mut picks = Vec::new(alloc);
     for item in items {

@@ -1,10 +1,10 @@
 //! What a linker holds while it makes one module of several.
 
-ghost use Rattle.std.specs.Prelude.{◌≡◌, ◌≢◌, ◌↔◌, ◌+◌, ◌^◌, ◌<◌, ◌≤◌, ◌++◌, IsTrue, length, vec_len, vec_capacity, IfOk, OnOk, OnErr, SomeIff, []};
+ghost use Rattle.std.specs.Prelude.{◌≡◌, ◌≢◌, ◌↔◌, ◌+◌, ◌^◌, ◌<◌, ◌≤◌, ◌++◌, ◌⊎◌, alloc_error, IsTrue, length, vec_len, vec_capacity, IfErr, IfOk, OnOk, OnErr, SomeIff, []};
 ghost use Rattle.indexmap.specs.IndexMap.{spare};
 ghost use Rattle.bundle_merge_parts.specs.Groups.{put_all};
-ghost use Rattle.bundle_merge_parts.specs.Held.{Answers, Asks, Picks, Replies, groups_of};
-ghost use Rattle.bundle_merge_parts.specs.Parts.{IsArrangedAs, MapsItems, MapsLists, MapsSome, Retains, held_by, in_order, items_of, joined, nothing, put_in_turn, put_last};
+ghost use Rattle.bundle_merge_parts.specs.Held.{Answers, Asks, Picks, RefusesItem, RefusesList, RefusesPick, Replies, groups_of};
+ghost use Rattle.bundle_merge_parts.specs.Parts.{IsArrangedAs, MapsItems, MapsLists, MapsSome, Retains, held_by, in_order, items_of, joined, lists_in_order, nothing, put_in_turn, put_last};
 
 use crate::iter::Iter;
 use crate::part::Part;
@@ -114,14 +114,16 @@ impl<T: Drop> Parts<T> {
         Iter::new(&self.prepended, &self.bodies, &self.appended)
     }
 
-    /// Puts what `f` answers in the place of each module's items, part by part. Where `f` refuses this does so too,
-    /// and nothing changes.
+    /// Puts what `f` answers in the place of each module's items, part by part. Refused only where `f` refuses and where
+    /// memory runs out, and then nothing changes.
     pub fn map_any_items<F, E: From<AllocError> + Drop>(&mut self, f: &F) -> Result<(), E>
     where
         F: Fn(ModuleId, &[T]) -> Result<Vec<T>, E>,
         requires { F.IsAlwaysCallable f.now }
         ensures answered { OnOk result (MapsLists (Answers (F.post f.now)) self.old self.new) }
         ensures refused { OnErr result (self.new ≡ self.old) }
+        ensures why { IfErr result (λ refusal. E.from_gives alloc_error refusal
+            ⊎ RefusesList (F.post f.now) refusal (lists_in_order self.old)) }
     {
         let prepended = self.prepended.mapped(f)?;
         let bodies = self.bodies.mapped(f)?;
@@ -134,13 +136,16 @@ impl<T: Drop> Parts<T> {
         Ok(())
     }
 
-    /// Puts what `f` answers in the place of each item. Where `f` refuses this does so too, and nothing changes.
+    /// Puts what `f` answers in the place of each item. Refused only where `f` refuses and where memory runs out, and
+    /// then nothing changes.
     pub fn map_items_mut<F, E: From<AllocError> + Drop>(&mut self, f: &F) -> Result<(), E>
     where
         F: Fn(ModuleId, &T) -> Result<T, E>,
         requires { F.IsAlwaysCallable f.now }
         ensures answered { OnOk result (MapsItems (Replies (F.post f.now)) self.old self.new) }
         ensures refused { OnErr result (self.new ≡ self.old) }
+        ensures why { IfErr result (λ refusal. E.from_gives alloc_error refusal
+            ⊎ RefusesItem (F.post f.now) refusal (in_order self.old)) }
     {
         let prepended = self.prepended.mapped_items(f)?;
         let bodies = self.bodies.mapped_items(f)?;
@@ -153,14 +158,16 @@ impl<T: Drop> Parts<T> {
         Ok(())
     }
 
-    /// Puts what `f` answers in the place of each item; where it answers none the item goes. Where `f` refuses this does
-    /// so too, and nothing changes.
+    /// Puts what `f` answers in the place of each item; where it answers none the item goes. Refused only where `f`
+    /// refuses and where memory runs out, and then nothing changes.
     pub fn map_some_items<F, E: From<AllocError> + Drop>(&mut self, f: &F) -> Result<(), E>
     where
         F: Fn(ModuleId, &T) -> Result<Option<T>, E>,
         requires { F.IsAlwaysCallable f.now }
         ensures answered { OnOk result (MapsSome (Picks (F.post f.now)) self.old self.new) }
         ensures refused { OnErr result (self.new ≡ self.old) }
+        ensures why { IfErr result (λ refusal. E.from_gives alloc_error refusal
+            ⊎ RefusesPick (F.post f.now) refusal (in_order self.old)) }
     {
         let prepended = self.prepended.picked(f)?;
         let bodies = self.bodies.picked(f)?;

@@ -1,9 +1,11 @@
-use Rattle.std.proofs.Common.{◌≡◌, List, [], ◌∷◌, ◌++◌, Option, Some, None, take, refl, ap, subst, sym, ◌∙◌, arith, rules}
-use Rattle.std.proofs.lemmas.List.{take_more}
+use Rattle.std.proofs.Common.{◌≡◌, List, [], ◌∷◌, ◌++◌, Option, Some, None, take, refl, ap, subst, sym, ◌∙◌, arith, rules, ◌+◌, inr, drop}
+use Rattle.std.proofs.lemmas.List.{drop_more, take-append-drop, take_more}
 use Rattle.bundle_merge_parts.specs.Groups.{Picked}
 use Rattle.bundle_merge_parts.specs.Groups.Picked.{over}
-use Rattle.bundle_merge_parts.specs.Held.{Picks}
+use Rattle.bundle_merge_parts.specs.Held.{Picks, Refuses, RefusesPick}
 use Rattle.bundle_merge_parts.proofs.AnswerLemmas.{pick-goes, pick-stays}
+use Rattle.bundle_merge_parts.specs.Parts.{owned_by}
+use Rattle.bundle_merge_parts.proofs.RefusedLemmas.{each-pick, of-error, stop-at}
 use Rattle.bundle_merge_parts.proofs.part.picks.Goals as goal
 
 pub loop-item-init : goal.loop-item-init
@@ -32,3 +34,20 @@ loop-item-preserved g c =
     let said : all item (Some c.in-Some.reply) = subst (λ (o : Option _). all item o) c.in-Some.is (_, refl, c.in_ok-reply.ensures) in
     let picked = pick-stays all c.loop-item.invariant said in
     subst (λ (l : List _). Picked all l c.push.new.self.items) (sym more) (subst (λ (l : List _). Picked all (take i xs ++ item ∷ []) l) (sym c.in_default-push.ensures.items) picked)
+
+pub returns-in_err-reply-clause-why : goal.returns-in_err-reply-clause-why
+returns-in_err-reply-clause-why g c =
+    let calls = goal.F-post g c.args.f.now in
+    let all = Picks calls in
+    let xs = c.args.items.now in
+    let i = c.loop-item.item-index in
+    let item = c.item-item.result in
+    let split =
+    sym (take-append-drop i xs)
+    ∙ ap (λ l. take i xs ++ l) (drop_more xs i item (omega arith))
+    ∙ ap (λ x. take i xs ++ x ∷ drop (i + 1) xs) (sym c.item-item.is) in
+    of-error c.from_residual.result c.from_residual.ensures.1
+    (λ refusal same.
+    inr (subst (λ (l : List _). RefusesPick calls refusal (owned_by c.args.id l)) (sym split)
+    (stop-at _ _ c.args.id (take i xs) item (drop (i + 1) xs) (each-pick all c.args.id c.loop-item.invariant)
+    (subst (λ r. Refuses calls r (c.args.id, item)) (sym same) (_, refl, c.in_err-reply.ensures)))))
