@@ -1,6 +1,7 @@
 -- What the hook answers for a module is judged as it was given: clearing changes nothing of it.
 use Rattle.std.proofs.Common.{◌≡◌, ℕ, ◌==◌, Bool, true, false, List, [], ◌∷◌, ◌++◌, Option, Some, None, Result, Ok, Err, codes, map, option_map, refl, sym, ap, ◌∙◌, subst}
 use Rattle.std.specs.Prelude.{IfErr, IfSome, IsErrAnd}
+use Rattle.std.specs.List.{flat_map}
 use Rattle.std.proofs.lemmas.List.{map-append}
 use Rattle.std.proofs.lemmas.Option.{none-some, same_Some}
 use Rattle.bundle_tree_piece.specs.declared.piece.Piece.{Piece}
@@ -26,6 +27,7 @@ use Rattle.bundle_rules.proofs.DenotesLemmas.{first_doubled-cleared}
 use Rattle.bundle_rules.proofs.CallLemmas.{has_free-cleared}
 use Rattle.bundle_tree_ast.specs.declared.expr.Expr.{Expr}
 use Rattle.bundle_tree_ast.specs.declared.prop.KeyValueProp.{KeyValueProp}
+use Rattle.bundle_tree_listed.specs.Tree.{key_value_prop_items}
 use Rattle.bundler_entry.specs.Hook.{Holds, IsAnswered, IsAskedFault, IsRightAnswer, IsFaultOfAnswer}
 use Rattle.bundler_entry.specs.Hook as k
 
@@ -128,8 +130,15 @@ module _ (may_give : Name → Bool → List (KeyValueProp Expr) → Type 0) (may
   pub of_failure : (fault : Option Fault) → IfSome fault (λ it. (it ≡ HookFails file) × may_fail given is_entry) → IfSome fault (IsAskedFault may_give may_fail given is_entry iife file)
   of_failure fault failed = if_some fault (λ it told. subst (IsAskedFault may_give may_fail given is_entry iife file) (sym told.0) (k.fails told.1)) failed
 
-  pub of_answer : (answer : List Item) → Holds may_give given is_entry answer → (fault : Option Fault) → IfSome fault (IsFaultOfAnswer iife file answer) → IfSome fault (IsAskedFault may_give may_fail given is_entry iife file)
-  of_answer answer held fault wrong = if_some fault (λ it its. k.answers answer held its) wrong
+  pub of_answer : (properties : List (KeyValueProp Expr)) → may_give given is_entry properties →
+      (fault : Option Fault) →
+      IfSome fault (IsFaultOfAnswer iife file (flat_map (key_value_prop_items 0) properties)) →
+      IfSome fault (IsAskedFault may_give may_fail given is_entry iife file)
+  of_answer properties may fault wrong = if_some fault
+      (λ it its.
+      k.answers (flat_map (key_value_prop_items 0) properties)
+      (record { given = properties; may = may; is = refl }) its)
+      wrong
 
 -- What is asked for a module.
 

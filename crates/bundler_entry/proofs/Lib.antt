@@ -1,9 +1,11 @@
+pub mod AnsweredLemmas
 pub mod AskedLemmas
 pub mod CountLemmas
 pub mod HookLemmas
 pub mod Known
 pub mod LinkedLemmas
 pub mod PartLemmas
+mod ReadLemmas
 pub mod SourceLemmas
 pub mod StatementLemmas
 pub mod BundleLemmas

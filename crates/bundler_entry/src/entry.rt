@@ -1,6 +1,6 @@
 //! The module of an entry that has no fault, and what the hook answers for its modules.
 
-ghost use Rattle.std.specs.Prelude.{◌≡◌, ◌<◌, ℕ, false, Contains, IfErr, IfNone, IfOk, IfSome, IsSome, IsTrue, List, Option, Some, length, option_map, slice_get};
+ghost use Rattle.std.specs.Prelude.{◌≡◌, ◌<◌, ℕ, false, Contains, IfErr, IfNone, IfOk, IfSome, IsSome, List, None, Option, Some, length, option_map, replicate, slice_get, slice_set};
 ghost use Rattle.bundle_tree_names.specs.FileName.{name_of};
 ghost use Rattle.bundle_rules.specs.Entries.{has_import_meta};
 ghost use Rattle.bundle_rules.specs.Faults.{fault_of};
@@ -67,17 +67,32 @@ fn read_answers<'y>(
         Contains answers.entry.now answer → answer.«module» < count →
         IsSome (answers_in metas.items answer.«module»)) }
 {
+    let mut metas = unread(alloc, count)?;
+    for answer in answers {
+        let read = read_meta(alloc, answer.properties.as_slice())?;
+        put_meta(&mut metas, answer.module, read);
+    }
+    Ok(metas)
+}
+
+// So many places that hold no answer.
+fn unread<'y>(alloc: Global, count: usize) -> Result<Vec<Option<ReadMeta<'y>>>, AllocError>
+    ensures { IfOk result (λ metas. metas.items ≡ replicate count None) }
+{
     let mut metas = Vec::new(alloc);
     for _ in 0..count {
         metas.push(None)?;
     }
-    for answer in answers {
-        let read = read_meta(alloc, answer.properties.as_slice())?;
-        if let Some(meta) = metas.get_mut(answer.module) {
-            *meta = Some(read);
-        }
-    }
     Ok(metas)
+}
+
+// Puts what was read at the place of its module, if that is there.
+fn put_meta<'y>(metas: &mut Vec<Option<ReadMeta<'y>>>, module: usize, read: ReadMeta<'y>)
+    ensures { metas.new.items ≡ slice_set metas.old.items «module» (Some read.entry) }
+{
+    if let Some(meta) = metas.get_mut(module) {
+        *meta = Some(read);
+    }
 }
 
 /// What the hook answers for each module that has `import.meta`, in the order of the list. Refused

@@ -15,7 +15,7 @@ ghost use Rattle.bundle_rules.specs.Bundle as bundle;
 ghost use Rattle.bundle_rules.specs.Bundle.{properties_tree};
 ghost use Rattle.bundle_rules.specs.Faults.{HookFails, fault_of};
 ghost use Rattle.bundle_rules.specs.Nodes.{has_head};
-ghost use Rattle.bundler_entry.specs.Hook.{Holds, IsAnswered, IsAskedFault, IsFaultOfAnswer, IsRead, IsRightAnswer};
+ghost use Rattle.bundler_entry.specs.Hook.{IsAskedFault, IsFaultOfAnswer, IsRead, IsRightAnswer};
 ghost use Rattle.bundler_entry.specs.Unlinked.{error_of};
 
 use crate::fault::doubled_refusal;
@@ -47,9 +47,10 @@ pub fn ask(
     is_entry: bool,
     is_iife: bool,
 ) -> Result<Vec<KeyValueProp>, Unlinked>
-    ensures answered { IfOk result (λ properties.
-        IsAnswered (may_give hook.now) (name_of given.now) is_entry is_iife
-        (flat_map (key_value_prop_items 0) properties.items)) }
+    ensures given { IfOk result (λ properties.
+        may_give hook.now (name_of given.now) is_entry properties.items) }
+    ensures right { IfOk result (λ properties.
+        IsRightAnswer is_iife (flat_map (key_value_prop_items 0) properties.items)) }
     ensures refused { IfErr result (λ unlinked.
         IfSome (fault_of (error_of unlinked))
         (IsAskedFault (may_give hook.now) (may_fail_hook hook.now) (name_of given.now) is_entry
@@ -69,8 +70,7 @@ fn given_by(
     is_entry: bool,
 ) -> Result<Vec<KeyValueProp>, Unlinked>
     ensures given { IfOk result (λ properties.
-        Holds (may_give hook.now) (name_of given.now) is_entry
-        (flat_map (key_value_prop_items 0) properties.items)) }
+        may_give hook.now (name_of given.now) is_entry properties.items) }
     ensures failed { IfErr result (λ unlinked.
         IfSome (fault_of (error_of unlinked)) (λ fault.
         (fault ≡ HookFails (name_of file.now))

@@ -20,10 +20,11 @@ pub returns-in_err-judge-clause-refused : goal.returns-in_err-judge-clause-refus
 returns-in_err-judge-clause-refused g c =
     let p = err_from_is_err_and c.from_residual-in_err-judge.result c.from_residual-in_err-judge.ensures.1 in
     let wrong = subst (λ items. IfSome (fault_of (error_of c.in_err-judge.field-0.0)) (IsFaultOfAnswer c.args.is_iife (name_of c.args.file.now) (flat_map (key_value_prop_items 0) items))) c.as_slice.ensures.value c.in_err-judge.ensures.wrong in
-    rw (p.1, p.2) (of_answer _ _ _ _ _ _ _ c.in_ok-properties.ensures.given _ wrong)
+    rw (p.1, p.2)
+    (of_answer _ _ _ _ _ _ c.in_ok-properties.properties.items c.in_ok-properties.ensures.given _
+    wrong)
 
-pub returns-clause-answered : goal.returns-clause-answered
-returns-clause-answered g c = record {
-  held = c.in_ok-properties.ensures.given;
-  right = subst (λ items. IsRightAnswer c.args.is_iife (flat_map (key_value_prop_items 0) items)) c.as_slice.ensures.value c.in_ok-judge.ensures.right;
-}
+pub returns-clause-right : goal.returns-clause-right
+returns-clause-right g c =
+    subst (λ items. IsRightAnswer c.args.is_iife (flat_map (key_value_prop_items 0) items))
+    c.as_slice.ensures.value c.in_ok-judge.ensures.right
