@@ -60,7 +60,8 @@ undoubled-called : (b : Bool) (tree : List Item) →
 undoubled-called true tree can none is = wrapped-undoubled tree can (none is)
 undoubled-called false tree can none is = absurd (false≢true is)
 
-module _ (p : Program) (hooks : Hooks) (named : List Item) (end : IsEnded p.settings p hooks named) where
+module _ (p : Program) (hooks : Hooks) (named : List Item)
+    (end : IsEnded p.settings p hooks named) where
   -- as a module
   module-form : form_of p.settings ≡ AsModule → IsEntryBundle p hooks named
   module-form form = record {

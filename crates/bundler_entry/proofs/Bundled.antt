@@ -1,6 +1,6 @@
--- What is made of the modules of an entry is the entry's bundle, and what the hook answered for them
--- are answers to what it was asked.
-use Rattle.std.proofs.Common.{◌≡◌, ℕ, ◌<◌, ◌==◌, Bool, true, List, [], ◌∷◌, Option, Some, Contains, length, refl, sym, ap, ◌∙◌, subst}
+-- What is made of the modules of an entry is the entry's bundle, and what the hook answered for
+-- them are answers to what it was asked.
+use Rattle.std.proofs.Common.{◌≡◌, ℕ, ◌<◌, Bool, List, [], ◌∷◌, Option, Some, length, refl, sym, ap, ◌∙◌, subst}
 use Rattle.std.specs.Prelude.{IsTrue, slice_get}
 use Rattle.std.specs.List.{flat_map}
 use Rattle.bundle_tree_ast.specs.declared.expr.Expr.{Expr}
@@ -9,16 +9,15 @@ use Rattle.bundle_tree_ast.specs.declared.prop.KeyValueProp.{KeyValueProp}
 use Rattle.bundle_tree_listed.specs.Tree.{key_value_prop_items, module_items}
 use Rattle.bundle_tree_names.specs.FileName.{Name}
 use Rattle.bundle_tree_piece.specs.Item.{Item}
-use Rattle.bundle_rules.specs.Bundle.{AreFaultless, Hooks, MayHold}
+use Rattle.bundle_rules.specs.Bundle.{Hooks, MayHold}
 use Rattle.bundle_rules.specs.Entries.{has_import_meta}
-use Rattle.bundle_rules.specs.Program.{Loaded, Program, module_of, tree_of, IsReached}
+use Rattle.bundle_rules.specs.Program.{Program, tree_of, IsReached}
 use Rattle.bundle_rules.specs.Statements.{own_statements}
 use Rattle.bundle_scope_renamed.specs.fit.Sorts.{AProperty, Many, slot}
 use Rattle.bundle_scope_renamed.specs.fit.Fits.{AreEach, AreFit, ended, next}
 use Rattle.bundle_scope_renamed.proofs.fit.Rows.{last_each}
 use Rattle.bundle_scope_renamed.proofs.grown.Grown.{key_value_prop_fit}
 use Rattle.bundle_link_reached.specs.Alike.{IsAt}
-use Rattle.bundle_merge_meaning.specs.joined.Joined.{joined}
 use Rattle.bundle_merge_whole.specs.planned.Decided.{index_of}
 use Rattle.bundle_merge_whole.specs.planned.Placed.{id_at}
 use Rattle.bundle_merge_whole.proofs.fit.Clearing.{fit_cleared}
@@ -85,11 +84,13 @@ module _ (p : Program) (entry : ℕ) (call : Call) (w : IsCallOf p entry call) (
 
   is-reached : (k : ℕ) → k < length ids → IsReached q k
   is-reached k within =
-      (places-reached p q ids (known.are-moved p entry call w linked l) l.reached.is_list k).1 within
+      (places-reached p q ids (known.are-moved p entry call w linked l) l.reached.is_list k).1
+      within
 
   is-within : (k : ℕ) → IsReached q k → k < length ids
   is-within k reached =
-      (places-reached p q ids (known.are-moved p entry call w linked l) l.reached.is_list k).0 reached
+      (places-reached p q ids (known.are-moved p entry call w linked l) l.reached.is_list k).0
+      reached
 
   -- the tree at a place
   same-tree : (m k : ℕ) → slice_get ids k ≡ Some m → tree_of p m ≡ tree_of q k
@@ -101,8 +102,7 @@ module _ (p : Program) (entry : ℕ) (call : Call) (w : IsCallOf p entry call) (
       answers → AreAskedAnswers l.links.places answers
   asked-answers may_give answers are = record {
     each = λ answer there.
-        let its = are.each answer there in
-        (
+        let its = are.each answer there in (
           is-reached answer.«module» its.0,
           sym (ap has_import_meta (same-tree its.1.0 answer.«module» its.1.1)) ∙ its.1.2.0,
           its.1.2.1.3 q (sym l.links.by_places.alike.iife),
@@ -136,8 +136,7 @@ module _ (p : Program) (entry : ℕ) (call : Call) (w : IsCallOf p entry call) (
   answers-held may_give answers are given of k properties is =
       let its = of k properties is in
       let asked = are.each its.0 its.1 in
-      let at : slice_get ids k ≡ Some asked.1.0 = ap (slice_get ids) (sym its.2) ∙ asked.1.1 in
-      (
+      let at : slice_get ids k ≡ Some asked.1.0 = ap (slice_get ids) (sym its.2) ∙ asked.1.1 in (
         sym (ap has_import_meta (same-tree asked.1.0 k at)) ∙ asked.1.2.0,
         one-held may_give its.0 asked.1.0 k properties at asked.1.2 its.3,
         subst (AreFit (slot 0 Many AProperty ∷ [])) (sym its.3)
@@ -150,13 +149,16 @@ module _ (p : Program) (entry : ℕ) (call : Call) (w : IsCallOf p entry call) (
       IsMadeOf l.links.places call linked given made → IsEntryBundle p hooks (module_items 0 made)
   entry-bundle hooks given held made its =
       let merged = its.is_merged in
-      made-bundle p q ids (known.graph p entry call w linked l) (known.are-places p entry call w linked l)
-      (known.are-known p entry call w linked l) (known.are-moved p entry call w linked l) linked.linking
+      made-bundle p q ids (known.graph p entry call w linked l)
+      (known.are-places p entry call w linked l) (known.are-known p entry call w linked l)
+      (known.are-moved p entry call w linked l) linked.linking
       (λ k. has_import_meta (tree_of q k)) (λ k. length (own_statements (tree_of q k)))
-      (known.are-linked p entry call w linked l _ _ (known.are-told p entry call w linked l)) linked.plan
-      (known.is-planned p entry call w linked l) hooks merged.context given merged.orders merged.items
-      (all-held q any_hooks hooks _ merged.context given (λ k properties is. (held k properties is).1)
-      (decided_in q linked) merged.orders merged.items merged.are_made)
+      (known.are-linked p entry call w linked l _ _ (known.are-told p entry call w linked l))
+      linked.plan (known.is-planned p entry call w linked l) hooks merged.context given
+      merged.orders merged.items
+      (all-held q any_hooks hooks _ merged.context given
+      (λ k properties is. (held k properties is).1) (decided_in q linked) merged.orders
+      merged.items merged.are_made)
       merged.apart merged.tops call.config.now w.renames w.iife (module_items 0 made)
       (subst (λ before. IsFinished call.config.now before (module_items 0 made)) merged.is
       its.finished)

@@ -9,7 +9,10 @@ use Rattle.bundle_merge_whole.specs.made.Made as m
 use Rattle.bundle_merge_whole.specs.made.Made.{AreBlocksMade, AreMade, IsAnsweredAs, IsBlockMade, IsMade}
 use Rattle.bundle_merge_whole.specs.planned.Decided.{Decided, DecidedBlock, back_plan, block_plan, front_plan}
 
-module _ (q : Program) (old hooks : Hooks) (list : List ℕ) (context : Contexts) (answers : ℕ → Option (List Item)) (held : (k : ℕ) (properties : List Item) → answers k ≡ Some properties → MayHold q hooks k properties) where
+module _ (q : Program) (old hooks : Hooks) (list : List ℕ) (context : Contexts)
+    (answers : ℕ → Option (List Item))
+    (held : (k : ℕ) (properties : List Item) → answers k ≡ Some properties →
+    MayHold q hooks k properties) where
   answered-as : (k : ℕ) (properties made : List Item) → answers k ≡ Some properties →
       IsAnsweredAs q old context k properties made → IsAnsweredAs q hooks context k properties made
   answered-as k properties made at its = record {

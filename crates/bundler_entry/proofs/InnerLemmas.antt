@@ -1,7 +1,6 @@
 -- Where a name of a tree is one of a scope inside, some scope begins in the tree.
-use Rattle.std.proofs.Common.{◌≡◌, ◌⊎◌, inl, inr, ℕ, zero, suc, ◌+◌, ◌<◌, ◌&&◌, ◌||◌, Bool, true, false, not, cond, List, [], ◌∷◌, ◌++◌, Option, Some, None, append_assoc, append-nil, bytes_eq, codes, find, map, option_map, refl, sym, ap, ◌∙◌, subst, arith}
+use Rattle.std.proofs.Common.{◌≡◌, ◌⊎◌, inl, inr, ℕ, zero, suc, ◌+◌, ◌<◌, ◌&&◌, Bool, true, false, not, cond, List, [], ◌∷◌, ◌++◌, Option, Some, None, append_assoc, append-nil, find, option_map, refl, sym, ap, ◌∙◌, subst, arith}
 use Rattle.std.specs.Prelude.{slice_get, unwrap_or}
-use Rattle.std.specs.List.{list_any}
 use Rattle.std.proofs.lemmas.Bool.{and_parts, false≢true, or_cases, true≢false}
 use Rattle.std.proofs.lemmas.Option.{none-some, same_Some, slice_get-map}
 use Rattle.bundle_tree_leaf.specs.declared.kind.VarDeclKind.TheVariants as v
@@ -11,7 +10,7 @@ use Rattle.bundle_tree_piece.specs.Item as h
 use Rattle.bundle_tree_piece.specs.Item.{Item, Head}
 use Rattle.bundle_rules.specs.Counts.{has_lexical_head, makes_scope, scope_count_from}
 use Rattle.bundle_rules.specs.Declarations.{BySymbol, ByLoop, Declared, Name, Way, declaration_of, declared, declared_by, heads_loop, is_pattern, name_of, names_agree, nameless_default, way_in, way_of, way_of_declarator, way_of_variable, wrapper_parameter}
-use Rattle.bundle_rules.specs.Denotes.{Bound, Denoted, Global, bound_in, denotations, denoted_as, denoted_by_symbol, denoted_in, denoted_of, own_or_found}
+use Rattle.bundle_rules.specs.Denotes.{Bound, Denoted, Global, bound_in, denoted_as, denoted_in, denoted_of, own_or_found}
 use Rattle.bundle_rules.specs.Homes.{binds, declares, from_taker, has_implicit_arguments, home_beside, home_of, is_arguments, is_declared_in, is_function, joins_parameter, nearest, parameters_of, taker, takes as takes_name_of}
 use Rattle.bundle_rules.specs.Places.{Around, Occurrence, Spot, in_field, occurrence_of, occurrences, occurrences_from, outer_path, past, start, is_binding}
 use Rattle.bundle_rules.specs.Scopes.{Es, Inner, Loop, Scope, ScopeKind, Top, Wrapper, kind_of_scope, same_scope, scope_at, scope_order, scopes_around}
@@ -88,7 +87,9 @@ counts-if : (b : Bool) (more : ℕ) → b ≡ true → 0 < cond b 1 0 + more
 counts-if true more is = omega arith
 counts-if false more is = absurd (false≢true is)
 
-module _ (sort : Sort) (local : (role : Role) → takes_name role sort ≡ false) (makes : (head : Head) → takes head sort ≡ true → (outer : List Around) (rest : List Item) → makes_scope head outer rest ≡ true) where
+module _ (sort : Sort) (local : (role : Role) → takes_name role sort ≡ false)
+    (makes : (head : Head) → takes head sort ≡ true → (outer : List Around) (rest : List Item) →
+    makes_scope head outer rest ≡ true) where
   one-inside : {items : List Item} → AreFit (slot 1 One sort ∷ []) items → (s : Spot)
       (rest : List Item) → 0 < scope_count_from s (items ++ rest)
   one-inside (over e fit) s rest = absurd (true≢false e)
@@ -116,8 +117,9 @@ no-class r.Reference = refl
 no-class r.Word = refl
 
 -- where no scope begins, each node is quiet
-quiet-node : (head : Head) (names : Role) (outer : List Around) (s : Spot) (inside rest : List Item) →
-    AreFit (slots head names) inside → makes_scope head outer (inside ++ rest) ≡ false →
+quiet-node : (head : Head) (names : Role) (outer : List Around) (s : Spot)
+    (inside rest : List Item) → AreFit (slots head names) inside →
+    makes_scope head outer (inside ++ rest) ≡ false →
     scope_count_from s (inside ++ rest) ≡ 0 → is_quiet head ≡ true
 quiet-node (h.Function is_generator is_async) names outer s inside rest fit none zero_of =
     absurd (true≢false none)
@@ -166,8 +168,8 @@ NoHead path list items =
     ⊎ ((heads_first path items ≡ false) × (heads_once path list ≡ true))
 
 -- at the beginning of a node that makes no scope
-no-head : (head : Head) (names : Role) (begins : ℕ) (outer other : List Around) (items : List Item) →
-    makes_scope head other items ≡ false →
+no-head : (head : Head) (names : Role) (begins : ℕ) (outer other : List Around)
+    (items : List Item) → makes_scope head other items ≡ false →
     NoHead (around head begins 0 ∷ outer) (slots head names) items
 no-head h.ForStmt names begins outer other items none = inr (none, refl)
 no-head h.ForInStmt names begins outer other items none = inr (none, refl)
@@ -183,8 +185,9 @@ no-head-over path n c k more items other (inl none) =
 no-head-over path n c k more items other (inr its) =
     inl (and_parts (is_single c) (no_heads path more) its.1).1
 
-no-head-hole : (path : List Around) (n : ℕ) (k : Sort) (more : List Slot) (items other : List Item) →
-    NoHead path (slot n Places k ∷ more) items → NoHead path (slot n Places k ∷ more) other
+no-head-hole : (path : List Around) (n : ℕ) (k : Sort) (more : List Slot)
+    (items other : List Item) → NoHead path (slot n Places k ∷ more) items →
+    NoHead path (slot n Places k ∷ more) other
 no-head-hole path n k more items other (inl none) = inl none
 no-head-hole path n k more items other (inr its) = absurd (false≢true its.1)
 
@@ -283,8 +286,8 @@ walk : {list : List Slot} {items : List Item} → AreFit list items → (s : Spo
     Each IsQuiet (occurrences_from s (items ++ rest))
 walk no_more s quiet rest none zero_of then =
     then s (record { fields = λ field. refl; outer = refl }) zero_of
-walk (over {number = n} {count = c} {sort = k} {more = more} {items = items} e fit) s quiet rest none
-    zero_of then =
+walk (over {number = n} {count = c} {sort = k} {more = more} {items = items} e fit) s quiet rest
+    none zero_of then =
     walk fit s quiet rest
     (no-head-over s.path n c k more (items ++ rest) (items ++ rest) none) zero_of then
 walk (a_name {number = n} {count = c} {sort = k} {more = more} {x = x} {ctxt = t} {role = role}
@@ -307,9 +310,10 @@ walk (a_node {number = n} {count = c} {sort = k} {more = more} {head = hd} {insi
     subst (λ items. Each IsQuiet (occurrences_from inner items)) (sym same)
     (walk in_it inner quiet_inner tail
     (no-head hd (names_in k) s.place (in_field n s.path) s.path (ins ++ tail) makes) inside_zero
-    (λ t b zero_t. walk fit (past t h.Close) (quiet-outer t.path (quiet-beside inner t b quiet_inner))
-    rest (inl (passes t b))
-    (plus-zero (scope_count_from (past t h.Close) (behind ++ rest)) zero_t) (λ u b2. then u (beside t b u b2))))
+    (λ t b zero_t. walk fit (past t h.Close)
+    (quiet-outer t.path (quiet-beside inner t b quiet_inner)) rest (inl (passes t b))
+    (plus-zero (scope_count_from (past t h.Close) (behind ++ rest)) zero_t)
+    (λ u b2. then u (beside t b u b2))))
   where
     inner : Spot
     inner = past s (h.Open n hd)
@@ -550,7 +554,8 @@ found-loop test (Inner Loop begins ∷ outer) s only e =
     by false further e = further e
 found-loop test (Inner _ begins ∷ outer) s only e = absurd only
 
-module _ (all : List Declared) (low : Each (λ (d : Declared). scope_order (home_of all d) < 2) all) where
+module _ (all : List Declared)
+    (low : Each (λ (d : Declared). scope_order (home_of all d) < 2) all) where
   none-declares : (kind : ScopeKind) (begins : ℕ) (name : Name) →
       declares all (Inner kind begins) name ≡ true → ⊥
   none-declares kind begins name e =
@@ -565,10 +570,14 @@ module _ (all : List Declared) (low : Each (λ (d : Declared). scope_order (home
   none-binds : (kind : ScopeKind) (begins : ℕ) (name : Name) →
       is_function (Inner kind begins) ≡ false → binds all (Inner kind begins) name ≡ true → ⊥
   none-binds kind begins name other e =
-      elim (or_cases (declares all (Inner kind begins) name) (is_arguments name.sym && has_implicit_arguments all (Inner kind begins)) e) [
+      elim
+      (or_cases (declares all (Inner kind begins) name)
+      (is_arguments name.sym && has_implicit_arguments all (Inner kind begins)) e) [
         | inl declared_there ↦ none-declares kind begins name declared_there
         | inr implied ↦
-            let its = (and_parts (is_arguments name.sym) (has_implicit_arguments all (Inner kind begins)) implied).1 in
+            let its =
+            (and_parts (is_arguments name.sym)
+            (has_implicit_arguments all (Inner kind begins)) implied).1 in
             false≢true (sym other ∙ (and_parts (is_function (Inner kind begins)) _ its).0)
       ]
 
@@ -610,6 +619,37 @@ module _ (all : List Declared) (low : Each (λ (d : Declared). scope_order (home
           let order : scope_order (home_of all d) ≡ begins + 2 = ap scope_order same in
           omega (arith, below, order)
 
+module _ (items : List Item) where
+  abbrev its_declared : List Declared
+  its_declared = declared BySymbol Es items
+
+  abbrev in_tree : Occurrence → Denoted
+  in_tree o = denoted_of BySymbol Es its_declared o
+
+  -- where no scope begins, no name is one of a scope inside
+  none-denoted : IsFit AModule 0 items → scope_count_from start items ≡ 0 → (i : ℕ)
+      (kind : ScopeKind) (begins : ℕ) (name : Name) →
+      denoted_as BySymbol Es items i ≡ Some (Bound (Inner kind begins) name) → ⊥
+  none-denoted fit zero_of i kind begins name at =
+      occurs (slice_get (occurrences items) i) refl
+      (sym (slice_get-map in_tree (occurrences items) i) ∙ at)
+    where
+      quiet : Each IsQuiet (occurrences items)
+      quiet = quiet-module items fit zero_of
+
+      low : Each (λ (d : Declared). scope_order (home_of its_declared d) < 2) its_declared
+      low =
+          each-declared (λ (d : Declared). scope_order (home_of its_declared d) < 2) IsQuiet
+          BySymbol Es (wrapper-low its_declared) (default-low its_declared)
+          (λ o d quiet e. declares-low its_declared o d quiet e) items quiet
+
+      occurs : (o : Option Occurrence) → slice_get (occurrences items) i ≡ o →
+          option_map in_tree o ≡ Some (Bound (Inner kind begins) name) → ⊥
+      occurs None there e = none-some (Bound (Inner kind begins) name) e
+      occurs (Some o) there e =
+          none-inner its_declared low o (quiet i o there) kind begins name
+          (same_Some (in_tree o) (Bound (Inner kind begins) name) e)
+
 -- A SCOPE BEGINS in a module in which a name is one of a scope inside
 pub scope-begins : (items : List Item) → IsFit AModule 0 items → (i : ℕ) (kind : ScopeKind)
     (begins : ℕ) (name : Name) →
@@ -617,28 +657,6 @@ pub scope-begins : (items : List Item) → IsFit AModule 0 items → (i : ℕ) (
     0 < scope_count_from start items
 scope-begins items fit i kind begins name at = by (scope_count_from start items) refl
   where
-    none : scope_count_from start items ≡ 0 → ⊥
-    none zero_of =
-        occurs (slice_get (occurrences items) i) refl
-        (sym (slice_get-map (denoted_of BySymbol Es (declared BySymbol Es items)) (occurrences items) i) ∙ at)
-      where
-        quiet : Each IsQuiet (occurrences items)
-        quiet = quiet-module items fit zero_of
-
-        low : Each (λ (d : Declared). scope_order (home_of (declared BySymbol Es items) d) < 2)
-            (declared BySymbol Es items)
-        low =
-            each-declared (λ (d : Declared). scope_order (home_of (declared BySymbol Es items) d) < 2) IsQuiet BySymbol Es
-            (wrapper-low (declared BySymbol Es items)) (default-low (declared BySymbol Es items)) (λ o d quiet e. declares-low (declared BySymbol Es items) o d quiet e) items
-            quiet
-
-        occurs : (o : Option Occurrence) → slice_get (occurrences items) i ≡ o →
-            option_map (denoted_of BySymbol Es (declared BySymbol Es items)) o ≡ Some (Bound (Inner kind begins) name) → ⊥
-        occurs None there e = none-some (Bound (Inner kind begins) name) e
-        occurs (Some o) there e =
-            none-inner (declared BySymbol Es items) low o (quiet i o there) kind begins name
-            (same_Some (denoted_of BySymbol Es (declared BySymbol Es items) o) (Bound (Inner kind begins) name) e)
-
     by : (n : ℕ) → scope_count_from start items ≡ n → 0 < scope_count_from start items
-    by zero e = absurd (none e)
+    by zero e = absurd (none-denoted items fit e i kind begins name at)
     by (suc n) e = omega (arith, e)

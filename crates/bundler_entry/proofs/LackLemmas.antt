@@ -1,17 +1,16 @@
--- Where contexts are refused to the modules of a bundle or to the linker's own labels, the bundle may
--- need too many.
-use Rattle.std.proofs.Common.{◌≡◌, ◌↔◌, ℕ, ◌+◌, ◌<◌, ◌≤◌, Bool, true, false, not, List, [], ◌∷◌, ◌++◌, Option, Some, None, Contains, length, map, length-append, refl, sym, ap, ◌∙◌, subst, if◌then◌else◌, arith}
-use Rattle.std.specs.Prelude.{IsTrue, slice_get}
+-- Where contexts are refused to the modules of a bundle or to the linker's own labels, the bundle
+-- may need too many.
+use Rattle.std.proofs.Common.{◌≡◌, ◌↔◌, ℕ, ◌+◌, ◌≤◌, Bool, true, false, not, List, [], ◌∷◌, ◌++◌, Option, Some, None, Contains, length, map, length-append, refl, sym, ◌∙◌, subst, if◌then◌else◌, arith}
+use Rattle.std.specs.Prelude.{IsTrue}
 use Rattle.std.specs.List.{list_any}
 use Rattle.std.proofs.lemmas.Bool.{and_parts, false≢true}
 use Rattle.std.proofs.lemmas.List.Elements.{Contains-append_left, Contains-append_right}
 use Rattle.bundle_tree_piece.specs.Item.{Item}
 use Rattle.bundle_rules.specs.Bundle.{Hooks, form_of}
-use Rattle.bundle_rules.specs.Counts.{binding_count}
 use Rattle.bundle_rules.specs.Entries.{has_import_meta}
 use Rattle.bundle_rules.specs.Faults.{NeedsTooManyContexts, tree_count}
 use Rattle.bundle_rules.specs.Linking.{IsCommonJs}
-use Rattle.bundle_rules.specs.Meaning.{HasKind, Helper, Label, is_common_js, is_es}
+use Rattle.bundle_rules.specs.Meaning.{Helper, Label, is_common_js, is_es}
 use Rattle.bundle_rules.specs.Program.{Program, tree_of, IsReached}
 use Rattle.bundle_rules.specs.Scopes.{Cjs, Es}
 use Rattle.bundle_link_reached.proofs.ElementLemmas.{map_on}
@@ -27,7 +26,7 @@ use Rattle.bundle_merge_whole.proofs.planned.RequestLemmas.{list-reached}
 use Rattle.bundle_merge_whole.proofs.planned.TreeCountLemmas.{AreAnswers, lacks-contexts}
 use Rattle.bundle_merge_names.specs.Added as n
 use Rattle.bundle_merge_names.specs.Added.{IsOfHelper, IsOfLabels, IsOfModule}
-use Rattle.bundle_merge_names.specs.Refused.{AreLabels, HasAtMost, LacksContexts, LacksForLabels, RefusesContextsIn, RefusesNames, answered_count, for_answer, for_labels, for_module, for_scopes}
+use Rattle.bundle_merge_names.specs.Refused.{AreLabels, HasAtMost, LacksContexts, LacksForLabels, RefusesNames, answered_count, for_answer, for_labels, for_module, for_scopes}
 use Rattle.bundle_merge_names.specs.declared.error.MergeError.TheVariants as e
 
 not-so : (b : Bool) → not b ≡ true → b ≡ false

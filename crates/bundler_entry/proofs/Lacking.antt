@@ -1,6 +1,6 @@
--- Where the modules of an entry make none since contexts are used up, the entry's bundle may need too
--- many.
-use Rattle.std.proofs.Common.{◌≡◌, ℕ, zero, ◌+◌, ◌*◌, ◌≤◌, Bool, true, false, List, [], ◌∷◌, Option, Some, None, length, refl, sym, ap, ◌∙◌, subst, if◌then◌else◌, arith}
+-- Where the modules of an entry make none since contexts are used up, the entry's bundle may need
+-- too many.
+use Rattle.std.proofs.Common.{◌≡◌, ℕ, zero, ◌+◌, ◌*◌, ◌≤◌, Bool, true, false, List, Option, Some, None, length, refl, sym, ap, ◌∙◌, subst, if◌then◌else◌, arith}
 use Rattle.std.specs.Prelude.{slice_get}
 use Rattle.std.specs.Option.{option_and_then}
 use Rattle.std.proofs.lemmas.Option.{none-some, same_Some}
@@ -58,10 +58,11 @@ module _ (p : Program) (entry : ℕ) (call : Call) (w : IsCallOf p entry call) (
 
   are-decided : AreDecided q AsModule (decided_in q linked)
   are-decided =
-      decided p q ids (known.graph p entry call w linked l) (known.are-places p entry call w linked l)
-      linked.linking (λ k. has_import_meta (tree_of q k))
+      decided p q ids (known.graph p entry call w linked l)
+      (known.are-places p entry call w linked l) linked.linking (λ k. has_import_meta (tree_of q k))
       (λ k. length (own_statements (tree_of q k)))
-      (known.are-linked p entry call w linked l _ _ (known.are-told p entry call w linked l)) linked.plan
+      (known.are-linked p entry call w linked l _ _ (known.are-told p entry call w linked l))
+      linked.plan
       (known.is-planned p entry call w linked l)
 
   -- a module by its place is fit
@@ -81,15 +82,16 @@ module _ (p : Program) (entry : ℕ) (call : Call) (w : IsCallOf p entry call) (
       found.2
       ∙ ap (λ (f : FileName × ℕ). Some (name_of f.0)) (sym (same_Some file found.0 found.1))
 
-  module _ (hooks : Hooks) (given : ℕ → Option (List Item)) (held : AreHeld l.links.places hooks given) where
+  module _ (hooks : Hooks) (given : ℕ → Option (List Item))
+      (held : AreHeld l.links.places hooks given) where
     asked : AreAnswers q hooks given
     asked = record {
       asked = λ m properties is. let its = held m properties is in (its.0, its.1);
     }
 
     -- the modules by their places need too many
-    places-need : (next : ℕ) (k : Option ℕ) → RefusesNames q places given next (e.ContextsUsedUp k) →
-        NeedsTooManyContexts q hooks next
+    places-need : (next : ℕ) (k : Option ℕ) →
+        RefusesNames q places given next (e.ContextsUsedUp k) → NeedsTooManyContexts q hooks next
     places-need next k refuses = by q.settings.iife refl
       where
         by : (b : Bool) → q.settings.iife ≡ b → NeedsTooManyContexts q hooks next
@@ -153,7 +155,8 @@ module _ (p : Program) (entry : ℕ) (call : Call) (w : IsCallOf p entry call) (
         IsRefusedMaking l.links.places call linked given unlinked →
         fault_of (error_of unlinked) ≡ Some fault → IsContextsFaultOf p hooks fault
     contexts-lack unlinked fault made.for_memory is = absurd (none-some fault is)
-    contexts-lack unlinked fault (made.for_module {k = k} next file told before refuses its same) is =
+    contexts-lack unlinked fault (made.for_module {k = k} next file told before refuses its same)
+        is =
         let gets = refused-gets next k refuses in
         record {
           m = id_at ids k;
@@ -163,7 +166,9 @@ module _ (p : Program) (entry : ℕ) (call : Call) (w : IsCallOf p entry call) (
           file = name_of file.0;
           its_file =
               place-file k (id_at ids k) (at-place p entry call w linked l k gets.0) file its;
-          is = sym (same_Some (f.ContextsUsedUp (name_of told)) fault is) ∙ ap f.ContextsUsedUp same;
+          is =
+              sym (same_Some (f.ContextsUsedUp (name_of told)) fault is)
+              ∙ ap f.ContextsUsedUp same;
           too_many = entry-needs next (Some k) before refuses;
         }
     contexts-lack unlinked fault (made.for_entry next told before refuses same) is = record {

@@ -1,6 +1,6 @@
 -- What needs too many contexts does so whatever numbers its modules have.
-use Rattle.std.proofs.Common.{◌≡◌, ◌↔◌, ℕ, ◌+◌, ◌<◌, ◌≤◌, Bool, List, [], ◌∷◌, Contains, map, refl, sym, ap, ap₂, ◌∙◌, subst, if◌then◌else◌, arith}
-use Rattle.std.specs.Prelude.{Some, false, slice_get, true}
+use Rattle.std.proofs.Common.{◌≡◌, ◌↔◌, ℕ, ◌+◌, ◌<◌, ◌≤◌, List, ◌∷◌, Contains, map, refl, sym, ap, ap₂, ◌∙◌, subst, if◌then◌else◌, arith}
+use Rattle.std.specs.Prelude.{Some, slice_get}
 use Rattle.bundle_tree_piece.specs.Item.{Item}
 use Rattle.bundle_rules.specs.Bundle.{AreNames, AsCall, AsModule, Cause, Form, Hooks, IsDue, form_of}
 use Rattle.bundle_rules.specs.Entries.{Named, Taken, Whole, has_import_meta}
@@ -8,15 +8,15 @@ use Rattle.bundle_rules.specs.Faults as f
 use Rattle.bundle_rules.specs.Faults.{CountsTo, GetsContexts, InjectedCount, IsNamedForContexts, NeedsTooManyContexts, TreesCountTo, properties_count, tree_count}
 use Rattle.bundle_rules.specs.Counts.{scope_count_from}
 use Rattle.bundle_rules.specs.Linking.{CommonJs, External}
-use Rattle.bundle_rules.specs.Meaning.{Label, Of, IsMeant}
+use Rattle.bundle_rules.specs.Meaning.{Of, IsMeant}
 use Rattle.bundle_rules.specs.Nodes.{Text}
 use Rattle.bundle_rules.specs.Places.{start}
-use Rattle.bundle_rules.specs.Program.{Program, tree_of, IsReached}
+use Rattle.bundle_rules.specs.Program.{Program, IsReached}
 use Rattle.bundle_rules.specs.Scopes.{Es}
 use Rattle.bundle_link_index.proofs.ProgramLemmas.{map_back}
 use Rattle.bundle_link_reached.specs.Alike.{IsAlike}
 use Rattle.bundle_link_reached.proofs.ElementLemmas.{later}
-use Rattle.bundle_merge_whole.specs.moved.Renumbered.{cause_by, label_by}
+use Rattle.bundle_merge_whole.specs.moved.Renumbered.{cause_by}
 use Rattle.bundle_merge_whole.proofs.moved.Due.{cause-back, common-by, due-by, due-named, mapped-at, reach-by, reach-named, turned-round}
 use Rattle.bundle_merge_whole.proofs.moved.Owed.{AreRenamed, EachModule}
 use Rattle.bundle_merge_whole.proofs.moved.Requested.{list-by, list-named}
@@ -77,7 +77,9 @@ module _ (p q : Program) (R : ℕ → ℕ → Type 0) (name back : ℕ → ℕ)
   trees-by hooks (f.plain {m = m} {more = more} {rest = rest} {kind = kind} has none trees) all =
       let r = all m (here m rest) in
       let same = w.tree m (name m) r in
-      subst (λ (tree : List Item). TreesCountTo q hooks (map name (m ∷ rest)) (tree_count kind tree + more))
+      subst
+      (λ (tree : List Item). TreesCountTo q hooks (map name (m ∷ rest))
+      (tree_count kind tree + more))
       (sym same)
       (f.plain (kind-by R name its.names p q w has (name m) r)
       (sym (ap has_import_meta same) ∙ none)
