@@ -1,6 +1,6 @@
 -- Answers that the modules of an entry asked for are those that a bundle of them wants.
-use Rattle.std.proofs.Common.{◌≡◌, ℕ, ◌<◌, Bool, true, false, List, [], ◌∷◌, Option, Some, None, Contains, length, refl, sym, ap, ◌∙◌, subst, arith}
-use Rattle.std.specs.Prelude.{IsSome, option_map, slice_get, unwrap_or}
+use Rattle.std.proofs.Common.{◌≡◌, ℕ, ◌<◌, true, List, [], ◌∷◌, Option, Some, None, Contains, length, refl, sym, subst, arith}
+use Rattle.std.specs.Prelude.{IsSome, option_map, unwrap_or}
 use Rattle.std.specs.List.{flat_map}
 use Rattle.std.proofs.lemmas.Bool.{false≢true}
 use Rattle.std.proofs.lemmas.Option.{slice_get_within}
@@ -124,5 +124,5 @@ module _ (p : Program) (entry : ℕ) (call : Call) (w : IsCallOf p entry call) (
           read,
           of,
           are-answered answers asked (answers_in metas) of
-          (λ answer there below. all answer there (omega (arith, below, counted))),
+              (λ answer there below. all answer there (omega (arith, below, counted))),
         )

@@ -1,5 +1,5 @@
 -- What the hook is asked for the modules that an entry reaches.
-use Rattle.std.proofs.Common.{◌≡◌, ℕ, ◌+◌, ◌-◌, ◌<◌, ◌≤◌, ◌==◌, ◌⊎◌, inl, inr, zero, suc, Bool, true, false, IsTrue, List, [], ◌∷◌, ◌++◌, Option, Some, None, Contains, length, refl, sym, ap, ◌∙◌, subst, arith}
+use Rattle.std.proofs.Common.{◌≡◌, ℕ, ◌+◌, ◌-◌, ◌<◌, ◌≤◌, ◌==◌, inl, inr, zero, suc, Bool, true, false, IsTrue, List, [], ◌∷◌, ◌++◌, Option, Some, None, Contains, length, refl, sym, ap, ◌∙◌, subst, arith}
 use Rattle.std.specs.Prelude.{IfNone, IfSome, slice_get}
 use Rattle.std.specs.List.{flat_map}
 use Rattle.std.specs.Option.{option_and_then}
@@ -159,13 +159,6 @@ module _ (p : Program) (entry : ℕ) (call : Call) (w : IsCallOf p entry call) (
   at_place k within = there_is list k (let long = long_places p entry call w reached r in omega (arith, within, long))
 
   module _ (may_give : Name → Bool → List (KeyValueProp Expr) → Type 0) where
-    -- none is asked for yet
-    pub answers_none : AreAnswersBefore may_give p list 0 []
-    answers_none = record {
-      each = λ answer there. absurd (omega (arith, there.1));
-      all = λ j m less at has. absurd (omega (arith, less));
-    }
-
     -- what was answered for the module at place i
     abbrev IsFound : ℕ → Option (List (KeyValueProp Expr)) → Type 0
     IsFound i found = (m : ℕ) → slice_get list i ≡ Some m → IsAnswerOf may_give p m found
@@ -219,7 +212,8 @@ module _ (p : Program) (entry : ℕ) (call : Call) (w : IsCallOf p entry call) (
               | inr (zero, below, e) ↦
                   let m = at_place i within in
                   subst (IsBefore (i + 1)) e (
-                    omega (arith, here), (
+                    omega (arith, here),
+                    (
                       m.0,
                       ap (slice_get list) here ∙ m.1,
                       subst (IsAnswerOf may_give p m.0) some (its m.0 m.1),

@@ -1,8 +1,8 @@
 -- Answers that were read stand at the numbers of their modules.
 use Rattle.std.proofs.Common.{◌≡◌, ◌⊎◌, inl, inr, ℕ, zero, suc, ◌+◌, ◌<◌, ◌≤◌, List, [], ◌∷◌, ◌++◌, Option, Some, None, Contains, get_or, length, take, refl, sym, ap, ◌∙◌, subst, arith}
-use Rattle.std.specs.Prelude.{IsSome, option_map, replicate, slice_get, slice_set, unwrap_or}
+use Rattle.std.specs.Prelude.{IsSome, option_map, slice_get, slice_set, unwrap_or}
 use Rattle.std.proofs.lemmas.Option.{get_or_from_slice_get, none-some, same_Some, slice_get-get_or, slice_get_within}
-use Rattle.std.proofs.lemmas.List.{length-replicate, length-set, take_all, take_more}
+use Rattle.std.proofs.lemmas.List.{length-set, take_all, take_more}
 use Rattle.std.proofs.lemmas.List.Elements.{Contains-append_cases}
 use Rattle.bundle_tree_piece.specs.Item.{Item}
 use Rattle.bundle_link_reached.proofs.NumberLemmas.{held}
@@ -15,11 +15,6 @@ use Rattle.bundler_entry.specs.declared.meta.ReadMeta.{ReadMeta}
 -- Places that hold nothing, and what is put there.
 
 module _ {A : Type 0} where
-  pub found-none : (n k : ℕ) (x : A) → found_at (replicate n None) k ≡ Some x → ⊥
-  found-none zero k x is = none-some x is
-  found-none (suc n) zero x is = none-some x is
-  found-none (suc n) (suc k) x is = found-none n k x is
-
   pub found-there : (list : List (Option A)) (k : ℕ) (x : A) → found_at list k ≡ Some x →
       slice_get list k ≡ Some (Some x)
   found-there [] k x is = absurd (none-some x is)
@@ -91,18 +86,7 @@ pub record AreReadSoFar (answers : List Answer) (count i : ℕ) (metas : List (O
   pub all : (answer : Answer) → Contains (take i answers) answer → answer.«module» < count →
       IsSome (answers_in metas answer.«module»)
 
-pub read-none : (answers : List Answer) (count : ℕ) →
-    AreReadSoFar answers count 0 (replicate count None)
-read-none answers count = record {
-  long = length-replicate count None;
-  read = λ k meta at. absurd (found-none count k meta (ap (λ o. unwrap_or o None) at));
-  of = λ k properties is.
-      let it = mapped-back (λ (meta : ReadMeta). kept_properties meta.properties.now)
-      (found_at (replicate count None) k) properties is in
-      absurd (found-none count k it.0 it.1);
-  all = λ answer there. absurd (omega (arith, there.1));
-}
-
+-- one more is read, and put at the number of its module
 pub read-more : (answers : List Answer) (count i : ℕ) (metas : List (Option ReadMeta))
     (answer : Answer) (meta : ReadMeta) → slice_get answers i ≡ Some answer →
     IsRead answer.properties.items meta → AreReadSoFar answers count i metas →

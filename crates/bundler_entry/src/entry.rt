@@ -2,17 +2,17 @@
 
 ghost use Rattle.std.specs.Prelude.{◌≡◌, ◌<◌, ℕ, false, Contains, IfErr, IfNone, IfOk, IfSome, IsSome, List, None, Option, Some, length, option_map, replicate, slice_get, slice_set};
 ghost use Rattle.bundle_tree_names.specs.FileName.{name_of};
+ghost use Rattle.bundle_tree_piece.specs.Item.{Item};
 ghost use Rattle.bundle_rules.specs.Entries.{has_import_meta};
 ghost use Rattle.bundle_rules.specs.Faults.{fault_of};
 ghost use Rattle.bundle_rules.specs.Program as program;
 ghost use Rattle.bundle_rules.specs.Program.{tree_of};
-ghost use Rattle.bundle_tree_piece.specs.Item.{Item};
 ghost use Rattle.bundler_entry.specs.Asked.{AreAnswersBefore, AreAskedAnswers, IsAnswerOf, IsAskedModule, IsRefusedAt, IsRefusedFor};
 ghost use Rattle.bundler_entry.specs.Hook.{AreRead};
 ghost use Rattle.bundler_entry.specs.Made.{AreOfAnswers, IsMadeOf, IsRefusedMaking, answers_in};
 ghost use Rattle.bundler_entry.specs.declared.entry.Answer as answer;
 ghost use Rattle.bundler_entry.specs.Linked.{IsCallOf, IsLinkedEntry, IsReachedIn};
-ghost use Rattle.bundler_entry.specs.Unlinked.{MayBeMerging, error_of};
+ghost use Rattle.bundler_entry.specs.Unlinked.{error_of};
 
 use crate::call::{Call, file_at, source_at};
 use crate::linked::Linked;
