@@ -1,5 +1,5 @@
 -- The items of a bundle whose names are given.
-use Rattle.std.proofs.Common.{◌<◌, refl, sym, ap, subst}
+use Rattle.std.proofs.Common.{◌<◌, refl, sym, subst}
 use Rattle.bundle_merge_names.specs.Numbers.{position}
 use Rattle.bundle_merge_names.specs.Refused.{for_memory, for_scopes}
 use Rattle.bundle_merge_names.specs.declared.error.MergeError.TheVariants.{OutOfMemory}
