@@ -1,17 +1,15 @@
 -- What the program answers to a document.
 use Rattle.std.specs.Prelude.{ℕ, Bool, List, ◌++◌, codes, decimal, map}
-use Rattle.std.specs.List.{AllZip}
 use Rattle.bundle_tree_names.specs.Error.{number_of, variant_name}
 use Rattle.bundle_tree_names.specs.FileName.{Name}
 use Rattle.bundle_tree_names.specs.declared.error.Error.{Error}
 use Rattle.bundle_tree_ast.specs.declared.expr.Expr.{Expr}
 use Rattle.bundle_tree_ast.specs.declared.prop.KeyValueProp.{KeyValueProp}
-use Rattle.bundle_rules.specs.Faults.{Parties}
-use Rattle.bundle_rules.specs.Judging.{Grows}
+use Rattle.bundle_rules.specs.Faults.{Parties, fault_of}
+use Rattle.bundle_rules.specs.Headline.{Bundles, IsHeadline}
 use Rattle.bundle_rules.specs.Kept.{Kept, nothing_kept}
-use Rattle.bundler_call.specs.Bundler.{files_of}
-use Rattle.bundler_call.specs.Judged.{IsBundledFor, IsRefusedBy}
-use Rattle.bundler_call.specs.Kept.{answers_of, entry_of, parties_of, settings_of}
+use Rattle.bundler_call.specs.Answer.{bundled_of, refusal_of}
+use Rattle.bundler_call.specs.Kept.{entry_of, parties_of, settings_of}
 use Rattle.bundler_call.specs.declared.bundle.Bundle.{Bundle}
 use Rattle.bundle_json_document.specs.Bundles.{IsTextOf}
 use Rattle.bundle_json_document.specs.Parties.{GivesModule, LacksModule, LeadsTo}
@@ -20,11 +18,6 @@ use Rattle.bundle_json_document.specs.declared.document.Document.{Document}
 -- the line of a refusal: its number and its name
 unfoldable pub line_of : Error → List ℕ
 line_of refusal = codes "error " ++ decimal (number_of refusal) ++ codes ": " ++ variant_name refusal ++ codes "\n"
-
--- what a bundler may come to keep of a document's files that kept nothing, by answers of the program's loader and its resolver to what has to be asked
-abbrev pub IsKept : Document → Kept → Type 0
-IsKept document kept =
-    Grows (answers_of (GivesModule document.files) (λ base. LeadsTo)) (settings_of document.config) (files_of document.entries.items) nothing_kept kept
 
 -- what loader and resolver of a document may answer and where they may fail, beside a hook: the loader gives the document's modules, and may fail only for a file
 -- that it has no module for; the resolver may fail only where a specifier leads to none
@@ -37,11 +30,10 @@ parties_beside may_give may_fail_hook document = parties_of
     may_give
     may_fail_hook
 
--- these are one by one the bundles of a document's entries, each of a program that is accepted, where the hook may give this and may fail there
+-- these are the bundles of a document's entries, as the headline has it of a bundler that kept nothing, where the hook may give this and may fail there
 pub record AreBundlesOf (may_give : Name → Bool → List (KeyValueProp Expr) → Type 0) (may_fail_hook : Name → Bool → Type 0) (document : Document) (bundles : List Bundle) : Type 0 where
   pub kept : Kept
-  pub is_kept : IsKept document kept
-  pub each : AllZip (IsBundledFor (parties_beside may_give may_fail_hook document) (settings_of document.config) kept) document.entries.items bundles
+  pub headline : IsHeadline (parties_beside may_give may_fail_hook document) (settings_of document.config) (map entry_of document.entries.items) nothing_kept (Bundles (map bundled_of bundles)) kept
 
 -- the text of the bundles of a document's entries
 pub record IsAnswer (may_give : Name → Bool → List (KeyValueProp Expr) → Type 0) (may_fail_hook : Name → Bool → Type 0) (document : Document) (text : List ℕ) : Type 0 where
@@ -49,8 +41,7 @@ pub record IsAnswer (may_give : Name → Bool → List (KeyValueProp Expr) → T
   pub made : AreBundlesOf may_give may_fail_hook document bundles
   pub is_text : IsTextOf bundles text
 
--- a refusal of a document's bundles that is right: it tells of the first fault in the order of judging, or of memory or contexts that do not suffice
+-- a refusal of a document's bundles that is right, as the headline has it: it tells of the first fault in the order of judging, or of memory or contexts that do not suffice
 pub record IsRefusal (may_give : Name → Bool → List (KeyValueProp Expr) → Type 0) (may_fail_hook : Name → Bool → Type 0) (document : Document) (refusal : Error) : Type 0 where
   pub kept : Kept
-  pub is_kept : IsKept document kept
-  pub right : IsRefusedBy (parties_beside may_give may_fail_hook document) (settings_of document.config) (map entry_of document.entries.items) nothing_kept kept refusal
+  pub headline : IsHeadline (parties_beside may_give may_fail_hook document) (settings_of document.config) (map entry_of document.entries.items) nothing_kept (refusal_of (fault_of refusal)) kept

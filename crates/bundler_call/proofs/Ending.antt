@@ -86,22 +86,25 @@ module _ (parties : Parties) (settings : Settings) where
   -- an entry is refused, or contexts do not suffice
   linking : (entries : List Entry) (old new : Kept) → Completes parties settings entries old new → (unlinked : Unlinked) → IsRefusalOfEntries parties settings new entries unlinked → IsRefusedBy parties settings entries old new (error_of unlinked)
   linking entries old new done unlinked told =
-      told_as (fault_of (error_of unlinked)) _ _ (λ fault why. elim why [ inl refuses ↦ inl (j.by_entry done.distinct done.numbered done.loaded refuses) | inr lacks ↦ inr (record {
-        completes = done;
-        i = lacks.i;
-        entry = lacks.entry;
-        there = lacks.there;
-        accepted_before = lacks.accepted_before;
-        p = lacks.p;
-        its_program = lacks.its_program;
-        accepted = lacks.accepted;
-        m = lacks.contexts.m;
-        named = lacks.contexts.named;
-        file = lacks.contexts.file;
-        its_file = lacks.contexts.its_file;
-        is = lacks.contexts.is;
-        too_many = lacks.contexts.too_many;
-      }) ]) told
+      told_as (fault_of (error_of unlinked)) _ _ (λ fault why. elim why [
+        | inl refuses ↦ inl (j.by_entry done.distinct done.numbered done.loaded refuses)
+        | inr lacks ↦ inr (record {
+          completes = done;
+          i = lacks.i;
+          entry = lacks.entry;
+          there = lacks.there;
+          accepted_before = lacks.accepted_before;
+          p = lacks.p;
+          its_program = lacks.its_program;
+          accepted = lacks.accepted;
+          m = lacks.contexts.m;
+          named = lacks.contexts.named;
+          file = lacks.contexts.file;
+          its_file = lacks.contexts.its_file;
+          is = lacks.contexts.is;
+          too_many = lacks.contexts.too_many;
+        })
+      ]) told
 
   pub refused_linking : {T : Type 0} (result : Result T Error) (entries : List Entry) (old new : Kept) (unlinked : Unlinked) → IsErrAnd result (λ x. x ≡ error_of unlinked) → Completes parties settings entries old new → IsRefusalOfEntries parties settings new entries unlinked → IfErr result (IsRefusedBy parties settings entries old new)
   refused_linking result entries old new unlinked is done told =

@@ -16,18 +16,22 @@ use Rattle.bundler_call.proofs.Growing.{stays_trans, still_numbered}
 nothing_doubled : (later : Entry) → IsDoubledEntry [] later → ⊥
 nothing_doubled later doubled = let at = doubled.first_there in cc
 
-nothing_at : (i : ℕ) (file : Name) (files : List Name) → files ≡ [] → slice_get files i ≡ Some file → ⊥
+nothing_at : (i : ℕ) (file : Name) (files : List Name) → files ≡ [] →
+    slice_get files i ≡ Some file → ⊥
 nothing_at i file files none at =
     let there : slice_get [] i ≡ Some file = subst (λ (l : List Name). slice_get l i ≡ Some file) none at in cc
 
 -- no file is numbered, and none loaded
-numbers_none : (files : List Name) (old new : Kept) (outcome : Outcome) → NumbersEach old files outcome new → files ≡ [] → (new ≡ old) × (outcome ≡ GoesOn)
+numbers_none : (files : List Name) (old new : Kept) (outcome : Outcome) →
+    NumbersEach old files outcome new → files ≡ [] → (new ≡ old) × (outcome ≡ GoesOn)
 numbers_none files old new outcome j.NumbersEach.over none = (refl, refl)
 numbers_none files old new outcome (j.NumbersEach.next its rest) none = cc
 numbers_none files old new outcome (j.NumbersEach.refused its) none = cc
 
 module _ (parties : Parties) (settings : Settings) where
-  loads_none : (files : List Name) (i : ℕ) (old new : Kept) (outcome : Outcome) → LoadsAll parties settings files i old outcome new → files ≡ [] → (new ≡ old) × (outcome ≡ GoesOn)
+  loads_none : (files : List Name) (i : ℕ) (old new : Kept) (outcome : Outcome) →
+      LoadsAll parties settings files i old outcome new → files ≡ [] →
+      (new ≡ old) × (outcome ≡ GoesOn)
   loads_none files i old new outcome j.LoadsAll.over none = (refl, refl)
   loads_none files i old new outcome (j.LoadsAll.not_loaded {file = file} there its) none = absurd (nothing_at i file files none there)
   loads_none files i old new outcome (j.LoadsAll.faulty {file = file} there its kept first) none = absurd (nothing_at i file files none there)
@@ -45,10 +49,13 @@ module _ (parties : Parties) (settings : Settings) where
   refuses_nothing old new fault (j.Refuses.by_entry distinct numbers loads refused) = let at = refused.there in cc
 
   -- an empty list of entries is answered by no bundle, unless a growth is refused, and nothing is asked
-  pub answers_nothing : (old : Kept) (answer : Answer) (new : Kept) → IsHeadline parties settings [] old answer new → answer ≢ NoMemory → AnswersNothing old answer new
+  pub answers_nothing : (old : Kept) (answer : Answer) (new : Kept) →
+      IsHeadline parties settings [] old answer new → answer ≢ NoMemory →
+      AnswersNothing old answer new
   answers_nothing old answer new headline = by_answer answer headline.right
     where
-      by_answer : (it : Answer) → IsRight parties settings [] old it new → it ≢ NoMemory → AnswersNothing old it new
+      by_answer : (it : Answer) → IsRight parties settings [] old it new → it ≢ NoMemory →
+          AnswersNothing old it new
       by_answer (Bundles []) right some = record { none = refl; same = completes_nothing old new right.0 }
       by_answer (Bundles (bundled ∷ rest)) right some = absurd right.1
       by_answer (Refusal fault) (inl refuses) some = absurd (refuses_nothing old new fault refuses)
@@ -58,15 +65,19 @@ module _ (parties : Parties) (settings : Settings) where
 -- One call after another, of whatever parties and settings.
 
 -- what was kept before both is kept afterwards
-pub stays_after : (a b : Parties) (s t : Settings) (entries later : List Entry) (old mid new : Kept) (first second : Answer) → IsHeadline a s entries old first mid → IsHeadline b t later mid second new → Stays old new
+pub stays_after : (a b : Parties) (s t : Settings) (entries later : List Entry) (old mid new : Kept) (first second : Answer) →
+    IsHeadline a s entries old first mid → IsHeadline b t later mid second new → Stays old new
 stays_after a b s t entries later old mid new first second one other = stays_trans old mid new one.stays other.stays
 
 -- the number of a bundle is that of the entry's file
-number_of : (parties : Parties) (settings : Settings) (kept : Kept) (bundled : Bundled) (entry : Entry) (its : IsBundleOf parties settings kept bundled entry) → bundled.id ≡ its.its_program.number
+number_of : (parties : Parties) (settings : Settings) (kept : Kept) (bundled : Bundled) (entry : Entry) (its : IsBundleOf parties settings kept bundled entry) →
+    bundled.id ≡ its.its_program.number
 number_of parties settings kept bundled entry its = its.its_id ∙ ap (λ (p : Program). p.entry) its.its_program.is
 
 -- and stays so: bundles of one file have one number, in whichever calls they were made
-pub same_number : (a b : Parties) (s t : Settings) (old new : Kept) → Stays old new → (one other : Bundled) (entry later : Entry) → entry.file ≡ later.file → IsBundleOf a s old one entry → IsBundleOf b t new other later → one.id ≡ other.id
+pub same_number : (a b : Parties) (s t : Settings) (old new : Kept) → Stays old new →
+    (one other : Bundled) (entry later : Entry) → entry.file ≡ later.file →
+    IsBundleOf a s old one entry → IsBundleOf b t new other later → one.id ≡ other.id
 same_number a b s t old new stays one other entry later same its there =
     number_of a s old one entry its
     ∙ same_Some its.its_program.number there.its_program.number

@@ -40,12 +40,14 @@ once_head x xs once there =
 -- Members of one block alone.
 
 module _ (Has : ℕ → Type 0) where
-  members_none : (xs ys : List ℕ) → ((y : ℕ) → Contains xs y → Has y → ⊥) → Members Has xs ys → ys ≡ []
+  members_none : (xs ys : List ℕ) → ((y : ℕ) → Contains xs y → Has y → ⊥) → Members Has xs ys →
+      ys ≡ []
   members_none xs ys none b.nothing = refl
   members_none xs ys none (b.kept {x = x} {xs = rest} its others) = absurd (none x (Contains-head rest x) its)
   members_none xs ys none (b.left {x = x} {xs = rest} not others) = members_none rest ys (λ y there. none y (Contains-tail rest x y there)) others
 
-  members_one : (x : ℕ) (xs ys : List ℕ) → IsOnce xs → Contains xs x → Has x → ((y : ℕ) → Contains xs y → Has y → x ≡ y) → Members Has xs ys → ys ≡ x ∷ []
+  members_one : (x : ℕ) (xs ys : List ℕ) → IsOnce xs → Contains xs x → Has x →
+      ((y : ℕ) → Contains xs y → Has y → x ≡ y) → Members Has xs ys → ys ≡ x ∷ []
   members_one x xs ys once there has only b.nothing = absurd (none_there x there)
   members_one x xs ys once there has only (b.kept {x = y} {xs = rest} {ys = more} its others) =
       let same : x ≡ y = only y (Contains-head rest y) its in
@@ -58,7 +60,8 @@ module _ (Has : ℕ → Type 0) where
       ]
 
 -- What is chosen of one list and of another.
-chosen_append : (Has : Cause → Type 0) (xs ys zs us : List Cause) → Chosen Has xs ys → Chosen Has zs us → Chosen Has (xs ++ zs) (ys ++ us)
+chosen_append : (Has : Cause → Type 0) (xs ys zs us : List Cause) → Chosen Has xs ys →
+    Chosen Has zs us → Chosen Has (xs ++ zs) (ys ++ us)
 chosen_append Has xs ys zs us w.Chosen.nothing others = others
 chosen_append Has xs ys zs us (w.Chosen.chosen {xs = rest} {ys = more} its first) others = w.Chosen.chosen its (chosen_append Has rest more zs us first others)
 chosen_append Has xs ys zs us (w.Chosen.left {xs = rest} not first) others = w.Chosen.left not (chosen_append Has rest ys zs us first others)
@@ -66,7 +69,8 @@ chosen_append Has xs ys zs us (w.Chosen.left {xs = rest} not first) others = w.C
 -- The blocks.
 
 module _ (p : Program) (acyclic : IsAcyclic p) where
-  one_alone : (m n : ℕ) → IsReached p m → Reaches (Requests p) m n → Reaches (Requests p) n m → m ≡ n
+  one_alone : (m n : ℕ) → IsReached p m → Reaches (Requests p) m n → Reaches (Requests p) n m →
+      m ≡ n
   one_alone m n reached itself back = refl
   one_alone m n reached (along {b = next} edge rest) back = absurd (acyclic m next reached edge (Reaches-trans rest back))
 
@@ -75,7 +79,9 @@ module _ (p : Program) (acyclic : IsAcyclic p) where
   its_causes m = module_causes p m ++ HoldsNamespace m ∷ []
 
   module _ (form : Form) (reading : Reading) (tree : List Item) (pairing : Pairing) where
-    lone_chosen : (m : ℕ) (members : List ℕ) (plan : List Cause) → members ≡ m ∷ [] → IsReached p m → IsBlockLaidOut p form tree reading pairing members plan → Chosen (IsDue p form) (its_causes m) plan
+    lone_chosen : (m : ℕ) (members : List ℕ) (plan : List Cause) → members ≡ m ∷ [] →
+        IsReached p m → IsBlockLaidOut p form tree reading pairing members plan →
+        Chosen (IsDue p form) (its_causes m) plan
     lone_chosen m members plan same reached (w.IsBlockLaidOut.lone {m = n} not chosen) =
         let its : n ≡ m = same_Some n m (ap (λ (l : List ℕ). slice_get l 0) same) in
         subst (λ k. Chosen (IsDue p form) (its_causes k) plan) its chosen
@@ -83,7 +89,11 @@ module _ (p : Program) (acyclic : IsAcyclic p) where
         absurd (acyclic m m reached (own m same) itself)
 
     module _ (list : List ℕ) (once : IsOnce list) (reached : (m : ℕ) → Contains list m → IsReached p m) where
-      blocks_chosen : (rest : List ℕ) (blocks : List (List ℕ)) (middle : List Cause) → IsOnce rest → ((m : ℕ) → Contains rest m → Contains list m) → BlocksOf (SharesBlock p) list rest blocks → AreBlocksLaidOut p form tree reading pairing blocks middle → Chosen (IsDue p form) (flat_map its_causes rest) middle
+      blocks_chosen : (rest : List ℕ) (blocks : List (List ℕ)) (middle : List Cause) →
+          IsOnce rest → ((m : ℕ) → Contains rest m → Contains list m) →
+          BlocksOf (SharesBlock p) list rest blocks →
+          AreBlocksLaidOut p form tree reading pairing blocks middle →
+          Chosen (IsDue p form) (flat_map its_causes rest) middle
       blocks_chosen rest blocks middle apart within b.over w.AreBlocksLaidOut.over = w.Chosen.nothing
       blocks_chosen rest blocks middle apart within (b.ends {x = x} {rest = more} {block = block} {blocks = others} shares last members left) (w.AreBlocksLaidOut.next {rest = behind} plan its laid) =
           let here : Contains list x = within x (Contains-head more x) in
@@ -103,7 +113,8 @@ list_once p list is_list i j m at there =
     same_index list apart.once i j (slice_get_within list i m at) (slice_get_within list j m there)
     (get_or_from_slice_get list i m 0 at ∙ sym (get_or_from_slice_get list j m 0 there))
 
-list_reached : (p : Program) (list : List ℕ) → IsList p list → (m : ℕ) → Contains list m → IsReached p m
+list_reached : (p : Program) (list : List ℕ) → IsList p list → (m : ℕ) → Contains list m →
+    IsReached p m
 list_reached p list is_list m there =
     elim (Lists-sound is_list m there) [
       | inl none ↦ absurd (none_there m none)
@@ -115,7 +126,9 @@ list_reached p list is_list m there =
 
 -- The whole plan.
 
-laid_in_order : (p : Program) (form : Form) (reading : Reading) (tree : List Item) (pairing : Pairing) → IsAcyclic p → (its : IsLaidOut p form reading tree pairing) → Chosen (IsDue p form) (causes_in_order p its.list) pairing.plan
+laid_in_order : (p : Program) (form : Form) (reading : Reading) (tree : List Item) (pairing : Pairing) →
+    IsAcyclic p → (its : IsLaidOut p form reading tree pairing) →
+    Chosen (IsDue p form) (causes_in_order p its.list) pairing.plan
 laid_in_order p form reading tree pairing acyclic its =
     let list = its.list in
     let imports : List Cause = flat_map import_causes (externals p list) in
@@ -132,6 +145,7 @@ laid_in_order p form reading tree pairing acyclic its =
     (subst (λ causes. Chosen (IsDue p form) causes (its.front ++ (its.middle ++ its.back))) same all)
 
 -- without cycles modules stand in post-order of requests, and each module's items in their order
-pub stands_in_post_order : (p : Program) (form : Form) (reading : Reading) (tree : List Item) → StandsInPostOrder p form reading tree
+pub stands_in_post_order : (p : Program) (form : Form) (reading : Reading) (tree : List Item) →
+    StandsInPostOrder p form reading tree
 stands_in_post_order p form reading tree pairing list acyclic is_list its =
     subst (λ (l : List ℕ). Chosen (IsDue p form) (causes_in_order p l) pairing.plan) (Lists-only is_list its.is_list) (laid_in_order p form reading tree pairing acyclic its)

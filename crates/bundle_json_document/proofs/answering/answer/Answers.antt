@@ -12,7 +12,7 @@ use Rattle.bundle_json_document.proofs.answering.answer.Goals as goal
 the_one : {P : Error → Type 0} (may_give : Name → Bool → List (KeyValueProp Expr) → Type 0) (may_fail_hook : Name → Bool → Type 0) (document : Document) (refusal : Error)
     → IsRefusal may_give may_fail_hook document refusal → P refusal ⊎ P OutOfMemory → (told : Error) × IsRefusal may_give may_fail_hook document told × P told
 the_one may_give may_fail_hook document refusal right (inl line) = (refusal, right, line)
-the_one may_give may_fail_hook document refusal right (inr line) = (OutOfMemory, record { kept = right.kept; is_kept = right.is_kept; right = tt }, line)
+the_one may_give may_fail_hook document refusal right (inr line) = (OutOfMemory, record { kept = right.kept; headline = record { right = tt; grows = right.headline.grows; stays = right.headline.stays } }, line)
 
 pub returns-clause-refused : goal.returns-clause-refused
 returns-clause-refused g c = λ _. the_one _ _ c.args.document c.in-Err.refusal c.in-Err.ensures.refused c.report.ensures.line
