@@ -11,3 +11,4 @@ mod Refusals
 mod Run
 mod Size
 mod Steps
+mod Unique

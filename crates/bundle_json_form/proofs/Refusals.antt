@@ -52,7 +52,7 @@ another_name found word it is other h =
     let same : word ≡ it = cc in true≢false (sym ((bytes_eq-Decides word it).1 same) ∙ sym other)
 
 -- no node has the name of an identifier
-not_ident : (head : Head) → name head ≢ codes "Ident"
+pub not_ident : (head : Head) → name head ≢ codes "Ident"
 unfolding kind_of
 not_ident head is =
     let e : None ≡ Some (codes "Ident")

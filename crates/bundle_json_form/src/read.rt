@@ -28,6 +28,8 @@ pub fn read_module<'v, 'a>(
 ) -> Result<Vec<Piece<'a>>, FormError>
     ensures read { IfOk result (λ list.
         IsForm meta.now top (seen value.now) (map item_of list.items)) }
+    ensures only { IfOk result (λ list. (other : List Item) →
+        IsForm meta.now top (seen value.now) other → other ≡ map item_of list.items) }
     ensures refused { IfErr result (RefusesFor
         ((list : List Item) → ¬ IsForm meta.now top (seen value.now) list)) }
 {
@@ -45,6 +47,9 @@ pub fn read_properties<'v, 'a>(
 ) -> Result<Vec<Piece<'a>>, FormError>
     ensures read { IfOk result (λ list. IsSomeAnd (as_array (seen value.now))
         (λ forms. AreForms meta.now top forms (map item_of list.items))) }
+    ensures only { IfOk result (λ list. (other : List Item) →
+        IsSomeAnd (as_array (seen value.now)) (λ forms. AreForms meta.now top forms other)
+        → other ≡ map item_of list.items) }
     ensures refused { IfErr result (RefusesFor
         ((list : List Item) → ¬ IsSomeAnd (as_array (seen value.now))
         (λ forms. AreForms meta.now top forms list))) }
