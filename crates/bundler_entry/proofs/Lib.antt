@@ -4,6 +4,8 @@ pub mod CountLemmas
 pub mod HookLemmas
 pub mod Known
 pub mod LinkedLemmas
+mod MadeLemmas
+mod MergedLemmas
 pub mod PartLemmas
 mod ReadLemmas
 pub mod SourceLemmas

@@ -1,6 +1,6 @@
 //! The module that the modules of an entry make.
 
-ghost use Rattle.std.specs.Prelude.{◌≡◌, ℕ, IfErr, IfOk, IfSome, IsSome, List, Some, length, map, slice_get};
+ghost use Rattle.std.specs.Prelude.{◌≡◌, ℕ, IfErr, IfOk, IfSome, IsSome, List, None, Some, length, map, slice_get};
 ghost use Rattle.std.specs.List.{AllZip};
 ghost use Rattle.bundle_tree_names.specs.declared.file_name.FileName as names;
 ghost use Rattle.bundle_tree_piece.specs.Item.{item_of};
@@ -8,18 +8,19 @@ ghost use Rattle.bundle_rules.specs.Declarations.{BySymbol};
 ghost use Rattle.bundle_rules.specs.Program as program;
 ghost use Rattle.bundle_rules.specs.Scopes.{Cjs};
 ghost use Rattle.bundle_scope_denote.specs.Listed.{IsTable};
+ghost use Rattle.bundle_link_targets.specs.Linked.{IsLinkingOf};
 ghost use Rattle.bundle_merge_items.specs.Adds.{AreAnswered};
 ghost use Rattle.bundler_entry.specs.Hook.{AreRead};
 ghost use Rattle.bundler_entry.specs.Linked.{HasFiles, HasPlace, HasPlaces, IsCallOf, IsFileAt, IsLinkedEntry};
 ghost use Rattle.bundler_entry.specs.Made.{IsMadeOf, IsRefusedMaking, answers_in};
-ghost use Rattle.bundler_entry.specs.Merged.{IsMergedIn};
+ghost use Rattle.bundler_entry.specs.Merged.{IsMergedIn, TellsContexts};
 ghost use Rattle.bundler_entry.specs.Parts.{AreBodies, AreEntryParts, IsAnswerRead, IsBodyAt, IsEntryPart};
-ghost use Rattle.bundler_entry.specs.Unlinked.{MayBeMerging};
 
-use crate::call::{Call, file_at, file_of, source_at};
+use crate::call::{Call, file_at, source_at};
 use crate::finish::finished;
 use crate::linked::Linked;
 use crate::meta::ReadMeta;
+use crate::source::Source;
 use crate::unlinked::Unlinked;
 use bundle_link_reached::Reached;
 use bundle_link_targets::Linking;
@@ -39,8 +40,8 @@ fn bodies_of<'p, 'x>(
     reached: &Reached,
     linking: &Linking<'x>,
 ) -> Result<Vec<Option<Denotations<'x>>>, AllocError>
-    ensures { IfOk result (λ bodies.
-        AreBodies call.now reached.now linking.now (length reached.now.places.items) bodies.items) }
+    ensures { IfOk result (λ bodies. (q : program.Program) → IsLinkingOf q linking.now →
+        AreBodies q call.now reached.now (length reached.now.places.items) bodies.items) }
 {
     let mut bodies = Vec::new(alloc);
     for module in 0..reached.places.len() {
@@ -57,7 +58,8 @@ fn body_at<'p, 'x>(
     linking: &Linking<'x>,
     module: usize,
 ) -> Result<Option<Denotations<'x>>, AllocError>
-    ensures { IfOk result (IsBodyAt call.now reached.now linking.now «module») }
+    ensures { IfOk result (λ body. (q : program.Program) → IsLinkingOf q linking.now →
+        IsBodyAt q call.now reached.now «module» body) }
 {
     if !linking.is_common_js(module) {
         return Ok(None);
@@ -107,13 +109,13 @@ fn merged_of<'t, 'p: 't, 'x, 'h>(
 ) -> Result<Merged, Unlinked>
     ensures merged { IfOk result (λ merged. (p : program.Program) (entry : ℕ) →
         IsCallOf p entry call.now → (its : IsLinkedEntry p call.now linked.now) →
-        AreBodies call.now linked.now.reached linked.now.linking
+        AreBodies its.links.places call.now linked.now.reached
         (length linked.now.reached.places.items) bodies.now →
         AreRead metas.now → AreAnswered its.links.places (answers_in metas.now) →
         IsMergedIn its.links.places linked.now (answers_in metas.now) merged.module) }
     ensures refused { IfErr result (λ unlinked. (p : program.Program) (entry : ℕ) →
         IsCallOf p entry call.now → (its : IsLinkedEntry p call.now linked.now) →
-        AreBodies call.now linked.now.reached linked.now.linking
+        AreBodies its.links.places call.now linked.now.reached
         (length linked.now.reached.places.items) bodies.now →
         AreRead metas.now → AreAnswered its.links.places (answers_in metas.now) →
         IsRefusedMaking its.links.places call.now linked.now (answers_in metas.now) unlinked) }
@@ -225,11 +227,27 @@ fn contexts_refusal<'p, 'x>(
     reached: &Reached,
     module: Option<usize>,
 ) -> Result<Unlinked, AllocError>
-    ensures { IfOk result MayBeMerging }
+    ensures { IfOk result (TellsContexts call.now reached.now «module») }
 {
-    let file = match file_of(call, reached, module) {
-        Some(file) => file.clone()?,
-        None => call.entry.clone()?,
-    };
+    let file = file_told(call, reached, module).clone()?;
     Ok(Unlinked::ContextsUsedUp { file })
+}
+
+// The file of a module or, without one, the entry's.
+fn file_told<'p, 'x: 'p>(
+    call: &Call<'p, 'x>,
+    reached: &Reached,
+    module: Option<usize>,
+) -> &'p FileName
+    ensures of_module { (k : ℕ) (file : names.FileName × ℕ) → «module» ≡ Some k →
+        IsFileAt call.now reached.now k file → result.now ≡ file.0 }
+    ensures of_entry { «module» ≡ None → result.now ≡ call.now.entry.now }
+{
+    let Some(module) = module else {
+        return call.entry;
+    };
+    match file_at(call, reached, module) {
+        Some((file, _)) => file,
+        None => call.entry,
+    }
 }
