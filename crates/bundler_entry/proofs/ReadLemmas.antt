@@ -12,7 +12,7 @@ use Rattle.bundler_entry.specs.Parts.{found_at}
 use Rattle.bundler_entry.specs.declared.entry.Answer.{Answer}
 use Rattle.bundler_entry.specs.declared.meta.ReadMeta.{ReadMeta}
 
--- Places that hold nothing, and what is put there.
+-- What is put at a place.
 
 module _ {A : Type 0} where
   pub found-there : (list : List (Option A)) (k : ℕ) (x : A) → found_at list k ≡ Some x →
@@ -67,11 +67,13 @@ module _ {A B : Type 0} (f : A → B) where
 
 taken-more : {A : Type 0} (list : List A) (i : ℕ) (x y : A) → slice_get list i ≡ Some x →
     Contains (take (i + 1) list) y → Contains (take i list) y ⊎ (x ≡ y)
-taken-more list i x y at there = elim (Contains-append_cases (take i list) (x ∷ []) y (subst (λ l. Contains l y) more there)) [
-  | inl before ↦ inl before
-  | inr (zero, below, e) ↦ inr e
-  | inr (suc k, below, e) ↦ absurd (omega (arith, below))
-]
+taken-more list i x y at there =
+    elim (Contains-append_cases (take i list) (x ∷ []) y
+    (subst (λ l. Contains l y) more there)) [
+      | inl before ↦ inl before
+      | inr (zero, below, e) ↦ inr e
+      | inr (suc k, below, e) ↦ absurd (omega (arith, below))
+    ]
   where
     more : take (i + 1) list ≡ take i list ++ x ∷ []
     more = take_more list i x (slice_get_within list i x at)
@@ -79,7 +81,8 @@ taken-more list i x y at there = elim (Contains-append_cases (take i list) (x �
 
 -- the answers before place i were read, and stand at the numbers of their modules, of which there are
 -- so many
-pub record AreReadSoFar (answers : List Answer) (count i : ℕ) (metas : List (Option ReadMeta)) : Type 0 where
+pub record AreReadSoFar (answers : List Answer) (count i : ℕ)
+    (metas : List (Option ReadMeta)) : Type 0 where
   pub long : length metas ≡ count
   pub read : AreRead metas
   pub of : AreOfAnswers answers (answers_in metas)
@@ -95,13 +98,20 @@ read-more answers count i metas answer meta at is its = record {
   long = length-set metas answer.«module» (Some meta) ∙ its.long;
   read = λ k other there.
       elim (put-found metas answer.«module» k meta other (ap (λ o. unwrap_or o None) there)) [
-        | inl same ↦ subst (λ (it : ReadMeta). IsRead it.properties.now it) same.1 (subst (λ given. IsRead given meta) (sym is.properties) is)
+        | inl same ↦
+            subst (λ (it : ReadMeta). IsRead it.properties.now it) same.1
+            (subst (λ given. IsRead given meta) (sym is.properties) is)
         | inr was ↦ its.read k other (found-there metas k other was)
       ];
   of = λ k properties there.
       let it = mapped-back keeps (found_at after k) properties there in
       elim (put-found metas answer.«module» k meta it.0 it.1) [
-        | inl same ↦ (answer, held answers answer i at, same.0, it.2 ∙ ap keeps (sym same.1) ∙ ap kept_properties is.properties)
+        | inl same ↦ (
+          answer,
+          held answers answer i at,
+          same.0,
+          it.2 ∙ ap keeps (sym same.1) ∙ ap kept_properties is.properties,
+        )
         | inr was ↦ its.of k properties (ap (option_map keeps) was ∙ ap (λ y. Some y) (sym it.2))
       ];
   all = λ other there below.
@@ -113,7 +123,11 @@ read-more answers count i metas answer meta at is its = record {
         | inr same ↦
             subst (λ (it : Answer). IsSome (answers_in after it.«module»)) same
             (mapped-there keeps (found_at after answer.«module»)
-            (put-there metas answer.«module» meta (let few = its.long in let low : answer.«module» < count = subst (λ (it : Answer). it.«module» < count) (sym same) below in omega (arith, low, few))))
+            (put-there metas answer.«module» meta
+            (let few = its.long in
+            let low : answer.«module» < count =
+            subst (λ (it : Answer). it.«module» < count) (sym same) below in
+            omega (arith, low, few))))
       ];
 }
   where
