@@ -8,3 +8,5 @@ pub mod SourceLemmas
 pub mod StatementLemmas
 pub mod BundleLemmas
 mod PartsLemmas
+mod MadeLemmas
+mod MergedLemmas

@@ -16,12 +16,12 @@ at_push [] x (suc k) y at = absurd (none-some y at)
 at_push (z ∷ xs) x zero y at = inl at
 at_push (z ∷ xs) x (suc k) y at = elim (at_push xs x k y at) [ inl there ↦ inl there | inr last ↦ inr (ap suc last.0, last.1) ]
 
-long_push : {A : Type 0} (xs : List A) (x : A) → length (xs ++ x ∷ []) ≡ suc (length xs)
+pub long_push : {A : Type 0} (xs : List A) (x : A) → length (xs ++ x ∷ []) ≡ suc (length xs)
 long_push [] x = refl
 long_push (y ∷ xs) x = ap suc (long_push xs x)
 
 -- what is so of each element at its place stays so with one more
-each_push : {A : Type 0} (P : ℕ → A → Type 0) (xs : List A) (x : A) (n : ℕ) → length xs ≡ n → ((k : ℕ) (y : A) → slice_get xs k ≡ Some y → P k y) → P n x → (k : ℕ) (y : A) → slice_get (xs ++ x ∷ []) k ≡ Some y → P k y
+pub each_push : {A : Type 0} (P : ℕ → A → Type 0) (xs : List A) (x : A) (n : ℕ) → length xs ≡ n → ((k : ℕ) (y : A) → slice_get xs k ≡ Some y → P k y) → P n x → (k : ℕ) (y : A) → slice_get (xs ++ x ∷ []) k ≡ Some y → P k y
 each_push P xs x n long each last k y at = elim (at_push xs x k y at) [
   | inl there ↦ each k y there
   | inr end ↦ subst (λ (z : _). P k z) end.1 (subst (λ (j : ℕ). P j x) (sym (end.0 ∙ long)) last)

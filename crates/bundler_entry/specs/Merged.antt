@@ -1,5 +1,5 @@
 -- The modules of an entry as one.
-use Rattle.std.specs.Prelude.{◌≡◌, ℕ, zero, List, Option, length, map}
+use Rattle.std.specs.Prelude.{◌≡◌, ℕ, zero, List, Option, Some, None, length, map}
 use Rattle.bundle_tree_ast.specs.declared.module.Module.{Module}
 use Rattle.bundle_tree_listed.specs.Tree.{module_items}
 use Rattle.bundle_tree_piece.specs.Item.{Item}
@@ -16,7 +16,14 @@ use Rattle.bundle_merge_whole.specs.planned.Decided.{Decided, numbers_from}
 use Rattle.bundle_merge_whole.specs.planned.Placed.{id_at}
 use Rattle.bundle_merge_whole.specs.sound.Decided.{decided_by}
 use Rattle.bundle_merge_items.specs.Adds.{any_hooks}
+use Rattle.bundle_tree_names.specs.FileName.{name_of}
+use Rattle.bundle_tree_names.specs.declared.file_name.FileName.{FileName}
+use Rattle.bundle_link_reached.specs.declared.reached.Reached.{Reached}
+use Rattle.bundler_entry.specs.Linked.{IsFileAt}
+use Rattle.bundler_entry.specs.declared.call.Call.{Call}
 use Rattle.bundler_entry.specs.declared.linked.Linked.{Linked}
+use Rattle.bundler_entry.specs.declared.unlinked.Unlinked.{Unlinked}
+use Rattle.bundler_entry.specs.declared.unlinked.Unlinked.TheVariants.{ContextsUsedUp}
 
 -- what is decided of the modules of an entry, which are those of q by their places
 abbrev pub decided_in : Program → Linked → Decided
@@ -37,3 +44,12 @@ pub record IsMergedIn (q : Program) (linked : Linked) (answers : ℕ → Option 
   pub are_made : AreMade q any_hooks (numbers_from zero (length linked.reached.list.items)) context
       answers (decided_in q linked) orders items
   pub is : module_items 0 merged ≡ joined items
+
+-- the refusal is that contexts are used up, of the file of a module or, without one, of the entry's
+pub record TellsContexts (call : Call) (reached : Reached) (found : Option ℕ) (refusal : Unlinked) :
+    Type 0 where
+  pub told : FileName
+  pub is : refusal ≡ ContextsUsedUp told
+  pub of_module : (k : ℕ) (file : FileName × ℕ) → found ≡ Some k → IsFileAt call reached k file →
+      name_of told ≡ name_of file.0
+  pub of_entry : found ≡ None → name_of told ≡ name_of call.entry.now

@@ -1,20 +1,17 @@
 -- What the modules of an entry are as they are merged, and what the hook answered for them.
-use Rattle.std.specs.Prelude.{◌≡◌, ℕ, ◌<◌, Bool, true, false, List, Option, Some, None, length, map, slice_get, unwrap_or}
+use Rattle.std.specs.Prelude.{◌≡◌, ◌≤◌, ◌+◌, ◌*◌, ℕ, List, Option, Some, None, length, map, slice_get, unwrap_or}
 use Rattle.bundle_tree_piece.specs.Item.{item_of}
-use Rattle.bundle_tree_ast.specs.declared.expr.Expr.{Expr}
-use Rattle.bundle_tree_ast.specs.declared.prop.KeyValueProp.{KeyValueProp}
 use Rattle.bundle_tree_names.specs.declared.file_name.FileName.{FileName}
 use Rattle.bundle_rules.specs.Declarations.{BySymbol}
 use Rattle.bundle_rules.specs.Kept.{local_context}
-use Rattle.bundle_rules.specs.Scopes.{Cjs}
+use Rattle.bundle_rules.specs.Meaning.{HasKind}
+use Rattle.bundle_rules.specs.Program.{Program}
+use Rattle.bundle_rules.specs.Scopes.{ModuleKind, Cjs, Es}
 use Rattle.bundle_scope_denote.specs.Listed.{IsTable}
 use Rattle.bundle_scope_denote.specs.declared.table.Denotations.{Denotations}
-use Rattle.bundle_link_index.specs.Leads.{flagged}
 use Rattle.bundle_link_reached.specs.declared.reached.Reached.{Reached}
-use Rattle.bundle_link_targets.specs.declared.linking.Linking.{Linking}
 use Rattle.bundle_merge_names.specs.declared.part.Answered.{Answered}
 use Rattle.bundle_merge_names.specs.declared.part.Part.{Part}
-use Rattle.bundler_entry.specs.Hook.{IsRead}
 use Rattle.bundler_entry.specs.Linked.{IsFileAt, source_in}
 use Rattle.bundler_entry.specs.declared.call.Call.{Call}
 use Rattle.bundler_entry.specs.declared.meta.ReadMeta.{ReadMeta}
@@ -25,28 +22,28 @@ abbrev pub found_at : {A : Type 0} → List (Option A) → ℕ → Option A
 found_at list k = unwrap_or (slice_get list k) None
 
 -- a CommonJS module was read as the body of a function, and another was not
-abbrev pub IsReadAsBody : Bool → Source → Option Denotations → Type 0
-IsReadAsBody true source None = ⊥
-IsReadAsBody true source (Some names) = IsTable BySymbol Cjs (map item_of source.pieces.items) names
-IsReadAsBody false source found = found ≡ None
+abbrev pub IsReadAsBody : ModuleKind → Source → Option Denotations → Type 0
+IsReadAsBody Cjs source None = ⊥
+IsReadAsBody Cjs source (Some names) =
+    IsTable BySymbol Cjs (map item_of source.pieces.items) names
+IsReadAsBody Es source found = found ≡ None
 
--- the same of module k, as linking tells what it is
-abbrev pub IsBodyAt : Call → Reached → Linking → ℕ → Option Denotations → Type 0
-IsBodyAt call reached linking k found =
-    (source : Source) → source_in call reached k ≡ Some source →
-    IsReadAsBody (flagged linking.common_js.items k) source found
+-- the same of module k of a program
+abbrev pub IsBodyAt : Program → Call → Reached → ℕ → Option Denotations → Type 0
+IsBodyAt q call reached k found =
+    (source : Source) (kind : ModuleKind) → source_in call reached k ≡ Some source →
+    HasKind q k kind → IsReadAsBody kind source found
 
 -- the same of the first n modules
-pub record AreBodies (call : Call) (reached : Reached) (linking : Linking) (n : ℕ)
+pub record AreBodies (q : Program) (call : Call) (reached : Reached) (n : ℕ)
     (bodies : List (Option Denotations)) : Type 0 where
   pub long : length bodies ≡ n
   pub each : (k : ℕ) (found : Option Denotations) → slice_get bodies k ≡ Some found →
-      IsBodyAt call reached linking k found
+      IsBodyAt q call reached k found
 
 -- what the names of a module denote: as in the body of a function, where that was read
 abbrev pub names_by : Source → Option Denotations → Denotations
-names_by source None = source.names
-names_by source (Some names) = names
+names_by source found = unwrap_or found source.names
 
 -- a part is what was read of module k, with where its requests lead and the context of its file
 pub record IsEntryPart (call : Call) (reached : Reached) (bodies : List (Option Denotations))

@@ -44,13 +44,3 @@ pub fn file_at<'p, 'x>(
     let files = program.files.files;
     files.get_index(*reached.places.get(module)?)
 }
-
-/// The file of a module, if there is one.
-pub fn file_of<'p, 'x>(
-    call: &Call<'p, 'x>,
-    reached: &Reached,
-    module: Option<usize>,
-) -> Option<&'x FileName> {
-    let (file, _) = file_at(call, reached, module?)?;
-    Some(file)
-}

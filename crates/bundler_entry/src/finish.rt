@@ -15,7 +15,7 @@ ghost use Rattle.bundle_scope_denote.specs.Listed.{IsTable};
 ghost use Rattle.bundle_tree_listed.specs.Tree.{module_items};
 ghost use Rattle.bundle_merge_whole.specs.finished.Ended.{AreEndNames, IsNamedAtOnce};
 ghost use Rattle.bundler_entry.specs.Finished.{IsFinished, NamesInTurn, is_renaming};
-ghost use Rattle.bundler_entry.specs.Unlinked.{MayBeMerging};
+ghost use Rattle.bundler_entry.specs.declared.unlinked.Unlinked.TheVariants.{OutOfMemory};
 
 use crate::unlinked::Unlinked;
 use bundle_merge_forms::wrap_with_iife;
@@ -32,7 +32,7 @@ use std::alloc::{AllocError, Global};
 pub fn finished(alloc: Global, merged: &Module, config: &Config) -> Result<Module, Unlinked>
     ensures finished { IfOk result (λ made.
         IsFinished config.now (module_items 0 merged.now) (module_items 0 made)) }
-    ensures refused { IfErr result MayBeMerging }
+    ensures refused { IfErr result (λ refusal. refusal ≡ OutOfMemory) }
 {
     let named = named(alloc, merged, config)?;
     match config.module {
@@ -45,7 +45,7 @@ pub fn finished(alloc: Global, merged: &Module, config: &Config) -> Result<Modul
 fn called(alloc: Global, module: &Module) -> Result<Module, Unlinked>
     ensures wrapped { CanBeWrapped «module».now.body.items → IfOk result
         (λ made. module_items 0 made ≡ wrapped (module_items 0 «module».now)) }
-    ensures refused { IfErr result MayBeMerging }
+    ensures refused { IfErr result (λ refusal. refusal ≡ OutOfMemory) }
 {
     match wrap_with_iife(alloc, module) {
         Ok(call) => Ok(call),

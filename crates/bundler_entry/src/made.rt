@@ -1,6 +1,6 @@
 //! The module that the modules of an entry make.
 
-ghost use Rattle.std.specs.Prelude.{◌≡◌, ℕ, IfErr, IfOk, IfSome, IsSome, List, Some, length, map, slice_get};
+ghost use Rattle.std.specs.Prelude.{◌≡◌, ℕ, IfErr, IfOk, IfSome, IsSome, List, None, Some, length, map, option_copied, slice_get, unwrap_or};
 ghost use Rattle.std.specs.List.{AllZip};
 ghost use Rattle.bundle_tree_names.specs.declared.file_name.FileName as names;
 ghost use Rattle.bundle_tree_piece.specs.Item.{item_of};
@@ -8,18 +8,19 @@ ghost use Rattle.bundle_rules.specs.Declarations.{BySymbol};
 ghost use Rattle.bundle_rules.specs.Program as program;
 ghost use Rattle.bundle_rules.specs.Scopes.{Cjs};
 ghost use Rattle.bundle_scope_denote.specs.Listed.{IsTable};
+ghost use Rattle.bundle_link_targets.specs.Linked.{IsLinkingOf};
 ghost use Rattle.bundle_merge_items.specs.Adds.{AreAnswered};
 ghost use Rattle.bundler_entry.specs.Hook.{AreRead};
 ghost use Rattle.bundler_entry.specs.Linked.{HasFiles, HasPlace, HasPlaces, IsCallOf, IsFileAt, IsLinkedEntry};
 ghost use Rattle.bundler_entry.specs.Made.{IsMadeOf, IsRefusedMaking, answers_in};
-ghost use Rattle.bundler_entry.specs.Merged.{IsMergedIn};
+ghost use Rattle.bundler_entry.specs.Merged.{IsMergedIn, TellsContexts};
 ghost use Rattle.bundler_entry.specs.Parts.{AreBodies, AreEntryParts, IsAnswerRead, IsBodyAt, IsEntryPart};
-ghost use Rattle.bundler_entry.specs.Unlinked.{MayBeMerging};
 
-use crate::call::{Call, file_at, file_of, source_at};
+use crate::call::{Call, file_at, source_at};
 use crate::finish::finished;
 use crate::linked::Linked;
 use crate::meta::ReadMeta;
+use crate::source::Source;
 use crate::unlinked::Unlinked;
 use bundle_link_reached::Reached;
 use bundle_link_targets::Linking;
@@ -39,8 +40,8 @@ fn bodies_of<'p, 'x>(
     reached: &Reached,
     linking: &Linking<'x>,
 ) -> Result<Vec<Option<Denotations<'x>>>, AllocError>
-    ensures { IfOk result (λ bodies.
-        AreBodies call.now reached.now linking.now (length reached.now.places.items) bodies.items) }
+    ensures { IfOk result (λ bodies. (q : program.Program) → IsLinkingOf q linking.now →
+        AreBodies q call.now reached.now (length reached.now.places.items) bodies.items) }
 {
     let mut bodies = Vec::new(alloc);
     for module in 0..reached.places.len() {
@@ -57,7 +58,8 @@ fn body_at<'p, 'x>(
     linking: &Linking<'x>,
     module: usize,
 ) -> Result<Option<Denotations<'x>>, AllocError>
-    ensures { IfOk result (IsBodyAt call.now reached.now linking.now «module») }
+    ensures { IfOk result (λ body. (q : program.Program) → IsLinkingOf q linking.now →
+        IsBodyAt q call.now reached.now «module» body) }
 {
     if !linking.is_common_js(module) {
         return Ok(None);
@@ -72,7 +74,12 @@ fn body_at<'p, 'x>(
 fn body_of<'x>(alloc: Global, source: &Source<'x>) -> Result<Denotations<'x>, AllocError>
     ensures { IfOk result (IsTable BySymbol Cjs (map item_of source.now.pieces.items)) }
 {
-    denotations(alloc, source.pieces.as_slice(), ModuleKind::Cjs, Reading::BySymbol)
+    denotations(
+        alloc,
+        source.pieces.as_slice(),
+        ModuleKind::Cjs,
+        Reading::BySymbol,
+    )
 }
 
 /// The module that all modules make, where this is what the hook answered, by their numbers.
@@ -107,13 +114,13 @@ fn merged_of<'t, 'p: 't, 'x, 'h>(
 ) -> Result<Merged, Unlinked>
     ensures merged { IfOk result (λ merged. (p : program.Program) (entry : ℕ) →
         IsCallOf p entry call.now → (its : IsLinkedEntry p call.now linked.now) →
-        AreBodies call.now linked.now.reached linked.now.linking
+        AreBodies its.links.places call.now linked.now.reached
         (length linked.now.reached.places.items) bodies.now →
         AreRead metas.now → AreAnswered its.links.places (answers_in metas.now) →
         IsMergedIn its.links.places linked.now (answers_in metas.now) merged.module) }
     ensures refused { IfErr result (λ unlinked. (p : program.Program) (entry : ℕ) →
         IsCallOf p entry call.now → (its : IsLinkedEntry p call.now linked.now) →
-        AreBodies call.now linked.now.reached linked.now.linking
+        AreBodies its.links.places call.now linked.now.reached
         (length linked.now.reached.places.items) bodies.now →
         AreRead metas.now → AreAnswered its.links.places (answers_in metas.now) →
         IsRefusedMaking its.links.places call.now linked.now (answers_in metas.now) unlinked) }
@@ -176,10 +183,8 @@ fn part_of<'t, 'p: 't, 'x>(
 {
     let source = source_at(call, reached, module)?;
     let (_, id) = file_at(call, reached, module)?;
-    let denotations = match bodies.get(module) {
-        Some(Some(names)) => names,
-        _ => &source.names,
-    };
+    let body = body_in(bodies, module);
+    let denotations = names_of(&source.names, body);
     Some(Part {
         items: source.items,
         pieces: source.pieces.as_slice(),
@@ -189,6 +194,30 @@ fn part_of<'t, 'p: 't, 'x>(
         local: local_context(id.as_u32()),
         written: None,
     })
+}
+
+// What was found of a module, read as the body of a function.
+fn body_in<'t, 'x>(
+    bodies: &'t [Option<Denotations<'x>>],
+    module: usize,
+) -> Option<&'t Option<Denotations<'x>>>
+    ensures { option_copied result ≡ slice_get bodies.entry.now «module» }
+{
+    bodies.get(module)
+}
+
+// What the names of a module denote: as in the body of a function, where that was read, or else these.
+fn names_of<'t, 'x>(
+    own: &'t Denotations<'x>,
+    body: Option<&'t Option<Denotations<'x>>>,
+) -> &'t Denotations<'x>
+    ensures { result.now ≡ unwrap_or (unwrap_or (option_copied body.entry) None) own.entry.now }
+{
+    match body {
+        Some(Some(names)) => names,
+        Some(None) => own,
+        None => own,
+    }
 }
 
 // What the hook answered, as it is merged.
@@ -225,11 +254,27 @@ fn contexts_refusal<'p, 'x>(
     reached: &Reached,
     module: Option<usize>,
 ) -> Result<Unlinked, AllocError>
-    ensures { IfOk result MayBeMerging }
+    ensures { IfOk result (TellsContexts call.now reached.now «module») }
 {
-    let file = match file_of(call, reached, module) {
-        Some(file) => file.clone()?,
-        None => call.entry.clone()?,
-    };
+    let file = file_told(call, reached, module).clone()?;
     Ok(Unlinked::ContextsUsedUp { file })
+}
+
+// The file of a module or, without one, the entry's.
+fn file_told<'p, 'x: 'p>(
+    call: &Call<'p, 'x>,
+    reached: &Reached,
+    module: Option<usize>,
+) -> &'p FileName
+    ensures of_module { (k : ℕ) (file : names.FileName × ℕ) → «module» ≡ Some k →
+        IsFileAt call.now reached.now k file → result.now ≡ file.0 }
+    ensures of_entry { «module» ≡ None → result.now ≡ call.now.entry.now }
+{
+    let Some(module) = module else {
+        return call.entry;
+    };
+    match file_at(call, reached, module) {
+        Some((file, _)) => file,
+        None => call.entry,
+    }
 }
