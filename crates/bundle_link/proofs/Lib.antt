@@ -4,3 +4,4 @@ mod OnceLemmas
 mod ProgramLemmas
 pub mod ClearedTables
 mod CheckLemmas
+mod DoubledDefaultExamples

@@ -1,6 +1,6 @@
 //! The modules of one bundle, linked.
 
-ghost use Rattle.std.specs.Prelude.{◌≡◌, ℕ, Contains, IfErr, IfOk, IfSome, IsNone, MatchResult, None, Some, false, length, map, nat_eq, option_map, slice_get};
+ghost use Rattle.std.specs.Prelude.{◌≡◌, ◌-◌, ℕ, Contains, IfErr, IfOk, IfSome, IsNone, MatchResult, None, Some, false, length, map, nat_eq, option_map, slice_get};
 ghost use Rattle.std.specs.List.{AllZip};
 ghost use Rattle.indexmap.specs.IndexSet.{contains, index_of_by};
 ghost use Rattle.bundle_tree_names.specs.FileName.{name_of};
@@ -8,7 +8,10 @@ ghost use Rattle.bundle_tree_piece.specs.Item.{item_of};
 ghost use Rattle.bundle_link_reached.specs.Linked.{IsLinkedOf};
 ghost use Rattle.bundle_rules.specs.Program.{Program};
 ghost use Rattle.bundle_rules.specs.Tables.{IsChecked, IsResolution, TellsCommonJs, TellsMeant};
+ghost use Rattle.bundle_link_index.specs.Programs.{IsProgramOf};
+ghost use Rattle.bundle_link_targets.specs.Linked.{HandsOver, IsJudgedBy, IsLinkingOf};
 ghost use Rattle.bundle_link_targets.specs.Meant.{DeclaresDefaultOnce};
+ghost use Rattle.bundle_link_reached.specs.Judged.{numbers_below};
 ghost use Rattle.bundle_link.specs.Checked.{TellsLinkFault};
 ghost use Rattle.bundle_link.specs.Programs.{AreModulesOf, HasTables, IsLinkerOf, is_call, numbers};
 ghost use Rattle.bundle_rules.specs.Nodes.{numbers_once};
@@ -109,12 +112,23 @@ impl<'a> Linker<'a> {
         read_list(self.alloc, file, pieces, &self.config)
     }
 
-    /// What the names of the modules on the list stand for, where these are their tables in turn, and their requests
-    /// lead to places of the list.
-    pub fn linking_of<'x>(
-        &self,
-        modules: &[LinkModule<'_, 'x>],
-    ) -> Result<Linking<'x>, AllocError> {
+    /// What the names of the modules on the list stand for, where these are their tables in turn, their requests lead to
+    /// places of the list, and the last is the entry.
+    pub fn linking_of<'x>(&self, modules: &[LinkModule<'_, 'x>]) -> Result<Linking<'x>, AllocError>
+        ensures linked { IfOk result (λ linking. (q : Program) →
+            IsProgramOf q modules.now (numbers_below (length modules.now))
+            (length modules.now - 1) self.now.config.require
+            → IsLinkingOf q linking) }
+        ensures judged { IfOk result (λ linking. (q : Program) →
+            IsProgramOf q modules.now (numbers_below (length modules.now))
+            (length modules.now - 1) self.now.config.require
+            → q.settings.iife ≡ is_call self.now.config.«module»
+            → IsJudgedBy q (numbers_below (length modules.now)) linking) }
+        ensures handed { IfOk result (λ linking. (q : Program) →
+            IsProgramOf q modules.now (numbers_below (length modules.now))
+            (length modules.now - 1) self.now.config.require
+            → HandsOver q (numbers_below (length modules.now)) linking) }
+    {
         let mut list = Vec::new(self.alloc);
         for place in 0..modules.len() {
             list.push(place)?;

@@ -1,10 +1,10 @@
 -- The places of blocks one after the other, each in the order of its block, sort all items.
-use Rattle.std.proofs.Common.{◌≡◌, ◌≢◌, ℕ, zero, suc, ◌+◌, ◌-◌, ◌<◌, ◌≤◌, ◌⊎◌, ◌↔◌, Bool, true, false, not, cond, nat_eq, eqb, All, List, [], ◌∷◌, ◌++◌, Some, length, get_or, map, slice_get, Contains, eqb-true, eq-eqb, refl, sym, ap, ◌∙◌, subst, inl, inr, arith}
+use Rattle.std.proofs.Common.{◌≡◌, ℕ, zero, suc, ◌+◌, ◌<◌, ◌⊎◌, Bool, true, false, not, cond, nat_eq, eqb, All, List, [], ◌∷◌, ◌++◌, Some, length, get_or, map, slice_get, Contains, eqb-true, refl, sym, ap, ◌∙◌, subst, inl, inr, arith}
 use Rattle.std.specs.Prelude.{filter}
-use Rattle.std.specs.List.{AllZip, IsDistinct, flat_map, list_any}
+use Rattle.std.specs.List.{AllZip, flat_map, list_any}
 use Rattle.std.specs.Option.{option_map}
 use Rattle.std.specs.Borrow.{Bor}
-use Rattle.std.proofs.lemmas.Bool.{cases_lt, false≢true}
+use Rattle.std.proofs.lemmas.Bool.{cases_lt}
 use Rattle.std.proofs.lemmas.List.{append-nil, append_assoc, get_or_at, get_or_default, get_or-map, length-append, length-map, length_push, map-append}
 use Rattle.std.proofs.lemmas.List.Elements.{Contains-get_or}
 use Rattle.std.proofs.lemmas.Option.{slice_get-get_or}
@@ -14,8 +14,7 @@ use Rattle.bundle_tree_ast.specs.declared.module.ModuleItem.{ModuleItem}
 use Rattle.bundle_tree_piece.specs.Item.{Item}
 use Rattle.bundle_tree_listed.specs.Tree.{module_item_items}
 use Rattle.bundle_order_sort.specs.Arranged.{IsArrangement}
-use Rattle.bundle_order_graph.specs.Modules.{Modules, Requests}
-use Rattle.bundle_order_graph.specs.Walks.{Reaches}
+use Rattle.bundle_order_graph.specs.Modules.{Modules}
 use Rattle.bundle_order_graph.proofs.NodeLemmas.{Contains-place, found, place-contains, place-in}
 use Rattle.bundle_order_graph.proofs.OrderLemmas.{Contains-cons_cases, Contains-head, Contains-tail}
 use Rattle.bundle_order_sort.specs.declared.plan.Block.{Block}

@@ -1,5 +1,5 @@
 -- What becomes of all items, once they are put into the new order.
-use Rattle.std.proofs.Common.{◌≡◌, ℕ, zero, suc, ◌<◌, ◌⊎◌, ◌↔◌, Bool, true, false, not, cond, List, [], ◌∷◌, ◌++◌, Option, Some, length, get_or, map, slice_get, Contains, refl, sym, ap, ◌∙◌, subst, arith}
+use Rattle.std.proofs.Common.{◌≡◌, ℕ, suc, Bool, true, not, cond, List, [], ◌∷◌, ◌++◌, Option, Some, length, get_or, map, slice_get, Contains, refl, sym, ap, ◌∙◌, subst, arith}
 use Rattle.std.specs.Prelude.{IsPermutation, filter}
 use Rattle.std.specs.List.{AllZip}
 use Rattle.std.specs.Borrow.{Bor}
@@ -10,9 +10,8 @@ use Rattle.std.proofs.lemmas.Option.{get_or_from_slice_get, slice_get-map}
 use Rattle.bundle_tree_ast.specs.declared.module.ModuleItem.{ModuleItem}
 use Rattle.bundle_tree_piece.specs.Item.{Item}
 use Rattle.bundle_tree_listed.specs.Tree.{module_item_items}
-use Rattle.bundle_order_sort.specs.Arranged.{AreArranged, IsArrangement}
-use Rattle.bundle_order_graph.specs.Modules.{Modules, Requests}
-use Rattle.bundle_order_graph.specs.Walks.{Reaches}
+use Rattle.bundle_order_sort.specs.Arranged.{IsArrangement}
+use Rattle.bundle_order_graph.specs.Modules.{Modules}
 use Rattle.bundle_merge_parts.specs.Parts as p
 use Rattle.bundle_merge_parts.specs.Parts.{Held, IsArrangedAs}
 use Rattle.bundle_rules.specs.Parts.{Owned, Parts, in_order, parts_of}

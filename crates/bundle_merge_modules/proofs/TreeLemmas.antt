@@ -13,13 +13,20 @@ use Rattle.bundle_rules.specs.Parts as t
 use Rattle.bundle_rules.specs.Parts.ListsAnswered.{over as tl_over, next as tl_next}
 use Rattle.bundle_rules.specs.Parts.Retained.{over as tr_over, stays as tr_stays, goes as tr_goes}
 use Rattle.bundle_merge_parts.specs.Parts.Answered.{over as pa_over, goes as pa_goes, stays as pa_stays}
-use Rattle.bundle_merge_modules.specs.Held.{MapsSome, Picked}
+use Rattle.bundle_merge_parts.specs.Refused.{StopsAt}
+use Rattle.bundle_merge_parts.specs.Refused.StopsAt.{here, further}
+use Rattle.bundle_merge_modules.specs.Held.{MapsSome, Picked, lists_of, lists_in_order}
 use Rattle.bundle_merge_modules.specs.Held.Picked.{over as pk_over, goes as pk_goes, stays as pk_stays}
 
 -- numbers once
 once-same : (ns : List ℕ) → p.once ns ≡ numbers_once ns
 once-same [] = refl
 once-same (n ∷ ns) = ap (λ l. n ∷ filter (λ m. not (n == m)) l) (once-same ns)
+
+-- what is answered up to the one that is refused, with something made of each
+pub stops-made : {X Y : Type 0} (f : X → Y) {answered refused : X → Type 0} (says denies : Y → Type 0) {xs : List X} → StopsAt answered refused xs → ((x : X) → answered x → says (f x)) → ((x : X) → refused x → denies (f x)) → StopsAt says denies (map f xs)
+stops-made f says denies (here {one = x} said) on off = here (off x said)
+stops-made f says denies (further {one = x} said rest) on off = further (on x said) (stops-made f says denies rest on off)
 
 module _ {A : Type 0} (tree : A → List Item) where
   abbrev pub made : Owned A → t.Owned
@@ -106,6 +113,29 @@ module _ {A : Type 0} (tree : A → List Item) where
   keys-made : (ps : List (Owned A)) → map (λ (o : t.Owned). o.0) (map made ps) ≡ map (λ (o : Owned A). o.0) ps
   keys-made [] = refl
   keys-made (o ∷ ps) = ap (λ l. o.0 ∷ l) (keys-made ps)
+
+  -- the lists of modules
+  abbrev pub list_made : ℕ × List A → ℕ × List (List Item)
+  list_made one = (one.0, map tree one.1)
+
+  lists-at : (ps : List (Owned A)) (ms : List ℕ) → map list_made (map (λ m. (m, p.items_in ps m)) ms) ≡ map (λ m. (m, t.items_in (map made ps) m)) ms
+  lists-at ps [] = refl
+  lists-at ps (m ∷ ms) =
+      ap (λ (l : List (List Item)). (m, l) ∷ map list_made (map (λ n. (n, p.items_in ps n)) ms)) (sym (items_in-made ps m))
+      ∙ ap (λ (l : List (ℕ × List (List Item))). (m, t.items_in (map made ps) m) ∷ l) (lists-at ps ms)
+
+  lists-made : (ps : List (Owned A)) → map list_made (p.lists_of ps) ≡ lists_of (map made ps)
+  lists-made ps =
+      lists-at ps (p.modules_in ps)
+      ∙ ap (map (λ m. (m, t.items_in (map made ps) m))) (once-same (map (λ (o : Owned A). o.0) ps) ∙ ap numbers_once (sym (keys-made ps)))
+
+  pub list_order-made : (h : Held A) → map list_made (p.lists_in_order h) ≡ lists_in_order (parts_made h)
+  list_order-made h =
+      map-append list_made (p.lists_of h.prepended) (p.lists_of h.bodies ++ p.lists_of h.appended)
+      ∙ ap (λ l. map list_made (p.lists_of h.prepended) ++ l) (map-append list_made (p.lists_of h.bodies) (p.lists_of h.appended))
+      ∙ ap (λ l. l ++ (map list_made (p.lists_of h.bodies) ++ map list_made (p.lists_of h.appended))) (lists-made h.prepended)
+      ∙ ap (λ l. lists_of (map made h.prepended) ++ (l ++ map list_made (p.lists_of h.appended))) (lists-made h.bodies)
+      ∙ ap (λ l. lists_of (map made h.prepended) ++ (lists_of (map made h.bodies) ++ l)) (lists-made h.appended)
 
   -- lists that are answered
   module _ (May : ℕ → List A → List A → Type 0) (Say : ℕ → List (List Item) → List (List Item) → Type 0) (says : (m : ℕ) (xs ys : List A) → May m xs ys → Say m (map tree xs) (map tree ys)) where

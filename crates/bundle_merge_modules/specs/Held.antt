@@ -1,5 +1,5 @@
 -- Items of modules as the trees that they are.
-use Rattle.std.specs.Prelude.{◌≡◌, ℕ, Bool, List, [], ◌∷◌, Option, Some, None, Result, Ok, map, option_map}
+use Rattle.std.specs.Prelude.{◌≡◌, ℕ, Bool, List, [], ◌∷◌, Option, Some, None, ◌++◌, Result, Ok, Err, map, option_map}
 use Rattle.std.specs.Borrow.{Bor}
 use Rattle.std.specs.declared.alloc.Global.{Global}
 use Rattle.std.specs.declared.vec.Vec.{Vec}
@@ -7,7 +7,8 @@ use Rattle.bundle_tree_ast.specs.declared.module.ModuleItem.{ModuleItem}
 use Rattle.bundle_tree_piece.specs.Item.{Item}
 use Rattle.bundle_tree_listed.specs.Tree.{module_item_items}
 use Rattle.bundle_merge_parts.specs.Parts.{Held, Owned as OwnedOf}
-use Rattle.bundle_rules.specs.Parts.{HoldsOfParts, Owned, Parts}
+use Rattle.bundle_merge_parts.specs.Refused.{StopsAt}
+use Rattle.bundle_rules.specs.Parts.{HoldsOfParts, Owned, Parts, items_in, modules_in}
 
 -- an item with its module
 abbrev pub tree_of : OwnedOf ModuleItem → Owned
@@ -56,3 +57,33 @@ pub data Picked (May : ℕ → List Item → Option (List Item) → Type 0) : Li
 -- each item is replaced by its answer, or goes
 abbrev pub MapsSome : (ℕ → List Item → Option (List Item) → Type 0) → Parts → Parts → Type 0
 MapsSome May before after = HoldsOfParts (Picked May) before after
+
+-- Why nothing is changed: a closure refused.
+
+-- the lists of a part, each with its module
+abbrev pub lists_of : List Owned → List (ℕ × List (List Item))
+lists_of pairs = map (λ m. (m, items_in pairs m)) (modules_in pairs)
+
+-- the lists in the order in which they are gone through: the parts in turn
+abbrev pub lists_in_order : Parts → List (ℕ × List (List Item))
+lists_in_order parts = lists_of parts.prepended ++ (lists_of parts.bodies ++ lists_of parts.appended)
+
+-- a call for a module and an item may be refused so
+abbrev pub Refuses : {B E : Type 0} → (ℕ → Bor ModuleItem → Result B E → Type 0) → E → Owned → Type 0
+Refuses calls refusal one = (given : Bor ModuleItem) × (module_item_items 0 given.now ≡ one.1) × calls one.0 given (Err refusal)
+
+-- a call for a module and these items may be refused so
+abbrev pub RefusesAll : {B E : Type 0} → (ℕ → Bor (List ModuleItem) → Result B E → Type 0) → E → ℕ × List (List Item) → Type 0
+RefusesAll calls refusal one = (given : Bor (List ModuleItem)) × (map (module_item_items 0) given.now ≡ one.1) × calls one.0 given (Err refusal)
+
+-- of calls for these lists of modules in turn, one may be refused so, where all before it are answered
+abbrev pub RefusesList : {E : Type 0} → (ℕ → Bor (List ModuleItem) → Result (Vec ModuleItem Global) E → Type 0) → E → List (ℕ × List (List Item)) → Type 0
+RefusesList calls refusal lists = StopsAt (λ one. (answer : List (List Item)) × Answers calls one.0 one.1 answer) (RefusesAll calls refusal) lists
+
+-- the same of calls for items
+abbrev pub RefusesItem : {E : Type 0} → (ℕ → Bor ModuleItem → Result ModuleItem E → Type 0) → E → List Owned → Type 0
+RefusesItem calls refusal items = StopsAt (λ one. (answer : List Item) × Replies calls one.0 one.1 answer) (Refuses calls refusal) items
+
+-- the same where none may be answered too
+abbrev pub RefusesPick : {E : Type 0} → (ℕ → Bor ModuleItem → Result (Option ModuleItem) E → Type 0) → E → List Owned → Type 0
+RefusesPick calls refusal items = StopsAt (λ one. (answer : Option (List Item)) × Picks calls one.0 one.1 answer) (Refuses calls refusal) items

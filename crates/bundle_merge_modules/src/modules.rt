@@ -1,7 +1,7 @@
 //! What a linker holds while it makes one module of several.
 
-ghost use Rattle.std.specs.Prelude.{◌≡◌, map, IfOk, OnOk, OnErr};
-ghost use Rattle.bundle_merge_modules.specs.Held.{Answers, Asks, MapsSome, Picks, Replies, trees_of};
+ghost use Rattle.std.specs.Prelude.{◌≡◌, ◌⊎◌, alloc_error, map, IfErr, IfOk, OnOk, OnErr};
+ghost use Rattle.bundle_merge_modules.specs.Held.{Answers, Asks, MapsSome, Picks, RefusesItem, RefusesList, RefusesPick, Replies, lists_in_order, trees_of};
 ghost use Rattle.bundle_tree_listed.specs.Tree.{module_item_items, module_items};
 ghost use Rattle.bundle_rules.specs.Parts.{MapsItems, MapsLists, Retains, body_of, in_order, joined, no_parts, parts_of, with_all_appended, with_appended, with_prepended};
 
@@ -70,36 +70,43 @@ impl Modules {
         self.parts.iter()
     }
 
-    /// Puts what `f` answers in the place of each module's items, part by part. Where `f` refuses this does so too.
+    /// Puts what `f` answers in the place of each module's items, part by part. Refused only where `f` refuses and where
+    /// memory runs out.
     pub fn map_any_items<F>(&mut self, f: &F) -> Result<(), Error>
     where
         F: Fn(ModuleId, &[ModuleItem]) -> Result<Vec<ModuleItem>, Error>,
         requires { F.IsAlwaysCallable f.now }
         ensures answered { OnOk result (MapsLists (Answers (F.post f.now)) self.old self.new) }
         ensures refused { OnErr result (self.new ≡ self.old) }
+        ensures why { IfErr result (λ refusal. (refusal ≡ Error.OutOfMemory)
+            ⊎ RefusesList (F.post f.now) refusal (lists_in_order self.old)) }
     {
         self.parts.map_any_items(f)
     }
 
-    /// Puts what `f` answers in the place of each item. Where `f` refuses this does so too.
+    /// Puts what `f` answers in the place of each item. Refused only where `f` refuses and where memory runs out.
     pub fn map_items_mut<F>(&mut self, f: &F) -> Result<(), Error>
     where
         F: Fn(ModuleId, &ModuleItem) -> Result<ModuleItem, Error>,
         requires { F.IsAlwaysCallable f.now }
         ensures answered { OnOk result (MapsItems (Replies (F.post f.now)) self.old self.new) }
         ensures refused { OnErr result (self.new ≡ self.old) }
+        ensures why { IfErr result (λ refusal. (refusal ≡ Error.OutOfMemory)
+            ⊎ RefusesItem (F.post f.now) refusal (in_order self.old)) }
     {
         self.parts.map_items_mut(f)
     }
 
-    /// Puts what `f` answers in the place of each item; where it answers none the item goes. Where `f` refuses this does
-    /// so too.
+    /// Puts what `f` answers in the place of each item; where it answers none the item goes. Refused only where `f`
+    /// refuses and where memory runs out.
     pub fn map_some_items<F, E: From<AllocError> + Drop>(&mut self, f: &F) -> Result<(), E>
     where
         F: Fn(ModuleId, &ModuleItem) -> Result<Option<ModuleItem>, E>,
         requires { F.IsAlwaysCallable f.now }
         ensures answered { OnOk result (MapsSome (Picks (F.post f.now)) self.old self.new) }
         ensures refused { OnErr result (self.new ≡ self.old) }
+        ensures why { IfErr result (λ refusal. E.from_gives alloc_error refusal
+            ⊎ RefusesPick (F.post f.now) refusal (in_order self.old)) }
     {
         self.parts.map_some_items(f)
     }

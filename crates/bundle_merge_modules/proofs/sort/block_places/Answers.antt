@@ -3,7 +3,7 @@ use Rattle.std.specs.Prelude.{slice_index}
 use Rattle.bundle_tree_piece.specs.declared.piece.Piece.{Piece}
 use Rattle.bundle_tree_piece.specs.Item.{Item, item_of}
 use Rattle.bundle_tree_listed.specs.Tree.{module_item_items}
-use Rattle.bundle_merge_modules.specs.Placed.{IsOrdered, tree_at, trees_lent}
+use Rattle.bundle_merge_modules.specs.Placed.{tree_at, trees_lent}
 use Rattle.bundle_merge_modules.proofs.PlacedLemmas.{drawn, put-ordered}
 use Rattle.bundle_merge_modules.proofs.sort.block_places.Goals as goal
 

@@ -1,5 +1,5 @@
 -- The places of the blocks that were passed, each in its order.
-use Rattle.std.proofs.Common.{◌≡◌, ◌++◌, ℕ, List, take}
+use Rattle.std.proofs.Common.{◌≡◌, ℕ, List, take}
 use Rattle.std.specs.List.{AllZip, flat_map}
 use Rattle.bundle_merge_modules.specs.Placed.{IsBlockPut, trees_lent}
 use Rattle.bundle_merge_modules.proofs.sort.order_by.Given as goal

@@ -7,7 +7,7 @@ use Rattle.bundle_rules.specs.Tables.{IsChecked}
 use Rattle.bundle_link_targets.proofs.FirstLemmas.{is_none}
 use Rattle.bundle_link.specs.Refusals.{files_of}
 use Rattle.bundle_link.specs.declared.transformed.TransformedModule.{TransformedModule}
-use Rattle.bundle_link.proofs.CheckLemmas.{are_modules, fault_checked, module_there, none_checked}
+use Rattle.bundle_link.proofs.CheckLemmas.{are_modules, fault_checked, none_checked}
 use Rattle.bundle_link.proofs.FileLemmas.{at_place}
 use Rattle.bundle_link.proofs.link.Linker.check.Goals as goal
 

@@ -2,7 +2,6 @@
 use Rattle.std.proofs.Common.{ℕ, List, map, sym, subst}
 use Rattle.std.specs.Prelude.{IsPermutation}
 use Rattle.std.proofs.lemmas.Result.{on_ok_weaker}
-use Rattle.bundle_tree_piece.specs.Item.{Item}
 use Rattle.bundle_merge_parts.specs.Parts.{in_order as in_order_of}
 use Rattle.bundle_rules.specs.Parts.{Parts, in_order}
 use Rattle.bundle_merge_modules.specs.Held.{parts_held, trees_of}
