@@ -1,1 +1,4 @@
+pub mod Prepared
+pub mod Read
+pub mod Placed
 pub mod Refusals

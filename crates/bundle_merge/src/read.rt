@@ -1,10 +1,15 @@
 //! What the prepared items of a module say: what it asks for and gives, what its names denote, and which of the items
 //! holds its `import.meta`.
 
-ghost use Rattle.std.specs.Prelude.{IfErr, List};
+ghost use Rattle.std.specs.Prelude.{◌≡◌, ◌∷◌, [], IfErr, IfOk, List, drop, map, option_map, take, if◌then◌else◌};
 ghost use Rattle.bundle_tree_names.specs.FileName.{name_of};
-ghost use Rattle.bundle_tree_piece.specs.Item.{Item};
+ghost use Rattle.bundle_tree_piece.specs.Item as h;
+ghost use Rattle.bundle_tree_piece.specs.Item.{Item, item_of};
+ghost use Rattle.bundle_tree_listed.specs.Tree.{node};
+ghost use Rattle.bundle_tree_places.specs.Marks.{ident_of};
+ghost use Rattle.bundle_rules.specs.Entries as entries;
 ghost use Rattle.bundle_link.specs.Refusals.{IsTreeRefusal};
+ghost use Rattle.bundle_merge.specs.Read.{first_declared, held_by, own_list};
 
 use bundle_link::link::{Linker, TransformedModule};
 use bundle_link_reached::leads_of;
@@ -13,11 +18,11 @@ use bundle_link_targets::LinkModule;
 use bundle_merge_items::Part;
 use bundle_scope_denote::{Denotations, ModuleKind, Reading, denotations};
 use bundle_tree_ast::{Module, ModuleItem};
-use bundle_tree_leaf::MetaPropKind;
 use bundle_tree_list::pieces;
 use bundle_tree_names::{Error, ModuleId};
 use bundle_tree_piece::{Node, Piece, Role};
 use bundle_tree_places::Name;
+use bundle_tree_places::nodes::has_import_meta;
 use indexmap::{IndexMap, IndexSet};
 use std::alloc::{AllocError, Global};
 
@@ -95,17 +100,16 @@ pub(crate) fn read_module<'a, 'x>(
 }
 
 // What a module's prepared items are. Where `import.meta` stands in them the first is the statement that holds it.
-fn own_of<'x>(alloc: Global, items: &'x [ModuleItem]) -> Result<Own<'x>, AllocError> {
+fn own_of<'x>(alloc: Global, items: &'x [ModuleItem]) -> Result<Own<'x>, AllocError>
+    ensures items { IfOk result (λ own. own.items.now ≡ items.now) }
+    ensures written { IfOk result (λ own. option_map ident_of own.written ≡ held_by items.now) }
+    ensures list { IfOk result (λ own. map item_of own.pieces.items ≡ own_list items.now) }
+{
     let all = pieces(alloc, items)?;
-    let front = items.get(..front_count(items, &all)).unwrap_or(&[]);
-    let statement = pieces(alloc, front)?;
-    let written = name_in(&statement);
-    let own = if written.is_some() {
-        statement.len()
-    } else {
-        0
-    };
-    let pieces = module_list(alloc, all.get(own..).unwrap_or(&[]))?;
+    let front = pieces(alloc, front_in(items, &all))?;
+    let written = name_in(&front);
+    let own = if written.is_some() { front.len() } else { 0 };
+    let pieces = module_list(alloc, behind(all.as_slice(), own))?;
     Ok(Own {
         written,
         items,
@@ -113,46 +117,60 @@ fn own_of<'x>(alloc: Global, items: &'x [ModuleItem]) -> Result<Own<'x>, AllocEr
     })
 }
 
-// How many of a module's items are the statement that holds its `import.meta`, where this is their list.
-fn front_count<'x>(items: &[ModuleItem], list: &[Piece<'x>]) -> usize {
-    if !items.is_empty() && list.iter().any(is_import_meta) {
-        1
+// The first of a module's items, where `import.meta` stands in them, and this is their list.
+fn front_in<'x>(items: &'x [ModuleItem], list: &[Piece<'x>]) -> &'x [ModuleItem]
+    ensures { result.now
+        ≡ (if entries.has_import_meta (map item_of list.now) then take 1 items.now else []) }
+{
+    if has_import_meta(list) {
+        items.get(..1).unwrap_or(&[])
     } else {
-        0
+        &[]
     }
 }
 
-fn is_import_meta(piece: &Piece) -> bool {
-    match piece {
-        Piece::Open { node, .. } => match node {
-            Node::MetaPropExpr { kind } => *kind == MetaPropKind::ImportMeta,
-            _ => false,
-        },
-        _ => false,
+// What stands behind so many elements.
+fn behind<T>(list: &[T], count: usize) -> &[T]
+    ensures { result.now ≡ drop count list.now }
+{
+    match list.get(count..) {
+        Some(rest) => rest,
+        None => &[],
     }
 }
 
 // The first name that is declared in a list.
-fn name_in<'x>(list: &[Piece<'x>]) -> Option<Name<'x>> {
+fn name_in<'x>(list: &[Piece<'x>]) -> Option<Name<'x>>
+    ensures { option_map ident_of result ≡ first_declared (map item_of list.now) }
+{
     for piece in list {
-        if let Piece::Ident {
-            sym,
-            ctxt,
-            role: Role::Binding,
-            ..
-        } = piece
-        {
-            return Some(Name {
-                sym: *sym,
-                ctxt: *ctxt,
-            });
+        if let Some(name) = declared_name(*piece) {
+            return Some(name);
         }
     }
     None
 }
 
+// The name that an element declares.
+fn declared_name<'x>(piece: Piece<'x>) -> Option<Name<'x>>
+    ensures { option_map ident_of result ≡ first_declared (map item_of (piece.entry ∷ [])) }
+{
+    match piece {
+        Piece::Ident {
+            sym,
+            ctxt,
+            role: Role::Binding,
+            ..
+        } => Some(Name { sym, ctxt }),
+        _ => None,
+    }
+}
+
 // The list of a module of items with this list.
-fn module_list<'x>(alloc: Global, items: &[Piece<'x>]) -> Result<Vec<Piece<'x>>, AllocError> {
+fn module_list<'x>(alloc: Global, items: &[Piece<'x>]) -> Result<Vec<Piece<'x>>, AllocError>
+    ensures { IfOk result (λ list.
+        map item_of list.items ≡ node 0 h.Module (map item_of items.now)) }
+{
     let mut list = Vec::new(alloc);
     list.push(Piece::Open {
         field: 0,

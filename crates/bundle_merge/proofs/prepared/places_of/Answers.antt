@@ -1,0 +1,12 @@
+-- One module more.
+use Rattle.std.proofs.Common.{ap, sym, ◌∙◌}
+use Rattle.bundle_order_graph.specs.Nodes.{added}
+use Rattle.bundle_link_reached.proofs.NumbersLemmas.{once-next}
+use Rattle.bundle_merge.proofs.prepared.places_of.Goals as goal
+
+pub loop-id-preserved : goal.loop-id-preserved
+loop-id-preserved c =
+    let its = c.id-item.result in
+    c.in_ok-insert.ensures.keys
+    ∙ ap (λ ids. added ids its) c.loop-id.invariant
+    ∙ sym (once-next c.args.list.now c.loop-id.id-index its c.loop-id-test.true c.id-item.is)

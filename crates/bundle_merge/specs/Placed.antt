@@ -1,0 +1,79 @@
+-- What was read of the modules of a program, by their places on its list.
+use Rattle.std.specs.Prelude.{◌≡◌, ℕ, ◌<◌, List, Some, None, Contains, length, map, slice_get}
+use Rattle.std.specs.List.{flat_map}
+use Rattle.std.specs.Option.{option_and_then}
+use Rattle.indexmap.specs.IndexMap.{get_by_text}
+use Rattle.bundle_tree_names.specs.FileName.{Name}
+use Rattle.bundle_tree_piece.specs.Item as h
+use Rattle.bundle_tree_piece.specs.Item.{item_of}
+use Rattle.bundle_tree_listed.specs.Tree.{module_item_items, node}
+use Rattle.bundle_rules.specs.Cleared.{cleared}
+use Rattle.bundle_rules.specs.Declarations.{BySymbol}
+use Rattle.bundle_rules.specs.Doubled.{first_doubled}
+use Rattle.bundle_rules.specs.Entries.{has_import_meta}
+use Rattle.bundle_rules.specs.Faults.{IsFaultless}
+use Rattle.bundle_rules.specs.Judging.{requests_in}
+use Rattle.bundle_rules.specs.Meaning.{HasKind}
+use Rattle.bundle_rules.specs.Nodes.{Text}
+use Rattle.bundle_rules.specs.Program.{Program, tree_of, IsReached, IsList}
+use Rattle.bundle_rules.specs.Scopes.{ModuleKind}
+use Rattle.bundle_rules.specs.Tables.{IsChecked}
+use Rattle.bundle_scope_denote.specs.Listed.{IsTable}
+use Rattle.bundle_scope_renamed.specs.fit.Fits.{IsFit}
+use Rattle.bundle_scope_renamed.specs.fit.Sorts.{AModule}
+use Rattle.bundle_link_index.specs.Programs.{IsTableOf}
+use Rattle.bundle_link_index.specs.declared.target.LinkModule.{LinkModule}
+use Rattle.bundle_link_reached.specs.Default.{DeclaresDefaultAlone}
+use Rattle.bundle_link_reached.specs.Leads.{place_in}
+use Rattle.bundle_link_targets.specs.Meant.{IsModuleTree}
+use Rattle.bundle_merge_whole.specs.sound.Known.{LeadsAll}
+use Rattle.bundle_merge_names.specs.declared.part.Part.{Part}
+
+-- what is so of the modules that the entry of a program reaches, which stand on this list: a check of linking finds
+-- nothing, no name is declared twice, each request leads to a module, and each tree is that of a module
+pub record AreRight (p : Program) (list : List ℕ) : Type 0 where
+  pub is_list : IsList p list
+  pub checked : IsChecked p None
+  pub undoubled : (m : ℕ) (kind : ModuleKind) →
+      IsReached p m →
+      HasKind p m kind →
+      first_doubled kind (tree_of p m) ≡ None
+  pub trees : (m : ℕ) → IsReached p m → IsModuleTree (tree_of p m)
+  pub default : (m : ℕ) → IsReached p m → DeclaresDefaultAlone (tree_of p m)
+  pub fit : (m : ℕ) → IsReached p m → IsFit AModule 0 (tree_of p m)
+  pub leads : LeadsAll p
+
+-- a part is what was read of module m: its list, which is the module's tree but for contexts and notes, what the names
+-- in it denote, its table, and where its requests lead among the places of the list; it has no statement in front that
+-- holds an `import.meta`
+pub record IsRead (p : Program) (list : List ℕ) (m : ℕ) (part : Part) : Type 0 where
+  pub tree : tree_of p m ≡ cleared (map item_of part.pieces.now)
+  pub listed : map item_of part.pieces.now ≡ node 0 h.Module (flat_map (module_item_items 0) part.items.now)
+  pub names : (kind : ModuleKind) →
+      HasKind p m kind →
+      IsTable BySymbol kind (map item_of part.pieces.now) part.denotations.now
+  pub table : IsTableOf p m part.tables.now
+  pub meta : part.tables.now.has_import_meta ≡ has_import_meta (tree_of p m)
+  pub leads : (s : Text) →
+      Contains (requests_in p.settings (tree_of p m)) s →
+      get_by_text part.leads.now s ≡ option_and_then (place_in list) (p.leads m s)
+  pub within : (d : ℕ) (s : Text) → get_by_text part.leads.now s ≡ Some d → d < length list
+  pub faultless : (file : Name) × IsFaultless file (map item_of part.pieces.now)
+  pub written : part.written ≡ None
+
+-- what was read of each module, by its place on the list, and the same as it is linked
+pub record ArePlaced (p : Program) (list : List ℕ) (links : List LinkModule) (parts : List Part) : Type 0 where
+  pub long_links : length links ≡ length list
+  pub long : length parts ≡ length list
+  pub each : (k m : ℕ) (part : Part) →
+      slice_get list k ≡ Some m →
+      slice_get parts k ≡ Some part →
+      IsRead p list m part
+  pub tables : (k : ℕ) (link : LinkModule) (part : Part) →
+      slice_get links k ≡ Some link →
+      slice_get parts k ≡ Some part →
+      link.tables.now ≡ part.tables.now
+  pub leads : (k : ℕ) (link : LinkModule) (part : Part) →
+      slice_get links k ≡ Some link →
+      slice_get parts k ≡ Some part →
+      link.leads.now ≡ part.leads.now
