@@ -204,10 +204,11 @@ module _ (p : Program) (entry : ℕ) (call : Call) (w : IsCallOf p entry call) (
       blocks above))
 
   -- why they are not merged
-  pub all-refused : (bundle : BundleParts) (found : Option ℕ) (refusal : Unlinked) →
+  pub all-refused : (bundle : BundleParts) (error : MergeError) (found : Option ℕ)
+      (refusal : Unlinked) → error ≡ e.ContextsUsedUp found →
       ((q : Program) (list : List ℕ) (answers : ℕ → Option (List Item)) →
       AreBundleParts q list answers bundle →
-      RefusesNames q list answers (position bundle.contexts) (e.ContextsUsedUp found)) →
+      RefusesNames q list answers (position bundle.contexts) error) →
       AreEntryParts call linked.reached bodies (length linked.reached.leads.items)
       bundle.parts.now → AllZip IsAnswerRead metas bundle.answers.now →
       bundle.linking.now ≡ linked.linking → bundle.blocks.now ≡ linked.plan.blocks.items →
@@ -215,9 +216,10 @@ module _ (p : Program) (entry : ℕ) (call : Call) (w : IsCallOf p entry call) (
       IfNone bundle.contexts.next (4294967295 < call.program.now.count * 2 + 2) →
       TellsContexts call linked.reached found refusal →
       IsRefusedMaking its call linked (answers_in metas) refusal
-  all-refused bundle found refusal refuses parts answers linking blocks above none tells =
+  all-refused bundle error found refusal is refuses parts answers linking blocks above none tells =
       refused-making p entry call w linked l (answers_in metas) (position bundle.contexts) found
       refusal (free-above bundle.contexts.next call.program.now.count above none)
+      (subst (RefusesNames its list (answers_in metas) (position bundle.contexts)) is
       (refuses its list (answers_in metas)
       (are-parts p entry call w linked l bodies are-bodies metas read bundle parts answers linking
-      blocks above)) tells
+      blocks above))) tells

@@ -83,9 +83,9 @@ one-answer (Some meta) (Some answered) handed read =
     record {
       told = ap (λ given. kept_properties given) (sym handed.0);
       listed = ap (map item_of) handed.1 ∙ its.list
-      ∙ ap (λ given. properties_tree (flat_map (key_value_prop_items 0) given)) (sym handed.0);
+          ∙ ap (λ given. properties_tree (flat_map (key_value_prop_items 0) given)) (sym handed.0);
       table = subst (IsTable BySymbol Es (map item_of answered.pieces.now)) (sym handed.2)
-      (subst (λ list. IsTable BySymbol Es (map item_of list) meta.names) (sym handed.1) its.names);
+          (subst (λ list. IsTable BySymbol Es (map item_of list) meta.names) (sym handed.1) its.names);
     }
 
 -- each answer is handed on with what was read of it
@@ -130,10 +130,10 @@ module _ (p : Program) (entry : ℕ) (call : Call) (w : IsCallOf p entry call) (
   pub below-reached : (k : ℕ) → IsReached q k ↔ (k < n)
   below-reached k = (
     λ reached. (let below = from-there zero n k
-    ((list-reached q (numbers_from zero n) is-list k).1 reached) in omega (arith, below)),
+        ((list-reached q (numbers_from zero n) is-list k).1 reached) in omega (arith, below)),
     λ below. (let same : 0 + k ≡ k = omega arith in
-    (list-reached q (numbers_from zero n) is-list k).0
-    (subst (Contains (numbers_from zero n)) same (there-from zero n k below))),
+        (list-reached q (numbers_from zero n) is-list k).0
+        (subst (Contains (numbers_from zero n)) same (there-from zero n k below))),
   )
 
   -- the modules by their places are sound
@@ -200,11 +200,11 @@ module _ (p : Program) (entry : ℕ) (call : Call) (w : IsCallOf p entry call) (
         record {
           tree = source.list ∙ ap cleared (sym list);
           listed = list ∙ source.listed
-          ∙ ap (λ items. node 0 h.Module (flat_map (module_item_items 0) items)) (sym its.items);
+              ∙ ap (λ items. node 0 h.Module (flat_map (module_item_items 0) items)) (sym its.items);
           table = λ kind has. subst (λ items. IsTable BySymbol kind items part.denotations.now)
-          (sym list) (subst (IsTable BySymbol kind (map item_of its.source.pieces.items))
-          (sym its.denotations)
-          (names-of kind its.source (found_at bodies k) source.names (body kind its.there has)));
+              (sym list) (subst (IsTable BySymbol kind (map item_of its.source.pieces.items))
+              (sym its.denotations)
+              (names-of kind its.source (found_at bodies k) source.names (body kind its.there has)));
           tables = subst (IsTableOf q k) (sym its.tables) source.table;
           meta = ap (λ (t : Tables). t.has_import_meta) its.tables ∙ source.meta;
           leads = λ s. l.links.by_places.leads k part.leads.now s its.leads;
@@ -237,7 +237,7 @@ module _ (p : Program) (entry : ℕ) (call : Call) (w : IsCallOf p entry call) (
         places = ap (numbers_from zero) (sym long);
         linking = subst (IsLinkingOf q) (sym linking) l.links.linked;
         handed = subst (HandsOver q (numbers_from zero n)) (sym linking)
-        (subst (λ (list : List ℕ). HandsOver q list linked.linking) (below-from n) l.links.handed);
+            (subst (λ (list : List ℕ). HandsOver q list linked.linking) (below-from n) l.links.handed);
         modules = l.links.modules;
         parts = λ k part at.
             (let within = slice_get_within bundle.parts.now k part at in

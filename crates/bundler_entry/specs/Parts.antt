@@ -43,8 +43,7 @@ pub record AreBodies (q : Program) (call : Call) (reached : Reached) (n : ℕ)
 
 -- what the names of a module denote: as in the body of a function, where that was read
 abbrev pub names_by : Source → Option Denotations → Denotations
-names_by source None = source.names
-names_by source (Some names) = names
+names_by source found = unwrap_or found source.names
 
 -- a part is what was read of module k, with where its requests lead and the context of its file
 pub record IsEntryPart (call : Call) (reached : Reached) (bodies : List (Option Denotations))

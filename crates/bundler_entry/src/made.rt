@@ -1,6 +1,6 @@
 //! The module that the modules of an entry make.
 
-ghost use Rattle.std.specs.Prelude.{◌≡◌, ℕ, IfErr, IfOk, IfSome, IsSome, List, None, Some, length, map, slice_get};
+ghost use Rattle.std.specs.Prelude.{◌≡◌, ℕ, IfErr, IfOk, IfSome, IsSome, List, None, Some, length, map, option_copied, slice_get, unwrap_or};
 ghost use Rattle.std.specs.List.{AllZip};
 ghost use Rattle.bundle_tree_names.specs.declared.file_name.FileName as names;
 ghost use Rattle.bundle_tree_piece.specs.Item.{item_of};
@@ -74,7 +74,12 @@ fn body_at<'p, 'x>(
 fn body_of<'x>(alloc: Global, source: &Source<'x>) -> Result<Denotations<'x>, AllocError>
     ensures { IfOk result (IsTable BySymbol Cjs (map item_of source.now.pieces.items)) }
 {
-    denotations(alloc, source.pieces.as_slice(), ModuleKind::Cjs, Reading::BySymbol)
+    denotations(
+        alloc,
+        source.pieces.as_slice(),
+        ModuleKind::Cjs,
+        Reading::BySymbol,
+    )
 }
 
 /// The module that all modules make, where this is what the hook answered, by their numbers.
@@ -178,10 +183,8 @@ fn part_of<'t, 'p: 't, 'x>(
 {
     let source = source_at(call, reached, module)?;
     let (_, id) = file_at(call, reached, module)?;
-    let denotations = match bodies.get(module) {
-        Some(Some(names)) => names,
-        _ => &source.names,
-    };
+    let body = body_in(bodies, module);
+    let denotations = names_of(&source.names, body);
     Some(Part {
         items: source.items,
         pieces: source.pieces.as_slice(),
@@ -191,6 +194,30 @@ fn part_of<'t, 'p: 't, 'x>(
         local: local_context(id.as_u32()),
         written: None,
     })
+}
+
+// What was found of a module, read as the body of a function.
+fn body_in<'t, 'x>(
+    bodies: &'t [Option<Denotations<'x>>],
+    module: usize,
+) -> Option<&'t Option<Denotations<'x>>>
+    ensures { option_copied result ≡ slice_get bodies.entry.now «module» }
+{
+    bodies.get(module)
+}
+
+// What the names of a module denote: as in the body of a function, where that was read, or else these.
+fn names_of<'t, 'x>(
+    own: &'t Denotations<'x>,
+    body: Option<&'t Option<Denotations<'x>>>,
+) -> &'t Denotations<'x>
+    ensures { result.now ≡ unwrap_or (unwrap_or (option_copied body.entry) None) own.entry.now }
+{
+    match body {
+        Some(Some(names)) => names,
+        Some(None) => own,
+        None => own,
+    }
 }
 
 // What the hook answered, as it is merged.

@@ -18,9 +18,9 @@ returns-clause-made c =
     (λ made is. λ p entry w l read answered. record {
       merged = c.in_ok-merged.merged.module;
       is_merged = c.in_ok-merged.ensures.merged p entry w l
-      (subst (AreBodies l.links.places call reached (length reached.places.items))
-      (sym c.as_slice.ensures.value) (c.in_ok-bodies.ensures l.links.places l.links.linked))
-      read answered;
+          (subst (AreBodies l.links.places call reached (length reached.places.items))
+          (sym c.as_slice.ensures.value) (c.in_ok-bodies.ensures l.links.places l.links.linked))
+          read answered;
       finished = is;
     })
     c.finished.ensures.finished

@@ -51,9 +51,9 @@ returns-clause-refused c = λ p entry w l are read answered.
     let linked = c.args.linked.now in
     let bodies = c.args.bodies.now in
     let metas = c.args.metas.now in
-    all-refused p entry call w linked l bodies are metas read _ c.in-Err-ContextsUsedUp.module
-    c.in_ok-contexts_refusal-in-Err-ContextsUsedUp.field-0
-    c.in-Err-ContextsUsedUp.ensures.refused
+    let error = c.in-Err-ContextsUsedUp in
+    all-refused p entry call w linked l bodies are metas read _ error.field-0 error.module
+    c.in_ok-contexts_refusal-in-Err-ContextsUsedUp.field-0 error.field-0-is error.ensures.refused
     (subst (λ list. AreEntryParts call linked.reached bodies (length linked.reached.leads.items) list)
     (sym c.as_slice.ensures.value)
     (c.in_ok-parts.ensures (has-places p entry call w linked l) (has-files p entry call w linked l)))
