@@ -14,13 +14,10 @@ use Rattle.bundle_rules.specs.Entries.{has_import_meta}
 use Rattle.bundle_rules.specs.Program.{Program, tree_of, IsReached}
 use Rattle.bundle_rules.specs.Statements.{own_statements}
 use Rattle.bundle_scope_renamed.specs.fit.Sorts.{AProperty, Many, slot}
-use Rattle.bundle_scope_renamed.specs.fit.Fits.{AreEach, AreFit, ended, next}
-use Rattle.bundle_scope_renamed.proofs.fit.Rows.{last_each}
-use Rattle.bundle_scope_renamed.proofs.grown.Grown.{key_value_prop_fit}
+use Rattle.bundle_scope_renamed.specs.fit.Fits.{AreFit}
 use Rattle.bundle_link_reached.specs.Alike.{IsAt}
 use Rattle.bundle_merge_whole.specs.planned.Decided.{index_of}
 use Rattle.bundle_merge_whole.specs.planned.Placed.{id_at}
-use Rattle.bundle_merge_whole.proofs.fit.Clearing.{fit_cleared}
 use Rattle.bundle_merge_whole.proofs.moved.Due.{reach-named, turned-round}
 use Rattle.bundle_merge_whole.proofs.moved.Moved.{places-renamed}
 use Rattle.bundle_merge_whole.proofs.moved.Owed.{AreRenamed}
@@ -36,6 +33,7 @@ use Rattle.bundler_entry.specs.Merged.{decided_in}
 use Rattle.bundler_entry.specs.declared.call.Call.{Call}
 use Rattle.bundler_entry.specs.declared.entry.Answer.{Answer}
 use Rattle.bundler_entry.specs.declared.linked.Linked.{Linked}
+use Rattle.bundler_entry.proofs.AnsweredLemmas.{properties-fit}
 use Rattle.bundler_entry.proofs.BundleLemmas.{made-bundle}
 use Rattle.bundler_entry.proofs.HeldLemmas.{all-held}
 use Rattle.bundler_entry.proofs.Known as known
@@ -51,16 +49,6 @@ AreHeld q hooks given =
     (k : ℕ) (properties : List Item) → given k ≡ Some properties →
     IsTrue (has_import_meta (tree_of q k)) × MayHold q hooks k properties
     × AreFit (slot 0 Many AProperty ∷ []) properties
-
--- properties that are kept are a list of properties
-each-fit : (given : List (KeyValueProp Expr)) →
-    AreEach AProperty 0 (flat_map (key_value_prop_items 0) given)
-each-fit [] = ended
-each-fit (it ∷ given) = next (key_value_prop_fit 0 it) (each-fit given)
-
-kept-fit : (given : List (KeyValueProp Expr)) →
-    AreFit (slot 0 Many AProperty ∷ []) (kept_properties given)
-kept-fit given = fit_cleared (last_each (each-fit given))
 
 module _ (p : Program) (entry : ℕ) (call : Call) (w : IsCallOf p entry call) (linked : Linked)
     (l : IsLinkedEntry p call linked) where
@@ -140,7 +128,7 @@ module _ (p : Program) (entry : ℕ) (call : Call) (w : IsCallOf p entry call) (
         sym (ap has_import_meta (same-tree asked.1.0 k at)) ∙ asked.1.2.0,
         one-held may_give its.0 asked.1.0 k properties at asked.1.2 its.3,
         subst (AreFit (slot 0 Many AProperty ∷ [])) (sym its.3)
-            (kept-fit its.0.properties.items),
+            (properties-fit its.0.properties.items),
       )
 
   -- BUNDLED: what is made is the bundle of the entry

@@ -1,17 +1,16 @@
 -- What was read of the modules that an entry reaches is that of a program by places, which is alike.
-use Rattle.std.proofs.Common.{◌≡◌, ◌↔◌, ◌⊎◌, inl, inr, ℕ, zero, suc, ◌+◌, ◌-◌, ◌<◌, Bool, true, List, [], ◌∷◌, Option, Some, None, Contains, length, map, refl, sym, ap, ◌∙◌, subst, arith}
+use Rattle.std.proofs.Common.{◌≡◌, ◌↔◌, ℕ, ◌-◌, ◌<◌, true, List, [], Option, Some, None, Contains, length, map, refl, sym, ap, ◌∙◌, subst, arith}
 use Rattle.std.specs.Prelude.{IfSome, option_map, slice_get, unwrap_or}
 use Rattle.std.specs.Borrow.{Bor}
 use Rattle.std.specs.Option.{option_and_then}
 use Rattle.std.specs.declared.alloc.Global.{Global}
 use Rattle.std.specs.declared.string.String.{String}
-use Rattle.std.proofs.lemmas.Bool.{cases_lt}
 use Rattle.std.proofs.lemmas.List.{length-map}
-use Rattle.std.proofs.lemmas.Option.{none-some, same_Some, slice_get-map, slice_get_within, slice_get_past}
+use Rattle.std.proofs.lemmas.Option.{none-some, same_Some, slice_get-map, slice_get_within}
 use Rattle.indexmap.specs.IndexMap.{IndexMap, get_by_text}
 use Rattle.bundle_tree_piece.specs.Item.{Item, item_of}
 use Rattle.bundle_tree_piece.specs.declared.piece.Piece.{Piece}
-use Rattle.bundle_tree_names.specs.FileName.{Name, name_of}
+use Rattle.bundle_tree_names.specs.FileName.{name_of}
 use Rattle.bundle_tree_names.specs.declared.file_name.FileName.{FileName}
 use Rattle.bundle_rules.specs.Doubled.{first_doubled}
 use Rattle.bundle_rules.specs.Nodes.{Text}
@@ -44,11 +43,11 @@ use Rattle.bundle_link_reached.proofs.RequestLemmas.{requests_to}
 use Rattle.bundle_link_reached.proofs.NumbersLemmas.{there_is}
 use Rattle.bundle_link_reached.proofs.ToldLemmas.{all_below, only_below}
 use Rattle.bundle_link_reached.specs.Files.{numbers_of}
-use Rattle.bundle_link_reached.specs.Judged.{AreLinkedAs, AreListsOf, AreReadOf, IsReadable, numbers_below, module_of, says}
+use Rattle.bundle_link_reached.specs.Judged.{AreLinkedAs, AreReadOf, IsReadable, numbers_below, module_of, says}
 use Rattle.bundle_link_reached.specs.declared.judging.Told.{Told}
 use Rattle.bundle_link_reached.specs.declared.reached.Reached.{Reached}
 use Rattle.bundler_entry.specs.Source.{IsSourceOf}
-use Rattle.bundler_entry.specs.Linked.{AreByPlaces, AreLinkedIn, AreLists, AreParts, HasPlace, HasPlaces, IsCallOf, IsFileAt, IsReachedIn, TellsFileAt, ids_of, source_in}
+use Rattle.bundler_entry.specs.Linked.{AreByPlaces, AreLinkedIn, AreLists, AreParts, HasPlaces, IsCallOf, IsFileAt, IsReachedIn, TellsFileAt, ids_of, source_in}
 use Rattle.bundler_entry.specs.Unlinked.{error_of}
 use Rattle.bundler_entry.specs.declared.call.Call.{Call}
 use Rattle.bundler_entry.specs.declared.source.Source.{Source}

@@ -1,7 +1,7 @@
 -- What the modules of an entry make is what they are as one, and where they make nothing, a module
 -- of theirs or the entry is told.
-use Rattle.std.proofs.Common.{◌≡◌, ℕ, zero, suc, ◌+◌, ◌*◌, ◌<◌, ◌≤◌, Bool, List, [], ◌∷◌, ◌++◌, Option, Some, None, Contains, length, map, refl, sym, ap, ◌∙◌, subst, arith}
-use Rattle.std.specs.Prelude.{IfNone, IfSome, slice_get, unwrap_or}
+use Rattle.std.proofs.Common.{◌≡◌, ℕ, zero, ◌+◌, ◌*◌, ◌<◌, ◌≤◌, Bool, List, [], ◌∷◌, ◌++◌, Option, Some, None, length, map, refl, sym, ap, ◌∙◌, subst, arith}
+use Rattle.std.specs.Prelude.{IfNone, IfSome, unwrap_or}
 use Rattle.std.specs.List.{AllZip, flat_map}
 use Rattle.bundle_tree_ast.specs.declared.module.Module.{Module}
 use Rattle.bundle_tree_listed.specs.Tree.{module_item_items, module_items, node}
@@ -19,7 +19,7 @@ use Rattle.bundle_link_targets.specs.declared.linking.Linking.{Linking}
 use Rattle.bundle_merge_meaning.specs.joined.Joined.{joined}
 use Rattle.bundle_merge_whole.specs.made.Alone as a
 use Rattle.bundle_merge_whole.specs.made.Alone.{AreSound, IsHolder}
-use Rattle.bundle_merge_whole.specs.made.Given.{Holder, AnsweredOf, HelperParameter, HelperVariable, InsideOf, NameOf, TopOf}
+use Rattle.bundle_merge_whole.specs.made.Given.{Holder, AnsweredOf, InsideOf, TopOf}
 use Rattle.bundle_merge_whole.specs.made.Made.{AreMade}
 use Rattle.bundle_merge_whole.specs.planned.Blocks.{block_of}
 use Rattle.bundle_merge_whole.specs.planned.Decided.{Decided, numbers_from}

@@ -1,19 +1,17 @@
 -- What is merged for an entry is what its modules, by their places, are.
-use Rattle.std.proofs.Common.{◌≡◌, ◌↔◌, ℕ, zero, suc, ◌+◌, ◌*◌, ◌<◌, ◌≤◌, Bool, true, false, List, [], ◌∷◌, Option, Some, None, Contains, length, map, refl, sym, ap, ◌∙◌, subst, arith}
-use Rattle.std.specs.Prelude.{IfNone, IfSome, IsTrue, option_map, slice_get, unwrap_or}
+use Rattle.std.proofs.Common.{◌≡◌, ◌↔◌, ℕ, zero, suc, ◌+◌, ◌*◌, ◌<◌, ◌≤◌, List, [], ◌∷◌, Option, Some, None, Contains, length, map, refl, sym, ap, ◌∙◌, subst, arith}
+use Rattle.std.specs.Prelude.{IfNone, IfSome, option_map, slice_get, unwrap_or}
 use Rattle.std.specs.List.{AllZip, flat_map}
-use Rattle.std.proofs.lemmas.Option.{none-some, same_Some, slice_get_within}
+use Rattle.std.proofs.lemmas.Option.{slice_get_within}
 use Rattle.bundle_tree_piece.specs.Item as h
 use Rattle.bundle_tree_piece.specs.Item.{Item, item_of}
 use Rattle.bundle_tree_listed.specs.Tree.{key_value_prop_items, module_item_items, node}
-use Rattle.bundle_tree_names.specs.declared.file_name.FileName.{FileName}
 use Rattle.bundle_order_sort.specs.declared.plan.Block.{Block}
 use Rattle.bundle_rules.specs.Bundle.{properties_tree}
 use Rattle.bundle_rules.specs.Cleared.{cleared}
 use Rattle.bundle_rules.specs.Declarations.{BySymbol}
 use Rattle.bundle_rules.specs.Entries.{has_import_meta}
 use Rattle.bundle_rules.specs.Kept.{local_context}
-use Rattle.bundle_rules.specs.Meaning.{HasKind}
 use Rattle.bundle_rules.specs.Program.{Program, tree_of, AreBlocks, IsList, IsReached}
 use Rattle.bundle_rules.specs.Scopes.{ModuleKind, Es, Cjs}
 use Rattle.bundle_rules.specs.Statements.{own_statements}
@@ -25,7 +23,6 @@ use Rattle.bundle_link_reached.proofs.NumberLemmas.{held}
 use Rattle.bundle_link_reached.proofs.NumbersLemmas.{there_is}
 use Rattle.bundle_link_targets.proofs.ListLemmas.{map-on}
 use Rattle.bundle_link_targets.specs.Linked.{HandsOver, IsLinkingOf}
-use Rattle.bundle_link_targets.specs.declared.linking.Linking.{Linking}
 use Rattle.bundle_merge_whole.specs.made.Alone.{AreSound}
 use Rattle.bundle_merge_whole.specs.planned.Blocks.{block_of}
 use Rattle.bundle_merge_whole.specs.planned.Decided.{DecidedBlock, numbers_from}
@@ -36,17 +33,15 @@ use Rattle.bundle_merge_whole.proofs.sound.Blocks.{planned-blocks}
 use Rattle.bundle_merge_whole.proofs.sound.Found.{below-from, entry-at, from-there, there-from}
 use Rattle.bundle_merge_whole.proofs.sound.Sound.{places-list, sound}
 use Rattle.bundle_merge_names.specs.Bundle.{AreAnswers, AreBundleParts, IsPartOf}
-use Rattle.bundle_merge_names.specs.Numbers.{position}
 use Rattle.bundle_merge_names.specs.declared.part.Answered.{Answered}
 use Rattle.bundle_merge_names.specs.declared.part.BundleParts.{BundleParts}
 use Rattle.bundle_merge_names.specs.declared.part.Part.{Part}
 use Rattle.bundle_merge_items.specs.Merged.{AreBlocksOnce}
 use Rattle.bundle_merge_items.proofs.Once.{blocks-once}
 use Rattle.bundler_entry.specs.Hook.{AreRead, IsRead}
-use Rattle.bundler_entry.specs.Linked.{HasFiles, HasPlaces, IsCallOf, IsFileAt, IsLinkedEntry, ids_of, source_in}
+use Rattle.bundler_entry.specs.Linked.{HasFiles, HasPlaces, IsCallOf, IsLinkedEntry, ids_of}
 use Rattle.bundler_entry.specs.Made.{answers_in, kept_properties}
-use Rattle.bundler_entry.specs.Parts.{AreBodies, AreEntryParts, IsAnswerRead, IsBodyAt, IsEntryPart, IsReadAsBody, found_at, names_by}
-use Rattle.bundler_entry.specs.Source.{IsSourceOf}
+use Rattle.bundler_entry.specs.Parts.{AreBodies, AreEntryParts, IsAnswerRead, IsEntryPart, IsReadAsBody, found_at, names_by}
 use Rattle.bundler_entry.specs.declared.call.Call.{Call}
 use Rattle.bundler_entry.specs.declared.linked.Linked.{Linked}
 use Rattle.bundler_entry.specs.declared.meta.ReadMeta.{ReadMeta}

@@ -21,9 +21,3 @@ error_of (u.RequiredEntry file specifier) = e.RequiredEntry file specifier
 error_of (u.AwaitInCommonJs file) = e.AwaitInCommonJs file
 error_of (u.ExternalUnderIife file specifier) = e.ExternalUnderIife file specifier
 error_of (u.ArgumentsUnderIife file) = e.ArgumentsUnderIife file
-
--- the refusal is for memory, or contexts are used up
-abbrev pub MayBeMerging : Unlinked → Type 0
-MayBeMerging u.OutOfMemory = Unit {0}
-MayBeMerging (u.ContextsUsedUp file) = Unit {0}
-MayBeMerging _ = ⊥

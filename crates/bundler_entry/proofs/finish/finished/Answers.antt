@@ -6,7 +6,6 @@ use Rattle.std.proofs.lemmas.Result.{IfOk-weaker}
 use Rattle.bundle_tree_listed.specs.Tree.{module_items}
 use Rattle.bundle_rules.specs.Forms.{wrapped}
 use Rattle.bundle_link.specs.Programs.{is_call}
-use Rattle.bundle_merge_forms.specs.Wrapped.{CanBeWrapped}
 use Rattle.bundler_entry.proofs.finish.finished.Goals as goal
 
 -- what is so of a value under a condition

@@ -1,5 +1,5 @@
 -- The names are those of keywords or, where bindings are renamed, those of the naming rule over them.
-use Rattle.std.proofs.Common.{◌≡◌, true, false, not, refl, ap, sym, ◌∙◌}
+use Rattle.std.proofs.Common.{not, refl, ap, sym, ◌∙◌}
 use Rattle.std.proofs.lemmas.Bool.{false≢true}
 use Rattle.std.proofs.lemmas.Result.{IfOk-weaker}
 use Rattle.bundler_entry.proofs.finish.names_of.Goals as goal

@@ -1,5 +1,5 @@
 -- What was merged is rebuilt with the names of its bindings.
-use Rattle.std.proofs.Common.{◌≡◌, List, map, ap, ◌∙◌, subst, if◌then◌else◌}
+use Rattle.std.proofs.Common.{List, map, ap, ◌∙◌, subst, if◌then◌else◌}
 use Rattle.std.proofs.lemmas.Result.{IfOk-weaker}
 use Rattle.bundle_tree_piece.specs.Item.{Item, item_of}
 use Rattle.bundle_tree_listed.specs.Tree.{module_items}

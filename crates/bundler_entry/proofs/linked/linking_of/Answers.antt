@@ -1,5 +1,5 @@
 -- What is told by places is told of the program.
-use Rattle.std.proofs.Common.{◌≡◌, ℕ, List, Result, length, refl, ap, sym, ◌∙◌, subst}
+use Rattle.std.proofs.Common.{List, Result, length, refl, sym, ◌∙◌, subst}
 use Rattle.std.specs.Borrow.{Bor}
 use Rattle.bundle_tree_piece.specs.declared.piece.Piece.{Piece}
 use Rattle.bundle_link_index.specs.declared.target.LinkModule.{LinkModule}

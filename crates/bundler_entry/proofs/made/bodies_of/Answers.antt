@@ -1,6 +1,4 @@
 -- Each module that is gone over goes last.
-use Rattle.std.proofs.Common.{◌≡◌, ℕ, length, subst, arith}
-use Rattle.bundler_entry.specs.Parts.{AreBodies}
 use Rattle.bundler_entry.proofs.MadeLemmas.{bodies-more}
 use Rattle.bundler_entry.proofs.made.bodies_of.Goals as goal
 

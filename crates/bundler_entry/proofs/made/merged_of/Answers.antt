@@ -1,5 +1,5 @@
 -- What is merged is what the modules of the entry are as one, and a refusal is of it.
-use Rattle.std.proofs.Common.{List, Option, length, refl, sym, subst}
+use Rattle.std.proofs.Common.{length, refl, sym, subst}
 use Rattle.std.specs.List.{AllZip}
 use Rattle.std.proofs.lemmas.Result.{err_from_is_err_and}
 use Rattle.bundler_entry.specs.Made.{for_memory}

@@ -1,5 +1,5 @@
 -- Each module is there, and goes last.
-use Rattle.std.proofs.Common.{◌≡◌, ◌∙◌, Some, length, refl, ap, subst, arith}
+use Rattle.std.proofs.Common.{◌≡◌, ◌∙◌, Some, length, refl, ap, subst}
 use Rattle.std.specs.Prelude.{IfSome, IsSome, slice_get}
 use Rattle.std.proofs.lemmas.Bool.{false≢true}
 use Rattle.std.proofs.lemmas.Option.{slice_get_read, slice_get_within}
