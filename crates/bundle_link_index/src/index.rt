@@ -22,7 +22,8 @@ use crate::target::Target;
 use bundle_link_search as places;
 use bundle_link_search::{Links, Search};
 use bundle_link_tables::{Export, Import, Tables};
-use indexmap::{IndexMap, IndexSet};
+use bundle_scope_denote::texts::TextMap;
+use indexmap::IndexSet;
 use std::alloc::{AllocError, Global};
 
 /// The name that no star gives.
@@ -239,7 +240,7 @@ fn add_entries<'a>(
     links: &mut Links,
     number: usize,
     exports: &[Export<'a>],
-    locals: &IndexMap<&'a str, Import<'a>>,
+    locals: &TextMap<&'a str, Import<'a>>,
 ) -> Result<(), AllocError>
     ensures { (imports : List ImportEntry) →
         Finds locals.now imports →
@@ -262,7 +263,7 @@ fn add_entry<'a>(
     links: &mut Links,
     number: usize,
     export: Export<'a>,
-    locals: &IndexMap<&'a str, Import<'a>>,
+    locals: &TextMap<&'a str, Import<'a>>,
 ) -> Result<(), AllocError>
     ensures { (imports : List ImportEntry) →
         Finds locals.now imports →

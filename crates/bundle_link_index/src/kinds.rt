@@ -12,6 +12,7 @@ ghost use Rattle.bundle_link_index.specs.Programs.{AreModulesOf, IsProgramOf};
 
 use crate::target::{LinkModule, Setting};
 use bundle_link_tables::{RequireCall, Source, Tables};
+use bundle_scope_denote::texts::TextSet;
 use indexmap::IndexSet;
 use std::alloc::{AllocError, Global};
 
@@ -34,7 +35,7 @@ pub struct Kinds<'m, 't, 'a> {
     pub list: &'m [usize],
     pub entry: usize,
     pub setting: Setting,
-    externals: IndexSet<&'a str>,
+    externals: TextSet<&'a str>,
     pub common_js: Vec<bool>,
 }
 
@@ -88,7 +89,7 @@ impl<'m, 't, 'a> Kinds<'m, 't, 'a> {
     pub fn lead(&self, number: usize, specifier: &str) -> Lead
         ensures { lead_told result ≡ lead_of self.now number specifier.now }
     {
-        if self.externals.contains(&specifier) {
+        if self.externals.has_text(specifier) {
             return Lead::External;
         }
         match self.required(number, specifier) {
@@ -120,10 +121,10 @@ impl<'m, 't, 'a> Kinds<'m, 't, 'a> {
 fn externals_of<'a>(
     alloc: Global,
     modules: &[LinkModule<'_, 'a>],
-) -> Result<IndexSet<&'a str>, AllocError>
+) -> Result<TextSet<&'a str>, AllocError>
     ensures { IfOk result (λ texts. HasTexts texts (handed.externals_of modules.now)) }
 {
-    let mut texts = IndexSet::new(alloc);
+    let mut texts = TextSet::new(alloc);
     for module in modules {
         add_externals(&mut texts, &module.tables.sources)?;
     }
@@ -131,10 +132,7 @@ fn externals_of<'a>(
 }
 
 // Adds those of a module.
-fn add_externals<'a>(
-    texts: &mut IndexSet<&'a str>,
-    sources: &[Source<'a>],
-) -> Result<(), AllocError>
+fn add_externals<'a>(texts: &mut TextSet<&'a str>, sources: &[Source<'a>]) -> Result<(), AllocError>
     ensures { (before : List Text) → HasTexts texts.old before →
         OnOk result (HasTexts texts.new (before ++ flat_map external_one sources.now)) }
 {
@@ -144,7 +142,7 @@ fn add_externals<'a>(
     Ok(())
 }
 
-fn add_external<'a>(texts: &mut IndexSet<&'a str>, source: Source<'a>) -> Result<(), AllocError>
+fn add_external<'a>(texts: &mut TextSet<&'a str>, source: Source<'a>) -> Result<(), AllocError>
     ensures { (before : List Text) → HasTexts texts.old before →
         OnOk result (HasTexts texts.new (before ++ external_one source.entry)) }
 {

@@ -8,14 +8,14 @@ ghost use Rattle.bundle_link_index.specs.Says.{answer_says, double, own_says, to
 use crate::index::Answer;
 use crate::own::{Given, Own};
 use bundle_link_search as places;
-use indexmap::IndexSet;
+use bundle_scope_denote::texts::TextSet;
 use std::alloc::{AllocError, Global};
 
 /// Names, and what own entries give, each once: its number is its place.
 #[derive(Drop)]
 pub(crate) struct Numbers<'a> {
-    pub(crate) names: IndexSet<&'a str>,
-    pub(crate) given: IndexSet<Given<'a>>,
+    pub(crate) names: TextSet<&'a str>,
+    pub(crate) given: TextSet<Given<'a>>,
 }
 
 impl<'a> Numbers<'a> {
@@ -24,8 +24,8 @@ impl<'a> Numbers<'a> {
         ensures { IsEmpty result }
     {
         Numbers {
-            names: IndexSet::new(alloc),
-            given: IndexSet::new(alloc),
+            names: TextSet::new(alloc),
+            given: TextSet::new(alloc),
         }
     }
 
@@ -72,7 +72,7 @@ impl<'a> Numbers<'a> {
     pub(crate) fn spot(&self, number: usize, name: &str) -> Option<(usize, usize)>
         ensures { IsSpot (names_of self.now) number name.now result }
     {
-        match self.names.get_index_of(&name) {
+        match self.names.place_of(name) {
             Some(place) => Some((number, place)),
             None => None,
         }

@@ -11,11 +11,11 @@ ghost use Rattle.bundle_link_index.specs.Says.{origin_of, own_says};
 use crate::kinds::{Kinds, Lead};
 use crate::target::Target;
 use bundle_link_tables::{Export, Import, Origin, Tables, Taken};
-use indexmap::IndexMap;
+use bundle_scope_denote::texts::TextMap;
 use std::alloc::{AllocError, Global};
 
 /// A name of a module.
-#[derive(Clone, Copy, PartialEq, Eq, Hash)]
+#[derive(Clone, Copy, PartialEq, Eq, Hash, PartialOrd, Ord)]
 pub struct Asked<'a> {
     pub module: usize,
     pub name: &'a str,
@@ -23,7 +23,7 @@ pub struct Asked<'a> {
 
 /// A target that is given, and the module and name bound by `import * as` with which it goes, if there is
 /// one. Two of equal target that go with different ones count as two.
-#[derive(Clone, Copy, PartialEq, Eq, Hash)]
+#[derive(Clone, Copy, PartialEq, Eq, Hash, PartialOrd, Ord)]
 pub struct Given<'a> {
     pub target: Target<'a>,
     pub origin: Option<Asked<'a>>,
@@ -44,10 +44,10 @@ pub enum Own<'a> {
 pub fn locals_of<'a>(
     alloc: Global,
     tables: &Tables<'a>,
-) -> Result<IndexMap<&'a str, Import<'a>>, AllocError>
+) -> Result<TextMap<&'a str, Import<'a>>, AllocError>
     ensures { IfOk result (λ locals. Finds locals (map import_entry_of tables.now.imports.items)) }
 {
-    let mut locals = IndexMap::new(alloc);
+    let mut locals = TextMap::new(alloc);
     for import in &tables.imports {
         note_import(&mut locals, *import)?;
     }
@@ -56,7 +56,7 @@ pub fn locals_of<'a>(
 
 // Notes an import, unless one of that name was noted.
 fn note_import<'a>(
-    locals: &mut IndexMap<&'a str, Import<'a>>,
+    locals: &mut TextMap<&'a str, Import<'a>>,
     import: Import<'a>,
 ) -> Result<(), AllocError>
     ensures { (before : List ImportEntry) → Finds locals.old before →
@@ -100,7 +100,7 @@ pub fn taking<'a>(
 pub fn own_entry<'a>(
     kinds: &Kinds<'_, '_, 'a>,
     number: usize,
-    locals: &IndexMap<&'a str, Import<'a>>,
+    locals: &TextMap<&'a str, Import<'a>>,
     export: Export<'a>,
 ) -> Own<'a>
     ensures { (imports : List ImportEntry) →

@@ -4,7 +4,7 @@ use bundle_link_tables::{Tables, Taken};
 use indexmap::IndexMap;
 
 /// What a name can stand for.
-#[derive(Clone, Copy, PartialEq, Eq, Hash)]
+#[derive(Clone, Copy, PartialEq, Eq, Hash, PartialOrd, Ord)]
 pub enum Target<'a> {
     /// A declaration of a module.
     Declared {

@@ -1,5 +1,5 @@
 -- The fault that is told is the first of the tree.
-use Rattle.std.proofs.Common.{◌≡◌, ℕ, zero, suc, ◌<◌, ◌≤◌, ◌⊎◌, Bool, true, false, not, ◌||◌, IsTrue, List, [], ◌∷◌, ◌++◌, Option, Some, None, find, slice_get, cond, refl, sym, ap, ◌∙◌, subst, inl, inr, arith, bytes_eq}
+use Rattle.std.proofs.Common.{◌≡◌, ℕ, zero, suc, ◌<◌, ◌≤◌, ◌⊎◌, Bool, true, false, not, ◌||◌, IsTrue, List, [], ◌∷◌, ◌++◌, Option, Some, None, find, map, length, ◌==◌, slice_get, cond, eqb-true, refl, sym, ap, ◌∙◌, subst, inl, inr, arith, bytes_eq}
 use Rattle.std.specs.Prelude.{if◌then◌else◌, filter, MatchOption, option_map}
 use Rattle.std.specs.List.{list_any}
 use Rattle.std.proofs.lemmas.Bool.{false≢true, true≢false, both_ways, or_cases, or_left, or_right, not-true, not_from_false}
@@ -167,6 +167,12 @@ undeclared_alike one other same listed = ap (option_map (λ (name : ListedName).
     found : (names : List ListedName) → find (is_undeclared one) names ≡ find (is_undeclared other) names
     found [] = refl
     found (name ∷ names) = ap (λ b. cond (name.is_string || not b) (Some name) (find (is_undeclared one) names)) (same name.text) ∙ ap (λ later. cond (is_undeclared other name) (Some name) later) (found names)
+
+-- of no names none is undeclared
+pub undeclared_empty : {A : Type 0} (as_listed : A → ListedName) (declared : Text → Bool) (listed : List A) → (length listed == 0) ≡ true
+    → None ≡ undeclared_name declared (map as_listed listed)
+undeclared_empty as_listed declared [] none = refl
+undeclared_empty as_listed declared (name ∷ names) none = absurd (omega (arith, eqb-true (length (name ∷ names)) 0 none))
 
 -- `with` statements.
 

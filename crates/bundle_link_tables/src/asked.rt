@@ -12,8 +12,8 @@ ghost use Rattle.bundle_link_tables.specs.TablesOf.{asked_name_of, export_entry_
 use crate::exports::add_exports;
 use crate::imports::add_imports;
 use crate::table::{AskedName, Export, Import, Origin, Taken};
+use bundle_scope_denote::texts::TextMap;
 use bundle_tree_places::parts::Part;
-use indexmap::IndexMap;
 use std::alloc::{AllocError, Global};
 
 /// The names that a module's top items ask of other modules, in the order of the source. `locals` holds the first import of
@@ -21,7 +21,7 @@ use std::alloc::{AllocError, Global};
 pub fn asked_of<'a>(
     alloc: Global,
     tops: &[Part<'_, 'a>],
-    locals: &IndexMap<&'a str, Import<'a>>,
+    locals: &TextMap<&'a str, Import<'a>>,
 ) -> Result<Vec<AskedName<'a>>, AllocError>
     ensures { IfOk result (λ asked.
         map asked_name_of asked.items
@@ -39,7 +39,7 @@ fn add_asked<'a>(
     alloc: Global,
     asked: &mut Vec<AskedName<'a>>,
     item: Part<'_, 'a>,
-    locals: &IndexMap<&'a str, Import<'a>>,
+    locals: &TextMap<&'a str, Import<'a>>,
 ) -> Result<(), AllocError>
     ensures { OnOk result
         (map asked_name_of asked.new.items
@@ -88,7 +88,7 @@ fn add_exported<'a>(
     alloc: Global,
     asked: &mut Vec<AskedName<'a>>,
     item: Part<'_, 'a>,
-    locals: &IndexMap<&'a str, Import<'a>>,
+    locals: &TextMap<&'a str, Import<'a>>,
 ) -> Result<(), AllocError>
     ensures { OnOk result
         (map asked_name_of asked.new.items

@@ -17,9 +17,9 @@ ghost use Rattle.indexmap.specs.IndexSet.{contains_by};
 use crate::free::free_places;
 use crate::table::RequireCall;
 use bundle_scope_denote::Denotations;
+use bundle_scope_denote::texts::TextSet;
 use bundle_tree_piece::{Node, Piece};
 use bundle_tree_places::parts::{behind, string_of};
-use indexmap::IndexSet;
 use std::alloc::{AllocError, Global};
 
 /// The literal calls of `require` that are linked, in the order of the source: where `require` is on, all that are
@@ -29,7 +29,7 @@ pub fn linked_calls<'a>(
     pieces: &[Piece<'a>],
     denotations: &Denotations,
     require: bool,
-    external: &IndexSet<&str>,
+    external: &TextSet<&str>,
 ) -> Result<Vec<RequireCall<'a>>, AllocError>
     ensures { IfOk result (λ calls.
         (settings : Settings) →
@@ -53,7 +53,7 @@ pub fn linked_calls<'a>(
 fn unexternal<'a>(
     alloc: Global,
     calls: &[RequireCall<'a>],
-    external: &IndexSet<&str>,
+    external: &TextSet<&str>,
 ) -> Result<Vec<RequireCall<'a>>, AllocError>
     ensures { IfOk result (λ kept.
         map call_entry_of kept.items
@@ -62,7 +62,7 @@ fn unexternal<'a>(
 {
     let mut kept = Vec::new(alloc);
     for call in calls {
-        if !(&*external).contains(&call.specifier) {
+        if !external.has_text(call.specifier) {
             kept.push(*call)?;
         }
     }

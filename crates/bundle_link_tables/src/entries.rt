@@ -22,9 +22,9 @@ use crate::imports::{has_declaration, imports_of};
 use crate::listed::{Listed, listed_of};
 use crate::sources::{sources_of, stars_of};
 use crate::table::{AskedName, Export, Import, Source};
+use bundle_scope_denote::texts::{TextMap, TextSet};
 use bundle_tree_piece::Piece;
 use bundle_tree_places::parts::{Part, top_items};
-use indexmap::{IndexMap, IndexSet};
 use std::alloc::{AllocError, Global};
 
 /// What a module imports and gives.
@@ -32,7 +32,7 @@ use std::alloc::{AllocError, Global};
 pub struct Entries<'a> {
     pub imports: Vec<Import<'a>>,
     /// The first import of each name that imports bind.
-    pub locals: IndexMap<&'a str, Import<'a>>,
+    pub locals: TextMap<&'a str, Import<'a>>,
     pub given: Given<'a>,
     /// It has an import or export declaration.
     pub is_declared_module: bool,
@@ -43,7 +43,7 @@ pub struct Entries<'a> {
 pub struct Given<'a> {
     pub exports: Vec<Export<'a>>,
     pub asked: Vec<AskedName<'a>>,
-    pub stars: IndexSet<&'a str>,
+    pub stars: TextSet<&'a str>,
     pub sources: Vec<Source<'a>>,
     pub listed: Vec<Listed<'a>>,
 }
@@ -52,7 +52,7 @@ pub struct Given<'a> {
 pub fn entries_of<'a>(
     alloc: Global,
     pieces: &[Piece<'a>],
-    external: &IndexSet<&str>,
+    external: &TextSet<&str>,
 ) -> Result<Entries<'a>, AllocError>
     ensures imports { IfOk result (λ entries.
         map import_entry_of entries.imports.items
@@ -85,7 +85,7 @@ pub fn entries_of<'a>(
 fn entries_in<'a>(
     alloc: Global,
     tops: &[Part<'_, 'a>],
-    external: &IndexSet<&str>,
+    external: &TextSet<&str>,
 ) -> Result<Entries<'a>, AllocError>
     ensures imports { IfOk result (λ entries.
         map import_entry_of entries.imports.items
@@ -127,8 +127,8 @@ fn entries_in<'a>(
 fn given_in<'a>(
     alloc: Global,
     tops: &[Part<'_, 'a>],
-    locals: &IndexMap<&'a str, Import<'a>>,
-    external: &IndexSet<&str>,
+    locals: &TextMap<&'a str, Import<'a>>,
+    external: &TextSet<&str>,
 ) -> Result<Given<'a>, AllocError>
     ensures exports { IfOk result (λ given.
         map export_entry_of given.exports.items
@@ -163,10 +163,10 @@ fn given_in<'a>(
 fn locals_of<'a>(
     alloc: Global,
     imports: &[Import<'a>],
-) -> Result<IndexMap<&'a str, Import<'a>>, AllocError>
+) -> Result<TextMap<&'a str, Import<'a>>, AllocError>
     ensures { IfOk result (λ locals. Finds locals (map import_entry_of imports.now)) }
 {
-    let mut locals = IndexMap::new(alloc);
+    let mut locals = TextMap::new(alloc);
     for import in imports {
         note_import(&mut locals, *import)?;
     }
@@ -175,7 +175,7 @@ fn locals_of<'a>(
 
 // Notes an import, unless one of that name was noted.
 fn note_import<'a>(
-    locals: &mut IndexMap<&'a str, Import<'a>>,
+    locals: &mut TextMap<&'a str, Import<'a>>,
     import: Import<'a>,
 ) -> Result<(), AllocError>
     ensures { (before : List ImportEntry) → Finds locals.old before →

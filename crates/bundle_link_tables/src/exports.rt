@@ -15,12 +15,12 @@ ghost use Rattle.bundle_tree_places.specs.Parted.{part_items};
 ghost use Rattle.bundle_link_tables.specs.TablesOf.{entry_by_origin, export_entry_of};
 
 use crate::table::{Export, Import, Origin, Taken};
+use bundle_scope_denote::texts::TextMap;
 use bundle_tree_piece::{Node, Piece, Role};
 use bundle_tree_places::nodes::is_in_pattern;
 use bundle_tree_places::parts::{
     Part, child, child_of, in_field, name_of, node_of, renamed_text, string_of, text_in,
 };
-use indexmap::IndexMap;
 use std::alloc::{AllocError, Global};
 
 /// The name that a default export without a name declares.
@@ -31,7 +31,7 @@ const DEFAULT: &str = "default";
 pub fn exports_of<'a>(
     alloc: Global,
     tops: &[Part<'_, 'a>],
-    locals: &IndexMap<&'a str, Import<'a>>,
+    locals: &TextMap<&'a str, Import<'a>>,
 ) -> Result<Vec<Export<'a>>, AllocError>
     ensures { IfOk result (λ exports.
         map export_entry_of exports.items
@@ -50,7 +50,7 @@ pub(crate) fn add_exports<'a>(
     alloc: Global,
     exports: &mut Vec<Export<'a>>,
     item: Part<'_, 'a>,
-    locals: &IndexMap<&'a str, Import<'a>>,
+    locals: &TextMap<&'a str, Import<'a>>,
 ) -> Result<(), AllocError>
     ensures { OnOk result
         (map export_entry_of exports.new.items
@@ -69,7 +69,7 @@ fn add_by<'a>(
     exports: &mut Vec<Export<'a>>,
     node: Node<'a>,
     item: Part<'_, 'a>,
-    locals: &IndexMap<&'a str, Import<'a>>,
+    locals: &TextMap<&'a str, Import<'a>>,
 ) -> Result<(), AllocError>
     ensures { OnOk result
         (map export_entry_of exports.new.items
@@ -220,7 +220,7 @@ fn add_list<'a>(
     alloc: Global,
     exports: &mut Vec<Export<'a>>,
     item: Part<'_, 'a>,
-    locals: &IndexMap<&'a str, Import<'a>>,
+    locals: &TextMap<&'a str, Import<'a>>,
 ) -> Result<(), AllocError>
     ensures { OnOk result
         (map export_entry_of exports.new.items
@@ -289,7 +289,7 @@ fn begins_namespace(pieces: &[Piece]) -> bool
 fn add_here<'a>(
     exports: &mut Vec<Export<'a>>,
     specifiers: &[Part<'_, 'a>],
-    locals: &IndexMap<&'a str, Import<'a>>,
+    locals: &TextMap<&'a str, Import<'a>>,
 ) -> Result<(), AllocError>
     ensures { OnOk result
         (map export_entry_of exports.new.items
@@ -320,7 +320,7 @@ pub fn begins_named(pieces: &[Piece]) -> bool
 }
 
 // The export of a specifier of an export list without `from`.
-fn export_here<'a>(specifier: Part<'_, 'a>, locals: &IndexMap<&'a str, Import<'a>>) -> Export<'a>
+fn export_here<'a>(specifier: Part<'_, 'a>, locals: &TextMap<&'a str, Import<'a>>) -> Export<'a>
     ensures { export_entry_of result
         ≡ export_by (import_by locals.now) (part_items specifier.entry) }
 {
@@ -331,7 +331,7 @@ fn export_here<'a>(specifier: Part<'_, 'a>, locals: &IndexMap<&'a str, Import<'a
 }
 
 // Where a name of the module comes from: what was imported by name is given on, all else is local.
-fn origin_of<'a>(locals: &IndexMap<&'a str, Import<'a>>, of: &'a str) -> Origin<'a>
+fn origin_of<'a>(locals: &TextMap<&'a str, Import<'a>>, of: &'a str) -> Origin<'a>
     ensures { (name : Text) →
         entry_by_origin name result ≡ given_on name of.now (import_by locals.now of.now) }
 {

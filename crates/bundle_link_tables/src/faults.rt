@@ -16,14 +16,14 @@ use crate::free::top_names;
 use crate::listed::Listed;
 use crate::table::{Export, TreeFault};
 use bundle_scope_denote::Denotations;
+use bundle_scope_denote::texts::TextSet;
 use bundle_tree_piece::Piece;
 use bundle_tree_places::nodes::has_with;
-use indexmap::IndexSet;
 use std::alloc::{AllocError, Global};
 
 /// The first fault of a module by itself: a name that is exported twice, one in an export list without `from` that
 /// the top does not bind, or a `with` statement.
-#[tactic(auto, using(std::proofs::lemmas::Grind::common_steps, crate::proofs::ToldLemmas::told_doubled, crate::proofs::ToldLemmas::told_undeclared, crate::proofs::ToldLemmas::told_with, crate::proofs::ToldLemmas::told_none, crate::proofs::FaultLemmas::undeclared_alike))]
+#[tactic(auto, using(std::proofs::lemmas::Grind::common_steps, crate::proofs::ToldLemmas::told_doubled, crate::proofs::ToldLemmas::told_undeclared, crate::proofs::ToldLemmas::told_with, crate::proofs::ToldLemmas::told_none))]
 pub fn first_fault<'a>(
     alloc: Global,
     pieces: &[Piece<'a>],
@@ -43,8 +43,7 @@ pub fn first_fault<'a>(
     if let Some(name) = doubled_name(alloc, &given.exports)? {
         return Ok(Some(TreeFault::DoubledExport { name }));
     }
-    let declared = top_names(alloc, pieces, denotations)?;
-    if let Some(name) = undeclared_name(&given.listed, &declared) {
+    if let Some(name) = unbound_name(alloc, pieces, denotations, &given.listed)? {
         return Ok(Some(TreeFault::UndeclaredExport { name }));
     }
     if has_with(pieces) {
@@ -59,7 +58,7 @@ fn doubled_name<'a>(alloc: Global, exports: &[Export<'a>]) -> Result<Option<&'a 
         option_map (λ name. name.now) found
         ≡ judged.doubled_name [] (map export_entry_of exports.now)) }
 {
-    let mut met = IndexSet::new(alloc);
+    let mut met = TextSet::new(alloc);
     for export in exports {
         if (&met).contains(&export.name) {
             return Ok(Some(export.name));
@@ -69,8 +68,30 @@ fn doubled_name<'a>(alloc: Global, exports: &[Export<'a>]) -> Result<Option<&'a 
     Ok(None)
 }
 
+// The first name in an export list without `from` that is a string, or that the top does not bind. Where there is
+// no such list, the names that the top binds are not gathered.
+#[tactic(auto, using(std::proofs::lemmas::Grind::common_steps, crate::proofs::FaultLemmas::undeclared_empty, crate::proofs::FaultLemmas::undeclared_alike))]
+fn unbound_name<'a>(
+    alloc: Global,
+    pieces: &[Piece<'a>],
+    denotations: &Denotations<'a>,
+    listed: &[Listed<'a>],
+) -> Result<Option<&'a str>, AllocError>
+    ensures { IfOk result (λ found.
+        option_map (λ name. name.now) found
+        ≡ judged.undeclared_name
+        (λ x. has_text x (told_top_names denotations.now (map item_of pieces.now)))
+        (map listed_as listed.now)) }
+{
+    if listed.is_empty() {
+        return Ok(None);
+    }
+    let declared = top_names(alloc, pieces, denotations)?;
+    Ok(undeclared_name(listed, &declared))
+}
+
 // The first name in an export list without `from` that is a string, or that is not declared.
-fn undeclared_name<'a>(listed: &[Listed<'a>], declared: &IndexSet<&str>) -> Option<&'a str>
+fn undeclared_name<'a>(listed: &[Listed<'a>], declared: &TextSet<&str>) -> Option<&'a str>
     ensures { option_map (λ name. name.now) result
         ≡ judged.undeclared_name (λ x. contains_by (λ k. bytes_eq x k.now) declared.now)
         (map listed_as listed.now) }
@@ -84,10 +105,10 @@ fn undeclared_name<'a>(listed: &[Listed<'a>], declared: &IndexSet<&str>) -> Opti
 }
 
 // Whether a listed name is a string, or not declared.
-fn is_undeclared(listed: Listed, declared: &IndexSet<&str>) -> bool
+fn is_undeclared(listed: Listed, declared: &TextSet<&str>) -> bool
     ensures { result
         ≡ judged.is_undeclared (λ x. contains_by (λ k. bytes_eq x k.now) declared.now)
         (listed_as listed.entry) }
 {
-    listed.is_string || !(&*declared).contains(&listed.name)
+    listed.is_string || !declared.has_text(listed.name)
 }

@@ -14,10 +14,10 @@ ghost use Rattle.bundle_link_tables.specs.Free.{declared_at_top, frees, is_marke
 ghost use Rattle.bundle_link_tables.specs.Sources.{HasTexts};
 ghost use Rattle.bundle_link_tables.specs.TablesOf.{uses_common_js};
 
+use bundle_scope_denote::texts::TextSet;
 use bundle_scope_denote::{Denotations, Denoted, Scope, ScopeKind};
 use bundle_tree_piece::{Node, Piece};
 use bundle_tree_places::parts::behind;
-use indexmap::IndexSet;
 use std::alloc::{AllocError, Global};
 
 /// The name that a default export without a name declares.
@@ -118,7 +118,7 @@ pub fn top_names<'a>(
     alloc: Global,
     pieces: &[Piece<'a>],
     denotations: &Denotations<'a>,
-) -> Result<IndexSet<&'a str>, AllocError>
+) -> Result<TextSet<&'a str>, AllocError>
     ensures { IfOk result (λ names.
         HasTexts names (told_top_names denotations.now (map item_of pieces.now))) }
 {
@@ -134,12 +134,12 @@ pub fn top_names<'a>(
 fn declared_names<'a>(
     alloc: Global,
     denotations: &Denotations<'a>,
-) -> Result<IndexSet<&'a str>, AllocError>
+) -> Result<TextSet<&'a str>, AllocError>
     ensures { IfOk result (λ names.
         HasTexts names
         (flat_map (declared_at_top denotations.now) denotations.now.occurrences.items)) }
 {
-    let mut names = IndexSet::new(alloc);
+    let mut names = TextSet::new(alloc);
     for occurrence in &denotations.occurrences {
         add_declared(&mut names, denotations, *occurrence)?;
     }
@@ -148,7 +148,7 @@ fn declared_names<'a>(
 
 // Adds what an entry declares at the top.
 fn add_declared<'a>(
-    names: &mut IndexSet<&'a str>,
+    names: &mut TextSet<&'a str>,
     denotations: &Denotations<'a>,
     occurrence: Denoted,
 ) -> Result<(), AllocError>

@@ -10,16 +10,16 @@ ghost use Rattle.bundle_tree_places.specs.Parted.{part_items};
 ghost use Rattle.bundle_link_tables.specs.Sources.{asked, has_external, star_by, star_in};
 
 use crate::table::Source;
+use bundle_scope_denote::texts::TextSet;
 use bundle_tree_piece::{Node, Piece};
 use bundle_tree_places::parts::{Part, child, node_of, string_of, text_in};
-use indexmap::IndexSet;
 use std::alloc::{AllocError, Global};
 
 /// What the top items of a module ask for, in the order of the source. `external` are the texts that are external.
 pub fn sources_of<'a>(
     alloc: Global,
     tops: &[Part<'_, 'a>],
-    external: &IndexSet<&str>,
+    external: &TextSet<&str>,
 ) -> Result<Vec<Source<'a>>, AllocError>
     ensures { IfOk result (λ sources.
         map asked sources.items
@@ -36,7 +36,7 @@ pub fn sources_of<'a>(
 fn add_source<'a>(
     sources: &mut Vec<Source<'a>>,
     item: Part<'_, 'a>,
-    external: &IndexSet<&str>,
+    external: &TextSet<&str>,
 ) -> Result<(), AllocError>
     ensures { OnOk result
         (map asked sources.new.items
@@ -46,7 +46,7 @@ fn add_source<'a>(
     if let Some(specifier) = asked_by(item.pieces) {
         sources.push(Source {
             specifier,
-            is_external: external.contains(&specifier),
+            is_external: external.has_text(specifier),
             is_star: star_at(item.pieces).is_some(),
             place: item.start,
         })?;
@@ -97,12 +97,12 @@ fn star_as<'a>(node: Node<'a>, pieces: &[Piece<'a>]) -> Option<&'a str>
 }
 
 /// What `export * from` asks for, each text once, where it stands first.
-pub fn stars_of<'a>(alloc: Global, tops: &[Part<'_, 'a>]) -> Result<IndexSet<&'a str>, AllocError>
+pub fn stars_of<'a>(alloc: Global, tops: &[Part<'_, 'a>]) -> Result<TextSet<&'a str>, AllocError>
     ensures { IfOk result (λ stars.
         map (λ key. key.now) stars.keys
         ≡ each_once (flat_map star_in (map part_items tops.now))) }
 {
-    let mut stars = IndexSet::new(alloc);
+    let mut stars = TextSet::new(alloc);
     for top in tops {
         add_star(&mut stars, *top)?;
     }
@@ -110,7 +110,7 @@ pub fn stars_of<'a>(alloc: Global, tops: &[Part<'_, 'a>]) -> Result<IndexSet<&'a
 }
 
 // Adds what `export * from` asks for at an item.
-fn add_star<'a>(stars: &mut IndexSet<&'a str>, item: Part<'_, 'a>) -> Result<(), AllocError>
+fn add_star<'a>(stars: &mut TextSet<&'a str>, item: Part<'_, 'a>) -> Result<(), AllocError>
     ensures { (seen : List Text) →
         map (λ key. key.now) stars.old.keys ≡ each_once seen →
         OnOk result

@@ -27,10 +27,10 @@ use crate::free::{has_free, names_common_js};
 use crate::table::{RequireCall, Source, Tables, TreeFault};
 use crate::walk::{Found, found_in};
 use bundle_scope_denote::Denotations;
+use bundle_scope_denote::texts::TextSet;
 use bundle_tree_piece::Piece;
 use bundle_tree_places::awaits_outside;
 use bundle_tree_places::nodes::has_import_meta;
-use indexmap::IndexSet;
 use std::alloc::{AllocError, Global};
 
 /// The tables of a module, or the first fault of the module by itself: exports that are doubled are judged before
@@ -123,10 +123,10 @@ pub fn tables_of<'a>(
 }
 
 // The texts, each once.
-fn texts<'t>(alloc: Global, list: &'t [String]) -> Result<IndexSet<&'t str>, AllocError>
+fn texts<'t>(alloc: Global, list: &'t [String]) -> Result<TextSet<&'t str>, AllocError>
     ensures { IfOk result (λ texts. HasTexts texts (map string_bytes list.now)) }
 {
-    let mut texts = IndexSet::new(alloc);
+    let mut texts = TextSet::new(alloc);
     for text in list {
         texts.insert(text.as_str())?;
     }
@@ -149,7 +149,7 @@ fn made_of<'a>(
     pieces: &[Piece<'a>],
     denotations: &Denotations<'a>,
     require: bool,
-    external: &IndexSet<&str>,
+    external: &TextSet<&str>,
     entries: &Entries<'a>,
 ) -> Result<Made<'a>, AllocError>
     ensures calls { IfOk result (λ made.
@@ -180,7 +180,13 @@ fn made_of<'a>(
     let awaits = awaits_outside(alloc, pieces)?;
     let calls = linked_calls(alloc, pieces, denotations, require, external)?;
     let requests = requests(alloc, &entries.given, &calls)?;
-    let stars = entries.given.stars.iter().copied().collect(alloc)?;
+    let stars = entries
+        .given
+        .stars
+        .as_slice()
+        .iter()
+        .copied()
+        .collect(alloc)?;
     let found = found_in(alloc, pieces, denotations, &entries.locals)?;
     Ok(Made {
         calls,
@@ -254,18 +260,18 @@ fn requests<'a>(
         ≡ each_once
         (unexternal given.now.sources.items ++ map (λ call. call.specifier.now) calls.now)) }
 {
-    let mut texts = IndexSet::new(alloc);
+    let mut texts = TextSet::new(alloc);
     for source in &given.sources {
         add_request(&mut texts, *source)?;
     }
     for call in calls {
         add_called(&mut texts, *call)?;
     }
-    texts.iter().copied().collect(alloc)
+    texts.as_slice().iter().copied().collect(alloc)
 }
 
 // Adds what an import or an export asks for, unless it is external.
-fn add_request<'a>(texts: &mut IndexSet<&'a str>, source: Source<'a>) -> Result<(), AllocError>
+fn add_request<'a>(texts: &mut TextSet<&'a str>, source: Source<'a>) -> Result<(), AllocError>
     ensures { (seen : List Text) →
         map (λ key. key.now) texts.old.keys ≡ each_once seen →
         OnOk result
@@ -278,7 +284,7 @@ fn add_request<'a>(texts: &mut IndexSet<&'a str>, source: Source<'a>) -> Result<
 }
 
 // Adds what a literal call asks for.
-fn add_called<'a>(texts: &mut IndexSet<&'a str>, call: RequireCall<'a>) -> Result<(), AllocError>
+fn add_called<'a>(texts: &mut TextSet<&'a str>, call: RequireCall<'a>) -> Result<(), AllocError>
     ensures { (seen : List Text) →
         map (λ key. key.now) texts.old.keys ≡ each_once seen →
         OnOk result

@@ -14,10 +14,10 @@ ghost use Rattle.bundle_link_tables.specs.Walked as walked;
 ghost use Rattle.bundle_link_tables.specs.Walked.{Begin, Says, has_import, is_own_binding, named_use, symbol_if, words_before};
 
 use crate::table::{Import, Read, Use};
+use bundle_scope_denote::texts::TextMap;
 use bundle_scope_denote::{Denotations, Denoted, Scope, ScopeKind};
 use bundle_tree_piece::Piece;
 use bundle_tree_places::places::{Told, told_places};
-use indexmap::IndexMap;
 use std::alloc::{AllocError, Global};
 
 /// What was found so far.
@@ -32,7 +32,7 @@ pub fn found_in<'a>(
     alloc: Global,
     pieces: &[Piece<'a>],
     denotations: &Denotations<'a>,
-    imports: &IndexMap<&'a str, Import<'a>>,
+    imports: &TextMap<&'a str, Import<'a>>,
 ) -> Result<Found<'a>, AllocError>
     ensures places { IfOk result (λ found.
         map (read_places found.reads.items) found.uses.items
@@ -59,7 +59,7 @@ pub fn found_in<'a>(
 fn name_used<'a>(
     pieces: &[Piece<'a>],
     denotations: &Denotations<'a>,
-    imports: &IndexMap<&'a str, Import<'a>>,
+    imports: &TextMap<&'a str, Import<'a>>,
     told: &[Told<'a>],
     entry: Denoted,
 ) -> Option<&'a str>
@@ -77,7 +77,7 @@ fn name_used<'a>(
 // The symbol of the identifier at a place, if an import binds it.
 fn imported_at<'a>(
     pieces: &[Piece<'a>],
-    imports: &IndexMap<&'a str, Import<'a>>,
+    imports: &TextMap<&'a str, Import<'a>>,
     place: usize,
 ) -> Option<&'a str>
     ensures { text_list result

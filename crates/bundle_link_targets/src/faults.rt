@@ -16,7 +16,7 @@ use crate::target::{Fault, FaultKind, Target};
 use bundle_link_index::index::DEFAULT;
 use bundle_link_index::{Answer, Asked, Index, Kinds, Lead, Own, taking};
 use bundle_link_tables::{AskedName, Taken};
-use indexmap::IndexSet;
+use bundle_scope_denote::texts::TextSet;
 use std::alloc::{AllocError, Global};
 
 /// The first fault of the literal calls of `require`: of the entry, and then of a module that is no script.
@@ -93,7 +93,7 @@ pub fn link_fault_of<'a>(
     alloc: Global,
     kinds: &Kinds<'_, '_, 'a>,
     index: &mut Index<'a>,
-    meant: &IndexSet<Target<'a>>,
+    meant: &TextSet<Target<'a>>,
 ) -> Result<Option<Fault<'a>>, AllocError>
     ensures right { IfOk result (λ found. (p : Program) →
         AreKindsOf p kinds.now → IsIndexOf p index.old →
@@ -139,7 +139,7 @@ fn objects_fault<'a>(
     alloc: Global,
     kinds: &Kinds<'_, '_, 'a>,
     index: &mut Index<'a>,
-    meant: &IndexSet<Target<'a>>,
+    meant: &TextSet<Target<'a>>,
 ) -> Result<Option<Fault<'a>>, AllocError>
     ensures right { IfOk result (λ found. (p : Program) → IsIndexOf p index.old →
         HoldsMeant p (targets_in meant.now) → IsJudged p kinds.now.list.now 6 7 found) }
@@ -158,7 +158,7 @@ fn objects_fault<'a>(
 fn object_fault<'a>(
     alloc: Global,
     index: &mut Index<'a>,
-    meant: &IndexSet<Target<'a>>,
+    meant: &TextSet<Target<'a>>,
     module: usize,
 ) -> Result<Option<Fault<'a>>, AllocError>
     ensures right { IfOk result (λ found. (p : Program) → IsIndexOf p index.old →

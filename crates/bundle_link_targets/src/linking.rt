@@ -32,7 +32,7 @@ use bundle_link_index::index::DEFAULT;
 use bundle_link_index::kinds::flag;
 use bundle_link_index::{Answer, Index, Kinds};
 use bundle_link_tables::Taken;
-use indexmap::IndexMap;
+use bundle_scope_denote::texts::TextMap;
 use std::alloc::{AllocError, Global};
 
 /// What each name of the modules of a bundle stands for, which of the modules are CommonJS, what of them is
@@ -186,7 +186,7 @@ struct Outside<'a> {
     externals: Vec<External<'a>>,
     external_stars: Vec<&'a str>,
     loads: Vec<Vec<Loaded<'a>>>,
-    symbols: IndexMap<Target<'a>, &'a str>,
+    symbols: TextMap<Target<'a>, &'a str>,
 }
 
 impl<'a> Outside<'a> {

@@ -24,13 +24,13 @@ use crate::names::linked_names;
 use crate::target::{Meaning, Target};
 use bundle_link_index::{Asked, Index, Kinds, Own, locals_of, taking};
 use bundle_link_tables::{Import, Read, Tables, Use};
-use indexmap::{IndexMap, IndexSet};
+use bundle_scope_denote::texts::{TextMap, TextSet};
 use std::alloc::{AllocError, Global};
 
 /// What is meant, what uses of imported names mean, and which names modules link.
 #[derive(Drop)]
 pub struct Meant<'a> {
-    pub targets: IndexSet<Target<'a>>,
+    pub targets: TextSet<Target<'a>>,
     /// For each module and each of its uses; none of modules that are not listed.
     pub meanings: Vec<Vec<Option<Meaning<'a>>>>,
     /// For each module; none but for the entry and modules whose namespace object is meant.
@@ -74,7 +74,7 @@ fn nothing_meant<'a>(alloc: Global, count: usize) -> Result<Meant<'a>, AllocErro
     ensures linked { IfOk result (λ meant. length meant.linked.items ≡ count) }
 {
     Ok(Meant {
-        targets: IndexSet::new(alloc),
+        targets: TextSet::new(alloc),
         meanings: no_lists(alloc, count)?,
         linked: no_lists(alloc, count)?,
     })
@@ -224,7 +224,7 @@ impl<'a> Meant<'a> {
         index: &mut Index<'a>,
         module: usize,
         tables: &Tables<'a>,
-        locals: &IndexMap<&'a str, Import<'a>>,
+        locals: &TextMap<&'a str, Import<'a>>,
     ) -> Result<(), AllocError>
         ensures right { (p : Program) →
             IsIndexOf p index.old →
@@ -355,7 +355,7 @@ impl<'a> Meant<'a> {
 }
 
 // The target at a place of those met.
-fn target_at<'a>(targets: &IndexSet<Target<'a>>, place: usize) -> Target<'a>
+fn target_at<'a>(targets: &TextSet<Target<'a>>, place: usize) -> Target<'a>
     requires { place < length targets.now.keys }
     ensures { slice_get targets.now.keys place ≡ Some result }
 {
@@ -364,7 +364,7 @@ fn target_at<'a>(targets: &IndexSet<Target<'a>>, place: usize) -> Target<'a>
 
 // Adds the target that is meant, if one is.
 fn add_meant<'a>(
-    targets: &mut IndexSet<Target<'a>>,
+    targets: &mut TextSet<Target<'a>>,
     meaning: Option<Meaning<'a>>,
 ) -> Result<(), AllocError>
     ensures { OnOk result
@@ -377,7 +377,7 @@ fn add_meant<'a>(
 }
 
 // Adds a target.
-fn add_target<'a>(targets: &mut IndexSet<Target<'a>>, target: Target<'a>) -> Result<(), AllocError>
+fn add_target<'a>(targets: &mut TextSet<Target<'a>>, target: Target<'a>) -> Result<(), AllocError>
     ensures { OnOk result
         (Adds (targets_in targets.old) (λ other. other ≡ target_of target.entry)
         (targets_in targets.new)) }
@@ -388,7 +388,7 @@ fn add_target<'a>(targets: &mut IndexSet<Target<'a>>, target: Target<'a>) -> Res
 
 // Adds the targets of names.
 fn add_targets<'a>(
-    targets: &mut IndexSet<Target<'a>>,
+    targets: &mut TextSet<Target<'a>>,
     linked: &[(&'a str, Target<'a>)],
 ) -> Result<(), AllocError>
     ensures { OnOk result

@@ -12,7 +12,7 @@ ghost use Rattle.bundle_link_targets.specs.Names.{AreLinkedOf, Gains, HasNamesOf
 use bundle_link_index::index::DEFAULT;
 use bundle_link_index::{Asked, Index, Kinds, Target};
 use bundle_link_tables::Export;
-use indexmap::IndexSet;
+use bundle_scope_denote::texts::TextSet;
 use std::alloc::{AllocError, Global};
 
 /// The names that a module links, ascending, with their targets.
@@ -111,7 +111,7 @@ fn names<'a>(
 }
 
 // These names, ascending.
-fn sorted<'a>(alloc: Global, names: &IndexSet<&'a str>) -> Result<Vec<&'a str>, AllocError>
+fn sorted<'a>(alloc: Global, names: &TextSet<&'a str>) -> Result<Vec<&'a str>, AllocError>
     ensures there { IfOk result (λ sorted. (x : Text) → Contains (texts_in names.now) x →
         Contains (map (λ name. name.now) sorted.items) x) }
     ensures ascending { IfOk result (λ sorted.
@@ -132,14 +132,14 @@ fn entry_names<'a>(
     kinds: &Kinds<'_, '_, 'a>,
     index: &Index<'a>,
     module: usize,
-) -> Result<IndexSet<&'a str>, AllocError>
+) -> Result<TextSet<&'a str>, AllocError>
     ensures { IfOk result (λ names.
         (p : Program) →
         IsIndexOf p index.now →
         AreModulesOf p kinds.now →
         HasNamesOf p «module» (texts_in names)) }
 {
-    let mut names = IndexSet::new(alloc);
+    let mut names = TextSet::new(alloc);
     let reach = index.reach(alloc, module)?;
     let others = reach.as_slice();
     for other in others {
@@ -153,7 +153,7 @@ fn add_names_of<'a>(
     kinds: &Kinds<'_, '_, 'a>,
     module: usize,
     is_own: bool,
-    names: &mut IndexSet<&'a str>,
+    names: &mut TextSet<&'a str>,
 ) -> Result<(), AllocError>
     ensures { OnOk result
         (Gains (texts_in names.old) (IsNameIn kinds.now «module» is_own) (texts_in names.new)) }
@@ -168,7 +168,7 @@ fn add_names_of<'a>(
 fn add_names<'a>(
     exports: &[Export<'a>],
     is_own: bool,
-    names: &mut IndexSet<&'a str>,
+    names: &mut TextSet<&'a str>,
 ) -> Result<(), AllocError>
     ensures { OnOk result
         (Gains (texts_in names.old) (IsNamedBy exports.now is_own) (texts_in names.new)) }
@@ -183,7 +183,7 @@ fn add_names<'a>(
 fn add_name<'a>(
     export: Export<'a>,
     is_own: bool,
-    names: &mut IndexSet<&'a str>,
+    names: &mut TextSet<&'a str>,
 ) -> Result<(), AllocError>
     ensures { OnOk result
         (Gains (texts_in names.old) (IsNamedBy (export.entry ∷ []) is_own) (texts_in names.new)) }

@@ -11,8 +11,8 @@ ghost use Rattle.bundle_link_targets.specs.Symbols.{Called, Calls, exported_by, 
 use crate::target::Target;
 use bundle_link_index::{Kinds, Lead};
 use bundle_link_tables::{Export, Import, Origin, Taken};
+use bundle_scope_denote::texts::TextMap;
 use bundle_tree_places::is_ascii_identifier;
-use indexmap::IndexMap;
 use std::alloc::{AllocError, Global};
 
 /// What targets of externals and CommonJS modules are called: as the first import that takes them does,
@@ -20,10 +20,10 @@ use std::alloc::{AllocError, Global};
 pub fn symbols_of<'a>(
     alloc: Global,
     kinds: &Kinds<'_, '_, 'a>,
-) -> Result<IndexMap<Target<'a>, &'a str>, AllocError>
+) -> Result<TextMap<Target<'a>, &'a str>, AllocError>
     ensures { IfOk result (λ symbols. Calls symbols (named_in kinds.now)) }
 {
-    let mut symbols = IndexMap::new(alloc);
+    let mut symbols = TextMap::new(alloc);
     add_all_imports(kinds, &mut symbols)?;
     add_all_exports(kinds, &mut symbols)?;
     Ok(symbols)
@@ -32,7 +32,7 @@ pub fn symbols_of<'a>(
 // Notes what the imports of listed modules call targets.
 fn add_all_imports<'a>(
     kinds: &Kinds<'_, '_, 'a>,
-    symbols: &mut IndexMap<Target<'a>, &'a str>,
+    symbols: &mut TextMap<Target<'a>, &'a str>,
 ) -> Result<(), AllocError>
     ensures { (before : List Called) →
         Calls symbols.old before →
@@ -48,7 +48,7 @@ fn add_all_imports<'a>(
 // Notes what the exports of wholes of listed modules call them.
 fn add_all_exports<'a>(
     kinds: &Kinds<'_, '_, 'a>,
-    symbols: &mut IndexMap<Target<'a>, &'a str>,
+    symbols: &mut TextMap<Target<'a>, &'a str>,
 ) -> Result<(), AllocError>
     ensures { (before : List Called) →
         Calls symbols.old before →
@@ -65,7 +65,7 @@ fn add_all_exports<'a>(
 fn add_imports_of<'a>(
     kinds: &Kinds<'_, '_, 'a>,
     module: usize,
-    symbols: &mut IndexMap<Target<'a>, &'a str>,
+    symbols: &mut TextMap<Target<'a>, &'a str>,
 ) -> Result<(), AllocError>
     ensures { (before : List Called) → Calls symbols.old before →
         OnOk result (Calls symbols.new (before ++ imports_called kinds.now «module»)) }
@@ -80,7 +80,7 @@ fn add_imports_of<'a>(
 fn add_exports_of<'a>(
     kinds: &Kinds<'_, '_, 'a>,
     module: usize,
-    symbols: &mut IndexMap<Target<'a>, &'a str>,
+    symbols: &mut TextMap<Target<'a>, &'a str>,
 ) -> Result<(), AllocError>
     ensures { (before : List Called) → Calls symbols.old before →
         OnOk result (Calls symbols.new (before ++ exports_called kinds.now «module»)) }
@@ -96,7 +96,7 @@ fn add_imports<'a>(
     kinds: &Kinds<'_, '_, 'a>,
     module: usize,
     imports: &[Import<'a>],
-    symbols: &mut IndexMap<Target<'a>, &'a str>,
+    symbols: &mut TextMap<Target<'a>, &'a str>,
 ) -> Result<(), AllocError>
     ensures { (before : List Called) →
         Calls symbols.old before →
@@ -115,7 +115,7 @@ fn add_exports<'a>(
     kinds: &Kinds<'_, '_, 'a>,
     module: usize,
     exports: &[Export<'a>],
-    symbols: &mut IndexMap<Target<'a>, &'a str>,
+    symbols: &mut TextMap<Target<'a>, &'a str>,
 ) -> Result<(), AllocError>
     ensures { (before : List Called) →
         Calls symbols.old before →
@@ -166,7 +166,7 @@ fn target_taken<'a>(
 
 // Notes what a target is called, if there is one and it was not noted.
 fn add_symbol<'a>(
-    symbols: &mut IndexMap<Target<'a>, &'a str>,
+    symbols: &mut TextMap<Target<'a>, &'a str>,
     target: Option<Target<'a>>,
     symbol: &'a str,
 ) -> Result<(), AllocError>
@@ -184,7 +184,7 @@ fn add_symbol<'a>(
 
 // Notes what a target is called, if it was not noted.
 fn note_symbol<'a>(
-    symbols: &mut IndexMap<Target<'a>, &'a str>,
+    symbols: &mut TextMap<Target<'a>, &'a str>,
     target: Target<'a>,
     symbol: &'a str,
 ) -> Result<(), AllocError>

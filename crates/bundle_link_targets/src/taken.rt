@@ -27,14 +27,15 @@ use crate::lists::{items_of, no_lists, put_at};
 use crate::target::{External, Loaded, Target};
 use bundle_link_index::{Index, Kinds, Lead};
 use bundle_link_tables::{Source, Taken};
-use indexmap::{IndexMap, IndexSet};
+use bundle_scope_denote::texts::{TextMap, TextSet};
+use indexmap::IndexSet;
 use std::alloc::{AllocError, Global};
 
 /// The externals that listed ECMAScript modules ask for, with what of them is meant.
 pub fn externals_of<'a>(
     alloc: Global,
     kinds: &Kinds<'_, '_, 'a>,
-    meant: &IndexSet<Target<'a>>,
+    meant: &TextSet<Target<'a>>,
 ) -> Result<Vec<External<'a>>, AllocError>
     ensures specifiers { IfOk result (λ found.
         map specifier_of found.items
@@ -55,11 +56,11 @@ pub fn externals_of<'a>(
 fn specifiers_of<'a>(
     alloc: Global,
     kinds: &Kinds<'_, '_, 'a>,
-) -> Result<IndexSet<&'a str>, AllocError>
+) -> Result<TextSet<&'a str>, AllocError>
     ensures { IfOk result (λ set.
         texts_in set ≡ each_once (outside_of kinds.now.modules.now kinds.now.list.now)) }
 {
-    let mut specifiers = IndexSet::new(alloc);
+    let mut specifiers = TextSet::new(alloc);
     for module in kinds.list {
         add_specifiers_of(kinds, *module, &mut specifiers)?;
     }
@@ -70,7 +71,7 @@ fn specifiers_of<'a>(
 fn add_specifiers_of<'a>(
     kinds: &Kinds<'_, '_, 'a>,
     module: usize,
-    specifiers: &mut IndexSet<&'a str>,
+    specifiers: &mut TextSet<&'a str>,
 ) -> Result<(), AllocError>
     ensures { (before : List Text) →
         texts_in specifiers.old ≡ each_once before →
@@ -87,7 +88,7 @@ fn add_specifiers_of<'a>(
 // Adds those of sources.
 fn add_specifiers<'a>(
     sources: &[Source<'a>],
-    specifiers: &mut IndexSet<&'a str>,
+    specifiers: &mut TextSet<&'a str>,
 ) -> Result<(), AllocError>
     ensures { (before : List Text) →
         texts_in specifiers.old ≡ each_once before →
@@ -103,7 +104,7 @@ fn add_specifiers<'a>(
 // Adds that of a source, if it is external.
 fn add_specifier<'a>(
     source: Source<'a>,
-    specifiers: &mut IndexSet<&'a str>,
+    specifiers: &mut TextSet<&'a str>,
 ) -> Result<(), AllocError>
     ensures { (before : List Text) → texts_in specifiers.old ≡ each_once before →
         OnOk result (texts_in specifiers.new ≡ each_once (before ++ external_one source.entry)) }
@@ -119,8 +120,8 @@ fn add_specifier<'a>(
 fn external_of<'a>(
     alloc: Global,
     specifier: &'a str,
-    meant: &IndexSet<Target<'a>>,
-    names: &IndexMap<Giver<'a>, Vec<&'a str>>,
+    meant: &TextSet<Target<'a>>,
+    names: &TextMap<Giver<'a>, Vec<&'a str>>,
 ) -> Result<External<'a>, AllocError>
     ensures specifier { IfOk result (λ external. specifier_of external ≡ specifier.now) }
     ensures taken { AreAllNames (targets_in meant.now) names.now →
@@ -137,7 +138,7 @@ fn external_of<'a>(
 }
 
 /// From where something is taken: of an external, or by a module of a CommonJS module.
-#[derive(Clone, Copy, PartialEq, Eq, Hash)]
+#[derive(Clone, Copy, PartialEq, Eq, Hash, PartialOrd, Ord)]
 pub enum Giver<'a> {
     External { specifier: &'a str },
     CommonJs { taker: usize, module: usize },
@@ -160,11 +161,11 @@ fn target_from<'a>(giver: Giver<'a>, taken: Taken<'a>) -> Target<'a>
 // The names that are meant, by what gives them.
 fn names_by<'a>(
     alloc: Global,
-    meant: &IndexSet<Target<'a>>,
-) -> Result<IndexMap<Giver<'a>, Vec<&'a str>>, AllocError>
+    meant: &TextSet<Target<'a>>,
+) -> Result<TextMap<Giver<'a>, Vec<&'a str>>, AllocError>
     ensures { IfOk result (λ names. AreAllNames (targets_in meant.now) names) }
 {
-    let mut names = IndexMap::new(alloc);
+    let mut names = TextMap::new(alloc);
     let all = meant.as_slice();
     for target in all {
         add_target(alloc, &mut names, *target)?;
@@ -175,7 +176,7 @@ fn names_by<'a>(
 // Adds the name that a target is, if it is one.
 fn add_target<'a>(
     alloc: Global,
-    names: &mut IndexMap<Giver<'a>, Vec<&'a str>>,
+    names: &mut TextMap<Giver<'a>, Vec<&'a str>>,
     target: Target<'a>,
 ) -> Result<(), AllocError>
     ensures { OnOk result ((g : GiverType) → (found : Option (Bor Text))
@@ -198,7 +199,7 @@ fn add_target<'a>(
 // Adds a name that is taken; the whole is none.
 fn add_taken<'a>(
     alloc: Global,
-    names: &mut IndexMap<Giver<'a>, Vec<&'a str>>,
+    names: &mut TextMap<Giver<'a>, Vec<&'a str>>,
     giver: Giver<'a>,
     taken: Taken<'a>,
 ) -> Result<(), AllocError>
@@ -215,7 +216,7 @@ fn add_taken<'a>(
 // Adds a name to those of what gives it.
 fn add_name<'a>(
     alloc: Global,
-    names: &mut IndexMap<Giver<'a>, Vec<&'a str>>,
+    names: &mut TextMap<Giver<'a>, Vec<&'a str>>,
     giver: Giver<'a>,
     name: &'a str,
 ) -> Result<(), AllocError>
@@ -223,21 +224,14 @@ fn add_name<'a>(
         ((g : GiverType) →
         names_for names.new g ≡ names_for names.old g ++ given_to giver.entry g name.entry) }
 {
-    if let Some(own) = names.get_mut(&giver) {
-        own.push(name)?;
-        return Ok(());
-    }
-    let mut own = Vec::new(alloc);
-    own.push(name)?;
-    names.insert(giver, own)?;
-    Ok(())
+    names.push(alloc, giver, name)
 }
 
 // The names of what gives them, ascending.
 fn names_from<'a>(
     alloc: Global,
     giver: Giver<'a>,
-    names: &IndexMap<Giver<'a>, Vec<&'a str>>,
+    names: &TextMap<Giver<'a>, Vec<&'a str>>,
 ) -> Result<Vec<&'a str>, AllocError>
     ensures { (targets : List TargetTerm) →
         HoldNames giver.entry targets (names_for names.now giver.entry) →
@@ -259,7 +253,7 @@ fn names_from<'a>(
 pub fn loads_of<'a>(
     alloc: Global,
     kinds: &Kinds<'_, '_, 'a>,
-    meant: &IndexSet<Target<'a>>,
+    meant: &TextSet<Target<'a>>,
 ) -> Result<Vec<Vec<Loaded<'a>>>, AllocError>
     ensures { IfOk result (λ lists. (m : ℕ) → Contains kinds.now.list.now m →
         AreLoadsOf kinds.now (targets_in meant.now) m (list_in lists.items m)) }
@@ -278,8 +272,8 @@ fn loads_by<'a>(
     alloc: Global,
     kinds: &Kinds<'_, '_, 'a>,
     taker: usize,
-    meant: &IndexSet<Target<'a>>,
-    names: &IndexMap<Giver<'a>, Vec<&'a str>>,
+    meant: &TextSet<Target<'a>>,
+    names: &TextMap<Giver<'a>, Vec<&'a str>>,
 ) -> Result<Vec<Loaded<'a>>, AllocError>
     ensures { AreAllNames (targets_in meant.now) names.now →
         IfOk result (λ loads. AreLoadsOf kinds.now (targets_in meant.now) taker loads.items) }
@@ -306,10 +300,10 @@ fn loaded_by(alloc: Global, kinds: &Kinds, taker: usize) -> Result<IndexSet<usiz
 }
 
 // Adds those to which sources lead.
-fn add_loads(
-    kinds: &Kinds,
+fn add_loads<'a>(
+    kinds: &Kinds<'_, '_, 'a>,
     taker: usize,
-    sources: &[Source],
+    sources: &[Source<'a>],
     modules: &mut IndexSet<usize>,
 ) -> Result<(), AllocError>
     ensures { (before : List ℕ) →
@@ -362,8 +356,8 @@ fn loaded_of<'a>(
     alloc: Global,
     taker: usize,
     module: usize,
-    meant: &IndexSet<Target<'a>>,
-    names: &IndexMap<Giver<'a>, Vec<&'a str>>,
+    meant: &TextSet<Target<'a>>,
+    names: &TextMap<Giver<'a>, Vec<&'a str>>,
 ) -> Result<Loaded<'a>, AllocError>
     ensures number { IfOk result (λ loaded. loaded.module ≡ «module») }
     ensures taken { AreAllNames (targets_in meant.now) names.now →
@@ -405,11 +399,11 @@ fn starred_by<'a>(
     alloc: Global,
     kinds: &Kinds<'_, '_, 'a>,
     modules: &IndexSet<usize>,
-) -> Result<IndexSet<&'a str>, AllocError>
+) -> Result<TextSet<&'a str>, AllocError>
     ensures { IfOk result (λ set.
         HasTexts set (flat_map (starred_in kinds.now) modules.now.keys)) }
 {
-    let mut starred = IndexSet::new(alloc);
+    let mut starred = TextSet::new(alloc);
     let all = modules.as_slice();
     for module in all {
         add_starred_of(kinds, *module, &mut starred)?;
@@ -421,7 +415,7 @@ fn starred_by<'a>(
 fn add_starred_of<'a>(
     kinds: &Kinds<'_, '_, 'a>,
     module: usize,
-    starred: &mut IndexSet<&'a str>,
+    starred: &mut TextSet<&'a str>,
 ) -> Result<(), AllocError>
     ensures { (before : List Text) → HasTexts starred.old before →
         OnOk result (HasTexts starred.new (before ++ starred_in kinds.now «module»)) }
@@ -437,7 +431,7 @@ fn add_starred<'a>(
     kinds: &Kinds<'_, '_, 'a>,
     module: usize,
     stars: &[&'a str],
-    starred: &mut IndexSet<&'a str>,
+    starred: &mut TextSet<&'a str>,
 ) -> Result<(), AllocError>
     ensures { (before : List Text) →
         HasTexts starred.old before →
@@ -452,11 +446,7 @@ fn add_starred<'a>(
 }
 
 // Adds that of a star, if it leads to an external.
-fn add_star<'a>(
-    lead: Lead,
-    star: &'a str,
-    starred: &mut IndexSet<&'a str>,
-) -> Result<(), AllocError>
+fn add_star<'a>(lead: Lead, star: &'a str, starred: &mut TextSet<&'a str>) -> Result<(), AllocError>
     ensures { (before : List Text) → HasTexts starred.old before →
         OnOk result (HasTexts starred.new (before ++ starred_as (lead_told lead) star.now)) }
 {
@@ -475,7 +465,7 @@ fn add_star<'a>(
 fn starred_among<'a>(
     alloc: Global,
     externals: &[External<'a>],
-    starred: &IndexSet<&'a str>,
+    starred: &TextSet<&'a str>,
 ) -> Result<Vec<&'a str>, AllocError>
     ensures { IfOk result (λ stars.
         (texts : List Text) →

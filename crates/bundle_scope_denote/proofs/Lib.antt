@@ -26,3 +26,6 @@ pub mod PassedLemmas
 pub mod BarredLemmas
 pub mod MetLemmas
 pub mod DoubledLemmas
+pub mod TextInsertLemmas
+pub mod TextPlaceLemmas
+pub mod TextSeenLemmas

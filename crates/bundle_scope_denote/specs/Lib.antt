@@ -8,3 +8,6 @@ pub mod Ready
 pub mod Searched
 pub mod Listed
 pub mod Barred
+pub mod Salted
+pub mod Hashed
+pub mod texts

@@ -19,6 +19,7 @@ ghost use Rattle.bundle_scope_denote.specs.Steps.{IsBlank, IsWhole, Stays};
 
 use crate::homes::{Bindings, alone_of, homes_of, outer_at, scope_at};
 use crate::kinds::is_function;
+use crate::salt::{Salt, salt_of};
 use crate::table::{Binding, Denotations, Denoted, ModuleKind, Reading, Scope};
 use crate::walk::{Name, Occurrence, Walk, number_of};
 use bundle_tree_piece::Piece;
@@ -35,7 +36,7 @@ pub fn denotations<'a>(
 ) -> Result<Denotations<'a>, AllocError>
     ensures { IfOk result (IsTable (reading_as reading) (kind_as kind) (map item_of pieces.now)) }
 {
-    let mut walk = Walk::new(alloc, kind, reading);
+    let mut walk = Walk::new(alloc, kind, reading, salt_of(pieces));
     let found = found_along(alloc, &mut walk, pieces)?;
     Ok(table_of(walk, found))
 }
@@ -336,7 +337,7 @@ fn is_unresolved(ctxt: Option<u32>) -> bool
 // identifier declares the symbol in the same scope.
 fn implied_in<'a>(
     alloc: Global,
-    names: &IndexSet<Name<'a>>,
+    names: &IndexSet<Name<'a>, Salt>,
     keys: &IndexSet<(usize, usize)>,
     reading: Reading,
 ) -> Result<IndexSet<(usize, usize)>, AllocError>
@@ -352,7 +353,7 @@ fn implied_in<'a>(
 // The same by symbol and context.
 fn implied_by_context<'a>(
     alloc: Global,
-    names: &IndexSet<Name<'a>>,
+    names: &IndexSet<Name<'a>, Salt>,
     keys: &IndexSet<(usize, usize)>,
 ) -> Result<IndexSet<(usize, usize)>, AllocError>
     ensures { IfOk result (λ implied.
@@ -368,7 +369,7 @@ fn implied_by_context<'a>(
 // Adds a key, if it is that of a name that no identifier declares.
 fn put_implied<'a>(
     implied: &mut IndexSet<(usize, usize)>,
-    names: &IndexSet<Name<'a>>,
+    names: &IndexSet<Name<'a>, Salt>,
     keys: &IndexSet<(usize, usize)>,
     key: (usize, usize),
 ) -> Result<(), AllocError>
@@ -387,7 +388,7 @@ fn put_implied<'a>(
 
 // Whether a key has no context, and no identifier declares its symbol in the scope.
 fn is_implied<'a>(
-    names: &IndexSet<Name<'a>>,
+    names: &IndexSet<Name<'a>, Salt>,
     keys: &IndexSet<(usize, usize)>,
     key: (usize, usize),
 ) -> bool
@@ -404,7 +405,7 @@ fn is_implied<'a>(
 
 // Whether a key of the scope is of an identifier's name with this symbol.
 fn is_written<'a>(
-    names: &IndexSet<Name<'a>>,
+    names: &IndexSet<Name<'a>, Salt>,
     keys: &IndexSet<(usize, usize)>,
     scope: usize,
     sym: &str,
@@ -423,7 +424,7 @@ fn is_written<'a>(
 
 // Whether a key is of the scope and of an identifier's name with this symbol.
 fn is_written_key<'a>(
-    names: &IndexSet<Name<'a>>,
+    names: &IndexSet<Name<'a>, Salt>,
     key: (usize, usize),
     scope: usize,
     sym: &str,
@@ -438,7 +439,7 @@ fn is_written_key<'a>(
 }
 
 // Whether the name with a number is that of an identifier with this symbol, whose context is read.
-fn is_written_name<'a>(names: &IndexSet<Name<'a>>, number: usize, sym: &str) -> bool
+fn is_written_name<'a>(names: &IndexSet<Name<'a>, Salt>, number: usize, sym: &str) -> bool
     ensures { result
         ≡ bound.is_written_name sym.now (slice_get (map name_as names.now.keys) number) }
 {

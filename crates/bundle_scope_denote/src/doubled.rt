@@ -20,6 +20,7 @@ ghost use Rattle.bundle_scope_denote.specs.Listed.{place_and_symbol, told_of};
 
 use crate::homes::{outer_at, scope_at, taker_of, takes_at};
 use crate::kinds::{is_var, is_wrapper, joins_outer};
+use crate::salt::salt_of;
 use crate::table::{Doubled, ModuleKind, Reading, Scope, ScopeKind, Way};
 use crate::walk::{Declaration, Walk};
 use bundle_tree_piece::Piece;
@@ -39,7 +40,7 @@ pub fn first_doubled<'a>(
         ≡ option_map place_and_symbol
         (doubled.first_doubled (kind_as kind) (map item_of pieces.now))) }
 {
-    let mut walk = Walk::new(alloc, kind, Reading::BySymbol);
+    let mut walk = Walk::new(alloc, kind, Reading::BySymbol, salt_of(pieces));
     doubled_along(alloc, &mut walk, pieces)
 }
 

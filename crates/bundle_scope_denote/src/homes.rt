@@ -13,6 +13,7 @@ ghost use Rattle.bundle_scope_denote.specs.Bound.{Key, home_from, is_parameter_k
 ghost use Rattle.bundle_scope_denote.specs.Ready.{AddsHome, AreHomes, AreHomesOf, AreNamed, FindsAlone, Matches, binding_name, has_parameter, taken_key};
 
 use crate::kinds::{has_parameters, holds_parameters, joins_parameter, takes};
+use crate::salt::Salt;
 use crate::table::{Binding, Scope, Way};
 use crate::walk::{Declaration, Name, Walk};
 use indexmap::IndexSet;
@@ -117,7 +118,7 @@ impl<'a> Homes<'a> {
 
 /// The number of the name without a context that has the symbol of a name with a number.
 pub(crate) fn alone_of<'a>(
-    names: &IndexSet<Name<'a>>,
+    names: &IndexSet<Name<'a>, Salt>,
     name: Name<'a>,
     number: usize,
 ) -> Option<usize>
@@ -131,7 +132,7 @@ pub(crate) fn alone_of<'a>(
 }
 
 // The number of the name without a context that has this symbol.
-fn without_context<'a>(names: &IndexSet<Name<'a>>, sym: &'a str) -> Option<usize>
+fn without_context<'a>(names: &IndexSet<Name<'a>, Salt>, sym: &'a str) -> Option<usize>
     ensures { FindsAlone (map name_as names.now.keys) sym.now result }
 {
     names.get_index_of(&Name { sym, ctxt: None })

@@ -12,6 +12,7 @@ ghost use Rattle.bundle_scope_denote.specs.Kinds as kinds;
 ghost use Rattle.bundle_scope_denote.specs.Kinds.{kind_as, kind_made, kind_named, reading_as, scope_as};
 ghost use Rattle.bundle_scope_denote.specs.Steps.{Begins, Ends, Goes, IsBlank, IsTidyAt, IsWalkAt, IsWhole, Occurs, Starts, Stays};
 ghost use Rattle.bundle_scope_denote.specs.Numbers.{Keeps, name_as, numbered, in_scope};
+ghost use Rattle.bundle_scope_denote.specs.Hashed.{hashed, hashed-alike};
 ghost use Rattle.bundle_scope_denote.specs.Walked as walked;
 ghost use Rattle.bundle_scope_denote.specs.Walked.{IsAlone, IsDefault, StaysOnce, begins_node_by, begins_nameless, declared_as, is_identifier_by, is_nameless_by};
 
@@ -19,16 +20,32 @@ use crate::kinds::{
     block_in, is_default, is_loop_head, is_pattern, kind_of_scope, leaves_first_out, way_in,
     way_of_variable,
 };
+use crate::salt::Salt;
 use crate::table::{ModuleKind, Reading, Scope, ScopeKind, Way};
 use bundle_tree_piece::{Node, Piece, Role};
 use indexmap::IndexSet;
 use std::alloc::{AllocError, Global};
+use std::hash::{Hash, Hasher};
 
 /// A name: its symbol, and its context where names are read by symbol and context.
-#[derive(Clone, Copy, PartialEq, Eq, Hash)]
+#[derive(Clone, Copy, PartialEq, Eq)]
 pub(crate) struct Name<'a> {
     pub(crate) sym: &'a str,
     pub(crate) ctxt: Option<u32>,
+}
+
+// The symbol goes last, so that nothing has to stand behind it, and the context takes a whole word.
+impl<'a> Hash for Name<'a> {
+    ghost hash_input = { hashed };
+
+    ghost respects_eq = { hashed-alike };
+
+    fn hash<H: Hasher>(&self, state: &mut H) {
+        if let Some(ctxt) = self.ctxt {
+            state.write_u64(ctxt as u64);
+        }
+        state.write(self.sym.as_bytes());
+    }
 }
 
 /// A name where it is declared: its number, and the innermost scope around the place.
@@ -66,7 +83,7 @@ pub(crate) struct Open<'a> {
 #[derive(Drop)]
 pub(crate) struct Walk<'a> {
     pub(crate) scopes: Vec<Scope>,
-    pub(crate) names: IndexSet<Name<'a>>,
+    pub(crate) names: IndexSet<Name<'a>, Salt>,
     pub(crate) declarations: Vec<Declaration>,
     pub(crate) occurrences: Vec<Occurrence>,
     pub(crate) top: usize,
@@ -78,7 +95,7 @@ pub(crate) struct Walk<'a> {
 
 impl<'a> Walk<'a> {
     /// Nothing was met yet.
-    pub(crate) fn new(alloc: Global, kind: ModuleKind, reading: Reading) -> Walk<'a>
+    pub(crate) fn new(alloc: Global, kind: ModuleKind, reading: Reading, salt: Salt) -> Walk<'a>
         ensures blank { IsBlank result }
         ensures kind { result.kind ≡ kind }
         ensures reading { result.reading ≡ reading }
@@ -86,7 +103,7 @@ impl<'a> Walk<'a> {
         let top = top_of(kind);
         Walk {
             scopes: Vec::new(alloc),
-            names: IndexSet::new(alloc),
+            names: IndexSet::with_hasher(alloc, salt),
             declarations: Vec::new(alloc),
             occurrences: Vec::new(alloc),
             top,
@@ -370,7 +387,7 @@ fn name_of<'a>(reading: Reading, sym: &'a str, ctxt: u32) -> Name<'a>
 
 /// The number of a name, which it gets if it has none.
 pub(crate) fn number_of<'a>(
-    names: &mut IndexSet<Name<'a>>,
+    names: &mut IndexSet<Name<'a>, Salt>,
     name: Name<'a>,
 ) -> Result<usize, AllocError>
     ensures keeps { OnOk result (Keeps (map name_as names.old.keys) (map name_as names.new.keys)) }
@@ -385,7 +402,7 @@ pub(crate) fn number_of<'a>(
 
 // The declaration of a name for which no identifier stands.
 fn alone<'a>(
-    names: &mut IndexSet<Name<'a>>,
+    names: &mut IndexSet<Name<'a>, Salt>,
     sym: &'a str,
     way: Way,
     place: usize,
@@ -408,7 +425,7 @@ fn alone<'a>(
 
 // The declaration of the default export without a name that begins with the first of these pieces, if one does.
 fn default_at<'a>(
-    names: &mut IndexSet<Name<'a>>,
+    names: &mut IndexSet<Name<'a>, Salt>,
     rest: &[Piece<'a>],
     place: usize,
     top: usize,

@@ -20,7 +20,7 @@ ghost use Rattle.bundle_scope_names.specs.Marks as the_marks;
 ghost use Rattle.bundle_scope_names.specs.Marks.{Adds, AddsGlobal, AddsSymbol, AreTried, Gives, IsClosed, Keeps, Knows, Marks, has, has_given, has_symbol, has_taken, may_keep_by};
 
 use crate::names::Names;
-use bundle_scope_denote::{Binding, Denotations, Denoted, Scope, ScopeKind};
+use bundle_scope_denote::{Binding, Denotations, Denoted, Salt, Scope, ScopeKind, salt_of};
 use bundle_tree_piece::Piece;
 use std::alloc::{AllocError, Global};
 use std::collections::{HashMap, HashSet};
@@ -32,15 +32,15 @@ type Place = (usize, usize, usize);
 #[derive(Drop)]
 struct Hygiene<'s> {
     // The symbols of the bindings and of the globals.
-    symbols: HashSet<&'s str>,
+    symbols: HashSet<&'s str, Salt>,
     // The scopes in which, or in a scope inside which, a symbol denotes a global or a binding that keeps it.
-    needed: HashSet<(usize, &'s str)>,
+    needed: HashSet<(usize, &'s str), Salt>,
     // The groups of scopes in which a binding keeps a symbol.
-    kept: HashSet<(usize, &'s str)>,
+    kept: HashSet<(usize, &'s str), Salt>,
     // The texts that were given.
-    given: HashSet<String>,
+    given: HashSet<String, Salt>,
     // For each symbol that was numbered the last number that was tried.
-    last: HashMap<&'s str, usize>,
+    last: HashMap<&'s str, usize, Salt>,
 }
 
 /// What the bindings of a list, which is read by symbol and context, are called once contexts are gone. The
@@ -289,7 +289,7 @@ fn joins_outer(kind: ScopeKind) -> bool
 
 // Marks a symbol in a scope and in those around it.
 fn mark<'s>(
-    marks: &mut HashSet<(usize, &'s str)>,
+    marks: &mut HashSet<(usize, &'s str), Salt>,
     scopes: &[Scope],
     from: usize,
     sym: &'s str,
@@ -314,7 +314,7 @@ fn mark<'s>(
 
 // Marks a symbol in scopes and in those around them.
 fn mark_all<'s>(
-    marks: &mut HashSet<(usize, &'s str)>,
+    marks: &mut HashSet<(usize, &'s str), Salt>,
     scopes: &[Scope],
     uses: &[usize],
     sym: &'s str,
@@ -347,12 +347,13 @@ impl<'s> Hygiene<'s> {
             facts.items ≡ map item_of pieces.now →
             Knows facts [] hygiene) }
     {
+        let salt = salt_of(pieces);
         let mut hygiene = Hygiene {
-            symbols: HashSet::new(alloc),
-            needed: HashSet::new(alloc),
-            kept: HashSet::new(alloc),
-            given: HashSet::new(alloc),
-            last: HashMap::new(alloc),
+            symbols: HashSet::with_hasher(alloc, salt),
+            needed: HashSet::with_hasher(alloc, salt),
+            kept: HashSet::with_hasher(alloc, salt),
+            given: HashSet::with_hasher(alloc, salt),
+            last: HashMap::with_hasher(alloc, salt),
         };
         for occurrence in &denotations.occurrences {
             hygiene.add(pieces, &denotations.scopes, symbols, *occurrence)?;

@@ -12,7 +12,7 @@ ghost use Rattle.bundle_scope_names.specs.Fresh.{AddsNames, Answers as AnswersFo
 
 use crate::names::Names;
 use crate::words::is_keyword;
-use bundle_scope_denote::{Binding, Denotations};
+use bundle_scope_denote::{Binding, Denotations, Salt, salt_of};
 use bundle_tree_piece::{Piece, Role};
 use std::alloc::{AllocError, Global};
 use std::collections::HashSet;
@@ -20,7 +20,7 @@ use std::collections::HashSet;
 // Which identifiers a list has, and their contexts; and the next context to try.
 #[derive(Drop)]
 struct Taken<'a> {
-    names: HashSet<(u32, &'a str)>,
+    names: HashSet<(u32, &'a str), Salt>,
     contexts: HashSet<u32>,
     next: u32,
 }
@@ -155,7 +155,7 @@ impl<'a> Taken<'a> {
         ensures next { IfOk result (λ taken. taken.next ≡ 2) }
     {
         let mut taken = Taken {
-            names: HashSet::new(alloc),
+            names: HashSet::with_hasher(alloc, salt_of(pieces)),
             contexts: HashSet::new(alloc),
             next: 2,
         };

@@ -16,4 +16,4 @@ invariant-loop-done l = record {
 }
 
 abbrev pub decreases-loop-done : goal.decreases-loop-done
-decreases-loop-done l = 2 ^ 63 - l.done
+decreases-loop-done l = 2 ^ 64 - l.done

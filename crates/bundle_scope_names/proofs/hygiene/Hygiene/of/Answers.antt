@@ -22,7 +22,7 @@ loop-occurrence-preserved c =
     subst (λ n. HasGlobals (map numbered c.args.denotations.now.scopes.items) (map item_of c.args.pieces.now) (map (λ (s : Bor Text). s.now) c.args.symbols.now) (take n c.args.denotations.now.occurrences.items) c.add.new.self) one (globals-more (map numbered c.args.denotations.now.scopes.items) (map item_of c.args.pieces.now) (map (λ (s : Bor Text). s.now) c.args.symbols.now) c.args.denotations.now.occurrences.items c.loop-occurrence.occurrence-index o c.loop-occurrence.hygiene c.add.new.self (ap (λ l. slice_get l c.loop-occurrence.occurrence-index) (sym same) ∙ slice_get-get_or c.deref-occurrence-items.result.now c.loop-occurrence.occurrence-index _ c.loop-occurrence-test.true) adds c.loop-occurrence.invariant)
 
 pub loop-occurrence-init : goal.loop-occurrence-init
-loop-occurrence-init c = globals-first (map numbered c.args.denotations.now.scopes.items) (map item_of c.args.pieces.now) (map (λ (s : Bor Text). s.now) c.args.symbols.now) _ c.new.ensures.empty c.new-2.ensures.empty c.new-3.ensures.empty c.new-4.ensures.empty c.new-5.ensures.empty
+loop-occurrence-init c = globals-first (map numbered c.args.denotations.now.scopes.items) (map item_of c.args.pieces.now) (map (λ (s : Bor Text). s.now) c.args.symbols.now) _ c.with_hasher.ensures.empty c.with_hasher-2.ensures.empty c.with_hasher-3.ensures.empty c.with_hasher-4.ensures.empty c.with_hasher-5.ensures.empty
 
 pub returns : goal.returns
 returns c = λ facts e_scopes e_symbols e_occurrences e_items.
