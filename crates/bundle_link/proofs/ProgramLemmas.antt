@@ -21,12 +21,13 @@ use Rattle.bundle_rules.specs.Tables.{is_star, star_of}
 use Rattle.bundle_link_index.specs.Numbered.{IsOnce}
 use Rattle.bundle_link_index.specs.Programs.{IsTableOf}
 use Rattle.bundle_link_index.specs.Said.{HasEachOnce}
+use Rattle.bundle_link_targets.proofs.FillLemmas.{zip-at}
 use Rattle.bundle_link_reached.specs.Leads.{led, place_in}
 use Rattle.bundle_link_reached.specs.Numbered as n
 use Rattle.bundle_link_reached.specs.declared.module.NumberedModule.{NumberedModule}
-use Rattle.bundle_link_reached.proofs.NumberLemmas.{at-place, place-there}
+use Rattle.bundle_link_reached.proofs.NumberLemmas.{at-place, got, place-there}
 use Rattle.bundle_link_reached.proofs.ProgramLemmas.{beside, led_beside, mapped, no_export, zip_left}
-use Rattle.bundle_link.specs.Programs.{AreModulesOf, HasTables, numbers}
+use Rattle.bundle_link.specs.Programs.{AreFaultless, AreModulesOf, HasTables, numbers}
 use Rattle.bundle_link.specs.Read.{AreTablesOf}
 use Rattle.bundle_link.specs.Refusals.{Links}
 use Rattle.bundle_link.specs.declared.transformed.TransformedModule.{TransformedModule}
@@ -47,6 +48,13 @@ table_of p m config file tree tables links is read = record {
   names = read.names ∙ ap asked_names is;
   uses = read.uses ∙ ap uses_of is;
 }
+
+-- modules whose tables were read have no fault by themselves
+pub are-faultless : (config : Config) (modules : List TransformedModule) (tables : List Tables) →
+    AllZip (HasTables config) modules tables → AreFaultless modules
+are-faultless config modules tables read its there =
+    let k = got modules its there in
+    let t = zip-at (HasTables config) modules tables read k.0 its k.1 in t.2.faultless
 
 module _ (p : Program) (modules : List TransformedModule) (config : Config) (entry : ℕ) (w : AreModulesOf p modules config entry) (tables : List Tables) (read : AllZip (HasTables config) modules tables) where
   -- no module has two exports of one name, since its tree has no fault

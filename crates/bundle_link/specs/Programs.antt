@@ -6,6 +6,7 @@ use Rattle.bundle_tree_names.specs.declared.config.ModuleType.{ModuleType}
 use Rattle.bundle_tree_names.specs.declared.config.ModuleType.TheVariants.{Es, Iife}
 use Rattle.bundle_tree_listed.specs.Tree.{module_items}
 use Rattle.bundle_link_tables.specs.declared.table.Tables.{Tables}
+use Rattle.bundle_rules.specs.Faults.{IsFaultless}
 use Rattle.bundle_rules.specs.Nodes.{Text}
 use Rattle.bundle_rules.specs.Program.{Program, file_of, tree_of}
 use Rattle.bundle_link_index.specs.Numbered.{IsOnce}
@@ -48,8 +49,15 @@ pub record AreModulesOf (p : Program) (modules : List TransformedModule) (config
 abbrev pub HasTables : Config → TransformedModule → Tables → Type 0
 HasTables config its tables = AreTablesOf config (name_of its.file_name) (module_items 0 its.tree.now) tables
 
--- what the linker tells is of the program, whose trees are those of modules, and the files of its modules, by their places, are those of the program
+-- none of these modules has a fault by itself
+abbrev pub AreFaultless : List TransformedModule → Type 0
+AreFaultless modules = (its : TransformedModule) → Contains modules its → IsFaultless (name_of its.file_name) (module_items 0 its.tree.now)
+
+-- what the linker tells is of the program, whose trees are those of modules; its modules and settings are those of the program, none of them has a fault by itself, they stand at the places of their numbers, and their files are those of the program
 pub record IsLinkerOf (p : Program) (linker : Linker) : Type 0 where
+  pub modules : AreModulesOf p linker.modules.items linker.config linker.entry
+  pub faultless : AreFaultless linker.modules.items
+  pub numbered : linker.linked.ids.keys ≡ numbers linker.modules.items
   pub linked : IsLinkedOf p linker.linked
   pub trees : (m : ℕ) → IsModuleTree (tree_of p m)
   pub files : (place m : ℕ) →

@@ -1,6 +1,6 @@
 //! The modules of one bundle, linked.
 
-ghost use Rattle.std.specs.Prelude.{◌≡◌, ◌-◌, ℕ, Contains, IfErr, IfOk, IfSome, IsNone, MatchResult, None, Some, false, length, map, nat_eq, option_map, slice_get};
+ghost use Rattle.std.specs.Prelude.{◌≡◌, ◌-◌, ℕ, Contains, IfErr, IfOk, IfSome, IsNone, MatchResult, None, Some, false, length, map, nat_eq, option_map, slice_get, string_bytes};
 ghost use Rattle.std.specs.List.{AllZip};
 ghost use Rattle.indexmap.specs.IndexSet.{contains, index_of_by};
 ghost use Rattle.bundle_tree_names.specs.FileName.{name_of};
@@ -8,12 +8,13 @@ ghost use Rattle.bundle_tree_piece.specs.Item.{item_of};
 ghost use Rattle.bundle_link_reached.specs.Linked.{IsLinkedOf};
 ghost use Rattle.bundle_rules.specs.Program.{Program};
 ghost use Rattle.bundle_rules.specs.Tables.{IsChecked, IsResolution, TellsCommonJs, TellsMeant};
+ghost use Rattle.bundle_rules.specs.Entries.{has_import_meta};
 ghost use Rattle.bundle_link_index.specs.Programs.{IsProgramOf};
 ghost use Rattle.bundle_link_targets.specs.Linked.{HandsOver, IsJudgedBy, IsLinkingOf};
 ghost use Rattle.bundle_link_targets.specs.Meant.{DeclaresDefaultOnce};
 ghost use Rattle.bundle_link_reached.specs.Judged.{numbers_below};
 ghost use Rattle.bundle_link.specs.Checked.{TellsLinkFault};
-ghost use Rattle.bundle_link.specs.Programs.{AreModulesOf, HasTables, IsLinkerOf, is_call, numbers};
+ghost use Rattle.bundle_link.specs.Programs.{AreFaultless, AreModulesOf, HasTables, IsLinkerOf, is_call, numbers};
 ghost use Rattle.bundle_rules.specs.Nodes.{numbers_once};
 ghost use Rattle.bundle_link.specs.Resolved.{resolution_says};
 ghost use Rattle.bundle_link.specs.Read.{AreTablesOf};
@@ -108,6 +109,8 @@ impl<'a> Linker<'a> {
         ensures refused { IfErr result (IsTreeRefusal (name_of file.now) (map item_of pieces.now)) }
         ensures given { IfOk result
             (AreTablesOf self.now.config (name_of file.now) (map item_of pieces.now)) }
+        ensures meta { IfOk result (λ tables.
+            tables.has_import_meta ≡ has_import_meta (map item_of pieces.now)) }
     {
         read_list(self.alloc, file, pieces, &self.config)
     }
@@ -213,6 +216,7 @@ fn linked_modules<'a>(
     ensures linked { IfOk result (λ linked. (p : Program) →
         AreModulesOf p modules.now config.now entry → IsLinkedOf p linked) }
     ensures ids { IfOk result (λ linked. linked.ids.keys ≡ numbers_once (numbers modules.now)) }
+    ensures faultless { IfOk result (λ linked. AreFaultless modules.now) }
     ensures refused { IfErr result (IsRefusalOfOne modules.now) }
 {
     let tables = tables_of_all(alloc, modules, config)?;
@@ -262,7 +266,13 @@ fn tables_of_all<'a>(
 }
 
 // The settings, once more.
-fn copied(alloc: Global, config: &Config) -> Result<Config, AllocError> {
+fn copied(alloc: Global, config: &Config) -> Result<Config, AllocError>
+    ensures require { IfOk result (λ copy. copy.require ≡ config.now.require) }
+    ensures module { IfOk result (λ copy. copy.«module» ≡ config.now.«module») }
+    ensures external { IfOk result (λ copy.
+        map (λ text. string_bytes text) copy.external_modules.items
+        ≡ map (λ text. string_bytes text) config.now.external_modules.items) }
+{
     let mut external_modules = Vec::new(alloc);
     for specifier in &config.external_modules {
         external_modules.push(specifier.clone()?)?;

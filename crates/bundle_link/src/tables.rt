@@ -9,7 +9,7 @@ ghost use Rattle.bundle_tree_piece.specs.Item.{item_of};
 ghost use Rattle.bundle_tree_listed.specs.Tree.{module_items};
 ghost use Rattle.bundle_link_tables.specs.Judged.{doubled_name};
 ghost use Rattle.bundle_link_tables.specs.TablesOf.{entry_by_origin, export_entry_of, import_entry_of, taken_of};
-ghost use Rattle.bundle_rules.specs.Entries.{Settings};
+ghost use Rattle.bundle_rules.specs.Entries.{Settings, has_import_meta};
 ghost use Rattle.bundle_rules.specs.Nodes.{has_text, Text};
 ghost use Rattle.bundle_rules.specs.Tables as t;
 ghost use Rattle.bundle_rules.specs.Tables.{IsExportTable, IsImportTable, IsRequestTable};
@@ -141,6 +141,8 @@ pub(crate) fn read_list<'a>(
     ensures refused { IfErr result (IsTreeRefusal (name_of file.now) (map item_of pieces.now)) }
     ensures given { IfOk result
         (AreTablesOf config.now (name_of file.now) (map item_of pieces.now)) }
+    ensures meta { IfOk result (λ tables.
+        tables.has_import_meta ≡ has_import_meta (map item_of pieces.now)) }
 {
     let names = denotations(alloc, pieces, ModuleKind::Es, Reading::BySymbol)?;
     let answer = tables_of(

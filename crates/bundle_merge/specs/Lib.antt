@@ -1,4 +1,6 @@
 pub mod Prepared
 pub mod Read
+pub mod Handed
 pub mod Placed
+pub mod Ready
 pub mod Refusals

@@ -1,14 +1,31 @@
 -- What is read of the prepared items of a module: its own items, and the name of the statement in front of them that
 -- holds its `import.meta`.
-use Rattle.std.specs.Prelude.{List, [], ◌∷◌, Option, Some, None, drop, take, if◌then◌else◌}
-use Rattle.std.specs.List.{flat_map}
+use Rattle.std.specs.Prelude.{◌≡◌, ℕ, List, [], ◌∷◌, Option, Some, None, Contains, drop, map, nat_eq, option_map, slice_get, take, if◌then◌else◌}
+use Rattle.std.specs.List.{AllZip, flat_map}
+use Rattle.indexmap.specs.IndexMap.{get_by_text}
+use Rattle.indexmap.specs.IndexSet.{index_of_by}
+use Rattle.bundle_tree_ast.specs.declared.module.Module.{Module}
 use Rattle.bundle_tree_ast.specs.declared.module.ModuleItem.{ModuleItem}
+use Rattle.bundle_tree_names.specs.FileName.{name_of}
 use Rattle.bundle_tree_piece.specs.declared.piece.Role.TheVariants.{Binding}
 use Rattle.bundle_tree_piece.specs.Item as h
-use Rattle.bundle_tree_piece.specs.Item.{Item}
+use Rattle.bundle_tree_piece.specs.Item.{Item, item_of}
 use Rattle.bundle_tree_listed.specs.Tree.{module_item_items, node}
+use Rattle.bundle_tree_places.specs.Marks.{ident_of}
+use Rattle.bundle_rules.specs.Declarations.{BySymbol}
 use Rattle.bundle_rules.specs.Entries.{has_import_meta}
 use Rattle.bundle_rules.specs.Idents.{Ident}
+use Rattle.bundle_rules.specs.Meaning.{HasKind}
+use Rattle.bundle_rules.specs.Nodes.{Text}
+use Rattle.bundle_rules.specs.Program.{Program}
+use Rattle.bundle_rules.specs.Scopes.{ModuleKind}
+use Rattle.bundle_scope_denote.specs.Listed.{IsTable}
+use Rattle.bundle_link_reached.specs.Leads.{place_in, told}
+use Rattle.bundle_link.specs.Programs.{IsLinkerOf}
+use Rattle.bundle_link.specs.Read.{AreTablesOf}
+use Rattle.bundle_link.specs.declared.link.Linker.{Linker}
+use Rattle.bundle_link.specs.declared.transformed.TransformedModule.{TransformedModule}
+use Rattle.bundle_merge_names.specs.declared.part.Part.{Part}
 
 -- the list of items
 abbrev pub list_of : List ModuleItem → List Item
@@ -40,3 +57,35 @@ own_part items = without_front (held_by items) items
 -- the list of a module of these
 abbrev pub own_list : List ModuleItem → List Item
 own_list items = node 0 h.Module (list_of (own_part items))
+
+-- a part is what was read of the prepared items of a module of a linker, where the modules on its list have these
+-- places: the items, the name of the statement in front, and of the module's own items the list, what the names in it
+-- denote, its tables, and where its requests lead
+pub record IsReadOf (linker : Linker) (known : TransformedModule) (ids : List ℕ) (items : List ModuleItem) (part : Part) : Type 0 where
+  pub its_items : part.items.now ≡ items
+  pub written : option_map ident_of part.written ≡ held_by items
+  pub list : map item_of part.pieces.now ≡ own_list items
+  pub names : (p : Program) (kind : ModuleKind) →
+      IsLinkerOf p linker →
+      HasKind p known.id kind →
+      IsTable BySymbol kind (own_list items) part.denotations.now
+  pub tables : AreTablesOf linker.config (name_of known.file_name) (own_list items) part.tables.now
+  pub meta : part.tables.now.has_import_meta ≡ has_import_meta (own_list items)
+  pub leads : (s : Text) → get_by_text part.leads.now s ≡ told (place_in ids) known.deps.items s
+  pub local : part.local ≡ known.local_ctxt
+
+-- a linker has the module under this number
+pub record IsKnown (linker : Linker) (m : ℕ) (known : TransformedModule) : Type 0 where
+  pub place : ℕ
+  pub numbered : index_of_by (nat_eq m) linker.linked.ids ≡ Some place
+  pub there : slice_get linker.modules.items place ≡ Some known
+
+-- all modules of a list are there
+abbrev pub AreAllKnown : Linker → List ℕ → Type 0
+AreAllKnown linker list = (m : ℕ) → Contains list m → (known : TransformedModule) × IsKnown linker m known
+
+-- what was read of the module with this number
+pub record IsReadAt (linker : Linker) (ids : List ℕ) (m : ℕ) (its : Module) (part : Part) : Type 0 where
+  pub known : TransformedModule
+  pub is_known : IsKnown linker m known
+  pub is : IsReadOf linker known ids its.body.items part

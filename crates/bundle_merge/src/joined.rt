@@ -1,17 +1,29 @@
 //! One module of the modules of a linker: they are read, linked and merged by their places on its list.
 
-ghost use Rattle.std.specs.Prelude.{◌≡◌, ◌≤◌, IfErr, IfOk, List, OnErr, OnOk};
+ghost use Rattle.std.specs.Prelude.{◌≡◌, ◌≤◌, ℕ, Contains, IfErr, IfOk, IfSome, List, OnErr, OnOk, Some, length, map, option_map, slice_get};
+ghost use Rattle.std.specs.List.{AllZip};
 ghost use Rattle.bundle_tree_names.specs.FileName.{name_of};
 ghost use Rattle.bundle_tree_piece.specs.Item.{Item};
+ghost use Rattle.bundle_rules.specs.Merged.{Contexts as ModuleContexts, IsMerged, IsPrepared};
+ghost use Rattle.bundle_rules.specs.Nodes.{numbers_once};
 ghost use Rattle.bundle_rules.specs.Parts as Parts;
+ghost use Rattle.bundle_rules.specs.Program.{Program};
+ghost use Rattle.bundle_link.specs.declared.transformed.TransformedModule as transformed;
 ghost use Rattle.bundle_scope.specs.Contexts.{HasGiven};
 ghost use Rattle.bundle_scope.specs.Refusals.{IsUsedUp};
-ghost use Rattle.bundle_merge.specs.Refusals.{IsLack, IsRefusalOfOne, MayRefuse};
+ghost use Rattle.bundle_merge_meaning.specs.joined.Joined as tree;
+ghost use Rattle.bundle_merge_names.specs.declared.part.BundleParts as bundle;
+ghost use Rattle.bundle_merge_items.specs.Added.{items_of};
+ghost use Rattle.bundle_merge.specs.Handed.{AreReadFrom, AreReadIn, IsBundleRead, IsLinkRead, IsLinkedRead, IsPartRead};
+ghost use Rattle.bundle_merge.specs.Prepared.{items_of_each};
+ghost use Rattle.bundle_merge.specs.Read.{AreAllKnown, IsKnown};
+ghost use Rattle.bundle_merge.specs.Ready.{Answering, IsMergeable, IsMergedAs, hooks_by};
+ghost use Rattle.bundle_merge.specs.Refusals.{IsLack, IsRefusalOfOne, IsRefusalOfRead, MayRefuse};
 
 use crate::prepared::{copies_of, places_of};
 use crate::read::{Read, read_module};
-use bundle_link::link::Linker;
-use bundle_link_targets::Linking;
+use bundle_link::link::{Linker, TransformedModule};
+use bundle_link_targets::{LinkModule, Linking};
 use bundle_merge_items::{
     BundleParts, Contexts as Numbers, MergeError, Merged, Part, merge_modules,
 };
@@ -28,9 +40,10 @@ use std::alloc::{AllocError, Global};
 /// context from the next one on.
 ///
 /// `prepared` holds the resolved items of each of these modules: names of the top have the local context, globals 1,
-/// and no two modules have another context in common. Where `import.meta` stands in a module, the first of its items is
-/// the statement that holds it, whose name has a context of its own; it is taken over as it is. The caller sees to
-/// that, and that the linker's check accepts the modules, and the next context is above all that there are.
+/// no two modules have another context in common, and nothing has the local context of another module. Where
+/// `import.meta` stands in a module, the first of its items is the statement that holds it, whose name has a context of
+/// its own; it is taken over as it is. The caller sees to that, and that the linker's check accepts the modules, and
+/// the next context is above all that there are.
 ///
 /// Refused where contexts run out, where memory does, and by a fault that one of the modules has by itself. The
 /// contexts are then unchanged.
@@ -42,8 +55,18 @@ pub fn merge_into_entry<'a>(
 ) -> Result<Modules, Error>
     ensures merged { IfOk result (λ merged.
         (items : List (List Item)) × (merged ≡ Parts.parts_of linker.now.entry items)) }
+    ensures bundle { IfOk result (λ merged.
+        (p : Program) (given : Answering) (its : ℕ → ModuleContexts) →
+        IsMergeable p its linker.now →
+        IsPrepared p (hooks_by given) its contexts.old.next prepared.now →
+        IsMerged (λ x. x) (λ m. (its m).local) p (hooks_by given) (Parts.body_of merged)) }
     ensures given { OnOk result (HasGiven contexts.old contexts.new) }
     ensures refused { IfErr result (MayRefuse contexts.old.file linker.now.modules.items) }
+    ensures faultless { IfErr result (λ refusal.
+        (p : Program) (given : Answering) (its : ℕ → ModuleContexts) →
+        IsMergeable p its linker.now →
+        IsPrepared p (hooks_by given) its contexts.old.next prepared.now →
+        IsLack contexts.old.file refusal) }
     ensures unchanged { OnErr result (contexts.new ≡ contexts.old) }
 {
     let places = places_of(alloc, linker.list())?;
@@ -62,7 +85,19 @@ fn joined<'a>(
     contexts: &Contexts,
 ) -> Result<(Module, u32), Error>
     ensures given { IfOk result (λ made. contexts.now.next ≤ made.1) }
+    ensures bundle { IfOk result (λ made.
+        (p : Program) (given : Answering) (its : ℕ → ModuleContexts) →
+        IsMergeable p its linker.now →
+        IsPrepared p (hooks_by given) its contexts.now.next prepared.now →
+        places.now.keys ≡ numbers_once linker.now.linked.list.items →
+        IsMerged (λ x. x) (λ m. (its m).local) p (hooks_by given) (tree.joined (items_of made.0))) }
     ensures refused { IfErr result (MayRefuse contexts.now.file linker.now.modules.items) }
+    ensures faultless { IfErr result (λ refusal.
+        (p : Program) (given : Answering) (its : ℕ → ModuleContexts) →
+        IsMergeable p its linker.now →
+        IsPrepared p (hooks_by given) its contexts.now.next prepared.now →
+        places.now.keys ≡ numbers_once linker.now.linked.list.items →
+        IsLack contexts.now.file refusal) }
 {
     let copies = copies_of(alloc, places, prepared)?;
     joined_of(alloc, linker, places, &copies, contexts)
@@ -77,7 +112,22 @@ fn joined_of<'a>(
     contexts: &Contexts,
 ) -> Result<(Module, u32), Error>
     ensures given { IfOk result (λ made. contexts.now.next ≤ made.1) }
+    ensures bundle { IfOk result (λ made.
+        (p : Program) (given : Answering) (its : ℕ → ModuleContexts) (prepared : Parts.Parts) →
+        IsMergeable p its linker.now →
+        IsPrepared p (hooks_by given) its contexts.now.next prepared →
+        places.now.keys ≡ linker.now.linked.list.items →
+        map items_of copies.now
+        ≡ items_of_each (Parts.in_order prepared) linker.now.linked.list.items →
+        IsMerged (λ x. x) (λ m. (its m).local) p (hooks_by given) (tree.joined (items_of made.0))) }
     ensures refused { IfErr result (MayRefuse contexts.now.file linker.now.modules.items) }
+    ensures faultless { IfErr result (λ refusal.
+        (p : Program) (given : Answering) (its : ℕ → ModuleContexts) (prepared : Parts.Parts) →
+        IsMergeable p its linker.now →
+        IsPrepared p (hooks_by given) its contexts.now.next prepared →
+        map items_of copies.now
+        ≡ items_of_each (Parts.in_order prepared) linker.now.linked.list.items →
+        IsLack contexts.now.file refusal) }
 {
     let reads = read_all(alloc, linker, places, copies)?;
     match merged_of(alloc, linker, &reads, contexts.next()) {
@@ -94,15 +144,39 @@ fn read_all<'a, 'x>(
     places: &IndexSet<ModuleId>,
     copies: &'x [Module],
 ) -> Result<Vec<Read<'x>>, Error>
-    ensures { IfErr result (IsRefusalOfOne linker.now.modules.items) }
+    ensures refused { IfErr result (IsRefusalOfOne linker.now.modules.items) }
+    ensures told { IfErr result (λ refusal.
+        AreAllKnown linker.now linker.now.linked.list.items →
+        length copies.now ≡ length linker.now.linked.list.items →
+        IsRefusalOfRead linker.now linker.now.linked.list.items copies.now refusal) }
+    ensures read { IfOk result (λ reads.
+        AreAllKnown linker.now linker.now.linked.list.items →
+        length copies.now ≡ length linker.now.linked.list.items →
+        AreReadFrom linker.now places.now.keys linker.now.linked.list.items copies.now
+        (length copies.now) reads.items) }
 {
+    let list = linker.list();
     let mut reads = Vec::new(alloc);
-    for (id, module) in linker.list().iter().zip(copies) {
-        if let Some(known) = linker.module(*id) {
+    for (place, module) in copies.iter().enumerate() {
+        if let Some(known) = module_at(linker, list, place) {
             reads.push(read_module(alloc, linker, known, places, module)?)?;
         }
     }
     Ok(reads)
+}
+
+// The module at a place of a list.
+fn module_at<'t, 'a>(
+    linker: &'t Linker<'a>,
+    list: &[ModuleId],
+    place: usize,
+) -> Option<&'t TransformedModule<'a>>
+    ensures found { IfSome result (λ its. Contains linker.now.modules.items its.now) }
+    ensures known { (m : ℕ) (known : transformed.TransformedModule) →
+        slice_get list.now place ≡ Some m → IsKnown linker.now m known →
+        option_map (λ its. its.now) result ≡ Some known }
+{
+    linker.module(*list.get(place)?)
 }
 
 // What these modules are merged to, with contexts from the next one on.
@@ -111,7 +185,11 @@ fn merged_of<'a, 'x>(
     linker: &Linker<'a>,
     reads: &[Read<'x>],
     next: u32,
-) -> Result<Merged, MergeError> {
+) -> Result<Merged, MergeError>
+    ensures { IfOk result (λ merged. (p : Program) (given : Answering) (local : ℕ → ℕ) →
+        AreReadIn p linker.now local next reads.now →
+        IsMerged (λ x. x) local p (hooks_by given) (tree.joined (items_of merged.«module»))) }
+{
     let plan = plan_of(alloc, linker.graph(), linker.entry(), linker.list())?;
     let linking = linking_of(alloc, linker, reads)?;
     merged_by(alloc, reads, &linking, &plan.blocks, next)
@@ -122,12 +200,25 @@ fn linking_of<'a, 'x>(
     alloc: Global,
     linker: &Linker<'a>,
     reads: &[Read<'x>],
-) -> Result<Linking<'x>, AllocError> {
+) -> Result<Linking<'x>, AllocError>
+    ensures { IfOk result (IsLinkedRead linker.now reads.now) }
+{
+    let modules = link_modules(alloc, reads)?;
+    linker.linking_of(&modules)
+}
+
+// The modules as they are linked.
+fn link_modules<'t, 'x>(
+    alloc: Global,
+    reads: &'t [Read<'x>],
+) -> Result<Vec<LinkModule<'t, 'x>>, AllocError>
+    ensures { IfOk result (λ links. AllZip IsLinkRead reads.entry.now links.items) }
+{
     let mut modules = Vec::new(alloc);
     for read in reads {
         modules.push(read.link_module())?;
     }
-    linker.linking_of(&modules)
+    Ok(modules)
 }
 
 // The same, where this is what their names stand for, and these are their blocks.
@@ -137,7 +228,10 @@ fn merged_by<'x>(
     linking: &Linking<'x>,
     blocks: &[Block],
     next: u32,
-) -> Result<Merged, MergeError> {
+) -> Result<Merged, MergeError>
+    ensures { IfOk result (λ merged. (bundle : bundle.BundleParts)
+        × IsBundleRead reads.now linking.now blocks.now next bundle × IsMergedAs bundle merged) }
+{
     let parts = parts_of(alloc, reads)?;
     let bundle = BundleParts {
         parts: &parts,
@@ -149,7 +243,10 @@ fn merged_by<'x>(
     merge_modules(alloc, &bundle)
 }
 
-fn parts_of<'t, 'x>(alloc: Global, reads: &'t [Read<'x>]) -> Result<Vec<Part<'t, 'x>>, AllocError> {
+// The modules as they are merged.
+fn parts_of<'t, 'x>(alloc: Global, reads: &'t [Read<'x>]) -> Result<Vec<Part<'t, 'x>>, AllocError>
+    ensures { IfOk result (λ parts. AllZip IsPartRead reads.entry.now parts.items) }
+{
     let mut parts = Vec::new(alloc);
     for read in reads {
         parts.push(read.part())?;
@@ -160,6 +257,7 @@ fn parts_of<'t, 'x>(alloc: Global, reads: &'t [Read<'x>]) -> Result<Vec<Part<'t,
 // The module of what was merged, and the next context.
 fn with_next(merged: Merged, contexts: &Contexts) -> Result<(Module, u32), Error>
     ensures given { IfOk result (λ made. contexts.now.next ≤ made.1) }
+    ensures made { IfOk result (λ made. made.0 ≡ merged.«module») }
     ensures refused { IfErr result (IsLack contexts.now.file) }
 {
     match merged.contexts.next() {

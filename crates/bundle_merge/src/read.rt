@@ -1,15 +1,22 @@
 //! What the prepared items of a module say: what it asks for and gives, what its names denote, and which of the items
 //! holds its `import.meta`.
 
-ghost use Rattle.std.specs.Prelude.{◌≡◌, ◌∷◌, [], IfErr, IfOk, List, drop, map, option_map, take, if◌then◌else◌};
+ghost use Rattle.std.specs.Prelude.{◌≡◌, ◌∷◌, [], IfErr, IfOk, drop, map, option_map, take, if◌then◌else◌};
 ghost use Rattle.bundle_tree_names.specs.FileName.{name_of};
 ghost use Rattle.bundle_tree_piece.specs.Item as h;
-ghost use Rattle.bundle_tree_piece.specs.Item.{Item, item_of};
+ghost use Rattle.bundle_tree_piece.specs.Item.{item_of};
 ghost use Rattle.bundle_tree_listed.specs.Tree.{node};
 ghost use Rattle.bundle_tree_places.specs.Marks.{ident_of};
 ghost use Rattle.bundle_rules.specs.Entries as entries;
+ghost use Rattle.bundle_rules.specs.Meaning.{HasKind};
+ghost use Rattle.bundle_rules.specs.Program.{Program};
+ghost use Rattle.bundle_rules.specs.Scopes as scopes;
+ghost use Rattle.bundle_scope_denote.specs.Kinds.{kind_as};
+ghost use Rattle.bundle_link.specs.Programs.{IsLinkerOf};
 ghost use Rattle.bundle_link.specs.Refusals.{IsTreeRefusal};
-ghost use Rattle.bundle_merge.specs.Read.{first_declared, held_by, own_list};
+ghost use Rattle.bundle_merge_names.specs.declared.part.Part as part;
+ghost use Rattle.bundle_merge.specs.Handed.{IsLinkRead, IsPartRead};
+ghost use Rattle.bundle_merge.specs.Read.{IsReadOf, first_declared, held_by, own_list};
 
 use bundle_link::link::{Linker, TransformedModule};
 use bundle_link_reached::leads_of;
@@ -49,7 +56,9 @@ struct Own<'x> {
 
 impl<'x> Read<'x> {
     /// The module as one that is linked.
-    pub(crate) fn link_module<'t>(&'t self) -> LinkModule<'t, 'x> {
+    pub(crate) fn link_module<'t>(&'t self) -> LinkModule<'t, 'x>
+        ensures { IsLinkRead self.now result }
+    {
         LinkModule {
             tables: &self.tables,
             leads: &self.leads,
@@ -57,7 +66,9 @@ impl<'x> Read<'x> {
     }
 
     /// The module as one that is merged.
-    pub(crate) fn part<'t>(&'t self) -> Part<'t, 'x> {
+    pub(crate) fn part<'t>(&'t self) -> Part<'t, 'x>
+        ensures { IsPartRead self.now result }
+    {
         Part {
             items: self.own.items,
             pieces: &self.own.pieces,
@@ -78,16 +89,14 @@ pub(crate) fn read_module<'a, 'x>(
     places: &IndexSet<ModuleId>,
     module: &'x Module,
 ) -> Result<Read<'x>, Error>
-    ensures { IfErr result (λ refusal.
-        (tree : List Item) × IsTreeRefusal (name_of known.now.file_name) tree refusal) }
+    ensures refused { IfErr result
+        (IsTreeRefusal (name_of known.now.file_name) (own_list «module».now.body.items)) }
+    ensures read { IfOk result (λ read. (part : part.Part) → IsPartRead read part →
+        IsReadOf linker.now known.now places.now.keys «module».now.body.items part) }
 {
     let own = own_of(alloc, &module.body)?;
     let tables = linker.tables_of(&known.file_name, &own.pieces)?;
-    let kind = if linker.is_cjs(known.id) {
-        ModuleKind::Cjs
-    } else {
-        ModuleKind::Es
-    };
+    let kind = kind_of(linker, known.id);
     let names = denotations(alloc, &own.pieces, kind, Reading::BySymbol)?;
     let leads = leads_of(alloc, &known.deps, places)?;
     Ok(Read {
@@ -97,6 +106,18 @@ pub(crate) fn read_module<'a, 'x>(
         leads,
         local: known.local_ctxt.as_u32(),
     })
+}
+
+// The kind as which a module is read.
+fn kind_of<'a>(linker: &Linker<'a>, id: ModuleId) -> ModuleKind
+    ensures { (p : Program) (kind : scopes.ModuleKind) →
+        IsLinkerOf p linker.now → HasKind p id kind → kind_as result ≡ kind }
+{
+    if linker.is_cjs(id) {
+        ModuleKind::Cjs
+    } else {
+        ModuleKind::Es
+    }
 }
 
 // What a module's prepared items are. Where `import.meta` stands in them the first is the statement that holds it.

@@ -149,6 +149,7 @@ items_of_main how hooks m is = subst (λ n. AreItemsOf (p how) hooks (local_cont
   resolved = λ kind its. subst (λ k. IsResolvedFrom k 2 4 4 (tree_of (p how) 0) resolved_tree) (sym (is_es_kind how kind its)) (is_resolved_from 2 4);
   is = refl;
   apart = λ item a b there in_a in_b same. absurd (no_element item there);
+  outside = λ item o there within same. absurd (no_element item there);
 })
 
 pub is_prepared : (how : Setup) (hooks : Hooks) → IsPrepared (p how) hooks contexts_of 4 prepared
@@ -161,6 +162,7 @@ is_prepared how hooks = record {
   items = λ m reached. items_of_main how hooks m (only_main how m reached);
   reached = λ m item there. subst (λ n. IsReached (p how) n) (owner m item there) itself;
   apart = λ m n a b differ in_m in_n same. (is_main m a in_m).1;
+  strange = λ m n o differ stands its same. let a = (is_main m o stands).1 in let b = only_main how n its in grind (arith, a, b, same);
   locals = λ m n reached its same. only_main how m reached ∙ sym (only_main how n its);
   exports = λ m n reached its same. only_main how m reached ∙ sym (only_main how n its);
   differ = λ m n reached its same. let a = only_main how m reached in let b = only_main how n its in grind (arith, a, b, same);

@@ -62,7 +62,7 @@ pub data MetaItems (p : Program) (hooks : Hooks) (m : ℕ) : List (List Item) �
       IsMetaItem p hooks m item →
       MetaItems p hooks m (item ∷ [])
 
--- the prepared items of a module: its `import.meta`, and the items of its tree, resolved as what it is in the bundle; the two have no context in common but 1
+-- the prepared items of a module: its `import.meta`, in which nothing has the local context, and the items of its tree, resolved as what it is in the bundle; the two have no context in common but 1
 pub record AreItemsOf (p : Program) (hooks : Hooks) (local : ℕ) (m : ℕ) (items : List (List Item)) : Type 0 where
   pub front : List (List Item)
   pub is_front : MetaItems p hooks m front
@@ -79,6 +79,10 @@ pub record AreItemsOf (p : Program) (hooks : Hooks) (local : ℕ) (m : ℕ) (ite
       Contains (occurrences tree) b →
       a.ctxt ≡ b.ctxt →
       a.ctxt ≡ 1
+  pub outside : (item : List Item) (o : Occurrence) →
+      Contains front item →
+      Contains (occurrences item) o →
+      o.ctxt ≢ local
 
 -- an occurrence stands in the items of module m
 pub record StandsIn (prepared : Parts) (m : ℕ) (o : Occurrence) : Type 0 where
@@ -86,7 +90,7 @@ pub record StandsIn (prepared : Parts) (m : ℕ) (o : Occurrence) : Type 0 where
   pub its : Contains (items_in (in_order prepared) m) item
   pub there : Contains (occurrences item) o
 
--- what is merged: the items of each reached module of a program that has no fault of linking and in which no module declares a name twice, since a module that does is never resolved; contexts tell modules apart, and from `next` on they are free
+-- what is merged: the items of each reached module of a program that has no fault of linking and in which no module declares a name twice, since a module that does is never resolved; contexts tell modules apart, nothing in the items of a module has the local context of another, and from `next` on they are free
 pub record IsPrepared (p : Program) (hooks : Hooks) (contexts : ℕ → Contexts) (next : ℕ) (prepared : Parts) : Type 0 where
   pub checked : IsChecked p None
   pub undoubled : (m : ℕ) (kind : ModuleKind) →
@@ -103,6 +107,11 @@ pub record IsPrepared (p : Program) (hooks : Hooks) (contexts : ℕ → Contexts
       StandsIn prepared n b →
       a.ctxt ≡ b.ctxt →
       a.ctxt ≡ 1
+  pub strange : (m n : ℕ) (o : Occurrence) →
+      m ≢ n →
+      StandsIn prepared m o →
+      IsReached p n →
+      o.ctxt ≢ (contexts n).local
   pub locals : (m n : ℕ) → IsReached p m → IsReached p n → (contexts m).local ≡ (contexts n).local → m ≡ n
   pub exports : (m n : ℕ) →
       IsReached p m →

@@ -5,7 +5,7 @@ use Rattle.bundle_rules.specs.Nodes.{numbers_once}
 use Rattle.bundle_link_reached.specs.Numbered as n
 use Rattle.bundle_link_reached.specs.declared.module.NumberedModule.{NumberedModule}
 use Rattle.bundle_link.specs.Programs.{HasTables}
-use Rattle.bundle_link.proofs.ProgramLemmas.{are_numbered}
+use Rattle.bundle_link.proofs.ProgramLemmas.{are-faultless, are_numbered}
 use Rattle.bundle_link.proofs.link.linked_modules.Goals as goal
 
 pub returns-clause-linked : goal.returns-clause-linked
@@ -28,3 +28,8 @@ returns-clause-ids c =
     c.in_ok-new.ensures.ids
     ∙ ap (λ (ms : List NumberedModule). numbers_once (n.numbers ms)) c.deref-2.ensures.value
     ∙ ap numbers_once (c.in_ok-numbered.ensures.ids long)
+
+pub returns-clause-faultless : goal.returns-clause-faultless
+returns-clause-faultless c =
+    are-faultless c.args.config.now c.args.modules.now c.in_ok-tables.tables.items
+    c.in_ok-tables.ensures.given

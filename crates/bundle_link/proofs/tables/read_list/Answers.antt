@@ -40,3 +40,6 @@ returns-clause-refused c =
     let file = name_of c.args.file.now in
     let first = rw c.in-Err.is at (c.in_ok-answer.ensures.judged file c.in_ok-names.ensures) in
     subst (λ told. IfSome told (IsFirstTreeFault file (map item_of c.args.pieces.now))) (sym c.in_ok-tree_refusal-in-Err.ensures) first
+
+pub returns-in-Ok-clause-meta : goal.returns-in-Ok-clause-meta
+returns-in-Ok-clause-meta c = rw c.in-Ok.is at c.in_ok-answer.ensures.meta

@@ -1,0 +1,42 @@
+-- The copies are those of the modules on the list.
+use Rattle.std.proofs.Common.{◌≡◌, List, ℕ, map, inl, refl, ap, sym, ◌∙◌, subst}
+use Rattle.std.proofs.lemmas.Result.{IfOk-weaker, IfErr-weaker, err_from_is_err_and}
+use Rattle.bundle_rules.specs.Parts.{in_order}
+use Rattle.bundle_link_index.specs.Numbered.{IsOnce}
+use Rattle.bundle_link_reached.proofs.NumberLemmas.{once-same}
+use Rattle.bundle_merge_whole.proofs.planned.RequestLemmas.{list-once}
+use Rattle.bundle_merge_items.specs.Added.{items_of}
+use Rattle.bundle_merge.specs.Prepared.{items_of_each}
+use Rattle.bundle_merge.proofs.Places.{one-place}
+use Rattle.bundle_merge.proofs.joined.joined.Goals as goal
+
+pub returns-in_err-copies-clause-faultless : goal.returns-in_err-copies-clause-faultless
+returns-in_err-copies-clause-faultless c =
+    let q = err_from_is_err_and c.from_residual.result c.from_residual.ensures.1 in
+    rw (q.1, q.2) (λ p given its w ready places. inl refl)
+
+pub returns-clause-bundle : goal.returns-clause-bundle
+returns-clause-bundle c =
+    IfOk-weaker c.joined_of.result _ _
+    (λ made all p given its w ready places.
+    (let list = c.args.linker.now.linked.list.items in
+    let once : IsOnce list = one-place list (list-once p list w.of.linked.list) in
+    let keys = places ∙ once-same list once in
+    let copied = c.in_ok-copies.ensures (subst (λ (l : List ℕ). IsOnce l) (sym keys) once) in
+    all p given its c.args.prepared.now w ready keys
+    (ap (map items_of) c.deref.ensures.value ∙ copied
+    ∙ ap (items_of_each (in_order c.args.prepared.now)) keys)))
+    c.joined_of.ensures.bundle
+
+pub returns-clause-faultless : goal.returns-clause-faultless
+returns-clause-faultless c =
+    IfErr-weaker c.joined_of.result _ _
+    (λ refusal lacks p given its w ready places.
+    (let list = c.args.linker.now.linked.list.items in
+    let once : IsOnce list = one-place list (list-once p list w.of.linked.list) in
+    let keys = places ∙ once-same list once in
+    let copied = c.in_ok-copies.ensures (subst (λ (l : List ℕ). IsOnce l) (sym keys) once) in
+    lacks p given its c.args.prepared.now w ready
+    (ap (map items_of) c.deref.ensures.value ∙ copied
+    ∙ ap (items_of_each (in_order c.args.prepared.now)) keys)))
+    c.joined_of.ensures.faultless

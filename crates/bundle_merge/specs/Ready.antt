@@ -1,0 +1,49 @@
+-- When the modules of a linker are those of a program whose prepared items are merged.
+use Rattle.std.specs.Prelude.{◌≡◌, ℕ, Bool, false, List, Option, Contains, length}
+use Rattle.bundle_tree_piece.specs.Item.{Item}
+use Rattle.bundle_tree_names.specs.FileName.{Name}
+use Rattle.bundle_rules.specs.Bundle.{Hooks}
+use Rattle.bundle_rules.specs.Cleared.{cleared}
+use Rattle.bundle_rules.specs.Entries.{has_import_meta}
+use Rattle.bundle_rules.specs.Merged.{Contexts}
+use Rattle.bundle_rules.specs.Program.{Program, tree_of, IsReached}
+use Rattle.bundle_link.specs.Programs.{IsLinkerOf}
+use Rattle.bundle_link.specs.declared.link.Linker.{Linker}
+use Rattle.bundle_link.specs.declared.transformed.TransformedModule.{TransformedModule}
+use Rattle.bundle_merge_whole.specs.made.Alone.{AreSound}
+use Rattle.bundle_merge_whole.specs.sound.Decided.{AreTold}
+use Rattle.bundle_merge_whole.specs.sound.Known.{LeadsAll}
+use Rattle.bundle_merge_names.specs.Bundle.{AreBundleParts}
+use Rattle.bundle_merge_names.specs.declared.part.BundleParts.{BundleParts}
+use Rattle.bundle_merge_items.specs.Adds.{AreAnswered}
+use Rattle.bundle_merge_items.specs.Merged.{AreBlocksOnce, IsMergedOf}
+use Rattle.bundle_merge_items.specs.declared.merge.Merged.{Merged}
+
+-- the lists of properties that a hook may answer, by the file's name and whether it is the entry's
+abbrev pub Answering : Type 0
+Answering = Name → Bool → List (List Item)
+
+-- the hook that may answer these. What is prepared holds one answer for each module, so that each hook that may have
+-- answered these is one of this kind, as far as it was asked
+abbrev pub hooks_by : Answering → Hooks
+hooks_by given = record { may_answer = λ file is_entry properties. Contains (given file is_entry) properties }
+
+-- the modules of a linker are those of a program, with these contexts; each request leads to a module, trees are kept
+-- without contexts and notes, and no module that is reached has an `import.meta`
+pub record IsMergeable (p : Program) (contexts : ℕ → Contexts) (linker : Linker) : Type 0 where
+  pub of : IsLinkerOf p linker
+  pub leads : LeadsAll p
+  pub kept : (m : ℕ) → IsReached p m → cleared (tree_of p m) ≡ tree_of p m
+  pub plain : (m : ℕ) → IsReached p m → has_import_meta (tree_of p m) ≡ false
+  pub locals : (its : TransformedModule) →
+      Contains linker.modules.items its →
+      (contexts its.id).local ≡ its.local_ctxt
+
+-- what is merged of a bundle, as the merge of bundles promises it
+abbrev pub IsMergedAs : BundleParts → Merged → Type 0
+IsMergedAs bundle merged =
+    (q : Program) (list : List ℕ) (answers : ℕ → Option (List Item)) (meta : ℕ → Bool)
+    (count : ℕ → ℕ) → AreSound q list → AreBundleParts q list answers bundle →
+    AreBlocksOnce bundle → AreAnswered q answers →
+    AreTold q (length bundle.parts.now) meta count →
+    IsMergedOf q list answers bundle meta count merged
