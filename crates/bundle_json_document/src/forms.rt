@@ -1,9 +1,10 @@
 //! What stands in the values of a document: entries, modules and lists of properties.
 
-ghost use Rattle.std.specs.Prelude.{◌≡◌, IfOk};
+ghost use Rattle.std.specs.Prelude.{◌≡◌, IfErr, IfOk};
 ghost use Rattle.serde_json.specs.Data.{object};
 ghost use Rattle.bundle_json_form.specs.Plain.{seen};
 ghost use Rattle.bundle_json_document.specs.Document.{no_notes, AreLists, AreProperties, IsEntry, IsList, IsMap, IsModule};
+ghost use Rattle.bundle_json_document.specs.Error.{NoneIs, RefusesFor};
 ghost use Rattle.bundle_json_document.specs.Seen.{found, last_members};
 
 use crate::error::DocumentError;
@@ -24,7 +25,9 @@ pub(crate) fn entries(
     alloc: Global,
     value: &Value<'_>,
 ) -> Result<Vec<(String, FileName)>, DocumentError>
-    ensures { IfOk result (λ entries. IsList IsEntry entries.items (seen value.now)) }
+    ensures ok { IfOk result (λ entries. IsList IsEntry entries.items (seen value.now)) }
+    ensures refused { IfErr result
+        (RefusesFor (NoneIs (λ entries. IsList IsEntry entries (seen value.now)))) }
 {
     let items = items_in(value)?;
     let mut entries = Vec::new(alloc);
@@ -37,7 +40,8 @@ pub(crate) fn entries(
 
 // An entry: a pair of its name and its file.
 fn entry(alloc: Global, value: &Value<'_>) -> Result<(String, FileName), DocumentError>
-    ensures { IfOk result (IsEntry (seen value.now)) }
+    ensures ok { IfOk result (IsEntry (seen value.now)) }
+    ensures refused { IfErr result (RefusesFor (NoneIs (IsEntry (seen value.now)))) }
 {
     let [name, file] = items_in(value)? else {
         return Err(DocumentError::Form);

@@ -4,6 +4,7 @@ ghost use Rattle.std.specs.Prelude.{◌≡◌, ℕ, List, IsUtf8, IfOk, IfErr, O
 ghost use Rattle.std.specs.Io.KnownBytes.{Consumes, IsAtEnd};
 ghost use Rattle.bundle_json_form.specs.Plain.{seen};
 ghost use Rattle.bundle_json_document.specs.Document.{IsDocumentText, IsRefusalLine, IsValueOf};
+ghost use Rattle.bundle_json_document.specs.Error.{NoneIs, RefusesFor};
 ghost use Rattle.bundle_json_document.specs.Parties.{lists_of};
 ghost use Rattle.bundle_json_document.specs.Writing.{AppendsFront};
 
@@ -117,14 +118,15 @@ fn whole(alloc: Global, text: &str) -> Result<(Document, Lists), DocumentError>
     Ok((document, lists))
 }
 
-// The value of a text. Refused where it is no JSON, for a float in it, and for memory.
+// The value of a text. Refused where it is no JSON, for a number in it that is not whole, and for memory.
 fn value_of<'a>(
     alloc: Global,
     text: &'a str,
     scratch: &'a mut Scratch,
 ) -> Result<Value<'a>, DocumentError>
     requires { IsUtf8 text.now }
-    ensures { IfOk result (λ value. IsValueOf text.now (seen value)) }
+    ensures ok { IfOk result (λ value. IsValueOf text.now (seen value)) }
+    ensures refused { IfErr result (RefusesFor (NoneIs (IsValueOf text.now))) }
 {
     let mut reader = Reader::new(text, scratch)?;
     let value = read_value(alloc, &mut reader, 127)?;
