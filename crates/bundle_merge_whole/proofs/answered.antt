@@ -4,8 +4,16 @@ pub mod Inward
 pub mod Rewritten
 pub mod Alike
 pub mod Numbered
+pub mod Marks
+pub mod Properties
 pub mod Denoting
 pub mod Naming
-pub mod Marks
 pub mod Resolved
 pub mod Answered
+pub mod Fresh
+pub mod Marking
+pub mod Standing
+pub mod Resolving
+pub mod Numbers
+pub mod Written
+pub mod Meta

@@ -1,0 +1,70 @@
+-- What is made for the `import.meta` of a module is right by itself.
+use Rattle.std.proofs.Common.{◌≡◌, ℕ, List, [], ◌∷◌, ◌++◌, Option, append_assoc, codes, ap, sym, ◌∙◌, subst}
+use Rattle.bundle_tree_leaf.specs.declared.kind.VarDeclKind.TheVariants.{Const}
+use Rattle.bundle_tree_piece.specs.declared.piece.Role.TheVariants.{Binding}
+use Rattle.bundle_tree_piece.specs.Item as h
+use Rattle.bundle_tree_piece.specs.Item.{Item}
+use Rattle.bundle_rules.specs.Meaning.{Meta}
+use Rattle.bundle_rules.specs.Merged.{meta_item}
+use Rattle.bundle_rules.specs.Program.{Program, IsReached}
+use Rattle.bundle_rules.specs.Bundle.{HoldsMeta, AsModule, Hooks, IsDue, holds_meta as meta_due}
+use Rattle.bundle_merge_whole.specs.made.Given.{Answer, Contexts, NameOf}
+use Rattle.bundle_merge_whole.specs.made.Made.{IsMade, holds_meta as made_meta, holds_written as made_written}
+use Rattle.bundle_merge_whole.specs.made.Alone.{TellApart, IsAlone}
+use Rattle.bundle_merge_whole.proofs.answered.Answered.{meta-alone}
+use Rattle.bundle_merge_whole.proofs.answered.Denoting as d
+use Rattle.bundle_merge_whole.proofs.answered.Fresh.{fresh}
+use Rattle.bundle_merge_whole.proofs.answered.Properties.{Answering}
+use Rattle.bundle_merge_whole.proofs.answered.Written.{written-answer}
+
+pub reached-by : {p : Program} {m : ℕ} → IsDue p AsModule (HoldsMeta m) → IsReached p m
+reached-by (meta_due reached has) = reached
+
+-- the item is what was answered with its name, or was written so
+pub record ByAnswer (p : Program) (hooks : Hooks) (list : List ℕ) (context : Contexts)
+    (answers : ℕ → Option Answer) (m : ℕ) (item : List Item) : Type 1 where
+  pub properties : List Item
+  pub within : List Item
+  pub facts : Answering p hooks context answers m properties within
+  pub is : item ≡ d.item list facts
+
+pub by-answer : (p : Program) (hooks : Hooks) (list : List ℕ) (context : Contexts)
+    (answers : ℕ → Option Answer) → TellApart p answers context → (m : ℕ)
+    (item : List Item) → IsDue p AsModule (HoldsMeta m) →
+    IsMade p hooks list context answers (HoldsMeta m) item →
+    ByAnswer p hooks list context answers m item
+by-answer p hooks list context answers apart m item due
+    (made_meta properties made answered its is) =
+    record {
+      properties = properties;
+      within = made;
+      facts = fresh its answers (reached-by due) answered apart due;
+      is = is;
+    }
+by-answer p hooks list context answers apart m item due (made_written its answered written) =
+    record {
+      properties = its.answered;
+      within = its.properties;
+      facts = written-answer its written answers (reached-by due) answered apart due;
+      is =
+          its.is
+          ∙ ap (λ ctxt. meta_item its.meta ctxt its.properties) (sym written.name)
+          ∙ ap
+          (λ rest. h.Open 0 (h.VarDecl Const its.meta) ∷ h.Open 1 h.VarDeclarator ∷ h.Open 0 h.BindingIdent ∷ h.Ident 0 (codes "importMeta") (context (NameOf (Meta m))) Binding ∷ h.Close ∷ h.Open 1 h.ObjectLit ∷ rest)
+          (sym (behind its.properties));
+    }
+  where
+    behind : (within : List Item) → ((within ++ h.Close ∷ []) ++ h.Close ∷ []) ++ h.Close ∷ []
+        ≡ within ++ h.Close ∷ h.Close ∷ h.Close ∷ []
+    behind within = simp append_assoc
+
+-- THE OBJECT OF `import.meta`
+pub answered-alone : (p : Program) (hooks : Hooks) (list : List ℕ) (context : Contexts)
+    (answers : ℕ → Option Answer) → TellApart p answers context → (m : ℕ)
+    (item : List Item) → IsDue p AsModule (HoldsMeta m) →
+    IsMade p hooks list context answers (HoldsMeta m) item →
+    IsAlone p hooks list context answers (HoldsMeta m) item
+answered-alone p hooks list context answers apart m item due made =
+    let it = by-answer p hooks list context answers apart m item due made in
+    subst (IsAlone p hooks list context answers (HoldsMeta m)) (sym it.is)
+    (meta-alone list it.facts)
