@@ -1,6 +1,6 @@
 -- Which names a bundle gives: a context to each scope of its modules, and an identifier to each
 -- label; and what it has of the hook's answers.
-use Rattle.std.specs.Prelude.{◌≡◌, ℕ, ◌-◌, nat_lt, List, Option, Some, if◌then◌else◌, codes}
+use Rattle.std.specs.Prelude.{◌≡◌, ℕ, ◌-◌, nat_lt, Bool, true, false, List, Option, Some, if◌then◌else◌, codes}
 use Rattle.bundle_tree_leaf.specs.declared.kind.ExportMetadata.{ExportMetadata}
 use Rattle.bundle_tree_piece.specs.Item.{Item}
 use Rattle.bundle_rules.specs.Idents.{Ident}
@@ -16,6 +16,11 @@ use Rattle.bundle_scope_names.proofs.Numbering.{Numbering}
 pub data Answer : Type 0 where
   Fresh : (properties : List Item) → Answer
   Written : (ctxt : ℕ) (notes : ExportMetadata) (properties : List Item) → Answer
+
+-- whether it is an object that is written already
+abbrev pub stands_written : Option Answer → Bool
+stands_written (Some (Written ctxt notes properties)) = true
+stands_written _ = false
 
 -- each answer is fresh: no object of `import.meta` is written already
 abbrev pub AreFresh : (ℕ → Option Answer) → Type 0
