@@ -1,7 +1,9 @@
 -- Whether the object of an `import.meta` is written already is told alike of a part and of answers.
-use Rattle.std.proofs.Common.{◌≡◌, ℕ, List, Option, Some, None, unwrap_or, ap, true, refl}
+use Rattle.std.proofs.Common.{◌≡◌, ◌∙◌, ℕ, List, [], ◌∷◌, Option, Some, None, take, unwrap_or, ap, false, true, refl, subst, if◌then◌else◌}
 use Rattle.std.specs.Prelude.{is_some, option_map, slice_get}
 use Rattle.std.proofs.lemmas.Option.{none-some}
+use Rattle.bundle_tree_leaf.specs.declared.kind.ExportMetadata.{ExportMetadata}
+use Rattle.bundle_tree_piece.specs.Item.{Item}
 use Rattle.bundle_rules.specs.Idents.{Ident}
 use Rattle.bundle_rules.specs.Program.{Program}
 use Rattle.bundle_tree_places.specs.Marks.{ident_of}
@@ -10,7 +12,7 @@ use Rattle.bundle_merge_whole.specs.made.Given.{Answer, Fresh, Written, stands_w
 use Rattle.bundle_merge_names.specs.declared.part.Answered.{Answered}
 use Rattle.bundle_merge_names.specs.declared.part.BundleParts.{BundleParts}
 use Rattle.bundle_merge_names.specs.declared.part.Part.{Part}
-use Rattle.bundle_merge_names.specs.Bundle.{AreAnswers, AreBundleParts}
+use Rattle.bundle_merge_names.specs.Bundle.{AreAnswers, AreBundleParts, IsWrittenIn, written_items}
 
 is-there : (name : Option Name) (ident : Ident) → option_map ident_of name ≡ Some ident →
     is_some name ≡ true
@@ -34,3 +36,29 @@ module _ (p : Program) (list : List ℕ) (answers : ℕ → Option Answer) (bund
   part-written m part at =
       answers-written (answers m) part (unwrap_or (slice_get bundle.answers.now m) None)
       (are.answered m part at)
+
+  -- the object stands first
+  pub written-there : (m : ℕ) (part : Part) → slice_get bundle.parts.now m ≡ Some part →
+      (ctxt : ℕ) (notes : ExportMetadata) (properties : List Item) →
+      answers m ≡ Some (Written ctxt notes properties) →
+      IsWrittenIn part ctxt notes properties
+  written-there m part at ctxt notes properties told =
+      by (unwrap_or (slice_get bundle.answers.now m) None)
+      (subst (λ answer. AreAnswers answer part (unwrap_or (slice_get bundle.answers.now m) None))
+      told (are.answered m part at))
+    where
+      by : (its : Option Answered) → AreAnswers (Some (Written ctxt notes properties)) part its →
+          IsWrittenIn part ctxt notes properties
+      by None is = is
+      by (Some its) is = absurd is
+
+-- without it nothing is there already
+pub none-written : (part : Part) → is_some part.written ≡ false → written_items part ≡ []
+none-written part none = ap (λ b. take (if b then 1 else 0) part.items.now) none
+
+-- and else the object alone
+pub one-written : (part : Part) {ctxt : ℕ} {notes : ExportMetadata} {properties : List Item}
+    (its : IsWrittenIn part ctxt notes properties) → written_items part ≡ its.first ∷ []
+one-written part its =
+    ap (λ b. take (if b then 1 else 0) part.items.now) (is-there part.written _ its.name)
+    ∙ ap (take 1) its.items

@@ -1,5 +1,5 @@
 -- When what a bundle is made of is that of a program, and its names are right.
-use Rattle.std.specs.Prelude.{◌≡◌, ◌≢◌, ℕ, zero, suc, ◌<◌, ◌↔◌, List, [], ◌∷◌, Option, Some, None, Contains, drop, is_some, length, map, option_map, slice_get, unwrap_or, codes, if◌then◌else◌}
+use Rattle.std.specs.Prelude.{◌≡◌, ◌≢◌, ℕ, zero, suc, ◌<◌, ◌↔◌, List, [], ◌∷◌, Option, Some, None, Contains, drop, is_some, length, map, option_map, slice_get, take, unwrap_or, codes, if◌then◌else◌}
 use Rattle.std.specs.List.{flat_map}
 use Rattle.indexmap.specs.IndexMap.{get_by_text}
 use Rattle.bundle_order_sort.specs.declared.plan.Block.{Block}
@@ -37,6 +37,10 @@ use Rattle.bundle_merge_names.specs.Numbers.{AreNumbersOf, position}
 -- the items of a part that are its own: the object of its `import.meta` may stand in front
 abbrev pub own_items : Part → List ModuleItem
 own_items part = drop (if is_some part.written then 1 else 0) part.items.now
+
+-- the object of its `import.meta`, if it is there
+abbrev pub written_items : Part → List ModuleItem
+written_items part = take (if is_some part.written then 1 else 0) part.items.now
 
 -- a part is that of a module: its list, its items, its tables, and where its requests lead
 pub record IsPartOf (p : Program) (m : ℕ) (part : Part) : Type 0 where

@@ -1,5 +1,7 @@
 -- What is made for the `import.meta` of a module is right by itself.
-use Rattle.std.proofs.Common.{◌≡◌, ℕ, List, [], ◌∷◌, ◌++◌, Option, append_assoc, codes, ap, sym, ◌∙◌, subst}
+use Rattle.std.proofs.Common.{◌≡◌, ℕ, List, [], ◌∷◌, ◌++◌, Option, append_assoc, codes, drop, ap, sym, ◌∙◌, subst}
+use Rattle.std.proofs.lemmas.List.{append_cancel_right}
+use Rattle.bundle_tree_leaf.specs.declared.kind.ExportMetadata.{ExportMetadata}
 use Rattle.bundle_tree_leaf.specs.declared.kind.VarDeclKind.TheVariants.{Const}
 use Rattle.bundle_tree_piece.specs.declared.piece.Role.TheVariants.{Binding}
 use Rattle.bundle_tree_piece.specs.Item as h
@@ -16,6 +18,18 @@ use Rattle.bundle_merge_whole.proofs.answered.Denoting as d
 use Rattle.bundle_merge_whole.proofs.answered.Fresh.{fresh}
 use Rattle.bundle_merge_whole.proofs.answered.Properties.{Answering}
 use Rattle.bundle_merge_whole.proofs.answered.Written.{written-answer}
+
+-- such an object has one context, one list of notes and one of properties
+pub meta-item-one : (notes other : ExportMetadata) (ctxt its : ℕ) (xs ys : List Item) →
+    meta_item notes ctxt xs ≡ meta_item other its ys →
+    (notes ≡ other) × (ctxt ≡ its) × (xs ≡ ys)
+meta-item-one notes other ctxt its xs ys same =
+    let one : notes ≡ other = cc in
+    let contexts : ctxt ≡ its = cc in (
+      one,
+      contexts,
+      append_cancel_right xs ys (h.Close ∷ h.Close ∷ h.Close ∷ []) (ap (drop 6) same),
+    )
 
 pub reached-by : {p : Program} {m : ℕ} → IsDue p AsModule (HoldsMeta m) → IsReached p m
 reached-by (meta_due reached has) = reached
