@@ -15,8 +15,6 @@ use Rattle.bundle_rules.specs.Linking.{IsCommonJs}
 use Rattle.bundle_rules.specs.Meaning.{HasKind, is_common_js, is_es, Load, Helper}
 use Rattle.bundle_rules.specs.Merged.{meta_item}
 use Rattle.bundle_rules.specs.Nodes.{flat}
-use Rattle.bundle_scope_renamed.specs.fit.Sorts.{AProperty, Many, slot}
-use Rattle.bundle_scope_renamed.specs.fit.Fits.{AreFit}
 use Rattle.bundle_rules.specs.Program.{Program, tree_of, IsReached}
 use Rattle.bundle_rules.specs.Scopes.{ModuleKind, Es, Cjs}
 use Rattle.bundle_rules.specs.Statements.{Element, own_statements}
@@ -44,7 +42,7 @@ use Rattle.bundle_merge_items.proofs.Adding.{adds-behind, adds-none, adds-on}
 use Rattle.bundle_merge_items.proofs.Lifting.{common-js-told, loads-adds, meta-told}
 use Rattle.bundle_merge_names.proofs.Naming.{are-named}
 use Rattle.bundle_merge_names.proofs.WrittenLemmas.{none-written, one-written, part-written, written-there}
-use Rattle.bundle_merge_whole.proofs.answered.Meta.{meta-item-one}
+use Rattle.bundle_merge_whole.proofs.answered.Meta as whole
 use Rattle.bundle_merge_names.specs.Bundle.{written_items}
 
 -- truth values
@@ -166,17 +164,11 @@ module _ (q : Program) (list : List ℕ) (answers : ℕ → Option Answer) (cont
       (properties : List Item) → answers k ≡ Some (Written ctxt notes properties) →
       Made (HoldsMeta k) (meta_item notes ctxt properties)
   written-made k reached ctxt notes properties is_told =
-      let item = its.answered.written k ctxt notes properties is_told in
-      let same = meta-item-one notes item.meta ctxt item.ctxt properties item.properties item.is in
-      m.holds_written item
-      (is_told ∙ (λ i. Some (Written (same.1 i) (same.0 i) (same.2 i))))
+      whole.written-made q any_hooks list context answers k ctxt notes properties
+      (its.answered.written k ctxt notes properties is_told) is_told
       (record {
-        fit =
-            subst (AreFit (slot 0 Many AProperty ∷ [])) same.2
-            (its.answered.written_fit k ctxt notes properties is_told);
-        name =
-            its.named.metas k ctxt notes properties ((its.parts.reached k).0 reached) is_told
-            ∙ same.1;
+        fit = its.answered.written_fit k ctxt notes properties is_told;
+        name = its.named.metas k ctxt notes properties ((its.parts.reached k).0 reached) is_told;
         inside = λ c. its.named.inside k c;
       })
 

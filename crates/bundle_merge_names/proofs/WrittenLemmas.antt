@@ -8,11 +8,12 @@ use Rattle.bundle_rules.specs.Idents.{Ident}
 use Rattle.bundle_rules.specs.Program.{Program}
 use Rattle.bundle_tree_places.specs.Marks.{ident_of}
 use Rattle.bundle_tree_places.specs.declared.mark.Name.{Name}
-use Rattle.bundle_merge_whole.specs.made.Given.{Answer, Fresh, Written, stands_written}
+use Rattle.bundle_merge_whole.specs.made.Given.{Answer, AreFresh, Fresh, Written, stands_written}
+use Rattle.bundle_merge_whole.specs.made.Alone.{written_in}
 use Rattle.bundle_merge_names.specs.declared.part.Answered.{Answered}
 use Rattle.bundle_merge_names.specs.declared.part.BundleParts.{BundleParts}
 use Rattle.bundle_merge_names.specs.declared.part.Part.{Part}
-use Rattle.bundle_merge_names.specs.Bundle.{AreAnswers, AreBundleParts, IsWrittenIn, written_items}
+use Rattle.bundle_merge_names.specs.Bundle.{AreAnswers, AreBundleParts, AreWrittenApart, IsWrittenIn, StandsWritten, its_inside, its_name, written_items}
 
 is-there : (name : Option Name) (ident : Ident) → option_map ident_of name ≡ Some ident →
     is_some name ≡ true
@@ -62,3 +63,20 @@ pub one-written : (part : Part) {ctxt : ℕ} {notes : ExportMetadata} {propertie
 one-written part its =
     ap (λ b. take (if b then 1 else 0) part.items.now) (is-there part.written _ its.name)
     ∙ ap (take 1) its.items
+
+-- where all answers are fresh, no object is written already
+module _ (p : Program) (answers : ℕ → Option Answer) (fresh : AreFresh answers) where
+  none-stands : {m ctxt : ℕ} → StandsWritten p answers m ctxt → ⊥
+  none-stands {m = m} {ctxt = ctxt} (its_name notes properties reached told) =
+      fresh m ctxt notes properties told
+  none-stands {m = m} (its_inside (written_in own notes properties its begins name i o reached told there denoted is)) =
+      fresh m own notes properties told
+
+  pub fresh-apart : (bundle : BundleParts) → AreWrittenApart p answers bundle
+  fresh-apart bundle = record {
+    own = λ m ctxt stands. absurd (none-stands stands);
+    free = λ m ctxt stands. absurd (none-stands stands);
+    tops = λ m n ctxt part stands at. absurd (none-stands stands);
+    apart = λ m n ctxt stands other. absurd (none-stands stands);
+    names = λ m ctxt its notes properties told holder. absurd (fresh m ctxt notes properties told);
+  }

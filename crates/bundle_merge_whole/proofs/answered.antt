@@ -17,3 +17,4 @@ pub mod Resolving
 pub mod Numbers
 pub mod Written
 pub mod Meta
+pub mod Hooks

@@ -1,6 +1,6 @@
 -- Which names a bundle gives: a context to each scope of its modules, and an identifier to each
 -- label; and what it has of the hook's answers.
-use Rattle.std.specs.Prelude.{◌≡◌, ℕ, ◌-◌, nat_lt, Bool, true, false, List, Option, Some, if◌then◌else◌, codes}
+use Rattle.std.specs.Prelude.{◌≡◌, ℕ, ◌-◌, nat_lt, Bool, true, false, List, Option, Some, option_map, if◌then◌else◌, codes}
 use Rattle.bundle_tree_leaf.specs.declared.kind.ExportMetadata.{ExportMetadata}
 use Rattle.bundle_tree_piece.specs.Item.{Item}
 use Rattle.bundle_rules.specs.Idents.{Ident}
@@ -16,6 +16,10 @@ use Rattle.bundle_scope_names.proofs.Numbering.{Numbering}
 pub data Answer : Type 0 where
   Fresh : (properties : List Item) → Answer
   Written : (ctxt : ℕ) (notes : ExportMetadata) (properties : List Item) → Answer
+
+-- answers that are all fresh
+abbrev pub all_fresh : (ℕ → Option (List Item)) → ℕ → Option Answer
+all_fresh given m = option_map Fresh (given m)
 
 -- whether it is an object that is written already
 abbrev pub stands_written : Option Answer → Bool
