@@ -4,7 +4,7 @@ use Rattle.std.specs.Prelude.{IfNone, IfSome, is_some, option_map, slice_get, un
 use Rattle.std.specs.List.{AllZip, flat_map}
 use Rattle.std.proofs.lemmas.Option.{slice_get_within}
 use Rattle.bundle_tree_piece.specs.Item as h
-use Rattle.bundle_tree_piece.specs.Item.{Item, item_of}
+use Rattle.bundle_tree_piece.specs.Item.{item_of}
 use Rattle.bundle_tree_listed.specs.Tree.{key_value_prop_items, module_item_items, node}
 use Rattle.bundle_order_sort.specs.declared.plan.Block.{Block}
 use Rattle.bundle_rules.specs.Bundle.{properties_tree}
