@@ -113,7 +113,7 @@ found (Bound t its ∷ ds) (e ∷ cs) i s name c at there =
 map-at : {A B : Type 0} (f : A → B) (xs : List A) (i : ℕ) (y : B) →
     slice_get (map f xs) i ≡ Some y → (x : A) × (slice_get xs i ≡ Some x) × (f x ≡ y)
 map-at f [] i y at = absurd (none-some y at)
-map-at f (x ∷ xs) zero y at = (x, (refl, same_Some (f x) y at))
+map-at f (x ∷ xs) zero y at = (x, refl, same_Some (f x) y at)
 map-at f (x ∷ xs) (suc i) y at = map-at f xs i y at
 
 zip-get : {A B : Type 0} (R : A → B → Type 0) (xs : List A) (ys : List B) → AllZip R xs ys →
@@ -165,8 +165,8 @@ module _ (local next later : ℕ) (before after : List Item) (its : IsResolvedFr
       let one =
       map-at by_symbol (denotations ByContext Es after) i d
       (ap (λ l. slice_get l i) its.resolution.same ∙ at) in
-      let two = map-at there us i one.0 one.1.0 in
-      record { u = two.0; at = two.1.0; is = ap by_symbol two.1.1 ∙ one.1.1 }
+      let two = map-at there us i one.0 one.1 in
+      record { u = two.0; at = two.1; is = ap by_symbol two.2 ∙ one.2 }
 
   denotes-at : (i : ℕ) (u : Occurrence) → slice_get us i ≡ Some u →
       denoted_at ByContext Es after u.place ≡ Some (there u)
@@ -218,15 +218,15 @@ module _ (local next later : ℕ) (before after : List Item) (its : IsResolvedFr
       let one = map-at (denoted_of BySymbol Es all) (occurrences before) i (Bound s name) at in
       let two = map-at (denoted_of BySymbol Es all) (occurrences before) j (Bound t other) also in
       let first : name ≡ plain one.0.sym =
-      subst (IsFor one.0.sym) one.1.1 (denoted-for Es all one.0) in
+      subst (IsFor one.0.sym) one.2 (denoted-for Es all one.0) in
       let second : other ≡ plain two.0.sym =
-      subst (IsFor two.0.sym) two.1.1 (denoted-for Es all two.0) in
+      subst (IsFor two.0.sym) two.2 (denoted-for Es all two.0) in
       let known =
-      subst (DenotesOf K) one.1.1
-      (denoted-known K Es all one.0 (occurrences-known before i one.0 one.1.0)) in
+      subst (DenotesOf K) one.2
+      (denoted-known K Es all one.0 (occurrences-known before i one.0 one.1)) in
       let also_known =
-      subst (DenotesOf K) two.1.1
-      (denoted-known K Es all two.0 (occurrences-known before j two.0 two.1.0)) in
+      subst (DenotesOf K) two.2
+      (denoted-known K Es all two.0 (occurrences-known before j two.0 two.1)) in
       let scopes : t ≡ s = same-of K t s also_known known orders in
       let names : other ≡ name =
       second
@@ -250,8 +250,8 @@ module _ (local next later : ℕ) (before after : List Item) (its : IsResolvedFr
       let same =
       one-binding i it.0 s it.1.scope name it.1.name at it.1.at it.1.its_order it.1.its_symbol in
       let other = map-at (λ (o : Occurrence). o.ctxt) us it.0 (numbers (scope_order s) name.sym) it.1.ctxt in
-      one-context i it.0 (Bound s name) u other.0 at (it.1.at ∙ ap Some same) there_is other.1.0
-      ∙ other.1.1
+      one-context i it.0 (Bound s name) u other.0 at (it.1.at ∙ ap Some same) there_is other.1
+      ∙ other.2
 
   -- a binding inside is one afterwards, of the same scope, and its name has that context
   pub record BoundAfter (i : ℕ) (kind : ScopeKind) (begins : ℕ) (number : ℕ) : Type 0 where
