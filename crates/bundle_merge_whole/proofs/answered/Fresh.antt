@@ -176,3 +176,10 @@ module _ {p : Program} {hooks : Hooks} {context : Contexts} {m : ℕ} {propertie
     };
     differ = λ i j kind other a b name other_name at there symbols e. same-place e;
   }
+
+  pub fresh-notes : (answers : ℕ → Option Answer) (reached : IsReached p m)
+      (answered : answers m ≡ Some (Fresh properties)) (apart : TellApart p answers context)
+      (due : IsDue p AsModule (HoldsMeta m)) →
+      (fresh answers reached answered apart due).notes ≡ no_notes
+  unfolding fresh
+  fresh-notes answers reached answered apart due = refl

@@ -121,7 +121,7 @@ hole-gets field around meants enough = record {
   left = meants;
   marks = k.Empty field ∷ [];
   is = d.Hole field;
-  count = refl;
+  count = omega arith;
 }
 
 -- The name of a shorthand property of a pattern.
@@ -204,7 +204,7 @@ one-gets field head names {inside = inside} fit own both =
 gets : {list : List Slot} {items : List Item} → AreFit list items → AreOwnSlots list →
     GetsBoth items
 gets no_more own = (
-  λ around meants enough. record { left = meants; marks = []; is = d.Nothing; count = refl },
+  λ around meants enough. record { left = meants; marks = []; is = d.Nothing; count = omega arith },
   λ field head inside rest nodes e. absurd cc,
 )
 gets (over {sort = k} {more = more} e fit) own =

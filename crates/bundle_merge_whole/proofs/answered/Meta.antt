@@ -10,16 +10,18 @@ use Rattle.bundle_rules.specs.Meaning.{Meta}
 use Rattle.bundle_rules.specs.Merged.{IsMetaItem, meta_item}
 use Rattle.bundle_rules.specs.Program.{Program, IsReached}
 use Rattle.bundle_rules.specs.Bundle.{HoldsMeta, AsModule, Hooks, IsDue, holds_meta as meta_due}
+use Rattle.bundle_tree_places.specs.Edits.{node}
+use Rattle.bundle_merge_injected.specs.Listed as l
 use Rattle.bundle_scope_renamed.specs.fit.Sorts.{AProperty, Many, slot}
 use Rattle.bundle_scope_renamed.specs.fit.Fits.{AreFit}
-use Rattle.bundle_merge_whole.specs.made.Given.{Answer, Fresh, Written, AreFresh, all_fresh, Contexts, NameOf}
+use Rattle.bundle_merge_whole.specs.made.Given.{Answer, Fresh, Written, AreFresh, all_fresh, Contexts, NameOf, ident_of_label}
 use Rattle.bundle_merge_whole.specs.made.Made.{IsMade, IsWrittenAs, holds_meta as made_meta, holds_written as made_written}
 use Rattle.bundle_merge_whole.specs.made.Alone.{TellApart, IsAlone}
 use Rattle.bundle_merge_whole.proofs.answered.Answered.{meta-alone}
 use Rattle.bundle_merge_whole.proofs.answered.Denoting as d
-use Rattle.bundle_merge_whole.proofs.answered.Fresh.{fresh}
+use Rattle.bundle_merge_whole.proofs.answered.Fresh.{fresh, fresh-notes}
 use Rattle.bundle_merge_whole.proofs.answered.Properties.{Answering}
-use Rattle.bundle_merge_whole.proofs.answered.Written.{written-answer}
+use Rattle.bundle_merge_whole.proofs.answered.Written.{written-answer, written-notes}
 
 -- such an object has one context, one list of notes and one of properties
 pub meta-item-one : (notes other : ExportMetadata) (ctxt its : ℕ) (xs ys : List Item) →
@@ -88,7 +90,10 @@ by-answer p hooks list context answers apart m item due
       properties = properties;
       within = made;
       facts = fresh its answers (reached-by due) answered apart due;
-      is = is;
+      is =
+          is
+          ∙ ap (λ notes. l.constant notes (ident_of_label p list context (Meta m)) (node 1 h.ObjectLit made))
+          (sym (fresh-notes its answers (reached-by due) answered apart due));
     }
 by-answer p hooks list context answers apart m item due (made_written its answered written) =
     record {
@@ -100,7 +105,9 @@ by-answer p hooks list context answers apart m item due (made_written its answer
           ∙ ap (λ ctxt. meta_item its.meta ctxt its.properties) (sym written.name)
           ∙ ap
           (λ rest. h.Open 0 (h.VarDecl Const its.meta) ∷ h.Open 1 h.VarDeclarator ∷ h.Open 0 h.BindingIdent ∷ h.Ident 0 (codes "importMeta") (context (NameOf (Meta m))) Binding ∷ h.Close ∷ h.Open 1 h.ObjectLit ∷ rest)
-          (sym (behind its.properties));
+          (sym (behind its.properties))
+          ∙ ap (λ notes. l.constant notes (ident_of_label p list context (Meta m)) (node 1 h.ObjectLit its.properties))
+          (sym (written-notes its written answers (reached-by due) answered apart due));
     }
   where
     behind : (within : List Item) → ((within ++ h.Close ∷ []) ++ h.Close ∷ []) ++ h.Close ∷ []

@@ -195,5 +195,5 @@ module _ {p : Program} {hooks : Hooks} {context : Contexts} {m : ℕ} {propertie
       sym (append-nil it.steps) ∙ ap (λ l. it.steps ++ l) (sym rewrites.left) ∙ sym it.are in
       subst
       (λ steps. AllMade (Paired goes) None (occurrences (properties_tree properties)) steps
-      (occurrences_from item_spot made))
+      (occurrences_from (item_spot no_notes) made))
       steps (made-like (Paired goes) None it.all given-like)

@@ -228,3 +228,7 @@ module _ {p : Program} {hooks : Hooks} {context : Contexts} {m : ℕ} {item : Li
         (Inner other b) name its_name at there symbols (same-ctxt e) in
         omega (arith, orders);
   }
+
+  pub written-notes : written-answer.notes ≡ its.meta
+  unfolding written-answer
+  written-notes = refl
