@@ -7,6 +7,7 @@ mod Parting
 mod Turning
 mod Owning
 mod Owned
+mod Copies
 mod Planning
 mod Together
 mod Planned

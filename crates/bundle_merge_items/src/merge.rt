@@ -4,6 +4,7 @@ ghost use Rattle.std.specs.Prelude.{◌≡◌, ◌<◌, ◌-◌, ◌++◌, ◌�
 ghost use Rattle.std.specs.List.{list_any};
 ghost use Rattle.bundle_rules.specs.Bundle.{Helps, Stars};
 ghost use Rattle.bundle_rules.specs.Program.{Program};
+ghost use Rattle.bundle_merge_whole.specs.made.Given.{Answer};
 ghost use Rattle.bundle_merge_whole.specs.made.Alone.{AreSound};
 ghost use Rattle.bundle_merge_whole.specs.planned.Decided.{back_plan, external_plan, front_plan, module_plan, object_plan, one_if};
 ghost use Rattle.bundle_merge_whole.specs.sound.Decided.{AreTold};
@@ -40,7 +41,7 @@ pub struct Merged {
 /// The modules of a bundle as one. Refused where contexts run out, and for memory.
 pub fn merge_modules(alloc: Global, bundle: &BundleParts<'_, '_, '_>) -> Result<Merged, MergeError>
     ensures merged { IfOk result (λ merged.
-        (q : Program) (list : List ℕ) (answers : ℕ → Option (List Item))
+        (q : Program) (list : List ℕ) (answers : ℕ → Option Answer)
         (meta : ℕ → Bool) (count : ℕ → ℕ) →
         AreSound q list →
         AreBundleParts q list answers bundle.now →
@@ -49,7 +50,7 @@ pub fn merge_modules(alloc: Global, bundle: &BundleParts<'_, '_, '_>) -> Result<
         AreTold q (length bundle.now.parts.now) meta count →
         IsMergedOf q list answers bundle.now meta count merged) }
     ensures refused { IfErr result (λ refusal.
-        (q : Program) (list : List ℕ) (answers : ℕ → Option (List Item)) →
+        (q : Program) (list : List ℕ) (answers : ℕ → Option Answer) →
         AreBundleParts q list answers bundle.now →
         RefusesNames q list answers (position bundle.now.contexts) refusal) }
 {

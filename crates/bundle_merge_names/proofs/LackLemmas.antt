@@ -3,7 +3,6 @@ use Rattle.std.proofs.Common.{◌≡◌, ◌≤◌, ◌<◌, ◌+◌, ◌-◌, �
 use Rattle.std.specs.Prelude.{Contains, slice_get}
 use Rattle.std.specs.Borrow.{Bor}
 use Rattle.std.proofs.lemmas.Option.{none-some, same_Some}
-use Rattle.bundle_tree_piece.specs.Item.{Item}
 use Rattle.bundle_rules.specs.Entries.{Named}
 use Rattle.bundle_rules.specs.Idents.{Ident}
 use Rattle.bundle_rules.specs.Linking as l
@@ -15,7 +14,7 @@ use Rattle.bundle_merge_names.specs.declared.error.MergeError.{MergeError}
 use Rattle.bundle_merge_names.specs.declared.names.Label.{Label}
 use Rattle.bundle_merge_names.specs.declared.names.Names.{Names}
 use Rattle.bundle_merge_names.specs.declared.part.BundleParts.{BundleParts}
-use Rattle.bundle_merge_whole.specs.made.Given.{Holder, NameOf}
+use Rattle.bundle_merge_whole.specs.made.Given.{Answer, Holder, NameOf}
 use Rattle.bundle_merge_whole.specs.planned.Counted.{sum_of}
 use Rattle.bundle_merge_whole.specs.planned.Decided.{numbers_from}
 use Rattle.bundle_merge_names.specs.Added.{AddsNames, AreUsedUp, IsNamedOf, IsOfLabels, IsWhere, RefusesLabels, for_contexts, for_memory, with_taken}
@@ -153,7 +152,7 @@ once names from count have i j holder at_i at_j =
     let context : from + i ≡ from + j = sym a.0.is ∙ ap (λ (x : Ident). x.1) ident ∙ b.0.is in
     omega (arith, context)
 
-module _ (p : Program) (list : List ℕ) (answers : ℕ → Option (List Item)) (bundle : BundleParts) (parts : AreBundleParts p list answers bundle)
+module _ (p : Program) (list : List ℕ) (answers : ℕ → Option Answer) (bundle : BundleParts) (parts : AreBundleParts p list answers bundle)
     (old before : Names) (nothing : HoldsNothing bundle old) (named : AreScopesNamed bundle before (length bundle.parts.now)) (labels : before.labels ≡ old.labels) where
   none-held : (label : Label) (ident : Ident) → held before label ≡ Some ident → ⊥
   none-held label ident at = none-some ident (sym (same-labels before old labels label ∙ nothing.labels label) ∙ at)

@@ -5,7 +5,6 @@ use Rattle.std.specs.Prelude.{IsTrue}
 use Rattle.std.specs.List.{list_any}
 use Rattle.std.proofs.lemmas.Bool.{and_parts, false≢true}
 use Rattle.std.proofs.lemmas.List.Elements.{Contains-append_left, Contains-append_right}
-use Rattle.bundle_tree_piece.specs.Item.{Item}
 use Rattle.bundle_rules.specs.Bundle.{Hooks, form_of}
 use Rattle.bundle_rules.specs.Entries.{has_import_meta}
 use Rattle.bundle_rules.specs.Faults.{NeedsTooManyContexts, tree_count}
@@ -15,7 +14,7 @@ use Rattle.bundle_rules.specs.Program.{Program, tree_of, IsReached}
 use Rattle.bundle_rules.specs.Scopes.{Cjs, Es}
 use Rattle.bundle_link_reached.proofs.ElementLemmas.{map_on}
 use Rattle.bundle_scope_names.proofs.Pigeons.{pigeons}
-use Rattle.bundle_merge_whole.specs.made.Given.{Holder, HelperParameter, HelperVariable, NameOf}
+use Rattle.bundle_merge_whole.specs.made.Given.{Answer, Fresh, Written, Holder, HelperParameter, HelperVariable, NameOf}
 use Rattle.bundle_merge_whole.specs.planned.Counted.{answer_count, count_if, injected_labels, sum_of, tree_total}
 use Rattle.bundle_merge_whole.specs.planned.Decided.{AreDecided, Decided}
 use Rattle.bundle_merge_whole.proofs.planned.LabelLemmas.{helper-there, load-there, meta-there, target-there}
@@ -33,9 +32,10 @@ not-so : (b : Bool) → not b ≡ true → b ≡ false
 not-so true is = absurd (false≢true is)
 not-so false is = refl
 
-answered-few : (o : Option (List Item)) → answered_count o ≤ answer_count o
+answered-few : (o : Option Answer) → answered_count o ≤ answer_count o
 answered-few None = omega arith
-answered-few (Some properties) = omega arith
+answered-few (Some (Fresh properties)) = omega arith
+answered-few (Some (Written ctxt notes properties)) = omega arith
 
 -- a CommonJS module has no `import.meta`
 none-asked : (p : Program) (m : ℕ) → IsCommonJs p m → has_import_meta (tree_of p m) ≡ false
@@ -51,15 +51,16 @@ helper-length true = refl
 helper-length false = refl
 
 module _ (q : Program) (hooks : Hooks) (d : Decided) (its : AreDecided q (form_of q.settings) d)
-    (answers : ℕ → Option (List Item)) (asked : AreAnswers q hooks answers) where
+    (answers : ℕ → Option Answer) (asked : AreAnswers q hooks answers) where
   -- Trees.
 
   none-answered : (m : ℕ) → IsCommonJs q m → answered_count (answers m) ≡ 0
   none-answered m common = by (answers m) refl
     where
-      by : (o : Option (List Item)) → answers m ≡ o → answered_count o ≡ 0
+      by : (o : Option Answer) → answers m ≡ o → answered_count o ≡ 0
       by None is = refl
-      by (Some properties) is =
+      by (Some (Written ctxt notes properties)) is = refl
+      by (Some (Fresh properties)) is =
           absurd
           (false≢true (sym (none-asked q m common) ∙ (asked.asked m properties is).0))
 

@@ -15,6 +15,5 @@ mod PartsLemmas
 pub mod InnerLemmas
 pub mod NeedsLemmas
 pub mod LackLemmas
-pub mod HeldLemmas
 pub mod Bundled
 pub mod Lacking

@@ -10,13 +10,13 @@ use Rattle.bundle_merge_names.proofs.GivenLemmas.{meta-none, meta-one, meta-writ
 use Rattle.bundle_merge_names.proofs.given.give_meta.Goals as goal
 
 pub returns-then-not-part-clause-given : goal.returns-then-not-part-clause-given
-returns-then-not-part-clause-given c = λ p list part. meta-none p c.args.module list c.args.part.now c.args.names.now part (search rules)
+returns-then-not-part-clause-given c = λ p list written part says. meta-none p c.args.module written list c.args.part.now c.args.names.now part (search rules)
 
 pub returns-then-is_some-clause-given : goal.returns-then-is_some-clause-given
-returns-then-is_some-clause-given c = λ p list part. meta-written p c.args.module list c.args.part.now c.args.names.now part (search rules)
+returns-then-is_some-clause-given c = λ p list written part says. meta-written p c.args.module written list c.args.part.now c.args.names.now says (search rules)
 
 pub returns-clause-given : goal.returns-clause-given
-returns-clause-given c = on-ok c.give.result _ _ (λ gives p list part. meta-one p c.args.module list c.args.part.now c.args.names.now c.give.new.self part (search rules) gives) c.give.ensures.given
+returns-clause-given c = on-ok c.give.result _ _ (λ gives p list written part says. meta-one p c.args.module written list c.args.part.now c.args.names.now c.give.new.self part says (search rules) (search rules) gives) c.give.ensures.given
 
 pub returns-clause-refused : goal.returns-clause-refused
 returns-clause-refused c =
