@@ -14,7 +14,7 @@ use Rattle.bundle_merge_names.specs.declared.error.MergeError.{MergeError}
 use Rattle.bundle_merge_names.specs.declared.names.Label.{Label}
 use Rattle.bundle_merge_names.specs.declared.names.Names.{Names}
 use Rattle.bundle_merge_names.specs.declared.part.BundleParts.{BundleParts}
-use Rattle.bundle_merge_whole.specs.made.Given.{Answer, Holder, NameOf}
+use Rattle.bundle_merge_whole.specs.made.Given.{Answer, stands_written, Holder, NameOf}
 use Rattle.bundle_merge_whole.specs.planned.Counted.{sum_of}
 use Rattle.bundle_merge_whole.specs.planned.Decided.{numbers_from}
 use Rattle.bundle_merge_names.specs.Added.{AddsNames, AreUsedUp, IsNamedOf, IsOfLabels, IsWhere, RefusesLabels, for_contexts, for_memory, with_taken}
@@ -22,7 +22,7 @@ use Rattle.bundle_merge_names.specs.Bundle.{AreBundleParts}
 use Rattle.bundle_merge_names.specs.Held as h
 use Rattle.bundle_merge_names.specs.Held.{AreAllHeld, GivesName, IsHeldAs, RefusesName}
 use Rattle.bundle_merge_names.specs.Inside.{AreScopesNamed, HoldsNothing}
-use Rattle.bundle_merge_names.specs.Named.{held, holder_of}
+use Rattle.bundle_merge_names.specs.Named.{IsGiven, held, holder_of}
 use Rattle.bundle_merge_names.specs.Numbers.{position}
 use Rattle.bundle_merge_names.specs.Refused as r
 use Rattle.bundle_merge_names.specs.Refused.{AreLabels, RefusesNames, for_labels, for_scopes}
@@ -157,7 +157,11 @@ module _ (p : Program) (list : List ℕ) (answers : ℕ → Option Answer) (bund
   none-held : (label : Label) (ident : Ident) → held before label ≡ Some ident → ⊥
   none-held label ident at = none-some ident (sym (same-labels before old labels label ∙ nothing.labels label) ∙ at)
 
-  module _ (last : Names) (used : AreUsedUp (IsOfLabels p list) before last) where
+  -- a label that gets a name
+  abbrev Gets : Holder → Type 0
+  Gets holder = IsGiven (λ j. stands_written (answers j)) (IsOfLabels p list) holder
+
+  module _ (last : Names) (used : AreUsedUp Gets before last) where
     abbrev count : ℕ
     count = 4294967296 - position before.contexts
 
@@ -167,17 +171,17 @@ module _ (p : Program) (list : List ℕ) (answers : ℕ → Option Answer) (bund
     have : HaveContexts last (position before.contexts) count
     have = have-contexts last count (position before.contexts) (λ c low high. all.each c low (let full = used.full in let later = used.later in omega (arith, high, full, later)))
 
-    are-labels : AreLabels p list have.holders
+    are-labels : AreLabels p list answers have.holders
     are-labels = record { each = each; once = once last (position before.contexts) count have }
       where
-        each : (holder : Holder) → Contains have.holders holder → IsOfLabels p list holder
+        each : (holder : Holder) → Contains have.holders holder → Gets holder
         each holder there =
             let at = there-place have.holders holder there in
             let one = have.at at.0 holder at.1 in
-            subst (IsOfLabels p list) one.1 (elim (used.others one.0.label one.0.ident one.0.there) [ inl was ↦ absurd (none-held one.0.label one.0.ident was) | inr its ↦ its ])
+            subst Gets one.1 (elim (used.others one.0.label one.0.ident one.0.there) [ inl was ↦ absurd (none-held one.0.label one.0.ident was) | inr its ↦ its ])
 
   -- contexts are lacking for the labels
-  pub names-refused : (refusal : MergeError) → RefusesLabels (IsOfLabels p list) before refusal → RefusesNames p list answers (position bundle.contexts) refusal
+  pub names-refused : (refusal : MergeError) → RefusesLabels Gets before refusal → RefusesNames p list answers (position bundle.contexts) refusal
   names-refused _ for_memory = for_scopes r.for_memory
   names-refused _ (for_contexts last used) = for_labels (record {
     holders = (have last used).holders;
