@@ -156,6 +156,13 @@ behind : (p : Program) (list : List ℕ) (written : ℕ → Bool) (holder : Hold
 behind p list written holder (inl is) = helpers-given p list written holder is
 behind p list written holder (inr is) = modules-given p list written holder is
 
+-- a label that gets a name is one of those
+pub label-given : (p : Program) (list : List ℕ) (answers : ℕ → Option Answer) (bundle : BundleParts) → AreBundleParts p list answers bundle → (label : Label) → IsGiven (λ k. stands_written (answers k)) (IsHolder p answers) (holder_of label) → IsGiven (λ k. stands_written (answers k)) (IsOfLabels p list) (holder_of label)
+label-given p list answers bundle parts label given = record {
+  its = labels-from p list answers (listed p list answers bundle parts) (holder_of label) (labelled label) given.its;
+  fresh = given.fresh;
+}
+
 -- names for externals, then the helper, then the modules are names for all labels that have a context
 pub adds-all : (p : Program) (list : List ℕ) (answers : ℕ → Option Answer) (bundle : BundleParts) → AreBundleParts p list answers bundle → (first second third fourth : Names)
     → AddsNames p list (IsOfExternals p list) first second
@@ -167,6 +174,6 @@ adds-all p list answers bundle parts first second third fourth externals_too hel
     let written : ℕ → Bool = λ k. stands_written (answers k) in
     adds-labels p list (IsGiven written (IsOfLabels p list)) (IsGiven written (IsHolder p answers)) first fourth
     (λ label given. record { its = labels-to p list answers has (holder_of label) given.its; fresh = given.fresh })
-    (λ label given. record { its = labels-from p list answers has (holder_of label) (labelled label) given.its; fresh = given.fresh })
+    (label-given p list answers bundle parts)
     (adds-on p list (IsOfExternals p list) (Behind p written) (IsGiven written (IsOfLabels p list)) first second fourth (split p list written) (external-given p list written) (behind p list written) externals_too
     (adds-on p list (IsOfHelpers p) (IsGiven written (IsOfModules p)) (Behind p written) second third fourth (λ holder its. its) (λ holder its. inl its) (λ holder its. inr its) helpers_too modules_too))

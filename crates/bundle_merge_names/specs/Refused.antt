@@ -67,6 +67,16 @@ pub record LacksForLabels (p : Program) (list : List ℕ) (answers : ℕ → Opt
       ((m : ℕ) → IsReached p m → HasAtMost p answers m (most m)) →
       4294967295 < next + sum_of most list + length holders
 
+-- what was given ends no later than the bindings of a list's modules and different labels of the
+-- linker count
+pub record TakesFew (p : Program) (list : List ℕ) (answers : ℕ → Option Answer)
+    (next to : ℕ) : Type 0 where
+  pub holders : List Holder
+  pub are : AreLabels p list answers holders
+  pub few : (most : ℕ → ℕ) →
+      ((m : ℕ) → IsReached p m → HasAtMost p answers m (most m)) →
+      to ≤ next + sum_of most list + length holders
+
 -- a bundle gets no names: for memory, or since no context is left for a scope of a module or of what
 -- the hook answered for it, or for a label
 pub data RefusesNames (p : Program) (list : List ℕ) (answers : ℕ → Option Answer)

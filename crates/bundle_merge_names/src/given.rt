@@ -21,7 +21,7 @@ ghost use Rattle.bundle_merge_names.specs.Inside.{AreScopesNamed, GivesModule, H
 ghost use Rattle.bundle_merge_names.specs.Named.{IsGiven};
 ghost use Rattle.bundle_merge_names.specs.Numbers as numbers;
 ghost use Rattle.bundle_merge_names.specs.Ranges.{GivesAnswered, GivesContexts, RefusesAnswered, RefusesContexts};
-ghost use Rattle.bundle_merge_names.specs.Refused.{RefusesContextsIn, RefusesNames};
+ghost use Rattle.bundle_merge_names.specs.Refused.{RefusesContextsIn, RefusesNames, TakesFew};
 ghost use Rattle.bundle_merge_names.specs.Scoped.{AreMarks, GivesScope, RefusesScope, flag_in, scope_number};
 
 use crate::error::MergeError;
@@ -42,6 +42,11 @@ pub fn names_of<'a>(
         (p : Program) (list : List ℕ) (answers : ℕ → Option Answer) →
         AreBundleParts p list answers bundle.now →
         (context : Contexts) × AreNamesOf p list answers context bundle.now names) }
+    ensures few { IfOk result (λ names.
+        (p : Program) (list : List ℕ) (answers : ℕ → Option Answer) →
+        AreBundleParts p list answers bundle.now →
+        TakesFew p list answers (numbers.position bundle.now.contexts)
+        (numbers.position names.contexts)) }
     ensures refused { IfErr result (λ refusal.
         (p : Program) (list : List ℕ) (answers : ℕ → Option Answer) →
         AreBundleParts p list answers bundle.now →
@@ -62,6 +67,11 @@ fn give_names<'a>(
         (p : Program) (list : List ℕ) (answers : ℕ → Option Answer) →
         AreBundleParts p list answers bundle.now →
         (context : Contexts) × AreNamesOf p list answers context bundle.now names.new) }
+    ensures few { OnOk result (HoldsNothing bundle.now names.old →
+        (p : Program) (list : List ℕ) (answers : ℕ → Option Answer) →
+        AreBundleParts p list answers bundle.now →
+        TakesFew p list answers (numbers.position bundle.now.contexts)
+        (numbers.position names.new.contexts)) }
     ensures refused { IfErr result (λ refusal.
         HoldsNothing bundle.now names.old →
         (p : Program) (list : List ℕ) (answers : ℕ → Option Answer) →
