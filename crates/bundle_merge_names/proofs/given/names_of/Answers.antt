@@ -12,6 +12,15 @@ returns-clause-named c = λ p list answers parts. c.in_ok-give_names.ensures.giv
   contexts = c.new-names.ensures.contexts;
 }) p list answers parts
 
+pub returns-clause-few : goal.returns-clause-few
+returns-clause-few c = λ p list answers parts. c.in_ok-give_names.ensures.few (record {
+  locals = c.new-names.ensures.locals;
+  scopes = c.new-names.ensures.scopes;
+  answered = c.new-names.ensures.answered;
+  labels = c.new-names.ensures.labels;
+  contexts = c.new-names.ensures.contexts;
+}) p list answers parts
+
 pub returns-in_err-give_names-clause-refused : goal.returns-in_err-give_names-clause-refused
 returns-in_err-give_names-clause-refused c = handed-on _ _ _ c.from_residual.ensures.1 (λ p list answers parts. c.in_err-give_names.ensures.refused (record {
   locals = c.new-names.ensures.locals;
