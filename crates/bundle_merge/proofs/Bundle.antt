@@ -1,24 +1,23 @@
 -- What is merged of modules that were read by their places on the list of a program is merged right for it, where none
 -- of them has an `import.meta`.
-use Rattle.std.proofs.Common.{◌≡◌, ◌↔◌, ℕ, zero, suc, ◌+◌, ◌<◌, Bool, true, false, List, [], ◌∷◌, ◌++◌, Option, Some, None, Contains, length, map, refl, sym, ap, ◌∙◌, subst, arith}
-use Rattle.std.specs.Prelude.{flat_map, slice_get, unwrap_or}
-use Rattle.std.specs.List.{AllZip}
+use Rattle.std.proofs.Common.{◌≡◌, ◌↔◌, ℕ, zero, ◌+◌, ◌<◌, Bool, false, List, [], Option, Some, None, Contains, drop, length, map, refl, sym, ap, ◌∙◌, subst, arith}
+use Rattle.std.specs.Prelude.{flat_map, is_some, slice_get, unwrap_or, if◌then◌else◌}
 use Rattle.std.proofs.lemmas.Bool.{false≢true}
-use Rattle.std.proofs.lemmas.List.{append-nil}
-use Rattle.std.proofs.lemmas.Option.{none-some, same_Some, slice_get_within}
-use Rattle.bundle_tree_piece.specs.Item.{Item, item_of}
+use Rattle.std.proofs.lemmas.Option.{none-some, slice_get_within}
+use Rattle.bundle_tree_listed.specs.Tree.{module_item_items, node}
+use Rattle.bundle_tree_piece.specs.Item as h
 use Rattle.bundle_order_graph.specs.Modules.{Modules, deps}
 use Rattle.bundle_order_sort.specs.Plan.{IsPlanOf}
 use Rattle.bundle_order_sort.specs.declared.plan.Block.{Block}
 use Rattle.bundle_order_sort.specs.declared.plan.Plan.{Plan}
-use Rattle.bundle_rules.specs.Bundle.{Cause, Hooks}
+use Rattle.bundle_rules.specs.Bundle.{Hooks}
 use Rattle.bundle_rules.specs.Entries.{has_import_meta}
 use Rattle.bundle_rules.specs.Meaning.{HasKind, is_es, is_common_js}
 use Rattle.bundle_rules.specs.Merged.{IsMerged}
 use Rattle.bundle_rules.specs.Program.{Program, requested, tree_of, AreBlocks, IsList, IsReached}
 use Rattle.bundle_rules.specs.Scopes.{ModuleKind}
 use Rattle.bundle_rules.specs.Statements.{own_statements}
-use Rattle.bundle_link_index.specs.Leads.{flagged, required_of}
+use Rattle.bundle_link_index.specs.Leads.{flagged}
 use Rattle.bundle_link_index.specs.declared.target.LinkModule.{LinkModule}
 use Rattle.bundle_link_targets.specs.Linked.{HandsOver, IsLinkingOf}
 use Rattle.bundle_link_targets.specs.Meant.{AreModules}
@@ -30,13 +29,12 @@ use Rattle.bundle_link_reached.proofs.AlikeLemmas.{common_js_on, flip}
 use Rattle.bundle_link_reached.proofs.NumberLemmas.{held}
 use Rattle.bundle_link_reached.proofs.NumbersLemmas.{there_is}
 use Rattle.bundle_merge_meaning.specs.joined.Joined.{joined}
-use Rattle.bundle_merge_whole.specs.made.Given.{Contexts, TopOf}
-use Rattle.bundle_merge_whole.specs.made.Made.{AreBlocksMade, AreMade, IsBlockMade, IsMade}
-use Rattle.bundle_merge_whole.specs.made.Made as m
+use Rattle.bundle_merge_whole.specs.made.Given.{Answer, AreFresh, Fresh, Written}
+use Rattle.bundle_merge_whole.specs.made.Made.{AreMade}
+use Rattle.bundle_merge_whole.proofs.answered.Hooks.{all-held}
 use Rattle.bundle_merge_whole.specs.made.Alone.{AreSound}
 use Rattle.bundle_merge_whole.specs.planned.Blocks.{block_of}
-use Rattle.bundle_merge_whole.specs.planned.Decided.{Decided, DecidedBlock, numbers_from}
-use Rattle.bundle_merge_whole.specs.planned.Placed.{id_at}
+use Rattle.bundle_merge_whole.specs.planned.Decided.{DecidedBlock, numbers_from}
 use Rattle.bundle_merge_whole.specs.sound.Known.{AreKnown, IsByPlaces}
 use Rattle.bundle_merge_whole.specs.sound.Decided.{AreTold, decided_by}
 use Rattle.bundle_merge_whole.proofs.moved.Requested.{blocks-in}
@@ -45,6 +43,7 @@ use Rattle.bundle_merge_whole.proofs.sound.Blocks.{planned-blocks}
 use Rattle.bundle_merge_whole.proofs.sound.Decided.{linked-by}
 use Rattle.bundle_merge_whole.proofs.sound.Found.{below-from, entry-at, from-there, there-from}
 use Rattle.bundle_merge_whole.proofs.sound.Sound.{places-list, sound}
+use Rattle.bundle_merge_names.proofs.WrittenLemmas.{fresh-apart}
 use Rattle.bundle_merge_names.specs.Bundle.{AreAnswers, AreBundleParts, IsPartOf}
 use Rattle.bundle_merge_names.specs.declared.part.Answered.{Answered}
 use Rattle.bundle_merge_names.specs.Numbers.{position}
@@ -55,70 +54,16 @@ use Rattle.bundle_merge_items.specs.Adds.{AreAnswered, any_hooks, decided_of}
 use Rattle.bundle_merge_items.specs.Merged.{AreBlocksOnce, IsMergedOf}
 use Rattle.bundle_merge_items.specs.declared.merge.Merged.{Merged}
 use Rattle.bundle_merge_items.proofs.Once.{blocks-once}
-use Rattle.bundle_merge.specs.Placed.{AreRight, IsRead, ArePlaced}
+use Rattle.bundle_merge.specs.Placed.{AreRight, ArePlaced}
 use Rattle.bundle_merge.proofs.Places as places
 use Rattle.bundle_merge.proofs.Merging.{made-merged}
 
 -- nothing was answered
-abbrev pub no_answers : ℕ → Option (List Item)
+abbrev pub no_answers : ℕ → Option Answer
 no_answers k = None
 
--- ---- hooks, of which none was asked
-module _ (q : Program) (hooks : Hooks) (list : List ℕ) (context : Contexts) where
-  asked-none : (cause : Cause) (item : List Item) →
-      IsMade q any_hooks list context no_answers cause item →
-      IsMade q hooks list context no_answers cause item
-  asked-none _ _ (m.own statement there made) = m.own statement there made
-  asked-none _ _ (m.imports_names names are is) = m.imports_names names are is
-  asked-none _ _ (m.imports_whole is) = m.imports_whole is
-  asked-none _ _ (m.imports_nothing is) = m.imports_nothing is
-  asked-none _ _ (m.helps is) = m.helps is
-  asked-none _ _ (m.defines bodies each is) = m.defines bodies each is
-  asked-none _ _ (m.loads whole names are one other is) = m.loads whole names are one other is
-  asked-none _ _ (m.holds_meta properties made answered its is) = absurd (none-some properties answered)
-  asked-none _ _ (m.holds_namespace pairs are is) = m.holds_namespace pairs are is
-  asked-none _ _ (m.stars is) = m.stars is
-  asked-none _ _ (m.exports pairs are is) = m.exports pairs are is
-
-  all-none : (causes : List Cause) (items : List (List Item)) →
-      AllZip (IsMade q any_hooks list context no_answers) causes items →
-      AllZip (IsMade q hooks list context no_answers) causes items
-  all-none [] [] zip = zip
-  all-none [] (item ∷ items) zip = absurd zip
-  all-none (cause ∷ causes) [] zip = absurd zip
-  all-none (cause ∷ causes) (item ∷ items) zip =
-      (asked-none cause item zip.0, all-none causes items zip.1)
-
-  block-none : {d : Decided} {block : DecidedBlock} {order : List ℕ} {placed : List (List Item)} →
-      IsBlockMade q any_hooks list context no_answers d block order placed →
-      IsBlockMade q hooks list context no_answers d block order placed
-  block-none made = record {
-    before = made.before;
-    each = all-none _ made.before made.each;
-    good = made.good;
-    sorted = made.sorted;
-    unsorted = made.unsorted;
-  }
-
-  blocks-none : {d : Decided} {blocks : List DecidedBlock} {orders : List (List ℕ)}
-      {items : List (List Item)} →
-      AreBlocksMade q any_hooks list context no_answers d blocks orders items →
-      AreBlocksMade q hooks list context no_answers d blocks orders items
-  blocks-none m.none = m.none
-  blocks-none (m.more one rest) = m.more (block-none one) (blocks-none rest)
-
-  made-none : (d : Decided) (orders : List (List ℕ)) (items : List (List Item)) →
-      AreMade q any_hooks list context no_answers d orders items →
-      AreMade q hooks list context no_answers d orders items
-  made-none d orders items made = record {
-    front = made.front;
-    middle = made.middle;
-    back = made.back;
-    is = made.is;
-    in_front = all-none _ made.front made.in_front;
-    in_blocks = blocks-none made.in_blocks;
-    behind = all-none _ made.back made.behind;
-  }
+none-fresh : AreFresh no_answers
+none-fresh m ctxt notes properties told = none-some (Written ctxt notes properties) told
 
 -- a bundle of parts that were read so
 pub record IsReadBundle (p : Program) (list : List ℕ) (links : List LinkModule) (parts : List Part) (linking : Linking) (plan : Plan) (local : ℕ → ℕ) (bundle : BundleParts) : Type 0 where
@@ -214,12 +159,14 @@ module _ (p : Program) (list : List ℕ) (right : AreRight p list) (links : List
         let tree = places.tree-at p list right links parts are k m.0 m.1 in
         record {
           tree = sym tree ∙ its.tree;
-          listed = its.listed;
+          listed =
+              its.listed
+              ∙ ap (λ b. node 0 h.Module (flat_map (module_item_items 0) (drop (if b then 1 else 0) part.items.now)))
+              (sym (ap is_some its.written));
           table = λ kind has. its.names kind (kind-back k m.0 kind m.1 has);
           tables = places.table-at-place p list right links parts are k part there;
           meta = its.meta ∙ ap has_import_meta tree;
           leads = λ s. places.lead-at p list right links parts are k part there s;
-          written = its.written;
         }
 
     local-at : (k m : ℕ) (part : Part) → slice_get bundle.parts.now k ≡ Some part →
@@ -244,7 +191,11 @@ module _ (p : Program) (list : List ℕ) (right : AreRight p list) (links : List
           (subst (λ (list : List ℕ). HandsOver q list linking) (below-from n) handed-on);
       modules = modules;
       parts = part-is;
-      answered = λ k. subst (λ (l : List (Option Answered)). AreAnswers None (unwrap_or (slice_get l k) None)) (sym b.answers) tt;
+      answered = λ k part at.
+          let m = module-at k part at in
+          subst (λ (l : List (Option Answered)). AreAnswers None part (unwrap_or (slice_get l k) None)) (sym b.answers)
+          (are.each k m.0 part m.1 (its-part k part at)).written;
+      written = fresh-apart q no_answers none-fresh bundle;
       own = λ k part at.
           (let m = module-at k part at in
           let same = local-at k m.0 part at m.1 in
@@ -290,10 +241,12 @@ module _ (p : Program) (list : List ℕ) (right : AreRight p list) (links : List
       pub are-answered : AreAnswered q no_answers
       are-answered = record {
         there = λ k reached has. absurd (false≢true (sym (plain-at k reached) ∙ has));
-        asked = λ k properties at. absurd (none-some properties at);
-        held = λ k properties at. absurd (none-some properties at);
-        faultless = λ k properties at. absurd (none-some properties at);
-        fit = λ k properties at. absurd (none-some properties at);
+        asked = λ k answer at. absurd (none-some answer at);
+        held = λ k properties at. absurd (none-some (Fresh properties) at);
+        faultless = λ k properties at. absurd (none-some (Fresh properties) at);
+        fit = λ k properties at. absurd (none-some (Fresh properties) at);
+        written = λ k ctxt notes properties at. absurd (none-fresh k ctxt notes properties at);
+        written_fit = λ k ctxt notes properties at. absurd (none-fresh k ctxt notes properties at);
       }
 
       pub is-sound : AreSound q (numbers_from zero n)
@@ -322,7 +275,7 @@ module _ (p : Program) (list : List ℕ) (right : AreRight p list) (links : List
 
       -- what is merged of them is merged right
       pub is-merged : (merged : Merged) →
-          ((q : Program) (list : List ℕ) (answers : ℕ → Option (List Item)) (meta : ℕ → Bool)
+          ((q : Program) (list : List ℕ) (answers : ℕ → Option Answer) (meta : ℕ → Bool)
           (count : ℕ → ℕ) → AreSound q list → AreBundleParts q list answers bundle →
           AreBlocksOnce bundle → AreAnswered q answers →
           AreTold q (length bundle.parts.now) meta count →
@@ -334,7 +287,10 @@ module _ (p : Program) (list : List ℕ) (right : AreRight p list) (links : List
           (λ k. length (own_statements (tree_of q k))) is-sound are-parts are-once are-answered
           are-told in
           let all =
-          made-none q hooks (numbers_from zero n) its.context _ its.orders its.items its.made in
+          all-held q any_hooks hooks (numbers_from zero n) its.context no_answers
+          (λ k properties at. absurd (none-some (Fresh properties) at))
+          (λ k ctxt notes properties at. absurd (none-fresh k ctxt notes properties at))
+          _ its.orders its.items its.made in
           subst (λ l. IsMerged (λ x. x) local p hooks (joined l)) (sym its.is)
           (made-merged p q list g by-places known (places.are-moved p list right links parts are)
           linking (λ k. has_import_meta (tree_of q k)) (λ k. length (own_statements (tree_of q k)))

@@ -15,7 +15,7 @@ use Rattle.bundle_merge_whole.specs.composed.Noted.{pairing_of}
 use Rattle.bundle_merge_whole.specs.planned.Blocks.{block_of}
 use Rattle.bundle_merge_whole.specs.planned.Decided.{Decided, index_of, plan_of, numbers_from}
 use Rattle.bundle_merge_whole.specs.planned.Placed.{id_at}
-use Rattle.bundle_merge_whole.specs.made.Given.{Contexts, TopOf}
+use Rattle.bundle_merge_whole.specs.made.Given.{Answer, Contexts, TopOf}
 use Rattle.bundle_merge_whole.specs.made.Made.{AreMade}
 use Rattle.bundle_merge_whole.specs.made.Alone.{TellApart}
 use Rattle.bundle_merge_whole.specs.moved.Renumbered.{cause_at}
@@ -47,7 +47,7 @@ merged-owed local p hooks plan tree its =
       called = its.called;
     }
 
-module _ (p q : Program) (ids : List ℕ) (g : Modules) (places : IsByPlaces p q ids g) (known : AreKnown p q ids) (moved : AreMoved p q ids) (linking : Linking) (meta : ℕ → Bool) (count : ℕ → ℕ) (linked : AreLinkedBy q (length ids) linking meta count) (plan : Plan) (planned : IsPlanOf g p.entry ids plan) (hooks : Hooks) (context : Contexts) (answers : ℕ → Option (List Item)) where
+module _ (p q : Program) (ids : List ℕ) (g : Modules) (places : IsByPlaces p q ids g) (known : AreKnown p q ids) (moved : AreMoved p q ids) (linking : Linking) (meta : ℕ → Bool) (count : ℕ → ℕ) (linked : AreLinkedBy q (length ids) linking meta count) (plan : Plan) (planned : IsPlanOf g p.entry ids plan) (hooks : Hooks) (context : Contexts) (answers : ℕ → Option Answer) where
   -- modules by their places
   abbrev places_of : List ℕ
   places_of = numbers_from zero (length ids)

@@ -7,7 +7,7 @@ use Rattle.bundle_tree_piece.specs.Item.{Item}
 use Rattle.bundle_tree_ast.specs.declared.module.Module.{Module}
 use Rattle.bundle_rules.specs.Bundle.{Cause}
 use Rattle.bundle_rules.specs.Program.{Program}
-use Rattle.bundle_merge_whole.specs.made.Given.{Contexts}
+use Rattle.bundle_merge_whole.specs.made.Given.{Answer, Contexts}
 use Rattle.bundle_merge_whole.specs.made.Made.{IsMade}
 use Rattle.bundle_merge_whole.proofs.laid.Lists.{zip-join}
 use Rattle.bundle_merge_items.specs.Added.{items_of}
@@ -15,7 +15,7 @@ use Rattle.bundle_merge_items.specs.Adds.{Adds, any_hooks}
 
 pub ruleset adding = (common_steps, map-append, append_assoc)
 
-module _ (q : Program) (list : List ℕ) (answers : ℕ → Option (List Item)) (context : Contexts) where
+module _ (q : Program) (list : List ℕ) (answers : ℕ → Option Answer) (context : Contexts) where
   -- nothing is added
   pub adds-none : (items : Module) → Adds q list answers context [] items items
   adds-none items = record { made = []; each = tt; is = sym (append-nil (items_of items)) }

@@ -19,7 +19,7 @@ use Rattle.bundle_merge_items.specs.Blocks.{AddsOwned, AddsBlocks, AddsPlan, Are
 use Rattle.bundle_merge_items.specs.Merged.{AddsBlock, AreBlocksOnce}
 use Rattle.bundle_merge_names.specs.declared.names.Names.{Names}
 use Rattle.bundle_merge_names.specs.declared.part.BundleParts.{BundleParts}
-use Rattle.bundle_merge_whole.specs.made.Given.{Contexts}
+use Rattle.bundle_merge_whole.specs.made.Given.{Answer, Contexts}
 use Rattle.bundle_merge_whole.specs.made.Made.{IsMade, IsBlockMade, AreBlocksMade}
 use Rattle.bundle_merge_whole.specs.planned.Blocks.{block_of}
 use Rattle.bundle_merge_whole.specs.planned.Decided.{Decided, DecidedBlock, module_plan, object_plan, block_plan, front_plan, back_plan}
@@ -60,7 +60,7 @@ pub behind-all : {A : Type 0} (f : A → List (List Item)) (xs : List A) (i : �
     items_of b ≡ items_of a ++ flat_map f xs
 behind-all f xs i a b past is = is ∙ ap (λ l. items_of a ++ flat_map f l) (take_all i xs past)
 
-module _ (q : Program) (list : List ℕ) (answers : ℕ → Option (List Item)) (context : Contexts) where
+module _ (q : Program) (list : List ℕ) (answers : ℕ → Option Answer) (context : Contexts) where
   abbrev Made : Cause → List Item → Type 0
   Made = IsMade q any_hooks list context answers
 
@@ -95,7 +95,7 @@ module _ (q : Program) (list : List ℕ) (answers : ℕ → Option (List Item)) 
 
 -- ---- blocks
 -- one block behind others
-pub blocks-more : (q : Program) (list : List ℕ) (answers : ℕ → Option (List Item))
+pub blocks-more : (q : Program) (list : List ℕ) (answers : ℕ → Option Answer)
     (context : Contexts) (d : Decided) {blocks : List DecidedBlock} {orders : List (List ℕ)}
     {placed : List (List Item)} {block : DecidedBlock} {order : List ℕ} {its : List (List Item)} →
     AreBlocksMade q any_hooks list context answers d blocks orders placed →

@@ -1,6 +1,6 @@
 -- What a bundle adds is made for the causes that are decided of its modules.
 use Rattle.std.proofs.Common.{◌≡◌, ◌↔◌, ◌<◌, inl, inr, ℕ, zero, suc, ◌+◌, Bool, true, false, List, [], ◌∷◌, ◌++◌, Option, Some, None, Contains, length, map, unwrap_or, refl, ap, sym, subst, ◌∙◌, arith}
-use Rattle.std.specs.Prelude.{IsTrue, filter, filter_map, flat_map, is_some, slice_get, if◌then◌else◌}
+use Rattle.std.specs.Prelude.{IsTrue, ◌&&◌, not, filter, filter_map, flat_map, is_some, slice_get, if◌then◌else◌}
 use Rattle.std.specs.Borrow.{Bor}
 use Rattle.std.specs.List.{AllZip, list_any}
 use Rattle.std.proofs.lemmas.Bool.{false≢true}
@@ -34,7 +34,7 @@ use Rattle.bundle_link_targets.proofs.MeetLemmas.{object-told as object-held}
 use Rattle.bundle_link_reached.proofs.AlikeLemmas.{once_back, some_back}
 use Rattle.bundle_link_reached.proofs.ElementLemmas.{later}
 use Rattle.bundle_merge_injected.specs.Listed as f
-use Rattle.bundle_merge_whole.specs.made.Given.{Contexts}
+use Rattle.bundle_merge_whole.specs.made.Given.{Answer, Fresh, Written, stands_written, Contexts}
 use Rattle.bundle_merge_whole.specs.made.Made.{IsMade, stars}
 use Rattle.bundle_merge_whole.specs.planned.Blocks.{block_of}
 use Rattle.bundle_merge_whole.specs.planned.Decided.{DecidedExternal, DecidedLoad, back_plan, external_plan, front_plan, numbers_from, object_plan, one_if}
@@ -49,6 +49,8 @@ use Rattle.bundle_merge_names.specs.Idents.{target_ident}
 use Rattle.bundle_merge_names.specs.declared.names.Names.{Names}
 use Rattle.bundle_merge_names.specs.declared.part.Answered.{Answered}
 use Rattle.bundle_merge_names.specs.declared.part.BundleParts.{BundleParts}
+use Rattle.bundle_merge_names.specs.declared.part.Part.{Part}
+use Rattle.bundle_merge_names.proofs.ScopeLemmas.{there-below}
 use Rattle.bundle_merge_items.specs.Added as a
 use Rattle.bundle_merge_items.specs.Adds.{IsNamedBundle, any_hooks, decided_of}
 use Rattle.bundle_merge_names.specs.Naming.{AreNamed}
@@ -60,7 +62,7 @@ use Rattle.bundle_merge_names.proofs.Naming.{are-named}
 pub zip-one : {A B : Type 0} (R : A → B → Type 0) (x : A) (y : B) → R x y → AllZip R (x ∷ []) (y ∷ [])
 zip-one R x y is = (is, tt)
 
-module _ (q : Program) (list : List ℕ) (answers : ℕ → Option (List Item)) (context : Contexts) (bundle : BundleParts) (names : Names) (its : IsNamedBundle q list answers context bundle names) where
+module _ (q : Program) (list : List ℕ) (answers : ℕ → Option Answer) (context : Contexts) (bundle : BundleParts) (names : Names) (its : IsNamedBundle q list answers context bundle names) where
   abbrev count : ℕ
   count = length bundle.parts.now
 
@@ -119,26 +121,32 @@ module _ (q : Program) (list : List ℕ) (answers : ℕ → Option (List Item)) 
       AreLoadsIn q m (list_in bundle.linking.now.outside.loads.items m)
   loads-of m reached = its.parts.handed.loads m reached
 
-  -- something was answered for just the modules that have an `import.meta`
+  -- something was answered for just the modules that have an `import.meta` of which no object is
+  -- written already
   pub meta-told : (m : ℕ) → IsReached q m →
-      has_import_meta (tree_of q m)
+      (has_import_meta (tree_of q m) && not (stands_written (answers m)))
       ≡ is_some (unwrap_or (slice_get bundle.answers.now m) None)
   meta-told m reached =
-      by (has_import_meta (tree_of q m)) (answers m) (unwrap_or (slice_get bundle.answers.now m) None)
-      refl refl (its.parts.answered m)
+      let part = there-below bundle.parts.now m ((its.parts.reached m).0 reached) in
+      by part.0 (has_import_meta (tree_of q m)) (answers m)
+      (unwrap_or (slice_get bundle.answers.now m) None) refl refl
+      (its.parts.answered m part.0 part.1)
     where
-      by : (has : Bool) (told : Option (List Item)) (found : Option Answered) →
-          has_import_meta (tree_of q m) ≡ has → answers m ≡ told → AreAnswers told found →
-          has ≡ is_some found
-      by true (Some properties) (Some answer) is told are = refl
-      by false (Some properties) (Some answer) is told are =
-          absurd (false≢true (sym is ∙ its.answered.asked m properties told))
-      by true None None is told are =
+      by : (part : Part) (has : Bool) (told : Option Answer) (found : Option Answered) →
+          has_import_meta (tree_of q m) ≡ has → answers m ≡ told → AreAnswers told part found →
+          (has && not (stands_written told)) ≡ is_some found
+      by part true (Some (Fresh properties)) (Some answer) is told are = refl
+      by part false (Some (Fresh properties)) (Some answer) is told are =
+          absurd (false≢true (sym is ∙ its.answered.asked m (Fresh properties) told))
+      by part true None None is told are =
           let there = its.answered.there m reached is in
           absurd (none-some there.0 (sym told ∙ there.1))
-      by false None None is told are = refl
-      by has None (Some answer) is told are = absurd are
-      by has (Some properties) None is told are = absurd are
+      by part false None None is told are = refl
+      by part true (Some (Written ctxt notes properties)) None is told are = refl
+      by part false (Some (Written ctxt notes properties)) None is told are = refl
+      by part has None (Some answer) is told are = absurd are
+      by part has (Some (Fresh properties)) None is told are = absurd are
+      by part has (Some (Written ctxt notes properties)) (Some answer) is told are = absurd are
 
   -- ---- externals
   pub external-adds : (external : External) → IsExternalOf q external →

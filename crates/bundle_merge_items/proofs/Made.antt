@@ -22,7 +22,7 @@ use Rattle.bundle_link_targets.specs.declared.target.External.{External}
 use Rattle.bundle_link_targets.specs.declared.target.Loaded.{Loaded}
 use Rattle.bundle_merge_injected.specs.Listed as f
 use Rattle.bundle_merge_meaning.proofs.joined.Tops.{Contains-cons}
-use Rattle.bundle_merge_whole.specs.made.Given.{Contexts, HelperParameter, ident_of_label}
+use Rattle.bundle_merge_whole.specs.made.Given.{Answer, Contexts, HelperParameter, ident_of_label}
 use Rattle.bundle_merge_names.specs.Idents.{label_ident, target_ident}
 use Rattle.bundle_merge_names.specs.declared.names.Label.TheVariants as n
 use Rattle.bundle_merge_names.specs.declared.names.Names.{Names}
@@ -34,7 +34,7 @@ use Rattle.bundle_merge_whole.specs.made.Made as m
 use Rattle.bundle_merge_whole.specs.made.Made.{IsMade, named_idents, linked_idents}
 use Rattle.bundle_merge_names.specs.Naming.{AreNamed}
 
-module _ (p : Program) (hooks : Hooks) (list : List ℕ) (context : Contexts) (answers : ℕ → Option (List Item)) (names : Names) (named : AreNamed p list context names) where
+module _ (p : Program) (hooks : Hooks) (list : List ℕ) (context : Contexts) (answers : ℕ → Option Answer) (names : Names) (named : AreNamed p list context names) where
   -- names that are taken have the identifiers of their targets
   pub pairs-are : (code : Bor Text → Target) (of : Text → l.Target) (its : List (Bor Text)) →
       ((x : Bor Text) → target_of (code x) ≡ of x.now) →

@@ -33,7 +33,7 @@ use Rattle.bundle_tree_rebuild.specs.Work.{Work, Step, rewrite_step, work_of}
 use Rattle.bundle_tree_rewrite.specs.Stated.{ReworkedObject}
 use Rattle.bundle_merge_injected.specs.Listed as l
 use Rattle.bundle_merge_meaning.proofs.walked.Clearing.{cleared-append}
-use Rattle.bundle_merge_whole.specs.made.Given.{Contexts, ident_of_label, numbers_answered}
+use Rattle.bundle_merge_whole.specs.made.Given.{Answer, Fresh, Written, stands_written, Contexts, ident_of_label, numbers_answered}
 use Rattle.bundle_merge_whole.specs.made.Made.{IsMade, IsAnsweredAs, holds_meta}
 use Rattle.bundle_merge_whole.specs.made.Steps.{IsStepTo, IsStepAnswered}
 use Rattle.bundle_merge_names.specs.Body.{AreOwnSteps, numbered_ident}
@@ -47,8 +47,9 @@ use Rattle.bundle_merge_names.specs.declared.part.Answered.{Answered}
 use Rattle.bundle_merge_names.specs.declared.part.BundleParts.{BundleParts}
 use Rattle.bundle_merge_items.specs.Added.{items_of}
 use Rattle.bundle_merge_items.specs.Adds.{AddsMeta, IsNamedBundle, any_hooks}
-use Rattle.bundle_merge_names.specs.Naming.{AreNamed}
-use Rattle.bundle_merge_names.proofs.Naming.{are-named}
+use Rattle.bundle_merge_names.specs.declared.part.Part.{Part}
+use Rattle.bundle_merge_names.proofs.Reading.{meta-ident}
+use Rattle.bundle_merge_names.proofs.ScopeLemmas.{there-below}
 use Rattle.bundle_merge_items.proofs.Stating.{IsMoved, expr-moved}
 
 -- ---- the names of a cleared list
@@ -147,21 +148,25 @@ AreOwnNames answer scopes rewrites =
     AreOwnSteps kind (map item_of answer.pieces.now) g rewrites
 
 -- what was told of a module for which something was answered
-pub record IsAnswered (answers : ℕ → Option (List Item)) (m : ℕ) (its : Answered) : Type 0 where
+pub record IsAnswered (answers : ℕ → Option Answer) (m : ℕ) (its : Answered) : Type 0 where
   pub properties : List Item
-  pub told : answers m ≡ Some properties
+  pub told : answers m ≡ Some (Fresh properties)
   pub is : IsAnswerOf properties its
 
-module _ (q : Program) (list : List ℕ) (answers : ℕ → Option (List Item)) (context : Contexts) (bundle : BundleParts) (names : Names) (its : IsNamedBundle q list answers context bundle names) where
-  pub is-answered : (m : ℕ) (answer : Answered) →
+module _ (q : Program) (list : List ℕ) (answers : ℕ → Option Answer) (context : Contexts) (bundle : BundleParts) (names : Names) (its : IsNamedBundle q list answers context bundle names) where
+  pub is-answered : (m : ℕ) (answer : Answered) → IsReached q m →
       unwrap_or (slice_get bundle.answers.now m) None ≡ Some answer → IsAnswered answers m answer
-  is-answered m answer found =
-      by (answers m) refl (subst (AreAnswers (answers m)) found (its.parts.answered m))
+  is-answered m answer reached found =
+      let part = there-below bundle.parts.now m ((its.parts.reached m).0 reached) in
+      by part.0 (answers m) refl
+      (subst (AreAnswers (answers m) part.0) found (its.parts.answered m part.0 part.1))
     where
-      by : (o : Option (List Item)) → answers m ≡ o → AreAnswers o (Some answer) →
+      by : (part : Part) (o : Option Answer) → answers m ≡ o → AreAnswers o part (Some answer) →
           IsAnswered answers m answer
-      by None told none = absurd none
-      by (Some properties) told is = record { properties = properties; told = told; is = is }
+      by part None told none = absurd none
+      by part (Some (Fresh properties)) told is =
+          record { properties = properties; told = told; is = is.1 }
+      by part (Some (Written ctxt notes properties)) told none = absurd none
 
   -- the object that holds the `import.meta` of a module
   meta-by : (m : ℕ) (answer : Answered) → IsAnswered answers m answer → IsReached q m →
@@ -192,13 +197,11 @@ module _ (q : Program) (list : List ℕ) (answers : ℕ → Option (List Item)) 
             same_work made.by;
       })
       (ap (λ (ident : Ident). l.constant no_notes ident (expr_items 1 object))
-      (named.metas m reached (its.answered.asked m a.properties a.told))
+      (meta-ident q list answers context bundle names its.parts its.named its.sound m reached
+      (its.answered.asked m (Fresh a.properties) a.told) (ap stands_written a.told))
       ∙ ap (l.constant no_notes (ident_of_label q list context (Meta m)))
       (object-moved object made.inside made.is))
     where
-      named : AreNamed q list context names
-      named = are-named q list answers context bundle names its.parts its.named its.sound
-
       numbers : AreNumbersOf Es (map item_of answer.pieces.now) answer.denotations.now
           (numbers_answered context m) scopes
       numbers = subst
@@ -231,7 +234,8 @@ module _ (q : Program) (list : List ℕ) (answers : ℕ → Option (List Item)) 
       ReworkedObject (work_of rewriting) (answered_items answer) (expr_items 0 object) →
       IsMade q any_hooks list context answers (HoldsMeta m)
       (l.constant no_notes (label_ident names (n.Meta m)) (expr_items 1 object))
-  meta-made m answer reached found = meta-by m answer (is-answered m answer found) reached found
+  meta-made m answer reached found =
+      meta-by m answer (is-answered m answer reached found) reached found
 
 -- it is added
 pub meta-adds : (names : Names) (m : ℕ) (answer : Answered) (scopes : List (Option ℕ)) →

@@ -10,10 +10,10 @@ use Rattle.bundle_rules.specs.Meaning.{HasKind}
 use Rattle.bundle_rules.specs.Nodes.{parts as parts_of}
 use Rattle.bundle_rules.specs.Program.{Program}
 use Rattle.bundle_rules.specs.Scopes.{ModuleKind}
-use Rattle.bundle_merge_whole.specs.made.Given.{Contexts, default_ident}
+use Rattle.bundle_merge_whole.specs.made.Given.{Answer, Contexts, default_ident}
 use Rattle.bundle_merge_whole.specs.made.Steps.{meta_ident}
 use Rattle.bundle_merge_names.specs.Body.{AreSteps, IsReadAs}
-use Rattle.bundle_merge_names.specs.Bundle.{IsPartOf}
+use Rattle.bundle_merge_names.specs.Bundle.{IsPartOf, own_items}
 use Rattle.bundle_merge_names.specs.declared.names.Names.{Names}
 use Rattle.bundle_merge_names.specs.declared.part.BundleParts.{BundleParts}
 use Rattle.bundle_merge_names.specs.declared.part.Part.{Part}
@@ -37,7 +37,7 @@ TakesMeta k bundle names part meta =
     IsReadAs p list context k kind part bundle.linking.now names →
     meta ≡ meta_ident p list context k
 
-pub statements-owned : (q : Program) (list : List ℕ) (answers : ℕ → Option (List Item))
+pub statements-owned : (q : Program) (list : List ℕ) (answers : ℕ → Option Answer)
     (context : Contexts) (bundle : BundleParts) (names : Names) (m : ℕ) (part : Part)
     (kind : ModuleKind) →
     IsNamedBundle q list answers context bundle names →
@@ -46,17 +46,17 @@ pub statements-owned : (q : Program) (list : List ℕ) (answers : ℕ → Option
     (rewrites : List Rewrite) → TakeSteps m bundle names part rewrites →
     (meta : Option Ident) → TakesMeta m bundle names part meta →
     (default : Ident) → default ≡ local_ident names m (codes "default") →
-    (items : List ModuleItem) → (part.written ≡ None → items ≡ part.items.now) →
+    (items : List ModuleItem) → items ≡ own_items part →
     (nodes : List (List Item)) → nodes ≡ parts_of (map item_of part.pieces.now) →
     (made : List (List Item)) → StateInTurn meta default items nodes rewrites made →
     AreStatedAs q list context m kind made
 statements-owned q list answers context bundle names m part kind named at has rewrites steps meta metas default defaults items owned nodes noded made its =
-    own-stated q list context m kind part.items.now (map item_of part.pieces.now) nodes rewrites made
+    own-stated q list context m kind (own_items part) (map item_of part.pieces.now) nodes rewrites made
     of.tree of.listed noded (steps q list context kind read)
-    (subst (λ o. StateInTurn o (default_ident context m) part.items.now nodes rewrites made)
+    (subst (λ o. StateInTurn o (default_ident context m) (own_items part) nodes rewrites made)
     (metas q list context kind read)
-    (subst (λ i. StateInTurn meta i part.items.now nodes rewrites made) default-is
-    (subst (λ l. StateInTurn meta default l nodes rewrites made) (owned of.written) its)))
+    (subst (λ i. StateInTurn meta i (own_items part) nodes rewrites made) default-is
+    (subst (λ l. StateInTurn meta default l nodes rewrites made) owned its)))
   where
     of : IsPartOf q m part
     of = named.parts.parts m part at

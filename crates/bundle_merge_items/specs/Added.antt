@@ -3,6 +3,7 @@ use Rattle.std.specs.Prelude.{◌≡◌, ◌⊎◌, ℕ, zero, suc, Bool, true, 
 use Rattle.std.specs.Borrow.{Bor}
 use Rattle.bundle_tree_piece.specs.Item.{Item}
 use Rattle.bundle_tree_ast.specs.declared.module.Module.{Module}
+use Rattle.bundle_tree_ast.specs.declared.module.ModuleItem.{ModuleItem}
 use Rattle.bundle_tree_listed.specs.Tree.{module_item_items}
 use Rattle.bundle_rules.specs.Nodes.{Text, flat}
 use Rattle.bundle_rules.specs.Idents.{Ident}
@@ -29,6 +30,10 @@ use Rattle.bundle_merge_names.specs.declared.names.Names.{Names}
 -- the lists of a module's items
 abbrev pub items_of : Module → List (List Item)
 items_of items = map (module_item_items 0) items.body.items
+
+-- a copy of an item
+abbrev pub copy_of : ModuleItem → List (List Item)
+copy_of item = module_item_items 0 item ∷ []
 
 -- names, each with the identifier of the target that it is
 abbrev pub named_pairs : Names → (Bor Text → Target) → List (Bor Text) → List (Text × Ident)

@@ -1,17 +1,19 @@
 -- When a bundle whose modules are merged is that of a program, and what is added is made for causes.
-use Rattle.std.specs.Prelude.{◌≡◌, ℕ, true, Bool, List, ◌++◌, ◌∷◌, [], Option, Some, None, length, map, slice_get, unwrap_or, ⊤}
+use Rattle.std.specs.Prelude.{◌≡◌, ℕ, zero, ◌&&◌, not, true, Bool, List, ◌++◌, ◌∷◌, [], Option, Some, None, length, map, slice_get, unwrap_or, ⊤}
 use Rattle.std.specs.List.{AllZip}
 use Rattle.bundle_tree_ast.specs.declared.module.Module.{Module}
+use Rattle.bundle_tree_leaf.specs.declared.kind.ExportMetadata.{ExportMetadata}
 use Rattle.bundle_tree_piece.specs.Item.{Item}
-use Rattle.bundle_rules.specs.Bundle.{Cause, HoldsMeta, Hooks, MayHold, AreFaultless}
+use Rattle.bundle_rules.specs.Bundle.{Cause, HoldsMeta, Loads, Own, Hooks, MayHold, AreFaultless}
 use Rattle.bundle_rules.specs.Entries.{has_import_meta}
+use Rattle.bundle_rules.specs.Merged.{IsMetaItem, meta_item}
 use Rattle.bundle_rules.specs.Program.{Program, tree_of, IsReached}
 use Rattle.bundle_scope_renamed.specs.fit.Sorts.{AProperty, Many, slot}
 use Rattle.bundle_scope_renamed.specs.fit.Fits.{AreFit}
-use Rattle.bundle_merge_whole.specs.made.Given.{Contexts}
+use Rattle.bundle_merge_whole.specs.made.Given.{Answer, Fresh, Written, stands_written, Contexts}
 use Rattle.bundle_merge_whole.specs.made.Made.{IsMade}
 use Rattle.bundle_merge_whole.specs.made.Alone.{AreSound}
-use Rattle.bundle_merge_whole.specs.planned.Decided.{Decided}
+use Rattle.bundle_merge_whole.specs.planned.Decided.{Decided, numbers_from, one_if}
 use Rattle.bundle_merge_whole.specs.sound.Decided.{AreTold, decided_by}
 use Rattle.bundle_merge_whole.specs.planned.Blocks.{block_of}
 use Rattle.bundle_merge_names.specs.Bundle.{AreBundleParts, AreNamesOf}
@@ -25,21 +27,27 @@ abbrev pub any_hooks : Hooks
 any_hooks = record { may_answer = λ file is_entry properties. ⊤ }
 
 -- what was answered for modules is there for just those that have an `import.meta`; it is a list of
--- properties, and has no fault
-pub record AreAnswered (q : Program) (answers : ℕ → Option (List Item)) : Type 0 where
+-- properties, and has no fault; or it is the object that is written already
+pub record AreAnswered (q : Program) (answers : ℕ → Option Answer) : Type 0 where
   pub there : (m : ℕ) → IsReached q m → has_import_meta (tree_of q m) ≡ true →
-      (properties : List Item) × (answers m ≡ Some properties)
-  pub asked : (m : ℕ) (properties : List Item) → answers m ≡ Some properties →
+      (answer : Answer) × (answers m ≡ Some answer)
+  pub asked : (m : ℕ) (answer : Answer) → answers m ≡ Some answer →
       has_import_meta (tree_of q m) ≡ true
-  pub held : (m : ℕ) (properties : List Item) → answers m ≡ Some properties →
+  pub held : (m : ℕ) (properties : List Item) → answers m ≡ Some (Fresh properties) →
       MayHold q any_hooks m properties
-  pub faultless : (m : ℕ) (properties : List Item) → answers m ≡ Some properties →
+  pub faultless : (m : ℕ) (properties : List Item) → answers m ≡ Some (Fresh properties) →
       AreFaultless q properties
-  pub fit : (m : ℕ) (properties : List Item) → answers m ≡ Some properties →
+  pub fit : (m : ℕ) (properties : List Item) → answers m ≡ Some (Fresh properties) →
+      AreFit (slot 0 Many AProperty ∷ []) properties
+  pub written : (m ctxt : ℕ) (notes : ExportMetadata) (properties : List Item) →
+      answers m ≡ Some (Written ctxt notes properties) →
+      IsMetaItem q any_hooks m (meta_item notes ctxt properties)
+  pub written_fit : (m ctxt : ℕ) (notes : ExportMetadata) (properties : List Item) →
+      answers m ≡ Some (Written ctxt notes properties) →
       AreFit (slot 0 Many AProperty ∷ []) properties
 
 -- a bundle is that of a program whose modules are numbered by their places, and has these names
-pub record IsNamedBundle (q : Program) (list : List ℕ) (answers : ℕ → Option (List Item))
+pub record IsNamedBundle (q : Program) (list : List ℕ) (answers : ℕ → Option Answer)
     (context : Contexts) (bundle : BundleParts) (names : Names) : Type 0 where
   pub sound : AreSound q list
   pub parts : AreBundleParts q list answers bundle
@@ -52,8 +60,19 @@ decided_of bundle meta count =
     decided_by bundle.linking.now meta count (length bundle.parts.now)
     (map block_of bundle.blocks.now)
 
+-- an ES module makes the object for its `import.meta`, if none is written already
+abbrev pub meta_plan : Program → (ℕ → Option Answer) → ℕ → List Cause
+meta_plan q answers m =
+    one_if (has_import_meta (tree_of q m) && not (stands_written (answers m))) (HoldsMeta m)
+
+-- and what stands behind that
+abbrev pub behind_plan : Decided → ℕ → List Cause
+behind_plan d m =
+    map (λ load. Loads m load.«module») (d.loads m)
+    ++ map (Own m) (numbers_from zero (d.statements m))
+
 -- items are added behind those that are there, each made for one of these causes in turn
-pub record Adds (q : Program) (list : List ℕ) (answers : ℕ → Option (List Item))
+pub record Adds (q : Program) (list : List ℕ) (answers : ℕ → Option Answer)
     (context : Contexts) (causes : List Cause) (old new : Module) : Type 0 where
   pub made : List (List Item)
   pub each : AllZip (IsMade q any_hooks list context answers) causes made
@@ -62,7 +81,7 @@ pub record Adds (q : Program) (list : List ℕ) (answers : ℕ → Option (List 
 -- the same for each program whose bundle this is, where such causes are its
 abbrev pub AddsFor : BundleParts → Names → (Program → List Cause → Type 0) → Module → Module → Type 0
 AddsFor bundle names Are old new =
-    (q : Program) (list : List ℕ) (answers : ℕ → Option (List Item)) (context : Contexts)
+    (q : Program) (list : List ℕ) (answers : ℕ → Option Answer) (context : Contexts)
     (causes : List Cause) → IsNamedBundle q list answers context bundle names → Are q causes →
     Adds q list answers context causes old new
 
@@ -76,7 +95,7 @@ IsPlanned bundle plan q causes =
 -- for it
 abbrev pub AddsMeta : Names → ℕ → Answered → Module → Module → Type 0
 AddsMeta names m answer old new =
-    (q : Program) (list : List ℕ) (answers : ℕ → Option (List Item)) (context : Contexts)
+    (q : Program) (list : List ℕ) (answers : ℕ → Option Answer) (context : Contexts)
     (bundle : BundleParts) → IsNamedBundle q list answers context bundle names → IsReached q m →
     unwrap_or (slice_get bundle.answers.now m) None ≡ Some answer →
     Adds q list answers context (HoldsMeta m ∷ []) old new

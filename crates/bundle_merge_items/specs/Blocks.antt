@@ -10,7 +10,7 @@ use Rattle.bundle_merge_items.specs.Added.{items_of}
 use Rattle.bundle_merge_items.specs.Adds.{Adds, IsNamedBundle, any_hooks, decided_of}
 use Rattle.bundle_merge_names.specs.declared.names.Names.{Names}
 use Rattle.bundle_merge_names.specs.declared.part.BundleParts.{BundleParts}
-use Rattle.bundle_merge_whole.specs.made.Given.{Contexts}
+use Rattle.bundle_merge_whole.specs.made.Given.{Answer, Contexts}
 use Rattle.bundle_merge_whole.specs.made.Made.{AreBlocksMade, AreMade, IsBlockMade, IsMade}
 use Rattle.bundle_merge_whole.specs.planned.Blocks.{block_of}
 use Rattle.bundle_merge_whole.specs.planned.Decided.{Decided}
@@ -20,9 +20,9 @@ use Rattle.bundle_tree_ast.specs.declared.module.Module.{Module}
 
 -- it holds of each program whose bundle this is, with what its tables tell
 abbrev pub InBundle : BundleParts → Names →
-    (Program → List ℕ → (ℕ → Option (List Item)) → Contexts → Decided → Type 0) → Type 0
+    (Program → List ℕ → (ℕ → Option Answer) → Contexts → Decided → Type 0) → Type 0
 InBundle bundle names Holds =
-    (q : Program) (list : List ℕ) (answers : ℕ → Option (List Item)) (context : Contexts)
+    (q : Program) (list : List ℕ) (answers : ℕ → Option Answer) (context : Contexts)
     (meta : ℕ → Bool) (count : ℕ → ℕ) →
     IsNamedBundle q list answers context bundle names →
     AreTold q (length bundle.parts.now) meta count →
@@ -38,7 +38,7 @@ abbrev pub AreWithin : BundleParts → List ℕ → Type 0
 AreWithin bundle places = (m : ℕ) → Contains places m → m < length bundle.parts.now
 
 -- items are made for these causes in turn, and beside each stands the module that it is of
-pub record AreOwned (q : Program) (list : List ℕ) (answers : ℕ → Option (List Item))
+pub record AreOwned (q : Program) (list : List ℕ) (answers : ℕ → Option Answer)
     (context : Contexts) (causes : List Cause) (items : Module) (owners : List (Option ℕ)) :
     Type 0 where
   pub each : AllZip (IsMade q any_hooks list context answers) causes (items_of items)
@@ -62,13 +62,13 @@ pub record IsPlaced (is_sorted : Bool) (before : List (List Item)) (owners : Lis
   pub unsorted : is_sorted ≡ false → placed ≡ before
 
 -- these are the items of a block, in some order that is good
-pub record IsBlockPut (q : Program) (list : List ℕ) (answers : ℕ → Option (List Item))
+pub record IsBlockPut (q : Program) (list : List ℕ) (answers : ℕ → Option Answer)
     (context : Contexts) (d : Decided) (block : Block) (items : Module) : Type 0 where
   pub order : List ℕ
   pub made : IsBlockMade q any_hooks list context answers d (block_of block) order (items_of items)
 
 -- the items of blocks are added behind those that are there
-pub record AddsBlocks (q : Program) (list : List ℕ) (answers : ℕ → Option (List Item))
+pub record AddsBlocks (q : Program) (list : List ℕ) (answers : ℕ → Option Answer)
     (context : Contexts) (d : Decided) (blocks : List Block) (old new : Module) : Type 0 where
   pub orders : List (List ℕ)
   pub placed : List (List Item)
@@ -76,7 +76,7 @@ pub record AddsBlocks (q : Program) (list : List ℕ) (answers : ℕ → Option 
   pub is : items_of new ≡ items_of old ++ placed
 
 -- the items of a bundle in their order
-pub record AreItemsMade (q : Program) (list : List ℕ) (answers : ℕ → Option (List Item))
+pub record AreItemsMade (q : Program) (list : List ℕ) (answers : ℕ → Option Answer)
     (context : Contexts) (d : Decided) (items : Module) : Type 0 where
   pub orders : List (List ℕ)
   pub made : AreMade q any_hooks list context answers d orders (items_of items)

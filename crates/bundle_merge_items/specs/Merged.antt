@@ -5,7 +5,7 @@ use Rattle.bundle_tree_ast.specs.declared.module.Module.{Module}
 use Rattle.bundle_tree_piece.specs.Item.{Item}
 use Rattle.bundle_order_sort.specs.declared.plan.Block.{Block}
 use Rattle.bundle_rules.specs.Program.{Program}
-use Rattle.bundle_merge_whole.specs.made.Given.{Contexts, Holder, TopOf}
+use Rattle.bundle_merge_whole.specs.made.Given.{Answer, Contexts, Holder, TopOf}
 use Rattle.bundle_merge_whole.specs.made.Made.{AreMade, IsBlockMade}
 use Rattle.bundle_merge_whole.specs.made.Alone.{IsHolder, TellApart}
 use Rattle.bundle_merge_whole.specs.planned.Blocks.{block_of}
@@ -23,7 +23,7 @@ AreBlocksOnce bundle =
     (block : Block) → Contains bundle.blocks.now block → IsDistinct nat_eq block.places.items
 
 -- the items of a block are added behind those that are there, in some order that is good
-pub record AddsBlock (q : Program) (list : List ℕ) (answers : ℕ → Option (List Item))
+pub record AddsBlock (q : Program) (list : List ℕ) (answers : ℕ → Option Answer)
     (context : Contexts) (d : Decided) (block : Block) (old new : Module) : Type 0 where
   pub order : List ℕ
   pub placed : List (List Item)
@@ -32,7 +32,7 @@ pub record AddsBlock (q : Program) (list : List ℕ) (answers : ℕ → Option (
 
 -- what is merged is what the modules of a bundle make, where contexts tell apart what has one, each
 -- module keeps that of its top, and the next free one is above all
-pub record IsMergedOf (q : Program) (list : List ℕ) (answers : ℕ → Option (List Item))
+pub record IsMergedOf (q : Program) (list : List ℕ) (answers : ℕ → Option Answer)
     (bundle : BundleParts) (meta : ℕ → Bool) (count : ℕ → ℕ) (merged : Merged) : Type 0 where
   pub context : Contexts
   pub apart : TellApart q answers context

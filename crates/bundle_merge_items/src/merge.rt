@@ -4,12 +4,13 @@ ghost use Rattle.std.specs.Prelude.{◌≡◌, ◌<◌, ◌-◌, ◌++◌, ◌�
 ghost use Rattle.std.specs.List.{list_any};
 ghost use Rattle.bundle_rules.specs.Bundle.{Helps, Stars};
 ghost use Rattle.bundle_rules.specs.Program.{Program};
+ghost use Rattle.bundle_merge_whole.specs.made.Given.{Answer};
 ghost use Rattle.bundle_merge_whole.specs.made.Alone.{AreSound};
 ghost use Rattle.bundle_merge_whole.specs.planned.Decided.{back_plan, external_plan, front_plan, module_plan, object_plan, one_if};
 ghost use Rattle.bundle_merge_whole.specs.sound.Decided.{AreTold};
 ghost use Rattle.bundle_merge_names.specs.Bundle.{AreBundleParts};
 ghost use Rattle.bundle_merge_names.specs.Numbers.{position};
-ghost use Rattle.bundle_merge_names.specs.Refused.{RefusesNames};
+ghost use Rattle.bundle_merge_names.specs.Refused.{RefusesNames, TakesFew};
 ghost use Rattle.bundle_merge_items.specs.Adds.{AreAnswered};
 ghost use Rattle.bundle_merge_items.specs.Blocks.{AddsBlocks, AddsOwned, AddsPlan, AreItemsMade, AreWithin, InBundle, IsBlockPut, IsPlaced};
 ghost use Rattle.bundle_merge_items.specs.Merged.{AddsBlock, AreBlocksOnce, IsMergedOf};
@@ -40,7 +41,7 @@ pub struct Merged {
 /// The modules of a bundle as one. Refused where contexts run out, and for memory.
 pub fn merge_modules(alloc: Global, bundle: &BundleParts<'_, '_, '_>) -> Result<Merged, MergeError>
     ensures merged { IfOk result (λ merged.
-        (q : Program) (list : List ℕ) (answers : ℕ → Option (List Item))
+        (q : Program) (list : List ℕ) (answers : ℕ → Option Answer)
         (meta : ℕ → Bool) (count : ℕ → ℕ) →
         AreSound q list →
         AreBundleParts q list answers bundle.now →
@@ -48,8 +49,12 @@ pub fn merge_modules(alloc: Global, bundle: &BundleParts<'_, '_, '_>) -> Result<
         AreAnswered q answers →
         AreTold q (length bundle.now.parts.now) meta count →
         IsMergedOf q list answers bundle.now meta count merged) }
+    ensures few { IfOk result (λ merged.
+        (q : Program) (list : List ℕ) (answers : ℕ → Option Answer) →
+        AreBundleParts q list answers bundle.now →
+        TakesFew q list answers (position bundle.now.contexts) (position merged.contexts)) }
     ensures refused { IfErr result (λ refusal.
-        (q : Program) (list : List ℕ) (answers : ℕ → Option (List Item)) →
+        (q : Program) (list : List ℕ) (answers : ℕ → Option Answer) →
         AreBundleParts q list answers bundle.now →
         RefusesNames q list answers (position bundle.now.contexts) refusal) }
 {

@@ -1,11 +1,9 @@
 //! The items of one module: the object for `import.meta`, the statements that load CommonJS modules and the module's own
 //! statements; or, of a CommonJS module, its load function.
 
-ghost use Rattle.std.specs.Prelude.{◌≡◌, ◌++◌, ◌∷◌, ℕ, Bool, List, [], Option, Some, None, OnOk, IfOk, codes, drop, filter, length, map, option_map, slice_get};
-ghost use Rattle.bundle_rules.specs.Bundle.{HoldsMeta};
-ghost use Rattle.bundle_rules.specs.Entries.{has_import_meta};
+ghost use Rattle.std.specs.Prelude.{◌≡◌, ◌++◌, ◌∷◌, ℕ, Bool, List, [], Option, Some, OnOk, IfOk, codes, drop, filter, flat_map, length, map, option_map, slice_get};
 ghost use Rattle.bundle_rules.specs.Meaning.{HasKind};
-ghost use Rattle.bundle_rules.specs.Program.{IsReached, Program, tree_of};
+ghost use Rattle.bundle_rules.specs.Program.{IsReached, Program};
 ghost use Rattle.bundle_rules.specs.Scopes.{Es, ModuleKind};
 ghost use Rattle.bundle_tree_piece.specs.Item.{Item, item_of};
 ghost use Rattle.bundle_tree_places.specs.Marks.{ident_of};
@@ -14,13 +12,14 @@ ghost use Rattle.bundle_tree_ast.specs.declared.stmt.Stmt as tree;
 ghost use Rattle.bundle_tree_listed.specs.Tree.{module_item_items, option_items, stmt_items};
 ghost use Rattle.bundle_tree_rewrite.specs.Stated.{States};
 ghost use Rattle.bundle_merge_whole.specs.made.Given as given;
-ghost use Rattle.bundle_merge_whole.specs.planned.Decided.{es_plan, module_plan, one_if};
+ghost use Rattle.bundle_merge_whole.specs.planned.Decided.{module_plan};
 ghost use Rattle.bundle_merge_whole.specs.sound.Decided.{AreTold};
+ghost use Rattle.bundle_merge_names.specs.Bundle.{written_items};
 ghost use Rattle.bundle_merge_names.specs.Idents.{label_ident};
 ghost use Rattle.bundle_merge_names.specs.declared.names.Label.TheVariants as labels;
 ghost use Rattle.bundle_merge_items.specs.Added as added;
 ghost use Rattle.bundle_merge_items.specs.Added.{items_of, local_ident};
-ghost use Rattle.bundle_merge_items.specs.Adds.{Adds, AddsFor, AddsMeta, IsNamedBundle, IsPlanned, decided_of};
+ghost use Rattle.bundle_merge_items.specs.Adds.{Adds, AddsFor, AddsMeta, IsNamedBundle, IsPlanned, behind_plan, decided_of, meta_plan};
 ghost use Rattle.bundle_merge_items.specs.Stated as stated;
 ghost use Rattle.bundle_merge_items.specs.Stated.{AreStatedAs, StateInTurn, names_in, work_by};
 
@@ -60,7 +59,8 @@ pub(crate) fn add_module<'a>(
 
 // Adds the statement that holds the `import.meta` of a module as it is, if it is there already.
 fn add_written(alloc: Global, part: &Part<'_, '_>, items: &mut Module) -> Result<(), AllocError>
-    ensures { OnOk result (part.now.written ≡ None → items_of items.new ≡ items_of items.old) }
+    ensures { OnOk result (items_of items.new
+        ≡ items_of items.old ++ flat_map added.copy_of (written_items part.now)) }
 {
     for item in part.written_items() {
         add_item(items, rebuild_item(alloc, item, &[])?)?;
@@ -122,13 +122,14 @@ fn add_es<'a>(
     items: &mut Module,
 ) -> Result<(), AllocError>
     ensures { OnOk result (
-        (q : Program) (list : List ℕ) (answers : ℕ → Option (List Item))
+        (q : Program) (list : List ℕ) (answers : ℕ → Option given.Answer)
         (context : given.Contexts) (meta : ℕ → Bool) (count : ℕ → ℕ) →
         IsNamedBundle q list answers context bundle.now names.now →
         AreTold q (length bundle.now.parts.now) meta count →
         IsReached q «module» →
         AreStatedAs q list context «module» Es (map (stmt_items 0) own.items) →
-        Adds q list answers context (es_plan (decided_of bundle.now meta count) «module»)
+        Adds q list answers context
+        (meta_plan q answers «module» ++ behind_plan (decided_of bundle.now meta count) «module»)
         items.old items.new) }
 {
     add_meta(alloc, bundle, names, module, items)?;
@@ -136,7 +137,8 @@ fn add_es<'a>(
     add_stmts(items, own)
 }
 
-// Adds the object for the `import.meta` of a module, if the hook answered something for it.
+// Adds the object for the `import.meta` of a module, if the hook answered something for it: else it has none, or is there
+// already.
 fn add_meta(
     alloc: Global,
     bundle: &BundleParts<'_, '_, '_>,
@@ -145,12 +147,11 @@ fn add_meta(
     items: &mut Module,
 ) -> Result<(), AllocError>
     ensures { OnOk result (
-        (q : Program) (list : List ℕ) (answers : ℕ → Option (List Item))
+        (q : Program) (list : List ℕ) (answers : ℕ → Option given.Answer)
         (context : given.Contexts) →
         IsNamedBundle q list answers context bundle.now names.now →
         IsReached q «module» →
-        Adds q list answers context (one_if (has_import_meta (tree_of q «module»)) (HoldsMeta «module»))
-        items.old items.new) }
+        Adds q list answers context (meta_plan q answers «module») items.old items.new) }
 {
     match bundle.answer(module) {
         Some(answer) => add_meta_object(alloc, names, module, answer, items),
@@ -213,7 +214,7 @@ fn own_statements<'a>(
     part: &Part<'_, 'a>,
 ) -> Result<Vec<Stmt>, AllocError>
     ensures { IfOk result (λ own.
-        (q : Program) (list : List ℕ) (answers : ℕ → Option (List Item))
+        (q : Program) (list : List ℕ) (answers : ℕ → Option given.Answer)
         (context : given.Contexts) (kind : ModuleKind) →
         IsNamedBundle q list answers context bundle.now names.now →
         slice_get bundle.now.parts.now «module» ≡ Some part.now →

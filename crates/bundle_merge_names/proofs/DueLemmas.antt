@@ -1,9 +1,8 @@
 -- What gets a name is just what has a context of its own in a bundle and is a label.
-use Rattle.std.proofs.Common.{◌≡◌, ◌↔◌, ◌⊎◌, ◌+◌, inl, inr, ℕ, zero, List, Option, length, refl, sym, subst, arith}
+use Rattle.std.proofs.Common.{◌≡◌, ◌↔◌, ◌⊎◌, ◌+◌, inl, inr, ℕ, zero, Bool, List, Option, length, refl, sym, subst, ◌∙◌, arith}
 use Rattle.std.specs.Prelude.{Contains}
-use Rattle.bundle_tree_piece.specs.Item.{Item}
 use Rattle.bundle_rules.specs.Bundle as b
-use Rattle.bundle_rules.specs.Bundle.{Cause, AsModule, IsDue, IsUsed, externals}
+use Rattle.bundle_rules.specs.Bundle.{Cause, AsModule, IsDue, IsUsed}
 use Rattle.bundle_rules.specs.Entries.{Taken, Named, Whole}
 use Rattle.bundle_rules.specs.Linking as l
 use Rattle.bundle_rules.specs.Meaning as m
@@ -21,10 +20,10 @@ use Rattle.bundle_merge_names.specs.declared.names.Names.{Names}
 use Rattle.bundle_merge_names.specs.declared.part.BundleParts.{BundleParts}
 use Rattle.bundle_merge_names.specs.Added.{AddsNames, IsOfExternals, IsOfHelper, IsOfHelpers, IsOfLabels, IsOfLoads, IsOfModule, IsOfModules, its_load, its_loads, its_meta, its_name, its_namespace, its_parameter, its_variable, of_externals, of_helpers, of_modules}
 use Rattle.bundle_merge_names.specs.Bundle.{AreBundleParts}
-use Rattle.bundle_merge_whole.specs.made.Given.{Holder, TopOf, InsideOf, AnsweredOf, NameOf, HelperParameter, HelperVariable}
+use Rattle.bundle_merge_whole.specs.made.Given.{Answer, stands_written, Holder, TopOf, InsideOf, AnsweredOf, WrittenIn, NameOf, HelperParameter, HelperVariable}
 use Rattle.bundle_merge_whole.specs.made.Alone as h
 use Rattle.bundle_merge_whole.specs.made.Alone.{AddsLabel, IsHolder}
-use Rattle.bundle_merge_names.specs.Named.{holder_of}
+use Rattle.bundle_merge_names.specs.Named.{IsGiven, holder_of}
 use Rattle.bundle_merge_names.proofs.AddLemmas.{adds-on}
 use Rattle.bundle_merge_names.proofs.SomeLemmas.{adds-labels}
 
@@ -33,6 +32,7 @@ abbrev IsLabelled : Holder → Type 0
 IsLabelled (TopOf k) = ⊥
 IsLabelled (InsideOf k begins) = ⊥
 IsLabelled (AnsweredOf k begins) = ⊥
+IsLabelled (WrittenIn k ctxt) = ⊥
 IsLabelled (NameOf label) = Unit {0}
 IsLabelled HelperParameter = Unit {0}
 IsLabelled HelperVariable = Unit {0}
@@ -46,7 +46,7 @@ labelled n.HelperParameter = tt
 labelled n.HelperVariable = tt
 
 -- the modules by their places are those that are reached
-listed : (p : Program) (list : List ℕ) (answers : ℕ → Option (List Item)) (bundle : BundleParts) → AreBundleParts p list answers bundle → (k : ℕ) → Contains list k ↔ IsReached p k
+listed : (p : Program) (list : List ℕ) (answers : ℕ → Option Answer) (bundle : BundleParts) → AreBundleParts p list answers bundle → (k : ℕ) → Contains list k ↔ IsReached p k
 listed p list answers bundle parts k = (
   λ there.
       let below = from-there zero count k (subst (λ l. Contains l k) parts.places there) in
@@ -60,7 +60,7 @@ listed p list answers bundle parts k = (
     count : ℕ
     count = length bundle.parts.now
 
-module _ (p : Program) (list : List ℕ) (answers : ℕ → Option (List Item)) (has : (k : ℕ) → Contains list k ↔ IsReached p k) where
+module _ (p : Program) (list : List ℕ) (answers : ℕ → Option Answer) (has : (k : ℕ) → Contains list k ↔ IsReached p k) where
   -- ---- what gets a name has a context
   external-holder : (s : Text) (its : Taken) → IsUsed p s → m.IsMeant p (m.Of (l.External s its)) → IsHolder p answers (NameOf (m.Of (l.External s its)))
   external-holder s (Named x) used means = h.added (b.ImportsNames s) (b.imports_names used means) (h.imports_name means)
@@ -115,33 +115,65 @@ module _ (p : Program) (list : List ℕ) (answers : ℕ → Option (List Item)) 
   labels-from holder is_label (h.top_of reached) = absurd is_label
   labels-from holder is_label (h.inside_of kind its name i reached has_kind at) = absurd is_label
   labels-from holder is_label (h.answered_of properties its name i reached answered at) = absurd is_label
+  labels-from holder is_label (h.written_in own notes properties its begins name i o reached answered at denoted is) = absurd is_label
   labels-from holder is_label (h.added cause due adds) = added-from adds due
   labels-from holder is_label (h.parameter c reached cjs) = of_helpers (record { c = c; reached = reached; common_js = cjs; its = its_parameter })
   labels-from holder is_label (h.variable c reached cjs) = of_helpers (record { c = c; reached = reached; common_js = cjs; its = its_variable })
 
 -- ---- one after another
-abbrev Behind : Program → Holder → Type 0
-Behind p holder = IsOfHelpers p holder ⊎ IsOfModules p holder
+abbrev Behind : Program → (ℕ → Bool) → Holder → Type 0
+Behind p written holder = IsOfHelpers p holder ⊎ IsGiven written (IsOfModules p) holder
 
-split : (p : Program) (list : List ℕ) (holder : Holder) → IsOfLabels p list holder → IsOfExternals p list holder ⊎ Behind p holder
-split p list holder (of_externals is) = inl is
-split p list holder (of_helpers is) = inr (inl is)
-split p list holder (of_modules is) = inr (inr is)
+split : (p : Program) (list : List ℕ) (written : ℕ → Bool) (holder : Holder) → IsGiven written (IsOfLabels p list) holder → IsOfExternals p list holder ⊎ Behind p written holder
+split p list written holder given = by given.its
+  where
+    by : IsOfLabels p list holder → IsOfExternals p list holder ⊎ Behind p written holder
+    by (of_externals is) = inl is
+    by (of_helpers is) = inr (inl is)
+    by (of_modules is) = inr (inr (record { its = is; fresh = given.fresh }))
 
-behind : (p : Program) (list : List ℕ) (holder : Holder) → Behind p holder → IsOfLabels p list holder
-behind p list holder (inl is) = of_helpers is
-behind p list holder (inr is) = of_modules is
+pub external-given : (p : Program) (list : List ℕ) (written : ℕ → Bool) (holder : Holder) → IsOfExternals p list holder → IsGiven written (IsOfLabels p list) holder
+external-given p list written holder is = record {
+  its = of_externals is;
+  fresh = λ j same. let e : NameOf (m.Of (l.External is.specifier is.its)) ≡ NameOf (m.Meta j) = sym is.is ∙ same in absurd cc;
+}
+
+helper-other : {holder : Holder} → IsOfHelper holder → (j : ℕ) → holder ≡ NameOf (m.Meta j) → ⊥
+helper-other its_name j same = cc
+helper-other its_parameter j same = cc
+helper-other its_variable j same = cc
+
+pub helpers-given : (p : Program) (list : List ℕ) (written : ℕ → Bool) (holder : Holder) → IsOfHelpers p holder → IsGiven written (IsOfLabels p list) holder
+helpers-given p list written holder is = record {
+  its = of_helpers is;
+  fresh = λ j same. absurd (helper-other is.its j same);
+}
+
+pub modules-given : (p : Program) (list : List ℕ) (written : ℕ → Bool) (holder : Holder) → IsGiven written (IsOfModules p) holder → IsGiven written (IsOfLabels p list) holder
+modules-given p list written holder is = record { its = of_modules is.its; fresh = is.fresh }
+
+behind : (p : Program) (list : List ℕ) (written : ℕ → Bool) (holder : Holder) → Behind p written holder → IsGiven written (IsOfLabels p list) holder
+behind p list written holder (inl is) = helpers-given p list written holder is
+behind p list written holder (inr is) = modules-given p list written holder is
+
+-- a label that gets a name is one of those
+pub label-given : (p : Program) (list : List ℕ) (answers : ℕ → Option Answer) (bundle : BundleParts) → AreBundleParts p list answers bundle → (label : Label) → IsGiven (λ k. stands_written (answers k)) (IsHolder p answers) (holder_of label) → IsGiven (λ k. stands_written (answers k)) (IsOfLabels p list) (holder_of label)
+label-given p list answers bundle parts label given = record {
+  its = labels-from p list answers (listed p list answers bundle parts) (holder_of label) (labelled label) given.its;
+  fresh = given.fresh;
+}
 
 -- names for externals, then the helper, then the modules are names for all labels that have a context
-pub adds-all : (p : Program) (list : List ℕ) (answers : ℕ → Option (List Item)) (bundle : BundleParts) → AreBundleParts p list answers bundle → (first second third fourth : Names)
+pub adds-all : (p : Program) (list : List ℕ) (answers : ℕ → Option Answer) (bundle : BundleParts) → AreBundleParts p list answers bundle → (first second third fourth : Names)
     → AddsNames p list (IsOfExternals p list) first second
     → AddsNames p list (IsOfHelpers p) second third
-    → AddsNames p list (IsOfModules p) third fourth
-    → AddsNames p list (IsHolder p answers) first fourth
+    → AddsNames p list (IsGiven (λ k. stands_written (answers k)) (IsOfModules p)) third fourth
+    → AddsNames p list (IsGiven (λ k. stands_written (answers k)) (IsHolder p answers)) first fourth
 adds-all p list answers bundle parts first second third fourth externals_too helpers_too modules_too =
     let has = listed p list answers bundle parts in
-    adds-labels p list (IsOfLabels p list) (IsHolder p answers) first fourth
-    (λ label its. labels-to p list answers has (holder_of label) its)
-    (λ label its. labels-from p list answers has (holder_of label) (labelled label) its)
-    (adds-on p list (IsOfExternals p list) (Behind p) (IsOfLabels p list) first second fourth (split p list) (λ holder its. of_externals its) (behind p list) externals_too
-    (adds-on p list (IsOfHelpers p) (IsOfModules p) (Behind p) second third fourth (λ holder its. its) (λ holder its. inl its) (λ holder its. inr its) helpers_too modules_too))
+    let written : ℕ → Bool = λ k. stands_written (answers k) in
+    adds-labels p list (IsGiven written (IsOfLabels p list)) (IsGiven written (IsHolder p answers)) first fourth
+    (λ label given. record { its = labels-to p list answers has (holder_of label) given.its; fresh = given.fresh })
+    (label-given p list answers bundle parts)
+    (adds-on p list (IsOfExternals p list) (Behind p written) (IsGiven written (IsOfLabels p list)) first second fourth (split p list written) (external-given p list written) (behind p list written) externals_too
+    (adds-on p list (IsOfHelpers p) (IsGiven written (IsOfModules p)) (Behind p written) second third fourth (λ holder its. its) (λ holder its. inl its) (λ holder its. inr its) helpers_too modules_too))

@@ -1,7 +1,7 @@
 -- What linking hands over of externals and of loads is what is meant of them.
 use Rattle.std.proofs.Common.{◌≡◌, ◌<◌, ◌⊎◌, inl, inr, ℕ, Bool, true, false, List, Some, length, map, refl, ap, sym, subst, ◌∙◌}
 use Rattle.std.specs.Prelude.{◌↔◌, Contains, IsTrue, codes, filter, flat_map, is_some, slice_get}
-use Rattle.std.proofs.lemmas.Bool.{false≢true, true≢false}
+use Rattle.std.proofs.lemmas.Bool.{true≢false}
 use Rattle.std.proofs.lemmas.List.Elements.{All-contains}
 use Rattle.std.proofs.lemmas.Option.{slice_get_within}
 use Rattle.bundle_rules.specs.Bundle.{AsksCommonJs, externals}
@@ -26,9 +26,11 @@ use Rattle.bundle_merge_names.specs.Added.{AddsNames, IsOfExternals, IsOfLoads, 
 use Rattle.bundle_merge_names.specs.Bundle.{IsPartOf}
 use Rattle.bundle_merge_whole.specs.made.Given.{Holder, NameOf}
 use Rattle.bundle_merge_names.specs.Held.{GivesName}
-use Rattle.bundle_merge_names.proofs.AddLemmas.{adds-on, adds-one}
+use Rattle.bundle_merge_names.proofs.AddLemmas.{adds-none, adds-on, adds-one}
 use Rattle.bundle_merge_names.proofs.ScopeLemmas.{there-below}
-use Rattle.bundle_merge_names.proofs.SomeLemmas.{IsOfSome, adds-not, adds-where}
+use Rattle.bundle_merge_names.proofs.SomeLemmas.{IsOfSome, adds-where}
+use Rattle.bundle_merge_names.proofs.TakenLemmas.{adds-like}
+use Rattle.bundle_merge_names.specs.Named.{IsGiven}
 
 -- the names of an external, and of what is loaded
 abbrev pub names_in : External → List Text
@@ -164,53 +166,94 @@ module _ (p : Program) (k : ℕ) where
   abbrev Fourth : Holder → Type 0
   Fourth = IsWhere (m.IsMeant p (m.Of (l.Namespace k))) (NameOf (m.Of (l.Namespace k)))
 
-  abbrev LastTwo : Holder → Type 0
-  LastTwo holder = IsOfLoads p k holder ⊎ Fourth holder
+  -- the object for `import.meta` gets a name where none is written already
+  module _ (written : ℕ → Bool) where
+    abbrev GivenSecond : Holder → Type 0
+    GivenSecond = IsGiven written Second
 
-  abbrev LastThree : Holder → Type 0
-  LastThree holder = Second holder ⊎ LastTwo holder
+    abbrev LastTwo : Holder → Type 0
+    LastTwo holder = IsOfLoads p k holder ⊎ Fourth holder
 
-  split : (holder : Holder) → IsOfModule p k holder → First holder ⊎ LastThree holder
-  split holder (its_load is) = inl is
-  split holder (its_meta is) = inr (inl is)
-  split holder (its_loads is) = inr (inr (inl is))
-  split holder (its_namespace is) = inr (inr (inr is))
+    abbrev LastThree : Holder → Type 0
+    LastThree holder = GivenSecond holder ⊎ LastTwo holder
 
-  behind : (holder : Holder) → LastThree holder → IsOfModule p k holder
-  behind holder (inl is) = its_meta is
-  behind holder (inr (inl is)) = its_loads is
-  behind holder (inr (inr is)) = its_namespace is
+    split : (holder : Holder) → IsGiven written (IsOfModule p k) holder → First holder ⊎ LastThree holder
+    split holder given = by given.its
+      where
+        by : IsOfModule p k holder → First holder ⊎ LastThree holder
+        by (its_load is) = inl is
+        by (its_meta is) = inr (inl (record { its = is; fresh = given.fresh }))
+        by (its_loads is) = inr (inr (inl is))
+        by (its_namespace is) = inr (inr (inr is))
 
-  pub adds-module : (list : List ℕ) (a b c d e : Names)
-      → AddsNames p list First a b
-      → AddsNames p list Second b c
-      → AddsNames p list (IsOfLoads p k) c d
-      → AddsNames p list Fourth d e
-      → AddsNames p list (IsOfModule p k) a e
-  adds-module list a b c d e one two three four =
-      adds-on p list First LastThree (IsOfModule p k) a b e split (λ holder is. its_load is) behind one
-      (adds-on p list Second LastTwo LastThree b c e (λ holder is. is) (λ holder is. inl is) (λ holder is. inr is) two
-      (adds-on p list (IsOfLoads p k) Fourth LastTwo c d e (λ holder is. is) (λ holder is. inl is) (λ holder is. inr is) three four))
+    pub load-given : (holder : Holder) → First holder → IsGiven written (IsOfModule p k) holder
+    load-given holder is = record {
+      its = its_load is;
+      fresh = λ j same. let e : NameOf (m.Load k) ≡ NameOf (m.Meta j) = sym is.is ∙ same in absurd cc;
+    }
 
-  -- the object for `import.meta`
-  pub meta-none : (list : List ℕ) (part : Part) (a : Names) → IsPartOf p k part → part.tables.now.has_import_meta ≡ false → AddsNames p list Second a a
-  meta-none list part a is none = adds-not p list (has_import_meta (tree_of p k) ≡ true) (NameOf (m.Meta k)) a (λ has. true≢false (sym (is.meta ∙ has) ∙ none))
+    pub meta-given : (holder : Holder) → GivenSecond holder → IsGiven written (IsOfModule p k) holder
+    meta-given holder is = record { its = its_meta is.its; fresh = is.fresh }
 
-  pub meta-written : (list : List ℕ) (part : Part) (a : Names) → IsPartOf p k part → is_some part.written ≡ true → AddsNames p list Second a a
-  meta-written list part a is some = absurd (false≢true (sym (ap is_some is.written) ∙ some))
+    pub loads-given : (holder : Holder) → IsOfLoads p k holder → IsGiven written (IsOfModule p k) holder
+    loads-given holder is = record {
+      its = its_loads is;
+      fresh = λ j same. let e : NameOf (m.Of (l.CommonJs k is.c is.its)) ≡ NameOf (m.Meta j) = sym is.is ∙ same in absurd cc;
+    }
 
-  pub meta-one : (list : List ℕ) (part : Part) (a b : Names) → IsPartOf p k part → part.tables.now.has_import_meta ≡ true → GivesName (n.Meta k) (codes "importMeta") a b → AddsNames p list Second a b
-  meta-one list part a b is has gives = adds-where p list (has_import_meta (tree_of p k) ≡ true) (NameOf (m.Meta k)) a b (sym is.meta ∙ has) (adds-one p list (n.Meta k) (codes "importMeta") a b refl gives)
+    pub namespace-given : (holder : Holder) → Fourth holder → IsGiven written (IsOfModule p k) holder
+    namespace-given holder is = record {
+      its = its_namespace is;
+      fresh = λ j same. let e : NameOf (m.Of (l.Namespace k)) ≡ NameOf (m.Meta j) = sym is.is ∙ same in absurd cc;
+    }
 
--- what the module at this place needs
-abbrev pub OfPart : Program → ℕ → Part → Holder → Type 0
-OfPart p k part = IsOfModule p k
+    behind : (holder : Holder) → LastThree holder → IsGiven written (IsOfModule p k) holder
+    behind holder (inl is) = meta-given holder is
+    behind holder (inr (inl is)) = loads-given holder is
+    behind holder (inr (inr is)) = namespace-given holder is
 
-module _ (p : Program) (parts : List Part) (reached : (k : ℕ) → IsReached p k ↔ (k < length parts)) where
-  pub modules-to : (holder : Holder) → IsOfSome (OfPart p) parts holder → IsOfModules p holder
-  modules-to holder some = record { k = some.i; reached = (reached some.i).1 (slice_get_within parts some.i some.x some.there); its = some.is }
+    pub adds-module : (list : List ℕ) (a b c d e : Names)
+        → AddsNames p list First a b
+        → AddsNames p list GivenSecond b c
+        → AddsNames p list (IsOfLoads p k) c d
+        → AddsNames p list Fourth d e
+        → AddsNames p list (IsGiven written (IsOfModule p k)) a e
+    adds-module list a b c d e one two three four =
+        adds-on p list First LastThree (IsGiven written (IsOfModule p k)) a b e split load-given behind one
+        (adds-on p list GivenSecond LastTwo LastThree b c e (λ holder is. is) (λ holder is. inl is) (λ holder is. inr is) two
+        (adds-on p list (IsOfLoads p k) Fourth LastTwo c d e (λ holder is. is) (λ holder is. inl is) (λ holder is. inr is) three four))
 
-  pub modules-from : (holder : Holder) → IsOfModules p holder → IsOfSome (OfPart p) parts holder
-  modules-from holder its =
+    -- the object for `import.meta` gets a name where none is written
+    pub second-given : (part : Part) → is_some part.written ≡ written k → is_some part.written ≡ false → (holder : Holder) → Second holder → GivenSecond holder
+    second-given part says none holder found = record {
+      its = found;
+      fresh = λ j same. let e : NameOf (m.Meta k) ≡ NameOf (m.Meta j) = sym found.is ∙ same in let one : j ≡ k = cc in ap written one ∙ sym says ∙ none;
+    }
+
+    pub meta-none : (list : List ℕ) (part : Part) (a : Names) → IsPartOf p k part → part.tables.now.has_import_meta ≡ false → AddsNames p list GivenSecond a a
+    meta-none list part a is none = adds-none p list GivenSecond a (λ holder found. true≢false (sym (is.meta ∙ found.its.so) ∙ none))
+
+    pub meta-written : (list : List ℕ) (part : Part) (a : Names) → is_some part.written ≡ written k → is_some part.written ≡ true → AddsNames p list GivenSecond a a
+    meta-written list part a says some = adds-none p list GivenSecond a (λ holder found. true≢false (sym some ∙ says ∙ found.fresh k found.its.is))
+
+    pub meta-one : (list : List ℕ) (part : Part) (a b : Names) → IsPartOf p k part → is_some part.written ≡ written k → is_some part.written ≡ false → part.tables.now.has_import_meta ≡ true → GivesName (n.Meta k) (codes "importMeta") a b → AddsNames p list GivenSecond a b
+    meta-one list part a b is says none has gives =
+        adds-like p list Second GivenSecond a b (second-given part says none) (λ holder found. found.its)
+        (adds-where p list (has_import_meta (tree_of p k) ≡ true) (NameOf (m.Meta k)) a b (sym is.meta ∙ has) (adds-one p list (n.Meta k) (codes "importMeta") a b refl gives))
+
+-- what the module at this place needs and gets a name
+abbrev pub OfPart : Program → (ℕ → Bool) → ℕ → Part → Holder → Type 0
+OfPart p written k part = IsGiven written (IsOfModule p k)
+
+module _ (p : Program) (written : ℕ → Bool) (parts : List Part) (reached : (k : ℕ) → IsReached p k ↔ (k < length parts)) where
+  pub modules-to : (holder : Holder) → IsOfSome (OfPart p written) parts holder → IsGiven written (IsOfModules p) holder
+  modules-to holder some = record {
+    its = record { k = some.i; reached = (reached some.i).1 (slice_get_within parts some.i some.x some.there); its = some.is.its };
+    fresh = some.is.fresh;
+  }
+
+  pub modules-from : (holder : Holder) → IsGiven written (IsOfModules p) holder → IsOfSome (OfPart p written) parts holder
+  modules-from holder given =
+      let its = given.its in
       let at = there-below parts its.k ((reached its.k).0 its.reached) in
-      record { i = its.k; x = at.0; there = at.1; is = its.its }
+      record { i = its.k; x = at.0; there = at.1; is = record { its = its.its; fresh = given.fresh } }

@@ -1,7 +1,6 @@
 -- What is meant in a bundle has a context, and literal calls lead to load functions that have one.
 use Rattle.std.proofs.Common.{◌≡◌, inl, inr, ℕ, List, Option, Some, refl, subst}
 use Rattle.std.specs.Prelude.{Contains}
-use Rattle.bundle_tree_piece.specs.Item.{Item}
 use Rattle.bundle_rules.specs.Bundle.{Cause}
 use Rattle.bundle_rules.specs.Entries as e
 use Rattle.bundle_rules.specs.Linking as l
@@ -14,13 +13,13 @@ use Rattle.bundle_merge_whole.specs.labels.Functions.{IsOfFunction, a_name, a_pa
 use Rattle.bundle_merge_whole.specs.made.Alone.{AreSound}
 use Rattle.bundle_merge_whole.proofs.labels.Labels.{call-given, meant-top}
 use Rattle.bundle_merge_whole.proofs.together.Holders.{HoldsLabel, by_module, by_name, holds}
-use Rattle.bundle_merge_whole.specs.made.Given.{Holder, NameOf}
+use Rattle.bundle_merge_whole.specs.made.Given.{Answer, Holder, NameOf}
 use Rattle.bundle_merge_whole.specs.made.Alone as a
 use Rattle.bundle_merge_whole.specs.made.Alone.{AddsLabel, IsHolder, added}
 
 -- declarations that are meant are of reached modules, all else that is meant has a context, and literal calls lead to
 -- reached CommonJS modules
-pub record AreHolders (p : Program) (answers : ℕ → Option (List Item)) : Type 0 where
+pub record AreHolders (p : Program) (answers : ℕ → Option Answer) : Type 0 where
   pub declared : (k : ℕ) (x : Text) → IsMeant p (Of (l.Declared k x)) → IsReached p k
   pub shared : (t : l.Target) → IsShared t → IsMeant p (Of t) → IsHolder p answers (NameOf (Of t))
   pub called : (k c : ℕ) (call : e.RequireCall) →
@@ -39,7 +38,7 @@ no-declaration (a.loads means) k x same = cc
 no-declaration a.holds_meta k x same = cc
 no-declaration a.holds_namespace k x same = cc
 
-module _ (p : Program) (answers : ℕ → Option (List Item)) where
+module _ (p : Program) (answers : ℕ → Option Answer) where
   -- a declaration at the top of a bundle is of a reached module
   top-reached : {label : Label} {h : Holder} → HoldsLabel p label h → (k : ℕ) (x : Text) → label ≡ Of (l.Declared k x) → IsReached p k
   top-reached (by_module {m = m} reached es) k x same = let one : m ≡ k = cc in subst (IsReached p) one reached

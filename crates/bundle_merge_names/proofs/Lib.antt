@@ -14,6 +14,7 @@ pub mod SomeLemmas
 pub mod GivenLemmas
 pub mod DueLemmas
 pub mod LackLemmas
+pub mod WrittenLemmas
 pub mod OwnLemmas
 pub mod Holding
 pub mod Reading

@@ -37,6 +37,7 @@ use Rattle.bundle_merge_whole.specs.planned.Counted.{sum_of}
 use Rattle.bundle_merge_whole.specs.planned.Decided.{numbers_from}
 use Rattle.bundle_merge_names.specs.Bundle.{AreAnswers, AreBundleParts, IsAnswerOf, answered_items}
 use Rattle.bundle_merge_whole.specs.made.Alone.{answered_of, inside_of}
+use Rattle.bundle_merge_whole.specs.made.Given.{Answer, Fresh, Written}
 use Rattle.bundle_merge_names.specs.Inside as n
 use Rattle.bundle_merge_names.specs.Inside.{AreTakenAt, AreTakenBy, AreTakenUpTo, RefusesScopes, answer_of, table_at}
 use Rattle.bundle_merge_names.specs.Numbers.{is_at_top, position, scope_of}
@@ -137,7 +138,7 @@ sum-more f k zero n less = omega arith
 sum-more f k (suc m) zero less = absurd (omega (arith, less))
 sum-more f k (suc m) (suc n) less = let rest = sum-more f (suc k) m n (omega (arith, less)) in omega (arith, rest)
 
-module _ (p : Program) (list : List ℕ) (answers : ℕ → Option (List Item)) (bundle : BundleParts) (parts : AreBundleParts p list answers bundle) where
+module _ (p : Program) (list : List ℕ) (answers : ℕ → Option Answer) (bundle : BundleParts) (parts : AreBundleParts p list answers bundle) where
   abbrev first : ℕ
   first = position bundle.contexts
 
@@ -152,24 +153,27 @@ module _ (p : Program) (list : List ℕ) (answers : ℕ → Option (List Item)) 
       by false tells = (Es, is_es (λ c. false≢true (tells.1 c)))
 
   -- what the hook answered, where that is told
-  answer-told : (m : ℕ) (its : Answered) → answer_of bundle m ≡ Some its → (properties : List Item) × (answers m ≡ Some properties) × IsAnswerOf properties its
-  answer-told m its is = by (answers m) refl (subst (AreAnswers (answers m)) is (parts.answered m))
+  answer-told : (m : ℕ) (its : Answered) → m < length bundle.parts.now → answer_of bundle m ≡ Some its → (properties : List Item) × (answers m ≡ Some (Fresh properties)) × IsAnswerOf properties its
+  answer-told m its within is =
+      let part = there-below bundle.parts.now m within in
+      by part.0 (answers m) refl (subst (AreAnswers (answers m) part.0) is (parts.answered m part.0 part.1))
     where
-      by : (o : Option (List Item)) → answers m ≡ o → AreAnswers o (Some its) → (properties : List Item) × (answers m ≡ Some properties) × IsAnswerOf properties its
-      by None told are = absurd are
-      by (Some properties) told are = (properties, told, are)
+      by : (part : Part) (o : Option Answer) → answers m ≡ o → AreAnswers o part (Some its) → (properties : List Item) × (answers m ≡ Some (Fresh properties)) × IsAnswerOf properties its
+      by part None told are = absurd are
+      by part (Some (Fresh properties)) told are = (properties, told, are.1)
+      by part (Some (Written ctxt notes properties)) told are = absurd are
 
   answer-tree : (properties : List Item) (its : Answered) → IsAnswerOf properties its → properties_tree properties ≡ cleared (map item_of its.pieces.now)
   answer-tree properties its is = ap properties_tree is.told ∙ tree-cleared (answered_items its) ∙ ap cleared (sym is.listed)
 
   module _ (most : ℕ → ℕ) (has : (m : ℕ) → IsReached p m → HasAtMost p answers m (most m)) where
-    answer-few : (m from to : ℕ) → AreTakenBy (table_at bundle true m) from to → to ≤ from + answered_count (answers m)
-    answer-few m from to taken = by (answer_of bundle m) refl taken
+    answer-few : (m from to : ℕ) → m < length bundle.parts.now → AreTakenBy (table_at bundle true m) from to → to ≤ from + answered_count (answers m)
+    answer-few m from to within taken = by (answer_of bundle m) refl taken
       where
         by : (o : Option Answered) → answer_of bundle m ≡ o → AreTakenBy (option_map (λ (x : Answered). x.denotations.now) o) from to → to ≤ from + answered_count (answers m)
         by None is same = omega (arith, same)
         by (Some its) is taken =
-            let told = answer-told m its is in
+            let told = answer-told m its within is in
             let few = taken-few Es (map item_of its.pieces.now) its.denotations.now told.2.table from to taken in
             let count : answered_count (answers m) ≡ binding_count Es (map item_of its.pieces.now) = ap answered_count told.1 ∙ ap (binding_count Es) (answer-tree told.0 its told.2) ∙ binding_count-cleared Es (map item_of its.pieces.now) in
             omega (arith, few, count)
@@ -181,7 +185,7 @@ module _ (p : Program) (list : List ℕ) (answers : ℕ → Option (List Item)) 
         let is = parts.parts m part.0 part.1 in
         let few = taken-few its.kind (map item_of part.0.pieces.now) part.0.denotations.now (is.table its.kind its.has_kind) from taken.middle (subst (λ o. AreTakenBy o from taken.middle) (list-table m part.0 part.1) taken.list) in
         let count : binding_count its.kind (tree_of p m) ≡ binding_count its.kind (map item_of part.0.pieces.now) = ap (binding_count its.kind) is.tree ∙ binding_count-cleared its.kind (map item_of part.0.pieces.now) in
-        let answered = answer-few m taken.middle to taken.answer in
+        let answered = answer-few m taken.middle to within taken.answer in
         let all = its.few in
         omega (arith, few, count, answered, all)
 
@@ -218,7 +222,7 @@ module _ (p : Program) (list : List ℕ) (answers : ℕ → Option (List Item)) 
       by : (o : Option Answered) → answer_of bundle m ≡ o → option_map (λ (x : Answered). x.denotations.now) o ≡ Some table → RefusesContextsIn p list answers first (ContextsUsedUp (Some m))
       by None is at = absurd (none-some table at)
       by (Some its) is at =
-          let told = answer-told m its is in
+          let told = answer-told m its within is in
           let same : table ≡ its.denotations.now = sym (same_Some its.denotations.now table at) in
           let inner = inner-needs Es (map item_of its.pieces.now) its.denotations.now told.2.table n (subst (λ t. NeedsContext t n) same needs) in
           let denoted = ap (λ ds. slice_get ds inner.3) (ap (denotations BySymbol Es) (answer-tree told.0 its told.2) ∙ denotations-cleared Es (map item_of its.pieces.now)) ∙ inner.4 in

@@ -34,7 +34,7 @@ use Rattle.bundle_merge_names.specs.declared.names.Names.{Names}
 use Rattle.bundle_merge_names.specs.declared.part.Part.{Part}
 use Rattle.bundle_merge_whole.specs.made.Given.{Contexts, ident_of_label, numbers_in}
 use Rattle.bundle_merge_names.specs.Named.{scopes_in}
-use Rattle.bundle_merge_names.specs.Idents.{label_ident, target_ident}
+use Rattle.bundle_merge_names.specs.Idents.{label_ident, object_ident, target_ident}
 use Rattle.bundle_merge_names.specs.Numbers.{AreNumbersOf}
 use Rattle.bundle_merge_names.specs.Own.{told}
 use Rattle.bundle_merge_whole.specs.made.Steps.{IsStep, IsStepTo, whole_of}
@@ -108,9 +108,8 @@ pub record IsReadAs (p : Program) (list : List ℕ) (context : Contexts) (k : �
       Contains (calls_of p k) call →
       resolves p k call.specifier ≡ Some c →
       label_ident names (n.Load c) ≡ ident_of_label p list context (m.Load c)
-  pub written : part.written ≡ None
   pub its_meta : has_import_meta (tree_of p k) ≡ true →
-      label_ident names (n.Meta k) ≡ ident_of_label p list context (m.Meta k)
+      object_ident names part.written k ≡ ident_of_label p list context (m.Meta k)
 
 -- these become the occurrences of the module in turn
 abbrev pub AreSteps : Program → List ℕ → Contexts → ℕ → ModuleKind → List Rewrite → Type 0

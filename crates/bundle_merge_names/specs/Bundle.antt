@@ -1,8 +1,11 @@
 -- When what a bundle is made of is that of a program, and its names are right.
-use Rattle.std.specs.Prelude.{◌≡◌, ℕ, zero, suc, ◌<◌, ◌↔◌, List, [], Option, Some, None, Contains, length, map, slice_get, unwrap_or, codes}
+use Rattle.std.specs.Prelude.{◌≡◌, ◌≢◌, ℕ, zero, suc, ◌<◌, ◌↔◌, List, [], ◌∷◌, Option, Some, None, Contains, drop, is_some, length, map, option_map, slice_get, take, unwrap_or, codes, if◌then◌else◌}
 use Rattle.std.specs.List.{flat_map}
 use Rattle.indexmap.specs.IndexMap.{get_by_text}
 use Rattle.bundle_order_sort.specs.declared.plan.Block.{Block}
+use Rattle.bundle_tree_leaf.specs.declared.kind.ExportMetadata.{ExportMetadata}
+use Rattle.bundle_tree_places.specs.Marks.{ident_of}
+use Rattle.bundle_tree_ast.specs.declared.module.ModuleItem.{ModuleItem}
 use Rattle.bundle_tree_piece.specs.Item as h
 use Rattle.bundle_tree_piece.specs.Item.{Item, item_of}
 use Rattle.bundle_tree_listed.specs.Tree.{key_value_prop_items, module_item_items, node}
@@ -10,7 +13,8 @@ use Rattle.bundle_rules.specs.Bundle.{properties_tree}
 use Rattle.bundle_rules.specs.Cleared.{cleared}
 use Rattle.bundle_rules.specs.Declarations.{BySymbol}
 use Rattle.bundle_rules.specs.Entries.{has_import_meta}
-use Rattle.bundle_rules.specs.Meaning.{HasKind}
+use Rattle.bundle_rules.specs.Meaning.{HasKind, Meta}
+use Rattle.bundle_rules.specs.Merged.{meta_item}
 use Rattle.bundle_rules.specs.Nodes.{Text}
 use Rattle.bundle_rules.specs.Program.{Program, tree_of, IsReached}
 use Rattle.bundle_rules.specs.Scopes.{ModuleKind, Es}
@@ -25,22 +29,29 @@ use Rattle.bundle_merge_names.specs.declared.names.Names.{Names}
 use Rattle.bundle_merge_names.specs.declared.part.Answered.{Answered}
 use Rattle.bundle_merge_names.specs.declared.part.BundleParts.{BundleParts}
 use Rattle.bundle_merge_names.specs.declared.part.Part.{Part}
-use Rattle.bundle_merge_whole.specs.made.Given.{Contexts, Holder, TopOf, NameOf, HelperParameter, HelperVariable, numbers_in, numbers_answered}
+use Rattle.bundle_merge_whole.specs.made.Given.{Answer, Fresh, Written, stands_written, Contexts, Holder, TopOf, NameOf, WrittenIn, HelperParameter, HelperVariable, numbers_in, numbers_answered}
 use Rattle.bundle_merge_whole.specs.made.Alone.{IsHolder, TellApart}
-use Rattle.bundle_merge_names.specs.Named.{answered_in, held, holder_of, local_in, scopes_in}
+use Rattle.bundle_merge_names.specs.Named.{IsGiven, answered_in, held, holder_of, local_in, scopes_in}
 use Rattle.bundle_merge_names.specs.Numbers.{AreNumbersOf, position}
+
+-- the items of a part that are its own: the object of its `import.meta` may stand in front
+abbrev pub own_items : Part → List ModuleItem
+own_items part = drop (if is_some part.written then 1 else 0) part.items.now
+
+-- the object of its `import.meta`, if it is there
+abbrev pub written_items : Part → List ModuleItem
+written_items part = take (if is_some part.written then 1 else 0) part.items.now
 
 -- a part is that of a module: its list, its items, its tables, and where its requests lead
 pub record IsPartOf (p : Program) (m : ℕ) (part : Part) : Type 0 where
   pub tree : tree_of p m ≡ cleared (map item_of part.pieces.now)
-  pub listed : map item_of part.pieces.now ≡ node 0 h.Module (flat_map (module_item_items 0) part.items.now)
+  pub listed : map item_of part.pieces.now ≡ node 0 h.Module (flat_map (module_item_items 0) (own_items part))
   pub table : (kind : ModuleKind) →
       HasKind p m kind →
       IsTable BySymbol kind (map item_of part.pieces.now) part.denotations.now
   pub tables : IsTableOf p m part.tables.now
   pub meta : part.tables.now.has_import_meta ≡ has_import_meta (tree_of p m)
   pub leads : (s : Text) → p.leads m s ≡ get_by_text part.leads.now s
-  pub written : part.written ≡ None
 
 -- the properties that a hook answered, as their items
 abbrev pub answered_items : Answered → List Item
@@ -52,15 +63,57 @@ pub record IsAnswerOf (properties : List Item) (its : Answered) : Type 0 where
   pub listed : map item_of its.pieces.now ≡ properties_tree (answered_items its)
   pub table : IsTable BySymbol Es (map item_of its.pieces.now) its.denotations.now
 
--- the same for what is there
-abbrev pub AreAnswers : Option (List Item) → Option Answered → Type 0
-AreAnswers None None = Unit {0}
-AreAnswers None (Some its) = ⊥
-AreAnswers (Some properties) None = ⊥
-AreAnswers (Some properties) (Some its) = IsAnswerOf properties its
+-- the first item of a part is the object of its `import.meta`, with these notes and properties, and
+-- its name has this context
+pub record IsWrittenIn (part : Part) (ctxt : ℕ) (notes : ExportMetadata)
+    (properties : List Item) : Type 0 where
+  pub name : option_map ident_of part.written ≡ Some (codes "importMeta", ctxt)
+  pub first : ModuleItem
+  pub rest : List ModuleItem
+  pub items : part.items.now ≡ first ∷ rest
+  pub is : module_item_items 0 first ≡ meta_item notes ctxt properties
+
+-- what is there of the `import.meta` of a module: nothing, what the hook answered, or its object
+abbrev pub AreAnswers : Option Answer → Part → Option Answered → Type 0
+AreAnswers None part None = part.written ≡ None
+AreAnswers None part (Some its) = ⊥
+AreAnswers (Some (Fresh properties)) part None = ⊥
+AreAnswers (Some (Fresh properties)) part (Some its) =
+    (part.written ≡ None) × IsAnswerOf properties its
+AreAnswers (Some (Written ctxt notes properties)) part None =
+    IsWrittenIn part ctxt notes properties
+AreAnswers (Some (Written ctxt notes properties)) part (Some its) = ⊥
+
+-- a context stands in the object of an `import.meta` that is written already: it is that of its
+-- name, or of a binding inside
+pub data StandsWritten (p : Program) (answers : ℕ → Option Answer) (m : ℕ) : ℕ → Type 0 where
+  its_name : {ctxt : ℕ} (notes : ExportMetadata) (properties : List Item) →
+      IsReached p m →
+      answers m ≡ Some (Written ctxt notes properties) →
+      StandsWritten p answers m ctxt
+  its_inside : {ctxt : ℕ} → IsHolder p answers (WrittenIn m ctxt) → StandsWritten p answers m ctxt
+
+-- the contexts of such objects are none of those that are free, nor those of globals and of tops of
+-- modules; no two objects have one in common, and no binding inside one has that of its name
+pub record AreWrittenApart (p : Program) (answers : ℕ → Option Answer)
+    (bundle : BundleParts) : Type 0 where
+  pub own : (m ctxt : ℕ) → StandsWritten p answers m ctxt → 1 < ctxt
+  pub free : (m ctxt : ℕ) → StandsWritten p answers m ctxt → ctxt < position bundle.contexts
+  pub tops : (m n ctxt : ℕ) (part : Part) →
+      StandsWritten p answers m ctxt →
+      slice_get bundle.parts.now n ≡ Some part →
+      ctxt ≢ part.local
+  pub apart : (m n ctxt : ℕ) →
+      StandsWritten p answers m ctxt →
+      StandsWritten p answers n ctxt →
+      m ≡ n
+  pub names : (m ctxt its : ℕ) (notes : ExportMetadata) (properties : List Item) →
+      answers m ≡ Some (Written ctxt notes properties) →
+      IsHolder p answers (WrittenIn m its) →
+      its ≢ ctxt
 
 -- what a bundle is made of is that of a program whose modules are numbered by their places, where the hook answered this for them
-pub record AreBundleParts (p : Program) (list : List ℕ) (answers : ℕ → Option (List Item)) (bundle : BundleParts) : Type 0 where
+pub record AreBundleParts (p : Program) (list : List ℕ) (answers : ℕ → Option Answer) (bundle : BundleParts) : Type 0 where
   pub reached : (m : ℕ) → IsReached p m ↔ (m < length bundle.parts.now)
   pub entry : suc p.entry ≡ length bundle.parts.now
   pub places : list ≡ numbers_from zero (length bundle.parts.now)
@@ -68,7 +121,10 @@ pub record AreBundleParts (p : Program) (list : List ℕ) (answers : ℕ → Opt
   pub handed : HandsOver p list bundle.linking.now
   pub modules : AreModules p
   pub parts : (m : ℕ) (part : Part) → slice_get bundle.parts.now m ≡ Some part → IsPartOf p m part
-  pub answered : (m : ℕ) → AreAnswers (answers m) (unwrap_or (slice_get bundle.answers.now m) None)
+  pub answered : (m : ℕ) (part : Part) →
+      slice_get bundle.parts.now m ≡ Some part →
+      AreAnswers (answers m) part (unwrap_or (slice_get bundle.answers.now m) None)
+  pub written : AreWrittenApart p answers bundle
   pub own : (m : ℕ) (part : Part) → slice_get bundle.parts.now m ≡ Some part → 1 < part.local
   pub free : (m : ℕ) (part : Part) → slice_get bundle.parts.now m ≡ Some part → part.local < position bundle.contexts
   pub apart : (m n : ℕ) (part other : Part) →
@@ -91,7 +147,7 @@ holder_symbol p list _ = []
 
 -- the names of a bundle are those of these contexts, which tell apart what has one; the next free one
 -- is above all
-pub record AreNamesOf (p : Program) (list : List ℕ) (answers : ℕ → Option (List Item)) (context : Contexts) (bundle : BundleParts) (names : Names) : Type 0 where
+pub record AreNamesOf (p : Program) (list : List ℕ) (answers : ℕ → Option Answer) (context : Contexts) (bundle : BundleParts) (names : Names) : Type 0 where
   pub apart : TellApart p answers context
   pub below : (a : Holder) → IsHolder p answers a → context a < position names.contexts
   pub locals : (m : ℕ) → m < length bundle.parts.now → local_in names m ≡ Some (context (TopOf m))
@@ -106,6 +162,11 @@ pub record AreNamesOf (p : Program) (list : List ℕ) (answers : ℕ → Option 
       m < length bundle.parts.now →
       slice_get bundle.answers.now m ≡ Some (Some its) →
       AreNumbersOf Es (map item_of its.pieces.now) its.denotations.now (numbers_answered context m) (answered_in names m)
+  pub metas : (m ctxt : ℕ) (notes : ExportMetadata) (properties : List Item) →
+      m < length bundle.parts.now →
+      answers m ≡ Some (Written ctxt notes properties) →
+      context (NameOf (Meta m)) ≡ ctxt
+  pub inside : (m ctxt : ℕ) → context (WrittenIn m ctxt) ≡ ctxt
   pub labels : (label : Label) →
-      IsHolder p answers (holder_of label) →
+      IsGiven (λ m. stands_written (answers m)) (IsHolder p answers) (holder_of label) →
       held names label ≡ Some (holder_symbol p list (holder_of label), context (holder_of label))

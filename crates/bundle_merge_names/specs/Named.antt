@@ -1,5 +1,5 @@
 -- What the names of a bundle hold.
-use Rattle.std.specs.Prelude.{ℕ, List, Option, option_map, slice_get}
+use Rattle.std.specs.Prelude.{◌≡◌, ℕ, Bool, false, List, Option, option_map, slice_get}
 use Rattle.indexmap.specs.IndexMap.{get_by}
 use Rattle.bundle_rules.specs.Idents.{Ident}
 use Rattle.bundle_rules.specs.Meaning as m
@@ -20,6 +20,11 @@ holder_of (n.Meta k) = NameOf (m.Meta k)
 holder_of n.Helper = NameOf m.Helper
 holder_of n.HelperParameter = HelperParameter
 holder_of n.HelperVariable = HelperVariable
+
+-- one of those, but for the object of an `import.meta` that is written already: that has its name
+pub record IsGiven (written : ℕ → Bool) (Those : Holder → Type 0) (holder : Holder) : Type 0 where
+  pub its : Those holder
+  pub fresh : (k : ℕ) → holder ≡ NameOf (m.Meta k) → written k ≡ false
 
 -- the identifier that is held for a label, if there is one
 abbrev pub held : Names → Label → Option Ident

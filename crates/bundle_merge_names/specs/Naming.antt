@@ -1,9 +1,8 @@
 -- What the names of a bundle are to give, where its contexts are these.
-use Rattle.std.specs.Prelude.{◌≡◌, ℕ, true, List, Some, codes}
-use Rattle.bundle_rules.specs.Entries.{has_import_meta}
-use Rattle.bundle_rules.specs.Program.{Program, tree_of, IsReached}
+use Rattle.std.specs.Prelude.{◌≡◌, ℕ, List, Some, codes}
+use Rattle.bundle_rules.specs.Program.{Program, IsReached}
 use Rattle.bundle_rules.specs.Linking.{IsCommonJs}
-use Rattle.bundle_rules.specs.Meaning.{Of, Load, Meta, Helper, IsMeant}
+use Rattle.bundle_rules.specs.Meaning.{Of, Load, Helper, IsMeant}
 use Rattle.bundle_link_index.specs.Says.{target_of}
 use Rattle.bundle_link_index.specs.declared.target.Target.{Target}
 use Rattle.bundle_merge_whole.specs.made.Given.{Contexts, TopOf, HelperParameter, HelperVariable, ident_of_label}
@@ -12,7 +11,8 @@ use Rattle.bundle_merge_names.specs.Named.{local_in}
 use Rattle.bundle_merge_names.specs.declared.names.Label.TheVariants as n
 use Rattle.bundle_merge_names.specs.declared.names.Names.{Names}
 
--- each label that is due has its identifier, and each module the context of its top
+-- each label that is due has its identifier, but for objects of `import.meta`, and each module the
+-- context of its top
 pub record AreNamed (p : Program) (list : List ℕ) (context : Contexts) (names : Names) : Type 0 where
   pub targets : (t : Target) →
       IsMeant p (Of (target_of t)) →
@@ -25,6 +25,4 @@ pub record AreNamed (p : Program) (list : List ℕ) (context : Contexts) (names 
       label_ident names n.HelperVariable ≡ (codes "module", context HelperVariable)
   pub loads : (c : ℕ) → IsReached p c → IsCommonJs p c →
       label_ident names (n.Load c) ≡ ident_of_label p list context (Load c)
-  pub metas : (m : ℕ) → IsReached p m → has_import_meta (tree_of p m) ≡ true →
-      label_ident names (n.Meta m) ≡ ident_of_label p list context (Meta m)
   pub locals : (m : ℕ) → IsReached p m → local_in names m ≡ Some (context (TopOf m))

@@ -14,7 +14,7 @@ ghost use Rattle.bundle_scope_names.proofs.Numbering.{Numbering};
 ghost use Rattle.bundle_merge_names.specs.declared.names.Label.TheVariants as kinds;
 ghost use Rattle.bundle_merge_whole.specs.made.Given as given;
 ghost use Rattle.bundle_merge_names.specs.Body.{IsReadAs, IsRewritten, AreOwnSteps, AreSteps, called_by, is_call_at, is_use_at, past_by};
-ghost use Rattle.bundle_merge_names.specs.Idents.{label_ident, target_ident};
+ghost use Rattle.bundle_merge_names.specs.Idents.{label_ident, object_ident, target_ident};
 ghost use Rattle.bundle_merge_names.specs.Numbers.{AreNumbersOf};
 ghost use Rattle.bundle_merge_names.specs.Own as own;
 ghost use Rattle.bundle_merge_names.specs.Own.{IsOwnName};
@@ -163,10 +163,9 @@ fn is_next(place: usize, other: usize) -> bool
 // The name of the object for `import.meta` in a module, if it has one: that of the statement which holds it already, or
 // the one that it was given.
 fn meta_of<'a>(part: &Part<'_, 'a>, module: usize, names: &Names<'a>) -> Option<Name<'a>>
-    ensures { part.now.written ≡ None →
-        option_map ident_of result
+    ensures { option_map ident_of result
         ≡ (if part.now.tables.now.has_import_meta
-        then Some (label_ident names.now (kinds.Meta «module»))
+        then Some (object_ident names.now part.now.written «module»)
         else None) }
 {
     if !part.tables.has_import_meta {

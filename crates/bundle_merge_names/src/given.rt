@@ -1,8 +1,7 @@
 //! The names of a bundle, given in one pass: a context for each scope of a module or of what the hook answered for it
 //! that binds something, and an identifier for each label. This alone may be refused for contexts.
 
-ghost use Rattle.std.specs.Prelude.{◌≡◌, ◌<◌, ◌⊎◌, ℕ, true, IfErr, IfOk, OnOk, List, Option, Some, None, length, map, slice_get, unwrap_or};
-ghost use Rattle.bundle_tree_piece.specs.Item.{Item};
+ghost use Rattle.std.specs.Prelude.{◌≡◌, ◌<◌, ◌⊎◌, ℕ, Bool, true, is_some, IfErr, IfOk, OnOk, List, Option, Some, None, length, map, slice_get, unwrap_or};
 ghost use Rattle.bundle_rules.specs.Entries as entries;
 ghost use Rattle.bundle_rules.specs.Entries.{has_import_meta};
 ghost use Rattle.bundle_rules.specs.Linking as links;
@@ -16,12 +15,13 @@ ghost use Rattle.bundle_link_targets.specs.Meant.{AreModules};
 ghost use Rattle.bundle_link_targets.specs.Symbols.{IsTakable};
 ghost use Rattle.bundle_merge_names.specs.Added.{AddsNames, IsNamedOf, IsOfExternals, IsOfHelper, IsOfHelpers, IsOfLabels, IsOfLoads, IsOfModule, IsOfModules, IsTakenOf, IsWhere, IsWholeOf, RefusesLabels, with_taken};
 ghost use Rattle.bundle_merge_names.specs.Bundle.{AreBundleParts, AreNamesOf, IsPartOf};
-ghost use Rattle.bundle_merge_whole.specs.made.Given.{Contexts, NameOf};
+ghost use Rattle.bundle_merge_whole.specs.made.Given.{Answer, Contexts, NameOf, stands_written};
 ghost use Rattle.bundle_merge_whole.specs.made.Alone.{IsHolder};
 ghost use Rattle.bundle_merge_names.specs.Inside.{AreScopesNamed, GivesModule, HoldsNothing, RefusesModule, answer_of};
+ghost use Rattle.bundle_merge_names.specs.Named.{IsGiven};
 ghost use Rattle.bundle_merge_names.specs.Numbers as numbers;
 ghost use Rattle.bundle_merge_names.specs.Ranges.{GivesAnswered, GivesContexts, RefusesAnswered, RefusesContexts};
-ghost use Rattle.bundle_merge_names.specs.Refused.{RefusesContextsIn, RefusesNames};
+ghost use Rattle.bundle_merge_names.specs.Refused.{RefusesContextsIn, RefusesNames, TakesFew};
 ghost use Rattle.bundle_merge_names.specs.Scoped.{AreMarks, GivesScope, RefusesScope, flag_in, scope_number};
 
 use crate::error::MergeError;
@@ -39,11 +39,16 @@ pub fn names_of<'a>(
     bundle: &BundleParts<'_, 'a, '_>,
 ) -> Result<Names<'a>, MergeError>
     ensures named { IfOk result (λ names.
-        (p : Program) (list : List ℕ) (answers : ℕ → Option (List Item)) →
+        (p : Program) (list : List ℕ) (answers : ℕ → Option Answer) →
         AreBundleParts p list answers bundle.now →
         (context : Contexts) × AreNamesOf p list answers context bundle.now names) }
+    ensures few { IfOk result (λ names.
+        (p : Program) (list : List ℕ) (answers : ℕ → Option Answer) →
+        AreBundleParts p list answers bundle.now →
+        TakesFew p list answers (numbers.position bundle.now.contexts)
+        (numbers.position names.contexts)) }
     ensures refused { IfErr result (λ refusal.
-        (p : Program) (list : List ℕ) (answers : ℕ → Option (List Item)) →
+        (p : Program) (list : List ℕ) (answers : ℕ → Option Answer) →
         AreBundleParts p list answers bundle.now →
         RefusesNames p list answers (numbers.position bundle.now.contexts) refusal) }
 {
@@ -59,12 +64,17 @@ fn give_names<'a>(
     bundle: &BundleParts<'_, 'a, '_>,
 ) -> Result<(), MergeError>
     ensures given { OnOk result (HoldsNothing bundle.now names.old →
-        (p : Program) (list : List ℕ) (answers : ℕ → Option (List Item)) →
+        (p : Program) (list : List ℕ) (answers : ℕ → Option Answer) →
         AreBundleParts p list answers bundle.now →
         (context : Contexts) × AreNamesOf p list answers context bundle.now names.new) }
+    ensures few { OnOk result (HoldsNothing bundle.now names.old →
+        (p : Program) (list : List ℕ) (answers : ℕ → Option Answer) →
+        AreBundleParts p list answers bundle.now →
+        TakesFew p list answers (numbers.position bundle.now.contexts)
+        (numbers.position names.new.contexts)) }
     ensures refused { IfErr result (λ refusal.
         HoldsNothing bundle.now names.old →
-        (p : Program) (list : List ℕ) (answers : ℕ → Option (List Item)) →
+        (p : Program) (list : List ℕ) (answers : ℕ → Option Answer) →
         AreBundleParts p list answers bundle.now →
         RefusesNames p list answers (numbers.position bundle.now.contexts) refusal) }
 {
@@ -83,7 +93,7 @@ fn give_contexts<'a>(
     ensures labels { OnOk result (names.new.labels ≡ names.old.labels) }
     ensures refused { IfErr result (λ refusal.
         HoldsNothing bundle.now names.old →
-        (p : Program) (list : List ℕ) (answers : ℕ → Option (List Item)) →
+        (p : Program) (list : List ℕ) (answers : ℕ → Option Answer) →
         AreBundleParts p list answers bundle.now →
         RefusesContextsIn p list answers (numbers.position bundle.now.contexts) refusal) }
 {
@@ -255,13 +265,15 @@ fn give_labels<'a>(
     names: &mut Names<'a>,
     bundle: &BundleParts<'_, 'a, '_>,
 ) -> Result<(), MergeError>
-    ensures given { OnOk result ((p : Program) (list : List ℕ) (answers : ℕ → Option (List Item)) →
+    ensures given { OnOk result ((p : Program) (list : List ℕ) (answers : ℕ → Option Answer) →
         AreBundleParts p list answers bundle.now →
-        AddsNames p list (IsHolder p answers) names.old names.new) }
+        AddsNames p list (IsGiven (λ m. stands_written (answers m)) (IsHolder p answers))
+        names.old names.new) }
     ensures refused { IfErr result (λ refusal.
-        (p : Program) (list : List ℕ) (answers : ℕ → Option (List Item)) →
+        (p : Program) (list : List ℕ) (answers : ℕ → Option Answer) →
         AreBundleParts p list answers bundle.now →
-        RefusesLabels (IsOfLabels p list) names.old refusal) }
+        RefusesLabels (IsGiven (λ m. stands_written (answers m)) (IsOfLabels p list))
+        names.old refusal) }
 {
     give_externals(names, bundle.linking)?;
     give_helpers(names, bundle)?;
@@ -417,11 +429,11 @@ fn give_target<'a>(
 
 // Gives names to the helper, its parameter and its variable, if some module is CommonJS.
 fn give_helpers(names: &mut Names<'_>, bundle: &BundleParts<'_, '_, '_>) -> Result<(), MergeError>
-    ensures given { OnOk result ((p : Program) (list : List ℕ) (answers : ℕ → Option (List Item)) →
+    ensures given { OnOk result ((p : Program) (list : List ℕ) (answers : ℕ → Option Answer) →
         AreBundleParts p list answers bundle.now →
         AddsNames p list (IsOfHelpers p) names.old names.new) }
     ensures refused { IfErr result (λ refusal.
-        (p : Program) (list : List ℕ) (answers : ℕ → Option (List Item)) →
+        (p : Program) (list : List ℕ) (answers : ℕ → Option Answer) →
         AreBundleParts p list answers bundle.now →
         RefusesLabels (IsOfHelpers p) names.old refusal) }
 {
@@ -448,13 +460,15 @@ fn give_modules<'a>(
     names: &mut Names<'a>,
     bundle: &BundleParts<'_, 'a, '_>,
 ) -> Result<(), MergeError>
-    ensures given { OnOk result ((p : Program) (list : List ℕ) (answers : ℕ → Option (List Item)) →
+    ensures given { OnOk result ((p : Program) (list : List ℕ) (answers : ℕ → Option Answer) →
         AreBundleParts p list answers bundle.now →
-        AddsNames p list (IsOfModules p) names.old names.new) }
+        AddsNames p list (IsGiven (λ m. stands_written (answers m)) (IsOfModules p))
+        names.old names.new) }
     ensures refused { IfErr result (λ refusal.
-        (p : Program) (list : List ℕ) (answers : ℕ → Option (List Item)) →
+        (p : Program) (list : List ℕ) (answers : ℕ → Option Answer) →
         AreBundleParts p list answers bundle.now →
-        RefusesLabels (IsOfModules p) names.old refusal) }
+        RefusesLabels (IsGiven (λ m. stands_written (answers m)) (IsOfModules p))
+        names.old refusal) }
 {
     for (module, part) in bundle.parts.iter().enumerate() {
         give_module(names, bundle.linking, module, part)?;
@@ -470,20 +484,23 @@ fn give_module<'a>(
     module: usize,
     part: &Part<'_, 'a>,
 ) -> Result<(), MergeError>
-    ensures given { OnOk result ((p : Program) (list : List ℕ) →
+    ensures given { OnOk result ((p : Program) (list : List ℕ) (written : ℕ → Bool) →
         IsLinkingOf p linking.now →
         HandsOver p list linking.now →
         AreModules p →
         IsReached p «module» →
         IsPartOf p «module» part.now →
-        AddsNames p list (IsOfModule p «module») names.old names.new) }
-    ensures refused { IfErr result (λ refusal. (p : Program) (list : List ℕ) →
+        is_some part.now.written ≡ written «module» →
+        AddsNames p list (IsGiven written (IsOfModule p «module»)) names.old names.new) }
+    ensures refused { IfErr result (λ refusal.
+        (p : Program) (list : List ℕ) (written : ℕ → Bool) →
         IsLinkingOf p linking.now →
         HandsOver p list linking.now →
         AreModules p →
         IsReached p «module» →
         IsPartOf p «module» part.now →
-        RefusesLabels (IsOfModule p «module») names.old refusal) }
+        is_some part.now.written ≡ written «module» →
+        RefusesLabels (IsGiven written (IsOfModule p «module»)) names.old refusal) }
 {
     give_load(names, linking, module)?;
     give_meta(names, module, part)?;
@@ -510,15 +527,17 @@ fn give_load(names: &mut Names<'_>, linking: &Linking<'_>, module: usize) -> Res
 
 // Gives a name to the object for the `import.meta` of a module, if it has that, and no statement holds it already.
 fn give_meta(names: &mut Names<'_>, module: usize, part: &Part<'_, '_>) -> Result<(), MergeError>
-    ensures given { OnOk result ((p : Program) (list : List ℕ) →
+    ensures given { OnOk result ((p : Program) (list : List ℕ) (written : ℕ → Bool) →
         IsPartOf p «module» part.now →
-        AddsNames p list
-        (IsWhere (has_import_meta (tree_of p «module») ≡ true) (NameOf (meaning.Meta «module»)))
+        is_some part.now.written ≡ written «module» →
+        AddsNames p list (IsGiven written
+        (IsWhere (has_import_meta (tree_of p «module») ≡ true) (NameOf (meaning.Meta «module»))))
         names.old names.new) }
-    ensures refused { IfErr result (λ refusal. (p : Program) →
+    ensures refused { IfErr result (λ refusal. (p : Program) (written : ℕ → Bool) →
         IsPartOf p «module» part.now →
-        RefusesLabels
-        (IsWhere (has_import_meta (tree_of p «module») ≡ true) (NameOf (meaning.Meta «module»)))
+        is_some part.now.written ≡ written «module» →
+        RefusesLabels (IsGiven written
+        (IsWhere (has_import_meta (tree_of p «module») ≡ true) (NameOf (meaning.Meta «module»))))
         names.old refusal) }
 {
     if !part.tables.has_import_meta {

@@ -17,6 +17,9 @@ use Rattle.bundle_scope_renamed.proofs.fit.Rows.{last_each}
 use Rattle.bundle_scope_renamed.proofs.grown.Grown.{key_value_prop_fit}
 use Rattle.bundle_link_reached.specs.Alike.{IsAt}
 use Rattle.bundle_link_reached.proofs.AlikeLemmas.{flip, reached_on}
+use Rattle.bundle_merge_whole.specs.made.Given as g
+use Rattle.bundle_merge_whole.specs.made.Given.{all_fresh}
+use Rattle.bundle_merge_whole.proofs.answered.Meta.{are-fresh, fresh-told}
 use Rattle.bundle_merge_whole.proofs.fit.Clearing.{fit_cleared}
 use Rattle.bundle_merge_items.specs.Adds.{AreAnswered, any_hooks}
 use Rattle.bundler_entry.specs.Asked.{AreAskedAnswers}
@@ -30,9 +33,10 @@ use Rattle.bundler_entry.specs.declared.meta.ReadMeta.{ReadMeta}
 use Rattle.bundler_entry.proofs.LinkedLemmas.{long_places}
 
 -- what is there
-some-of : {A : Type 0} (o : Option A) → IsSome o → (x : A) × (o ≡ Some x)
-some-of None there = absurd (false≢true there)
-some-of (Some x) there = (x, refl)
+some-fresh : (o : Option (List Item)) → IsSome o →
+    (answer : g.Answer) × (option_map g.Fresh o ≡ Some answer)
+some-fresh None there = absurd (false≢true there)
+some-fresh (Some properties) there = (g.Fresh properties, refl)
 
 -- a module that has an `import.meta` is loaded
 loaded-of : (o : Option Loaded) →
@@ -93,22 +97,38 @@ module _ (p : Program) (entry : ℕ) (call : Call) (w : IsCallOf p entry call) (
           cleared = refl;
         }
 
+    by-answer : (m : ℕ) (answer : g.Answer) → all_fresh its m ≡ Some answer →
+        has_import_meta (tree_of q m) ≡ true
+    by-answer m (g.Fresh properties) told =
+        of-each (λ m properties. has_import_meta (tree_of q m) ≡ true)
+        (λ answer there. (asked.each answer there).1) m properties (fresh-told its m properties told)
+    by-answer m (g.Written ctxt notes properties) told =
+        absurd (are-fresh its m ctxt notes properties told)
+
     pub are-answered : ((answer : Answer) → Contains answers answer →
-        answer.«module» < length places → IsSome (its answer.«module»)) → AreAnswered q its
+        answer.«module» < length places → IsSome (its answer.«module»)) →
+        AreAnswered q (all_fresh its)
     are-answered all = record {
       there = λ m reached has.
           let found = asked.all m reached has in
-          some-of (its m)
+          some-fresh (its m)
           (subst (λ n. IsSome (its n)) found.2
           (all found.0 found.1
           (subst (λ n. n < length places) (sym found.2) (reached-below m reached))));
-      asked = of-each (λ m properties. has_import_meta (tree_of q m) ≡ true)
-          (λ answer there. (asked.each answer there).1);
-      held = of-each (MayHold q any_hooks) may-hold;
-      faultless = of-each (λ m properties. AreFaultless q properties)
-          (λ answer there. (asked.each answer there).2);
-      fit = of-each (λ m properties. AreFit (slot 0 Many AProperty ∷ []) properties)
-          (λ answer there. properties-fit answer.properties.items);
+      asked = λ m answer told. by-answer m answer told;
+      held = λ m properties told. of-each (MayHold q any_hooks) may-hold m properties
+          (fresh-told its m properties told);
+      faultless = λ m properties told. of-each (λ m properties. AreFaultless q properties)
+          (λ answer there. (asked.each answer there).2) m properties
+          (fresh-told its m properties told);
+      fit = λ m properties told.
+          of-each (λ m properties. AreFit (slot 0 Many AProperty ∷ []) properties)
+          (λ answer there. properties-fit answer.properties.items) m properties
+          (fresh-told its m properties told);
+      written = λ m ctxt notes properties told.
+          absurd (are-fresh its m ctxt notes properties told);
+      written_fit = λ m ctxt notes properties told.
+          absurd (are-fresh its m ctxt notes properties told);
     }
 
   -- the same of what was read of them, as it is handed on
@@ -117,10 +137,10 @@ module _ (p : Program) (entry : ℕ) (call : Call) (w : IsCallOf p entry call) (
         ((answer : Answer) → Contains answers answer → answer.«module» < count →
         IsSome (answers_in metas answer.«module»)) →
         AreRead handed × AreOfAnswers answers (answers_in handed)
-        × AreAnswered q (answers_in handed)
+        × AreAnswered q (all_fresh (answers_in handed))
     are-read read of all =
         subst (λ those. AreRead those × AreOfAnswers answers (answers_in those)
-        × AreAnswered q (answers_in those)) (sym same) (
+        × AreAnswered q (all_fresh (answers_in those))) (sym same) (
           read,
           of,
           are-answered answers asked (answers_in metas) of

@@ -27,7 +27,7 @@ use Rattle.bundle_merge_whole.specs.planned.Blocks.{block_of}
 use Rattle.bundle_merge_whole.specs.planned.Decided.{numbers_from}
 use Rattle.bundle_merge_whole.specs.planned.Placed.{id_at}
 use Rattle.bundle_merge_whole.specs.finished.Ended.{IsNamedAtOnce}
-use Rattle.bundle_merge_whole.specs.made.Given.{Contexts, TopOf}
+use Rattle.bundle_merge_whole.specs.made.Given.{Answer, AreFresh, Contexts, TopOf}
 use Rattle.bundle_merge_whole.specs.made.Made.{AreMade}
 use Rattle.bundle_merge_whole.specs.made.Alone.{TellApart}
 use Rattle.bundle_merge_whole.specs.sound.Known.{AreKnown, IsByPlaces}
@@ -109,7 +109,8 @@ pub made-bundle : (p q : Program) (ids : List ℕ) (g : Modules) → IsByPlaces 
     AreKnown p q ids → AreMoved p q ids → (linking : Linking) (meta : ℕ → Bool)
     (count : ℕ → ℕ) → AreLinkedBy q (length ids) linking meta count → (plan : Plan) →
     IsPlanOf g p.entry ids plan → (hooks : Hooks) (context : Contexts)
-    (answers : ℕ → Option (List Item)) (orders : List (List ℕ)) (items : List (List Item)) →
+    (answers : ℕ → Option Answer) → AreFresh answers → (orders : List (List ℕ))
+    (items : List (List Item)) →
     AreMade q hooks (numbers_from zero (length ids)) context answers
     (decided_by linking meta count (length ids) (map block_of plan.blocks.items)) orders items →
     TellApart q answers context →
@@ -118,7 +119,7 @@ pub made-bundle : (p q : Program) (ids : List ℕ) (g : Modules) → IsByPlaces 
     p.settings.iife ≡ is_call config.«module» → (handed : List Item) →
     IsFinished config (joined items) handed → IsEntryBundle p hooks handed
 made-bundle p q ids g places known its_moved linking meta count linked plan planned hooks context
-    answers orders items made apart locals config renames iife handed finished =
+    answers are_fresh orders items made apart locals config renames iife handed finished =
     by_form (is_call config.«module») refl
   where
     named : IsNamedAtOnce p.settings.renames (joined items) (module_items 0 finished.named)
@@ -129,8 +130,8 @@ made-bundle p q ids g places known its_moved linking meta count linked plan plan
     end : IsEnded p.settings p hooks (module_items 0 finished.named)
     end =
         made-ended p q ids g places known its_moved linking meta count linked plan planned hooks
-        context answers orders items made apart locals p.settings (module_items 0 finished.named)
-        named
+        context answers orders items made apart locals are_fresh p.settings
+        (module_items 0 finished.named) named
 
     can : is_call config.«module» ≡ true → CanBeWrapped finished.named.body.items
     can so =

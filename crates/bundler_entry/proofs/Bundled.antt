@@ -35,7 +35,9 @@ use Rattle.bundler_entry.specs.declared.entry.Answer.{Answer}
 use Rattle.bundler_entry.specs.declared.linked.Linked.{Linked}
 use Rattle.bundler_entry.proofs.AnsweredLemmas.{properties-fit}
 use Rattle.bundler_entry.proofs.BundleLemmas.{made-bundle}
-use Rattle.bundler_entry.proofs.HeldLemmas.{all-held}
+use Rattle.bundle_merge_whole.proofs.answered.Hooks.{all-held}
+use Rattle.bundle_merge_whole.proofs.answered.Meta.{are-fresh, fresh-told}
+use Rattle.bundle_merge_whole.specs.made.Given.{all_fresh}
 use Rattle.bundler_entry.proofs.Known as known
 
 -- what the hook may give
@@ -142,11 +144,12 @@ module _ (p : Program) (entry : ℕ) (call : Call) (w : IsCallOf p entry call) (
       (known.are-moved p entry call w linked l) linked.linking
       (λ k. has_import_meta (tree_of q k)) (λ k. length (own_statements (tree_of q k)))
       (known.are-linked p entry call w linked l _ _ (known.are-told p entry call w linked l))
-      linked.plan (known.is-planned p entry call w linked l) hooks merged.context given
-      merged.orders merged.items
-      (all-held q any_hooks hooks _ merged.context given
-      (λ k properties is. (held k properties is).1) (decided_in q linked) merged.orders
-      merged.items merged.are_made)
+      linked.plan (known.is-planned p entry call w linked l) hooks merged.context
+      (all_fresh given) (are-fresh given) merged.orders merged.items
+      (all-held q any_hooks hooks _ merged.context (all_fresh given)
+      (λ k properties is. (held k properties (fresh-told given k properties is)).1)
+      (λ k ctxt notes properties is. absurd (are-fresh given k ctxt notes properties is))
+      (decided_in q linked) merged.orders merged.items merged.are_made)
       merged.apart merged.tops call.config.now w.renames w.iife (module_items 0 made)
       (subst (λ before. IsFinished call.config.now before (module_items 0 made)) merged.is
       its.finished)

@@ -19,7 +19,7 @@ use Rattle.bundle_merge_meaning.specs.joined.Joined.{joined}
 use Rattle.bundle_merge_whole.specs.planned.Blocks.{block_of}
 use Rattle.bundle_merge_whole.specs.planned.Decided.{Decided, numbers_from, plan_of}
 use Rattle.bundle_merge_whole.specs.planned.Placed.{id_at}
-use Rattle.bundle_merge_whole.specs.made.Given.{Contexts, TopOf}
+use Rattle.bundle_merge_whole.specs.made.Given.{Answer, Contexts, TopOf}
 use Rattle.bundle_merge_whole.specs.made.Made.{AreMade}
 use Rattle.bundle_merge_whole.specs.made.Alone.{TellApart}
 use Rattle.bundle_merge_whole.specs.moved.Renumbered.{cause_at}
@@ -130,7 +130,7 @@ module _ (p : Program) (entry : ℕ) (call : Call) (w : IsCallOf p entry call) (
   is-planned = l.planned
 
   -- what is made of the modules by their places, as they are linked and planned, is merged right
-  module _ (meta : ℕ → Bool) (count : ℕ → ℕ) (told : AreTold by_place (length ids) meta count) (hooks : Hooks) (context : Contexts) (answers : ℕ → Option (List Item)) where
+  module _ (meta : ℕ → Bool) (count : ℕ → ℕ) (told : AreTold by_place (length ids) meta count) (hooks : Hooks) (context : Contexts) (answers : ℕ → Option Answer) where
     abbrev pub decided : Decided
     decided =
         decided_by linked.linking meta count (length ids) (map block_of linked.plan.blocks.items)

@@ -21,9 +21,10 @@ use Rattle.bundle_scope_renamed.specs.fit.Sorts.{AModule}
 use Rattle.bundle_scope_renamed.specs.fit.Fits.{IsFit}
 use Rattle.bundle_link_reached.specs.Alike.{IsAt}
 use Rattle.bundle_merge_whole.specs.made.Alone.{IsHolder, answered_of, inside_of}
-use Rattle.bundle_merge_whole.specs.made.Given.{AnsweredOf, InsideOf}
+use Rattle.bundle_merge_whole.specs.made.Given.{AnsweredOf, InsideOf, all_fresh}
 use Rattle.bundle_merge_whole.specs.planned.Decided.{AreDecided, index_of, numbers_from}
 use Rattle.bundle_merge_whole.specs.planned.Placed.{id_at}
+use Rattle.bundle_merge_whole.proofs.answered.Meta.{are-fresh, fresh-told}
 use Rattle.bundle_merge_whole.proofs.answered.Numbered.{tree-fit}
 use Rattle.bundle_merge_whole.proofs.planned.BundleLemmas.{for-call}
 use Rattle.bundle_merge_whole.proofs.planned.TreeCountLemmas.{AreAnswers}
@@ -42,8 +43,8 @@ use Rattle.bundler_entry.proofs.AskedLemmas.{its_file}
 use Rattle.bundler_entry.proofs.Bundled.{AreHeld, at-place, by-places}
 use Rattle.bundler_entry.proofs.InnerLemmas.{scope-begins}
 use Rattle.bundler_entry.proofs.Known as known
-use Rattle.bundler_entry.proofs.LackLemmas.{refused-lacks}
-use Rattle.bundler_entry.proofs.NeedsLemmas.{named-by, needs-by, needs-earlier}
+use Rattle.bundle_merge_items.proofs.LackLemmas.{refused-lacks}
+use Rattle.bundle_merge_items.proofs.NeedsLemmas.{named-by, needs-by, needs-earlier}
 
 module _ (p : Program) (entry : ℕ) (call : Call) (w : IsCallOf p entry call) (linked : Linked)
     (l : IsLinkedEntry p call linked) where
@@ -84,14 +85,16 @@ module _ (p : Program) (entry : ℕ) (call : Call) (w : IsCallOf p entry call) (
 
   module _ (hooks : Hooks) (given : ℕ → Option (List Item))
       (held : AreHeld l.links.places hooks given) where
-    asked : AreAnswers q hooks given
+    asked : AreAnswers q hooks (all_fresh given)
     asked = record {
-      asked = λ m properties is. let its = held m properties is in (its.0, its.1);
+      asked = λ m properties is.
+          let its = held m properties (fresh-told given m properties is) in (its.0, its.1);
+      written = λ m ctxt notes properties is. absurd (are-fresh given m ctxt notes properties is);
     }
 
     -- the modules by their places need too many
     places-need : (next : ℕ) (k : Option ℕ) →
-        RefusesNames q places given next (e.ContextsUsedUp k) → NeedsTooManyContexts q hooks next
+        RefusesNames q places (all_fresh given) next (e.ContextsUsedUp k) → NeedsTooManyContexts q hooks next
     places-need next k refuses = by q.settings.iife refl
       where
         by : (b : Bool) → q.settings.iife ≡ b → NeedsTooManyContexts q hooks next
@@ -100,18 +103,18 @@ module _ (p : Program) (entry : ℕ) (call : Call) (w : IsCallOf p entry call) (
             (subst
             (λ b. AreDecided q (if b then AsCall else AsModule) (decided_in q linked))
             (sym so) are-decided)
-            given asked next k refuses
+            (all_fresh given) asked next k refuses
         by true so =
             refused-lacks q hooks (record (decided_in q linked) { exports = true })
             (subst
             (λ b. AreDecided q (if b then AsCall else AsModule)
             (record (decided_in q linked) { exports = true }))
             (sym so) (for-call q AsModule (decided_in q linked) are-decided))
-            given asked next k refuses
+            (all_fresh given) asked next k refuses
 
     -- and so the entry's do
     entry-needs : (next : ℕ) (k : Option ℕ) → next ≤ 2 * call.program.now.count + 2 →
-        RefusesNames q places given next (e.ContextsUsedUp k) →
+        RefusesNames q places (all_fresh given) next (e.ContextsUsedUp k) →
         NeedsTooManyContexts p hooks (first_context p)
     entry-needs next k before refuses =
         let counted = w.counted in
@@ -128,22 +131,22 @@ module _ (p : Program) (entry : ℕ) (call : Call) (w : IsCallOf p entry call) (
     by-kind k begins i kind its name reached (is_es es) at =
         f.by_tree (scope-begins (tree_of q k) (place-fit k reached) i its begins name at)
 
-    inside-gets : (k begins : ℕ) → IsHolder q given (InsideOf k begins) →
+    inside-gets : (k begins : ℕ) → IsHolder q (all_fresh given) (InsideOf k begins) →
         IsReached q k × GetsContexts q hooks k
     inside-gets k begins (inside_of kind its name i reached has at) =
         (reached, by-kind k begins i kind its name reached has at)
 
-    answer-gets : (k begins : ℕ) → IsHolder q given (AnsweredOf k begins) →
+    answer-gets : (k begins : ℕ) → IsHolder q (all_fresh given) (AnsweredOf k begins) →
         IsReached q k × GetsContexts q hooks k
     answer-gets k begins (answered_of properties its name i reached is at) =
-        let may = held k properties is in (
+        let may = held k properties (fresh-told given k properties is) in (
           reached,
           f.by_answer properties may.0 may.1
               (scope-begins (properties_tree properties) (tree-fit properties may.2) i its begins
               name at),
         )
 
-    refused-gets : (next k : ℕ) → RefusesNames q places given next (e.ContextsUsedUp (Some k)) →
+    refused-gets : (next k : ℕ) → RefusesNames q places (all_fresh given) next (e.ContextsUsedUp (Some k)) →
         IsReached q k × GetsContexts q hooks k
     refused-gets next k (for_scopes (for_module m begins holder lacks)) =
         inside-gets k begins holder

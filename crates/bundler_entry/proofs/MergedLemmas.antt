@@ -19,7 +19,7 @@ use Rattle.bundle_link_targets.specs.declared.linking.Linking.{Linking}
 use Rattle.bundle_merge_meaning.specs.joined.Joined.{joined}
 use Rattle.bundle_merge_whole.specs.made.Alone as a
 use Rattle.bundle_merge_whole.specs.made.Alone.{AreSound, IsHolder}
-use Rattle.bundle_merge_whole.specs.made.Given.{Holder, AnsweredOf, InsideOf, TopOf}
+use Rattle.bundle_merge_whole.specs.made.Given.{Answer, WrittenIn, all_fresh, Holder, AnsweredOf, InsideOf, TopOf}
 use Rattle.bundle_merge_whole.specs.made.Made.{AreMade}
 use Rattle.bundle_merge_whole.specs.planned.Blocks.{block_of}
 use Rattle.bundle_merge_whole.specs.planned.Decided.{Decided, numbers_from}
@@ -66,13 +66,15 @@ joined-items merged items is =
 abbrev IsOfReached : Program → Holder → Type 0
 IsOfReached q (InsideOf k begins) = IsReached q k
 IsOfReached q (AnsweredOf k begins) = IsReached q k
+IsOfReached q (WrittenIn k ctxt) = IsReached q k
 IsOfReached q _ = Unit {0}
 
-holder-reached : (q : Program) (answers : ℕ → Option (List Item)) (holder : Holder) →
+holder-reached : (q : Program) (answers : ℕ → Option Answer) (holder : Holder) →
     IsHolder q answers holder → IsOfReached q holder
 holder-reached q answers _ (a.top_of reached) = tt
 holder-reached q answers _ (a.inside_of kind its name i reached has denoted) = reached
 holder-reached q answers _ (a.answered_of properties its name i reached there denoted) = reached
+holder-reached q answers _ (a.written_in own notes properties its begins name i o reached there at denoted is) = reached
 holder-reached q answers _ (a.added cause due adds) = tt
 holder-reached q answers _ (a.parameter c reached common) = tt
 holder-reached q answers _ (a.variable c reached common) = tt
@@ -82,7 +84,7 @@ abbrev TellsReached : Program → MergeError → Type 0
 TellsReached q (e.ContextsUsedUp (Some k)) = IsReached q k
 TellsReached q _ = Unit {0}
 
-scopes-reached : (q : Program) (list : List ℕ) (answers : ℕ → Option (List Item)) (next : ℕ)
+scopes-reached : (q : Program) (list : List ℕ) (answers : ℕ → Option Answer) (next : ℕ)
     (refusal : MergeError) → RefusesContextsIn q list answers next refusal →
     TellsReached q refusal
 scopes-reached q list answers next _ r.for_memory = tt
@@ -91,7 +93,7 @@ scopes-reached q list answers next _ (r.for_module k begins holder lacks) =
 scopes-reached q list answers next _ (r.for_answer k begins holder lacks) =
     holder-reached q answers (AnsweredOf k begins) holder
 
-names-reached : (q : Program) (list : List ℕ) (answers : ℕ → Option (List Item)) (next : ℕ)
+names-reached : (q : Program) (list : List ℕ) (answers : ℕ → Option Answer) (next : ℕ)
     (refusal : MergeError) → RefusesNames q list answers next refusal → TellsReached q refusal
 names-reached q list answers next refusal (r.for_scopes refuses) =
     scopes-reached q list answers next refusal refuses
@@ -116,14 +118,14 @@ module _ (p : Program) (entry : ℕ) (call : Call) (w : IsCallOf p entry call) (
   -- where contexts run out for a module, its file is told, and else the entry's
   pub refused-making : (next : ℕ) (found : Option ℕ) (refusal : Unlinked) →
       next ≤ 2 * call.program.now.count + 2 →
-      RefusesNames q (numbers_from zero n) answers next (e.ContextsUsedUp found) →
+      RefusesNames q (numbers_from zero n) (all_fresh answers) next (e.ContextsUsedUp found) →
       TellsContexts call linked.reached found refusal →
       IsRefusedMaking q call linked answers refusal
   refused-making next None refusal few refuses tells =
       subst (IsRefusedMaking q call linked answers) (sym tells.is)
       (m.for_entry next tells.told few refuses (tells.of_entry refl))
   refused-making next (Some k) refusal few refuses tells =
-      let reached = names-reached q (numbers_from zero n) answers next (e.ContextsUsedUp (Some k))
+      let reached = names-reached q (numbers_from zero n) (all_fresh answers) next (e.ContextsUsedUp (Some k))
       refuses in
       let at = there_is ids k ((below-reached p entry call w linked l k).0 reached) in
       let file = file_at p entry call w linked.reached l.reached k at.0 at.1 in
@@ -136,7 +138,7 @@ module _ (p : Program) (entry : ℕ) (call : Call) (w : IsCallOf p entry call) (
       AreEntryParts call linked.reached bodies (length linked.reached.leads.items)
       bundle.parts.now → bundle.linking.now ≡ linked.linking →
       bundle.blocks.now ≡ linked.plan.blocks.items → (merged : Merged) →
-      IsMergedOf q (numbers_from zero n) answers bundle meta count merged →
+      IsMergedOf q (numbers_from zero n) (all_fresh answers) bundle meta count merged →
       IsMergedIn q linked answers merged.«module»
   merged-in bodies bundle parts linking blocks merged its = record {
     context = its.context;
@@ -145,7 +147,7 @@ module _ (p : Program) (entry : ℕ) (call : Call) (w : IsCallOf p entry call) (
     orders = its.orders;
     items = its.items;
     are_made = subst
-        (λ (d : Decided). AreMade q any_hooks (numbers_from zero n) its.context answers d
+        (λ (d : Decided). AreMade q any_hooks (numbers_from zero n) its.context (all_fresh answers) d
         its.orders its.items) decided its.made;
     is = joined-items merged.«module» its.items its.is;
   }
@@ -180,8 +182,8 @@ module _ (p : Program) (entry : ℕ) (call : Call) (w : IsCallOf p entry call) (
   list = numbers_from zero (length linked.reached.list.items)
 
   -- what the parts are merged to
-  pub all-merged : AreAnswered its (answers_in metas) → (bundle : BundleParts) (merged : Merged) →
-      ((q : Program) (list : List ℕ) (answers : ℕ → Option (List Item)) (meta : ℕ → Bool)
+  pub all-merged : AreAnswered its (all_fresh (answers_in metas)) → (bundle : BundleParts) (merged : Merged) →
+      ((q : Program) (list : List ℕ) (answers : ℕ → Option Answer) (meta : ℕ → Bool)
       (count : ℕ → ℕ) → AreSound q list → AreBundleParts q list answers bundle →
       AreBlocksOnce bundle → AreAnswered q answers →
       AreTold q (length bundle.parts.now) meta count →
@@ -193,7 +195,7 @@ module _ (p : Program) (entry : ℕ) (call : Call) (w : IsCallOf p entry call) (
       IsMergedIn its linked (answers_in metas) merged.«module»
   all-merged answered bundle merged makes parts answers linking blocks above =
       merged-in p entry call w linked l (answers_in metas) bodies bundle parts linking blocks merged
-      (makes its list (answers_in metas) (λ k. has_import_meta (tree_of its k))
+      (makes its list (all_fresh (answers_in metas)) (λ k. has_import_meta (tree_of its k))
       (λ k. length (own_statements (tree_of its k))) (are-sound p entry call w linked l)
       (are-parts p entry call w linked l bodies are-bodies metas read bundle parts answers linking
       blocks above)
@@ -206,7 +208,7 @@ module _ (p : Program) (entry : ℕ) (call : Call) (w : IsCallOf p entry call) (
   -- why they are not merged
   pub all-refused : (bundle : BundleParts) (error : MergeError) (found : Option ℕ)
       (refusal : Unlinked) → error ≡ e.ContextsUsedUp found →
-      ((q : Program) (list : List ℕ) (answers : ℕ → Option (List Item)) →
+      ((q : Program) (list : List ℕ) (answers : ℕ → Option Answer) →
       AreBundleParts q list answers bundle →
       RefusesNames q list answers (position bundle.contexts) error) →
       AreEntryParts call linked.reached bodies (length linked.reached.leads.items)
@@ -219,7 +221,7 @@ module _ (p : Program) (entry : ℕ) (call : Call) (w : IsCallOf p entry call) (
   all-refused bundle error found refusal is refuses parts answers linking blocks above none tells =
       refused-making p entry call w linked l (answers_in metas) (position bundle.contexts) found
       refusal (free-above bundle.contexts.next call.program.now.count above none)
-      (subst (RefusesNames its list (answers_in metas) (position bundle.contexts)) is
-      (refuses its list (answers_in metas)
+      (subst (RefusesNames its list (all_fresh (answers_in metas)) (position bundle.contexts)) is
+      (refuses its list (all_fresh (answers_in metas))
       (are-parts p entry call w linked l bodies are-bodies metas read bundle parts answers linking
       blocks above))) tells

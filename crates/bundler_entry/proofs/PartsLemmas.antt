@@ -1,10 +1,10 @@
 -- What is merged for an entry is what its modules, by their places, are.
-use Rattle.std.proofs.Common.{◌≡◌, ◌↔◌, ℕ, zero, suc, ◌+◌, ◌*◌, ◌<◌, ◌≤◌, List, [], ◌∷◌, Option, Some, None, Contains, length, map, refl, sym, ap, ◌∙◌, subst, arith}
-use Rattle.std.specs.Prelude.{IfNone, IfSome, option_map, slice_get, unwrap_or}
+use Rattle.std.proofs.Common.{◌≡◌, ◌↔◌, ℕ, zero, suc, ◌+◌, ◌*◌, ◌<◌, ◌≤◌, List, [], ◌∷◌, Option, Some, None, Contains, drop, length, map, refl, sym, ap, ◌∙◌, subst, arith}
+use Rattle.std.specs.Prelude.{IfNone, IfSome, is_some, option_map, slice_get, unwrap_or, if◌then◌else◌}
 use Rattle.std.specs.List.{AllZip, flat_map}
 use Rattle.std.proofs.lemmas.Option.{slice_get_within}
 use Rattle.bundle_tree_piece.specs.Item as h
-use Rattle.bundle_tree_piece.specs.Item.{Item, item_of}
+use Rattle.bundle_tree_piece.specs.Item.{item_of}
 use Rattle.bundle_tree_listed.specs.Tree.{key_value_prop_items, module_item_items, node}
 use Rattle.bundle_order_sort.specs.declared.plan.Block.{Block}
 use Rattle.bundle_rules.specs.Bundle.{properties_tree}
@@ -32,6 +32,9 @@ use Rattle.bundle_merge_whole.proofs.planned.RequestLemmas.{list-reached}
 use Rattle.bundle_merge_whole.proofs.sound.Blocks.{planned-blocks}
 use Rattle.bundle_merge_whole.proofs.sound.Found.{below-from, entry-at, from-there, there-from}
 use Rattle.bundle_merge_whole.proofs.sound.Sound.{places-list, sound}
+use Rattle.bundle_merge_whole.specs.made.Given.{Fresh, all_fresh}
+use Rattle.bundle_merge_whole.proofs.answered.Meta.{are-fresh}
+use Rattle.bundle_merge_names.proofs.WrittenLemmas.{fresh-apart}
 use Rattle.bundle_merge_names.specs.Bundle.{AreAnswers, AreBundleParts, IsPartOf}
 use Rattle.bundle_merge_names.specs.declared.part.Answered.{Answered}
 use Rattle.bundle_merge_names.specs.declared.part.BundleParts.{BundleParts}
@@ -70,30 +73,34 @@ names-of Cjs source (Some names) es read = read
 -- ---- what the hook answered
 one-answer : (found : Option ReadMeta) (answered : Option Answered) → IsAnswerRead found answered →
     ((meta : ReadMeta) → found ≡ Some meta → IsRead meta.properties.now meta) →
-    AreAnswers (option_map (λ meta. kept_properties meta.properties.now) found) answered
-one-answer None answered handed read = subst (AreAnswers None) (sym handed) tt
-one-answer (Some meta) None handed read = absurd handed
-one-answer (Some meta) (Some answered) handed read =
+    (part : Part) → part.written ≡ None →
+    AreAnswers (option_map Fresh (option_map (λ meta. kept_properties meta.properties.now) found))
+    part answered
+one-answer None answered handed read part none =
+    subst (AreAnswers None part) (sym handed) none
+one-answer (Some meta) None handed read part none = absurd handed
+one-answer (Some meta) (Some answered) handed read part none =
     let its = read meta refl in
-    record {
+    (none, record {
       told = ap (λ given. kept_properties given) (sym handed.0);
       listed = ap (map item_of) handed.1 ∙ its.list
           ∙ ap (λ given. properties_tree (flat_map (key_value_prop_items 0) given)) (sym handed.0);
       table = subst (IsTable BySymbol Es (map item_of answered.pieces.now)) (sym handed.2)
           (subst (λ list. IsTable BySymbol Es (map item_of list) meta.names) (sym handed.1) its.names);
-    }
+    })
 
 -- each answer is handed on with what was read of it
 answers-are : (metas : List (Option ReadMeta)) (answers : List (Option Answered)) →
-    AllZip IsAnswerRead metas answers → AreRead metas → (k : ℕ) →
-    AreAnswers (answers_in metas k) (unwrap_or (slice_get answers k) None)
-answers-are [] [] handed read k = tt
-answers-are [] (answered ∷ answers) handed read k = absurd handed
-answers-are (found ∷ metas) [] handed read k = absurd handed
-answers-are (found ∷ metas) (answered ∷ answers) handed read zero =
-    one-answer found answered handed.0 (λ meta at. read zero meta (ap (λ o. Some o) at))
-answers-are (found ∷ metas) (answered ∷ answers) handed read (suc k) =
-    answers-are metas answers handed.1 (λ j meta at. read (suc j) meta at) k
+    AllZip IsAnswerRead metas answers → AreRead metas → (k : ℕ) (part : Part) →
+    part.written ≡ None →
+    AreAnswers (all_fresh (answers_in metas) k) part (unwrap_or (slice_get answers k) None)
+answers-are [] [] handed read k part none = none
+answers-are [] (answered ∷ answers) handed read k part none = absurd handed
+answers-are (found ∷ metas) [] handed read k part none = absurd handed
+answers-are (found ∷ metas) (answered ∷ answers) handed read zero part none =
+    one-answer found answered handed.0 (λ meta at. read zero meta (ap (λ o. Some o) at)) part none
+answers-are (found ∷ metas) (answered ∷ answers) handed read (suc k) part none =
+    answers-are metas answers handed.1 (λ j meta at. read (suc j) meta at) k part none
 
 -- ---- contexts
 -- a context of a file is below those that are free, which are above the last of so many files
@@ -195,7 +202,9 @@ module _ (p : Program) (entry : ℕ) (call : Call) (w : IsCallOf p entry call) (
         record {
           tree = source.list ∙ ap cleared (sym list);
           listed = list ∙ source.listed
-              ∙ ap (λ items. node 0 h.Module (flat_map (module_item_items 0) items)) (sym its.items);
+              ∙ ap (λ items. node 0 h.Module (flat_map (module_item_items 0) items)) (sym its.items)
+              ∙ ap (λ b. node 0 h.Module (flat_map (module_item_items 0) (drop (if b then 1 else 0) part.items.now)))
+              (ap is_some (sym its.written));
           table = λ kind has. subst (λ items. IsTable BySymbol kind items part.denotations.now)
               (sym list) (subst (IsTable BySymbol kind (map item_of its.source.pieces.items))
               (sym its.denotations)
@@ -203,7 +212,6 @@ module _ (p : Program) (entry : ℕ) (call : Call) (w : IsCallOf p entry call) (
           tables = subst (IsTableOf q k) (sym its.tables) source.table;
           meta = ap (λ (t : Tables). t.has_import_meta) its.tables ∙ source.meta;
           leads = λ s. l.links.by_places.leads k part.leads.now s its.leads;
-          written = its.written;
         }
 
     module _ (metas : List (Option ReadMeta)) (read : AreRead metas) (bundle : BundleParts) (parts : AreEntryParts call linked.reached bodies (length linked.reached.leads.items) bundle.parts.now) (answers : AllZip IsAnswerRead metas bundle.answers.now) (linking : bundle.linking.now ≡ linked.linking) (blocks : bundle.blocks.now ≡ linked.plan.blocks.items) (above : IfSome bundle.contexts.next (λ next. next ≡ call.program.now.count * 2 + 2)) where
@@ -222,7 +230,7 @@ module _ (p : Program) (entry : ℕ) (call : Call) (w : IsCallOf p entry call) (
       local-at k m part at there = local-is bodies k m part there (parts.each k part at)
 
       -- what is merged is of the program by places
-      pub are-parts : AreBundleParts q (numbers_from zero n) (answers_in metas) bundle
+      pub are-parts : AreBundleParts q (numbers_from zero n) (all_fresh (answers_in metas)) bundle
       are-parts = record {
         reached = λ k. (
           λ reached. (let below = (below-reached k).0 reached in omega (arith, below, long)),
@@ -238,7 +246,9 @@ module _ (p : Program) (entry : ℕ) (call : Call) (w : IsCallOf p entry call) (
             (let within = slice_get_within bundle.parts.now k part at in
             let same = long_places p entry call w linked.reached l.reached in
             part-is k part (omega (arith, within, long, same)) (parts.each k part at));
-        answered = answers-are metas bundle.answers.now answers read;
+        answered = λ k part at.
+            answers-are metas bundle.answers.now answers read k part (parts.each k part at).written;
+        written = fresh-apart q (all_fresh (answers_in metas)) (are-fresh (answers_in metas)) bundle;
         own = λ k part at.
             (let m = module-at k part at in
             let local = local-at k m.0 part at m.1 in omega (arith, local));

@@ -17,6 +17,7 @@ use Rattle.bundle_rules.specs.Program.{Program, file_of}
 use Rattle.bundle_rules.specs.Scopes.{Es}
 use Rattle.bundle_tree_names.specs.FileName.{Name, name_of}
 use Rattle.bundle_tree_names.specs.declared.file_name.FileName.{FileName}
+use Rattle.bundle_merge_whole.specs.made.Given.{all_fresh}
 use Rattle.bundle_merge_whole.specs.planned.Decided.{numbers_from}
 use Rattle.bundle_merge_names.specs.Refused.{RefusesNames}
 use Rattle.bundle_merge_names.specs.declared.error.MergeError.TheVariants as e
@@ -61,14 +62,14 @@ pub data IsRefusedMaking (q : Program) (call : Call) (linked : Linked)
   for_memory : IsRefusedMaking q call linked answers OutOfMemory
   for_module : {k : ℕ} (next : ℕ) (file : FileName × ℕ) (told : FileName) →
       next ≤ 2 * call.program.now.count + 2 →
-      RefusesNames q (numbers_from zero (length linked.reached.list.items)) answers next
+      RefusesNames q (numbers_from zero (length linked.reached.list.items)) (all_fresh answers) next
       (e.ContextsUsedUp (Some k)) →
       IsFileAt call linked.reached k file →
       name_of told ≡ name_of file.0 →
       IsRefusedMaking q call linked answers (ContextsUsedUp told)
   for_entry : (next : ℕ) (told : FileName) →
       next ≤ 2 * call.program.now.count + 2 →
-      RefusesNames q (numbers_from zero (length linked.reached.list.items)) answers next
+      RefusesNames q (numbers_from zero (length linked.reached.list.items)) (all_fresh answers) next
       (e.ContextsUsedUp None) →
       name_of told ≡ name_of call.entry.now →
       IsRefusedMaking q call linked answers (ContextsUsedUp told)

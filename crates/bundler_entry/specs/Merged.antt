@@ -9,7 +9,7 @@ use Rattle.bundle_rules.specs.Program.{Program, tree_of, IsReached}
 use Rattle.bundle_rules.specs.Statements.{own_statements}
 use Rattle.bundle_merge_meaning.specs.joined.Joined.{joined}
 use Rattle.bundle_merge_whole.specs.made.Alone.{TellApart}
-use Rattle.bundle_merge_whole.specs.made.Given.{Contexts, TopOf}
+use Rattle.bundle_merge_whole.specs.made.Given.{Contexts, TopOf, all_fresh}
 use Rattle.bundle_merge_whole.specs.made.Made.{AreMade}
 use Rattle.bundle_merge_whole.specs.planned.Blocks.{block_of}
 use Rattle.bundle_merge_whole.specs.planned.Decided.{Decided, numbers_from}
@@ -36,13 +36,13 @@ decided_in q linked =
 pub record IsMergedIn (q : Program) (linked : Linked) (answers : ℕ → Option (List Item))
     (merged : Module) : Type 0 where
   pub context : Contexts
-  pub apart : TellApart q answers context
+  pub apart : TellApart q (all_fresh answers) context
   pub tops : (k : ℕ) → IsReached q k →
       context (TopOf k) ≡ local_context (id_at linked.reached.list.items k)
   pub orders : List (List ℕ)
   pub items : List (List Item)
   pub are_made : AreMade q any_hooks (numbers_from zero (length linked.reached.list.items)) context
-      answers (decided_in q linked) orders items
+      (all_fresh answers) (decided_in q linked) orders items
   pub is : module_items 0 merged ≡ joined items
 
 -- the refusal is that contexts are used up, of the file of a module or, without one, of the entry's

@@ -9,6 +9,7 @@ ghost use Rattle.bundle_rules.specs.Program as program;
 ghost use Rattle.bundle_rules.specs.Scopes.{Cjs};
 ghost use Rattle.bundle_scope_denote.specs.Listed.{IsTable};
 ghost use Rattle.bundle_link_targets.specs.Linked.{IsLinkingOf};
+ghost use Rattle.bundle_merge_whole.specs.made.Given.{all_fresh};
 ghost use Rattle.bundle_merge_items.specs.Adds.{AreAnswered};
 ghost use Rattle.bundler_entry.specs.Hook.{AreRead};
 ghost use Rattle.bundler_entry.specs.Linked.{HasFiles, HasPlace, HasPlaces, IsCallOf, IsFileAt, IsLinkedEntry};
@@ -91,11 +92,11 @@ pub fn made<'p, 'x, 'h>(
 ) -> Result<Module, Unlinked>
     ensures made { IfOk result (λ made. (p : program.Program) (entry : ℕ) →
         IsCallOf p entry call.now → (its : IsLinkedEntry p call.now linked.now) →
-        AreRead metas.now → AreAnswered its.links.places (answers_in metas.now) →
+        AreRead metas.now → AreAnswered its.links.places (all_fresh (answers_in metas.now)) →
         IsMadeOf its.links.places call.now linked.now (answers_in metas.now) made) }
     ensures refused { IfErr result (λ unlinked. (p : program.Program) (entry : ℕ) →
         IsCallOf p entry call.now → (its : IsLinkedEntry p call.now linked.now) →
-        AreRead metas.now → AreAnswered its.links.places (answers_in metas.now) →
+        AreRead metas.now → AreAnswered its.links.places (all_fresh (answers_in metas.now)) →
         IsRefusedMaking its.links.places call.now linked.now (answers_in metas.now) unlinked) }
 {
     let (reached, linking) = (&linked.reached, &linked.linking);
@@ -116,13 +117,13 @@ fn merged_of<'t, 'p: 't, 'x, 'h>(
         IsCallOf p entry call.now → (its : IsLinkedEntry p call.now linked.now) →
         AreBodies its.links.places call.now linked.now.reached
         (length linked.now.reached.places.items) bodies.now →
-        AreRead metas.now → AreAnswered its.links.places (answers_in metas.now) →
+        AreRead metas.now → AreAnswered its.links.places (all_fresh (answers_in metas.now)) →
         IsMergedIn its.links.places linked.now (answers_in metas.now) merged.module) }
     ensures refused { IfErr result (λ unlinked. (p : program.Program) (entry : ℕ) →
         IsCallOf p entry call.now → (its : IsLinkedEntry p call.now linked.now) →
         AreBodies its.links.places call.now linked.now.reached
         (length linked.now.reached.places.items) bodies.now →
-        AreRead metas.now → AreAnswered its.links.places (answers_in metas.now) →
+        AreRead metas.now → AreAnswered its.links.places (all_fresh (answers_in metas.now)) →
         IsRefusedMaking its.links.places call.now linked.now (answers_in metas.now) unlinked) }
 {
     let parts = parts_of(alloc, call, &linked.reached, bodies)?;

@@ -9,8 +9,8 @@ use Rattle.bundle_rules.specs.Linking.{Target, Declared, Namespace, External, Co
 use Rattle.bundle_rules.specs.Meaning.{Of, IsMeant}
 use Rattle.bundle_rules.specs.Symbols.{symbol_of_target}
 use Rattle.bundle_rules.specs.Bundle.{Cause, Own, ImportsNames, ImportsWhole, ImportsNothing, Helps, Defines, Loads, HoldsMeta, HoldsNamespace, Stars, Exports, AsModule, Hooks, IsDue, holds_namespace as namespace_due}
-use Rattle.bundle_merge_whole.specs.made.Given.{Contexts, ident_of_label}
-use Rattle.bundle_merge_whole.specs.made.Made.{IsMade, own, imports_names, imports_whole, imports_nothing, helps, defines, loads, holds_meta, holds_namespace, stars, exports}
+use Rattle.bundle_merge_whole.specs.made.Given.{Answer, Contexts, ident_of_label}
+use Rattle.bundle_merge_whole.specs.made.Made.{IsMade, own, imports_names, imports_whole, imports_nothing, helps, defines, loads, holds_meta, holds_written, holds_namespace, stars, exports}
 use Rattle.bundle_merge_whole.specs.made.Alone.{AreSound, IsTopLabel, IsAlone}
 use Rattle.bundle_merge_whole.proofs.added.Imports.{imports-names-alone, imports-whole-alone, imports-nothing-alone, stars-alone}
 use Rattle.bundle_merge_whole.proofs.added.Exports.{exports-alone}
@@ -45,7 +45,7 @@ namespace-meant : {p : Program} {d : ℕ} → IsDue p AsModule (HoldsNamespace d
 namespace-meant (namespace_due meant) = meant
 
 pub added-alone : (p : Program) (hooks : Hooks) (list : List ℕ) (context : Contexts)
-    (answers : ℕ → Option (List Item)) → AreSound p list → AreLinkedTop p →
+    (answers : ℕ → Option Answer) → AreSound p list → AreLinkedTop p →
     (cause : Cause) (item : List Item) → is_added cause ≡ true → IsDue p AsModule cause →
     IsMade p hooks list context answers cause item →
     IsAlone p hooks list context answers cause item
@@ -74,6 +74,9 @@ added-alone p hooks list context answers sound labels cause item is due
     (loads-alone p hooks list context answers m c due whole names are meant whole_is)
 added-alone p hooks list context answers sound labels cause item is due
     (holds_meta properties made answered by its) =
+    absurd (false≢true is)
+added-alone p hooks list context answers sound labels cause item is due
+    (holds_written its answered written) =
     absurd (false≢true is)
 added-alone p hooks list context answers sound labels cause item is due
     (holds_namespace {d = d} pairs are made) =

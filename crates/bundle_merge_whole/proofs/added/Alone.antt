@@ -27,7 +27,7 @@ use Rattle.bundle_merge_whole.proofs.composed.Counting.{nodes_in}
 use Rattle.bundle_merge_whole.proofs.composed.Naming.{node-count}
 use Rattle.bundle_merge_whole.proofs.fit.Facts.{fit_nodes}
 use Rattle.bundle_merge_whole.proofs.fit.Parts.{beside}
-use Rattle.bundle_merge_whole.specs.made.Given.{Contexts, ident_of_label}
+use Rattle.bundle_merge_whole.specs.made.Given.{Answer, Contexts, ident_of_label}
 use Rattle.bundle_merge_whole.specs.made.Alone.{IsTopLabel, DeclaresLabel, NameAlone, of_top, IsAlone, CalledAlone}
 use Rattle.bundle_merge_whole.proofs.added.Topped.{IsTopped, occurrences-item, binds_it, none-inner, top-written}
 use Rattle.bundle_merge_whole.proofs.own.Outer.{top-not-inner}
@@ -79,7 +79,7 @@ binds-is its x c is =
 
 -- All of it.
 module _ (p : Program) (hooks : Hooks) (list : List ℕ) (context : Contexts)
-    (answers : ℕ → Option (List Item)) (cause : Cause)
+    (answers : ℕ → Option Answer) (cause : Cause)
     (other : (c : ℕ) → cause ≡ Defines c → ⊥) (item : List Item) (told : Told)
     (names : List Listed) where
   means-alone : (begins : ℕ) (inner : List Denoted) → HasNames item →

@@ -26,7 +26,7 @@ use Rattle.bundle_merge_meaning.specs.walked.Renaming.{IsMarked}
 use Rattle.bundle_merge_meaning.proofs.walked.Injecting.{means_of, written_of, export_list_marked}
 use Rattle.bundle_merge_meaning.proofs.walked.Lone.{export_list_lone}
 use Rattle.bundle_merge_whole.specs.composed.Noted.{exports, first_spot}
-use Rattle.bundle_merge_whole.specs.made.Given.{Contexts, ident_of_label}
+use Rattle.bundle_merge_whole.specs.made.Given.{Answer, Contexts, ident_of_label}
 use Rattle.bundle_merge_whole.specs.made.Made.{linked_idents}
 use Rattle.bundle_merge_whole.specs.made.Alone.{IsTopLabel, DeclaresLabel, adds, IsAlone}
 use Rattle.bundle_merge_whole.proofs.added.Topped.{IsTopped, binds_it}
@@ -120,7 +120,7 @@ all-fits more (pair ∷ pairs) rest fits =
 
 -- The item.
 module _ (p : Program) (hooks : Hooks) (list : List ℕ) (context : Contexts)
-    (answers : ℕ → Option (List Item)) (pairs : List NamedTarget)
+    (answers : ℕ → Option Answer) (pairs : List NamedTarget)
     (labels : (x : Text) (t : Target) → Linked p p.entry x t → IsMeant p (Of t) →
     IsTopLabel p (Of t))
     (are : AreLinked p p.entry pairs) where

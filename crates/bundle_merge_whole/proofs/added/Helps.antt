@@ -22,7 +22,7 @@ use Rattle.bundle_merge_meaning.proofs.walked.Injecting.{helper_marked}
 use Rattle.bundle_merge_meaning.proofs.walked.Lone.{helper_lone}
 use Rattle.bundle_merge_whole.specs.composed.Noted.{AsWhole, as_whole, helps, first_spot}
 use Rattle.bundle_merge_whole.specs.composed.Functions.{whole_form}
-use Rattle.bundle_merge_whole.specs.made.Given.{Contexts, NameOf, HelperParameter, HelperVariable, ident_of_label}
+use Rattle.bundle_merge_whole.specs.made.Given.{Answer, Contexts, NameOf, HelperParameter, HelperVariable, ident_of_label}
 use Rattle.bundle_merge_meaning.specs.loaded.Pieces.{is_told_inside, told_inside}
 use Rattle.bundle_merge_meaning.proofs.loaded.Numbers.{told-filtered}
 use Rattle.bundle_merge_meaning.specs.loaded.Pieces.{own_from}
@@ -127,7 +127,7 @@ module _ (a b c : ℕ) where
 
 -- The item.
 module _ (p : Program) (hooks : Hooks) (list : List ℕ) (context : Contexts)
-    (answers : ℕ → Option (List Item)) where
+    (answers : ℕ → Option Answer) where
   abbrev its : List Item
   its = helper_item (context (NameOf Helper)) (context HelperParameter) (context HelperVariable)
 

@@ -27,7 +27,7 @@ use Rattle.bundle_merge_meaning.proofs.joined.Declarations.{AreNamed}
 use Rattle.bundle_merge_meaning.proofs.walked.Injecting.{imported_from, import_names_marked, import_whole_marked, import_bare_marked, export_star_marked}
 use Rattle.bundle_merge_meaning.proofs.walked.Lone.{import_names_lone, import_whole_lone, import_bare_lone, export_star_lone}
 use Rattle.bundle_merge_whole.specs.composed.Noted.{MarksStandFor, imports_names, imports_whole, imports_nothing, stars, first_spot}
-use Rattle.bundle_merge_whole.specs.made.Given.{Contexts, ident_of_label}
+use Rattle.bundle_merge_whole.specs.made.Given.{Answer, Contexts, ident_of_label}
 use Rattle.bundle_merge_whole.specs.made.Made.{named_idents}
 use Rattle.bundle_merge_whole.specs.made.Alone.{IsTopLabel, DeclaresLabel, adds, imports_name, imports_whole as adds_whole, IsAlone}
 use Rattle.bundle_merge_whole.proofs.added.Topped.{IsTopped, binds_it}
@@ -142,7 +142,7 @@ all-fits more (pair ∷ pairs) rest fits =
 
 -- The items.
 module _ (p : Program) (hooks : Hooks) (list : List ℕ) (context : Contexts)
-    (answers : ℕ → Option (List Item)) where
+    (answers : ℕ → Option Answer) where
   module _ (s : Text) (names : List Text) (due : IsDue p AsModule (ImportsNames s))
       (are : AreNames (MeansName p s) names) where
     abbrev pairs : List Pair

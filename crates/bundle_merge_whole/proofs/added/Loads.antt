@@ -3,7 +3,6 @@ use Rattle.std.proofs.Common.{◌≡◌, ◌||◌, ℕ, Bool, true, false, List,
 use Rattle.std.specs.Prelude.{Contains, if◌then◌else◌}
 use Rattle.std.specs.List.{AllZip, list_any}
 use Rattle.std.proofs.lemmas.Bool.{or_right}
-use Rattle.bundle_tree_piece.specs.Item.{Item}
 use Rattle.bundle_rules.specs.Nodes.{Text}
 use Rattle.bundle_rules.specs.Idents.{Ident}
 use Rattle.bundle_rules.specs.Injected as i
@@ -20,7 +19,7 @@ use Rattle.bundle_merge_meaning.proofs.walked.Injecting.{is_there, taken_from_c,
 use Rattle.bundle_merge_meaning.proofs.walked.Lone.{load_lone}
 use Rattle.bundle_merge_whole.specs.composed.Noted.{loads}
 use Rattle.bundle_merge_whole.proofs.planned.RequestLemmas.{declared_leads}
-use Rattle.bundle_merge_whole.specs.made.Given.{Contexts, ident_of_label}
+use Rattle.bundle_merge_whole.specs.made.Given.{Answer, Contexts, ident_of_label}
 use Rattle.bundle_merge_whole.specs.made.Made.{named_idents}
 use Rattle.bundle_merge_whole.specs.made.Alone.{IsTopLabel, DeclaresLabel, adds, defines as adds_load, loads as adds_taken, IsAlone}
 use Rattle.bundle_merge_whole.proofs.added.Topped.{binds_it}
@@ -80,7 +79,7 @@ load-top p m c (loads_due reached other asks) = record {
 
 -- The item.
 module _ (p : Program) (hooks : Hooks) (list : List ℕ) (context : Contexts)
-    (answers : ℕ → Option (List Item)) (m c : ℕ) (due : IsDue p AsModule (Loads m c)) where
+    (answers : ℕ → Option Answer) (m c : ℕ) (due : IsDue p AsModule (Loads m c)) where
   abbrev load_ident : Ident
   load_ident = ident_of_label p list context (Load c)
 

@@ -29,7 +29,7 @@ use Rattle.bundle_merge_meaning.specs.walked.Renaming.{IsMarked}
 use Rattle.bundle_merge_meaning.proofs.walked.Injecting.{means_of, written_of, namespace_marked}
 use Rattle.bundle_merge_meaning.proofs.walked.Lone.{namespace_lone}
 use Rattle.bundle_merge_whole.specs.composed.Noted.{holds_namespace, first_spot}
-use Rattle.bundle_merge_whole.specs.made.Given.{Contexts, ident_of_label}
+use Rattle.bundle_merge_whole.specs.made.Given.{Answer, Contexts, ident_of_label}
 use Rattle.bundle_merge_whole.specs.made.Made.{linked_idents}
 use Rattle.bundle_merge_whole.specs.made.Alone.{IsTopLabel, DeclaresLabel, adds, holds_namespace as adds_namespace, IsAlone}
 use Rattle.bundle_merge_whole.proofs.added.Topped.{IsTopped, binds_it}
@@ -261,7 +261,7 @@ object-fits object pairs =
 
 -- The item.
 module _ (p : Program) (hooks : Hooks) (list : List ℕ) (context : Contexts)
-    (answers : ℕ → Option (List Item)) (d : ℕ) (pairs : List NamedTarget)
+    (answers : ℕ → Option Answer) (d : ℕ) (pairs : List NamedTarget)
     (due : IsDue p AsModule (HoldsNamespace d))
     (labels : (x : Text) (t : Target) → Linked p d x t → IsMeant p (Of t) → IsTopLabel p (Of t))
     (are : AreLinked p d pairs) where

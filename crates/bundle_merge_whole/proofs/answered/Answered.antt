@@ -16,11 +16,10 @@ use Rattle.bundle_rules.specs.Idents.{Ident}
 use Rattle.bundle_rules.specs.Injected as i
 use Rattle.bundle_rules.specs.Mentions.{same_denoted, each_denoted_once}
 use Rattle.bundle_rules.specs.Nodes.{Text}
-use Rattle.bundle_rules.specs.Program.{Program, IsReached}
-use Rattle.bundle_rules.specs.Statements.{no_notes}
+use Rattle.bundle_rules.specs.Program.{Program}
 use Rattle.bundle_rules.specs.Symbols.{denoted_symbol}
 use Rattle.bundle_rules.specs.Meaning.{Label, Meta, Inside, Known, Unbound, Mark, plain, is_inside}
-use Rattle.bundle_rules.specs.Bundle.{Defines, HoldsMeta, AsModule, Hooks, IsDue, holds_meta as meta_due}
+use Rattle.bundle_rules.specs.Bundle.{Defines, HoldsMeta, Hooks}
 use Rattle.bundle_tree_places.specs.Edits.{node}
 use Rattle.bundle_merge_injected.specs.Listed as l
 use Rattle.bundle_scope_renamed.specs.fit.Sorts.{AnItem}
@@ -39,20 +38,18 @@ use Rattle.bundle_merge_whole.specs.composed.Functions.{whole_form}
 use Rattle.bundle_merge_whole.proofs.fit.Owning.{are_own}
 use Rattle.bundle_merge_meaning.specs.loaded.Pieces.{is_told_inside, told_inside}
 use Rattle.bundle_merge_meaning.proofs.loaded.Numbers.{told-filtered}
-use Rattle.bundle_merge_whole.specs.made.Given.{Contexts, AnsweredOf, ident_of_label}
-use Rattle.bundle_merge_whole.specs.made.Made.{IsMade, holds_meta as made_meta}
-use Rattle.bundle_merge_whole.specs.made.Alone.{DeclaresLabel, adds, holds_meta as adds_meta, TellApart, holds_meta as owns_answered, NameAlone, inside, of_top, free, IsAlone}
+use Rattle.bundle_merge_whole.specs.made.Given.{Answer, Contexts, ident_of_label}
+use Rattle.bundle_merge_whole.specs.made.Alone.{DeclaresLabel, adds, holds_meta as adds_meta, NameAlone, inside, of_top, free, IsAlone}
 use Rattle.bundle_merge_whole.proofs.added.Alone.{fit-one, fit-single}
-use Rattle.bundle_merge_whole.proofs.answered.Rewritten.{made-fit, from-seven}
-use Rattle.bundle_merge_whole.proofs.answered.Marks.{its_names, its_inner, inner-names, meant_of, its_meants, numbered-inside, its_marks, object-marked, properties-mean, listed-contains}
+use Rattle.bundle_merge_whole.proofs.answered.Marks.{its_names, its_inner, inner-names, meant_of, its_meants, numbered-inside, object-marked, properties-mean, listed-contains}
 use Rattle.bundle_merge_whole.proofs.answered.Alike.{constant_at, inner-more}
-use Rattle.bundle_merge_whole.proofs.answered.Denoting.{Answering}
+use Rattle.bundle_merge_whole.proofs.answered.Properties.{Answering}
 use Rattle.bundle_merge_whole.proofs.answered.Denoting as d
 use Rattle.bundle_merge_whole.proofs.answered.Naming.{Becomes, becomes, InsideAt, FreeAt, classify, one-to-one, differs, unheld, unbound-arguments, alike-none}
 use Rattle.bundle_merge_whole.proofs.answered.Resolved as s
 
 module _ (list : List ℕ) {p : Program} {hooks : Hooks} {context : Contexts}
-    {answers : ℕ → Option (List Item)} {m : ℕ} {properties within : List Item}
+    {answers : ℕ → Option Answer} {m : ℕ} {properties within : List Item}
     (facts : Answering p hooks context answers m properties within) where
   abbrev Beside : Occurrence → Occurrence → Type 0
   Beside o u = d.IsBeside list facts o u
@@ -143,12 +140,12 @@ module _ (list : List ℕ) {p : Program} {hooks : Hooks} {context : Contexts}
           ∙ ap Inside
           (ap (λ a. unwrap_or (position (same_denoted a) (its_inner properties)) 0) (sym at.before)
           ∙ ap (λ (k : Option ℕ). unwrap_or k 0) number.1) in
-          let far = from-seven facts.its at.from at.to at.goes in
+          let far = facts.its.from_seven at.from at.to at.goes in
           subst (NameAlone p list context answers (HoldsMeta m) the_item 1 its_inside u) (sym means)
-          (inside (AnsweredOf m at.from) (ap is_inner at.after)
+          (inside (facts.holder at.from o.sym) (ap is_inner at.after)
           (ap (is_inside 1) at.after ∙ le-leb 1 at.to (omega (arith, far)))
           (sym (same-number (there o) (own_denoted the_item u) turns) ∙ number.1)
-          owns_answered (λ c e is. absurd (meta-not c e)) at.holds at.ctxt)
+          at.owns (λ c e is. absurd (meta-not c e)) at.holds at.ctxt)
       by (inr at) =
           subst (NameAlone p list context answers (HoldsMeta m) the_item 1 its_inside u)
           (ap Unbound symbols ∙ sym (ap (meant_of properties) at.before))
@@ -177,7 +174,7 @@ module _ (list : List ℕ) {p : Program} {hooks : Hooks} {context : Contexts}
           ⊎ FreeAt list facts o u →
           is_inside 1 (own_denoted the_item u) ≡ is_told_inside (meant_of properties (there o))
       by (inl at) =
-          let far = from-seven facts.its at.from at.to at.goes in
+          let far = facts.its.from_seven at.from at.to at.goes in
           ap (is_inside 1) at.after
           ∙ le-leb 1 at.to (omega (arith, far))
           ∙ sym (ap (λ d. is_told_inside (meant_of properties d)) at.before)
@@ -278,7 +275,7 @@ module _ (list : List ℕ) {p : Program} {hooks : Hooks} {context : Contexts}
       (a_node {inside = l.pattern_of 0 r.Binding name_ident ++ node 1 h.ObjectLit within} refl
       (a_node {inside = h.Ident 0 name_ident.0 name_ident.1 r.Binding ∷ []} refl
       (a_name refl no_more)
-      (a_node {inside = within} refl (made-fit facts.its) no_more))
+      (a_node {inside = within} refl facts.its.made_fit no_more))
       (over refl no_more))
 
   -- the object of `import.meta`, by itself
@@ -286,9 +283,9 @@ module _ (list : List ℕ) {p : Program} {hooks : Hooks} {context : Contexts}
   meta-alone = record {
     noted = AsWhole (Known (Meta m) ∷ its_meants properties, i.meta_object m marks);
     stands =
-        as_whole (object-marked facts.its name_ident)
+        as_whole (object-marked facts.notes name_ident m properties within marks facts.its.result)
         (holds_meta properties marks facts.its.held facts.its.faultless
-        (properties-mean facts.its));
+        (properties-mean properties facts.its.fit marks facts.its.source));
     names =
         subst
         (λ inner. AllZip (NameAlone p list context answers (HoldsMeta m) the_item 1 inner)
@@ -309,11 +306,13 @@ module _ (list : List ℕ) {p : Program} {hooks : Hooks} {context : Contexts}
           ∙ s.object-called list facts
           ∙ ap (map denoted_symbol) (sym (inner-names properties)),
     );
-    form = whole_form (object-marked facts.its name_ident);
+    form =
+        whole_form
+        (object-marked facts.notes name_ident m properties within marks facts.its.result);
     one = fit-one item-fits;
     lone =
-        meta_lone no_notes name_ident within
-        (are_own (made-fit facts.its) refl);
+        meta_lone facts.notes name_ident within
+        (are_own facts.its.made_fit refl);
     named = d.item-named list facts;
     single = fit-single item-fits;
     fit = item-fits;
@@ -328,19 +327,4 @@ module _ (list : List ℕ) {p : Program} {hooks : Hooks} {context : Contexts}
   }
     where
       marks : List Mark
-      marks = its_marks facts.its
-
-pub reached-by : {p : Program} {m : ℕ} → IsDue p AsModule (HoldsMeta m) → IsReached p m
-reached-by (meta_due reached has) = reached
-
--- what is made for the `import.meta` of a module
-pub answered-alone : (p : Program) (hooks : Hooks) (list : List ℕ) (context : Contexts)
-    (answers : ℕ → Option (List Item)) → TellApart p answers context → (m : ℕ)
-    (item : List Item) → IsDue p AsModule (HoldsMeta m) →
-    IsMade p hooks list context answers (HoldsMeta m) item →
-    IsAlone p hooks list context answers (HoldsMeta m) item
-answered-alone p hooks list context answers apart m item due
-    (made_meta properties made answered its is) =
-    subst (IsAlone p hooks list context answers (HoldsMeta m)) (sym is)
-    (meta-alone list
-    (record { its = its; reached = reached-by due; answered = answered; apart = apart; due = due }))
+      marks = facts.its.marks

@@ -1,23 +1,20 @@
 -- What the names of the item that stands for `import.meta` denote in it by itself, by what they
 -- denote in what the hook answered.
-use Rattle.std.proofs.Common.{◌≡◌, ℕ, suc, true, false, List, [], ◌∷◌, ◌++◌, Option, None, Some, option_map, map, slice_get, append_assoc, append-nil, refl, ap, sym, ◌∙◌, subst}
+use Rattle.std.proofs.Common.{◌≡◌, ◌≢◌, ◌<◌, ℕ, suc, ◌+◌, false, List, [], ◌∷◌, ◌++◌, Option, None, Some, option_map, map, slice_get, append_assoc, append-nil, refl, ap, sym, ◌∙◌, subst, arith}
 use Rattle.std.specs.List.{AllZip, cons_option}
-use Rattle.std.proofs.lemmas.Option.{none-some}
 use Rattle.bundle_tree_piece.specs.declared.piece.Role.TheVariants.{Binding}
 use Rattle.bundle_tree_piece.specs.Item as h
 use Rattle.bundle_tree_piece.specs.Item.{Item}
 use Rattle.bundle_tree_leaf.specs.declared.kind.VarDeclKind.TheVariants.{Const}
-use Rattle.bundle_rules.specs.Places.{Occurrence, start, occurrences, occurrences_from, is_binding}
-use Rattle.bundle_rules.specs.Scopes.{Es, Top}
-use Rattle.bundle_rules.specs.Declarations.{Way, BySymbol, ByContext, Name, Declared, declaration_of, declared, way_of}
-use Rattle.bundle_rules.specs.Denotes.{Denoted, is_written_in, denoted_of, denotations}
-use Rattle.bundle_rules.specs.Idents.{Ident, ident_of}
-use Rattle.bundle_rules.specs.Statements.{no_notes}
-use Rattle.bundle_rules.specs.Program.{Program, IsReached}
+use Rattle.bundle_rules.specs.Places.{Occurrence, start, occurrences, occurrences_from}
+use Rattle.bundle_rules.specs.Scopes.{Es, ScopeKind, Top, Inner}
+use Rattle.bundle_rules.specs.Declarations.{BySymbol, ByContext, Name, Declared, declaration_of, declared}
+use Rattle.bundle_rules.specs.Denotes.{Denoted, Bound, is_written_in, denoted_of, denotations}
+use Rattle.bundle_rules.specs.Idents.{Ident}
+use Rattle.bundle_rules.specs.Program.{Program}
 use Rattle.bundle_rules.specs.Meaning.{Meta}
-use Rattle.bundle_rules.specs.Bundle.{HoldsMeta, AsModule, Hooks, IsDue, properties_tree}
+use Rattle.bundle_rules.specs.Bundle.{Hooks, properties_tree}
 use Rattle.bundle_tree_places.specs.Edits.{node}
-use Rattle.bundle_tree_rebuild.specs.Work.{Step}
 use Rattle.bundle_merge_injected.specs.Listed as l
 use Rattle.bundle_scope_names.proofs.Numbering.{Numbering, lifted, lift_all, given}
 use Rattle.bundle_scope_names.proofs.Kept.{resolved_by}
@@ -30,26 +27,23 @@ use Rattle.bundle_merge_meaning.proofs.joined.Denotes.{names-identified}
 use Rattle.bundle_merge_meaning.proofs.joined.Alike.{written-alike}
 use Rattle.bundle_merge_meaning.proofs.noted.Names.{occurrences_append}
 use Rattle.bundle_merge_whole.specs.composed.Noted.{first_spot}
-use Rattle.bundle_merge_whole.specs.made.Given.{Contexts, ident_of_label, numbers_answered}
-use Rattle.bundle_merge_whole.specs.made.Steps.{IsStepAnswered}
-use Rattle.bundle_merge_whole.specs.made.Made.{IsAnsweredAs}
-use Rattle.bundle_merge_whole.specs.made.Alone.{TellApart}
-use Rattle.bundle_merge_whole.specs.own.Beside.{Paired, AllMade, done, made, added as added_name}
+use Rattle.bundle_merge_whole.specs.made.Given.{Answer, Contexts, ident_of_label}
 use Rattle.bundle_merge_whole.proofs.added.Topped.{occurrences-item}
 use Rattle.bundle_merge_whole.proofs.answered.Held.{IsHeld}
 use Rattle.bundle_merge_whole.proofs.answered.Inward.{IsInwardDenoted, declared_by_symbols, all-inward, top-unwritten}
-use Rattle.bundle_merge_whole.proofs.answered.Rewritten.{item_spot, made-fit, goes, one, made-names}
+use Rattle.bundle_merge_whole.proofs.answered.Rewritten.{item_spot}
+use Rattle.bundle_merge_whole.proofs.answered.Properties.{Answering}
 use Rattle.bundle_merge_whole.proofs.answered.Alike.{IsMadeOf, made-declared, made-denotes, constant_at}
-use Rattle.bundle_merge_whole.proofs.answered.Numbered.{tree-named, tree-ways, tree-held, tree-denotes, named-fit, declared-symbols, tree-numbered}
+use Rattle.bundle_merge_whole.proofs.answered.Numbered.{tree-named, tree-held, tree-denotes, named-fit, declared-symbols, tree-numbered}
 
 -- Lists.
 
-all-of_each : {A : Type 0} (P : A → Type 0) (xs : List A) →
+pub all-of_each : {A : Type 0} (P : A → Type 0) (xs : List A) →
     ((i : ℕ) (x : A) → slice_get xs i ≡ Some x → P x) → AllOf P xs
 all-of_each P [] each = tt
 all-of_each P (x ∷ xs) each = (each 0 x refl, all-of_each P xs (λ i y at. each (suc i) y at))
 
-zip-all : {A B : Type 0} (P : A → Type 0) (R : A → B → Type 0) (S : A → B → Type 0) →
+pub zip-all : {A B : Type 0} (P : A → Type 0) (R : A → B → Type 0) (S : A → B → Type 0) →
     ((x : A) (y : B) → P x → R x y → S x y) → (xs : List A) (ys : List B) → AllOf P xs →
     AllZip R xs ys → AllZip S xs ys
 zip-all P R S both [] [] all zip = tt
@@ -83,59 +77,21 @@ lift-names f all (o ∷ os) =
     joins None ds = refl
     joins (Some d) ds = refl
 
--- a name that has a way where it binds
-abbrev HasWay : Occurrence → Type 0
-HasWay o = is_binding o.role ≡ true → (way : Way) × (way_of o.path ≡ Some way)
-
--- names that are made of others by their steps have the identifiers of these
-made-of : (R : ℕ → ℕ → Type 0) (context : Contexts) (m : ℕ) (properties : List Item)
-    (os : List Occurrence) (steps : List Step) (us : List Occurrence) → AllMade R None os steps us →
-    AllZip (IsStepAnswered context m properties) os steps → AllOf HasWay os →
-    AllZip
-    (λ o u. IsMadeOf R
-    (set_by (its_context (numbers_answered context m) Es (declared BySymbol Es
-    (properties_tree properties))) o)
-    u)
-    os us
-made-of R context m properties [] [] [] done each ways = tt
-made-of R context m properties [] (step ∷ steps) [] it each ways = elim it [ ]
-made-of R context m properties (o ∷ os) steps [] it each ways = elim it [ ]
-made-of R context m properties os steps (u ∷ us) (added_name refers is rest) each ways =
-    absurd (none-some (ident_of u) is)
-made-of R context m properties (o ∷ os) (step ∷ steps) (u ∷ us) (made it rest) each ways = (
-  record {
-    ident = it.ident ∙ each.0.its_ident;
-    role = it.role;
-    ways = λ binds. let way = ways.0 binds in (way.0, way.1, it.way way.0 binds way.1);
-    scopes = it.scopes;
-  },
-  made-of R context m properties os steps us rest each.1 ways.1,
-)
-
--- what was answered for a module is rewritten, where contexts are told apart
-pub record Answering (p : Program) (hooks : Hooks) (context : Contexts)
-    (answers : ℕ → Option (List Item)) (m : ℕ) (properties within : List Item) : Type 0 where
-  pub its : IsAnsweredAs p hooks context m properties within
-  pub reached : IsReached p m
-  pub answered : answers m ≡ Some properties
-  pub apart : TellApart p answers context
-  pub due : IsDue p AsModule (HoldsMeta m)
-
 module _ (list : List ℕ) {p : Program} {hooks : Hooks} {context : Contexts}
-    {answers : ℕ → Option (List Item)} {m : ℕ} {properties within : List Item}
+    {answers : ℕ → Option Answer} {m : ℕ} {properties within : List Item}
     (facts : Answering p hooks context answers m properties within) where
   abbrev pub os : List Occurrence
   os = occurrences (properties_tree properties)
 
   abbrev pub us : List Occurrence
-  us = occurrences_from item_spot within
+  us = occurrences_from (item_spot facts.notes) within
 
   -- what is declared in what was answered
   abbrev pub ds : List Declared
   ds = declared BySymbol Es (properties_tree properties)
 
   abbrev pub f : Numbering
-  f = numbers_answered context m
+  f = facts.numbers
 
   -- what a name denotes there by its symbol
   abbrev pub denoted_there : Occurrence → Denoted
@@ -145,17 +101,39 @@ module _ (list : List ℕ) {p : Program} {hooks : Hooks} {context : Contexts}
   with_context o = set_by (its_context f Es ds) o
 
   abbrev pub R : ℕ → ℕ → Type 0
-  R = Paired (goes facts.its)
+  R = facts.its.goes
 
   all-made : AllZip (λ o u. IsMadeOf R (with_context o) u) os us
-  all-made =
-      made-of R context m properties os facts.its.steps us
-      (made-names facts.its) facts.its.each
-      (all-of_each HasWay os (λ i o at. (tree-ways properties facts.its.fit).way i o at))
+  all-made = facts.its.names
 
   -- what is declared in the object
   abbrev pub es : List Declared
   es = declared_by_names us
+
+  -- no binding has the context of globals, and those of one symbol have their own
+  own : (i : ℕ) (kind : ScopeKind) (begins : ℕ) (name : Name) →
+      slice_get (denotations BySymbol Es (properties_tree properties)) i
+      ≡ Some (Bound (Inner kind begins) name) →
+      f (begins + 2) name.sym ≢ 1
+  own i kind begins name at = λ e.
+      let it = facts.holds i kind begins name at in
+      let above : 1 < context (facts.holder begins name.sym) =
+      facts.apart.own (facts.holder begins name.sym) it.is in
+      let is : context (facts.holder begins name.sym) ≡ 1 = sym it.ctxt ∙ e in
+      absurd (omega (arith, above, is))
+
+  apart : (i j : ℕ) (kind other : ScopeKind) (a b : ℕ) (name its : Name) →
+      slice_get (denotations BySymbol Es (properties_tree properties)) i
+      ≡ Some (Bound (Inner kind a) name) →
+      slice_get (denotations BySymbol Es (properties_tree properties)) j
+      ≡ Some (Bound (Inner other b) its) →
+      name.sym ≡ its.sym → f (a + 2) name.sym ≡ f (b + 2) its.sym → a ≡ b
+  apart i j kind other a b name its at there same numbers =
+      let one = facts.holds i kind a name at in
+      let two = facts.holds j other b its there in
+      facts.differ i j kind other a b name its at there same
+      (facts.apart.apart (facts.holder a name.sym) (facts.holder b its.sym) one.is two.is
+      (sym one.ctxt ∙ numbers ∙ two.ctxt))
 
   pub lifted-are : lift_all f ds ≡ declared_by_names (map with_context os)
   lifted-are =
@@ -191,8 +169,8 @@ module _ (list : List ℕ) {p : Program} {hooks : Hooks} {context : Contexts}
             subst (λ d. DenotedAlike R d (denoted_of ByContext Es es u))
             (denoted-given f Es (properties_tree properties)
             (resolved_by f Es (properties_tree properties))
-            (tree-numbered properties facts.its.fit p context answers m facts.reached facts.answered facts.apart) at.0 o at.1)
-            (made-denotes R (one facts.its) (lift_all f ds) es alike
+            (tree-numbered properties facts.its.fit f own apart) at.0 o at.1)
+            (made-denotes R facts.its.one (lift_all f ds) es alike
             (with_context o) u made);
       })
       os us (all-of_each (λ o. (i : ℕ) × (slice_get os i ≡ Some o)) os (λ i o at. (i, at))) all-made
@@ -203,7 +181,7 @@ module _ (list : List ℕ) {p : Program} {hooks : Hooks} {context : Contexts}
   meta_name = ident_of_label p list context (Meta m)
 
   abbrev pub item : List Item
-  item = l.constant no_notes meta_name (node 1 h.ObjectLit within)
+  item = l.constant facts.notes meta_name (node 1 h.ObjectLit within)
 
   abbrev pub first : Occurrence
   first = record {
@@ -214,7 +192,7 @@ module _ (list : List ℕ) {p : Program} {hooks : Hooks} {context : Contexts}
     path =
         record { head = h.BindingIdent; begins = 3; field = 0 }
         ∷ record { head = h.VarDeclarator; begins = 2; field = 0 }
-        ∷ record { head = h.VarDecl Const no_notes; begins = 1; field = 1 }
+        ∷ record { head = h.VarDecl Const facts.notes; begins = 1; field = 1 }
         ∷ record { head = h.Module; begins = 0; field = 0 }
         ∷ [];
   }
@@ -226,8 +204,8 @@ module _ (list : List ℕ) {p : Program} {hooks : Hooks} {context : Contexts}
   pub item-occurrences : occurrences_from first_spot item ≡ first ∷ us
   item-occurrences =
       ap (λ its. first ∷ its)
-      (ap (occurrences_from item_spot) behind
-      ∙ occurrences_append item_spot within (h.Close ∷ h.Close ∷ h.Close ∷ [])
+      (ap (occurrences_from (item_spot facts.notes)) behind
+      ∙ occurrences_append (item_spot facts.notes) within (h.Close ∷ h.Close ∷ h.Close ∷ [])
       ∙ append-nil us)
 
   pub item-named : HasNames item
@@ -245,7 +223,7 @@ module _ (list : List ℕ) {p : Program} {hooks : Hooks} {context : Contexts}
               refl,
               subst AreNamed (sym (ap (λ items. items ++ h.Close ∷ []) behind ∙ append_assoc within
                   (h.Close ∷ h.Close ∷ h.Close ∷ []) (h.Close ∷ [])))
-                  (named-fit (made-fit facts.its) refl
+                  (named-fit facts.its.made_fit refl
                   (h.Close ∷ h.Close ∷ h.Close ∷ h.Close ∷ []) (refl, (refl, (refl, (refl, tt))))),
             ),
           ),
@@ -262,7 +240,7 @@ module _ (list : List ℕ) {p : Program} {hooks : Hooks} {context : Contexts}
   -- nothing in it belongs to the top
   pub object-unwritten : (name : Name) → is_written_in es Top name ≡ false
   object-unwritten name =
-      written-alike R (one facts.its) (lift_all f ds) es alike tops name
+      written-alike R facts.its.one (lift_all f ds) es alike tops name
       ∙ ap (λ all. is_written_in all Top name) lifted-are
       ∙ top-unwritten (declared_by_names (map with_context os))
       (all-inward (map with_context os) (held-again os (tree-held properties facts.its.fit)))

@@ -7,41 +7,36 @@ use Rattle.std.proofs.lemmas.Bool.{false≢true}
 use Rattle.std.proofs.lemmas.Option.{none-some, same_Some}
 use Rattle.bundle_tree_piece.specs.Item as h
 use Rattle.bundle_tree_piece.specs.Item.{Item}
-use Rattle.bundle_rules.specs.Places.{Occurrence, occurrences, occurrences_from}
+use Rattle.bundle_rules.specs.Places.{occurrences_from}
 use Rattle.bundle_rules.specs.Scopes.{Es}
 use Rattle.bundle_rules.specs.Declarations.{BySymbol, declared}
 use Rattle.bundle_rules.specs.Denotes.{Denoted, Bound, Global, denoted_of, denotations}
 use Rattle.bundle_rules.specs.Idents.{Ident}
 use Rattle.bundle_rules.specs.Injected as i
 use Rattle.bundle_rules.specs.Mentions.{same_denoted, each_denoted_once}
-use Rattle.bundle_rules.specs.Program.{Program}
-use Rattle.bundle_rules.specs.Statements.{taken_from, no_notes}
+use Rattle.bundle_rules.specs.Statements.{taken_from}
+use Rattle.bundle_tree_leaf.specs.declared.kind.ExportMetadata.{ExportMetadata}
+use Rattle.bundle_scope_renamed.specs.fit.Sorts.{AProperty, Many, slot}
+use Rattle.bundle_scope_renamed.specs.fit.Fits.{AreFit}
 use Rattle.bundle_rules.specs.Meaning.{View, Sense, Replacement, Meant, Inside, Known, Unbound, Mark, Meta, NameMeans, inside, unbound, finished, denoted, is_inside, inner_bindings, bundle_sense}
-use Rattle.bundle_rules.specs.Bundle.{Hooks, PropertiesMean, properties_tree}
+use Rattle.bundle_rules.specs.Bundle.{PropertiesMean, properties_tree}
 use Rattle.bundle_tree_places.specs.Edits.{InObject, node}
-use Rattle.bundle_tree_rebuild.specs.Work.{Step}
 use Rattle.bundle_merge_injected.specs.Listed as l
 use Rattle.bundle_merge_meaning.proofs.joined.Tops.{Contains-cons}
 use Rattle.bundle_merge_meaning.specs.noted.Marked.{Note, Marked}
 use Rattle.bundle_merge_meaning.specs.noted.Agrees.{IsAt, AgreeInTurn, IsListing}
-use Rattle.bundle_merge_meaning.specs.walked.Keeps.{Entry, ByStep, ByMeta, meant_in, notes_in, AreOfMeta, Agree, alone, Same}
+use Rattle.bundle_merge_meaning.specs.walked.Keeps.{alone}
 use Rattle.bundle_merge_meaning.specs.walked.Renaming.{IsMarked}
 use Rattle.bundle_merge_meaning.proofs.noted.Bridge.{bridge}
 use Rattle.bundle_merge_meaning.proofs.noted.Denoted.{denoted_elements}
 use Rattle.bundle_merge_meaning.proofs.noted.Inner.{inside-position, any-there}
 use Rattle.bundle_merge_meaning.proofs.noted.Items.{all_agree, all_clear, none_notable}
 use Rattle.bundle_merge_meaning.proofs.noted.Steps.{means_as}
-use Rattle.bundle_merge_meaning.proofs.walked.Clearing.{marked-cleared}
 use Rattle.bundle_merge_meaning.proofs.walked.Denoting.{MeansNote, each_means}
 use Rattle.bundle_merge_meaning.proofs.walked.Injecting.{meta_marked}
-use Rattle.bundle_merge_meaning.proofs.walked.Renaming.{alone_alone}
-use Rattle.bundle_merge_meaning.proofs.walked.Whole.{becomes_same}
 use Rattle.bundle_merge_whole.proofs.fit.Facts.{one_listing}
-use Rattle.bundle_merge_whole.specs.made.Given.{Contexts}
-use Rattle.bundle_merge_whole.specs.made.Steps.{IsStepAnswered}
-use Rattle.bundle_merge_whole.specs.made.Made.{IsAnsweredAs}
 use Rattle.bundle_merge_whole.proofs.answered.Inward.{IsInwardDenoted, bound_inward, not_bound}
-use Rattle.bundle_merge_whole.proofs.answered.Rewritten.{alone_spot, occurrences-alone, work, given-own, cover}
+use Rattle.bundle_merge_whole.proofs.answered.Rewritten.{alone_spot, occurrences-alone}
 use Rattle.bundle_merge_whole.proofs.answered.Numbered.{tree-fit, denotation-inward}
 
 pub listed-contains : {A : Type 0} (xs : List A) (i : ℕ) (x : A) → slice_get xs i ≡ Some x →
@@ -49,17 +44,6 @@ pub listed-contains : {A : Type 0} (xs : List A) (i : ℕ) (x : A) → slice_get
 listed-contains [] i x at = absurd (none-some x at)
 listed-contains (y ∷ xs) zero x at = (Contains-cons y xs x).1 (inl (same_Some y x at))
 listed-contains (y ∷ xs) (suc i) x at = (Contains-cons y xs x).1 (inr (listed-contains xs i x at))
-
--- what is told of an `import.meta` that stands for nothing, is of its notes
-all-steps : (entries : List Entry) → AreOfMeta None None entries →
-    map meant_in entries ≡ map (λ (note : Note). note.meant) (notes_in entries)
-all-steps [] it = refl
-all-steps (ByStep step note ∷ entries) it = ap (λ l. note.meant ∷ l) (all-steps entries it)
-all-steps (ByMeta ident meant ∷ entries) it = absurd (none-some ident it.0)
-
-alone-again : (meants : List Meant) → map (λ (note : Note). note.meant) (alone meants) ≡ meants
-alone-again [] = refl
-alone-again (meant ∷ meants) = ap (λ l. meant ∷ l) (alone-again meants)
 
 -- the properties by themselves, as they are read
 module _ (properties : List Item) where
@@ -124,80 +108,50 @@ module _ (properties : List Item) where
   all-mean [] each = tt
   all-mean (d ∷ ds) each = ((refl, each 0 d refl), all-mean ds (λ i e at. each (suc i) e at))
 
-module _ {p : Program} {hooks : Hooks} {context : Contexts} {m : ℕ} {properties within : List Item}
-    (its : IsAnsweredAs p hooks context m properties within) where
-  abbrev pub notes : List Note
-  notes = alone (its_meants properties)
+-- the item is marked where its properties are
+pub object-marked : (notes : ExportMetadata) (name : Ident) (m : ℕ)
+    (properties within : List Item) (marks : List Mark) →
+    Marked None InObject (alone (its_meants properties)) within marks [] →
+    IsMarked (l.constant notes name (node 1 h.ObjectLit within))
+    (Known (Meta m) ∷ its_meants properties, i.meta_object m marks)
+object-marked notes name m properties within marks result =
+    meta_marked notes name m within (its_meants properties) marks result
 
-  agree-with : (os : List Occurrence) (steps : List Step) (g : Occurrence → Denoted) →
-      AllZip (IsStepAnswered context m properties) os steps →
-      Agree steps (alone (map (meant_of properties) (map g os)))
-  agree-with [] [] g each = tt
-  agree-with [] (step ∷ steps) g each = absurd each
-  agree-with (o ∷ os) [] g each = absurd each
-  agree-with (o ∷ os) (step ∷ steps) g each = (each.0.its_whole, agree-with os steps g each.1)
-
-  pub same : Same InObject (work its) None notes its.given within
-  same =
-      becomes_same its.by refl (given-own its)
-      (cover its) None notes
-      (agree-with (occurrences (properties_tree properties)) its.steps
-      (denoted_of BySymbol Es (declared BySymbol Es (properties_tree properties))) its.each)
-      tt
-
-  abbrev pub its_marks : List Mark
-  its_marks = same.marks
-
-  meants-are : map meant_in same.entries ≡ its_meants properties
-  meants-are =
-      all-steps same.entries same.of_meta
-      ∙ ap (map (λ (note : Note). note.meant)) (sym same.notes_are)
-      ∙ alone-again (its_meants properties)
-
-  -- the item is marked
-  pub object-marked : (name : Ident) →
-      IsMarked (l.constant no_notes name (node 1 h.ObjectLit within))
-      (Known (Meta m) ∷ its_meants properties, i.meta_object m its_marks)
-  object-marked name =
-      meta_marked no_notes name m within (its_meants properties) its_marks
-      (subst (λ meants. Marked None InObject
-      (alone meants) within its_marks []) meants-are same.result)
-
-  -- what was answered means these marks
-  pub properties-mean : PropertiesMean properties its_marks
-  properties-mean =
-      let tree : List Item = properties_tree properties in
-      let sense : Sense = bundle_sense tree BySymbol [] in
-      let nothing : (place : ℕ) (by : Replacement) → sense.replaced place by → ⊥ =
-      λ place by none. none in
-      let marked : Marked None InObject notes properties its_marks [] =
-      subst (λ items. Marked None InObject notes items its_marks []) its.is_given
-      (marked-cleared same.source (alone_alone (its_meants properties))) in
-      let listing : IsListing tree = one_listing (tree-fit properties its.fit) in
-      let means =
-      all-mean properties (its_names properties)
-      (λ i d at. means-so properties d (listed-contains (its_names properties) i d at)
-      (denotation-inward properties its.fit i d at)) in
-      let each =
-      each_means sense (its_inner properties) alone_spot properties
-      (h.Close ∷ h.Close ∷ h.Close ∷ []) (at-properties properties) notes
-      (subst
-      (λ os. AllZip (MeansNote sense (its_inner properties))
-      (map (denoted_of BySymbol Es (declared BySymbol Es tree)) os) notes)
-      (occurrences-alone properties) means) in
-      let agree =
-      all_agree sense (its_inner properties) nothing
-      (occurrences_from alone_spot properties) notes each in
-      let bridged =
-      bridge sense (its_inner properties) None listing
-      (none_notable sense (its_inner properties) nothing None refl) marked alone_spot
-      (h.Close ∷ h.Close ∷ h.Close ∷ []) [] (at-properties properties)
-      (record {
-        object = refl;
-        default = λ is. absurd (false≢true is);
-        clear = all_clear sense (its_inner properties) nothing alone_spot.path;
-      })
-      (subst (λ l. AgreeInTurn sense (its_inner properties) l notes) (sym (append-nil
-      (occurrences_from alone_spot properties))) agree) in
-      means_as sense (its_inner properties) (append-nil (taken_from 3 properties))
-      (append-nil its_marks) (bridged.gives.before [] [] finished)
+-- what was answered means its marks
+pub properties-mean : (properties : List Item) → AreFit (slot 0 Many AProperty ∷ []) properties →
+    (marks : List Mark) → Marked None InObject (alone (its_meants properties)) properties marks [] →
+    PropertiesMean properties marks
+properties-mean properties fit marks marked =
+    let tree : List Item = properties_tree properties in
+    let sense : Sense = bundle_sense tree BySymbol [] in
+    let notes : List Note = alone (its_meants properties) in
+    let nothing : (place : ℕ) (by : Replacement) → sense.replaced place by → ⊥ =
+    λ place by none. none in
+    let listing : IsListing tree = one_listing (tree-fit properties fit) in
+    let means =
+    all-mean properties (its_names properties)
+    (λ i d at. means-so properties d (listed-contains (its_names properties) i d at)
+    (denotation-inward properties fit i d at)) in
+    let each =
+    each_means sense (its_inner properties) alone_spot properties
+    (h.Close ∷ h.Close ∷ h.Close ∷ []) (at-properties properties) notes
+    (subst
+    (λ os. AllZip (MeansNote sense (its_inner properties))
+    (map (denoted_of BySymbol Es (declared BySymbol Es tree)) os) notes)
+    (occurrences-alone properties) means) in
+    let agree =
+    all_agree sense (its_inner properties) nothing
+    (occurrences_from alone_spot properties) notes each in
+    let bridged =
+    bridge sense (its_inner properties) None listing
+    (none_notable sense (its_inner properties) nothing None refl) marked alone_spot
+    (h.Close ∷ h.Close ∷ h.Close ∷ []) [] (at-properties properties)
+    (record {
+      object = refl;
+      default = λ is. absurd (false≢true is);
+      clear = all_clear sense (its_inner properties) nothing alone_spot.path;
+    })
+    (subst (λ l. AgreeInTurn sense (its_inner properties) l notes) (sym (append-nil
+    (occurrences_from alone_spot properties))) agree) in
+    means_as sense (its_inner properties) (append-nil (taken_from 3 properties))
+    (append-nil marks) (bridged.gives.before [] [] finished)

@@ -1,6 +1,6 @@
 -- Each name of the object of `import.meta` is a binding inside it or a global, as in what the hook
 -- answered.
-use Rattle.std.proofs.Common.{◌≡◌, ◌<◌, ◌⊎◌, inl, inr, ℕ, ◌+◌, ◌==◌, ◌&&◌, Bool, true, false, cond, not, List, [], ◌∷◌, Option, None, Some, find, map, codes, bytes_eq, refl, ap, sym, ◌∙◌, subst, arith, eq-eqb, ne_eqb, le-leb}
+use Rattle.std.proofs.Common.{◌≡◌, ◌<◌, ◌⊎◌, inl, inr, ℕ, ◌+◌, ◌==◌, ◌&&◌, Bool, true, false, cond, not, List, [], ◌∷◌, Option, None, Some, find, map, slice_get, codes, bytes_eq, refl, ap, sym, ◌∙◌, subst, arith, eq-eqb, ne_eqb, le-leb}
 use Rattle.std.specs.List.{AllZip, cons_option}
 use Rattle.std.proofs.lemmas.Bool.{false≢true, and_parts, and_from, eqb-true}
 use Rattle.std.proofs.lemmas.Option.{none-some}
@@ -10,12 +10,12 @@ use Rattle.bundle_rules.specs.Places.{Occurrence, is_binding}
 use Rattle.bundle_rules.specs.Scopes.{Es, Scope, ScopeKind, Wrapper, Inner, Parameters, scope_order, scopes_around}
 use Rattle.bundle_rules.specs.Declarations.{Way, BySymbol, ByContext, Name, name_of, names_agree, Declared, declared_by, way_of}
 use Rattle.bundle_rules.specs.Homes.{home_of, is_top, is_function, binds, is_arguments}
-use Rattle.bundle_rules.specs.Denotes.{Denoted, Bound, Global, bound_in, denoted_by_symbol, denoted_in, own_or_found, denoted_of}
+use Rattle.bundle_rules.specs.Denotes.{Denoted, Bound, Global, bound_in, denoted_by_symbol, denoted_in, own_or_found, denoted_of, denotations}
 use Rattle.bundle_rules.specs.Idents.{Ident}
 use Rattle.bundle_rules.specs.Mentions.{same_context, same_denoted}
 use Rattle.bundle_rules.specs.Program.{Program}
 use Rattle.bundle_rules.specs.Meaning.{Meta, plain, is_inside}
-use Rattle.bundle_rules.specs.Bundle.{HoldsMeta, Hooks}
+use Rattle.bundle_rules.specs.Bundle.{HoldsMeta, Hooks, properties_tree}
 use Rattle.bundle_scope_names.proofs.Numbering.{context_of, is_written, given}
 use Rattle.bundle_scope_names.proofs.Lists.{find-nothing}
 use Rattle.bundle_scope_names.proofs.FoundLemmas.{arguments-bind, written-same_order}
@@ -26,13 +26,12 @@ use Rattle.bundle_merge_meaning.specs.joined.Alike.{IsOneToOne, ScopesAlike, top
 use Rattle.bundle_merge_meaning.proofs.joined.Declarations.{declared_by_names}
 use Rattle.bundle_merge_meaning.proofs.joined.Denotes.{names-identified}
 use Rattle.bundle_merge_meaning.proofs.joined.Lists.{any-none}
-use Rattle.bundle_merge_whole.specs.made.Given.{Contexts, AnsweredOf, NameOf}
-use Rattle.bundle_merge_whole.specs.made.Alone.{IsHolder, added, holds_meta as adds_meta}
+use Rattle.bundle_merge_whole.specs.made.Given.{Answer, Contexts, NameOf}
+use Rattle.bundle_merge_whole.specs.made.Alone.{IsHolder, OwnsHolder, added, holds_meta as adds_meta}
 use Rattle.bundle_merge_whole.proofs.answered.Inward.{IsInwardDenoted, bound_inward, not_bound}
-use Rattle.bundle_merge_whole.proofs.answered.Rewritten.{from-seven, one}
 use Rattle.bundle_merge_whole.proofs.answered.Alike.{IsAnother, denoted-more, inner-more}
-use Rattle.bundle_merge_whole.proofs.answered.Numbered.{context-inner, holder}
-use Rattle.bundle_merge_whole.proofs.answered.Denoting.{Answering, os, us, ds, f, denoted_there, R, es, IsBeside, meta_name, item, item-declared}
+use Rattle.bundle_merge_whole.proofs.answered.Properties.{Answering}
+use Rattle.bundle_merge_whole.proofs.answered.Denoting.{os, us, ds, f, denoted_there, R, es, IsBeside, meta_name, item, item-declared}
 
 -- nothing is found among scopes that are alike
 pub alike-none : (Q : ℕ → ℕ → Type 0) (ss ts : List Scope) → AllZip (ScopesAlike Q) ss ts →
@@ -64,7 +63,7 @@ same-bool false true there back = back refl
 same-bool false false there back = refl
 
 module _ (list : List ℕ) {p : Program} {hooks : Hooks} {context : Contexts}
-    {answers : ℕ → Option (List Item)} {m : ℕ} {properties within : List Item}
+    {answers : ℕ → Option Answer} {m : ℕ} {properties within : List Item}
     (facts : Answering p hooks context answers m properties within) where
   abbrev Rel : ℕ → ℕ → Type 0
   Rel = R list facts
@@ -114,8 +113,11 @@ module _ (list : List ℕ) {p : Program} {hooks : Hooks} {context : Contexts}
     pub goes : Rel from to
     pub before : there o ≡ Bound (Inner kind from) (plain o.sym)
     pub after : own_denoted the_item u ≡ Bound (Inner kind to) (named_there kind from o.sym)
-    pub ctxt : u.ctxt ≡ context (AnsweredOf m from)
-    pub holds : IsHolder p answers (AnsweredOf m from)
+    pub listed : (i : ℕ) × (slice_get (denotations BySymbol Es (properties_tree properties)) i
+        ≡ Some (Bound (Inner kind from) (plain o.sym)))
+    pub ctxt : u.ctxt ≡ context (facts.holder from o.sym)
+    pub holds : IsHolder p answers (facts.holder from o.sym)
+    pub owns : OwnsHolder p (HoldsMeta m) (facts.holder from o.sym)
 
   -- or a global
   pub record FreeAt (o u : Occurrence) : Type 0 where
@@ -141,13 +143,11 @@ module _ (list : List ℕ) {p : Program} {hooks : Hooks} {context : Contexts}
           e ∙ context-is o u it ∙ ap (context_of numbers) is in
           absurd (omega (arith, above, same))
       by_denoted d is (bound_inward {kind = kind} {begins = a} {name = name}) e =
-          let same : context (NameOf (Meta m)) ≡ context (AnsweredOf m a) =
-          e ∙ context-is o u it ∙ ap (context_of numbers) is
-          ∙ context-inner context m kind a name in
-          let holds = holder properties facts.its.fit p context answers m facts.reached facts.answered facts.apart it.listed.0 kind a name (it.listed.1 ∙ ap Some is) in
-          let equal : NameOf (Meta m) ≡ AnsweredOf m a = facts.apart.apart (NameOf (Meta m))
-          (AnsweredOf m a) meta_holder holds same in
-          absurd cc
+          let held = facts.holds it.listed.0 kind a name (it.listed.1 ∙ ap Some is) in
+          let same : context (NameOf (Meta m)) ≡ context (facts.holder a name.sym) =
+          e ∙ context-is o u it ∙ ap (context_of numbers) is ∙ held.ctxt in
+          held.other
+          (facts.apart.apart (NameOf (Meta m)) (facts.holder a name.sym) meta_holder held.is same)
 
   another : (o u : Occurrence) → Beside o u →
       IsAnother 4 name_ident its_es (its_name u)
@@ -177,17 +177,20 @@ module _ (list : List ℕ) {p : Program} {hooks : Hooks} {context : Contexts}
           (e : Denoted) → own_denoted the_item u ≡ e →
           DenotedAlike Rel (Bound (Inner kind a) (named_there kind a o.sym)) e →
           InsideAt o u
-      by_alike kind a is e here (bindings (inners {b = b} r)) = record {
-        kind = kind;
-        from = a;
-        to = b;
-        goes = r;
-        before = is;
-        after = here;
-        ctxt = context-is o u it ∙ ap (context_of numbers) is ∙ context-inner context m kind a
-            (plain o.sym);
-        holds = holder properties facts.its.fit p context answers m facts.reached facts.answered facts.apart it.listed.0 kind a (plain o.sym) (it.listed.1 ∙ ap Some is);
-      }
+      by_alike kind a is e here (bindings (inners {b = b} r)) =
+          let held = facts.holds it.listed.0 kind a (plain o.sym) (it.listed.1 ∙ ap Some is) in
+          record {
+            kind = kind;
+            from = a;
+            to = b;
+            goes = r;
+            before = is;
+            after = here;
+            listed = (it.listed.0, it.listed.1 ∙ ap Some is);
+            ctxt = context-is o u it ∙ ap (context_of numbers) is ∙ held.ctxt;
+            holds = held.is;
+            owns = held.owns;
+          }
 
       by_global : (x : List ℕ) (e : Denoted) → DenotedAlike Rel (Global x) e → e ≡ Global x
       by_global x e globals = refl
@@ -229,7 +232,7 @@ module _ (list : List ℕ) {p : Program} {hooks : Hooks} {context : Contexts}
       forth back
     where
       frame : IsOneToOne Rel
-      frame = one facts.its
+      frame = facts.its.one
 
       forth : (((a + 2) == (c + 2)) && bytes_eq x y && true) ≡ true →
           (((b + 2) == (g + 2)) && bytes_eq x y
@@ -273,7 +276,7 @@ module _ (list : List ℕ) {p : Program} {hooks : Hooks} {context : Contexts}
     where
       by : InsideAt o u ⊎ FreeAt o u → IsInsideBoth (there o) (own_denoted the_item u)
       by (inl at) =
-          let far = from-seven facts.its at.from at.to at.goes in (
+          let far = facts.its.from_seven at.from at.to at.goes in (
             ap (is_inside 0) at.before
                 ∙ le-leb 0 at.from (omega arith)
                 ∙ sym (ap (is_inside 1) at.after ∙ le-leb 1 at.to (omega (arith, far))),
@@ -312,9 +315,9 @@ module _ (list : List ℕ) {p : Program} {hooks : Hooks} {context : Contexts}
 
       by : InsideAt o u ⊎ FreeAt o u → ⊥
       by (inl at) =
-          let above : 1 < context (AnsweredOf m at.from) = facts.apart.own
-          (AnsweredOf m at.from) at.holds in
-          let is : context (AnsweredOf m at.from) ≡ 1 = sym at.ctxt ∙ one_is in
+          let above : 1 < context (facts.holder at.from o.sym) = facts.apart.own
+          (facts.holder at.from o.sym) at.holds in
+          let is : context (facts.holder at.from o.sym) ≡ 1 = sym at.ctxt ∙ one_is in
           absurd (omega (arith, above, is))
       by (inr at) =
           denotes

@@ -1,8 +1,8 @@
--- The names of what a hook answered, by themselves: they denote bindings inside or globals, and the
--- contexts of the bundle tell them apart.
-use Rattle.std.proofs.Common.{◌≡◌, ◌≢◌, ◌<◌, ℕ, ◌+◌, ◌-◌, Bool, true, false, cond, nat_lt, List, [], ◌∷◌, ◌++◌, Option, None, Some, option_and_then, option_map, slice_get, append_assoc, refl, ap, sym, ◌∙◌, subst, arith, if◌then◌else◌}
+-- The names of what a hook answered, by themselves: they denote bindings inside or globals, and
+-- numbers that tell these apart are a numbering of it.
+use Rattle.std.proofs.Common.{◌≡◌, ◌≢◌, ℕ, ◌+◌, true, false, cond, List, [], ◌∷◌, ◌++◌, Option, None, Some, option_and_then, option_map, slice_get, append_assoc, refl, ap, sym, ◌∙◌, subst}
 use Rattle.std.specs.List.{cons_option}
-use Rattle.std.proofs.lemmas.Bool.{true≢false, ltb-true}
+use Rattle.std.proofs.lemmas.Bool.{true≢false}
 use Rattle.std.proofs.lemmas.Option.{none-some, same_Some, slice_get-map}
 use Rattle.bundle_tree_piece.specs.Item as h
 use Rattle.bundle_tree_piece.specs.Item.{Item, Head}
@@ -11,9 +11,8 @@ use Rattle.bundle_rules.specs.Scopes.{Es, Scope, ScopeKind, Wrapper, Top, Inner,
 use Rattle.bundle_rules.specs.Declarations.{BySymbol, Name, Declared, declaration_of, is_nameless_default, nameless_default, declared_from, declared}
 use Rattle.bundle_rules.specs.Denotes.{Denoted, Bound, denoted_of, denotations}
 use Rattle.bundle_rules.specs.Callable.{is_module_head}
-use Rattle.bundle_rules.specs.Program.{Program, IsReached}
 use Rattle.bundle_rules.specs.Bundle.{properties_tree}
-use Rattle.bundle_scope_names.proofs.Numbering.{Numbering, context_of, IsNumbered}
+use Rattle.bundle_scope_names.proofs.Numbering.{Numbering, IsNumbered}
 use Rattle.bundle_scope_names.proofs.Kept.{resolved_by, numbered}
 use Rattle.bundle_scope_renamed.specs.fit.Sorts.{AModule, AProperty, Many, Slot, slot}
 use Rattle.bundle_scope_renamed.specs.fit.Fits.{AreFit, no_more, over, a_node, IsFit, node}
@@ -25,8 +24,6 @@ use Rattle.bundle_merge_meaning.specs.grouped.Renaming.{HasWays}
 use Rattle.bundle_merge_meaning.proofs.joined.Declarations.{AreNamed}
 use Rattle.bundle_merge_meaning.proofs.joined.Items.{all-at}
 use Rattle.bundle_merge_whole.proofs.fit.Facts.{one_ways}
-use Rattle.bundle_merge_whole.specs.made.Given.{Contexts, Holder, TopOf, AnsweredOf, in_order, numbers_answered}
-use Rattle.bundle_merge_whole.specs.made.Alone.{IsHolder, answered_of, TellApart}
 use Rattle.bundle_merge_whole.proofs.answered.Held.{IsHeld, all_held}
 use Rattle.bundle_merge_whole.proofs.answered.Inward.{BelongsInward, IsInwardDenoted, declared_by_symbols, all-inward-by_symbol, symbol-inward}
 use Rattle.bundle_merge_whole.proofs.answered.Rewritten.{alone_spot, occurrences-alone}
@@ -77,35 +74,6 @@ declared-symbols s (x ∷ xs) named =
         ≡ declared_by_symbols (cons_option o os)
     by_occurrence None os = refl
     by_occurrence (Some o) os = refl
-
--- Contexts.
-
-inner_order : (top : ℕ) (inside : ℕ → ℕ) (begins : ℕ) → in_order top inside (begins + 2)
-    ≡ inside begins
-inner_order top inside begins =
-    by_test (nat_lt (begins + 2) 2) refl
-  where
-    by_test : (b : Bool) → nat_lt (begins + 2) 2 ≡ b →
-        (if b then top else inside (begins + 2 - 2)) ≡ inside begins
-    by_test true is = let e : begins + 2 < 2 = ltb-true (begins + 2) 2 is in absurd (omega
-        (arith, e))
-    by_test false is = let e : begins + 2 - 2 ≡ begins = omega arith in ap inside e
-
--- the context of a binding inside
-pub context-inner : (context : Contexts) (m : ℕ) (kind : ScopeKind) (begins : ℕ) (name : Name) →
-    context_of (numbers_answered context m) (Bound (Inner kind begins) name)
-    ≡ context (AnsweredOf m begins)
-context-inner context m kind begins name =
-    inner_order (context (TopOf m)) (λ b. context (AnsweredOf m b)) begins
-
--- one place
-place_of : Holder → ℕ
-place_of (AnsweredOf m begins) = begins
-place_of _ = 0
-
-pub same-place : {m n a b : ℕ} → AnsweredOf m a ≡ AnsweredOf n b → a ≡ b
-unfolding place_of
-same-place e = ap place_of e
 
 -- What was answered.
 module _ (properties : List Item) (fit : AreFit (slot 0 Many AProperty ∷ []) properties) where
@@ -169,39 +137,31 @@ module _ (properties : List Item) (fit : AreFit (slot 0 Many AProperty ∷ []) p
           subst IsInwardDenoted (same_Some (denoted_of BySymbol Es its_declared o) d is)
           (tree-denotes i o there)
 
-  module _ (p : Program) (context : Contexts) (answers : ℕ → Option (List Item)) (m : ℕ)
-      (reached : IsReached p m) (answered : answers m ≡ Some properties)
-      (apart : TellApart p answers context) where
-    abbrev pub numbers : Numbering
-    numbers = numbers_answered context m
-
-    pub holder : (i : ℕ) (kind : ScopeKind) (begins : ℕ) (name : Name) →
-        slice_get (denotations BySymbol Es tree) i ≡ Some (Bound (Inner kind begins) name) →
-        IsHolder p answers (AnsweredOf m begins)
-    holder i kind begins name at = answered_of properties kind name i reached answered at
-
+  -- numbers that tell its bindings apart, none of them that of globals
+  module _ (f : Numbering)
+      (own : (i : ℕ) (kind : ScopeKind) (begins : ℕ) (name : Name) →
+      slice_get (denotations BySymbol Es tree) i ≡ Some (Bound (Inner kind begins) name) →
+      f (begins + 2) name.sym ≢ 1)
+      (apart : (i j : ℕ) (kind other : ScopeKind) (a b : ℕ) (name its : Name) →
+      slice_get (denotations BySymbol Es tree) i ≡ Some (Bound (Inner kind a) name) →
+      slice_get (denotations BySymbol Es tree) j ≡ Some (Bound (Inner other b) its) →
+      name.sym ≡ its.sym → f (a + 2) name.sym ≡ f (b + 2) its.sym → a ≡ b) where
     own-number : (i : ℕ) (s : Scope) (name : Name) →
         slice_get (denotations BySymbol Es tree) i ≡ Some (Bound s name) →
-        numbers (scope_order s) name.sym ≢ 1
+        f (scope_order s) name.sym ≢ 1
     own-number i s name at = by_scope s (denotation-inward i (Bound s name) at) at
       where
         by_scope : (s : Scope) → IsInwardDenoted (Bound s name) →
             slice_get (denotations BySymbol Es tree) i ≡ Some (Bound s name) →
-            numbers (scope_order s) name.sym ≢ 1
+            f (scope_order s) name.sym ≢ 1
         by_scope Wrapper it there = elim it [ ]
         by_scope Top it there = elim it [ ]
-        by_scope (Inner kind begins) it there =
-            λ e.
-            let above : 1 < context (AnsweredOf m begins) =
-            apart.own (AnsweredOf m begins) (holder i kind begins name there) in
-            let is : context (AnsweredOf m begins) ≡ 1 =
-            sym (context-inner context m kind begins name) ∙ e in
-            absurd (omega (arith, above, is))
+        by_scope (Inner kind begins) it there = own i kind begins name there
 
     apart-number : (i j : ℕ) (s t : Scope) (name its : Name) →
         slice_get (denotations BySymbol Es tree) i ≡ Some (Bound s name) →
         slice_get (denotations BySymbol Es tree) j ≡ Some (Bound t its) → name.sym ≡ its.sym →
-        numbers (scope_order s) name.sym ≡ numbers (scope_order t) its.sym →
+        f (scope_order s) name.sym ≡ f (scope_order t) its.sym →
         scope_order s ≡ scope_order t
     apart-number i j s t name its at there same numbers_same =
         by_scopes s t (denotation-inward i (Bound s name) at)
@@ -210,18 +170,14 @@ module _ (properties : List Item) (fit : AreFit (slot 0 Many AProperty ∷ []) p
         by_scopes : (s t : Scope) → IsInwardDenoted (Bound s name) → IsInwardDenoted (Bound t its) →
             slice_get (denotations BySymbol Es tree) i ≡ Some (Bound s name) →
             slice_get (denotations BySymbol Es tree) j ≡ Some (Bound t its) →
-            numbers (scope_order s) name.sym ≡ numbers (scope_order t) its.sym →
+            f (scope_order s) name.sym ≡ f (scope_order t) its.sym →
             scope_order s ≡ scope_order t
         by_scopes Wrapper t one two at there e = elim one [ ]
         by_scopes Top t one two at there e = elim one [ ]
         by_scopes (Inner kind a) Wrapper one two at there e = elim two [ ]
         by_scopes (Inner kind a) Top one two at there e = elim two [ ]
         by_scopes (Inner kind a) (Inner other b) one two at there e =
-            ap (λ n. n + 2)
-            (same-place
-            (apart.apart (AnsweredOf m a) (AnsweredOf m b) (holder i kind a name at)
-            (holder j other b its there)
-            (sym (context-inner context m kind a name) ∙ e ∙ context-inner context m other b its)))
+            ap (λ n. n + 2) (apart i j kind other a b name its at there same e)
 
-    pub tree-numbered : IsNumbered numbers Es tree (resolved_by numbers Es tree)
-    tree-numbered = numbered numbers Es tree own-number apart-number
+    pub tree-numbered : IsNumbered f Es tree (resolved_by f Es tree)
+    tree-numbered = numbered f Es tree own-number apart-number

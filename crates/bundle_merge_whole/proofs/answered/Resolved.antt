@@ -13,7 +13,7 @@ use Rattle.bundle_rules.specs.Idents.{Ident}
 use Rattle.bundle_rules.specs.Mentions.{each_denoted_once}
 use Rattle.bundle_rules.specs.Parts.{tree_of_items}
 use Rattle.bundle_rules.specs.Program.{Program}
-use Rattle.bundle_rules.specs.Meaning.{is_inside}
+use Rattle.bundle_rules.specs.Meaning.{plain, is_inside}
 use Rattle.bundle_rules.specs.Symbols.{denoted_symbol}
 use Rattle.bundle_rules.specs.Bundle.{Hooks, properties_tree}
 use Rattle.bundle_scope_names.proofs.KindsLemmas.{DenotesOf, denoted-known, same-of, kind_in, occurrences-known}
@@ -22,11 +22,9 @@ use Rattle.bundle_merge_meaning.specs.joined.Alike.{IsOneToOne}
 use Rattle.bundle_merge_meaning.proofs.loaded.Numbers.{both_once, inside_zip}
 use Rattle.bundle_merge_whole.specs.composed.Noted.{first_spot}
 use Rattle.bundle_merge_whole.specs.composed.Names.{own_from}
-use Rattle.bundle_merge_whole.specs.made.Given.{Contexts, AnsweredOf}
+use Rattle.bundle_merge_whole.specs.made.Given.{Answer, Contexts}
 use Rattle.bundle_merge_whole.proofs.added.Topped.{occurrences-item}
-use Rattle.bundle_merge_whole.proofs.answered.Rewritten.{one}
-use Rattle.bundle_merge_whole.proofs.answered.Numbered.{same-place}
-use Rattle.bundle_merge_whole.proofs.answered.Denoting.{Answering}
+use Rattle.bundle_merge_whole.proofs.answered.Properties.{Answering}
 use Rattle.bundle_merge_whole.proofs.answered.Denoting as d
 use Rattle.bundle_merge_whole.proofs.answered.Naming as n
 use Rattle.bundle_merge_whole.proofs.answered.Naming.{Becomes, becomes, InsideAt, FreeAt, classify, one-to-one, differs, all-inside}
@@ -52,7 +50,7 @@ unfolding kind_of
 same-kind e = ap kind_of e
 
 module _ (list : List ℕ) {p : Program} {hooks : Hooks} {context : Contexts}
-    {answers : ℕ → Option (List Item)} {m : ℕ} {properties within : List Item}
+    {answers : ℕ → Option Answer} {m : ℕ} {properties within : List Item}
     (facts : Answering p hooks context answers m properties within) where
   abbrev Beside : Occurrence → Occurrence → Type 0
   Beside o u = d.IsBeside list facts o u
@@ -94,7 +92,7 @@ module _ (list : List ℕ) {p : Program} {hooks : Hooks} {context : Contexts}
   named kind a x = n.named_there list facts kind a x
 
   frame : IsOneToOne Rel
-  frame = one facts.its
+  frame = facts.its.one
 
   -- two names with one context of a binding inside
   same-scopes : (o q u v : Occurrence) (x : Beside o u) (y : Beside q v) (a : Within o u)
@@ -121,21 +119,23 @@ module _ (list : List ℕ) {p : Program} {hooks : Hooks} {context : Contexts}
       by (inr a) two = absurd (false≢true (sym (ap is_inner a.after) ∙ inner))
       by (inl a) (inr b) = (
         λ same.
-            let above : 1 < context (AnsweredOf m a.from) = facts.apart.own
-            (AnsweredOf m a.from) a.holds in
-            let is : context (AnsweredOf m a.from) ≡ 1 = sym a.ctxt ∙ same.1 ∙ b.ctxt in
+            let above : 1 < context (facts.holder a.from o.sym) = facts.apart.own
+            (facts.holder a.from o.sym) a.holds in
+            let is : context (facts.holder a.from o.sym) ≡ 1 = sym a.ctxt ∙ same.1 ∙ b.ctxt in
             absurd (omega (arith, above, is)),
         λ e. let one_is = sym a.after ∙ e ∙ b.after in absurd cc,
       )
       by (inl a) (inl b) = (
         λ same.
+            let names : o.sym ≡ q.sym = sym (symbols o u x) ∙ same.0 ∙ symbols q v y in
             let from : a.from ≡ b.from =
-            same-place (facts.apart.apart (AnsweredOf m a.from)
-            (AnsweredOf m b.from) a.holds b.holds (sym a.ctxt ∙ same.1 ∙ b.ctxt)) in
+            facts.differ a.listed.0 b.listed.0 a.kind b.kind a.from b.from (plain o.sym)
+            (plain q.sym) a.listed.1 b.listed.1 names
+            (facts.apart.apart (facts.holder a.from o.sym) (facts.holder b.from q.sym) a.holds
+            b.holds (sym a.ctxt ∙ same.1 ∙ b.ctxt)) in
             let kinds : a.kind ≡ b.kind = same-kind (same-scopes o q u v x y a b from) in
             let to : a.to ≡ b.to =
             frame.one a.from a.to b.to a.goes (subst (λ k. Rel k b.to) (sym from) b.goes) in
-            let names : o.sym ≡ q.sym = sym (symbols o u x) ∙ same.0 ∙ symbols q v y in
             a.after
             ∙ (λ t. Bound (Inner (kinds t) (to t)) (named (kinds t) (from t) (names t)))
             ∙ sym b.after,
@@ -147,7 +147,7 @@ module _ (list : List ℕ) {p : Program} {hooks : Hooks} {context : Contexts}
             let from : a.from ≡ b.from =
             frame.other a.from b.from b.to (subst (λ k. Rel a.from k) to a.goes) b.goes in (
               symbols o u x ∙ names ∙ sym (symbols q v y),
-              a.ctxt ∙ ap (λ k. context (AnsweredOf m k)) from ∙ sym b.ctxt,
+              a.ctxt ∙ (λ t. context (facts.holder (from t) (names t))) ∙ sym b.ctxt,
             ),
       )
 

@@ -9,6 +9,7 @@ use Rattle.std.proofs.lemmas.Slice.Eq.{bytes_eq-Decides}
 use Rattle.bundle_tree_piece.specs.declared.piece.Role.TheVariants as r
 use Rattle.bundle_tree_piece.specs.Item as h
 use Rattle.bundle_tree_piece.specs.Item.{Item}
+use Rattle.bundle_tree_leaf.specs.declared.kind.ExportMetadata.{ExportMetadata}
 use Rattle.bundle_tree_leaf.specs.declared.kind.VarDeclKind.TheVariants.{Const}
 use Rattle.bundle_rules.specs.Places.{Spot, Occurrence, occurrences, occurrences_from, past}
 use Rattle.bundle_rules.specs.Idents.{Ident, ident_of}
@@ -49,13 +50,13 @@ alone_spot = record {
       ∷ [];
 }
 
-abbrev pub item_spot : Spot
-item_spot = record {
+abbrev pub item_spot : ExportMetadata → Spot
+item_spot notes = record {
   place = 7;
   path =
       record { head = h.ObjectLit; begins = 6; field = 0 }
       ∷ record { head = h.VarDeclarator; begins = 2; field = 1 }
-      ∷ record { head = h.VarDecl Const no_notes; begins = 1; field = 1 }
+      ∷ record { head = h.VarDecl Const notes; begins = 1; field = 1 }
       ∷ record { head = h.Module; begins = 0; field = 0 }
       ∷ [];
 }
@@ -68,8 +69,9 @@ occurrences-alone properties =
     ∙ append-nil (occurrences_from alone_spot properties)
 
 -- the two make the same of what stands in them
-spots-beside : (R : ℕ → ℕ → Type 0) → SpotsBeside R alone_spot item_spot
-spots-beside R field = record {
+pub spots-beside : (R : ℕ → ℕ → Type 0) (notes : ExportMetadata) →
+    SpotsBeside R alone_spot (item_spot notes)
+spots-beside R notes field = record {
   block = refl;
   default = refl;
   loop = refl;
@@ -79,7 +81,7 @@ spots-beside R field = record {
 }
 
 -- a copy of idents_from of bundle_merge_meaning proofs/walked/NameLemmas
-idents_from : (spot : Spot) (items : List Item) →
+pub idents_from : (spot : Spot) (items : List Item) →
     map ident_of (occurrences_from spot items) ≡ names_of items
 idents_from spot [] = refl
 idents_from spot (h.Open field head ∷ rest) = idents_from (past spot (h.Open field head)) rest
@@ -183,14 +185,15 @@ module _ {p : Program} {hooks : Hooks} {context : Contexts} {m : ℕ} {propertie
 
   -- its names are made one by one
   pub made-names : AllMade (Paired goes) None (occurrences (properties_tree properties)) its.steps
-      (occurrences_from item_spot made)
+      (occurrences_from (item_spot no_notes) made)
   made-names =
       let it =
-      walked rewrites.by alone_spot item_spot (Paired goes) (spots-beside (Paired goes))
+      walked rewrites.by alone_spot (item_spot no_notes) (Paired goes)
+      (spots-beside (Paired goes) no_notes)
       (λ field. refl) (λ a b there. there) in
       let steps : it.steps ≡ its.steps =
       sym (append-nil it.steps) ∙ ap (λ l. it.steps ++ l) (sym rewrites.left) ∙ sym it.are in
       subst
       (λ steps. AllMade (Paired goes) None (occurrences (properties_tree properties)) steps
-      (occurrences_from item_spot made))
+      (occurrences_from (item_spot no_notes) made))
       steps (made-like (Paired goes) None it.all given-like)

@@ -21,7 +21,7 @@ use Rattle.bundle_merge_meaning.specs.joined.Joined.{joined}
 use Rattle.bundle_merge_meaning.proofs.joined.Paths.{flat-append}
 use Rattle.bundle_merge_meaning.specs.walked.Renaming.{KeepsText}
 use Rattle.bundle_merge_whole.specs.planned.Decided.{one_if}
-use Rattle.bundle_merge_whole.specs.made.Given.{Contexts}
+use Rattle.bundle_merge_whole.specs.made.Given.{Answer, Contexts}
 use Rattle.bundle_merge_whole.specs.made.Made.{IsMade, linked_idents}
 use Rattle.bundle_merge_whole.specs.made.Made as made
 use Rattle.bundle_merge_whole.specs.made.Alone.{AreSound, IsAlone}
@@ -61,7 +61,7 @@ load_stmt load (Some w) [] item it is = as_stmt it 0 _ _ is refl
 load_stmt load (Some w) (pair ∷ pairs) item it is = as_stmt it 0 _ _ is refl
 
 module _ (p : Program) (hooks : Hooks) (list : List ℕ) (context : Contexts)
-    (answers : ℕ → Option (List Item)) (sound : AreSound p list) where
+    (answers : ℕ → Option Answer) (sound : AreSound p list) where
   abbrev Made : Cause → List Item → Type 0
   Made cause item = IsMade p hooks list context answers cause item
 
@@ -83,6 +83,8 @@ module _ (p : Program) (hooks : Hooks) (list : List ℕ) (context : Contexts)
   item_stmt cause item its_due (made.holds_meta properties within answered its is) fit inside
       hands =
       as_stmt fit 0 _ _ is refl
+  item_stmt cause item its_due (made.holds_written its answered written) fit inside hands =
+      as_stmt fit 0 _ _ its.is refl
   item_stmt cause item its_due (made.holds_namespace pairs are is) fit inside hands =
       as_stmt fit 0 _ _ is refl
   item_stmt cause item its_due (made.imports_names names are is) fit inside hands =

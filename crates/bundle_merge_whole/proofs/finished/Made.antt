@@ -26,7 +26,7 @@ use Rattle.bundle_merge_meaning.specs.joined.Joined.{joined}
 use Rattle.bundle_merge_whole.specs.planned.Blocks.{block_of}
 use Rattle.bundle_merge_whole.specs.planned.Decided.{Decided, AreDecided, HandsOut, exported, numbers_from, one_if, front_plan, back_plan, blocks_plan, plan_of}
 use Rattle.bundle_merge_whole.specs.planned.Placed.{id_at}
-use Rattle.bundle_merge_whole.specs.made.Given.{Contexts, TopOf}
+use Rattle.bundle_merge_whole.specs.made.Given.{Answer, AreFresh, Contexts, TopOf}
 use Rattle.bundle_merge_whole.specs.made.Made.{IsMade, AreMade}
 use Rattle.bundle_merge_whole.specs.made.Alone.{AreSound, TellApart, IsAlone}
 use Rattle.bundle_merge_whole.specs.finished.Ended.{IsNamedAtOnce}
@@ -132,7 +132,7 @@ module _ (p q : Program) (ids : List ℕ) (g : Modules) (places : IsByPlaces p q
     (known : AreKnown p q ids) (its_moved : AreMoved p q ids) (linking : Linking)
     (meta : ℕ → Bool) (count : ℕ → ℕ) (linked : AreLinkedBy q (length ids) linking meta count)
     (plan : Plan) (planned : IsPlanOf g p.entry ids plan) (hooks : Hooks) (context : Contexts)
-    (answers : ℕ → Option (List Item)) where
+    (answers : ℕ → Option Answer) where
   -- modules by their places
   abbrev places_of : List ℕ
   places_of = numbers_from zero (length ids)
@@ -176,9 +176,9 @@ module _ (p q : Program) (ids : List ℕ) (g : Modules) (places : IsByPlaces p q
         known-right p q ids g places known its_moved linking meta count linked plan planned hooks
         context answers orders items made apart locals
 
-    tidy : tidied (joined items) ≡ joined items
-    tidy =
-        joined-tidied q hooks places_of context answers its_sound its_plan items
+    tidy : AreFresh answers → tidied (joined items) ≡ joined items
+    tidy are_fresh =
+        joined-tidied q hooks places_of context answers its_sound are_fresh its_plan items
         (λ cause there. (laid.due cause).0 there) laid.made
 
     undoubled : IsUndoubled (joined items)
@@ -192,11 +192,11 @@ module _ (p q : Program) (ids : List ℕ) (g : Modules) (places : IsByPlaces p q
         (all-fit q hooks places_of context answers its_plan items notes.noted notes.each)
 
     -- THE END of a bundle
-    pub made-ended : (settings : Settings) (after : List Item) →
+    pub made-ended : AreFresh answers → (settings : Settings) (after : List Item) →
         IsNamedAtOnce settings.renames (joined items) after → IsEnded settings p hooks after
-    made-ended settings after named =
-        ends settings p hooks (map (cause_at ids) its_plan) (joined items) made-right tidy after
-        named keyless (λ renames. undoubled)
+    made-ended are_fresh settings after named =
+        ends settings p hooks (map (cause_at ids) its_plan) (joined items) made-right
+        (tidy are_fresh) after named keyless (λ renames. undoubled)
 
     -- Where it is one function's call.
 

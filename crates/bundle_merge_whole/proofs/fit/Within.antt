@@ -84,7 +84,7 @@ pub record IsName (items : List Item) : Type 0 where
   pub role : Role
   pub is : items ≡ h.Ident inner sym ctxt role ∷ []
 
-no_node : (head : Head) (names : Role) → takes head (AnIdent names) ≡ true → ⊥
+pub no_node : (head : Head) (names : Role) → takes head (AnIdent names) ≡ true → ⊥
 no_node h.Module names is = false≢true is
 no_node _ names is = false≢true is
 
@@ -94,7 +94,7 @@ is_name names (over e fit) = absurd (true≢false e)
 is_name names (a_name {x = x} {ctxt = t} {role = role} it fit) = record { inner = 0; sym = x; ctxt = t; role = role; is = ap (λ l. h.Ident 0 x t role ∷ l) (ends fit) }
 is_name names (a_node {head = hd} it in_it fit) = absurd (no_node hd names it)
 
-no_lone : (role names : Role) → takes_name role (ABindingIdent names) ≡ true → ⊥
+pub no_lone : (role names : Role) → takes_name role (ABindingIdent names) ≡ true → ⊥
 no_lone r.Binding names is = false≢true is
 no_lone r.Reference names is = false≢true is
 no_lone r.Word names is = false≢true is

@@ -21,7 +21,7 @@ use Rattle.bundle_merge_meaning.specs.loaded.Turned.{Turned}
 use Rattle.bundle_merge_meaning.specs.loaded.Loaded.{module_declared, module_names, IsLoaded}
 use Rattle.bundle_merge_meaning.specs.loaded.Contexts.{GivesLocal}
 use Rattle.bundle_merge_meaning.proofs.loaded.Noted.{IsStrange}
-use Rattle.bundle_merge_whole.specs.made.Given.{Contexts, TopOf, InsideOf, NameOf, numbers_in}
+use Rattle.bundle_merge_whole.specs.made.Given.{Answer, Contexts, TopOf, InsideOf, NameOf, numbers_in}
 use Rattle.bundle_merge_whole.specs.made.Alone.{IsHolder, TellApart}
 use Rattle.bundle_merge_whole.specs.made.Alone as a
 
@@ -44,7 +44,7 @@ denotes_listed xs i o d at is =
     denotation-at Cjs (tree_of_items xs) i o (ap (λ os. slice_get os i) (item-occurrences xs) ∙ at)
     ∙ ap Some is
 
-module _ (p : Program) (context : Contexts) (answers : ℕ → Option (List Item))
+module _ (p : Program) (context : Contexts) (answers : ℕ → Option Answer)
     (apart : TellApart p answers context) where
   -- a context that none of the module's own bindings has
   pub record IsForeign (c n : ℕ) : Type 0 where

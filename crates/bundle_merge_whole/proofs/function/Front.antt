@@ -21,7 +21,7 @@ use Rattle.bundle_merge_meaning.specs.loaded.Contexts.{parameter_entry}
 use Rattle.bundle_merge_meaning.proofs.loaded.Noted.{IsStrange, strange-outside, strange-own}
 use Rattle.bundle_merge_whole.specs.composed.Noted.{first_spot}
 use Rattle.bundle_merge_whole.specs.composed.Functions.{function_names}
-use Rattle.bundle_merge_whole.specs.made.Given.{Contexts, TopOf, NameOf, numbers_in, ident_of_label}
+use Rattle.bundle_merge_whole.specs.made.Given.{Answer, Contexts, TopOf, NameOf, numbers_in, ident_of_label}
 use Rattle.bundle_merge_whole.specs.made.Alone.{IsTopLabel, TellApart, FrontAlone}
 use Rattle.bundle_merge_whole.specs.made.Alone as a
 use Rattle.bundle_merge_whole.specs.function.Calls.{IsLoadName}
@@ -35,7 +35,7 @@ outside_so n (Bound Top k) is = refl
 outside_so n (Bound Wrapper k) is = refl
 outside_so n (Global z) is = refl
 
-module _ (p : Program) (list : List ℕ) (context : Contexts) (answers : ℕ → Option (List Item))
+module _ (p : Program) (list : List ℕ) (context : Contexts) (answers : ℕ → Option Answer)
     (apart : TellApart p answers context) (c : ℕ) (reached : IsReached p c)
     (common : IsCommonJs p c) {xs ys : List Item} (tree_is : tree_of p c ≡ tree_of_items xs)
     (w : Turned (IsLoadName p list context) zero xs ys) where

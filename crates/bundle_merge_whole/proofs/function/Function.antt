@@ -32,7 +32,7 @@ use Rattle.bundle_merge_whole.specs.composed.Functions.{IsOfForm, function_form,
 use Rattle.bundle_merge_whole.proofs.fit.Facts.{one_listed}
 use Rattle.bundle_merge_whole.proofs.fit.Parts.{beside}
 use Rattle.bundle_merge_meaning.proofs.noted.Listing.{listed_nodes}
-use Rattle.bundle_merge_whole.specs.made.Given.{Contexts, TopOf, numbers_in, ident_of_label}
+use Rattle.bundle_merge_whole.specs.made.Given.{Answer, Contexts, TopOf, numbers_in, ident_of_label}
 use Rattle.bundle_merge_whole.specs.made.Made.{IsStatedAs, IsMade}
 use Rattle.bundle_merge_whole.specs.made.Made as made
 use Rattle.bundle_merge_whole.specs.made.Told.{IsTold}
@@ -53,7 +53,7 @@ use Rattle.bundle_merge_whole.proofs.function.Declares.{load_declares, declares_
 use Rattle.bundle_merge_whole.proofs.function.Front.{are_strange, front-alone}
 
 module _ (p : Program) (hooks : Hooks) (list : List ℕ) (context : Contexts)
-    (answers : ℕ → Option (List Item)) (apart : TellApart p answers context) (c : ℕ)
+    (answers : ℕ → Option Answer) (apart : TellApart p answers context) (c : ℕ)
     (reached : IsReached p c) (common : IsCommonJs p c) where
   -- where the statements of the module are laid out
   laid-function : (pieces : List (List Item)) → AllByRecursion IsOwnPart pieces →
@@ -167,7 +167,7 @@ module _ (p : Program) (hooks : Hooks) (list : List ℕ) (context : Contexts)
 
 -- THE LOAD FUNCTION
 pub function-alone : (p : Program) (hooks : Hooks) (list : List ℕ) (context : Contexts)
-    (answers : ℕ → Option (List Item)) (c : ℕ) → AreSound p list → TellApart p answers context →
+    (answers : ℕ → Option Answer) (c : ℕ) → AreSound p list → TellApart p answers context →
     IsDue p AsModule (Defines c) → (bodies : List (List Item)) →
     AllZip (λ statement made. IsStatedAs p list context c Cjs statement made)
     (own_statements (tree_of p c)) bodies →
@@ -204,7 +204,7 @@ function-alone p hooks list context answers c sound apart
 
 -- AS IT IS MADE: where it is told of each statement of a module what its names mean
 pub function-made : (p : Program) (hooks : Hooks) (list : List ℕ) (context : Contexts)
-    (answers : ℕ → Option (List Item)) (c : ℕ) (item : List Item) → AreSound p list →
+    (answers : ℕ → Option Answer) (c : ℕ) (item : List Item) → AreSound p list →
     TellApart p answers context → IsDue p AsModule (Defines c) →
     ((m : ℕ) (kind : ModuleKind) (statement : List Element) (made : List Item) → IsReached p m →
     HasKind p m kind → Contains (own_statements (tree_of p m)) statement →

@@ -39,7 +39,7 @@ use Rattle.bundle_merge_meaning.proofs.loaded.Taking.{taken-by-es}
 use Rattle.bundle_merge_meaning.proofs.loaded.Parameters.{tells-apart}
 use Rattle.bundle_merge_whole.proofs.called.Seated.{can-be-called}
 use Rattle.bundle_merge_whole.proofs.fit.Within.{are_in}
-use Rattle.bundle_merge_whole.specs.made.Given.{Contexts, TopOf, NameOf, numbers_in, ident_of_label}
+use Rattle.bundle_merge_whole.specs.made.Given.{Answer, Contexts, TopOf, NameOf, numbers_in, ident_of_label}
 use Rattle.bundle_merge_whole.specs.made.Alone.{IsHolder, TellApart}
 use Rattle.bundle_merge_whole.specs.function.Calls.{IsLoadName}
 use Rattle.bundle_merge_whole.specs.function.Pieces.{NameFor, kept_name, load_name, AllNamed, Laid, all_laid, passed, laid}
@@ -146,7 +146,7 @@ module _ (p : Program) (list : List ℕ) (context : Contexts) (c : ℕ) (ds : Li
       (laid_fit rest)))
 
 -- THE MODULE
-pub loaded : (p : Program) (list : List ℕ) (context : Contexts) (answers : ℕ → Option (List Item))
+pub loaded : (p : Program) (list : List ℕ) (context : Contexts) (answers : ℕ → Option Answer)
     (apart : TellApart p answers context) (c : ℕ) (reached : IsReached p c)
     (common : IsCommonJs p c) (parts : List (List Item)) →
     AllByRecursion IsOwnPart parts →

@@ -47,7 +47,7 @@ use Rattle.bundle_merge_meaning.proofs.loaded.Stating.{IsPart}
 use Rattle.bundle_merge_meaning.proofs.joined.Homes.{home-in}
 use Rattle.bundle_merge_meaning.proofs.joined.Bindings.{scope_in, bound-global}
 use Rattle.bundle_merge_meaning.proofs.joined.Notes.{find-has}
-use Rattle.bundle_merge_whole.specs.made.Given.{Contexts, InsideOf, numbers_in}
+use Rattle.bundle_merge_whole.specs.made.Given.{Answer, Contexts, InsideOf, numbers_in}
 use Rattle.bundle_merge_whole.specs.made.Alone.{IsTopLabel, IsHolder, TellApart, NameAlone}
 use Rattle.bundle_merge_whole.specs.made.Alone as a
 use Rattle.bundle_merge_whole.specs.function.Calls.{IsLoadName}
@@ -112,7 +112,7 @@ load_top p c reached common = record {
   declares = a.adds a.defines;
 }
 
-module _ (p : Program) (list : List ℕ) (context : Contexts) (answers : ℕ → Option (List Item))
+module _ (p : Program) (list : List ℕ) (context : Contexts) (answers : ℕ → Option Answer)
     (apart : TellApart p answers context) (c : ℕ) (reached : IsReached p c)
     (common : IsCommonJs p c) {xs ys : List Item} (tree_is : tree_of p c ≡ tree_of_items xs)
     (whole : Turned (IsLoadName p list context) zero xs ys) (load helper m e : Ident)

@@ -31,7 +31,7 @@ use Rattle.bundle_merge_whole.proofs.composed.Counting.{nodes_in}
 use Rattle.bundle_merge_whole.proofs.composed.Naming.{node-count}
 use Rattle.bundle_merge_whole.proofs.fit.Parts.{beside}
 use Rattle.bundle_merge_whole.proofs.fit.Facts.{fit_nodes}
-use Rattle.bundle_merge_whole.specs.made.Given.{Contexts, numbers_in}
+use Rattle.bundle_merge_whole.specs.made.Given.{Answer, Contexts, numbers_in}
 use Rattle.bundle_merge_whole.specs.made.Alone.{TellApart, StatementsAlone, StatementsCalled}
 use Rattle.bundle_merge_whole.specs.function.Calls.{IsLoadName}
 use Rattle.bundle_merge_whole.specs.function.Pieces.{AllNamed, Laid, all_laid, passed, laid}
@@ -93,7 +93,7 @@ all_single [] fits = tt
 all_single (body ∷ bodies) fits = (beside fits.0, all_single bodies fits.1)
 
 -- THE STATEMENTS
-module _ (p : Program) (list : List ℕ) (context : Contexts) (answers : ℕ → Option (List Item))
+module _ (p : Program) (list : List ℕ) (context : Contexts) (answers : ℕ → Option Answer)
     (apart : TellApart p answers context) (c : ℕ) (reached : IsReached p c)
     (common : IsCommonJs p c) {xs ys : List Item} (tree_is : tree_of p c ≡ tree_of_items xs)
     (w : Turned (IsLoadName p list context) zero xs ys) (load helper m e : Ident)

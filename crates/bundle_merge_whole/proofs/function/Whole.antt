@@ -4,14 +4,14 @@ use Rattle.std.proofs.Common.{ℕ, List, Option}
 use Rattle.bundle_tree_piece.specs.Item.{Item}
 use Rattle.bundle_rules.specs.Program.{Program}
 use Rattle.bundle_rules.specs.Bundle.{Defines, Hooks, AsModule, IsDue}
-use Rattle.bundle_merge_whole.specs.made.Given.{Contexts}
+use Rattle.bundle_merge_whole.specs.made.Given.{Answer, Contexts}
 use Rattle.bundle_merge_whole.specs.made.Made.{IsMade}
 use Rattle.bundle_merge_whole.specs.made.Alone.{AreSound, TellApart, IsAlone}
 use Rattle.bundle_merge_whole.proofs.function.Function.{function-made}
 use Rattle.bundle_merge_whole.proofs.told.Whole.{told}
 
 pub defined-alone : (p : Program) (hooks : Hooks) (list : List ℕ) (context : Contexts)
-    (answers : ℕ → Option (List Item)) (c : ℕ) (item : List Item) → AreSound p list →
+    (answers : ℕ → Option Answer) (c : ℕ) (item : List Item) → AreSound p list →
     TellApart p answers context → IsDue p AsModule (Defines c) →
     IsMade p hooks list context answers (Defines c) item →
     IsAlone p hooks list context answers (Defines c) item

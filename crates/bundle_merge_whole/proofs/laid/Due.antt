@@ -15,7 +15,7 @@ use Rattle.bundle_merge_whole.proofs.planned.RequestLemmas.{list-reached}
 use Rattle.bundle_merge_whole.proofs.planned.OrderLemmas.{shares-flip, shares-join}
 use Rattle.bundle_merge_whole.proofs.planned.CauseLemmas.{Chosen-in}
 use Rattle.bundle_merge_whole.proofs.planned.PlanLemmas.{back-chosen, block-chosen, front-chosen}
-use Rattle.bundle_merge_whole.specs.made.Given.{Contexts}
+use Rattle.bundle_merge_whole.specs.made.Given.{Answer, Contexts}
 use Rattle.bundle_merge_whole.specs.made.Made.{IsMade, IsBlockMade, AreBlocksMade, none, more, AreMade}
 use Rattle.bundle_merge_whole.proofs.laid.Lists.{zip-join, zip-picked}
 
@@ -87,7 +87,7 @@ module _ (p : Program) (form : Form) (d : Decided) (its : AreDecided p form d) w
 
 -- ---- what is made
 module _ (p : Program) (hooks : Hooks) (list : List ℕ) (context : Contexts)
-    (answers : ℕ → Option (List Item)) (d : Decided) where
+    (answers : ℕ → Option Answer) (d : Decided) where
   pub block-made : (block : DecidedBlock) (order : List ℕ) (placed : List (List Item)) →
       IsBlockMade p hooks list context answers d block order placed →
       AllZip (IsMade p hooks list context answers) (placed_plan d block order) placed

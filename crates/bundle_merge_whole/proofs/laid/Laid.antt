@@ -11,7 +11,7 @@ use Rattle.bundle_rules.specs.Bundle.{Cause, AsModule, Hooks, IsDue, IsLaidOut}
 use Rattle.bundle_merge_meaning.specs.joined.Joined.{joined}
 use Rattle.bundle_merge_whole.specs.composed.Noted.{pairing_of}
 use Rattle.bundle_merge_whole.specs.planned.Decided.{Decided, AreDecided, plan_of}
-use Rattle.bundle_merge_whole.specs.made.Given.{Contexts}
+use Rattle.bundle_merge_whole.specs.made.Given.{Answer, Contexts}
 use Rattle.bundle_merge_whole.specs.made.Made.{IsMade, AreMade}
 use Rattle.bundle_merge_whole.specs.made.Alone.{TellApart, IsAlone}
 use Rattle.bundle_merge_whole.proofs.laid.Lists.{zip-through}
@@ -22,7 +22,7 @@ use Rattle.bundle_merge_whole.proofs.laid.Placed.{items-laid, items-due, items-o
 -- the items are made for the causes of the plan, each right by itself; what is due stands, and
 -- nothing else does, each once; and the items are laid out, whatever their bindings stand for
 pub record AreLaid (p : Program) (hooks : Hooks) (list : List ℕ) (context : Contexts)
-    (answers : ℕ → Option (List Item)) (plan : List Cause) (items : List (List Item)) : Type 0 where
+    (answers : ℕ → Option Answer) (plan : List Cause) (items : List (List Item)) : Type 0 where
   pub made : AllZip (IsMade p hooks list context answers) plan items
   pub alone : AllZip (IsAlone p hooks list context answers) plan items
   pub due : (cause : Cause) → Contains plan cause ↔ IsDue p AsModule cause
@@ -34,7 +34,7 @@ pub record AreLaid (p : Program) (hooks : Hooks) (list : List ℕ) (context : Co
       IsLaidOut p AsModule ByContext (joined items) (pairing_of labels items plan)
 
 pub are-laid : (p : Program) (hooks : Hooks) (list : List ℕ) (context : Contexts)
-    (answers : ℕ → Option (List Item)) (d : Decided) (orders : List (List ℕ))
+    (answers : ℕ → Option Answer) (d : Decided) (orders : List (List ℕ))
     (items : List (List Item)) → AreMade p hooks list context answers d orders items →
     AreDecided p AsModule d → TellApart p answers context →
     ((cause : Cause) (item : List Item) → IsDue p AsModule cause →

@@ -25,7 +25,7 @@ use Rattle.bundle_merge_whole.proofs.planned.LayoutLemmas.{laid-out}
 use Rattle.bundle_merge_whole.proofs.planned.DueLemmas.{laid-due, laid-once}
 use Rattle.bundle_merge_whole.proofs.sorted.GoodLemmas.{block-good}
 use Rattle.bundle_link_reached.proofs.ElementLemmas.{later}
-use Rattle.bundle_merge_whole.specs.made.Given.{Contexts}
+use Rattle.bundle_merge_whole.specs.made.Given.{Answer, Contexts}
 use Rattle.bundle_merge_whole.specs.made.Made.{IsMade, IsBlockMade, AreBlocksMade, none, more, AreMade}
 use Rattle.bundle_merge_whole.proofs.laid.Lists.{all-second, all-to, picked-reads, part-at, got}
 use Rattle.bundle_merge_whole.proofs.laid.Ready.{IsReadyItem, binds-ready, no-object}
@@ -53,7 +53,7 @@ tops-read merged (k ∷ order) (item ∷ items) n all =
 
 -- ---- blocks
 module _ (p : Program) (hooks : Hooks) (list : List ℕ) (context : Contexts)
-    (answers : ℕ → Option (List Item)) (d : Decided) where
+    (answers : ℕ → Option Answer) (d : Decided) where
   -- the items of blocks before any is sorted
   pub befores : {blocks : List DecidedBlock} {orders : List (List ℕ)} {middle : List (List Item)} →
       AreBlocksMade p hooks list context answers d blocks orders middle → List (List Item)
@@ -213,13 +213,13 @@ module _ (p : Program) (hooks : Hooks) (list : List ℕ) (context : Contexts)
 
 -- ---- the whole
 -- of each cause that is due, what is made for it is ready
-abbrev pub MakesReady : Program → Hooks → List ℕ → Contexts → (ℕ → Option (List Item)) → Type 0
+abbrev pub MakesReady : Program → Hooks → List ℕ → Contexts → (ℕ → Option Answer) → Type 0
 MakesReady p hooks list context answers =
     (cause : Cause) (item : List Item) → IsDue p AsModule cause →
     IsMade p hooks list context answers cause item → IsReadyItem item
 
 module _ (p : Program) (hooks : Hooks) (list : List ℕ) (context : Contexts)
-    (answers : ℕ → Option (List Item)) (d : Decided) (orders : List (List ℕ))
+    (answers : ℕ → Option Answer) (d : Decided) (orders : List (List ℕ))
     (items : List (List Item)) (made : AreMade p hooks list context answers d orders items)
     (decided : AreDecided p AsModule d) (makes : MakesReady p hooks list context answers) where
   blocks-ready : AreReady p hooks list context answers d d.blocks

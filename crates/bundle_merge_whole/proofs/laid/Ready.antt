@@ -23,7 +23,7 @@ use Rattle.bundle_merge_whole.proofs.fit.Programs.{joined_ways}
 use Rattle.bundle_scope_renamed.specs.fit.Sorts.{AnItem}
 use Rattle.bundle_scope_renamed.specs.fit.Fits.{IsFit}
 use Rattle.bundle_scope_renamed.proofs.fit.Rows.{last}
-use Rattle.bundle_merge_whole.specs.made.Given.{Contexts, NameOf, ident_of_label}
+use Rattle.bundle_merge_whole.specs.made.Given.{Answer, Contexts, NameOf, ident_of_label}
 use Rattle.bundle_merge_whole.specs.made.Alone as a
 use Rattle.bundle_merge_whole.specs.made.Alone.{AddsLabel, DeclaresLabel, TellApart, IsAlone}
 
@@ -55,7 +55,7 @@ added-context p list context a.holds_namespace = refl
 
 -- the context of what an item declares is above that of globals
 label-above : (p : Program) (list : List ℕ) (context : Contexts)
-    (answers : ℕ → Option (List Item)) →
+    (answers : ℕ → Option Answer) →
     TellApart p answers context → {cause : Cause} {l : Label} → IsDue p AsModule cause →
     DeclaresLabel p cause l → 1 < (ident_of_label p list context l).1
 label-above p list context answers apart due (a.own statement e at there declares) =
@@ -78,7 +78,7 @@ pub record IsReadyItem (item : List Item) : Type 0 where
   pub object : is_written_in (own_declared item) Top (name_of ByContext (codes "Object") 1) ≡ false
 
 pub ready-item : (p : Program) (hooks : Hooks) (list : List ℕ) (context : Contexts)
-    (answers : ℕ → Option (List Item)) → TellApart p answers context → (cause : Cause)
+    (answers : ℕ → Option Answer) → TellApart p answers context → (cause : Cause)
     (item : List Item) → IsDue p AsModule cause →
     IsAlone p hooks list context answers cause item → IsReadyItem item
 ready-item p hooks list context answers apart cause item due alone = record {

@@ -18,7 +18,7 @@ use Rattle.bundle_merge_whole.proofs.composed.Whole.{merged-bundle, merged-ready
 use Rattle.bundle_merge_whole.proofs.finished.Bundles.{IsMergedRight}
 use Rattle.bundle_merge_whole.proofs.fit.Facts.{one_listed}
 use Rattle.bundle_merge_whole.proofs.fit.Programs.{joined_fit}
-use Rattle.bundle_merge_whole.specs.made.Given.{Contexts, TopOf}
+use Rattle.bundle_merge_whole.specs.made.Given.{Answer, Contexts, TopOf}
 use Rattle.bundle_merge_whole.specs.made.Alone.{AreSound, TellApart, IsAlone}
 use Rattle.bundle_merge_whole.specs.together.Together.{AreTogether}
 use Rattle.bundle_merge_whole.specs.together.Table.{HasNotes, HasOneEntries, table_of}
@@ -41,7 +41,7 @@ pub record IsOwed (local : ℕ → ℕ) (p : Program) (hooks : Hooks) (plan : Li
   pub reached : AreLabelsReached p owed.whole.ready.still.labels
 
 module _ (p : Program) (hooks : Hooks) (list : List ℕ) (context : Contexts)
-    (answers : ℕ → Option (List Item)) (plan : List Cause) (items : List (List Item))
+    (answers : ℕ → Option Answer) (plan : List Cause) (items : List (List Item))
     (its : AreTogether p hooks list context answers plan items)
     (entries : HasOneEntries p context) (notes : HasNotes p hooks list context answers plan items)
     (labels : Labelling)
@@ -73,7 +73,7 @@ module _ (p : Program) (hooks : Hooks) (list : List ℕ) (context : Contexts)
 
 -- what is made of a program is what a merge owes for it, where a module has this context
 pub made-by : (p : Program) (hooks : Hooks) (list : List ℕ) (context : Contexts)
-    (answers : ℕ → Option (List Item)) (plan : List Cause) (items : List (List Item)) →
+    (answers : ℕ → Option Answer) (plan : List Cause) (items : List (List Item)) →
     (sound : AreSound p list) → (apart : TellApart p answers context) →
     (alone : AllZip (IsAlone p hooks list context answers) plan items) →
     (due : (cause : Cause) → Contains plan cause ↔ IsDue p AsModule cause) →
@@ -92,7 +92,7 @@ made-by p hooks list context answers plan items sound apart alone due once local
 
 -- RIGHT for the program itself, where q has its modules by their places in the list
 pub made-moved : (p q : Program) (places : List ℕ) → AreMoved p q places → (hooks : Hooks)
-    (list : List ℕ) (context : Contexts) (answers : ℕ → Option (List Item)) (plan : List Cause)
+    (list : List ℕ) (context : Contexts) (answers : ℕ → Option Answer) (plan : List Cause)
     (items : List (List Item)) → (sound : AreSound q list) →
     (apart : TellApart q answers context) →
     (alone : AllZip (IsAlone q hooks list context answers) plan items) →

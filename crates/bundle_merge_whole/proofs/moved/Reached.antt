@@ -16,7 +16,7 @@ use Rattle.bundle_merge_meaning.specs.loaded.Contexts.{OwnEntry}
 use Rattle.bundle_merge_whole.specs.composed.Names.{labels_in}
 use Rattle.bundle_merge_whole.proofs.composed.Labels.{label-from}
 use Rattle.bundle_merge_whole.proofs.planned.RequestLemmas.{declared_leads, meant-reached}
-use Rattle.bundle_merge_whole.specs.made.Given.{Contexts, numbers_in}
+use Rattle.bundle_merge_whole.specs.made.Given.{Answer, Contexts, numbers_in}
 use Rattle.bundle_merge_whole.specs.made.Alone as a
 use Rattle.bundle_merge_whole.specs.made.Alone.{AddsLabel, DeclaresLabel, IsTopLabel}
 use Rattle.bundle_merge_whole.specs.together.Together.{AreTogether}
@@ -81,7 +81,7 @@ module _ (p : Program) where
 
 -- the labels that the table gives
 pub labels-reached : (p : Program) (hooks : Hooks) (list : List ℕ) (context : Contexts)
-    (answers : ℕ → Option (List Item)) (plan : List Cause) (items : List (List Item)) →
+    (answers : ℕ → Option Answer) (plan : List Cause) (items : List (List Item)) →
     (its : AreTogether p hooks list context answers plan items) →
     (notes : HasNotes p hooks list context answers plan items) →
     IsResolved Es (joined items) →

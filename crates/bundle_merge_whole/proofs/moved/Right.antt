@@ -10,7 +10,7 @@ use Rattle.bundle_merge_meaning.specs.joined.Joined.{joined}
 use Rattle.bundle_merge_whole.specs.planned.Decided.{Decided, AreDecided, plan_of, numbers_from}
 use Rattle.bundle_merge_whole.specs.planned.Placed.{id_at}
 use Rattle.bundle_merge_whole.proofs.finished.Bundles.{IsMergedRight}
-use Rattle.bundle_merge_whole.specs.made.Given.{Contexts, TopOf}
+use Rattle.bundle_merge_whole.specs.made.Given.{Answer, Contexts, TopOf}
 use Rattle.bundle_merge_whole.specs.made.Made.{IsMade, AreMade}
 use Rattle.bundle_merge_whole.specs.made.Alone.{AreSound, TellApart, IsAlone}
 use Rattle.bundle_merge_whole.specs.moved.Renumbered.{cause_at}
@@ -22,7 +22,7 @@ use Rattle.bundle_merge_whole.proofs.moved.Sound.{sound-moved}
 -- the items are those of q, whose modules are those of p by their places in the list of p
 module _ (p q : Program) (places : List ℕ) (its : AreMoved p q places) (sound : AreSound p places)
     (modules : AreModules q) (hooks : Hooks) (context : Contexts)
-    (answers : ℕ → Option (List Item)) where
+    (answers : ℕ → Option Answer) where
   abbrev list : List ℕ
   list = numbers_from zero (length places)
 

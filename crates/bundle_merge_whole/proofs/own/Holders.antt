@@ -3,7 +3,6 @@
 use Rattle.std.proofs.Common.{◌≡◌, ℕ, suc, ◌+◌, ◌-◌, List, Option, refl, ap, ◌∙◌, arith}
 use Rattle.std.specs.Prelude.{nat_lt, if◌then◌else◌}
 use Rattle.std.proofs.lemmas.Bool.{false_from_ne_true, leb-true}
-use Rattle.bundle_tree_piece.specs.Item.{Item}
 use Rattle.bundle_rules.specs.Nodes.{Text}
 use Rattle.bundle_rules.specs.Entries.{Taken}
 use Rattle.bundle_rules.specs.Program.{Program, IsReached}
@@ -12,7 +11,7 @@ use Rattle.bundle_rules.specs.Meaning.{Label}
 use Rattle.bundle_rules.specs.Bundle.{Cause, AsModule, IsDue}
 use Rattle.bundle_rules.specs.Bundle as u
 use Rattle.bundle_link_targets.specs.Meant.{ReadsOn, done, on, WordsMean}
-use Rattle.bundle_merge_whole.specs.made.Given.{Contexts, TopOf, InsideOf, NameOf, numbers_in, ident_of_label}
+use Rattle.bundle_merge_whole.specs.made.Given.{Answer, Contexts, TopOf, InsideOf, NameOf, numbers_in, ident_of_label}
 use Rattle.bundle_merge_whole.specs.made.Alone.{AreSound, AddsLabel, imports_name, imports_whole, helps, defines, loads, holds_meta, holds_namespace, DeclaresLabel, IsTopLabel, IsHolder, TellApart}
 use Rattle.bundle_merge_whole.specs.made.Alone as a
 
@@ -26,7 +25,7 @@ number-inside context m n x =
     ∙ (let same : n + 2 - 2 ≡ n = omega arith in ap (λ k. context (InsideOf m k)) same)
 
 -- the holder of a label's context
-pub data HoldsLabel (p : Program) (answers : ℕ → Option (List Item)) (context : Contexts)
+pub data HoldsLabel (p : Program) (answers : ℕ → Option Answer) (context : Contexts)
     (l : Label) (c : ℕ) : Type 0 where
   by_module : {m : ℕ} → IsReached p m → (IsCommonJs p m → ⊥) → c ≡ context (TopOf m) →
       HoldsLabel p answers context l c
@@ -43,7 +42,7 @@ added-context p list context (loads means) = refl
 added-context p list context holds_meta = refl
 added-context p list context holds_namespace = refl
 
-module _ (p : Program) (list : List ℕ) (context : Contexts) (answers : ℕ → Option (List Item))
+module _ (p : Program) (list : List ℕ) (context : Contexts) (answers : ℕ → Option Answer)
     (apart : TellApart p answers context) where
   pub label-holder : (l : Label) → IsTopLabel p l →
       HoldsLabel p answers context l (ident_of_label p list context l).1

@@ -53,7 +53,7 @@ use Rattle.bundle_merge_whole.specs.composed.Names.{told_inside}
 use Rattle.bundle_merge_whole.proofs.composed.Own.{told_of, own-noted}
 use Rattle.bundle_merge_whole.proofs.fit.Facts.{fit_nodes, one_own}
 use Rattle.bundle_merge_whole.proofs.fit.Parts.{beside as stands-beside}
-use Rattle.bundle_merge_whole.specs.made.Given.{Contexts, TopOf, InsideOf, ident_of_label}
+use Rattle.bundle_merge_whole.specs.made.Given.{Answer, Contexts, TopOf, InsideOf, ident_of_label}
 use Rattle.bundle_merge_whole.specs.made.Steps.{IsStep}
 use Rattle.bundle_merge_whole.specs.made.Made.{IsStatedAs, IsMade}
 use Rattle.bundle_merge_whole.specs.made.Made as makes
@@ -75,7 +75,7 @@ use Rattle.bundle_merge_whole.proofs.own.Naming.{NameMade, made_in, made_out, ma
 use Rattle.bundle_merge_whole.proofs.own.Setting as z
 
 module _ (p : Program) (hooks : Hooks) (list : List ℕ) (context : Contexts)
-    (answers : ℕ → Option (List Item)) (sound : AreSound p list)
+    (answers : ℕ → Option Answer) (sound : AreSound p list)
     (apart : TellApart p answers context) (m n : ℕ) (reached : IsReached p m)
     (es : IsCommonJs p m → ⊥) (due : IsDue p AsModule (Own m n)) (statement : List Element)
     (there : slice_get (own_statements (tree_of p m)) n ≡ Some statement) (item : List Item)
@@ -670,7 +670,7 @@ module _ (p : Program) (hooks : Hooks) (list : List ℕ) (context : Contexts)
 -- of the statement is so, and what is meant is declared at the top of the bundle or in the function
 -- of a CommonJS module
 pub own-alone : (p : Program) (hooks : Hooks) (list : List ℕ) (context : Contexts)
-    (answers : ℕ → Option (List Item)) → AreSound p list → TellApart p answers context →
+    (answers : ℕ → Option Answer) → AreSound p list → TellApart p answers context →
     (m n : ℕ) → IsDue p AsModule (Own m n) → (statement : List Element) →
     slice_get (own_statements (tree_of p m)) n ≡ Some statement → (item : List Item) →
     (its : IsStatedAs p list context m Es statement item) →
@@ -687,7 +687,7 @@ own-alone p hooks list context answers sound apart m n due statement there item 
 
 -- the same of what is made for the cause
 pub own-made : (p : Program) (hooks : Hooks) (list : List ℕ) (context : Contexts)
-    (answers : ℕ → Option (List Item)) → AreSound p list → TellApart p answers context →
+    (answers : ℕ → Option Answer) → AreSound p list → TellApart p answers context →
     (m n : ℕ) (item : List Item) → IsDue p AsModule (Own m n) →
     ((m : ℕ) (kind : ModuleKind) (statement : List Element) (made : List Item) → IsReached p m →
     HasKind p m kind → Contains (own_statements (tree_of p m)) statement →

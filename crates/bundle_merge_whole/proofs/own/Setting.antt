@@ -44,7 +44,7 @@ use Rattle.bundle_link_targets.specs.Meant.{by_use}
 use Rattle.bundle_link_targets.proofs.ListLemmas.{map-on, filter-on}
 use Rattle.bundle_link_targets.proofs.MeantLemmas.{taken-meant}
 use Rattle.bundle_merge_whole.proofs.fit.Facts.{one_ways}
-use Rattle.bundle_merge_whole.specs.made.Given.{Contexts, Holder, TopOf, InsideOf, NameOf, numbers_in, ident_of_label, default_ident}
+use Rattle.bundle_merge_whole.specs.made.Given.{Answer, Contexts, Holder, TopOf, InsideOf, NameOf, numbers_in, ident_of_label, default_ident}
 use Rattle.bundle_merge_whole.specs.made.Steps.{IsStep, keeps, uses, calls, IsUsed, occurrences_in, meta_ident}
 use Rattle.bundle_merge_whole.specs.made.Made.{IsStatedAs}
 use Rattle.bundle_merge_whole.specs.made.Alone.{AreSound, TellApart, IsHolder, IsTopLabel, AddsLabel, holds_meta, DeclaresLabel, DeclaresTop}
@@ -97,7 +97,7 @@ zip-cover spells (o ∷ gs) (step ∷ steps) all = (
     by true e = refl
     by false e = absurd (false≢true (sym e))
 
-module _ (p : Program) (list : List ℕ) (context : Contexts) (answers : ℕ → Option (List Item))
+module _ (p : Program) (list : List ℕ) (context : Contexts) (answers : ℕ → Option Answer)
     (sound : AreSound p list) (apart : TellApart p answers context) (m : ℕ)
     (reached : IsReached p m) (es : IsCommonJs p m → ⊥) (statement : List Element)
     (item : List Item) (its : IsStatedAs p list context m Es statement item)

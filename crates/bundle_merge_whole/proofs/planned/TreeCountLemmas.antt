@@ -4,6 +4,7 @@ use Rattle.std.proofs.Common.{◌≡◌, ◌↔◌, ℕ, ◌+◌, ◌<◌, ◌�
 use Rattle.std.specs.Prelude.{IsTrue}
 use Rattle.std.specs.List.{list_any}
 use Rattle.std.proofs.lemmas.Bool.{false≢true, and_parts}
+use Rattle.bundle_tree_leaf.specs.declared.kind.ExportMetadata.{ExportMetadata}
 use Rattle.bundle_tree_piece.specs.Item.{Item}
 use Rattle.bundle_rules.specs.Scopes.{Es, Cjs}
 use Rattle.bundle_rules.specs.Entries.{has_import_meta}
@@ -13,6 +14,7 @@ use Rattle.bundle_rules.specs.Meaning.{is_es, is_common_js}
 use Rattle.bundle_rules.specs.Bundle.{Hooks, MayHold, form_of}
 use Rattle.bundle_rules.specs.Faults as f
 use Rattle.bundle_rules.specs.Faults.{TreesCountTo, NeedsTooManyContexts, tree_count, properties_count}
+use Rattle.bundle_merge_whole.specs.made.Given.{Answer, Fresh, Written}
 use Rattle.bundle_merge_whole.specs.planned.Decided.{Decided, AreDecided}
 use Rattle.bundle_merge_whole.specs.planned.Counted.{answer_count, count_if, injected_labels, sum_of, tree_total}
 use Rattle.bundle_link_reached.proofs.ElementLemmas.{later}
@@ -25,32 +27,40 @@ not-true true e = absurd (false≢true e)
 not-true false e = refl
 
 -- what the hook answered for a module that has `import.meta`
-pub record AreAnswers (p : Program) (hooks : Hooks) (answers : ℕ → Option (List Item)) : Type
+pub record AreAnswers (p : Program) (hooks : Hooks) (answers : ℕ → Option Answer) : Type
     0 where
-  pub asked : (m : ℕ) (properties : List Item) → answers m ≡ Some properties →
+  pub asked : (m : ℕ) (properties : List Item) → answers m ≡ Some (Fresh properties) →
       (has_import_meta (tree_of p m) ≡ true) × MayHold p hooks m properties
+  pub written : (m ctxt : ℕ) (notes : ExportMetadata) (properties : List Item) →
+      answers m ≡ Some (Written ctxt notes properties) → has_import_meta (tree_of p m) ≡ true
 
-module _ (p : Program) (hooks : Hooks) (is_cjs : ℕ → Bool) (answers : ℕ → Option (List Item))
+module _ (p : Program) (hooks : Hooks) (is_cjs : ℕ → Bool) (answers : ℕ → Option Answer)
     (its : AreAnswers p hooks answers) where
   one-counts : (m : ℕ) (rest : List ℕ) (more : ℕ) → (IsTrue (is_cjs m) ↔ IsCommonJs p m) →
       TreesCountTo p hooks rest more →
       TreesCountTo p hooks (m ∷ rest) (tree_total p is_cjs answers m + more)
   one-counts m rest more says trees = by (is_cjs m) says
     where
-      es-by : (IsCommonJs p m → ⊥) → (t : Bool) (o : Option (List Item)) →
+      es-by : (IsCommonJs p m → ⊥) → (t : Bool) (o : Option Answer) →
           has_import_meta (tree_of p m) ≡ t → answers m ≡ o →
           TreesCountTo p hooks (m ∷ rest) (tree_count Es (tree_of p m) + answer_count o + more)
       es-by es false None e g =
           let same : tree_count Es (tree_of p m) + more ≡ tree_count Es (tree_of p m) + 0 + more =
           omega arith in
           subst (TreesCountTo p hooks (m ∷ rest)) same (f.plain (is_es es) e trees)
-      es-by es false (Some properties) e g =
+      es-by es false (Some (Written ctxt notes properties)) e g =
+          absurd (false≢true (sym e ∙ its.written m ctxt notes properties g))
+      es-by es false (Some (Fresh properties)) e g =
           absurd (false≢true (sym e ∙ (its.asked m properties g).0))
       es-by es true None e g =
           let same : tree_count Es (tree_of p m) + more ≡ tree_count Es (tree_of p m) + 0 + more =
           omega arith in
           subst (TreesCountTo p hooks (m ∷ rest)) same (f.unanswered e trees)
-      es-by es true (Some properties) e g =
+      es-by es true (Some (Written ctxt notes properties)) e g =
+          let same : tree_count Es (tree_of p m) + more ≡ tree_count Es (tree_of p m) + 0 + more =
+          omega arith in
+          subst (TreesCountTo p hooks (m ∷ rest)) same (f.unanswered e trees)
+      es-by es true (Some (Fresh properties)) e g =
           let same : tree_count Es (tree_of p m) + (properties_count properties + more) ≡ tree_count
           Es (tree_of p m) + properties_count properties + more =
           omega arith in
@@ -81,7 +91,7 @@ module _ (p : Program) (hooks : Hooks) (is_cjs : ℕ → Bool) (answers : ℕ �
 -- where so many contexts are taken for trees and so many for labels, and the next is past the last
 -- one, contexts may run out
 pub lacks-contexts : (p : Program) (hooks : Hooks) (d : Decided)
-    (answers : ℕ → Option (List Item)) → AreDecided p (form_of p.settings) d →
+    (answers : ℕ → Option Answer) → AreDecided p (form_of p.settings) d →
     AreAnswers p hooks answers → (next of_trees of_labels : ℕ) →
     of_trees ≤ sum_of (tree_total p d.is_common_js answers) d.list →
     of_labels ≤ length (injected_labels d) + count_if (list_any d.is_common_js d.list) 2 →

@@ -18,7 +18,7 @@ use Rattle.bundle_rules.specs.Statements.{Element, own_statements}
 use Rattle.bundle_scope_renamed.specs.fit.Sorts.{AModule}
 use Rattle.bundle_scope_renamed.specs.fit.Fits.{IsFit}
 use Rattle.bundle_merge_meaning.specs.joined.Joined.{joined}
-use Rattle.bundle_merge_whole.specs.made.Given.{Contexts, HelperParameter, HelperVariable, TopOf, ident_of_label}
+use Rattle.bundle_merge_whole.specs.made.Given.{Answer, AreFresh, Contexts, HelperParameter, HelperVariable, TopOf, ident_of_label}
 use Rattle.bundle_merge_whole.specs.made.Made.{IsStatedAs, IsAnsweredAs, named_idents, linked_idents, IsMade}
 use Rattle.bundle_merge_whole.specs.made.Made as made
 use Rattle.bundle_merge_whole.specs.made.Alone.{AreSound}
@@ -60,7 +60,7 @@ answer_tidy p hooks context m properties made its =
     (clean_before its.given (subst AreClean (sym its.is_given) (are_clean its.fit refl)))
 
 module _ (p : Program) (hooks : Hooks) (list : List ℕ) (context : Contexts)
-    (answers : ℕ → Option (List Item)) (sound : AreSound p list) where
+    (answers : ℕ → Option Answer) (sound : AreSound p list) (are_fresh : AreFresh answers) where
   -- EACH ITEM
   pub made_tidy : (cause : Cause) (item : List Item) → IsDue p AsModule cause →
       IsMade p hooks list context answers cause item → AreTidy item
@@ -93,6 +93,8 @@ module _ (p : Program) (hooks : Hooks) (list : List ℕ) (context : Contexts)
       subst AreTidy (sym is)
       (tidy_constant (ident_of_label p list context (Meta m)) (node 1 h.ObjectLit body)
       (tidy_node 1 h.ObjectLit body refl (answer_tidy p hooks context m properties body its)))
+  made_tidy cause item its_due (made.holds_written {m = m} its answered written) =
+      absurd (are_fresh m its.ctxt its.meta its.properties answered)
   made_tidy cause item its_due (made.holds_namespace {d = d} pairs are is) =
       subst AreTidy (sym is)
       (tidy_namespace (ident_of_label p list context (Of (Namespace d)))

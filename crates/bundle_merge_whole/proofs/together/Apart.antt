@@ -25,7 +25,7 @@ use Rattle.bundle_merge_meaning.specs.walked.Renaming.{Told}
 use Rattle.bundle_merge_whole.specs.composed.Noted.{Noted, AsFunction, function_ends, IsNotedFor, as_whole, as_function, first_spot}
 use Rattle.bundle_merge_whole.proofs.composed.Contexts.{own-symbol}
 use Rattle.bundle_merge_whole.proofs.composed.ListFacts.{all-in, as-long, zip-at, zip-length}
-use Rattle.bundle_merge_whole.specs.made.Given.{Contexts}
+use Rattle.bundle_merge_whole.specs.made.Given.{Answer, Contexts}
 use Rattle.bundle_merge_whole.specs.made.Alone as one
 use Rattle.bundle_merge_whole.specs.made.Alone.{NameAlone, StatementAlone, StatementsAlone, FrontAlone, ItemAlone, IsInnerAlone}
 use Rattle.bundle_merge_whole.specs.together.Together.{AreTogether}
@@ -41,7 +41,7 @@ zip-beside R xs ys all i x at =
     let there = as-long xs ys i x (zip-length R xs ys all) at in
     (there.0, there.1, zip-at R xs ys all i x there.0 at there.1)
 
-module _ (p : Program) (list : List ℕ) (context : Contexts) (answers : ℕ → Option (List Item))
+module _ (p : Program) (list : List ℕ) (context : Contexts) (answers : ℕ → Option Answer)
     (cause : Cause) (item : List Item) where
   -- what is told of a name, in a statement that begins the item or stands in a load function
   pub record NamedAt (o : Occurrence) : Type 0 where
@@ -129,7 +129,7 @@ module _ (p : Program) (list : List ℕ) (context : Contexts) (answers : ℕ →
           ∙ later.1))
 
 pub named-at : (p : Program) (hooks : Hooks) (list : List ℕ) (context : Contexts)
-    (answers : ℕ → Option (List Item)) {cause : Cause} {item : List Item} {noted : Noted} →
+    (answers : ℕ → Option Answer) {cause : Cause} {item : List Item} {noted : Noted} →
     IsNotedFor p hooks AsModule item noted cause →
     ItemAlone p list context answers cause item noted → (o : Occurrence) → IsListedIn item o →
     NamedAt p list context answers cause item o
@@ -145,7 +145,7 @@ named-at p hooks list context answers (as_function {c = c} {item = item} {front 
     ∙ sym (ap (λ os. slice_get os listed.0) (item-occurrences item)) ∙ listed.1)
 
 module _ (p : Program) (hooks : Hooks) (list : List ℕ) (context : Contexts)
-    (answers : ℕ → Option (List Item)) (plan : List Cause) (items : List (List Item))
+    (answers : ℕ → Option Answer) (plan : List Cause) (items : List (List Item))
     (its : AreTogether p hooks list context answers plan items) where
   abbrev Stands : ℕ → Cause → List Item → Type 0
   Stands m cause item = StandsAt p hooks list context answers plan items its m cause item

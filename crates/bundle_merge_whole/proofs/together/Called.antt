@@ -31,7 +31,7 @@ use Rattle.bundle_merge_whole.specs.composed.Names.{Table, labels_in, StatementN
 use Rattle.bundle_merge_whole.proofs.composed.Contexts.{outer-called}
 use Rattle.bundle_merge_whole.proofs.composed.ListFacts.{zip-at}
 use Rattle.bundle_merge_whole.proofs.composed.Paired.{beside-flat}
-use Rattle.bundle_merge_whole.specs.made.Given.{Contexts}
+use Rattle.bundle_merge_whole.specs.made.Given.{Answer, Contexts}
 use Rattle.bundle_merge_whole.specs.made.Alone.{CalledAlone, StatementsCalled, symbols_inside, symbols_whole, symbols_answered}
 use Rattle.bundle_merge_whole.specs.together.Together.{AreTogether}
 use Rattle.bundle_merge_whole.specs.together.Table.{IsAloneAs, AllAloneAs, HasNotes, table_of}
@@ -53,14 +53,14 @@ moved-fold k a b m (x ∷ xs) = moved-fold k (past a x) (past b x) (moved-past k
 
 -- what is told of the item of this number
 record NotedAt (p : Program) (hooks : Hooks) (list : List ℕ) (context : Contexts)
-    (answers : ℕ → Option (List Item)) (noted : List Noted) (m : ℕ) (cause : Cause)
+    (answers : ℕ → Option Answer) (noted : List Noted) (m : ℕ) (cause : Cause)
     (item : List Item) : Type 0 where
   one : Noted
   there : slice_get noted m ≡ Some one
   alone : IsAloneAs p hooks list context answers cause item one
 
 noted-at : (p : Program) (hooks : Hooks) (list : List ℕ) (context : Contexts)
-    (answers : ℕ → Option (List Item)) (plan : List Cause) (items : List (List Item))
+    (answers : ℕ → Option Answer) (plan : List Cause) (items : List (List Item))
     (noted : List Noted) → AllAloneAs p hooks list context answers plan items noted → (m : ℕ)
     (cause : Cause) (item : List Item) → slice_get plan m ≡ Some cause →
     slice_get items m ≡ Some item → NotedAt p hooks list context answers noted m cause item
@@ -135,7 +135,7 @@ insides-are {item = item} f its =
     ∙ beside-flat its.insides its.single)
 
 module _ (p : Program) (hooks : Hooks) (list : List ℕ) (context : Contexts)
-    (answers : ℕ → Option (List Item)) (plan : List Cause) (items : List (List Item))
+    (answers : ℕ → Option Answer) (plan : List Cause) (items : List (List Item))
     (its : AreTogether p hooks list context answers plan items)
     (notes : HasNotes p hooks list context answers plan items) where
   abbrev table : Table

@@ -36,7 +36,7 @@ use Rattle.bundle_merge_meaning.proofs.loaded.Whole.{picked}
 use Rattle.bundle_merge_whole.specs.composed.Names.{Table, HasModuleContexts, IsCalledAsLabels}
 use Rattle.bundle_merge_whole.proofs.composed.Contexts.{declared-name}
 use Rattle.bundle_merge_whole.proofs.fit.Programs.{joined_ways}
-use Rattle.bundle_merge_whole.specs.made.Given.{Contexts, TopOf, numbers_in, ident_of_label}
+use Rattle.bundle_merge_whole.specs.made.Given.{Answer, Contexts, TopOf, numbers_in, ident_of_label}
 use Rattle.bundle_merge_whole.specs.made.Alone as one
 use Rattle.bundle_merge_whole.specs.made.Alone.{IsTopLabel, NameAlone}
 use Rattle.bundle_merge_whole.specs.together.Together.{AreTogether}
@@ -167,7 +167,7 @@ item-ways item fit =
     subst (λ l. HasWays (tree_of_items l)) (append-nil item) (joined_ways (item ∷ []) (fit, tt))
 
 module _ (p : Program) (hooks : Hooks) (list : List ℕ) (context : Contexts)
-    (answers : ℕ → Option (List Item)) (plan : List Cause) (items : List (List Item))
+    (answers : ℕ → Option Answer) (plan : List Cause) (items : List (List Item))
     (its : AreTogether p hooks list context answers plan items)
     (notes : HasNotes p hooks list context answers plan items) where
   abbrev table : Table

@@ -7,7 +7,7 @@ use Rattle.bundle_rules.specs.Meaning.{Label, IsMeant}
 use Rattle.bundle_rules.specs.Bundle.{Cause, Own, ImportsNames, ImportsWhole, ImportsNothing, Helps, Defines, Loads, HoldsMeta, HoldsNamespace, Stars, Exports, AsModule, Hooks, IsDue}
 use Rattle.bundle_merge_meaning.specs.joined.Joined.{joined}
 use Rattle.bundle_merge_whole.specs.planned.Decided.{Decided, AreDecided, plan_of}
-use Rattle.bundle_merge_whole.specs.made.Given.{Contexts, TopOf}
+use Rattle.bundle_merge_whole.specs.made.Given.{Answer, Contexts, TopOf}
 use Rattle.bundle_merge_whole.specs.made.Made.{IsMade, AreMade}
 use Rattle.bundle_merge_whole.specs.made.Alone.{AreSound, TellApart, IsTopLabel, IsAlone}
 use Rattle.bundle_merge_whole.specs.own.Functions.{IsInFunction}
@@ -18,11 +18,11 @@ use Rattle.bundle_merge_whole.proofs.told.Whole.{told}
 use Rattle.bundle_merge_whole.proofs.own.Own.{own-made}
 use Rattle.bundle_merge_whole.proofs.function.Function.{function-made}
 use Rattle.bundle_merge_whole.proofs.added.Added.{AreLinkedTop, added-alone}
-use Rattle.bundle_merge_whole.proofs.answered.Answered.{answered-alone}
+use Rattle.bundle_merge_whole.proofs.answered.Meta.{answered-alone}
 use Rattle.bundle_merge_whole.proofs.laid.Laid.{are-laid}
 use Rattle.bundle_merge_whole.proofs.together.Right.{made-right}
 
-module _ (p : Program) (hooks : Hooks) (list : List ℕ) (context : Contexts) (answers : ℕ → Option (List Item)) (sound : AreSound p list) (apart : TellApart p answers context) where
+module _ (p : Program) (hooks : Hooks) (list : List ℕ) (context : Contexts) (answers : ℕ → Option Answer) (sound : AreSound p list) (apart : TellApart p answers context) where
   in-function : (l : Label) → IsOfFunction p l → IsInFunction p l
   in-function l (a_name {c = c} {x = x} reached common) =
       record { c = c; x = x; reached = reached; common_js = common; is = inl refl }

@@ -19,7 +19,7 @@ use Rattle.bundle_merge_whole.proofs.composed.Remade.{NoLone, AllOfForm}
 use Rattle.bundle_merge_whole.proofs.composed.ListFacts.{all-in}
 use Rattle.bundle_merge_whole.proofs.composed.Whole.{all-whole}
 use Rattle.bundle_merge_whole.proofs.fit.Programs.{joined_listing}
-use Rattle.bundle_merge_whole.specs.made.Given.{Contexts}
+use Rattle.bundle_merge_whole.specs.made.Given.{Answer, Contexts}
 use Rattle.bundle_merge_whole.specs.made.Alone.{IsAlone}
 use Rattle.bundle_merge_whole.specs.together.Together.{AreTogether}
 use Rattle.bundle_merge_whole.specs.together.Table.{AllAloneAs, HasNotes}
@@ -71,7 +71,7 @@ module _ (p : Program) (form : Form) (tree : List Item) (plan : List Cause)
   }
 
 module _ (p : Program) (hooks : Hooks) (list : List ℕ) (context : Contexts)
-    (answers : ℕ → Option (List Item)) where
+    (answers : ℕ → Option Answer) where
   abbrev All : List Cause → List (List Item) → List Noted → Type 0
   All plan items noted = AllAloneAs p hooks list context answers plan items noted
 
@@ -129,7 +129,7 @@ module _ (p : Program) (hooks : Hooks) (list : List ℕ) (context : Contexts)
       (each.0.alone.fit, all-fit plan items noted each.1)
 
 module _ (p : Program) (hooks : Hooks) (list : List ℕ) (context : Contexts)
-    (answers : ℕ → Option (List Item)) (plan : List Cause) (items : List (List Item))
+    (answers : ℕ → Option Answer) (plan : List Cause) (items : List (List Item))
     (its : AreTogether p hooks list context answers plan items) where
   pub all-single : AllOf IsSingle items
   all-single = all-in IsSingle items (λ m item at.

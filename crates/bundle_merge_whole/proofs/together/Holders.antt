@@ -1,6 +1,5 @@
 -- Which context each label of a bundle's top has, and that no two of them have one identifier.
 use Rattle.std.proofs.Common.{◌≡◌, ◌<◌, ℕ, List, Option, refl, ap, sym, ◌∙◌, subst}
-use Rattle.bundle_tree_piece.specs.Item.{Item}
 use Rattle.bundle_rules.specs.Idents.{Ident}
 use Rattle.bundle_rules.specs.Nodes.{Text}
 use Rattle.bundle_rules.specs.Program.{Program, IsReached}
@@ -8,7 +7,7 @@ use Rattle.bundle_rules.specs.Linking.{IsCommonJs, Declared}
 use Rattle.bundle_rules.specs.Meaning.{Label, Of}
 use Rattle.bundle_rules.specs.Bundle.{Cause, Own, Defines, AsModule, Form, IsDue}
 use Rattle.bundle_rules.specs.Bundle as b
-use Rattle.bundle_merge_whole.specs.made.Given.{Contexts, Holder, TopOf, NameOf, ident_of_label}
+use Rattle.bundle_merge_whole.specs.made.Given.{Answer, Contexts, Holder, TopOf, NameOf, ident_of_label}
 use Rattle.bundle_merge_whole.specs.made.Alone as a
 use Rattle.bundle_merge_whole.specs.made.Alone.{AddsLabel, DeclaresLabel, IsTopLabel, IsHolder, TellApart, OwnsHolder}
 
@@ -67,7 +66,7 @@ holds-of p {cause = cause} {l = l} due (a.adds its) = (NameOf l, by_name cause d
 pub holds : (p : Program) (l : Label) → IsTopLabel p l → (h : Holder) × HoldsLabel p l h
 holds p l top = holds-of p top.due top.declares
 
-pub holder-is : (p : Program) (answers : ℕ → Option (List Item)) {l : Label} {h : Holder} →
+pub holder-is : (p : Program) (answers : ℕ → Option Answer) {l : Label} {h : Holder} →
     HoldsLabel p l h → IsHolder p answers h
 holder-is p answers (by_module reached es) = a.top_of reached
 holder-is p answers (by_name cause due its) = a.added cause due its
@@ -102,7 +101,7 @@ module _ (p : Program) (list : List ℕ) (context : Contexts) where
       symbols =
       cc
 
-  module _ (answers : ℕ → Option (List Item)) (apart : TellApart p answers context) where
+  module _ (answers : ℕ → Option Answer) (apart : TellApart p answers context) where
     -- no two labels of the top have one identifier
     pub labels-apart : (l other : Label) → IsTopLabel p l → IsTopLabel p other →
         ident_of_label p list context l ≡ ident_of_label p list context other → l ≡ other
@@ -135,6 +134,8 @@ owned-no-label p a.defines_inside other (by_name cause due its) e = cc
 owned-no-label p (a.defines_top {c = c}) other its e = other c refl refl
 owned-no-label p a.holds_meta other (by_module reached es) e = cc
 owned-no-label p a.holds_meta other (by_name cause due its) e = cc
+owned-no-label p a.holds_written other (by_module reached es) e = cc
+owned-no-label p a.holds_written other (by_name cause due its) e = cc
 owned-no-label p a.helps_parameter other (by_module reached es) e = cc
 owned-no-label p a.helps_parameter other (by_name cause due its) e = cc
 owned-no-label p a.helps_variable other (by_module reached es) e = cc

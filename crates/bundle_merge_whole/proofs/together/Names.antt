@@ -17,7 +17,7 @@ use Rattle.bundle_merge_meaning.specs.joined.Notes.{its_name, own_denoted, is_in
 use Rattle.bundle_merge_meaning.specs.loaded.Contexts as entry
 use Rattle.bundle_merge_meaning.specs.loaded.Contexts.{OwnEntry}
 use Rattle.bundle_merge_whole.specs.composed.Names.{Table, NameNoted, is_one_inside, is_known, is_known_top, is_free, labelled_inner}
-use Rattle.bundle_merge_whole.specs.made.Given.{Contexts, Holder, TopOf, numbers_in, ident_of_label}
+use Rattle.bundle_merge_whole.specs.made.Given.{Answer, Contexts, Holder, TopOf, numbers_in, ident_of_label}
 use Rattle.bundle_merge_whole.specs.made.Alone as a
 use Rattle.bundle_merge_whole.specs.made.Alone.{IsTopLabel, IsHolder, OwnsHolder, NameAlone}
 use Rattle.bundle_merge_whole.specs.together.Together.{AreTogether}
@@ -32,7 +32,7 @@ entry-context context c tree (entry.wrapper_entry i m at) = refl
 entry-context context c tree (entry.parameter_entry x which) = refl
 
 -- a name has the context of what stands only in the item of this cause, and of no label
-pub record IsOwnName (p : Program) (answers : ℕ → Option (List Item)) (context : Contexts)
+pub record IsOwnName (p : Program) (answers : ℕ → Option Answer) (context : Contexts)
     (cause : Cause) (o : Occurrence) : Type 0 where
   pub holder : Holder
   pub owns : OwnsHolder p cause holder
@@ -41,7 +41,7 @@ pub record IsOwnName (p : Program) (answers : ℕ → Option (List Item)) (conte
   pub its : o.ctxt ≡ context holder
 
 module _ (p : Program) (hooks : Hooks) (list : List ℕ) (context : Contexts)
-    (answers : ℕ → Option (List Item)) (plan : List Cause) (items : List (List Item))
+    (answers : ℕ → Option Answer) (plan : List Cause) (items : List (List Item))
     (its : AreTogether p hooks list context answers plan items) where
   -- what has the context of no label is no name of the top
   pub own-not-top : (cause : Cause) (o : Occurrence) → IsOwnName p answers context cause o →

@@ -31,6 +31,7 @@ owners-one p form due also (a.own {m = m} statement at there) (a.defines_inside 
     (subst (IsCommonJs p) modules (due-defines p form also refl).1))
 owners-one p form due also (a.own statement at there) a.defines_top e = absurd cc
 owners-one p form due also (a.own statement at there) a.holds_meta e = absurd cc
+owners-one p form due also (a.own statement at there) a.holds_written e = absurd cc
 owners-one p form due also (a.own statement at there) a.helps_parameter e = absurd cc
 owners-one p form due also (a.own statement at there) a.helps_variable e = absurd cc
 owners-one p form due also (a.defines_inside {c = c}) (a.own {m = m} statement at there) e =
@@ -41,6 +42,7 @@ owners-one p form due also (a.defines_inside {c = c}) (a.defines_inside {c = d})
     let modules : c ≡ d = cc in ap Defines modules
 owners-one p form due also a.defines_inside a.defines_top e = absurd cc
 owners-one p form due also a.defines_inside a.holds_meta e = absurd cc
+owners-one p form due also a.defines_inside a.holds_written e = absurd cc
 owners-one p form due also a.defines_inside a.helps_parameter e = absurd cc
 owners-one p form due also a.defines_inside a.helps_variable e = absurd cc
 owners-one p form due also a.defines_top (a.own statement at there) e = absurd cc
@@ -48,23 +50,34 @@ owners-one p form due also a.defines_top a.defines_inside e = absurd cc
 owners-one p form due also (a.defines_top {c = c}) (a.defines_top {c = d}) e =
     let modules : c ≡ d = cc in ap Defines modules
 owners-one p form due also a.defines_top a.holds_meta e = absurd cc
+owners-one p form due also a.defines_top a.holds_written e = absurd cc
 owners-one p form due also a.defines_top a.helps_parameter e = absurd cc
 owners-one p form due also a.defines_top a.helps_variable e = absurd cc
 owners-one p form due also a.holds_meta (a.own statement at there) e = absurd cc
 owners-one p form due also a.holds_meta a.defines_inside e = absurd cc
 owners-one p form due also a.holds_meta a.defines_top e = absurd cc
 owners-one p form due also (a.holds_meta {m = m}) (a.holds_meta {m = n}) e = cc
+owners-one p form due also a.holds_meta a.holds_written e = absurd cc
 owners-one p form due also a.holds_meta a.helps_parameter e = absurd cc
 owners-one p form due also a.holds_meta a.helps_variable e = absurd cc
+owners-one p form due also a.holds_written (a.own statement at there) e = absurd cc
+owners-one p form due also a.holds_written a.defines_inside e = absurd cc
+owners-one p form due also a.holds_written a.defines_top e = absurd cc
+owners-one p form due also a.holds_written a.holds_meta e = absurd cc
+owners-one p form due also (a.holds_written {m = m}) (a.holds_written {m = n}) e = cc
+owners-one p form due also a.holds_written a.helps_parameter e = absurd cc
+owners-one p form due also a.holds_written a.helps_variable e = absurd cc
 owners-one p form due also a.helps_parameter (a.own statement at there) e = absurd cc
 owners-one p form due also a.helps_parameter a.defines_inside e = absurd cc
 owners-one p form due also a.helps_parameter a.defines_top e = absurd cc
 owners-one p form due also a.helps_parameter a.holds_meta e = absurd cc
+owners-one p form due also a.helps_parameter a.holds_written e = absurd cc
 owners-one p form due also a.helps_parameter a.helps_parameter e = refl
 owners-one p form due also a.helps_parameter a.helps_variable e = refl
 owners-one p form due also a.helps_variable (a.own statement at there) e = absurd cc
 owners-one p form due also a.helps_variable a.defines_inside e = absurd cc
 owners-one p form due also a.helps_variable a.defines_top e = absurd cc
 owners-one p form due also a.helps_variable a.holds_meta e = absurd cc
+owners-one p form due also a.helps_variable a.holds_written e = absurd cc
 owners-one p form due also a.helps_variable a.helps_parameter e = refl
 owners-one p form due also a.helps_variable a.helps_variable e = refl

@@ -17,7 +17,7 @@ use Rattle.bundle_merge_meaning.specs.grouped.Renaming.{HasWays}
 use Rattle.bundle_merge_meaning.proofs.joined.Declarations.{IsNamed as HasNames}
 use Rattle.bundle_merge_whole.proofs.fit.Facts.{fit_is_whole}
 use Rattle.bundle_scope_renamed.proofs.fit.Rows.{last}
-use Rattle.bundle_merge_whole.specs.made.Given.{Contexts, ident_of_label}
+use Rattle.bundle_merge_whole.specs.made.Given.{Answer, Contexts, ident_of_label}
 use Rattle.bundle_merge_whole.specs.made.Alone.{TellApart, IsAlone}
 use Rattle.bundle_merge_whole.proofs.together.Holders.{label-above}
 use Rattle.bundle_merge_whole.proofs.together.Contexts.{item-ways}
@@ -32,7 +32,7 @@ pub record IsReadyItem (item : List Item) : Type 0 where
   pub object : is_written_in (own_declared item) Top (name_of ByContext (codes "Object") 1) ≡ false
 
 pub ready-item : (p : Program) (hooks : Hooks) (list : List ℕ) (context : Contexts)
-    (answers : ℕ → Option (List Item)) → TellApart p answers context → (cause : Cause)
+    (answers : ℕ → Option Answer) → TellApart p answers context → (cause : Cause)
     (item : List Item) → IsDue p AsModule cause →
     IsAlone p hooks list context answers cause item → IsReadyItem item
 ready-item p hooks list context answers apart cause item due alone = record {

@@ -11,7 +11,7 @@ use Rattle.bundle_rules.specs.Bundle.{Cause, AsModule, Hooks, IsDue, IsLaidOut}
 use Rattle.bundle_merge_meaning.specs.joined.Joined.{joined}
 use Rattle.bundle_merge_whole.specs.composed.Noted.{pairing_of}
 use Rattle.bundle_merge_whole.proofs.finished.Bundles.{IsMergedRight}
-use Rattle.bundle_merge_whole.specs.made.Given.{Contexts, TopOf}
+use Rattle.bundle_merge_whole.specs.made.Given.{Answer, Contexts, TopOf}
 use Rattle.bundle_merge_whole.specs.made.Alone.{AreSound, TellApart, IsAlone}
 use Rattle.bundle_merge_whole.proofs.together.Tables.{notes-of}
 use Rattle.bundle_merge_whole.proofs.together.Modules.{one-entries}
@@ -20,7 +20,7 @@ use Rattle.bundle_merge_whole.proofs.together.Whole.{merged-right}
 -- the labels of the pairing of which the layout is given may be any: a layout does not speak of
 -- them
 pub made-right : (p : Program) (hooks : Hooks) (list : List ℕ) (context : Contexts)
-    (answers : ℕ → Option (List Item)) (plan : List Cause) (items : List (List Item)) →
+    (answers : ℕ → Option Answer) (plan : List Cause) (items : List (List Item)) →
     (sound : AreSound p list) → (apart : TellApart p answers context) →
     (alone : AllZip (IsAlone p hooks list context answers) plan items) →
     (due : (cause : Cause) → Contains plan cause ↔ IsDue p AsModule cause) →

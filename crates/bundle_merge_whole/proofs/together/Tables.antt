@@ -20,7 +20,7 @@ use Rattle.bundle_merge_meaning.specs.loaded.Contexts.{OwnEntry}
 use Rattle.bundle_merge_meaning.specs.walked.Renaming.{Told}
 use Rattle.bundle_merge_whole.specs.composed.Noted.{Noted, AsWhole, AsFunction, function_ends, IsNotedFor, as_whole, as_function, first_spot}
 use Rattle.bundle_merge_whole.specs.composed.Names.{Table, IsTable, IsLabelled, NameNoted, is_known, is_known_top, labelled_top, StatementNoted, StatementsNoted, ItemNoted}
-use Rattle.bundle_merge_whole.specs.made.Given.{Contexts, Holder, TopOf, numbers_in, ident_of_label}
+use Rattle.bundle_merge_whole.specs.made.Given.{Answer, Contexts, Holder, TopOf, numbers_in, ident_of_label}
 use Rattle.bundle_merge_whole.specs.made.Alone as a
 use Rattle.bundle_merge_whole.specs.made.Alone.{AddsLabel, IsTopLabel, NameAlone, StatementAlone, StatementsAlone, FrontAlone, ItemAlone, IsAlone}
 use Rattle.bundle_merge_whole.specs.together.Together.{AreTogether}
@@ -33,7 +33,7 @@ use Rattle.bundle_merge_whole.proofs.together.Entries.{Includes, includes-left, 
 -- What is told of all items.
 
 pub notes-of : (p : Program) (hooks : Hooks) (list : List ℕ) (context : Contexts)
-    (answers : ℕ → Option (List Item)) (plan : List Cause) (items : List (List Item)) →
+    (answers : ℕ → Option Answer) (plan : List Cause) (items : List (List Item)) →
     AllZip (IsAlone p hooks list context answers) plan items →
     HasNotes p hooks list context answers plan items
 notes-of p hooks list context answers [] [] all = record { noted = []; each = tt }
@@ -100,7 +100,7 @@ pub data EntryKind (p : Program) (list : List ℕ) (context : Contexts) (i : Ide
   of_own : (c : ℕ) → IsReached p c → IsCommonJs p c →
       OwnEntry c (numbers_in context c) (tree_of p c) i l → EntryKind p list context i l
 
-kind-of : (p : Program) (list : List ℕ) (context : Contexts) (answers : ℕ → Option (List Item))
+kind-of : (p : Program) (list : List ℕ) (context : Contexts) (answers : ℕ → Option Answer)
     (cause : Cause) → IsDue p AsModule cause → (item : List Item) (begins : ℕ)
     (all : List Denoted) (o : Occurrence) (l : Label) →
     NameAlone p list context answers cause item begins all o (Known l) →
@@ -114,7 +114,7 @@ kind-of p list context answers cause due item begins all o l (a.of_function {c =
 
 -- a name of an item with what it means, in a statement of whatever place and bindings
 pub record IsNameOf (p : Program) (list : List ℕ) (context : Contexts)
-    (answers : ℕ → Option (List Item)) (cause : Cause) (item : List Item) (o : Occurrence)
+    (answers : ℕ → Option Answer) (cause : Cause) (item : List Item) (o : Occurrence)
     (meant : Meant) : Type 0 where
   pub begins : ℕ
   pub all : List Denoted
@@ -122,7 +122,7 @@ pub record IsNameOf (p : Program) (list : List ℕ) (context : Contexts)
 
 -- An item.
 
-module _ (p : Program) (list : List ℕ) (context : Contexts) (answers : ℕ → Option (List Item))
+module _ (p : Program) (list : List ℕ) (context : Contexts) (answers : ℕ → Option Answer)
     (cause : Cause) (item : List Item) where
   abbrev Its : Occurrence → Meant → Type 0
   Its o meant = IsNameOf p list context answers cause item o meant
@@ -202,7 +202,7 @@ module _ (p : Program) (list : List ℕ) (context : Contexts) (answers : ℕ →
 
 -- an entry of an item comes from one of its names
 item-from : (p : Program) (hooks : Hooks) (list : List ℕ) (context : Contexts)
-    (answers : ℕ → Option (List Item)) {cause : Cause} {item : List Item} {noted : Noted} →
+    (answers : ℕ → Option Answer) {cause : Cause} {item : List Item} {noted : Noted} →
     IsNotedFor p hooks AsModule item noted cause →
     ItemAlone p list context answers cause item noted → (e : Ident × Label) →
     Contains (item_entries item noted) e →
@@ -221,7 +221,7 @@ item-from p hooks list context answers (as_function {c = k} {item = item} {front
 
 -- an entry of the table, with the name from which it comes
 pub record IsEntry (p : Program) (hooks : Hooks) (list : List ℕ) (context : Contexts)
-    (answers : ℕ → Option (List Item)) (plan : List Cause) (items : List (List Item))
+    (answers : ℕ → Option Answer) (plan : List Cause) (items : List (List Item))
     (e : Ident × Label) : Type 0 where
   pub m : ℕ
   pub cause : Cause
@@ -233,7 +233,7 @@ pub record IsEntry (p : Program) (hooks : Hooks) (list : List ℕ) (context : Co
       (occurrences_from first_spot item) e
 
 pub entry-from : (p : Program) (hooks : Hooks) (list : List ℕ) (context : Contexts)
-    (answers : ℕ → Option (List Item)) (plan : List Cause) (items : List (List Item))
+    (answers : ℕ → Option Answer) (plan : List Cause) (items : List (List Item))
     (noted : List Noted) → AllAloneAs p hooks list context answers plan items noted →
     (e : Ident × Label) → Contains (table_of items noted) e →
     IsEntry p hooks list context answers plan items e
@@ -274,7 +274,7 @@ entry-from p hooks list context answers (cause ∷ plan) (item ∷ items) (one �
         }
 
 module _ (p : Program) (hooks : Hooks) (list : List ℕ) (context : Contexts)
-    (answers : ℕ → Option (List Item)) (plan : List Cause) (items : List (List Item))
+    (answers : ℕ → Option Answer) (plan : List Cause) (items : List (List Item))
     (its : AreTogether p hooks list context answers plan items) where
   pub entry-due : (e : Ident × Label) (is : IsEntry p hooks list context answers plan items e) →
       IsDue p AsModule is.cause

@@ -13,7 +13,7 @@ use Rattle.bundle_rules.specs.Bundle.{Cause, AsModule, Hooks, IsDue}
 use Rattle.bundle_scope_names.proofs.Lists.{list_any-here, list_any-found}
 use Rattle.bundle_merge_meaning.specs.joined.Joined.{own_declared, is_top_name}
 use Rattle.bundle_merge_whole.proofs.composed.ListFacts.{as-long, zip-at, zip-length}
-use Rattle.bundle_merge_whole.specs.made.Given.{Contexts, ident_of_label}
+use Rattle.bundle_merge_whole.specs.made.Given.{Answer, Contexts, ident_of_label}
 use Rattle.bundle_merge_whole.specs.made.Alone.{IsTopLabel, IsAlone}
 use Rattle.bundle_merge_whole.specs.together.Together.{AreTogether}
 
@@ -28,7 +28,7 @@ pub contains-at : {A : Type 0} (xs : List A) (x : A) → Contains xs x →
 contains-at xs x c = (c.0, slice_get-get_or xs c.0 x c.1 ∙ ap Some c.2)
 
 module _ (p : Program) (hooks : Hooks) (list : List ℕ) (context : Contexts)
-    (answers : ℕ → Option (List Item)) (plan : List Cause) (items : List (List Item))
+    (answers : ℕ → Option Answer) (plan : List Cause) (items : List (List Item))
     (its : AreTogether p hooks list context answers plan items) where
   -- an item, and the cause for which it stands
   pub record StandsAt (m : ℕ) (cause : Cause) (item : List Item) : Type 0 where

@@ -18,7 +18,7 @@ use Rattle.bundle_merge_whole.proofs.composed.Whole.{merged-bundle, merged-ready
 use Rattle.bundle_merge_whole.proofs.finished.Bundles.{IsMergedRight}
 use Rattle.bundle_merge_whole.proofs.fit.Facts.{one_listed}
 use Rattle.bundle_merge_whole.proofs.fit.Programs.{joined_fit, joined_plain, joined_ways}
-use Rattle.bundle_merge_whole.specs.made.Given.{Contexts, TopOf}
+use Rattle.bundle_merge_whole.specs.made.Given.{Answer, Contexts, TopOf}
 use Rattle.bundle_merge_whole.specs.together.Together.{AreTogether}
 use Rattle.bundle_merge_whole.specs.together.Table.{HasNotes, HasOneEntries, table_of}
 use Rattle.bundle_merge_whole.proofs.together.Apart.{are-apart, all-named}
@@ -28,7 +28,7 @@ use Rattle.bundle_merge_whole.proofs.together.Contexts.{module-contexts, binds-o
 use Rattle.bundle_merge_whole.proofs.together.Called.{are-called}
 
 module _ (p : Program) (hooks : Hooks) (list : List ℕ) (context : Contexts)
-    (answers : ℕ → Option (List Item)) (plan : List Cause) (items : List (List Item))
+    (answers : ℕ → Option Answer) (plan : List Cause) (items : List (List Item))
     (its : AreTogether p hooks list context answers plan items)
     (entries : HasOneEntries p context) (notes : HasNotes p hooks list context answers plan items)
     (labels : Labelling)

@@ -15,17 +15,16 @@ use Rattle.bundle_scope_names.proofs.TreeLemmas.{declared-by_symbol}
 use Rattle.bundle_merge_meaning.specs.joined.Alike.{ScopesAlike, DeclaredAlike}
 use Rattle.bundle_merge_meaning.specs.joined.Joined.{own_declared}
 use Rattle.bundle_merge_meaning.proofs.joined.Items.{all-at}
-use Rattle.bundle_merge_whole.specs.made.Given.{Contexts}
+use Rattle.bundle_merge_whole.specs.made.Given.{Answer, Contexts}
 use Rattle.bundle_merge_whole.specs.made.Made.{IsMade}
-use Rattle.bundle_merge_whole.specs.made.Made as made
 use Rattle.bundle_merge_whole.specs.made.Alone.{TellApart}
 use Rattle.bundle_merge_whole.specs.undoubled.Clashing.{NoneClash, Corresponds, ComesFrom}
 use Rattle.bundle_merge_whole.proofs.answered.Alike.{constant_at}
-use Rattle.bundle_merge_whole.proofs.answered.Answered.{IsOther, others, reached-by}
-use Rattle.bundle_merge_whole.proofs.answered.Denoting.{Answering}
+use Rattle.bundle_merge_whole.proofs.answered.Answered.{IsOther, others}
+use Rattle.bundle_merge_whole.proofs.answered.Properties.{Answering}
+use Rattle.bundle_merge_whole.proofs.answered.Meta.{by-answer}
 use Rattle.bundle_merge_whole.proofs.answered.Denoting as d
 use Rattle.bundle_merge_whole.proofs.answered.Numbered.{tree-named, declared-symbols}
-use Rattle.bundle_merge_whole.proofs.answered.Rewritten.{one}
 use Rattle.bundle_merge_whole.proofs.undoubled.Added.{none_named}
 use Rattle.bundle_merge_whole.proofs.undoubled.Alike.{none_alike}
 use Rattle.bundle_merge_whole.proofs.undoubled.Clash.{none_from}
@@ -49,7 +48,7 @@ lifted_correspond R f all (c ∷ ds) (e ∷ es) plain alike = (
 )
 
 module _ (list : List ℕ) {p : Program} {hooks : Hooks} {context : Contexts}
-    {answers : ℕ → Option (List Item)} {m : ℕ} {properties within : List Item}
+    {answers : ℕ → Option Answer} {m : ℕ} {properties within : List Item}
     (facts : Answering p hooks context answers m properties within) where
   abbrev R : ℕ → ℕ → Type 0
   R = d.R list facts
@@ -89,22 +88,14 @@ module _ (list : List ℕ) {p : Program} {hooks : Hooks} {context : Contexts}
       (λ e there.
       all-at (IsOther list facts) its_es there.0 e
       (others list facts (d.os list facts) (d.us list facts) (d.all-beside list facts)) there.1)
-      (none_alike (ScopesAlike R) (tells_alike R (one facts.its)) its_ds 0 (0 + length tree) its_es
+      (none_alike (ScopesAlike R) (tells_alike R facts.its.one) its_ds 0 (0 + length tree) its_es
       comes (none_from its_ds facts.its.faultless.undoubled)))
 
 -- what is made for the `import.meta` of a module
 pub meta-none : (p : Program) (hooks : Hooks) (list : List ℕ) (context : Contexts)
-    (answers : ℕ → Option (List Item)) → TellApart p answers context → (m : ℕ)
+    (answers : ℕ → Option Answer) → TellApart p answers context → (m : ℕ)
     (item : List Item) → IsDue p AsModule (HoldsMeta m) →
     IsMade p hooks list context answers (HoldsMeta m) item → NoneClash (own_declared item)
-meta-none p hooks list context answers apart m item due
-    (made.holds_meta properties within answered its is) =
-    subst (λ items. NoneClash (own_declared items)) (sym is)
-    (object-none list
-    (record {
-      its = its;
-      reached = reached-by due;
-      answered = answered;
-      apart = apart;
-      due = due;
-    }))
+meta-none p hooks list context answers apart m item due made =
+    let it = by-answer p hooks list context answers apart m item due made in
+    subst (λ items. NoneClash (own_declared items)) (sym it.is) (object-none list it.facts)

@@ -14,7 +14,7 @@ use Rattle.bundle_rules.specs.Bundle as b
 use Rattle.bundle_merge_meaning.specs.joined.Joined.{own_declared}
 use Rattle.bundle_merge_meaning.specs.loaded.Item.{module_start}
 use Rattle.bundle_merge_meaning.specs.loaded.Loaded.{module_declared}
-use Rattle.bundle_merge_whole.specs.made.Given.{Contexts, TopOf, numbers_in, ident_of_label}
+use Rattle.bundle_merge_whole.specs.made.Given.{Answer, Contexts, TopOf, numbers_in, ident_of_label}
 use Rattle.bundle_merge_whole.specs.made.Made.{IsStatedAs, IsMade}
 use Rattle.bundle_merge_whole.specs.made.Made as made
 use Rattle.bundle_merge_whole.specs.made.Alone.{AreSound, TellApart}
@@ -30,7 +30,7 @@ use Rattle.bundle_merge_whole.proofs.undoubled.Clash.{none_from}
 use Rattle.bundle_merge_whole.proofs.undoubled.Function.{load-none}
 
 pub defined-none : (p : Program) (hooks : Hooks) (list : List ℕ) (context : Contexts)
-    (answers : ℕ → Option (List Item)) (c : ℕ) (item : List Item) → AreSound p list →
+    (answers : ℕ → Option Answer) (c : ℕ) (item : List Item) → AreSound p list →
     TellApart p answers context → IsDue p AsModule (Defines c) →
     IsMade p hooks list context answers (Defines c) item → NoneClash (own_declared item)
 defined-none p hooks list context answers c item sound apart (b.defines reached common)

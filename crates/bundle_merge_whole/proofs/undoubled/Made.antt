@@ -14,7 +14,7 @@ use Rattle.bundle_scope_renamed.specs.Undoubled.{IsUndoubled}
 use Rattle.bundle_merge_meaning.specs.joined.Joined.{joined, own_declared}
 use Rattle.bundle_merge_meaning.proofs.joined.Declarations.{IsNamed}
 use Rattle.bundle_merge_whole.proofs.composed.ListFacts.{zip-at}
-use Rattle.bundle_merge_whole.specs.made.Given.{Contexts, HelperParameter, HelperVariable, ident_of_label}
+use Rattle.bundle_merge_whole.specs.made.Given.{Answer, Contexts, HelperParameter, HelperVariable, ident_of_label}
 use Rattle.bundle_merge_whole.specs.made.Made.{IsMade, linked_idents}
 use Rattle.bundle_merge_whole.specs.made.Made as made
 use Rattle.bundle_merge_whole.specs.made.Alone.{AreSound, TellApart}
@@ -30,7 +30,7 @@ use Rattle.bundle_merge_whole.proofs.undoubled.Taken.{imports-none, loads-none}
 use Rattle.bundle_merge_whole.proofs.undoubled.Together.{together-undoubled}
 
 module _ (p : Program) (hooks : Hooks) (list : List ℕ) (context : Contexts)
-    (answers : ℕ → Option (List Item)) (sound : AreSound p list) (apart : TellApart p answers context) where
+    (answers : ℕ → Option Answer) (sound : AreSound p list) (apart : TellApart p answers context) where
   -- each item
   declared_for : (cause : Cause) (item : List Item) → IsDue p AsModule cause →
       IsMade p hooks list context answers cause item → IsNamed item → IsDeclaredFor p cause item

@@ -22,7 +22,7 @@ use Rattle.bundle_merge_meaning.specs.joined.Alike.{ScopesAlike, tops, wrappers,
 use Rattle.bundle_merge_meaning.specs.joined.Joined.{AllOf, own_declared}
 use Rattle.bundle_merge_meaning.proofs.joined.Declarations.{IsNamed}
 use Rattle.bundle_merge_meaning.specs.noted.Agrees.{IsAt}
-use Rattle.bundle_merge_whole.specs.made.Given.{Contexts, numbers_in}
+use Rattle.bundle_merge_whole.specs.made.Given.{Answer, Contexts, numbers_in}
 use Rattle.bundle_merge_whole.specs.made.Steps.{occurrences_in}
 use Rattle.bundle_merge_whole.specs.made.Made.{IsStatedAs, IsMade}
 use Rattle.bundle_merge_whole.specs.made.Made as made
@@ -78,7 +78,7 @@ along_comes tree g place field tail {steps = steps} {meta = meta} os stated at c
         Each (λ o. (d : Declared) → declaration_of BySymbol Es o ≡ Some d →
         (i : ℕ) × (slice_get (declared BySymbol Es tree) i ≡ Some d)) os
 
-module _ (p : Program) (list : List ℕ) (context : Contexts) (answers : ℕ → Option (List Item))
+module _ (p : Program) (list : List ℕ) (context : Contexts) (answers : ℕ → Option Answer)
     (sound : AreSound p list) (apart : TellApart p answers context) where
   stated_for : (m n : ℕ) (statement : List Element) (item : List Item) →
       (reached : IsReached p m) → (es : IsCommonJs p m → ⊥) →

@@ -14,7 +14,7 @@ use Rattle.bundle_rules.specs.Meaning.{Of, Load, IsMeant}
 use Rattle.bundle_rules.specs.Bundle.{ImportsNames, Loads, AsModule, Hooks, IsDue, AreNames, MeansName}
 use Rattle.bundle_merge_injected.specs.Listed as l
 use Rattle.bundle_merge_meaning.specs.joined.Joined.{own_declared}
-use Rattle.bundle_merge_whole.specs.made.Given.{Contexts, ident_of_label}
+use Rattle.bundle_merge_whole.specs.made.Given.{Answer, Contexts, ident_of_label}
 use Rattle.bundle_merge_whole.specs.made.Made.{IsMade, named_idents}
 use Rattle.bundle_merge_whole.specs.made.Made as made
 use Rattle.bundle_merge_whole.specs.made.Alone.{IsTopLabel, adds, imports_name, loads, TellApart}
@@ -27,7 +27,7 @@ use Rattle.bundle_merge_whole.proofs.together.Holders.{labels-apart}
 use Rattle.bundle_merge_whole.proofs.undoubled.Once.{BindOnce, any-behind, once-behind, names-once, topped-once}
 
 module _ (p : Program) (hooks : Hooks) (list : List ℕ) (context : Contexts)
-    (answers : ℕ → Option (List Item)) (apart : TellApart p answers context) where
+    (answers : ℕ → Option Answer) (apart : TellApart p answers context) where
   -- what takes names of an external
   pub imports-none : (s : Text) (item : List Item) → IsDue p AsModule (ImportsNames s) →
       IsMade p hooks list context answers (ImportsNames s) item → NoneClash (own_declared item)

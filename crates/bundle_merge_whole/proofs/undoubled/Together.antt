@@ -28,7 +28,7 @@ use Rattle.bundle_merge_meaning.proofs.joined.Declarations.{declared-item, IsNam
 use Rattle.bundle_merge_meaning.proofs.joined.Homes.{home-in}
 use Rattle.bundle_merge_meaning.proofs.joined.Lists.{all-append}
 use Rattle.bundle_merge_meaning.proofs.loaded.Whole.{picked}
-use Rattle.bundle_merge_whole.specs.made.Given.{Contexts, ident_of_label}
+use Rattle.bundle_merge_whole.specs.made.Given.{Answer, Contexts, ident_of_label}
 use Rattle.bundle_merge_whole.specs.made.Alone.{AddsLabel, imports_name, imports_whole, helps, defines, loads, holds_meta, holds_namespace, DeclaresLabel, adds, IsTopLabel}
 use Rattle.bundle_merge_whole.specs.made.Alone as a
 use Rattle.bundle_merge_whole.specs.together.Together.{AreTogether}
@@ -294,7 +294,7 @@ own_parts p m i {item = item} (of_statement {m = n} {k = j} S statement top tell
 own_parts p m i (of_another other none) same = absurd (other m i same)
 
 module _ (p : Program) (hooks : Hooks) (list : List ℕ) (context : Contexts)
-    (answers : ℕ → Option (List Item)) (plan : List Cause) (items : List (List Item))
+    (answers : ℕ → Option Answer) (plan : List Cause) (items : List (List Item))
     (its : AreTogether p hooks list context answers plan items)
     (each : (n : ℕ) (cause : Cause) (item : List Item) → slice_get plan n ≡ Some cause →
     slice_get items n ≡ Some item → IsDeclaredFor p cause item) where

@@ -2,11 +2,12 @@
 -- they make a bundle.
 use Rattle.std.specs.Prelude.{◌≡◌, ◌↔◌, ⊤, ℕ, ◌<◌, true, false, List, [], ◌∷◌, Option, Some, None, Contains, codes, find, fold, map, position, slice_get}
 use Rattle.std.specs.List.{AllZip}
+use Rattle.bundle_tree_leaf.specs.declared.kind.ExportMetadata.{ExportMetadata}
 use Rattle.bundle_tree_piece.specs.declared.piece.Role.{Role}
 use Rattle.bundle_tree_piece.specs.declared.piece.Role.TheVariants.{Binding}
 use Rattle.bundle_tree_piece.specs.Item as h
 use Rattle.bundle_tree_piece.specs.Item.{Item}
-use Rattle.bundle_rules.specs.Places.{Spot, Occurrence, past, occurrences_from}
+use Rattle.bundle_rules.specs.Places.{Spot, Occurrence, past, occurrences_from, occurrences}
 use Rattle.bundle_rules.specs.Scopes.{ModuleKind, ScopeKind, Es, Cjs, Top, Inner, scopes_around}
 use Rattle.bundle_rules.specs.Declarations.{BySymbol, ByContext, Name, name_of}
 use Rattle.bundle_rules.specs.Homes.{is_function}
@@ -39,7 +40,7 @@ use Rattle.bundle_merge_whole.specs.composed.Functions.{IsOfForm}
 use Rattle.bundle_merge_whole.specs.fit.Programs.{HasFitTrees}
 use Rattle.bundle_merge_whole.specs.composed.Single.{OneNode, NoLone}
 use Rattle.bundle_merge_meaning.specs.walked.Renaming.{Told}
-use Rattle.bundle_merge_whole.specs.made.Given.{Contexts, Holder, TopOf, InsideOf, AnsweredOf, NameOf, HelperParameter, HelperVariable, numbers_in, ident_of_label}
+use Rattle.bundle_merge_whole.specs.made.Given.{Contexts, Answer, Fresh, Written, Holder, TopOf, InsideOf, AnsweredOf, WrittenIn, NameOf, HelperParameter, HelperVariable, numbers_in, ident_of_label}
 
 -- What is asked of the modules: they have no fault of linking, no module declares a name twice, and
 -- their trees are lists of the form of trees.
@@ -102,7 +103,7 @@ pub record IsTopLabel (p : Program) (l : Label) : Type 0 where
 -- Contexts.
 
 -- what has a context in a bundle, where the hook answered this for modules
-pub data IsHolder (p : Program) (answers : ℕ → Option (List Item)) : Holder → Type 0 where
+pub data IsHolder (p : Program) (answers : ℕ → Option Answer) : Holder → Type 0 where
   top_of : {m : ℕ} → IsReached p m → IsHolder p answers (TopOf m)
   inside_of : {m begins : ℕ} (kind : ModuleKind) (its : ScopeKind) (name : Name) (i : ℕ) →
       IsReached p m →
@@ -111,9 +112,17 @@ pub data IsHolder (p : Program) (answers : ℕ → Option (List Item)) : Holder 
       IsHolder p answers (InsideOf m begins)
   answered_of : {m begins : ℕ} (properties : List Item) (its : ScopeKind) (name : Name) (i : ℕ) →
       IsReached p m →
-      answers m ≡ Some properties →
+      answers m ≡ Some (Fresh properties) →
       denoted_as BySymbol Es (properties_tree properties) i ≡ Some (Bound (Inner its begins) name) →
       IsHolder p answers (AnsweredOf m begins)
+  written_in : {m ctxt : ℕ} (own : ℕ) (notes : ExportMetadata) (properties : List Item)
+      (its : ScopeKind) (begins : ℕ) (name : Name) (i : ℕ) (o : Occurrence) →
+      IsReached p m →
+      answers m ≡ Some (Written own notes properties) →
+      slice_get (occurrences (properties_tree properties)) i ≡ Some o →
+      denoted_as ByContext Es (properties_tree properties) i ≡ Some (Bound (Inner its begins) name) →
+      o.ctxt ≡ ctxt →
+      IsHolder p answers (WrittenIn m ctxt)
   added : {l : Label} (cause : Cause) →
       IsDue p AsModule cause →
       AddsLabel p cause l →
@@ -122,7 +131,7 @@ pub data IsHolder (p : Program) (answers : ℕ → Option (List Item)) : Holder 
   variable : (c : ℕ) → IsReached p c → IsCommonJs p c → IsHolder p answers HelperVariable
 
 -- no two of these have one context, and none has that of globals
-pub record TellApart (p : Program) (answers : ℕ → Option (List Item)) (context : Contexts) :
+pub record TellApart (p : Program) (answers : ℕ → Option Answer) (context : Contexts) :
     Type 0 where
   pub own : (a : Holder) → IsHolder p answers a → 1 < context a
   pub apart : (a b : Holder) →
@@ -140,6 +149,7 @@ pub data OwnsHolder (p : Program) : Cause → Holder → Type 0 where
   defines_inside : {c begins : ℕ} → OwnsHolder p (Defines c) (InsideOf c begins)
   defines_top : {c : ℕ} → OwnsHolder p (Defines c) (TopOf c)
   holds_meta : {m begins : ℕ} → OwnsHolder p (HoldsMeta m) (AnsweredOf m begins)
+  holds_written : {m ctxt : ℕ} → OwnsHolder p (HoldsMeta m) (WrittenIn m ctxt)
   helps_parameter : OwnsHolder p Helps HelperParameter
   helps_variable : OwnsHolder p Helps HelperVariable
 
@@ -148,7 +158,7 @@ pub data OwnsHolder (p : Program) : Cause → Holder → Type 0 where
 -- what an occurrence of an item by itself means, in a statement that begins at this place of it and
 -- has these bindings inside
 pub data NameAlone (p : Program) (list : List ℕ) (context : Contexts)
-    (answers : ℕ → Option (List Item)) (cause : Cause) (item : List Item) (begins : ℕ)
+    (answers : ℕ → Option Answer) (cause : Cause) (item : List Item) (begins : ℕ)
     (inner : List Denoted) (o : Occurrence) : Meant → Type 0 where
   -- a binding inside
   inside : {k : ℕ} (holder : Holder) →
@@ -182,7 +192,7 @@ pub data NameAlone (p : Program) (list : List ℕ) (context : Contexts)
       (o.sym ≡ codes "arguments" → find is_function (scopes_around Es o.path) ≡ None) →
       NameAlone p list context answers cause item begins inner o (Unbound o.sym)
 
-module _ (p : Program) (list : List ℕ) (context : Contexts) (answers : ℕ → Option (List Item)) (cause : Cause) (item : List Item) where
+module _ (p : Program) (list : List ℕ) (context : Contexts) (answers : ℕ → Option Answer) (cause : Cause) (item : List Item) where
   -- a statement in an item, at this spot of it, by what is told of it
   abbrev pub StatementAlone : Spot → List Item → Told → Type 0
   StatementAlone s part told =
@@ -266,7 +276,7 @@ pub record IsInnerAlone (p : Program) (list : List ℕ) (context : Contexts) (it
 
 -- what is so of the item of a cause by itself
 pub record IsAlone (p : Program) (hooks : Hooks) (list : List ℕ) (context : Contexts)
-    (answers : ℕ → Option (List Item)) (cause : Cause) (item : List Item) : Type 0 where
+    (answers : ℕ → Option Answer) (cause : Cause) (item : List Item) : Type 0 where
   pub noted : Noted
   pub stands : IsNotedFor p hooks AsModule item noted cause
   pub names : ItemAlone p list context answers cause item noted

@@ -1,6 +1,8 @@
 -- Which names a bundle gives: a context to each scope of its modules, and an identifier to each
--- label.
-use Rattle.std.specs.Prelude.{ℕ, ◌-◌, nat_lt, List, if◌then◌else◌, codes}
+-- label; and what it has of the hook's answers.
+use Rattle.std.specs.Prelude.{◌≡◌, ℕ, ◌-◌, nat_lt, Bool, true, false, List, Option, Some, option_map, if◌then◌else◌, codes}
+use Rattle.bundle_tree_leaf.specs.declared.kind.ExportMetadata.{ExportMetadata}
+use Rattle.bundle_tree_piece.specs.Item.{Item}
 use Rattle.bundle_rules.specs.Idents.{Ident}
 use Rattle.bundle_rules.specs.Program.{Program}
 use Rattle.bundle_rules.specs.Linking.{Declared}
@@ -8,13 +10,36 @@ use Rattle.bundle_rules.specs.Meaning.{Label, Of, Parameter}
 use Rattle.bundle_rules.specs.Symbols.{symbol_of_label}
 use Rattle.bundle_scope_names.proofs.Numbering.{Numbering}
 
+-- what a bundle has of the hook's answer for a module: properties whose names get their contexts
+-- in the bundle; or the object of its `import.meta` as it is written already, with the context of
+-- its name, its notes, and its properties
+pub data Answer : Type 0 where
+  Fresh : (properties : List Item) → Answer
+  Written : (ctxt : ℕ) (notes : ExportMetadata) (properties : List Item) → Answer
+
+-- answers that are all fresh
+abbrev pub all_fresh : (ℕ → Option (List Item)) → ℕ → Option Answer
+all_fresh given m = option_map Fresh (given m)
+
+-- whether it is an object that is written already
+abbrev pub stands_written : Option Answer → Bool
+stands_written (Some (Written ctxt notes properties)) = true
+stands_written _ = false
+
+-- each answer is fresh: no object of `import.meta` is written already
+abbrev pub AreFresh : (ℕ → Option Answer) → Type 0
+AreFresh answers =
+    (m ctxt : ℕ) (notes : ExportMetadata) (properties : List Item) →
+    answers m ≡ Some (Written ctxt notes properties) → ⊥
+
 -- what has a context of its own: the top of a module; a scope inside it, by where its node begins;
--- a scope inside what the hook answered for it; a label; the parameter and the variable of the
--- helper
+-- a scope inside what the hook answered for it; a binding inside the object that is written
+-- already, by its context; a label; the parameter and the variable of the helper
 pub data Holder : Type 0 where
   TopOf : (m : ℕ) → Holder
   InsideOf : (m begins : ℕ) → Holder
   AnsweredOf : (m begins : ℕ) → Holder
+  WrittenIn : (m ctxt : ℕ) → Holder
   NameOf : Label → Holder
   HelperParameter : Holder
   HelperVariable : Holder

@@ -20,13 +20,14 @@ use Rattle.bundle_rules.specs.Injected.{NamedTarget}
 use Rattle.bundle_rules.specs.Program.{Program, tree_of}
 use Rattle.bundle_rules.specs.Linking.{Target, Namespace, External, CommonJs}
 use Rattle.bundle_rules.specs.Meaning.{Of, Load, Meta, Helper, IsMeant}
+use Rattle.bundle_rules.specs.Merged.{IsMetaItem}
 use Rattle.bundle_rules.specs.Bundle.{Cause, Own, ImportsNames, ImportsWhole, ImportsNothing, Helps, Defines, Loads, HoldsMeta, HoldsNamespace, Stars, Exports, Hooks, MayHold, AreFaultless, AreNames, AreLinked, MeansName, properties_tree, owner_of}
 use Rattle.bundle_scope_renamed.specs.fit.Sorts.{AProperty, Many, slot}
 use Rattle.bundle_scope_renamed.specs.fit.Fits.{AreFit}
 use Rattle.bundle_merge_injected.specs.Listed as l
 use Rattle.bundle_merge_meaning.specs.walked.Stated.{StatesList}
 use Rattle.bundle_merge_whole.specs.planned.Decided.{Decided, DecidedBlock, front_plan, back_plan, block_plan}
-use Rattle.bundle_merge_whole.specs.made.Given.{Contexts, HelperParameter, HelperVariable, TopOf, ident_of_label, default_ident}
+use Rattle.bundle_merge_whole.specs.made.Given.{Answer, Fresh, Written, Contexts, HelperParameter, HelperVariable, TopOf, NameOf, WrittenIn, ident_of_label, default_ident}
 use Rattle.bundle_merge_whole.specs.made.Steps.{IsStep, IsStepAnswered, occurrences_in, meta_ident}
 
 -- what a statement of module m, read as this kind, becomes: what the top item states of which it
@@ -75,9 +76,16 @@ pub record IsAnsweredAs (p : Program) (hooks : Hooks) (context : Contexts) (m : 
   pub by : Becomes InObject
       (record { steps = steps; meta = None; clears_notes = true }) given made rest
 
+-- the object of `import.meta` that is written already stays as it is: its name and the bindings
+-- inside keep their contexts
+pub record IsWrittenAs (context : Contexts) (m ctxt : ℕ) (properties : List Item) : Type 0 where
+  pub fit : AreFit (slot 0 Many AProperty ∷ []) properties
+  pub name : context (NameOf (Meta m)) ≡ ctxt
+  pub inside : (its : ℕ) → context (WrittenIn m its) ≡ its
+
 -- an item is made for its cause, where the hook answered this for modules
 pub data IsMade (p : Program) (hooks : Hooks) (list : List ℕ) (context : Contexts)
-    (answers : ℕ → Option (List Item)) : Cause → List Item → Type 0 where
+    (answers : ℕ → Option Answer) : Cause → List Item → Type 0 where
   own : {m k : ℕ} {item : List Item} (statement : List Element) →
       slice_get (own_statements (tree_of p m)) k ≡ Some statement →
       IsStatedAs p list context m Es statement item →
@@ -107,9 +115,13 @@ pub data IsMade (p : Program) (hooks : Hooks) (list : List ℕ) (context : Conte
       item ≡ l.load_statement (ident_of_label p list context (Load c)) (if whole then Some (ident_of_label p list context (Of (CommonJs m c Whole))) else None) (named_idents p list context (λ x. CommonJs m c (Named x)) names) →
       IsMade p hooks list context answers (Loads m c) item
   holds_meta : {m : ℕ} {item : List Item} (properties made : List Item) →
-      answers m ≡ Some properties →
+      answers m ≡ Some (Fresh properties) →
       IsAnsweredAs p hooks context m properties made →
       item ≡ l.constant no_notes (ident_of_label p list context (Meta m)) (node 1 h.ObjectLit made) →
+      IsMade p hooks list context answers (HoldsMeta m) item
+  holds_written : {m : ℕ} {item : List Item} (its : IsMetaItem p hooks m item) →
+      answers m ≡ Some (Written its.ctxt its.meta its.properties) →
+      IsWrittenAs context m its.ctxt its.properties →
       IsMade p hooks list context answers (HoldsMeta m) item
   holds_namespace : {d : ℕ} {item : List Item} (pairs : List NamedTarget) →
       AreLinked p d pairs →
@@ -127,7 +139,7 @@ pub data IsMade (p : Program) (hooks : Hooks) (list : List ℕ) (context : Conte
 
 -- the items of a block, in the order that was found if it is sorted
 pub record IsBlockMade (p : Program) (hooks : Hooks) (list : List ℕ) (context : Contexts)
-    (answers : ℕ → Option (List Item)) (d : Decided) (block : DecidedBlock) (order : List ℕ)
+    (answers : ℕ → Option Answer) (d : Decided) (block : DecidedBlock) (order : List ℕ)
     (placed : List (List Item)) : Type 0 where
   pub before : List (List Item)
   pub each : AllZip (IsMade p hooks list context answers) (block_plan d block.modules) before
@@ -138,7 +150,7 @@ pub record IsBlockMade (p : Program) (hooks : Hooks) (list : List ℕ) (context 
 
 -- the same of blocks in turn
 pub data AreBlocksMade (p : Program) (hooks : Hooks) (list : List ℕ) (context : Contexts)
-    (answers : ℕ → Option (List Item)) (d : Decided) :
+    (answers : ℕ → Option Answer) (d : Decided) :
     List DecidedBlock → List (List ℕ) → List (List Item) → Type 0 where
   none : AreBlocksMade p hooks list context answers d [] [] []
   more : {block : DecidedBlock} {blocks : List DecidedBlock} {order : List ℕ}
@@ -150,7 +162,7 @@ pub data AreBlocksMade (p : Program) (hooks : Hooks) (list : List ℕ) (context 
 
 -- the items of a bundle: what is imported and the helper, the blocks, and what is exported
 pub record AreMade (p : Program) (hooks : Hooks) (list : List ℕ) (context : Contexts)
-    (answers : ℕ → Option (List Item)) (d : Decided) (orders : List (List ℕ))
+    (answers : ℕ → Option Answer) (d : Decided) (orders : List (List ℕ))
     (items : List (List Item)) : Type 0 where
   pub front : List (List Item)
   pub middle : List (List Item)

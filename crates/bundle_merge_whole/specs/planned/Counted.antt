@@ -4,10 +4,10 @@ use Rattle.std.specs.List.{list_any}
 use Rattle.bundle_rules.specs.Entries.{Named, Whole}
 use Rattle.bundle_rules.specs.Linking.{External, CommonJs, Namespace}
 use Rattle.bundle_rules.specs.Meaning.{Label, Of, Load, Meta, Helper}
-use Rattle.bundle_tree_piece.specs.Item.{Item}
 use Rattle.bundle_rules.specs.Scopes.{Es, Cjs}
 use Rattle.bundle_rules.specs.Program.{Program, tree_of}
 use Rattle.bundle_rules.specs.Faults.{tree_count, properties_count}
+use Rattle.bundle_merge_whole.specs.made.Given.{Answer, Fresh, Written}
 use Rattle.bundle_merge_whole.specs.planned.Decided.{Decided, DecidedExternal, DecidedLoad, DecidedBlock}
 
 -- the sum of what is told of each
@@ -82,13 +82,15 @@ injected_labels d = front_labels d ++ flat_map (block_labels d) d.blocks
 
 -- Trees.
 
--- the scopes and bindings of properties that a hook answered, if it was asked
-abbrev pub answer_count : Option (List Item) → ℕ
+-- the scopes and bindings of properties that a hook answered, if it was asked; those that are
+-- written already take no contexts
+abbrev pub answer_count : Option Answer → ℕ
 answer_count None = 0
-answer_count (Some properties) = properties_count properties
+answer_count (Some (Fresh properties)) = properties_count properties
+answer_count (Some (Written ctxt notes properties)) = 0
 
 -- those of a module's tree and of what the hook answered for it
-abbrev pub tree_total : Program → (ℕ → Bool) → (ℕ → Option (List Item)) → ℕ → ℕ
+abbrev pub tree_total : Program → (ℕ → Bool) → (ℕ → Option Answer) → ℕ → ℕ
 tree_total p is_common_js answers m =
     if is_common_js m then tree_count Cjs (tree_of p m) else tree_count Es (tree_of p m) +
     answer_count (answers m)

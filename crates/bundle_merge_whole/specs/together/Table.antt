@@ -11,7 +11,7 @@ use Rattle.bundle_merge_meaning.specs.loaded.Contexts.{OwnEntry}
 use Rattle.bundle_merge_meaning.specs.walked.Renaming.{Told}
 use Rattle.bundle_merge_whole.specs.composed.Noted.{Noted, AsWhole, AsFunction, first_spot}
 use Rattle.bundle_merge_whole.specs.composed.Names.{Table}
-use Rattle.bundle_merge_whole.specs.made.Given.{Contexts, numbers_in}
+use Rattle.bundle_merge_whole.specs.made.Given.{Answer, Contexts, numbers_in}
 use Rattle.bundle_merge_whole.specs.made.Alone.{IsAlone}
 
 -- the identifiers of occurrences that mean labels
@@ -47,13 +47,13 @@ table_of _ _ = []
 
 -- what is told of an item that is right by itself
 pub record IsAloneAs (p : Program) (hooks : Hooks) (list : List ℕ) (context : Contexts)
-    (answers : ℕ → Option (List Item)) (cause : Cause) (item : List Item) (noted : Noted) : Type 0
+    (answers : ℕ → Option Answer) (cause : Cause) (item : List Item) (noted : Noted) : Type 0
   where
     pub alone : IsAlone p hooks list context answers cause item
     pub its : alone.noted ≡ noted
 
 -- of each item in turn
-abbrev pub AllAloneAs : Program → Hooks → List ℕ → Contexts → (ℕ → Option (List Item)) →
+abbrev pub AllAloneAs : Program → Hooks → List ℕ → Contexts → (ℕ → Option Answer) →
     List Cause → List (List Item) → List Noted → Type 0
 AllAloneAs p hooks list context answers [] [] [] = Unit {0}
 AllAloneAs p hooks list context answers (cause ∷ plan) (item ∷ items) (noted ∷ all) =
@@ -63,7 +63,7 @@ AllAloneAs p hooks list context answers _ _ _ = ⊥
 
 -- what is told of all items
 pub record HasNotes (p : Program) (hooks : Hooks) (list : List ℕ) (context : Contexts)
-    (answers : ℕ → Option (List Item)) (plan : List Cause) (items : List (List Item)) : Type 0 where
+    (answers : ℕ → Option Answer) (plan : List Cause) (items : List (List Item)) : Type 0 where
   pub noted : List Noted
   pub each : AllAloneAs p hooks list context answers plan items noted
 

@@ -1,6 +1,5 @@
 -- What the items of a module state is what its own statements become.
-use Rattle.std.proofs.Common.{ap, ◌∙◌, drop, map, option_map, if◌then◌else◌}
-use Rattle.std.specs.Prelude.{is_some}
+use Rattle.std.proofs.Common.{ap, ◌∙◌, map, option_map}
 use Rattle.std.proofs.lemmas.Result.{IfOk-weaker}
 use Rattle.bundle_tree_listed.specs.Tree.{stmt_items}
 use Rattle.bundle_tree_places.specs.Marks.{ident_of}
@@ -18,8 +17,7 @@ returns c =
     (option_map ident_of c.in_ok-body.body.meta) c.in_ok-body.ensures.meta
     (ident_of c.local-default.result) c.local-default.ensures
     c.own_items.result.now
-    (λ none. c.own_items.ensures
-    ∙ ap (λ written. drop (if is_some written then 1 else 0) c.args.part.now.items.now) none)
+    c.own_items.ensures
     (map part_items c.deref.result.now)
     (ap (map part_items) c.deref.ensures.value ∙ c.in_ok-nodes.ensures)
     (map (stmt_items 0) made.items) its)

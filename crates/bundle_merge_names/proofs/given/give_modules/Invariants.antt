@@ -1,7 +1,7 @@
 -- The modules that were gone over have names for what they need.
 use Rattle.std.proofs.Common.{ℕ, List, Option, take}
-use Rattle.bundle_tree_piece.specs.Item.{Item}
 use Rattle.bundle_rules.specs.Program.{Program}
+use Rattle.bundle_merge_whole.specs.made.Given.{Answer, stands_written}
 use Rattle.bundle_merge_names.specs.Added.{AddsNames}
 use Rattle.bundle_merge_names.specs.Bundle.{AreBundleParts}
 use Rattle.bundle_merge_names.proofs.GivenLemmas.{OfPart}
@@ -10,6 +10,8 @@ use Rattle.bundle_merge_names.proofs.given.give_modules.Given as goal
 
 abbrev pub invariant-loop-module : goal.invariant-loop-module
 invariant-loop-module l =
-    (p : Program) (list : List ℕ) (answers : ℕ → Option (List Item)) →
+    (p : Program) (list : List ℕ) (answers : ℕ → Option Answer) →
     AreBundleParts p list answers l.bundle →
-    AddsNames p list (IsOfSome (OfPart p) (take l.«module» l.bundle.parts.now)) l.initial.names l.names
+    AddsNames p list
+    (IsOfSome (OfPart p (λ m. stands_written (answers m))) (take l.«module» l.bundle.parts.now))
+    l.initial.names l.names

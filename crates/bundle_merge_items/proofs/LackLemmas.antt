@@ -5,7 +5,6 @@ use Rattle.std.specs.Prelude.{IsTrue}
 use Rattle.std.specs.List.{list_any}
 use Rattle.std.proofs.lemmas.Bool.{and_parts, false≢true}
 use Rattle.std.proofs.lemmas.List.Elements.{Contains-append_left, Contains-append_right}
-use Rattle.bundle_tree_piece.specs.Item.{Item}
 use Rattle.bundle_rules.specs.Bundle.{Hooks, form_of}
 use Rattle.bundle_rules.specs.Entries.{has_import_meta}
 use Rattle.bundle_rules.specs.Faults.{NeedsTooManyContexts, tree_count}
@@ -15,7 +14,7 @@ use Rattle.bundle_rules.specs.Program.{Program, tree_of, IsReached}
 use Rattle.bundle_rules.specs.Scopes.{Cjs, Es}
 use Rattle.bundle_link_reached.proofs.ElementLemmas.{map_on}
 use Rattle.bundle_scope_names.proofs.Pigeons.{pigeons}
-use Rattle.bundle_merge_whole.specs.made.Given.{Holder, HelperParameter, HelperVariable, NameOf}
+use Rattle.bundle_merge_whole.specs.made.Given.{Answer, Fresh, Written, Holder, HelperParameter, HelperVariable, NameOf}
 use Rattle.bundle_merge_whole.specs.planned.Counted.{answer_count, count_if, injected_labels, sum_of, tree_total}
 use Rattle.bundle_merge_whole.specs.planned.Decided.{AreDecided, Decided}
 use Rattle.bundle_merge_whole.proofs.planned.LabelLemmas.{helper-there, load-there, meta-there, target-there}
@@ -33,12 +32,13 @@ not-so : (b : Bool) → not b ≡ true → b ≡ false
 not-so true is = absurd (false≢true is)
 not-so false is = refl
 
-answered-few : (o : Option (List Item)) → answered_count o ≤ answer_count o
+answered-few : (o : Option Answer) → answered_count o ≤ answer_count o
 answered-few None = omega arith
-answered-few (Some properties) = omega arith
+answered-few (Some (Fresh properties)) = omega arith
+answered-few (Some (Written ctxt notes properties)) = omega arith
 
 -- a CommonJS module has no `import.meta`
-none-asked : (p : Program) (m : ℕ) → IsCommonJs p m → has_import_meta (tree_of p m) ≡ false
+pub none-asked : (p : Program) (m : ℕ) → IsCommonJs p m → has_import_meta (tree_of p m) ≡ false
 none-asked p m common = not-so (has_import_meta (tree_of p m)) (and_parts _ _ common.script).1
 
 -- the names of the helper, where there is one
@@ -51,15 +51,16 @@ helper-length true = refl
 helper-length false = refl
 
 module _ (q : Program) (hooks : Hooks) (d : Decided) (its : AreDecided q (form_of q.settings) d)
-    (answers : ℕ → Option (List Item)) (asked : AreAnswers q hooks answers) where
+    (answers : ℕ → Option Answer) (asked : AreAnswers q hooks answers) where
   -- Trees.
 
   none-answered : (m : ℕ) → IsCommonJs q m → answered_count (answers m) ≡ 0
   none-answered m common = by (answers m) refl
     where
-      by : (o : Option (List Item)) → answers m ≡ o → answered_count o ≡ 0
+      by : (o : Option Answer) → answers m ≡ o → answered_count o ≡ 0
       by None is = refl
-      by (Some properties) is =
+      by (Some (Written ctxt notes properties)) is = refl
+      by (Some (Fresh properties)) is =
           absurd
           (false≢true (sym (none-asked q m common) ∙ (asked.asked m properties is).0))
 
@@ -156,7 +157,7 @@ module _ (q : Program) (hooks : Hooks) (d : Decided) (its : AreDecided q (form_o
   holder-there holder (n.of_modules modules) =
       module-held modules.k modules.reached holder modules.its
 
-  labels-few : (holders : List Holder) → AreLabels q d.list holders →
+  labels-few : (holders : List Holder) → AreLabels q d.list answers holders →
       length holders ≤ length (injected_labels d) + count_if has_helper 2
   labels-few holders are =
       let few =
@@ -164,7 +165,7 @@ module _ (q : Program) (hooks : Hooks) (d : Decided) (its : AreDecided q (form_o
       (λ i holder at.
       let there =
       get-contains all_holders holder
-      (holder-there holder (are.each holder (contains-get holders i holder at))) in
+      (holder-there holder (are.each holder (contains-get holders i holder at)).its) in
       (there.0, holder, there.1, refl)) in
       let long = all-length in omega (arith, few, long)
 

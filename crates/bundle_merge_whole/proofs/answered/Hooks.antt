@@ -1,19 +1,25 @@
 -- What is made of modules for one hook is made for each that may answer the same.
-use Rattle.std.proofs.Common.{◌≡◌, ℕ, List, [], ◌∷◌, Option, Some}
+use Rattle.std.proofs.Common.{◌≡◌, ℕ, List, [], ◌∷◌, Option, Some, sym, subst}
 use Rattle.std.specs.List.{AllZip}
+use Rattle.bundle_tree_leaf.specs.declared.kind.ExportMetadata.{ExportMetadata}
 use Rattle.bundle_tree_piece.specs.Item.{Item}
-use Rattle.bundle_rules.specs.Bundle.{Cause, Hooks, MayHold}
+use Rattle.bundle_rules.specs.Bundle.{Cause, HoldsMeta, Hooks, MayHold}
+use Rattle.bundle_rules.specs.Merged.{IsMetaItem, meta_item}
 use Rattle.bundle_rules.specs.Program.{Program}
-use Rattle.bundle_merge_whole.specs.made.Given.{Contexts}
+use Rattle.bundle_merge_whole.specs.made.Given.{Answer, Fresh, Written, Contexts}
 use Rattle.bundle_merge_whole.specs.made.Made as m
 use Rattle.bundle_merge_whole.specs.made.Made.{AreBlocksMade, AreMade, IsAnsweredAs, IsBlockMade, IsMade}
 use Rattle.bundle_merge_whole.specs.planned.Decided.{Decided, DecidedBlock, back_plan, block_plan, front_plan}
+use Rattle.bundle_merge_whole.proofs.answered.Meta.{written-made}
 
 module _ (q : Program) (old hooks : Hooks) (list : List ℕ) (context : Contexts)
-    (answers : ℕ → Option (List Item))
-    (held : (k : ℕ) (properties : List Item) → answers k ≡ Some properties →
-    MayHold q hooks k properties) where
-  answered-as : (k : ℕ) (properties made : List Item) → answers k ≡ Some properties →
+    (answers : ℕ → Option Answer)
+    (held : (k : ℕ) (properties : List Item) → answers k ≡ Some (Fresh properties) →
+    MayHold q hooks k properties)
+    (written : (k ctxt : ℕ) (notes : ExportMetadata) (properties : List Item) →
+    answers k ≡ Some (Written ctxt notes properties) →
+    IsMetaItem q hooks k (meta_item notes ctxt properties)) where
+  answered-as : (k : ℕ) (properties made : List Item) → answers k ≡ Some (Fresh properties) →
       IsAnsweredAs q old context k properties made → IsAnsweredAs q hooks context k properties made
   answered-as k properties made at its = record {
     given = its.given;
@@ -38,6 +44,10 @@ module _ (q : Program) (old hooks : Hooks) (list : List ℕ) (context : Contexts
   one-held (m.loads whole names are forth back is) = m.loads whole names are forth back is
   one-held (m.holds_meta {m = k} properties made at its is) =
       m.holds_meta properties made at (answered-as k properties made at its) is
+  one-held (m.holds_written {m = k} its at as_it_is) =
+      subst (IsMade q hooks list context answers (HoldsMeta k)) (sym its.is)
+      (written-made q hooks list context answers k its.ctxt its.meta its.properties
+      (written k its.ctxt its.meta its.properties at) at as_it_is)
   one-held (m.holds_namespace pairs are is) = m.holds_namespace pairs are is
   one-held (m.stars is) = m.stars is
   one-held (m.exports pairs are is) = m.exports pairs are is
