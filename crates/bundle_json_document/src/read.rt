@@ -43,7 +43,7 @@ pub fn read_document<R: Input, E: Output>(
         (line : List ℕ)
         × IsRefusalLine (R.may_fail_read input.old) status line
         × AppendsOrFails (E.may_fail_write errors.old) (E.contents errors.old)
-            (E.contents errors.new) line) }
+        (E.contents errors.new) line) }
 {
     let text = match input.read_whole(alloc) {
         Ok(text) => text,
