@@ -120,7 +120,10 @@ pub record IsDocumentText (text : List ℕ) (document : Document) (lists : List 
   pub is_document : IsDocument value document
   pub are_lists : AreLists (get (codes "meta") value) lists
 
--- the status and the line of an input that cannot be read, of a text that is no document, and of want of memory
-abbrev pub IsRefusalLine : ℕ → List ℕ → Type 0
-IsRefusalLine status line =
-    ((status ≡ 2) × (line ≡ codes "error: input\n")) ⊎ ((status ≡ 2) × (line ≡ codes "error: document\n")) ⊎ ((status ≡ 1) × (line ≡ codes "error 22: OutOfMemory\n"))
+-- the status and the line of an input that cannot be read, where reading may fail, of a text that is no document, and of
+-- want of memory
+abbrev pub IsRefusalLine : Type 0 → ℕ → List ℕ → Type 0
+IsRefusalLine may_fail status line =
+    ((status ≡ 2) × (line ≡ codes "error: input\n") × may_fail)
+    ⊎ ((status ≡ 2) × (line ≡ codes "error: document\n"))
+    ⊎ ((status ≡ 1) × (line ≡ codes "error 22: OutOfMemory\n"))
