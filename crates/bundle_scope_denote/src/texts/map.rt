@@ -5,8 +5,6 @@ ghost use Rattle.std.specs.List.{IsAmong};
 ghost use Rattle.std.specs.Option.{option_copied};
 ghost use Rattle.std.specs.Str.{bytes_eq};
 ghost use Rattle.indexmap.specs.IndexMap.{get, get_by, values, index_map_len, insert_entry, IsEmpty, IsUnchanged, IsUnique, Updates};
-ghost use Rattle.std.specs.declared.alloc.Global as global;
-ghost use Rattle.std.specs.declared.vec.Vec as vec;
 ghost use Rattle.bundle_scope_denote.specs.texts.Seen.{list_of};
 
 use crate::texts::set::TextSet;
@@ -113,18 +111,12 @@ impl<'a, V: Drop> TextMap<&'a str, V> {
 }
 
 impl<K: Ord + Copy + Drop, T: Drop> TextMap<K, Vec<T>> {
-    /// Puts an item last in the list at a key, which begins with it unless the key is there. Where memory runs out
-    /// the lists stay.
+    /// Puts an item last in the list at a key, which begins with it unless the key is there.
     pub fn push(&mut self, alloc: Global, key: K, item: T) -> Result<(), AllocError>
-        ensures lists { OnOk result
+        ensures { OnOk result
             ((other : K) →
             list_of (get K.eq self.new other)
             ≡ list_of (get K.eq self.old other) ++ (if K.eq key other then item ∷ [] else [])) }
-        ensures updates { OnOk result
-            ((list : vec.Vec T global.Global)
-            × (list.items ≡ list_of (get K.eq self.old key) ++ item ∷ [])
-            × Updates K.eq self.old self.new key (Some list)) }
-        ensures err { OnErr result (IsUnchanged self.old self.new) }
     {
         match self.keys.get_index_of(&key) {
             Some(place) => {
