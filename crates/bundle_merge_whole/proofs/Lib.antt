@@ -18,3 +18,4 @@ pub mod tidy
 pub mod moved
 pub mod sound
 pub mod undoubled
+pub mod cleared
