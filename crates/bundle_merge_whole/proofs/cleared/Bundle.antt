@@ -1,4 +1,5 @@
--- A bundle of a program is one of each program whose modules are the same once their trees are cleared.
+-- A bundle of a program is one of each program whose modules are the same once their trees are
+-- cleared.
 use Rattle.std.proofs.Common.{◌≡◌, ◌↔◌, ℕ, zero, suc, ◌+◌, ◌<◌, ◌==◌, List, [], ◌∷◌, ◌++◌, Option, Some, None, Contains, length, map, refl, sym, ap, ◌∙◌, subst}
 use Rattle.std.specs.Prelude.{IsTrue, filter, flat_map, option_map}
 use Rattle.std.specs.List.{AllZip}
@@ -181,11 +182,10 @@ module _ (p : Program) (f g : Modules) (w : AreSameCleared f g) where
   linked-pairs : (m : ℕ) (pairs : List NamedTarget) → AreLinked one m pairs → AreLinked two m pairs
   linked-pairs m pairs are = record {
     ascending = are.ascending;
-    all = λ x t.
-        (
-          λ there. linked-on p f g w m x t ((are.all x t).0 there),
-          λ links. (are.all x t).1 (linked-on p g f (turned w) m x t links),
-        );
+    all = λ x t. (
+      λ there. linked-on p f g w m x t ((are.all x t).0 there),
+      λ links. (are.all x t).1 (linked-on p g f (turned w) m x t links),
+    );
   }
 
   pub meant-both : (l : Label) → IsMeant one l ↔ IsMeant two l
@@ -235,11 +235,10 @@ module _ (p : Program) (f g : Modules) (w : AreSameCleared f g) where
           (Realises two hooks form (labelled tree reading pairing))
           (realises-on hooks form (labelled tree reading pairing)) pairing.body pairing.plan
           its.realised;
-      due = λ cause.
-          (
-            λ there. (due-both form cause).0 ((its.due cause).0 there),
-            λ due. (its.due cause).1 ((due-both form cause).1 due),
-          );
+      due = λ cause. (
+        λ there. (due-both form cause).0 ((its.due cause).0 there),
+        λ due. (its.due cause).1 ((due-both form cause).1 due),
+      );
       once = its.once;
     }
 

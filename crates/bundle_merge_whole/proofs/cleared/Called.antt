@@ -1,5 +1,5 @@
--- What is merged right for a program is so for each program whose modules are the same once their trees are
--- cleared.
+-- What is merged right for a program is so for each program whose modules are the same once their
+-- trees are cleared.
 use Rattle.std.proofs.Common.{◌≡◌, ℕ, zero, ◌+◌, List, length, map, refl, ap, ◌∙◌}
 use Rattle.std.specs.Prelude.{bytes_eq, flat_map}
 use Rattle.std.specs.List.{AllZip}

@@ -1,5 +1,5 @@
--- What is merged right for the program with cleared trees is merged right for the program; and what is so of
--- the program is so of the other.
+-- What is merged right for the program with cleared trees is merged right for the program; and
+-- what is so of the program is so of the other.
 use Rattle.std.proofs.Common.{◌≡◌, ℕ, List, [], Option, Some, None, Contains, refl, sym, ap, ◌∙◌}
 use Rattle.std.specs.Prelude.{option_map, unwrap_or}
 use Rattle.bundle_tree_names.specs.FileName.{Name}

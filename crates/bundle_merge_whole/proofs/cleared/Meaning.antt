@@ -1,5 +1,5 @@
--- What statements mean in programs whose modules are the same once their trees are cleared, and what is
--- meant.
+-- What statements mean in programs whose modules are the same once their trees are cleared, and
+-- what is meant.
 use Rattle.std.proofs.Common.{◌≡◌, ℕ, zero, suc, List, [], ◌∷◌, ◌++◌, Some, Contains, map, refl, sym, ap, ◌∙◌, subst, arith}
 use Rattle.std.specs.Prelude.{filter, filter_map, slice_get}
 use Rattle.std.specs.List.{AllZip, cons_option}

@@ -1,5 +1,5 @@
--- How many contexts a bundle may need, and what holds an `import.meta`, in programs whose modules are the
--- same once their trees are cleared.
+-- How many contexts a bundle may need, and what holds an `import.meta`, in programs whose modules
+-- are the same once their trees are cleared.
 use Rattle.std.proofs.Common.{ℕ, ◌+◌, List, ◌∷◌, sym, ◌∙◌, subst}
 use Rattle.bundle_tree_piece.specs.Item.{Item}
 use Rattle.bundle_rules.specs.Bundle.{Cause, Hooks}

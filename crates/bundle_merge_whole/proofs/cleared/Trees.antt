@@ -1,4 +1,5 @@
--- What is read of trees that are the same once they are cleared, where contexts and notes are not read.
+-- What is read of trees that are the same once they are cleared, where contexts and notes are not
+-- read.
 use Rattle.std.proofs.Common.{◌≡◌, ℕ, suc, ◌+◌, List, [], ◌∷◌, ◌++◌, length, map, refl, sym, ap, ◌∙◌, subst}
 use Rattle.std.specs.Prelude.{flat_map}
 use Rattle.std.specs.List.{AllZip}
