@@ -27,7 +27,9 @@ use Rattle.bundle_link_reached.proofs.NumberLemmas.{held}
 use Rattle.bundle_link_reached.proofs.NumbersLemmas.{there_is}
 use Rattle.bundle_link_targets.specs.declared.linking.Linking.{Linking}
 use Rattle.bundle_merge_meaning.specs.joined.Joined.{joined}
+use Rattle.bundle_merge_whole.specs.cleared.Programs.{cleared_program}
 use Rattle.bundle_merge_whole.specs.made.Given.{Answer}
+use Rattle.bundle_merge_whole.proofs.cleared.Cleared.{of-cleared-reached, requested-cleared}
 use Rattle.bundle_merge_whole.specs.planned.Decided.{numbers_from}
 use Rattle.bundle_merge_names.specs.Bundle.{AreBundleParts}
 use Rattle.bundle_merge_names.specs.Numbers.{position}
@@ -255,11 +257,11 @@ module _ (p : Program) (hooks : Hooks) (contexts : ℕ → Contexts) (next : ℕ
           ready.ToldAt p hooks contexts next prepared linker w prepares objects fits k (answers k)
       tells k = (ready.told-at p hooks contexts next prepared linker w prepares objects fits k).1
 
-      pub read-in : AreReadIn p hooks linker (λ m. (contexts m).local) next reads
+      pub read-in : AreReadIn (cleared_program p) hooks linker (λ m. (contexts m).local) next reads
       read-in = record {
         links = w.of.modules.links;
         begins = w.of.modules.begins;
-        graph = w.of.linked.graph;
+        graph = λ m. w.of.linked.graph m ∙ ap (λ r. r m) (sym (requested-cleared p));
         right = ready.are-right p hooks contexts next prepared linker w prepares objects fits;
         answers = answers;
         fronts = λ k m read part at there handed.
@@ -286,9 +288,10 @@ module _ (p : Program) (hooks : Hooks) (contexts : ℕ → Contexts) (next : ℕ
             ready.has-local p hooks contexts next prepared linker w prepares objects fits m (is-reached k m at)
             copy.0.body.items copy.2 k at copy.0 refl part
             (from.each k m copy.0 read part at copy.1 there handed));
-        own = λ m reached. (prepares.above_one m reached).0;
-        free = λ m reached. (prepares.below_next m reached).0;
-        apart = prepares.locals;
+        own = λ m reached. (prepares.above_one m (of-cleared-reached p m reached)).0;
+        free = λ m reached. (prepares.below_next m (of-cleared-reached p m reached)).0;
+        apart = λ m n one two.
+            prepares.locals m n (of-cleared-reached p m one) (of-cleared-reached p n two);
       }
 
 -- ---- the items of one module, as a module

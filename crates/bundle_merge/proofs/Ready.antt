@@ -1,4 +1,5 @@
--- Prepared items of modules are read as the trees of their modules, behind the object of an `import.meta`, if there is one.
+-- Prepared items of modules are read as the trees of their modules without contexts and notes, behind the object of an
+-- `import.meta`, if there is one.
 use Rattle.std.proofs.Common.{◌≡◌, ◌≢◌, ℕ, zero, suc, ◌<◌, ◌==◌, Bool, true, false, List, [], ◌∷◌, ◌++◌, Option, Some, None, Contains, codes, drop, length, map, nat_eq, refl, sym, ap, ◌∙◌, subst, append-nil, eq-eqb, eqb-true, arith}
 use Rattle.std.specs.Prelude.{bytes_eq, flat_map, is_some, option_map, position, slice_get, string_bytes, take, if◌then◌else◌}
 use Rattle.std.specs.Option.{option_and_then, option_or}
@@ -34,18 +35,21 @@ use Rattle.bundle_rules.specs.Places.{Occurrence, occurrences}
 use Rattle.bundle_rules.specs.Program.{Program, tree_of, IsReached}
 use Rattle.bundle_rules.specs.Scopes.{ModuleKind, Es, Cjs, Inner, ScopeKind}
 use Rattle.bundle_rules.proofs.CallLemmas.{has_import_meta-cleared}
+use Rattle.bundle_rules.proofs.FaultLemmas as faults
 use Rattle.bundle_rules.proofs.FaultLemmas.{faultless_of_cleared}
 use Rattle.bundle_scope_denote.specs.Listed.{IsTable}
 use Rattle.bundle_scope_renamed.specs.fit.Fits as f
 use Rattle.bundle_scope_renamed.specs.fit.Fits.{AreFit, IsFit, a_name, a_node, name, no_more}
 use Rattle.bundle_scope_renamed.specs.fit.Sorts.{AModule, AProperty, Many, One, Sort, slot, takes, takes_name}
 use Rattle.bundle_link_index.specs.Leads.{flagged}
+use Rattle.bundle_link_targets.specs.Meant.{IsModuleTree}
 use Rattle.bundle_link_reached.specs.Alike.{IsAt}
 use Rattle.bundle_link_reached.specs.Default.{DeclaresDefaultAlone}
 use Rattle.bundle_link_reached.specs.Leads.{Deps, led, place_in, told, told_by}
 use Rattle.bundle_link_reached.specs.Linked.{IsLinkedOf}
 use Rattle.bundle_link_reached.proofs.AlikeLemmas.{common_js_on, flip}
-use Rattle.bundle_link_reached.proofs.DefaultLemmas.{default-once}
+use Rattle.bundle_link_reached.proofs.ClearedNodes.{cleared-module-tree}
+use Rattle.bundle_link_reached.proofs.DefaultLemmas.{default-once-cleared}
 use Rattle.bundle_link_reached.proofs.LeadLemmas.{told-led}
 use Rattle.bundle_link_reached.proofs.NumberLemmas.{at-place, got, held, place-there, place-of}
 use Rattle.bundle_link_reached.proofs.ProgramLemmas.{mapped}
@@ -58,8 +62,10 @@ use Rattle.bundle_link.proofs.ClearedTables.{cleared-table}
 use Rattle.bundle_merge_whole.proofs.function.Given.{fit_given, one_alone}
 use Rattle.bundle_merge_whole.proofs.fit.Facts.{fit_nodes}
 use Rattle.bundle_merge_meaning.proofs.walked.Loading.{nodes_whole}
+use Rattle.bundle_merge_whole.specs.cleared.Programs.{cleared_program}
 use Rattle.bundle_merge_whole.specs.made.Given.{Answer, Fresh, Written}
 use Rattle.bundle_merge_whole.proofs.answered.Resolving.{resolved-cleared}
+use Rattle.bundle_merge_whole.proofs.cleared.Cleared.{checked-cleared, leads-cleared, list-cleared, meta-cleared, meta-item-cleared, of-cleared-kind, of-cleared-reached, to-cleared-reached, tree-of-cleared, undoubled-cleared}
 use Rattle.bundle_merge_whole.proofs.grown.Trees.{kept_fit}
 use Rattle.bundle_merge_whole.proofs.planned.RequestLemmas.{list-once}
 use Rattle.bundle_merge_names.specs.Bundle.{IsWrittenIn, own_items}
@@ -267,7 +273,11 @@ module _ (p : Program) (hooks : Hooks) (contexts : ℕ → Contexts) (next : ℕ
       (sym (known-module m known its).tree ∙ ap (tree_of p) (known-number m known its))
       (w.of.faultless known (held linker.modules.items known its.place its.there))
 
-  -- ---- the tree of a reached module is that of a module
+  -- ---- what is read is read of the program with cleared trees
+  abbrev q : Program
+  q = cleared_program p
+
+  -- the tree of a reached module is that of a module
   its-tree : (m : ℕ) → IsReached p m →
       (its : TransformedModule) × (tree_of p m ≡ module_items 0 its.tree.now)
   its-tree m reached =
@@ -276,22 +286,29 @@ module _ (p : Program) (hooks : Hooks) (contexts : ℕ → Contexts) (next : ℕ
         ap (tree_of p) (sym (known-number m known.0 known.1)) ∙ (known-module m known.0 known.1).tree,
       )
 
-  its-fit : (m : ℕ) → IsReached p m → IsFit AModule 0 (tree_of p m)
-  its-fit m reached =
-      let its = its-tree m reached in
-      subst (IsFit AModule 0) (ap cleared (sym its.1) ∙ w.kept m reached) (kept_fit its.0.tree.now)
+  its-cleared : (m : ℕ) → IsReached p m →
+      (its : TransformedModule) × (tree_of q m ≡ cleared (module_items 0 its.tree.now))
+  its-cleared m reached =
+      let its = its-tree m reached in (its.0, tree-of-cleared p m ∙ ap cleared its.1)
 
-  pub are-right : AreRight p list
+  its-fit : (m : ℕ) → IsReached p m → IsFit AModule 0 (tree_of q m)
+  its-fit m reached =
+      let its = its-cleared m reached in
+      subst (IsFit AModule 0) (sym its.1) (kept_fit its.0.tree.now)
+
+  pub are-right : AreRight q list
   are-right = record {
-    is_list = l.list;
-    checked = ready.checked;
-    undoubled = ready.undoubled;
-    trees = λ m reached. w.of.trees m;
+    is_list = list-cleared p list l.list;
+    checked = checked-cleared p ready.checked;
+    undoubled = undoubled-cleared p ready.undoubled;
+    trees = λ m reached.
+        (let its = its-cleared m (of-cleared-reached p m reached) in
+        subst IsModuleTree (sym its.1) (cleared-module-tree its.0.tree.now));
     default = λ m reached.
-        (let its = its-tree m reached in
-        subst DeclaresDefaultAlone (sym its.1) (default-once its.0.tree.now));
-    fit = its-fit;
-    leads = w.leads;
+        (let its = its-cleared m (of-cleared-reached p m reached) in
+        subst DeclaresDefaultAlone (sym its.1) (default-once-cleared its.0.tree.now));
+    fit = λ m reached. its-fit m (of-cleared-reached p m reached);
+    leads = leads-cleared p w.leads;
   }
 
   -- a reached module has a kind
@@ -433,18 +450,19 @@ module _ (p : Program) (hooks : Hooks) (contexts : ℕ → Contexts) (next : ℕ
     its = ready.items m reached
 
     -- the tree that was resolved is the module's but for contexts
-    is-cleared : cleared its.tree ≡ tree_of p m
+    is-cleared : cleared its.tree ≡ tree_of q m
     is-cleared =
         let kind = its-kind m reached in
         resolved-cleared kind.0 (contexts m).local its.next its.later (tree_of p m) its.tree
         (its.resolved kind.0 kind.1)
-        ∙ w.kept m reached
+        ∙ sym (tree-of-cleared p m)
 
     is-fit : IsFit AModule 0 its.tree
     is-fit = one_alone (fit_given (fit-alone (its-fit m reached)) its.tree is-cleared)
 
     tree-meta : has_import_meta its.tree ≡ has_import_meta (tree_of p m)
-    tree-meta = sym (has_import_meta-cleared its.tree) ∙ ap has_import_meta is-cleared
+    tree-meta =
+        sym (has_import_meta-cleared its.tree) ∙ ap has_import_meta is-cleared ∙ meta-cleared p m
 
     own-tree : own_list items ≡ its.tree
     own-tree = by (fronts m reached)
@@ -457,14 +475,16 @@ module _ (p : Program) (hooks : Hooks) (contexts : ℕ → Contexts) (next : ℕ
             front.own.its.ctxt front.own.its.properties
             (split-items items _ (parts its.tree) (prepared_are ∙ front.are ∙ ap (λ x. x ∷ parts its.tree) front.own.its.is))
 
-    list-cleared : tree_of p m ≡ cleared (own_list items)
-    list-cleared = sym is-cleared ∙ ap cleared (sym own-tree)
+    own-cleared : tree_of q m ≡ cleared (own_list items)
+    own-cleared = sym is-cleared ∙ ap cleared (sym own-tree)
 
     -- so what is the module's own has no fault by itself
     pub own-faultless : (file : FileName) → IsFaultless file (tree_of p m) →
         IsFaultless file (own_list items)
     own-faultless file alone =
-        faultless_of_cleared file (own_list items) (subst (IsFaultless file) list-cleared alone)
+        faultless_of_cleared file (own_list items)
+        (subst (IsFaultless file) (sym (tree-of-cleared p m) ∙ own-cleared)
+        (faults.faultless file (tree_of p m) alone))
 
     module _ (k : ℕ) (at : slice_get list k ≡ Some m) (given : Module) (body : given.body.items ≡ items) (part : Part) (read : IsReadAt linker list m given part) where
       known : TransformedModule
@@ -480,7 +500,7 @@ module _ (p : Program) (hooks : Hooks) (contexts : ℕ → Contexts) (next : ℕ
       pieces-are = was.list
 
       -- its requests lead to listed modules
-      leads-listed : (s : Text) → Contains (requests_in p.settings (tree_of p m)) s → (c : ℕ) →
+      leads-listed : (s : Text) → Contains (requests_in q.settings (tree_of q m)) s → (c : ℕ) →
           led read.known.deps.items s ≡ Some c → (j : ℕ) × (place_in list c ≡ Some j)
       leads-listed s asked c leads =
           let to : p.leads m s ≡ Some c =
@@ -488,11 +508,13 @@ module _ (p : Program) (hooks : Hooks) (contexts : ℕ → Contexts) (next : ℕ
           ∙ (known-module m read.known read.is_known).leads s ∙ leads in
           place-there list c
           ((l.reached c).1
-          (Reaches-trans reached (along (requests_to p m c s asked to) itself)))
+          (of-cleared-reached p c
+          (Reaches-trans (to-cleared-reached p m reached)
+          (along (requests_to q m c s asked to) itself))))
 
-      pub is-read : IsRead p list m part
+      pub is-read : IsRead q list m part
       is-read = record {
-        tree = list-cleared ∙ ap cleared (sym pieces-are);
+        tree = own-cleared ∙ ap cleared (sym pieces-are);
         listed =
             pieces-are
             ∙ ap (λ name. node 0 h.Module (list_of (without_front name items))) (sym was.written)
@@ -501,11 +523,12 @@ module _ (p : Program) (hooks : Hooks) (contexts : ℕ → Contexts) (next : ℕ
             ∙ ap (drop (if is_some part.written then 1 else 0)) (sym was.its_items));
         names = λ kind has.
             subst (λ l. IsTable BySymbol kind l part.denotations.now) (sym pieces-are)
-            (was.names p kind w.of (subst (λ n. HasKind p n kind) (sym number) has));
+            (was.names p kind w.of
+            (subst (λ n. HasKind p n kind) (sym number) (of-cleared-kind p m kind has)));
         table =
-            cleared-table p m linker.config (name_of read.known.file_name) (own_list items)
-            part.tables.now w.of.modules.links list-cleared was.tables;
-        meta = was.meta ∙ sym (has_import_meta-cleared (own_list items)) ∙ ap has_import_meta (sym list-cleared);
+            cleared-table q m linker.config (name_of read.known.file_name) (own_list items)
+            part.tables.now w.of.modules.links own-cleared was.tables;
+        meta = was.meta ∙ sym (has_import_meta-cleared (own_list items)) ∙ ap has_import_meta (sym own-cleared);
         leads = λ s asked.
             was.leads s
             ∙ told-led (place_in list) read.known.deps.items s (leads-listed s asked)
@@ -528,16 +551,18 @@ module _ (p : Program) (hooks : Hooks) (contexts : ℕ → Contexts) (next : ℕ
           ∙ ap (λ n. (contexts n).local) number
 
       -- what stands in front of its own items is what is told
-      pub has-front : {answer : Option Answer} → Told m answer → HasFront p hooks m part answer
-      has-front (plain none_there) = nothing none_there (no-name part.written (was.written ∙ by (fronts m reached)))
+      pub has-front : {answer : Option Answer} → Told m answer → HasFront q hooks m part answer
+      has-front (plain none_there) = nothing (meta-cleared p m ∙ none_there) (no-name part.written (was.written ∙ by (fronts m reached)))
         where
           by : Fronts m reached → held_by items ≡ None
           by (no_front not are) =
               none-held its.tree is-fit items (tree-meta ∙ not) (prepared_are ∙ are)
           by (a_front front) = absurd (false≢true (sym none_there ∙ front.has))
       has-front {answer = Some (Written ctxt notes properties)} (written object_is) =
-          object ctxt notes properties object_is.has
-          (subst (IsMetaItem p hooks m) object_is.is object_is.meta) object_is.fit
+          object ctxt notes properties (meta-cleared p m ∙ object_is.has)
+          (meta-item-cleared p hooks m (meta_item notes ctxt properties)
+          (subst (IsMetaItem p hooks m) object_is.is object_is.meta))
+          object_is.fit
           (record {
             name = was.written ∙ held-so;
             first = split.first;

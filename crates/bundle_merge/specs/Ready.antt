@@ -7,7 +7,6 @@ use Rattle.bundle_tree_piece.specs.Item.{Item}
 use Rattle.bundle_tree_listed.specs.Tree.{key_value_prop_items}
 use Rattle.bundle_tree_names.specs.FileName.{Name}
 use Rattle.bundle_rules.specs.Bundle.{Hooks}
-use Rattle.bundle_rules.specs.Cleared.{cleared}
 use Rattle.bundle_rules.specs.Entries.{has_import_meta}
 use Rattle.bundle_rules.specs.Merged.{Contexts, IsMetaItem}
 use Rattle.bundle_rules.specs.Parts.{Parts, in_order, items_in}
@@ -42,12 +41,10 @@ abbrev pub hooks_by : Answering → Hooks
 hooks_by given =
     record { may_answer = λ file is_entry properties. Contains (map listed_properties (given file is_entry)) properties }
 
--- the modules of a linker are those of a program, with these contexts; each request leads to a module, and trees are
--- kept without contexts and notes
+-- the modules of a linker are those of a program, with these contexts, and each request leads to a module
 pub record IsMergeable (p : Program) (contexts : ℕ → Contexts) (linker : Linker) : Type 0 where
   pub of : IsLinkerOf p linker
   pub leads : LeadsAll p
-  pub kept : (m : ℕ) → IsReached p m → cleared (tree_of p m) ≡ tree_of p m
   pub locals : (its : TransformedModule) →
       Contains linker.modules.items its →
       (contexts its.id).local ≡ its.local_ctxt

@@ -8,6 +8,8 @@ use Rattle.bundle_rules.specs.Parts.{Parts, in_order}
 use Rattle.bundle_rules.specs.Program.{Program}
 use Rattle.bundle_link.specs.declared.link.Linker.{Linker}
 use Rattle.bundle_merge_meaning.specs.joined.Joined.{joined}
+use Rattle.bundle_merge_whole.specs.cleared.Programs.{cleared_program}
+use Rattle.bundle_merge_whole.proofs.cleared.Cleared.{merged-of-cleared, needs-of-cleared}
 use Rattle.bundle_merge_items.specs.Added.{items_of}
 use Rattle.bundle_merge.specs.Handed.{AreReadFrom, AreReadIn}
 use Rattle.bundle_merge.specs.Prepared.{items_of_each}
@@ -39,7 +41,7 @@ IsReadSo linker copies next reads =
     IsMergeable p its linker → IsPrepared p (hooks_by given) its next prepared →
     AreOwnObjects p (hooks_by given) prepared →
     map items_of copies ≡ items_of_each (in_order prepared) linker.linked.list.items →
-    AreReadIn p (hooks_by given) linker (λ m. (its m).local) next reads
+    AreReadIn (cleared_program p) (hooks_by given) linker (λ m. (its m).local) next reads
 
 read-so : (linker : Linker) (ids : List ℕ) (copies : List Module) (next : ℕ) (reads : List Read) →
     ids ≡ linker.linked.list.items →
@@ -71,11 +73,14 @@ returns-in-Ok-clause-bundle c =
     its prepared w ready objects copied in
     subst (λ (m : Module). IsMerged (λ x. x) (λ m. (its m).local) p hooks (joined (items_of m)))
     (sym same)
-    (c.in-Ok.ensures.merged p given (λ m. (its m).local)
-    (subst (λ (n : ℕ). AreReadIn p hooks linker (λ m. (its m).local) n c.deref.result.now)
+    (merged-of-cleared p (λ x. x) (λ m. (its m).local) hooks _
+    (c.in-Ok.ensures.merged (cleared_program p) given (λ m. (its m).local)
+    (subst
+    (λ (n : ℕ). AreReadIn (cleared_program p) hooks linker (λ m. (its m).local) n c.deref.result.now)
     (sym c.next.ensures)
-    (subst (λ (l : List Read). AreReadIn p hooks linker (λ m. (its m).local) next l)
-    (sym c.deref.ensures.value) read)))))
+    (subst
+    (λ (l : List Read). AreReadIn (cleared_program p) hooks linker (λ m. (its m).local) next l)
+    (sym c.deref.ensures.value) read))))))
     c.with_next.ensures.made
 
 pub returns-in-Ok-clause-lacks : goal.returns-in-Ok-clause-lacks
@@ -96,12 +101,15 @@ returns-in-Ok-clause-lacks c =
           inr (
             used.0,
             subst (NeedsTooManyContexts p hooks) c.next.ensures
-                (c.in-Ok.ensures.taken p given (λ m. (its m).local)
-                (subst (λ (n : ℕ). AreReadIn p hooks linker (λ m. (its m).local) n c.deref.result.now)
+                (needs-of-cleared p hooks c.next.result
+                (c.in-Ok.ensures.taken (cleared_program p) given (λ m. (its m).local)
+                (subst
+                (λ (n : ℕ). AreReadIn (cleared_program p) hooks linker (λ m. (its m).local) n c.deref.result.now)
                 (sym c.next.ensures)
-                (subst (λ (l : List Read). AreReadIn p hooks linker (λ m. (its m).local) next l)
+                (subst
+                (λ (l : List Read). AreReadIn (cleared_program p) hooks linker (λ m. (its m).local) next l)
                 (sym c.deref.ensures.value) read))
-                used.1),
+                used.1)),
           )
     ]))
     c.with_next.ensures.after
