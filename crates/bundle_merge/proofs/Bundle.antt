@@ -45,7 +45,7 @@ use Rattle.bundle_merge_whole.proofs.moved.Due.{turned-round}
 use Rattle.bundle_merge_whole.proofs.moved.Moved.{places-renamed}
 use Rattle.bundle_merge_whole.proofs.moved.Owed.{AreRenamed}
 use Rattle.bundle_merge_whole.proofs.moved.Requested.{blocks-in}
-use Rattle.bundle_merge_whole.proofs.moved.Stand.{faultless-by, may-hold-by}
+use Rattle.bundle_merge_whole.proofs.moved.Stand.{may-hold-by}
 use Rattle.bundle_merge_whole.proofs.planned.BundleLemmas.{for-call}
 use Rattle.bundle_merge_whole.proofs.planned.RequestLemmas.{list-reached}
 use Rattle.bundle_merge_whole.proofs.planned.TreeCountLemmas as counted
@@ -53,7 +53,7 @@ use Rattle.bundle_merge_whole.proofs.sound.Blocks.{planned-blocks}
 use Rattle.bundle_merge_whole.proofs.sound.Decided.{decided, linked-by}
 use Rattle.bundle_merge_whole.proofs.sound.Found.{below-from, entry-at, from-there, there-from}
 use Rattle.bundle_merge_whole.proofs.sound.Sound.{places-list, sound}
-use Rattle.bundle_merge_names.specs.Bundle as n
+use Rattle.bundle_merge_names.specs.Bundle as written
 use Rattle.bundle_merge_names.specs.Bundle.{AreAnswers, AreBundleParts, AreWrittenApart, IsPartOf, StandsWritten}
 use Rattle.bundle_merge_names.specs.Refused.{RefusesNames, TakesFew, for_labels}
 use Rattle.bundle_merge_names.specs.declared.error.MergeError.TheVariants as e
@@ -77,7 +77,7 @@ use Rattle.bundle_merge.proofs.Merging.{made-merged}
 -- a bundle of parts that were read so
 pub record IsReadBundle (p : Program) (hooks : Hooks) (list : List ℕ) (links : List LinkModule) (parts : List Part) (linking : Linking) (plan : Plan) (local : ℕ → ℕ) (answers : ℕ → Option Answer) (bundle : BundleParts) : Type 0 where
   pub handed : bundle.parts.now ≡ parts
-  pub answers : bundle.answers.now ≡ []
+  pub unasked : bundle.answers.now ≡ []
   pub linked : bundle.linking.now ≡ linking
   pub blocks : bundle.blocks.now ≡ plan.blocks.items
   pub locals : (k m : ℕ) (part : Part) → slice_get list k ≡ Some m → slice_get parts k ≡ Some part → part.local ≡ local m
@@ -89,6 +89,14 @@ pub record IsReadBundle (p : Program) (hooks : Hooks) (list : List ℕ) (links :
   pub apart : (m n : ℕ) → IsReached p m → IsReached p n → local m ≡ local n → m ≡ n
 
 -- ---- what stands in front of a part
+-- an object that holds the `import.meta` of a module, and in which properties stand
+abbrev FitsObject : Program → Hooks → ℕ → Option Answer → Type 0
+FitsObject p hooks m None = ⊥
+FitsObject p hooks m (Some (Fresh properties)) = ⊥
+FitsObject p hooks m (Some (Written ctxt notes properties)) =
+    IsMetaItem p hooks m (meta_item notes ctxt properties)
+    × AreFit (slot 0 Many AProperty ∷ []) properties
+
 module _ {p : Program} {hooks : Hooks} {m : ℕ} {part : Part} where
   -- it is what is told of its `import.meta`, for which the hook is not asked
   front-answers : {answer : Option Answer} → HasFront p hooks m part answer →
@@ -117,18 +125,11 @@ module _ {p : Program} {hooks : Hooks} {m : ℕ} {part : Part} where
       same_Some (Written ctxt notes inside) (Fresh properties) same in cc
 
   -- but the object that holds it
-  abbrev FitsObject : Option Answer → Type 0
-  FitsObject None = ⊥
-  FitsObject (Some (Fresh properties)) = ⊥
-  FitsObject (Some (Written ctxt notes properties)) =
-      IsMetaItem p hooks m (meta_item notes ctxt properties)
-      × AreFit (slot 0 Many AProperty ∷ []) properties
-
   front-object : {answer : Option Answer} → HasFront p hooks m part answer →
-      (its : Answer) → answer ≡ Some its → FitsObject (Some its)
+      (its : Answer) → answer ≡ Some its → FitsObject p hooks m (Some its)
   front-object (nothing not none) its same = absurd (none-some its same)
   front-object (object ctxt notes properties has meta fits is) its same =
-      subst FitsObject same (meta, fits)
+      subst (FitsObject p hooks m) same (meta, fits)
 
 -- what stands in an object does so whatever the program
 module _ {q : Program} {answers : ℕ → Option Answer} {k ctxt : ℕ} where
@@ -150,8 +151,8 @@ module _ {q : Program} {answers : ℕ → Option Answer} {k ctxt : ℕ} where
       }
 
   stands-in : StandsWritten q answers k ctxt → StandsInObject answers k ctxt
-  stands-in (n.its_name notes properties reached told) = its_name notes properties told
-  stands-in (n.its_inside holder) = its_inside (holder-inside holder)
+  stands-in (written.its_name notes properties reached told) = its_name notes properties told
+  stands-in (written.its_inside holder) = its_inside (holder-inside holder)
 
 module _ (p : Program) (list : List ℕ) (right : AreRight p list) (links : List LinkModule) (parts : List Part) (are : ArePlaced p list links parts) (linking : Linking) where
   abbrev q : Program
@@ -287,7 +288,7 @@ module _ (p : Program) (list : List ℕ) (right : AreRight p list) (links : List
           let m = module-at k part at in
           subst
           (λ (l : List (Option Answered)). AreAnswers (answers k) part (unwrap_or (slice_get l k) None))
-          (sym b.answers) (front-answers (front-at k m.0 part at m.1));
+          (sym b.unasked) (front-answers (front-at k m.0 part at m.1));
       written = objects-apart;
       own = λ k part at.
           (let m = module-at k part at in
@@ -369,9 +370,11 @@ module _ (p : Program) (list : List ℕ) (right : AreRight p list) (links : List
       held =
           may-hold-by p q (λ m k. IsAt list m k) (λ m. index_of m list) (id_at list)
           (turned-round to-places) hooks m k its.answered at its.held;
-      faultless =
-          faultless-by p q (λ m k. IsAt list m k) (λ m. index_of m list) (id_at list)
-          (turned-round to-places) its.answered its.faultless;
+      faultless = record {
+        undoubled = its.faultless.undoubled;
+        no_with = its.faultless.no_with;
+        no_arguments = its.faultless.no_arguments;
+      };
       properties = its.properties;
       local = its.local;
       next = its.next;

@@ -97,7 +97,7 @@ module _ (p : Program) (hooks : Hooks) (local : ℕ → ℕ) (linker : Linker) (
   is-bundle : IsReadBundle p hooks list links.links bundle.parts.now linking plan local its.answers bundle
   is-bundle = record {
     handed = refl;
-    answers = b.answers;
+    unasked = b.answers;
     linked = b.linked;
     blocks = b.its_blocks;
     locals = λ k m part at there.

@@ -131,18 +131,18 @@ no-name None is = refl
 no-name (Some its) is = absurd (none-some (ident_of its) (sym is))
 
 -- what is behind the front of a part is its own, by the name of what stands there
-own-behind : (name : Option Name) (items : List ModuleItem) →
-    drop (if is_some name then 1 else 0) items ≡ without_front (option_map ident_of name) items
+own-behind : (found : Option Name) (items : List ModuleItem) →
+    drop (if is_some found then 1 else 0) items ≡ without_front (option_map ident_of found) items
 own-behind None items = refl
-own-behind (Some name) items = refl
+own-behind (Some its) items = refl
 
 -- the first of some items, and the others
-record SplitItems (items : List ModuleItem) (x : List Item) (xs : List (List Item)) : Type 0 where
-  first : ModuleItem
-  rest : List ModuleItem
-  is : items ≡ first ∷ rest
-  its : module_item_items 0 first ≡ x
-  behind : map (module_item_items 0) rest ≡ xs
+pub record SplitItems (items : List ModuleItem) (x : List Item) (xs : List (List Item)) : Type 0 where
+  pub first : ModuleItem
+  pub rest : List ModuleItem
+  pub is : items ≡ first ∷ rest
+  pub its : module_item_items 0 first ≡ x
+  pub behind : map (module_item_items 0) rest ≡ xs
 
 split-items : (items : List ModuleItem) (x : List Item) (xs : List (List Item)) →
     map (module_item_items 0) items ≡ x ∷ xs → SplitItems items x xs
@@ -364,7 +364,7 @@ module _ (p : Program) (hooks : Hooks) (contexts : ℕ → Contexts) (next : ℕ
         })
 
   -- what is so of an object that is written already for module m
-  record IsObjectOf (m ctxt : ℕ) (notes : ExportMetadata) (properties : List Item) : Type 0 where
+  pub record IsObjectOf (m ctxt : ℕ) (notes : ExportMetadata) (properties : List Item) : Type 0 where
     pub item : List Item
     pub is : item ≡ meta_item notes ctxt properties
     pub has : has_import_meta (tree_of p m) ≡ true
@@ -409,17 +409,17 @@ module _ (p : Program) (hooks : Hooks) (contexts : ℕ → Contexts) (next : ℕ
       }
 
   -- what is told of a module: nothing, or that
-  abbrev ObjectIs : ℕ → Option Answer → Type 0
+  abbrev pub ObjectIs : ℕ → Option Answer → Type 0
   ObjectIs m None = ⊥
   ObjectIs m (Some (Fresh properties)) = ⊥
   ObjectIs m (Some (Written ctxt notes properties)) = IsObjectOf m ctxt notes properties
 
-  data Told (m : ℕ) : Option Answer → Type 0 where
+  pub data Told (m : ℕ) : Option Answer → Type 0 where
     plain : has_import_meta (tree_of p m) ≡ false → Told m None
     written : {answer : Option Answer} → ObjectIs m answer → Told m answer
 
-  told : (m : ℕ) → IsReached p m → (answer : Option Answer) × Told m answer
-  told m reached = by (fronts m reached)
+  told-of : (m : ℕ) → IsReached p m → (answer : Option Answer) × Told m answer
+  told-of m reached = by (fronts m reached)
     where
       by : Fronts m reached → (answer : Option Answer) × Told m answer
       by (no_front none_there are) = (None, plain none_there)
@@ -433,7 +433,7 @@ module _ (p : Program) (hooks : Hooks) (contexts : ℕ → Contexts) (next : ℕ
   list-has k m at = (l.reached m).0 (held list m k at)
 
   -- the same of the module at a place of the list
-  data ToldAt (k : ℕ) : Option Answer → Type 0 where
+  pub data ToldAt (k : ℕ) : Option Answer → Type 0 where
     past : slice_get list k ≡ None → ToldAt k None
     there_is : {answer : Option Answer} (m : ℕ) → slice_get list k ≡ Some m → Told m answer → ToldAt k answer
 
@@ -442,7 +442,7 @@ module _ (p : Program) (hooks : Hooks) (contexts : ℕ → Contexts) (next : ℕ
     where
       by : (found : Option ℕ) → slice_get list k ≡ found → (answer : Option Answer) × ToldAt k answer
       by None at = (None, past at)
-      by (Some m) at = let its = told m (list-has k m at) in (its.0, there_is m at its.1)
+      by (Some m) at = let its = told-of m (list-has k m at) in (its.0, there_is m at its.1)
 
   -- ---- what is read of the prepared items of a module
   module _ (m : ℕ) (reached : IsReached p m) (items : List ModuleItem) (prepared_are : map (module_item_items 0) items ≡ items_in (in_order prepared) m) where
@@ -722,5 +722,5 @@ module _ (p : Program) (hooks : Hooks) (contexts : ℕ → Contexts) (next : ℕ
     }
       where
         by_number : (m n : ℕ) (t : Bool) → (m == n) ≡ t → (m ≡ n → ⊥) → ((m ≡ n → ⊥) → ⊥) → ⊥
-        by_number m n true e one other = one (eqb-true m n e)
-        by_number m n false e one other = other (λ same. false≢true (sym e ∙ eq-eqb m n same))
+        by_number m n true e its others = its (eqb-true m n e)
+        by_number m n false e its others = others (λ same. false≢true (sym e ∙ eq-eqb m n same))

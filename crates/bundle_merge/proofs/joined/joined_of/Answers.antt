@@ -2,11 +2,13 @@
 use Rattle.std.proofs.Common.{◌≡◌, ℕ, List, length, map, inl, inr, refl, sym, subst}
 use Rattle.std.proofs.lemmas.Result.{IfOk-weaker, IfErr-weaker, err_from_is_err_and}
 use Rattle.bundle_tree_ast.specs.declared.module.Module.{Module}
+use Rattle.bundle_tree_names.specs.FileName.{Name as FileName}
 use Rattle.bundle_rules.specs.Faults.{NeedsTooManyContexts}
 use Rattle.bundle_rules.specs.Merged.{Contexts, IsMerged, IsPrepared}
 use Rattle.bundle_rules.specs.Parts.{Parts, in_order}
 use Rattle.bundle_rules.specs.Program.{Program}
 use Rattle.bundle_link.specs.declared.link.Linker.{Linker}
+use Rattle.bundle_scope.specs.Refusals.{IsUsedUp}
 use Rattle.bundle_merge_meaning.specs.joined.Joined.{joined}
 use Rattle.bundle_merge_whole.specs.cleared.Programs.{cleared_program}
 use Rattle.bundle_merge_whole.proofs.cleared.Cleared.{merged-of-cleared, needs-of-cleared}
@@ -15,6 +17,7 @@ use Rattle.bundle_merge.specs.Handed.{AreReadFrom, AreReadIn}
 use Rattle.bundle_merge.specs.Prepared.{items_of_each}
 use Rattle.bundle_merge.specs.Read.{AreAllKnown}
 use Rattle.bundle_merge.specs.Ready.{Answering, AreOwnObjects, IsMergeable, hooks_by}
+use Rattle.bundle_merge.specs.Refusals.{MayLackNames}
 use Rattle.bundle_merge.specs.declared.read.Read.{Read}
 use Rattle.bundle_merge.proofs.Joining.{long-copies, memory-alone, read-in}
 use Rattle.bundle_merge.proofs.Objects.{answers-fit}
@@ -113,3 +116,31 @@ returns-in-Ok-clause-lacks c =
           )
     ]))
     c.with_next.ensures.after
+
+pub returns-clause-lacks : goal.returns-clause-lacks
+returns-clause-lacks c =
+    let linker = c.args.linker.now in
+    let copies = c.args.copies.now in
+    let next = c.args.contexts.now.next in
+    let reads = c.in_ok-reads.reads.items in
+    let error = c.in_ok-lack_of_contexts-in-Err-ContextsUsedUp.field-0 in
+    λ p given its prepared w ready objects keys copied.
+    (let hooks = hooks_by given in
+    let read =
+    read-so linker c.args.places.now.keys copies next reads keys c.in_ok-reads.ensures.read p given
+    its prepared w ready objects copied in
+    inr (
+      subst (λ (file : FileName). IsUsedUp file error) c.file.ensures
+          c.in_ok-lack_of_contexts-in-Err-ContextsUsedUp.ensures,
+      subst (NeedsTooManyContexts p hooks) c.next.ensures
+          (needs-of-cleared p hooks c.next.result
+          (subst (MayLackNames (cleared_program p) hooks c.next.result)
+          c.in-Err-ContextsUsedUp.field-0-is
+          (c.in-Err-ContextsUsedUp.ensures.refused (cleared_program p) given (λ m. (its m).local)
+          (subst
+          (λ (n : ℕ). AreReadIn (cleared_program p) hooks linker (λ m. (its m).local) n c.deref.result.now)
+          (sym c.next.ensures)
+          (subst
+          (λ (l : List Read). AreReadIn (cleared_program p) hooks linker (λ m. (its m).local) next l)
+          (sym c.deref.ensures.value) read))))),
+    ))
