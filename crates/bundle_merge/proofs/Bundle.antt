@@ -1,19 +1,20 @@
--- What is merged of modules that were read by their places on the list of a program is merged right for it, where none
--- of them has an `import.meta`.
-use Rattle.std.proofs.Common.{◌≡◌, ◌↔◌, ℕ, zero, ◌+◌, ◌<◌, Bool, false, List, [], Option, Some, None, Contains, drop, length, map, refl, sym, ap, ◌∙◌, subst, arith}
-use Rattle.std.specs.Prelude.{flat_map, is_some, slice_get, unwrap_or, if◌then◌else◌}
+-- What is merged of modules that were read by their places on the list of a program is merged right for it, and it is
+-- refused for contexts only where they may be too few.
+use Rattle.std.proofs.Common.{◌≡◌, ◌↔◌, ◌≢◌, ℕ, zero, ◌+◌, ◌<◌, Bool, true, false, List, [], ◌∷◌, Option, Some, None, Contains, length, map, refl, sym, ap, ◌∙◌, subst, arith}
+use Rattle.std.specs.Prelude.{slice_get, unwrap_or, if◌then◌else◌}
 use Rattle.std.proofs.lemmas.Bool.{false≢true}
-use Rattle.std.proofs.lemmas.Option.{none-some, slice_get_within}
-use Rattle.bundle_tree_listed.specs.Tree.{module_item_items, node}
-use Rattle.bundle_tree_piece.specs.Item as h
+use Rattle.std.proofs.lemmas.Option.{none-some, same_Some, slice_get_within}
+use Rattle.bundle_tree_leaf.specs.declared.kind.ExportMetadata.{ExportMetadata}
+use Rattle.bundle_tree_piece.specs.Item.{Item}
 use Rattle.bundle_order_graph.specs.Modules.{Modules, deps}
 use Rattle.bundle_order_sort.specs.Plan.{IsPlanOf}
 use Rattle.bundle_order_sort.specs.declared.plan.Block.{Block}
 use Rattle.bundle_order_sort.specs.declared.plan.Plan.{Plan}
-use Rattle.bundle_rules.specs.Bundle.{Hooks}
+use Rattle.bundle_rules.specs.Bundle.{AsCall, AsModule, Hooks}
 use Rattle.bundle_rules.specs.Entries.{has_import_meta}
+use Rattle.bundle_rules.specs.Faults.{NeedsTooManyContexts}
 use Rattle.bundle_rules.specs.Meaning.{HasKind, is_es, is_common_js}
-use Rattle.bundle_rules.specs.Merged.{IsMerged}
+use Rattle.bundle_rules.specs.Merged.{IsMerged, IsMetaItem, meta_item}
 use Rattle.bundle_rules.specs.Program.{Program, requested, tree_of, AreBlocks, IsList, IsReached}
 use Rattle.bundle_rules.specs.Scopes.{ModuleKind}
 use Rattle.bundle_rules.specs.Statements.{own_statements}
@@ -29,52 +30,129 @@ use Rattle.bundle_link_reached.proofs.AlikeLemmas.{common_js_on, flip}
 use Rattle.bundle_link_reached.proofs.NumberLemmas.{held}
 use Rattle.bundle_link_reached.proofs.NumbersLemmas.{there_is}
 use Rattle.bundle_merge_meaning.specs.joined.Joined.{joined}
-use Rattle.bundle_merge_whole.specs.made.Given.{Answer, AreFresh, Fresh, Written}
+use Rattle.bundle_scope_renamed.specs.fit.Fits.{AreFit}
+use Rattle.bundle_scope_renamed.specs.fit.Sorts.{AProperty, Many, slot}
+use Rattle.bundle_merge_whole.specs.made.Given.{Answer, Fresh, Written, WrittenIn}
 use Rattle.bundle_merge_whole.specs.made.Made.{AreMade}
 use Rattle.bundle_merge_whole.proofs.answered.Hooks.{all-held}
-use Rattle.bundle_merge_whole.specs.made.Alone.{AreSound}
+use Rattle.bundle_merge_whole.specs.made.Alone.{AreSound, IsHolder, written_in}
 use Rattle.bundle_merge_whole.specs.planned.Blocks.{block_of}
-use Rattle.bundle_merge_whole.specs.planned.Decided.{DecidedBlock, numbers_from}
+use Rattle.bundle_merge_whole.specs.planned.Decided.{AreDecided, Decided, DecidedBlock, index_of, numbers_from}
+use Rattle.bundle_merge_whole.specs.planned.Placed.{id_at}
 use Rattle.bundle_merge_whole.specs.sound.Known.{AreKnown, IsByPlaces}
-use Rattle.bundle_merge_whole.specs.sound.Decided.{AreTold, decided_by}
+use Rattle.bundle_merge_whole.specs.sound.Decided.{AreLinkedBy, AreTold, decided_by}
+use Rattle.bundle_merge_whole.proofs.moved.Due.{turned-round}
+use Rattle.bundle_merge_whole.proofs.moved.Moved.{places-renamed}
+use Rattle.bundle_merge_whole.proofs.moved.Owed.{AreRenamed}
 use Rattle.bundle_merge_whole.proofs.moved.Requested.{blocks-in}
+use Rattle.bundle_merge_whole.proofs.moved.Stand.{may-hold-by}
+use Rattle.bundle_merge_whole.proofs.planned.BundleLemmas.{for-call}
 use Rattle.bundle_merge_whole.proofs.planned.RequestLemmas.{list-reached}
+use Rattle.bundle_merge_whole.proofs.planned.TreeCountLemmas as counted
 use Rattle.bundle_merge_whole.proofs.sound.Blocks.{planned-blocks}
-use Rattle.bundle_merge_whole.proofs.sound.Decided.{linked-by}
+use Rattle.bundle_merge_whole.proofs.sound.Decided.{decided, linked-by}
 use Rattle.bundle_merge_whole.proofs.sound.Found.{below-from, entry-at, from-there, there-from}
 use Rattle.bundle_merge_whole.proofs.sound.Sound.{places-list, sound}
-use Rattle.bundle_merge_names.proofs.WrittenLemmas.{fresh-apart}
-use Rattle.bundle_merge_names.specs.Bundle.{AreAnswers, AreBundleParts, IsPartOf}
+use Rattle.bundle_merge_names.specs.Bundle as written
+use Rattle.bundle_merge_names.specs.Bundle.{AreAnswers, AreBundleParts, AreWrittenApart, IsPartOf, StandsWritten}
+use Rattle.bundle_merge_names.specs.Refused.{RefusesNames, TakesFew, for_labels}
+use Rattle.bundle_merge_names.specs.declared.error.MergeError.TheVariants as e
 use Rattle.bundle_merge_names.specs.declared.part.Answered.{Answered}
 use Rattle.bundle_merge_names.specs.Numbers.{position}
 use Rattle.bundle_merge_names.specs.declared.part.BundleParts.{BundleParts}
 use Rattle.bundle_merge_names.specs.declared.part.Part.{Part}
 use Rattle.bundle_merge_items.specs.Added.{items_of}
 use Rattle.bundle_merge_items.specs.Adds.{AreAnswered, any_hooks, decided_of}
-use Rattle.bundle_merge_items.specs.Merged.{AreBlocksOnce, IsMergedOf}
+use Rattle.bundle_merge_items.specs.Merged.{AreBlocksOnce}
 use Rattle.bundle_merge_items.specs.declared.merge.Merged.{Merged}
+use Rattle.bundle_merge_items.proofs.LackLemmas.{refused-lacks}
+use Rattle.bundle_merge_items.proofs.NeedsLemmas.{needs-by}
 use Rattle.bundle_merge_items.proofs.Once.{blocks-once}
-use Rattle.bundle_merge.specs.Placed.{AreRight, ArePlaced}
+use Rattle.bundle_merge.specs.Handed.{AreObjectsApart, StandsInObject, StandsInside, its_inside, its_name}
+use Rattle.bundle_merge.specs.Placed.{AreRight, ArePlaced, HasFront, nothing, object}
+use Rattle.bundle_merge.specs.Ready.{IsMergedAs}
 use Rattle.bundle_merge.proofs.Places as places
 use Rattle.bundle_merge.proofs.Merging.{made-merged}
 
--- nothing was answered
-abbrev pub no_answers : ℕ → Option Answer
-no_answers k = None
-
-none-fresh : AreFresh no_answers
-none-fresh m ctxt notes properties told = none-some (Written ctxt notes properties) told
-
 -- a bundle of parts that were read so
-pub record IsReadBundle (p : Program) (list : List ℕ) (links : List LinkModule) (parts : List Part) (linking : Linking) (plan : Plan) (local : ℕ → ℕ) (bundle : BundleParts) : Type 0 where
+pub record IsReadBundle (p : Program) (hooks : Hooks) (list : List ℕ) (links : List LinkModule) (parts : List Part) (linking : Linking) (plan : Plan) (local : ℕ → ℕ) (answers : ℕ → Option Answer) (bundle : BundleParts) : Type 0 where
   pub handed : bundle.parts.now ≡ parts
-  pub answers : bundle.answers.now ≡ []
+  pub unasked : bundle.answers.now ≡ []
   pub linked : bundle.linking.now ≡ linking
   pub blocks : bundle.blocks.now ≡ plan.blocks.items
   pub locals : (k m : ℕ) (part : Part) → slice_get list k ≡ Some m → slice_get parts k ≡ Some part → part.local ≡ local m
+  pub fronts : (k m : ℕ) (part : Part) → slice_get list k ≡ Some m → slice_get parts k ≡ Some part → HasFront p hooks m part (answers k)
+  pub past : (k : ℕ) → slice_get list k ≡ None → answers k ≡ None
+  pub objects : AreObjectsApart list local (position bundle.contexts) answers
   pub own : (m : ℕ) → IsReached p m → 1 < local m
   pub free : (m : ℕ) → IsReached p m → local m < position bundle.contexts
   pub apart : (m n : ℕ) → IsReached p m → IsReached p n → local m ≡ local n → m ≡ n
+
+-- ---- what stands in front of a part
+-- an object that holds the `import.meta` of a module, and in which properties stand
+abbrev FitsObject : Program → Hooks → ℕ → Option Answer → Type 0
+FitsObject p hooks m None = ⊥
+FitsObject p hooks m (Some (Fresh properties)) = ⊥
+FitsObject p hooks m (Some (Written ctxt notes properties)) =
+    IsMetaItem p hooks m (meta_item notes ctxt properties)
+    × AreFit (slot 0 Many AProperty ∷ []) properties
+
+module _ {p : Program} {hooks : Hooks} {m : ℕ} {part : Part} where
+  -- it is what is told of its `import.meta`, for which the hook is not asked
+  front-answers : {answer : Option Answer} → HasFront p hooks m part answer →
+      AreAnswers answer part None
+  front-answers (nothing not none) = none
+  front-answers (object ctxt notes properties has its fits is) = is
+
+  -- it is there for just a module that has one
+  front-there : {answer : Option Answer} → HasFront p hooks m part answer →
+      has_import_meta (tree_of p m) ≡ true → (its : Answer) × (answer ≡ Some its)
+  front-there (nothing not none) has = absurd (false≢true (sym not ∙ has))
+  front-there (object ctxt notes properties has its fits is) also =
+      (Written ctxt notes properties, refl)
+
+  front-has : {answer : Option Answer} → HasFront p hooks m part answer → (its : Answer) →
+      answer ≡ Some its → has_import_meta (tree_of p m) ≡ true
+  front-has (nothing not none) its same = absurd (none-some its same)
+  front-has (object ctxt notes properties has meta fits is) its same = has
+
+  -- and no answer that is fresh
+  front-written : {answer : Option Answer} → HasFront p hooks m part answer →
+      (properties : List Item) → answer ≡ Some (Fresh properties) → ⊥
+  front-written (nothing not none) properties same = none-some (Fresh properties) same
+  front-written (object ctxt notes inside has meta fits is) properties same =
+      let one : Written ctxt notes inside ≡ Fresh properties =
+      same_Some (Written ctxt notes inside) (Fresh properties) same in cc
+
+  -- but the object that holds it
+  front-object : {answer : Option Answer} → HasFront p hooks m part answer →
+      (its : Answer) → answer ≡ Some its → FitsObject p hooks m (Some its)
+  front-object (nothing not none) its same = absurd (none-some its same)
+  front-object (object ctxt notes properties has meta fits is) its same =
+      subst (FitsObject p hooks m) same (meta, fits)
+
+-- what stands in an object does so whatever the program
+module _ {q : Program} {answers : ℕ → Option Answer} {k ctxt : ℕ} where
+  holder-inside : IsHolder q answers (WrittenIn k ctxt) → StandsInside answers k ctxt
+  holder-inside (written_in own notes properties kind begins name i o reached told there denoted is) =
+      record {
+        own = own;
+        notes = notes;
+        properties = properties;
+        told = told;
+        kind = kind;
+        begins = begins;
+        name = name;
+        i = i;
+        o = o;
+        there = there;
+        denoted = denoted;
+        is = is;
+      }
+
+  stands-in : StandsWritten q answers k ctxt → StandsInObject answers k ctxt
+  stands-in (written.its_name notes properties reached told) = its_name notes properties told
+  stands-in (written.its_inside holder) = its_inside (holder-inside holder)
 
 module _ (p : Program) (list : List ℕ) (right : AreRight p list) (links : List LinkModule) (parts : List Part) (are : ArePlaced p list links parts) (linking : Linking) where
   abbrev q : Program
@@ -93,7 +171,7 @@ module _ (p : Program) (list : List ℕ) (right : AreRight p list) (links : List
       (common_js_on q p (λ a b. IsAt list b a) (flip (places.alike p list right links parts are)) k
       m at is)
 
-  module _ (linked : IsLinkingOf q linking) (handed : HandsOver q (numbers_below (length links)) linking) (g : Modules) (graph : (m : ℕ) → deps g m ≡ requested p m) (plan : Plan) (planned : IsPlanOf g p.entry list plan) (local : ℕ → ℕ) (bundle : BundleParts) (b : IsReadBundle p list links parts linking plan local bundle) where
+  module _ (linked : IsLinkingOf q linking) (handed : HandsOver q (numbers_below (length links)) linking) (g : Modules) (graph : (m : ℕ) → deps g m ≡ requested p m) (plan : Plan) (planned : IsPlanOf g p.entry list plan) (hooks : Hooks) (local : ℕ → ℕ) (answers : ℕ → Option Answer) (bundle : BundleParts) (b : IsReadBundle p hooks list links parts linking plan local answers bundle) where
     modules : AreModules q
     modules =
         places.modules-are p list right links parts are
@@ -159,10 +237,7 @@ module _ (p : Program) (list : List ℕ) (right : AreRight p list) (links : List
         let tree = places.tree-at p list right links parts are k m.0 m.1 in
         record {
           tree = sym tree ∙ its.tree;
-          listed =
-              its.listed
-              ∙ ap (λ b. node 0 h.Module (flat_map (module_item_items 0) (drop (if b then 1 else 0) part.items.now)))
-              (sym (ap is_some its.written));
+          listed = its.listed;
           table = λ kind has. its.names kind (kind-back k m.0 kind m.1 has);
           tables = places.table-at-place p list right links parts are k part there;
           meta = its.meta ∙ ap has_import_meta tree;
@@ -176,8 +251,26 @@ module _ (p : Program) (list : List ℕ) (right : AreRight p list) (links : List
     is-reached : (k m : ℕ) → slice_get list k ≡ Some m → IsReached p m
     is-reached k m at = (list-reached p list right.is_list m).0 (held list m k at)
 
+    front-at : (k m : ℕ) (part : Part) → slice_get bundle.parts.now k ≡ Some part →
+        slice_get list k ≡ Some m → HasFront p hooks m part (answers k)
+    front-at k m part at there = b.fronts k m part there (its-part k part at)
+
+    objects-apart : AreWrittenApart q answers bundle
+    objects-apart = record {
+      own = λ k ctxt stands. b.objects.own k ctxt (stands-in stands);
+      free = λ k ctxt stands. b.objects.free k ctxt (stands-in stands);
+      tops = λ k i ctxt part stands at same.
+          (let m = module-at i part at in
+          b.objects.tops k i m.0 ctxt (stands-in stands) m.1
+          (same ∙ local-at i m.0 part at m.1));
+      apart = λ k i ctxt one other.
+          b.objects.apart k i ctxt (stands-in one) (stands-in other);
+      names = λ k ctxt its notes properties told holder.
+          b.objects.names k ctxt its notes properties told (holder-inside holder);
+    }
+
     -- what is merged is of the program by places
-    pub are-parts : AreBundleParts q (numbers_from zero n) no_answers bundle
+    pub are-parts : AreBundleParts q (numbers_from zero n) answers bundle
     are-parts = record {
       reached = λ k. (
         λ reached. (let below = (below-reached k).0 reached in omega (arith, below, long)),
@@ -193,9 +286,10 @@ module _ (p : Program) (list : List ℕ) (right : AreRight p list) (links : List
       parts = part-is;
       answered = λ k part at.
           let m = module-at k part at in
-          subst (λ (l : List (Option Answered)). AreAnswers None part (unwrap_or (slice_get l k) None)) (sym b.answers)
-          (are.each k m.0 part m.1 (its-part k part at)).written;
-      written = fresh-apart q no_answers none-fresh bundle;
+          subst
+          (λ (l : List (Option Answered)). AreAnswers (answers k) part (unwrap_or (slice_get l k) None))
+          (sym b.unasked) (front-answers (front-at k m.0 part at m.1));
+      written = objects-apart;
       own = λ k part at.
           (let m = module-at k part at in
           let same = local-at k m.0 part at m.1 in
@@ -229,81 +323,228 @@ module _ (p : Program) (list : List ℕ) (right : AreRight p list) (links : List
         (map (λ (block : DecidedBlock). block.modules) (map block_of list))) (sym b.blocks)
         are-blocks)
 
-    -- ---- what is asked of the hook, which is nothing
-    module _ (plain : (m : ℕ) → IsReached p m → has_import_meta (tree_of p m) ≡ false) where
-      plain-at : (k : ℕ) → IsReached q k → has_import_meta (tree_of q k) ≡ false
-      plain-at k reached =
-          let below = (below-reached k).0 reached in
-          let m = there_is list k below in
-          ap has_import_meta (sym (places.tree-at p list right links parts are k m.0 m.1))
-          ∙ plain m.0 (is-reached k m.0 m.1)
+    -- ---- what is told of the hook's answers
+    -- the part at a place that is told something of
+    record PartAt (k : ℕ) : Type 0 where
+      m : ℕ
+      part : Part
+      at : slice_get list k ≡ Some m
+      front : HasFront p hooks m part (answers k)
 
-      pub are-answered : AreAnswered q no_answers
-      are-answered = record {
-        there = λ k reached has. absurd (false≢true (sym (plain-at k reached) ∙ has));
-        asked = λ k answer at. absurd (none-some answer at);
-        held = λ k properties at. absurd (none-some (Fresh properties) at);
-        faultless = λ k properties at. absurd (none-some (Fresh properties) at);
-        fit = λ k properties at. absurd (none-some (Fresh properties) at);
-        written = λ k ctxt notes properties at. absurd (none-fresh k ctxt notes properties at);
-        written_fit = λ k ctxt notes properties at. absurd (none-fresh k ctxt notes properties at);
-      }
+    place-part : (k m : ℕ) → slice_get list k ≡ Some m → PartAt k
+    place-part k m at =
+        let part = places.part-at p list right links parts are k m at in
+        record { m = m; part = part.0; at = at; front = b.fronts k m part.0 at part.1 }
 
-      pub is-sound : AreSound q (numbers_from zero n)
-      is-sound = sound p q list known
+    told-part : (k : ℕ) (answer : Answer) → answers k ≡ Some answer → PartAt k
+    told-part k answer told = by (slice_get list k) refl
+      where
+        by : (o : Option ℕ) → slice_get list k ≡ o → PartAt k
+        by None at = absurd (none-some answer (sym (b.past k at) ∙ told))
+        by (Some m) at = place-part k m at
 
-      pub are-told : AreTold q (length bundle.parts.now) (λ k. has_import_meta (tree_of q k))
-          (λ k. length (own_statements (tree_of q k)))
-      are-told = record { meta_told = λ k below. refl; counted = λ k below. refl }
+    tree-back : (k m : ℕ) → slice_get list k ≡ Some m →
+        has_import_meta (tree_of q k) ≡ has_import_meta (tree_of p m)
+    tree-back k m at =
+        ap has_import_meta (sym (places.tree-at p list right links parts are k m at))
 
-      told-there : AreTold q n (λ k. has_import_meta (tree_of q k))
-          (λ k. length (own_statements (tree_of q k)))
-      told-there = record { meta_told = λ k below. refl; counted = λ k below. refl }
+    none-fresh : (k : ℕ) (properties : List Item) → answers k ≡ Some (Fresh properties) → ⊥
+    none-fresh k properties told =
+        front-written (told-part k (Fresh properties) told).front properties told
 
-      decided-same : decided_of bundle (λ k. has_import_meta (tree_of q k))
-          (λ k. length (own_statements (tree_of q k)))
-          ≡ decided_by linking (λ k. has_import_meta (tree_of q k))
-          (λ k. length (own_statements (tree_of q k))) n (map block_of plan.blocks.items)
-      decided-same =
-          ap (λ (l : Linking). decided_by l (λ k. has_import_meta (tree_of q k))
-          (λ k. length (own_statements (tree_of q k))) (length bundle.parts.now)
-          (map block_of bundle.blocks.now)) b.linked
-          ∙ ap (λ (size : ℕ). decided_by linking (λ k. has_import_meta (tree_of q k))
-          (λ k. length (own_statements (tree_of q k))) size (map block_of bundle.blocks.now)) long
-          ∙ ap (λ (blocks : List Block). decided_by linking (λ k. has_import_meta (tree_of q k))
-          (λ k. length (own_statements (tree_of q k))) n (map block_of blocks)) b.blocks
+    has-meta : (k : ℕ) (answer : Answer) → answers k ≡ Some answer →
+        has_import_meta (tree_of q k) ≡ true
+    has-meta k answer told =
+        let it = told-part k answer told in
+        tree-back k it.m it.at ∙ front-has it.front answer told
 
-      -- what is merged of them is merged right
-      pub is-merged : (merged : Merged) →
-          ((q : Program) (list : List ℕ) (answers : ℕ → Option Answer) (meta : ℕ → Bool)
-          (count : ℕ → ℕ) → AreSound q list → AreBundleParts q list answers bundle →
-          AreBlocksOnce bundle → AreAnswered q answers →
-          AreTold q (length bundle.parts.now) meta count →
-          IsMergedOf q list answers bundle meta count merged) →
-          (hooks : Hooks) → IsMerged (λ x. x) local p hooks (joined (items_of merged.«module»))
-      is-merged merged made hooks =
-          let its =
-          made q (numbers_from zero n) no_answers (λ k. has_import_meta (tree_of q k))
-          (λ k. length (own_statements (tree_of q k))) is-sound are-parts are-once are-answered
-          are-told in
-          let all =
-          all-held q any_hooks hooks (numbers_from zero n) its.context no_answers
-          (λ k properties at. absurd (none-some (Fresh properties) at))
-          (λ k ctxt notes properties at. absurd (none-fresh k ctxt notes properties at))
-          _ its.orders its.items its.made in
-          subst (λ l. IsMerged (λ x. x) local p hooks (joined l)) (sym its.is)
-          (made-merged p q list g by-places known (places.are-moved p list right links parts are)
-          linking (λ k. has_import_meta (tree_of q k)) (λ k. length (own_statements (tree_of q k)))
-          (linked-by p q list g by-places linking (λ k. has_import_meta (tree_of q k))
-          (λ k. length (own_statements (tree_of q k))) linked handed-on modules told-there)
-          plan planned hooks its.context no_answers its.orders its.items
-          (subst (λ d. AreMade q hooks (numbers_from zero n) its.context no_answers d its.orders its.items)
-          decided-same all)
-          its.apart local
-          (λ k reached.
-          (let below = (below-reached k).0 reached in
-          let m = there_is list k below in
-          let part = places.part-at p list right links parts are k m.0 m.1 in
-          let there = ap (λ (l : List Part). slice_get l k) b.handed ∙ part.1 in
-          its.tops k part.0 there ∙ b.locals k m.0 part.0 m.1 part.1
-          ∙ ap (λ o. local (unwrap_or o zero)) (sym m.1))))
+    -- modules under other numbers
+    to-places : AreRenamed q p (λ k m. IsAt list m k) (id_at list) (λ m. index_of m list)
+    to-places =
+        places-renamed p q list (places.are-moved p list right links parts are)
+
+    meta-by : (k m : ℕ) (item : List Item) → slice_get list k ≡ Some m →
+        IsMetaItem p hooks m item → IsMetaItem q hooks k item
+    meta-by k m item at its = record {
+      answered = its.answered;
+      held =
+          may-hold-by p q (λ m k. IsAt list m k) (λ m. index_of m list) (id_at list)
+          (turned-round to-places) hooks m k its.answered at its.held;
+      faultless = record {
+        undoubled = its.faultless.undoubled;
+        no_with = its.faultless.no_with;
+        no_arguments = its.faultless.no_arguments;
+      };
+      properties = its.properties;
+      local = its.local;
+      next = its.next;
+      later = its.later;
+      resolved = its.resolved;
+      meta = its.meta;
+      ctxt = its.ctxt;
+      own = its.own;
+      is = its.is;
+    }
+
+    -- whatever hook was asked
+    meta-any : (k : ℕ) (item : List Item) → IsMetaItem q hooks k item →
+        IsMetaItem q any_hooks k item
+    meta-any k item its = record {
+      answered = its.answered;
+      held = record {
+        loaded = its.held.loaded;
+        kept = its.held.kept;
+        answer = its.held.answer;
+        answered = tt;
+        cleared = its.held.cleared;
+      };
+      faultless = its.faultless;
+      properties = its.properties;
+      local = its.local;
+      next = its.next;
+      later = its.later;
+      resolved = its.resolved;
+      meta = its.meta;
+      ctxt = its.ctxt;
+      own = its.own;
+      is = its.is;
+    }
+
+    object-by : (k ctxt : ℕ) (notes : ExportMetadata) (properties : List Item) →
+        answers k ≡ Some (Written ctxt notes properties) →
+        IsMetaItem q hooks k (meta_item notes ctxt properties)
+        × AreFit (slot 0 Many AProperty ∷ []) properties
+    object-by k ctxt notes properties told =
+        let it = told-part k (Written ctxt notes properties) told in
+        let its = front-object it.front (Written ctxt notes properties) told in
+        (meta-by k it.m (meta_item notes ctxt properties) it.at its.0, its.1)
+
+    pub are-answered : AreAnswered q answers
+    are-answered = record {
+      there = λ k reached has.
+          let m = there_is list k ((below-reached k).0 reached) in
+          let it = place-part k m.0 m.1 in
+          front-there it.front (sym (tree-back k it.m it.at) ∙ has);
+      asked = has-meta;
+      held = λ k properties told. absurd (none-fresh k properties told);
+      faultless = λ k properties told. absurd (none-fresh k properties told);
+      fit = λ k properties told. absurd (none-fresh k properties told);
+      written = λ k ctxt notes properties told.
+          meta-any k (meta_item notes ctxt properties)
+          (object-by k ctxt notes properties told).0;
+      written_fit = λ k ctxt notes properties told. (object-by k ctxt notes properties told).1;
+    }
+
+    pub is-sound : AreSound q (numbers_from zero n)
+    is-sound = sound p q list known
+
+    pub are-told : AreTold q (length bundle.parts.now) (λ k. has_import_meta (tree_of q k))
+        (λ k. length (own_statements (tree_of q k)))
+    are-told = record { meta_told = λ k below. refl; counted = λ k below. refl }
+
+    told-there : AreTold q n (λ k. has_import_meta (tree_of q k))
+        (λ k. length (own_statements (tree_of q k)))
+    told-there = record { meta_told = λ k below. refl; counted = λ k below. refl }
+
+    decided-same : decided_of bundle (λ k. has_import_meta (tree_of q k))
+        (λ k. length (own_statements (tree_of q k)))
+        ≡ decided_by linking (λ k. has_import_meta (tree_of q k))
+        (λ k. length (own_statements (tree_of q k))) n (map block_of plan.blocks.items)
+    decided-same =
+        ap (λ (l : Linking). decided_by l (λ k. has_import_meta (tree_of q k))
+        (λ k. length (own_statements (tree_of q k))) (length bundle.parts.now)
+        (map block_of bundle.blocks.now)) b.linked
+        ∙ ap (λ (size : ℕ). decided_by linking (λ k. has_import_meta (tree_of q k))
+        (λ k. length (own_statements (tree_of q k))) size (map block_of bundle.blocks.now)) long
+        ∙ ap (λ (blocks : List Block). decided_by linking (λ k. has_import_meta (tree_of q k))
+        (λ k. length (own_statements (tree_of q k))) n (map block_of blocks)) b.blocks
+
+    are-linked : AreLinkedBy q n linking (λ k. has_import_meta (tree_of q k))
+        (λ k. length (own_statements (tree_of q k)))
+    are-linked =
+        linked-by p q list g by-places linking (λ k. has_import_meta (tree_of q k))
+        (λ k. length (own_statements (tree_of q k))) linked handed-on modules told-there
+
+    -- what is merged of them is merged right
+    pub is-merged : (merged : Merged) → IsMergedAs bundle merged →
+        IsMerged (λ x. x) local p hooks (joined (items_of merged.«module»))
+    is-merged merged made =
+        let its =
+        made q (numbers_from zero n) answers (λ k. has_import_meta (tree_of q k))
+        (λ k. length (own_statements (tree_of q k))) is-sound are-parts are-once are-answered
+        are-told in
+        let all =
+        all-held q any_hooks hooks (numbers_from zero n) its.context answers
+        (λ k properties told. absurd (none-fresh k properties told))
+        (λ k ctxt notes properties told. (object-by k ctxt notes properties told).0)
+        _ its.orders its.items its.made in
+        subst (λ l. IsMerged (λ x. x) local p hooks (joined l)) (sym its.is)
+        (made-merged p q list g by-places known (places.are-moved p list right links parts are)
+        linking (λ k. has_import_meta (tree_of q k)) (λ k. length (own_statements (tree_of q k)))
+        are-linked plan planned hooks its.context answers its.orders its.items
+        (subst (λ d. AreMade q hooks (numbers_from zero n) its.context answers d its.orders its.items)
+        decided-same all)
+        its.apart local
+        (λ k reached.
+        (let below = (below-reached k).0 reached in
+        let m = there_is list k below in
+        let part = places.part-at p list right links parts are k m.0 m.1 in
+        let there = ap (λ (l : List Part). slice_get l k) b.handed ∙ part.1 in
+        its.tops k part.0 there ∙ b.locals k m.0 part.0 m.1 part.1
+        ∙ ap (λ o. local (unwrap_or o zero)) (sym m.1))))
+
+    -- ---- what needs too many contexts
+    abbrev d : Decided
+    d = decided_by linking (λ k. has_import_meta (tree_of q k))
+        (λ k. length (own_statements (tree_of q k))) n (map block_of plan.blocks.items)
+
+    are-decided : AreDecided q AsModule d
+    are-decided =
+        decided p q list g by-places linking (λ k. has_import_meta (tree_of q k))
+        (λ k. length (own_statements (tree_of q k))) are-linked plan planned
+
+    are-counted : counted.AreAnswers q hooks answers
+    are-counted = record {
+      asked = λ k properties told. absurd (none-fresh k properties told);
+      written = λ k ctxt notes properties told. has-meta k (Written ctxt notes properties) told;
+    }
+
+    -- the modules by their places do, where they get no names
+    places-need : (next : ℕ) (its : Option ℕ) →
+        RefusesNames q (numbers_from zero n) answers next (e.ContextsUsedUp its) →
+        NeedsTooManyContexts q hooks next
+    places-need next its refuses = by q.settings.iife refl
+      where
+        by : (t : Bool) → q.settings.iife ≡ t → NeedsTooManyContexts q hooks next
+        by false so =
+            refused-lacks q hooks d
+            (subst (λ t. AreDecided q (if t then AsCall else AsModule) d) (sym so) are-decided)
+            answers are-counted next its refuses
+        by true so =
+            refused-lacks q hooks (record d { exports = true })
+            (subst (λ t. AreDecided q (if t then AsCall else AsModule) (record d { exports = true }))
+            (sym so) (for-call q AsModule d are-decided))
+            answers are-counted next its refuses
+
+    -- and so do those of the program
+    pub program-needs : (its : Option ℕ) →
+        RefusesNames q (numbers_from zero n) answers (position bundle.contexts)
+        (e.ContextsUsedUp its) →
+        NeedsTooManyContexts p hooks (position bundle.contexts)
+    program-needs its refuses =
+        needs-by q p (λ k m. IsAt list m k) (id_at list) (λ m. index_of m list) to-places hooks
+        (position bundle.contexts) (places-need (position bundle.contexts) its refuses)
+
+    -- also where they get names, and all contexts are taken for them
+    pub all-taken : (merged : Merged) →
+        TakesFew q (numbers_from zero n) answers (position bundle.contexts)
+        (position merged.contexts) →
+        position merged.contexts ≡ 4294967296 →
+        NeedsTooManyContexts p hooks (position bundle.contexts)
+    all-taken merged few full =
+        program-needs None
+        (for_labels (record {
+          holders = few.holders;
+          are = few.are;
+          above = λ most has. (let its = few.few most has in omega (arith, its, full));
+        }))

@@ -1,6 +1,6 @@
 -- What was read of modules one by one is what was read of all, and it is handed on to be linked.
 use Rattle.std.proofs.Common.{◌≡◌, ◌-◌, ◌+◌, ◌<◌, ℕ, List, [], ◌∷◌, ◌++◌, Option, Some, None, length, refl, sym, ap, ◌∙◌, subst, inl, inr, arith}
-use Rattle.std.specs.Prelude.{Result, Ok, Err, IfOk, slice_get}
+use Rattle.std.specs.Prelude.{Result, Ok, Err, IfErr, IfOk, slice_get}
 use Rattle.std.specs.List.{AllZip}
 use Rattle.std.proofs.lemmas.Option.{none-some, same_Some, slice_get_within}
 use Rattle.bundle_tree_ast.specs.declared.module.Module.{Module}
@@ -18,13 +18,14 @@ use Rattle.bundle_link_reached.proofs.NumberLemmas.{held}
 use Rattle.bundle_link_reached.proofs.NumbersLemmas.{there_is}
 use Rattle.bundle_link_targets.specs.Linked.{HandsOver, IsLinkingOf}
 use Rattle.bundle_link_targets.specs.declared.linking.Linking.{Linking}
+use Rattle.bundle_merge_names.specs.declared.error.MergeError.{MergeError}
 use Rattle.bundle_merge_names.specs.declared.part.BundleParts.{BundleParts}
 use Rattle.bundle_merge_names.specs.declared.part.Part.{Part}
 use Rattle.bundle_merge_names.proofs.ScopeLemmas.{push-cases}
 use Rattle.bundle_merge_items.specs.declared.merge.Merged.{Merged}
-use Rattle.bundle_merge.specs.Handed.{AreReadFrom, IsBundleRead, IsLinkRead, IsLinkedRead, IsPartRead}
+use Rattle.bundle_merge.specs.Handed.{AreReadFrom, IsBundleRead, IsLinkRead, IsLinkedRead, IsMadeOfRead, IsPartRead, MayRefuseRead}
 use Rattle.bundle_merge.specs.Read.{AreAllKnown, IsKnown, IsReadAt, IsReadOf}
-use Rattle.bundle_merge.specs.Ready.{IsMergedAs}
+use Rattle.bundle_merge.specs.Ready.{IsMergedAs, IsRefusedAs, TakesAs}
 use Rattle.bundle_merge.specs.declared.read.Read.{Read}
 
 -- nothing was read of no modules
@@ -119,10 +120,19 @@ planned-same g h entry its_entry list its_list plan same same_entry same_list pl
     (subst (λ (l : List ℕ). IsPlanOf g entry l plan) same_list planned))
 
 -- what is merged is made of the modules that were read
-pub bundle-read : {E : Type 0} (reads : List Read) (linking : Linking) (blocks : List Block)
-    (next : ℕ) (bundle : BundleParts) (result : Result Merged E) →
-    IfOk result (IsMergedAs bundle) → IsBundleRead reads linking blocks next bundle →
-    IfOk result (λ merged.
-    (its : BundleParts) × IsBundleRead reads linking blocks next its × IsMergedAs its merged)
-bundle-read reads linking blocks next bundle (Ok merged) made is = (bundle, is, made)
-bundle-read reads linking blocks next bundle (Err error) made is = tt
+pub made-of-read : (reads : List Read) (linking : Linking) (blocks : List Block) (next : ℕ)
+    (bundle : BundleParts) (result : Result Merged MergeError) → IfOk result (IsMergedAs bundle) →
+    IfOk result (TakesAs bundle) → IsBundleRead reads linking blocks next bundle →
+    IfOk result (IsMadeOfRead reads linking blocks next)
+made-of-read reads linking blocks next bundle (Ok merged) made few is =
+    record { bundle = bundle; read = is; made = made; few = few }
+made-of-read reads linking blocks next bundle (Err error) made few is = tt
+
+-- or nothing is
+pub refused-of-read : (reads : List Read) (linking : Linking) (blocks : List Block) (next : ℕ)
+    (bundle : BundleParts) (result : Result Merged MergeError) → IfErr result (IsRefusedAs bundle) →
+    IsBundleRead reads linking blocks next bundle →
+    IfErr result (MayRefuseRead reads linking blocks next)
+refused-of-read reads linking blocks next bundle (Ok merged) refused is = tt
+refused-of-read reads linking blocks next bundle (Err error) refused is =
+    inr (record { bundle = bundle; read = is; refused = refused })

@@ -1,5 +1,5 @@
 -- What was read of the modules of a linker is merged right, where it is handed on as it was read.
-use Rattle.std.proofs.Common.{◌≡◌, ℕ, zero, suc, ◌<◌, List, [], ◌∷◌, ◌++◌, Option, Some, None, length, map, refl, sym, ap, ◌∙◌, subst, inl, inr, arith}
+use Rattle.std.proofs.Common.{◌≡◌, ℕ, zero, suc, ◌-◌, ◌<◌, List, [], ◌∷◌, ◌++◌, Option, Some, None, length, map, refl, sym, ap, ◌∙◌, subst, inl, inr, arith}
 use Rattle.std.specs.Prelude.{IfSome, flat_map, option_map, slice_get}
 use Rattle.std.specs.List.{AllZip}
 use Rattle.std.proofs.lemmas.List.{length-map}
@@ -13,32 +13,42 @@ use Rattle.bundle_tree_piece.specs.Item.{Item}
 use Rattle.bundle_order_sort.specs.Plan.{IsPlanOf}
 use Rattle.bundle_order_sort.specs.declared.plan.Plan.{Plan}
 use Rattle.bundle_rules.specs.Bundle.{Hooks}
-use Rattle.bundle_rules.specs.Faults.{Fault, IsFaultless, IsFirstTreeFault, fault_of}
+use Rattle.bundle_rules.specs.Faults.{Fault, IsFaultless, IsFirstTreeFault, NeedsTooManyContexts, fault_of}
 use Rattle.bundle_rules.specs.Merged.{Contexts, IsMerged, IsPrepared}
 use Rattle.bundle_rules.specs.Nodes.{flat}
 use Rattle.bundle_rules.specs.Parts.{Owned, Parts, body_of, in_order, items_in, owned_by, parts_of, tree_of_items}
 use Rattle.bundle_rules.specs.Program.{Program, IsReached}
 use Rattle.bundle_link.specs.Refusals.{IsTreeRefusal}
 use Rattle.bundle_link.specs.declared.link.Linker.{Linker}
+use Rattle.bundle_link_index.specs.Programs.{IsProgramOf}
 use Rattle.bundle_link_index.specs.declared.target.LinkModule.{LinkModule}
+use Rattle.bundle_link_reached.specs.Judged.{numbers_below}
 use Rattle.bundle_link_reached.proofs.NumberLemmas.{held}
 use Rattle.bundle_link_reached.proofs.NumbersLemmas.{there_is}
 use Rattle.bundle_link_targets.specs.declared.linking.Linking.{Linking}
 use Rattle.bundle_merge_meaning.specs.joined.Joined.{joined}
-use Rattle.bundle_merge_whole.proofs.planned.RequestLemmas.{list-reached}
+use Rattle.bundle_merge_whole.specs.cleared.Programs.{cleared_program}
+use Rattle.bundle_merge_whole.specs.made.Given.{Answer}
+use Rattle.bundle_merge_whole.proofs.cleared.Cleared.{of-cleared-reached, requested-cleared}
+use Rattle.bundle_merge_whole.specs.planned.Decided.{numbers_from}
+use Rattle.bundle_merge_names.specs.Bundle.{AreBundleParts}
+use Rattle.bundle_merge_names.specs.Numbers.{position}
+use Rattle.bundle_merge_names.specs.declared.error.MergeError.{MergeError}
+use Rattle.bundle_merge_names.specs.declared.error.MergeError.TheVariants as e
 use Rattle.bundle_merge_names.specs.declared.part.BundleParts.{BundleParts}
 use Rattle.bundle_merge_names.specs.declared.part.Part.{Part}
 use Rattle.bundle_merge_items.specs.Added.{items_of}
 use Rattle.bundle_merge_items.specs.declared.merge.Merged.{Merged}
-use Rattle.bundle_merge.specs.Handed.{AreReadFrom, AreReadIn, IsBundleRead, IsLinkRead, IsLinkedRead, IsPartRead}
+use Rattle.bundle_merge.specs.Handed.{AreObjectsApart, AreReadFrom, AreReadIn, IsBundleRead, IsLinkRead, IsLinkedRead, IsMadeOfRead, IsPartRead, MayRefuseRead}
 use Rattle.bundle_merge.specs.Placed.{ArePlaced}
 use Rattle.bundle_merge.specs.Prepared.{items_of_each}
 use Rattle.bundle_merge.specs.Read.{own_list}
-use Rattle.bundle_merge.specs.Ready.{IsMergeable, IsMergedAs}
-use Rattle.bundle_merge.specs.Refusals.{IsRefusalOfRead}
+use Rattle.bundle_merge.specs.Ready.{AreOwnObjects, IsMergeable, IsMergedAs, IsRefusedAs, TakesAs}
+use Rattle.bundle_merge.specs.Refusals.{IsRefusalOfRead, MayLackNames}
 use Rattle.bundle_merge.specs.declared.read.Read.{Read}
 use Rattle.bundle_merge.proofs.Bundle as bundles
 use Rattle.bundle_merge.proofs.Bundle.{IsReadBundle}
+use Rattle.bundle_merge.proofs.Objects.{AnswersFit}
 use Rattle.bundle_merge.proofs.Places as places
 use Rattle.bundle_merge.proofs.Ready as ready
 
@@ -51,7 +61,7 @@ zip-back R (x ∷ xs) [] zip k y at = absurd zip
 zip-back R (x ∷ xs) (z ∷ ys) zip zero y at = (x, refl, subst (R x) (same_Some z y at) zip.0)
 zip-back R (x ∷ xs) (z ∷ ys) zip (suc k) y at = zip-back R xs ys zip.1 k y at
 
-module _ (p : Program) (hooks : Hooks) (local : ℕ → ℕ) (linker : Linker) (next : ℕ) (reads : List Read) (its : AreReadIn p linker local next reads) (linking : Linking) (links : IsLinkedRead linker reads linking) (plan : Plan) (planned : IsPlanOf linker.linked.graph linker.entry linker.linked.list.items plan) (merged : Merged) (bundle : BundleParts) (b : IsBundleRead reads linking plan.blocks.items next bundle) (made : IsMergedAs bundle merged) where
+module _ (p : Program) (hooks : Hooks) (local : ℕ → ℕ) (linker : Linker) (next : ℕ) (reads : List Read) (its : AreReadIn p hooks linker local next reads) (linking : Linking) (links : IsLinkedRead linker reads linking) (plan : Plan) (planned : IsPlanOf linker.linked.graph linker.entry linker.linked.list.items plan) (bundle : BundleParts) (b : IsBundleRead reads linking plan.blocks.items next bundle) where
   abbrev list : List ℕ
   list = linker.linked.list.items
 
@@ -84,31 +94,92 @@ module _ (p : Program) (hooks : Hooks) (local : ℕ → ℕ) (linker : Linker) (
     leads = λ k link part at there. (same-read k link part at there).1;
   }
 
-  is-bundle : IsReadBundle p list links.links bundle.parts.now linking plan local bundle
+  is-bundle : IsReadBundle p hooks list links.links bundle.parts.now linking plan local its.answers bundle
   is-bundle = record {
     handed = refl;
-    answers = b.answers;
+    unasked = b.answers;
     linked = b.linked;
     blocks = b.its_blocks;
     locals = λ k m part at there.
         (let read = part-read k part there in its.locals k m read.0 part at read.1 read.2);
+    fronts = λ k m part at there.
+        (let read = part-read k part there in its.fronts k m read.0 part at read.1 read.2);
+    past = its.past;
+    objects = subst (λ n. AreObjectsApart list local n its.answers) (sym b.contexts) its.objects;
     own = its.own;
     free = λ m reached. subst (λ n. local m < n) (sym b.contexts) (its.free m reached);
     apart = its.apart;
   }
 
-  -- what is merged of it
-  pub merged-read : IsMerged (λ x. x) local p hooks (joined (items_of merged.«module»))
-  merged-read =
-      let program =
+  program : IsProgramOf (places.by_place p list its.right links.links bundle.parts.now are)
+      links.links (numbers_below (length links.links)) (length links.links - 1)
+      linker.config.require
+  program =
       places.is-program p list its.right links.links bundle.parts.now are linker.config.require
-      its.of.modules.links.0 in
-      let q = places.by_place p list its.right links.links bundle.parts.now are in
+      its.links.0
+
+  abbrev q : Program
+  q = places.by_place p list its.right links.links bundle.parts.now are
+
+  begun : IsPlanOf linker.linked.graph p.entry list plan
+  begun = subst (λ entry. IsPlanOf linker.linked.graph entry list plan) (sym its.begins) planned
+
+  -- what is merged of it
+  pub merged-read : (merged : Merged) → IsMergedAs bundle merged →
+      IsMerged (λ x. x) local p hooks (joined (items_of merged.«module»))
+  merged-read merged made =
       bundles.is-merged p list its.right links.links bundle.parts.now are linking
-      (links.linked q program) (links.handed q program) linker.linked.graph
-      its.of.linked.graph plan
-      (subst (λ entry. IsPlanOf linker.linked.graph entry list plan) (sym its.of.modules.begins) planned)
-      local bundle is-bundle its.plain merged made hooks
+      (links.linked q program) (links.handed q program) linker.linked.graph its.graph plan begun
+      hooks local its.answers bundle is-bundle merged made
+
+  are-parts : AreBundleParts q (numbers_from zero (length list)) its.answers bundle
+  are-parts =
+      bundles.are-parts p list its.right links.links bundle.parts.now are linking
+      (links.linked q program) (links.handed q program) linker.linked.graph its.graph plan begun
+      hooks local its.answers bundle is-bundle
+
+  -- where it is refused, contexts may be too few
+  pub refused-read : (refusal : MergeError) → IsRefusedAs bundle refusal →
+      MayLackNames p hooks next refusal
+  refused-read e.OutOfMemory refused = tt
+  refused-read (e.ContextsUsedUp number) refused =
+      subst (NeedsTooManyContexts p hooks) b.contexts
+      (bundles.program-needs p list its.right links.links bundle.parts.now are linking
+      (links.linked q program) (links.handed q program) linker.linked.graph its.graph plan begun
+      hooks local its.answers bundle is-bundle number
+      (refused q (numbers_from zero (length list)) its.answers are-parts))
+
+  -- also where all are taken
+  pub all-read : (merged : Merged) → TakesAs bundle merged →
+      position merged.contexts ≡ 4294967296 → NeedsTooManyContexts p hooks next
+  all-read merged takes full =
+      subst (NeedsTooManyContexts p hooks) b.contexts
+      (bundles.all-taken p list its.right links.links bundle.parts.now are linking
+      (links.linked q program) (links.handed q program) linker.linked.graph its.graph plan begun
+      hooks local its.answers bundle is-bundle merged
+      (takes q (numbers_from zero (length list)) its.answers are-parts) full)
+
+-- the same of what was made of it, or why nothing was
+module _ (p : Program) (hooks : Hooks) (local : ℕ → ℕ) (linker : Linker) (next : ℕ) (reads : List Read) (its : AreReadIn p hooks linker local next reads) (linking : Linking) (links : IsLinkedRead linker reads linking) (plan : Plan) (planned : IsPlanOf linker.linked.graph linker.entry linker.linked.list.items plan) where
+  pub made-read : (merged : Merged) → IsMadeOfRead reads linking plan.blocks.items next merged →
+      IsMerged (λ x. x) local p hooks (joined (items_of merged.«module»))
+  made-read merged made =
+      merged-read p hooks local linker next reads its linking links plan planned made.bundle
+      made.read merged made.made
+
+  pub taken-read : (merged : Merged) → IsMadeOfRead reads linking plan.blocks.items next merged →
+      position merged.contexts ≡ 4294967296 → NeedsTooManyContexts p hooks next
+  taken-read merged made full =
+      all-read p hooks local linker next reads its linking links plan planned made.bundle made.read
+      merged made.few full
+
+  pub lacks-read : (refusal : MergeError) →
+      MayRefuseRead reads linking plan.blocks.items next refusal →
+      MayLackNames p hooks next refusal
+  lacks-read refusal (inl memory) = subst (MayLackNames p hooks next) (sym memory) tt
+  lacks-read refusal (inr refused) =
+      refused-read p hooks local linker next reads its linking links plan planned refused.bundle
+      refused.read refusal refused.refused
 
 -- ---- what was read of prepared items
 -- an error that tells no fault is want of memory
@@ -126,7 +197,7 @@ none-told file tree error none told = by (fault_of error) refl told
     by None is tells = no-fault error is
     by (Some fault) is tells = absurd (none tells.stage tells.place fault tells.there)
 
-module _ (p : Program) (hooks : Hooks) (contexts : ℕ → Contexts) (next : ℕ) (prepared : Parts) (linker : Linker) (w : IsMergeable p contexts linker) (prepares : IsPrepared p hooks contexts next prepared) where
+module _ (p : Program) (hooks : Hooks) (contexts : ℕ → Contexts) (next : ℕ) (prepared : Parts) (linker : Linker) (w : IsMergeable p contexts linker) (prepares : IsPrepared p hooks contexts next prepared) (objects : AreOwnObjects p hooks prepared) (fits : AnswersFit hooks) where
   abbrev all : List ℕ
   all = linker.linked.list.items
 
@@ -170,33 +241,57 @@ module _ (p : Program) (hooks : Hooks) (contexts : ℕ → Contexts) (next : ℕ
         same_Some copy.0 its.items (sym copy.1 ∙ its.there) in
         let file = name_of its.known.file_name in
         none-told file (own_list its.items.body.items) error
-        (ready.own-faultless p hooks contexts next prepared linker w prepares its.number
+        (ready.own-faultless p hooks contexts next prepared linker w prepares objects fits its.number
         (is-reached its.place its.number its.at) its.items.body.items
         (sym (ap items_of same) ∙ copy.2) file
-        (ready.known-faultless p hooks contexts next prepared linker w prepares its.number its.known
+        (ready.known-faultless p hooks contexts next prepared linker w prepares objects fits its.number its.known
         its.is_known))
         its.told
 
     module _ (reads : List Read) (from : AreReadFrom linker all all copies (length all) reads) where
-      pub read-in : AreReadIn p linker (λ m. (contexts m).local) next reads
+      -- what is told of what stands in front of them
+      abbrev answers : ℕ → Option Answer
+      answers k = (ready.told-at p hooks contexts next prepared linker w prepares objects fits k).0
+
+      abbrev tells : (k : ℕ) →
+          ready.ToldAt p hooks contexts next prepared linker w prepares objects fits k (answers k)
+      tells k = (ready.told-at p hooks contexts next prepared linker w prepares objects fits k).1
+
+      pub read-in : AreReadIn (cleared_program p) hooks linker (λ m. (contexts m).local) next reads
       read-in = record {
-        of = w.of;
-        right = ready.are-right p hooks contexts next prepared linker w prepares;
-        plain = w.plain;
+        links = w.of.modules.links;
+        begins = w.of.modules.begins;
+        graph = λ m. w.of.linked.graph m ∙ ap (λ r. r m) (sym (requested-cleared p));
+        right = ready.are-right p hooks contexts next prepared linker w prepares objects fits;
+        answers = answers;
+        fronts = λ k m read part at there handed.
+            (let copy = copy-at k m at in
+            ready.has-front p hooks contexts next prepared linker w prepares objects fits m
+            (is-reached k m at) copy.0.body.items copy.2 k at copy.0 refl part
+            (from.each k m copy.0 read part at copy.1 there handed)
+            (ready.told-there p hooks contexts next prepared linker w prepares objects fits answers
+            tells k m at));
+        past =
+            ready.past-none p hooks contexts next prepared linker w prepares objects fits answers
+            tells;
+        objects =
+            ready.objects-apart p hooks contexts next prepared linker w prepares objects fits answers
+            tells;
         long = from.long;
         each = λ k m read part at there handed.
             (let copy = copy-at k m at in
-            ready.is-read p hooks contexts next prepared linker w prepares m (is-reached k m at)
+            ready.is-read p hooks contexts next prepared linker w prepares objects fits m (is-reached k m at)
             copy.0.body.items copy.2 k at copy.0 refl part
             (from.each k m copy.0 read part at copy.1 there handed));
         locals = λ k m read part at there handed.
             (let copy = copy-at k m at in
-            ready.has-local p hooks contexts next prepared linker w prepares m (is-reached k m at)
+            ready.has-local p hooks contexts next prepared linker w prepares objects fits m (is-reached k m at)
             copy.0.body.items copy.2 k at copy.0 refl part
             (from.each k m copy.0 read part at copy.1 there handed));
-        own = λ m reached. (prepares.above_one m reached).0;
-        free = λ m reached. (prepares.below_next m reached).0;
-        apart = prepares.locals;
+        own = λ m reached. (prepares.above_one m (of-cleared-reached p m reached)).0;
+        free = λ m reached. (prepares.below_next m (of-cleared-reached p m reached)).0;
+        apart = λ m n one two.
+            prepares.locals m n (of-cleared-reached p m one) (of-cleared-reached p n two);
       }
 
 -- ---- the items of one module, as a module

@@ -1,12 +1,11 @@
 pub mod Copied
-pub mod Copies
 pub mod OwnLemmas
 pub mod KindLemmas
 pub mod HandedLemmas
-pub mod Resolved
 pub mod Faultless
 pub mod Merging
 pub mod Places
+pub mod Objects
 pub mod Bundle
 pub mod Ready
 pub mod Joining

@@ -1,22 +1,34 @@
 -- What was read of a module, as it is handed on to be linked and to be merged.
-use Rattle.std.specs.Prelude.{◌≡◌, ◌-◌, ◌<◌, ℕ, false, List, [], Some, length, slice_get}
+use Rattle.std.specs.Prelude.{◌≡◌, ◌≢◌, ◌⊎◌, ◌-◌, ◌<◌, ℕ, List, [], Option, Some, None, length, slice_get}
 use Rattle.std.specs.List.{AllZip}
+use Rattle.bundle_tree_leaf.specs.declared.kind.ExportMetadata.{ExportMetadata}
+use Rattle.bundle_tree_piece.specs.Item.{Item}
+use Rattle.bundle_order_graph.specs.Modules.{deps}
 use Rattle.bundle_order_sort.specs.declared.plan.Block.{Block}
-use Rattle.bundle_rules.specs.Entries.{has_import_meta}
-use Rattle.bundle_rules.specs.Program.{Program, tree_of, IsReached}
-use Rattle.bundle_link.specs.Programs.{IsLinkerOf}
+use Rattle.bundle_rules.specs.Bundle.{Hooks, properties_tree}
+use Rattle.bundle_rules.specs.Declarations.{ByContext, Name}
+use Rattle.bundle_rules.specs.Denotes.{Bound, denoted_as}
+use Rattle.bundle_rules.specs.Places.{Occurrence, occurrences}
+use Rattle.bundle_rules.specs.Program.{Program, requested, IsReached}
+use Rattle.bundle_rules.specs.Scopes.{Es, Inner, ScopeKind}
 use Rattle.bundle_link_index.specs.Programs.{IsProgramOf}
 use Rattle.bundle_link_reached.specs.Judged.{numbers_below}
 use Rattle.bundle_link_targets.specs.Linked.{HandsOver, IsLinkingOf}
 use Rattle.bundle_link_targets.specs.declared.linking.Linking.{Linking}
+use Rattle.bundle_merge_whole.specs.made.Given.{Answer, Written}
 use Rattle.bundle_merge_names.specs.Numbers.{position}
+use Rattle.bundle_merge_names.specs.declared.error.MergeError.{MergeError}
+use Rattle.bundle_merge_names.specs.declared.error.MergeError.TheVariants.{OutOfMemory}
 use Rattle.bundle_merge_names.specs.declared.part.BundleParts.{BundleParts}
-use Rattle.bundle_merge.specs.Placed.{AreRight, IsRead}
+use Rattle.bundle_merge.specs.Placed.{AreRight, HasFront, IsRead}
 use Rattle.bundle_tree_ast.specs.declared.module.Module.{Module}
 use Rattle.bundle_link_index.specs.declared.target.LinkModule.{LinkModule}
+use Rattle.bundle_link.specs.Refusals.{Links}
 use Rattle.bundle_link.specs.declared.link.Linker.{Linker}
 use Rattle.bundle_merge_names.specs.declared.part.Part.{Part}
+use Rattle.bundle_merge_items.specs.declared.merge.Merged.{Merged}
 use Rattle.bundle_merge.specs.Read.{IsReadAt}
+use Rattle.bundle_merge.specs.Ready.{IsMergedAs, IsRefusedAs, TakesAs}
 use Rattle.bundle_merge.specs.declared.read.Read.{Read}
 
 -- what was read is handed on, as a module that is linked
@@ -44,11 +56,56 @@ pub record AreReadFrom (linker : Linker) (ids : List ℕ) (list : List ℕ) (cop
       IsPartRead read part →
       IsReadAt linker ids m its part
 
--- what was read of the modules on the list of a program, each of which has its context
-pub record AreReadIn (p : Program) (linker : Linker) (local : ℕ → ℕ) (next : ℕ) (reads : List Read) : Type 0 where
-  pub of : IsLinkerOf p linker
+-- a context stands inside the object of an `import.meta` that is written already for the module at a place: a binding
+-- inside has it
+pub record StandsInside (answers : ℕ → Option Answer) (k ctxt : ℕ) : Type 0 where
+  pub own : ℕ
+  pub notes : ExportMetadata
+  pub properties : List Item
+  pub told : answers k ≡ Some (Written own notes properties)
+  pub kind : ScopeKind
+  pub begins : ℕ
+  pub name : Name
+  pub i : ℕ
+  pub o : Occurrence
+  pub there : slice_get (occurrences (properties_tree properties)) i ≡ Some o
+  pub denoted : denoted_as ByContext Es (properties_tree properties) i ≡ Some (Bound (Inner kind begins) name)
+  pub is : o.ctxt ≡ ctxt
+
+-- or in it: the object's name has it, or such a binding
+pub data StandsInObject (answers : ℕ → Option Answer) (k ctxt : ℕ) : Type 0 where
+  its_name : (notes : ExportMetadata) (properties : List Item) →
+      answers k ≡ Some (Written ctxt notes properties) →
+      StandsInObject answers k ctxt
+  its_inside : StandsInside answers k ctxt → StandsInObject answers k ctxt
+
+-- the contexts of such objects are above that of globals and below the next one, and none is that of a module's top; no
+-- two objects have one in common, and no binding inside one has that of its name
+pub record AreObjectsApart (list : List ℕ) (local : ℕ → ℕ) (next : ℕ) (answers : ℕ → Option Answer) : Type 0 where
+  pub own : (k ctxt : ℕ) → StandsInObject answers k ctxt → 1 < ctxt
+  pub free : (k ctxt : ℕ) → StandsInObject answers k ctxt → ctxt < next
+  pub tops : (k n m ctxt : ℕ) → StandsInObject answers k ctxt → slice_get list n ≡ Some m → ctxt ≢ local m
+  pub apart : (k n ctxt : ℕ) → StandsInObject answers k ctxt → StandsInObject answers n ctxt → k ≡ n
+  pub names : (k ctxt its : ℕ) (notes : ExportMetadata) (properties : List Item) →
+      answers k ≡ Some (Written ctxt notes properties) →
+      StandsInside answers k its →
+      its ≢ ctxt
+
+-- what was read of the modules on the list of a program, whose settings, entry and graph the linker has; each has its
+-- context, and in front of its own items stands what the hooks may have answered
+pub record AreReadIn (p : Program) (hooks : Hooks) (linker : Linker) (local : ℕ → ℕ) (next : ℕ) (reads : List Read) : Type 0 where
+  pub links : Links linker.config p.settings
+  pub begins : p.entry ≡ linker.entry
+  pub graph : (m : ℕ) → deps linker.linked.graph m ≡ requested p m
   pub right : AreRight p linker.linked.list.items
-  pub plain : (m : ℕ) → IsReached p m → has_import_meta (tree_of p m) ≡ false
+  pub answers : ℕ → Option Answer
+  pub fronts : (k m : ℕ) (read : Read) (part : Part) →
+      slice_get linker.linked.list.items k ≡ Some m →
+      slice_get reads k ≡ Some read →
+      IsPartRead read part →
+      HasFront p hooks m part (answers k)
+  pub past : (k : ℕ) → slice_get linker.linked.list.items k ≡ None → answers k ≡ None
+  pub objects : AreObjectsApart linker.linked.list.items local next answers
   pub long : length reads ≡ length linker.linked.list.items
   pub each : (k m : ℕ) (read : Read) (part : Part) →
       slice_get linker.linked.list.items k ≡ Some m →
@@ -75,11 +132,29 @@ pub record IsLinkedRead (linker : Linker) (reads : List Read) (linking : Linking
       IsProgramOf p links (numbers_below (length links)) (length links - 1) linker.config.require →
       HandsOver p (numbers_below (length links)) linking
 
--- what is merged: the modules that were read, in front of which nothing was answered, as they are linked, their blocks,
--- and contexts from this one on
+-- what is merged: the modules that were read, for which the hook is not asked, as they are linked, their blocks, and
+-- contexts from this one on
 pub record IsBundleRead (reads : List Read) (linking : Linking) (blocks : List Block) (next : ℕ) (bundle : BundleParts) : Type 0 where
   pub parts : AllZip IsPartRead reads bundle.parts.now
   pub answers : bundle.answers.now ≡ []
   pub linked : bundle.linking.now ≡ linking
   pub its_blocks : bundle.blocks.now ≡ blocks
   pub contexts : position bundle.contexts ≡ next
+
+-- something is made of them, of few contexts
+pub record IsMadeOfRead (reads : List Read) (linking : Linking) (blocks : List Block) (next : ℕ) (merged : Merged) : Type 0 where
+  pub bundle : BundleParts
+  pub read : IsBundleRead reads linking blocks next bundle
+  pub made : IsMergedAs bundle merged
+  pub few : TakesAs bundle merged
+
+-- or nothing is
+pub record IsRefusedOfRead (reads : List Read) (linking : Linking) (blocks : List Block) (next : ℕ) (refusal : MergeError) : Type 0 where
+  pub bundle : BundleParts
+  pub read : IsBundleRead reads linking blocks next bundle
+  pub refused : IsRefusedAs bundle refusal
+
+-- for memory, or as the merge of bundles refuses
+abbrev pub MayRefuseRead : List Read → Linking → List Block → ℕ → MergeError → Type 0
+MayRefuseRead reads linking blocks next refusal =
+    (refusal ≡ OutOfMemory) ⊎ IsRefusedOfRead reads linking blocks next refusal

@@ -1,12 +1,14 @@
 -- What was read of the modules of a program, by their places on its list.
-use Rattle.std.specs.Prelude.{◌≡◌, ℕ, ◌<◌, List, Some, None, Contains, length, map, slice_get}
+use Rattle.std.specs.Prelude.{◌≡◌, ℕ, ◌<◌, true, false, List, [], ◌∷◌, Option, Some, None, Contains, length, map, slice_get}
 use Rattle.std.specs.List.{flat_map}
 use Rattle.std.specs.Option.{option_and_then}
 use Rattle.indexmap.specs.IndexMap.{get_by_text}
+use Rattle.bundle_tree_leaf.specs.declared.kind.ExportMetadata.{ExportMetadata}
 use Rattle.bundle_tree_names.specs.FileName.{Name}
 use Rattle.bundle_tree_piece.specs.Item as h
-use Rattle.bundle_tree_piece.specs.Item.{item_of}
+use Rattle.bundle_tree_piece.specs.Item.{Item, item_of}
 use Rattle.bundle_tree_listed.specs.Tree.{module_item_items, node}
+use Rattle.bundle_rules.specs.Bundle.{Hooks}
 use Rattle.bundle_rules.specs.Cleared.{cleared}
 use Rattle.bundle_rules.specs.Declarations.{BySymbol}
 use Rattle.bundle_rules.specs.Doubled.{first_doubled}
@@ -14,19 +16,22 @@ use Rattle.bundle_rules.specs.Entries.{has_import_meta}
 use Rattle.bundle_rules.specs.Faults.{IsFaultless}
 use Rattle.bundle_rules.specs.Judging.{requests_in}
 use Rattle.bundle_rules.specs.Meaning.{HasKind}
+use Rattle.bundle_rules.specs.Merged.{IsMetaItem, meta_item}
 use Rattle.bundle_rules.specs.Nodes.{Text}
 use Rattle.bundle_rules.specs.Program.{Program, tree_of, IsReached, IsList}
 use Rattle.bundle_rules.specs.Scopes.{ModuleKind}
 use Rattle.bundle_rules.specs.Tables.{IsChecked}
 use Rattle.bundle_scope_denote.specs.Listed.{IsTable}
-use Rattle.bundle_scope_renamed.specs.fit.Fits.{IsFit}
-use Rattle.bundle_scope_renamed.specs.fit.Sorts.{AModule}
+use Rattle.bundle_scope_renamed.specs.fit.Fits.{AreFit, IsFit}
+use Rattle.bundle_scope_renamed.specs.fit.Sorts.{AModule, AProperty, Many, slot}
 use Rattle.bundle_link_index.specs.Programs.{IsTableOf}
 use Rattle.bundle_link_index.specs.declared.target.LinkModule.{LinkModule}
 use Rattle.bundle_link_reached.specs.Default.{DeclaresDefaultAlone}
 use Rattle.bundle_link_reached.specs.Leads.{place_in}
 use Rattle.bundle_link_targets.specs.Meant.{IsModuleTree}
+use Rattle.bundle_merge_whole.specs.made.Given.{Answer, Written}
 use Rattle.bundle_merge_whole.specs.sound.Known.{LeadsAll}
+use Rattle.bundle_merge_names.specs.Bundle.{IsWrittenIn, own_items}
 use Rattle.bundle_merge_names.specs.declared.part.Part.{Part}
 
 -- what is so of the modules that the entry of a program reaches, which stand on this list: a check of linking finds
@@ -44,11 +49,10 @@ pub record AreRight (p : Program) (list : List ℕ) : Type 0 where
   pub leads : LeadsAll p
 
 -- a part is what was read of module m: its list, which is the module's tree but for contexts and notes, what the names
--- in it denote, its table, and where its requests lead among the places of the list; it has no statement in front that
--- holds an `import.meta`
+-- in it denote, its table, and where its requests lead among the places of the list
 pub record IsRead (p : Program) (list : List ℕ) (m : ℕ) (part : Part) : Type 0 where
   pub tree : tree_of p m ≡ cleared (map item_of part.pieces.now)
-  pub listed : map item_of part.pieces.now ≡ node 0 h.Module (flat_map (module_item_items 0) part.items.now)
+  pub listed : map item_of part.pieces.now ≡ node 0 h.Module (flat_map (module_item_items 0) (own_items part))
   pub names : (kind : ModuleKind) →
       HasKind p m kind →
       IsTable BySymbol kind (map item_of part.pieces.now) part.denotations.now
@@ -59,7 +63,19 @@ pub record IsRead (p : Program) (list : List ℕ) (m : ℕ) (part : Part) : Type
       get_by_text part.leads.now s ≡ option_and_then (place_in list) (p.leads m s)
   pub within : (d : ℕ) (s : Text) → get_by_text part.leads.now s ≡ Some d → d < length list
   pub faultless : (file : Name) × IsFaultless file (map item_of part.pieces.now)
-  pub written : part.written ≡ None
+
+-- what stands in front of the own items of a part: where module m has an `import.meta`, the object that holds it, as it
+-- is written already; else nothing
+pub data HasFront (p : Program) (hooks : Hooks) (m : ℕ) (part : Part) : Option Answer → Type 0 where
+  nothing : has_import_meta (tree_of p m) ≡ false →
+      part.written ≡ None →
+      HasFront p hooks m part None
+  object : (ctxt : ℕ) (notes : ExportMetadata) (properties : List Item) →
+      has_import_meta (tree_of p m) ≡ true →
+      IsMetaItem p hooks m (meta_item notes ctxt properties) →
+      AreFit (slot 0 Many AProperty ∷ []) properties →
+      IsWrittenIn part ctxt notes properties →
+      HasFront p hooks m part (Some (Written ctxt notes properties))
 
 -- what was read of each module, by its place on the list, and the same as it is linked
 pub record ArePlaced (p : Program) (list : List ℕ) (links : List LinkModule) (parts : List Part) : Type 0 where

@@ -1,19 +1,27 @@
 -- When the modules of a linker are those of a program whose prepared items are merged.
-use Rattle.std.specs.Prelude.{◌≡◌, ℕ, Bool, false, List, Option, Contains, length}
+use Rattle.std.specs.Prelude.{◌≡◌, ◌<◌, ℕ, Bool, true, List, ◌∷◌, Option, Contains, length, map}
+use Rattle.std.specs.List.{flat_map}
+use Rattle.bundle_tree_ast.specs.declared.expr.Expr.{Expr}
+use Rattle.bundle_tree_ast.specs.declared.prop.KeyValueProp.{KeyValueProp}
 use Rattle.bundle_tree_piece.specs.Item.{Item}
+use Rattle.bundle_tree_listed.specs.Tree.{key_value_prop_items}
 use Rattle.bundle_tree_names.specs.FileName.{Name}
 use Rattle.bundle_rules.specs.Bundle.{Hooks}
-use Rattle.bundle_rules.specs.Cleared.{cleared}
 use Rattle.bundle_rules.specs.Entries.{has_import_meta}
-use Rattle.bundle_rules.specs.Merged.{Contexts}
+use Rattle.bundle_rules.specs.Merged.{Contexts, IsMetaItem}
+use Rattle.bundle_rules.specs.Parts.{Parts, in_order, items_in}
 use Rattle.bundle_rules.specs.Program.{Program, tree_of, IsReached}
 use Rattle.bundle_link.specs.Programs.{IsLinkerOf}
 use Rattle.bundle_link.specs.declared.link.Linker.{Linker}
 use Rattle.bundle_link.specs.declared.transformed.TransformedModule.{TransformedModule}
+use Rattle.bundle_merge_whole.specs.made.Given.{Answer}
 use Rattle.bundle_merge_whole.specs.made.Alone.{AreSound}
 use Rattle.bundle_merge_whole.specs.sound.Decided.{AreTold}
 use Rattle.bundle_merge_whole.specs.sound.Known.{LeadsAll}
 use Rattle.bundle_merge_names.specs.Bundle.{AreBundleParts}
+use Rattle.bundle_merge_names.specs.Numbers.{position}
+use Rattle.bundle_merge_names.specs.Refused.{RefusesNames, TakesFew}
+use Rattle.bundle_merge_names.specs.declared.error.MergeError.{MergeError}
 use Rattle.bundle_merge_names.specs.declared.part.BundleParts.{BundleParts}
 use Rattle.bundle_merge_items.specs.Adds.{AreAnswered}
 use Rattle.bundle_merge_items.specs.Merged.{AreBlocksOnce, IsMergedOf}
@@ -21,29 +29,59 @@ use Rattle.bundle_merge_items.specs.declared.merge.Merged.{Merged}
 
 -- the lists of properties that a hook may answer, by the file's name and whether it is the entry's
 abbrev pub Answering : Type 0
-Answering = Name → Bool → List (List Item)
+Answering = Name → Bool → List (List (KeyValueProp Expr))
+
+-- the list of properties
+abbrev pub listed_properties : List (KeyValueProp Expr) → List Item
+listed_properties its = flat_map (key_value_prop_items 0) its
 
 -- the hook that may answer these. What is prepared holds one answer for each module, so that each hook that may have
 -- answered these is one of this kind, as far as it was asked
 abbrev pub hooks_by : Answering → Hooks
-hooks_by given = record { may_answer = λ file is_entry properties. Contains (given file is_entry) properties }
+hooks_by given =
+    record { may_answer = λ file is_entry properties. Contains (map listed_properties (given file is_entry)) properties }
 
--- the modules of a linker are those of a program, with these contexts; each request leads to a module, trees are kept
--- without contexts and notes, and no module that is reached has an `import.meta`
+-- the modules of a linker are those of a program, with these contexts, and each request leads to a module
 pub record IsMergeable (p : Program) (contexts : ℕ → Contexts) (linker : Linker) : Type 0 where
   pub of : IsLinkerOf p linker
   pub leads : LeadsAll p
-  pub kept : (m : ℕ) → IsReached p m → cleared (tree_of p m) ≡ tree_of p m
-  pub plain : (m : ℕ) → IsReached p m → has_import_meta (tree_of p m) ≡ false
   pub locals : (its : TransformedModule) →
       Contains linker.modules.items its →
       (contexts its.id).local ≡ its.local_ctxt
 
+-- the item that holds the `import.meta` of a module has contexts of its own: it was resolved from a number on that is
+-- above that of globals, and so is the context of its name
+pub record HasOwnContexts (p : Program) (hooks : Hooks) (m : ℕ) (item : List Item) : Type 0 where
+  pub its : IsMetaItem p hooks m item
+  pub inside : 1 < its.next
+  pub name : 1 < its.ctxt
+
+-- the same of the first item of each module that has an `import.meta`
+pub record AreOwnObjects (p : Program) (hooks : Hooks) (prepared : Parts) : Type 0 where
+  pub each : (m : ℕ) (first : List Item) (rest : List (List Item)) →
+      IsReached p m →
+      has_import_meta (tree_of p m) ≡ true →
+      items_in (in_order prepared) m ≡ first ∷ rest →
+      HasOwnContexts p hooks m first
+
 -- what is merged of a bundle, as the merge of bundles promises it
 abbrev pub IsMergedAs : BundleParts → Merged → Type 0
 IsMergedAs bundle merged =
-    (q : Program) (list : List ℕ) (answers : ℕ → Option (List Item)) (meta : ℕ → Bool)
+    (q : Program) (list : List ℕ) (answers : ℕ → Option Answer) (meta : ℕ → Bool)
     (count : ℕ → ℕ) → AreSound q list → AreBundleParts q list answers bundle →
     AreBlocksOnce bundle → AreAnswered q answers →
     AreTold q (length bundle.parts.now) meta count →
     IsMergedOf q list answers bundle meta count merged
+
+-- how many contexts it takes, and why it is refused
+abbrev pub TakesAs : BundleParts → Merged → Type 0
+TakesAs bundle merged =
+    (q : Program) (list : List ℕ) (answers : ℕ → Option Answer) →
+    AreBundleParts q list answers bundle →
+    TakesFew q list answers (position bundle.contexts) (position merged.contexts)
+
+abbrev pub IsRefusedAs : BundleParts → MergeError → Type 0
+IsRefusedAs bundle refusal =
+    (q : Program) (list : List ℕ) (answers : ℕ → Option Answer) →
+    AreBundleParts q list answers bundle →
+    RefusesNames q list answers (position bundle.contexts) refusal

@@ -1,19 +1,42 @@
 -- Why modules are not merged.
-use Rattle.std.specs.Prelude.{◌≡◌, ◌⊎◌, ℕ, List, Some, Contains, slice_get}
+use Rattle.std.specs.Prelude.{◌≡◌, ◌⊎◌, ⊤, ℕ, List, Some, Contains, slice_get}
 use Rattle.bundle_tree_piece.specs.Item.{Item}
 use Rattle.bundle_tree_ast.specs.declared.module.Module.{Module}
 use Rattle.bundle_tree_names.specs.FileName.{Name, name_of}
 use Rattle.bundle_tree_names.specs.declared.error.Error.{Error}
 use Rattle.bundle_tree_names.specs.declared.error.Error.TheVariants.{OutOfMemory}
+use Rattle.bundle_rules.specs.Bundle.{Hooks}
+use Rattle.bundle_rules.specs.Faults.{NeedsTooManyContexts}
+use Rattle.bundle_rules.specs.Program.{Program}
 use Rattle.bundle_link.specs.declared.link.Linker.{Linker}
 use Rattle.bundle_link.specs.declared.transformed.TransformedModule.{TransformedModule}
 use Rattle.bundle_link.specs.Refusals.{IsTreeRefusal}
 use Rattle.bundle_scope.specs.Refusals.{IsUsedUp}
+use Rattle.bundle_merge_names.specs.Numbers.{position}
+use Rattle.bundle_merge_names.specs.declared.context.Contexts as numbers
+use Rattle.bundle_merge_names.specs.declared.error.MergeError.{MergeError}
+use Rattle.bundle_merge_names.specs.declared.error.MergeError.TheVariants as e
 use Rattle.bundle_merge.specs.Read.{IsKnown, own_list}
 
 -- memory ran out, or contexts of this file do not suffice
 abbrev pub IsLack : Name → Error → Type 0
 IsLack file error = (error ≡ OutOfMemory) ⊎ IsUsedUp file error
+
+-- memory ran out; or contexts of this file do not suffice, as the next number and the scopes and bindings of a program's
+-- trees and of what is added to them, counted together, are above the last context
+abbrev pub MayLack : Program → Hooks → Name → ℕ → Error → Type 0
+MayLack p hooks file next error =
+    (error ≡ OutOfMemory) ⊎ (IsUsedUp file error × NeedsTooManyContexts p hooks next)
+
+-- the same, where it is not told yet of which file
+abbrev pub MayLackNames : Program → Hooks → ℕ → MergeError → Type 0
+MayLackNames p hooks next e.OutOfMemory = ⊤
+MayLackNames p hooks next (e.ContextsUsedUp its) = NeedsTooManyContexts p hooks next
+
+-- memory ran out, or contexts of this file do not suffice, as all are used up and none is the next one
+abbrev pub IsLackAfter : Name → numbers.Contexts → Error → Type 0
+IsLackAfter file contexts error =
+    (error ≡ OutOfMemory) ⊎ (IsUsedUp file error × (position contexts ≡ 4294967296))
 
 -- memory ran out, or the first fault is told that a tree has by itself, in the file of one of these modules
 abbrev pub IsRefusalOfOne : List TransformedModule → Error → Type 0

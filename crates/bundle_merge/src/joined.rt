@@ -4,6 +4,7 @@ ghost use Rattle.std.specs.Prelude.{◌≡◌, ◌≤◌, ℕ, Contains, IfErr, 
 ghost use Rattle.std.specs.List.{AllZip};
 ghost use Rattle.bundle_tree_names.specs.FileName.{name_of};
 ghost use Rattle.bundle_tree_piece.specs.Item.{Item};
+ghost use Rattle.bundle_rules.specs.Faults.{NeedsTooManyContexts};
 ghost use Rattle.bundle_rules.specs.Merged.{Contexts as ModuleContexts, IsMerged, IsPrepared};
 ghost use Rattle.bundle_rules.specs.Nodes.{numbers_once};
 ghost use Rattle.bundle_rules.specs.Parts as Parts;
@@ -12,13 +13,13 @@ ghost use Rattle.bundle_link.specs.declared.transformed.TransformedModule as tra
 ghost use Rattle.bundle_scope.specs.Contexts.{HasGiven};
 ghost use Rattle.bundle_scope.specs.Refusals.{IsUsedUp};
 ghost use Rattle.bundle_merge_meaning.specs.joined.Joined as tree;
-ghost use Rattle.bundle_merge_names.specs.declared.part.BundleParts as bundle;
+ghost use Rattle.bundle_merge_names.specs.Numbers.{position};
 ghost use Rattle.bundle_merge_items.specs.Added.{items_of};
-ghost use Rattle.bundle_merge.specs.Handed.{AreReadFrom, AreReadIn, IsBundleRead, IsLinkRead, IsLinkedRead, IsPartRead};
+ghost use Rattle.bundle_merge.specs.Handed.{AreReadFrom, AreReadIn, IsLinkRead, IsLinkedRead, IsMadeOfRead, IsPartRead, MayRefuseRead};
 ghost use Rattle.bundle_merge.specs.Prepared.{items_of_each};
 ghost use Rattle.bundle_merge.specs.Read.{AreAllKnown, IsKnown};
-ghost use Rattle.bundle_merge.specs.Ready.{Answering, IsMergeable, IsMergedAs, hooks_by};
-ghost use Rattle.bundle_merge.specs.Refusals.{IsLack, IsRefusalOfOne, IsRefusalOfRead, MayRefuse};
+ghost use Rattle.bundle_merge.specs.Ready.{Answering, AreOwnObjects, IsMergeable, hooks_by};
+ghost use Rattle.bundle_merge.specs.Refusals.{IsLack, IsLackAfter, IsRefusalOfOne, IsRefusalOfRead, MayLack, MayLackNames, MayRefuse};
 
 use crate::prepared::{copies_of, places_of};
 use crate::read::{Read, read_module};
@@ -42,11 +43,12 @@ use std::alloc::{AllocError, Global};
 /// `prepared` holds the resolved items of each of these modules: names of the top have the local context, globals 1,
 /// no two modules have another context in common, and nothing has the local context of another module. Where
 /// `import.meta` stands in a module, the first of its items is the statement that holds it, whose name has a context of
-/// its own; it is taken over as it is. The caller sees to that, and that the linker's check accepts the modules, and
-/// the next context is above all that there are.
+/// its own, above 1 as those of the bindings inside are; it is taken over as it is. The caller sees to that, and that
+/// the linker's check accepts the modules, and the next context is above all that there are.
 ///
 /// Refused where contexts run out, where memory does, and by a fault that one of the modules has by itself. The
-/// contexts are then unchanged.
+/// contexts are then unchanged. Of what is prepared so only memory and contexts are told, and contexts only where the
+/// next one and the scopes and bindings of the modules and of what is added, counted together, are above 4294967295.
 pub fn merge_into_entry<'a>(
     alloc: Global,
     linker: &Linker<'a>,
@@ -59,14 +61,16 @@ pub fn merge_into_entry<'a>(
         (p : Program) (given : Answering) (its : ℕ → ModuleContexts) →
         IsMergeable p its linker.now →
         IsPrepared p (hooks_by given) its contexts.old.next prepared.now →
+        AreOwnObjects p (hooks_by given) prepared.now →
         IsMerged (λ x. x) (λ m. (its m).local) p (hooks_by given) (Parts.body_of merged)) }
     ensures given { OnOk result (HasGiven contexts.old contexts.new) }
     ensures refused { IfErr result (MayRefuse contexts.old.file linker.now.modules.items) }
-    ensures faultless { IfErr result (λ refusal.
+    ensures lacks { IfErr result (λ refusal.
         (p : Program) (given : Answering) (its : ℕ → ModuleContexts) →
         IsMergeable p its linker.now →
         IsPrepared p (hooks_by given) its contexts.old.next prepared.now →
-        IsLack contexts.old.file refusal) }
+        AreOwnObjects p (hooks_by given) prepared.now →
+        MayLack p (hooks_by given) contexts.old.file contexts.old.next refusal) }
     ensures unchanged { OnErr result (contexts.new ≡ contexts.old) }
 {
     let places = places_of(alloc, linker.list())?;
@@ -89,15 +93,17 @@ fn joined<'a>(
         (p : Program) (given : Answering) (its : ℕ → ModuleContexts) →
         IsMergeable p its linker.now →
         IsPrepared p (hooks_by given) its contexts.now.next prepared.now →
+        AreOwnObjects p (hooks_by given) prepared.now →
         places.now.keys ≡ numbers_once linker.now.linked.list.items →
         IsMerged (λ x. x) (λ m. (its m).local) p (hooks_by given) (tree.joined (items_of made.0))) }
     ensures refused { IfErr result (MayRefuse contexts.now.file linker.now.modules.items) }
-    ensures faultless { IfErr result (λ refusal.
+    ensures lacks { IfErr result (λ refusal.
         (p : Program) (given : Answering) (its : ℕ → ModuleContexts) →
         IsMergeable p its linker.now →
         IsPrepared p (hooks_by given) its contexts.now.next prepared.now →
+        AreOwnObjects p (hooks_by given) prepared.now →
         places.now.keys ≡ numbers_once linker.now.linked.list.items →
-        IsLack contexts.now.file refusal) }
+        MayLack p (hooks_by given) contexts.now.file contexts.now.next refusal) }
 {
     let copies = copies_of(alloc, places, prepared)?;
     joined_of(alloc, linker, places, &copies, contexts)
@@ -116,18 +122,21 @@ fn joined_of<'a>(
         (p : Program) (given : Answering) (its : ℕ → ModuleContexts) (prepared : Parts.Parts) →
         IsMergeable p its linker.now →
         IsPrepared p (hooks_by given) its contexts.now.next prepared →
+        AreOwnObjects p (hooks_by given) prepared →
         places.now.keys ≡ linker.now.linked.list.items →
         map items_of copies.now
         ≡ items_of_each (Parts.in_order prepared) linker.now.linked.list.items →
         IsMerged (λ x. x) (λ m. (its m).local) p (hooks_by given) (tree.joined (items_of made.0))) }
     ensures refused { IfErr result (MayRefuse contexts.now.file linker.now.modules.items) }
-    ensures faultless { IfErr result (λ refusal.
+    ensures lacks { IfErr result (λ refusal.
         (p : Program) (given : Answering) (its : ℕ → ModuleContexts) (prepared : Parts.Parts) →
         IsMergeable p its linker.now →
         IsPrepared p (hooks_by given) its contexts.now.next prepared →
+        AreOwnObjects p (hooks_by given) prepared →
+        places.now.keys ≡ linker.now.linked.list.items →
         map items_of copies.now
         ≡ items_of_each (Parts.in_order prepared) linker.now.linked.list.items →
-        IsLack contexts.now.file refusal) }
+        MayLack p (hooks_by given) contexts.now.file contexts.now.next refusal) }
 {
     let reads = read_all(alloc, linker, places, copies)?;
     match merged_of(alloc, linker, &reads, contexts.next()) {
@@ -186,9 +195,16 @@ fn merged_of<'a, 'x>(
     reads: &[Read<'x>],
     next: u32,
 ) -> Result<Merged, MergeError>
-    ensures { IfOk result (λ merged. (p : Program) (given : Answering) (local : ℕ → ℕ) →
-        AreReadIn p linker.now local next reads.now →
+    ensures merged { IfOk result (λ merged. (p : Program) (given : Answering) (local : ℕ → ℕ) →
+        AreReadIn p (hooks_by given) linker.now local next reads.now →
         IsMerged (λ x. x) local p (hooks_by given) (tree.joined (items_of merged.«module»))) }
+    ensures taken { IfOk result (λ merged. (p : Program) (given : Answering) (local : ℕ → ℕ) →
+        AreReadIn p (hooks_by given) linker.now local next reads.now →
+        position merged.contexts ≡ 4294967296 →
+        NeedsTooManyContexts p (hooks_by given) next) }
+    ensures refused { IfErr result (λ refusal. (p : Program) (given : Answering) (local : ℕ → ℕ) →
+        AreReadIn p (hooks_by given) linker.now local next reads.now →
+        MayLackNames p (hooks_by given) next refusal) }
 {
     let plan = plan_of(alloc, linker.graph(), linker.entry(), linker.list())?;
     let linking = linking_of(alloc, linker, reads)?;
@@ -229,8 +245,8 @@ fn merged_by<'x>(
     blocks: &[Block],
     next: u32,
 ) -> Result<Merged, MergeError>
-    ensures { IfOk result (λ merged. (bundle : bundle.BundleParts)
-        × IsBundleRead reads.now linking.now blocks.now next bundle × IsMergedAs bundle merged) }
+    ensures made { IfOk result (IsMadeOfRead reads.now linking.now blocks.now next) }
+    ensures refused { IfErr result (MayRefuseRead reads.now linking.now blocks.now next) }
 {
     let parts = parts_of(alloc, reads)?;
     let bundle = BundleParts {
@@ -259,6 +275,7 @@ fn with_next(merged: Merged, contexts: &Contexts) -> Result<(Module, u32), Error
     ensures given { IfOk result (λ made. contexts.now.next ≤ made.1) }
     ensures made { IfOk result (λ made. made.0 ≡ merged.«module») }
     ensures refused { IfErr result (IsLack contexts.now.file) }
+    ensures after { IfErr result (IsLackAfter contexts.now.file merged.contexts) }
 {
     match merged.contexts.next() {
         Some(next) => Ok((merged.module, next.max(contexts.next()))),

@@ -10,33 +10,33 @@ use Rattle.bundle_merge.specs.Prepared.{items_of_each}
 use Rattle.bundle_merge.proofs.Places.{one-place}
 use Rattle.bundle_merge.proofs.joined.joined.Goals as goal
 
-pub returns-in_err-copies-clause-faultless : goal.returns-in_err-copies-clause-faultless
-returns-in_err-copies-clause-faultless c =
+pub returns-in_err-copies-clause-lacks : goal.returns-in_err-copies-clause-lacks
+returns-in_err-copies-clause-lacks c =
     let q = err_from_is_err_and c.from_residual.result c.from_residual.ensures.1 in
-    rw (q.1, q.2) (λ p given its w ready places. inl refl)
+    rw (q.1, q.2) (λ p given its w ready objects places. inl refl)
 
 pub returns-clause-bundle : goal.returns-clause-bundle
 returns-clause-bundle c =
     IfOk-weaker c.joined_of.result _ _
-    (λ made all p given its w ready places.
+    (λ made all p given its w ready objects places.
     (let list = c.args.linker.now.linked.list.items in
     let once : IsOnce list = one-place list (list-once p list w.of.linked.list) in
     let keys = places ∙ once-same list once in
     let copied = c.in_ok-copies.ensures (subst (λ (l : List ℕ). IsOnce l) (sym keys) once) in
-    all p given its c.args.prepared.now w ready keys
+    all p given its c.args.prepared.now w ready objects keys
     (ap (map items_of) c.deref.ensures.value ∙ copied
     ∙ ap (items_of_each (in_order c.args.prepared.now)) keys)))
     c.joined_of.ensures.bundle
 
-pub returns-clause-faultless : goal.returns-clause-faultless
-returns-clause-faultless c =
+pub returns-clause-lacks : goal.returns-clause-lacks
+returns-clause-lacks c =
     IfErr-weaker c.joined_of.result _ _
-    (λ refusal lacks p given its w ready places.
+    (λ refusal lacks p given its w ready objects places.
     (let list = c.args.linker.now.linked.list.items in
     let once : IsOnce list = one-place list (list-once p list w.of.linked.list) in
     let keys = places ∙ once-same list once in
     let copied = c.in_ok-copies.ensures (subst (λ (l : List ℕ). IsOnce l) (sym keys) once) in
-    lacks p given its c.args.prepared.now w ready
+    lacks p given its c.args.prepared.now w ready objects keys
     (ap (map items_of) c.deref.ensures.value ∙ copied
     ∙ ap (items_of_each (in_order c.args.prepared.now)) keys)))
-    c.joined_of.ensures.faultless
+    c.joined_of.ensures.lacks

@@ -6,7 +6,7 @@ use Rattle.bundle_tree_ast.specs.declared.module.Module.{Module}
 use Rattle.bundle_tree_listed.specs.Tree.{module_item_items}
 use Rattle.bundle_merge_items.specs.Added.{items_of}
 use Rattle.bundle_merge.proofs.Copied.{set-none, set-one}
-use Rattle.bundle_merge.proofs.Copies.{rebuilt-none}
+use Rattle.bundle_merge_items.proofs.Copies.{rebuilt-none}
 use Rattle.bundle_merge.proofs.prepared.add_copy.Goals as goal
 
 pub returns-in_ok-push : goal.returns-in_ok-push
