@@ -2,7 +2,7 @@
 use Rattle.std.proofs.Common.{◌≡◌, ◌↔◌, ◌⊎◌, ◌+◌, inl, inr, ℕ, zero, Bool, List, Option, length, refl, sym, subst, ◌∙◌, arith}
 use Rattle.std.specs.Prelude.{Contains}
 use Rattle.bundle_rules.specs.Bundle as b
-use Rattle.bundle_rules.specs.Bundle.{Cause, AsModule, IsDue, IsUsed, externals}
+use Rattle.bundle_rules.specs.Bundle.{Cause, AsModule, IsDue, IsUsed}
 use Rattle.bundle_rules.specs.Entries.{Taken, Named, Whole}
 use Rattle.bundle_rules.specs.Linking as l
 use Rattle.bundle_rules.specs.Meaning as m

@@ -18,7 +18,7 @@ use Rattle.bundle_merge_whole.specs.made.Given.{Answer, stands_written, Holder, 
 use Rattle.bundle_merge_whole.specs.made.Alone.{IsHolder}
 use Rattle.bundle_merge_whole.specs.planned.Counted.{sum_of}
 use Rattle.bundle_merge_whole.specs.planned.Decided.{numbers_from}
-use Rattle.bundle_merge_names.specs.Added.{AddsNames, AreUsedUp, IsNamedOf, IsOfLabels, IsWhere, RefusesLabels, for_contexts, for_memory, with_taken}
+use Rattle.bundle_merge_names.specs.Added.{AddsNames, IsNamedOf, IsOfLabels, IsWhere, RefusesLabels, for_contexts, for_memory, with_taken}
 use Rattle.bundle_merge_names.specs.Bundle.{AreBundleParts}
 use Rattle.bundle_merge_names.specs.Held as h
 use Rattle.bundle_merge_names.specs.Held.{AreAllHeld, GivesName, IsHeldAs, RefusesName}

@@ -1,5 +1,4 @@
 -- Names that hold nothing get all.
-use Rattle.bundle_merge_names.specs.Inside.{HoldsNothing}
 use Rattle.bundle_merge_names.proofs.ScopeLemmas.{handed-on}
 use Rattle.bundle_merge_names.proofs.given.names_of.Goals as goal
 
