@@ -7,10 +7,12 @@ mod Parting
 mod Turning
 mod Owning
 mod Owned
-mod Copies
+pub mod Copies
 mod Planning
 mod Together
 mod Planned
 mod Sorting
 mod Behind
 pub mod Once
+pub mod NeedsLemmas
+pub mod LackLemmas

@@ -2,7 +2,8 @@
 use Rattle.std.proofs.Common.{◌≡◌, ◌↔◌, ◌<◌, ◌&&◌, not, ℕ, zero, suc, ◌+◌, Bool, true, false, List, [], ◌∷◌, ◌++◌, Option, Some, None, append-nil, length, map, unwrap_or, refl, ap, sym, subst, ◌∙◌, arith}
 use Rattle.std.specs.Prelude.{codes, slice_get, flat_map, is_some, if◌then◌else◌}
 use Rattle.std.specs.List.{AllZip}
-use Rattle.std.proofs.lemmas.Bool.{false≢true, true≢false, and_parts}
+use Rattle.std.proofs.Math.Bool.{and-true}
+use Rattle.std.proofs.lemmas.Bool.{false≢true, true≢false, and_right}
 use Rattle.std.proofs.lemmas.Option.{slice_get_within}
 use Rattle.bundle_tree_leaf.specs.declared.kind.ExportMetadata.{ExportMetadata}
 use Rattle.bundle_tree_listed.specs.Tree.{module_item_items}
@@ -39,24 +40,12 @@ use Rattle.bundle_merge_items.specs.Adds.{Adds, IsNamedBundle, IsPlanned, any_ho
 use Rattle.bundle_merge_names.specs.Naming.{AreNamed}
 use Rattle.bundle_merge_items.specs.Stated.{AreStatedAs}
 use Rattle.bundle_merge_items.proofs.Adding.{adds-behind, adds-none, adds-on}
+use Rattle.bundle_merge_items.proofs.LackLemmas.{none-asked}
 use Rattle.bundle_merge_items.proofs.Lifting.{common-js-told, loads-adds, meta-told}
 use Rattle.bundle_merge_names.proofs.Naming.{are-named}
 use Rattle.bundle_merge_names.proofs.WrittenLemmas.{none-written, one-written, part-written, written-there}
 use Rattle.bundle_merge_whole.proofs.answered.Meta as whole
 use Rattle.bundle_merge_names.specs.Bundle.{written_items}
-
--- truth values
-and-true : (b : Bool) → (b && true) ≡ b
-and-true true = refl
-and-true false = refl
-
-and-false : (b : Bool) → (b && false) ≡ false
-and-false true = refl
-and-false false = refl
-
-no-meta : (b : Bool) → not b ≡ true → b ≡ false
-no-meta true e = absurd (false≢true e)
-no-meta false e = refl
 
 -- a load function of these identifiers and statements
 pub definition-same : (a b c d : Ident) (xs : List Item) (a' b' c' d' : Ident) (ys : List Item) →
@@ -228,7 +217,7 @@ module _ (q : Program) (list : List ℕ) (answers : ℕ → Option Answer) (cont
       fresh (Some (Written ctxt notes properties)) is_told =
           absurd (true≢false
           (sym (its.answered.asked k (Written ctxt notes properties) is_told)
-          ∙ no-meta (has_import_meta (tree_of q k)) (and_parts _ _ cjs.script).1))
+          ∙ none-asked q k cjs))
 
       none : written_items part ≡ []
       none =
@@ -302,8 +291,8 @@ module _ (q : Program) (list : List ℕ) (answers : ℕ → Option Answer) (cont
             is = written ∙ ap (λ l. items_of old ++ flat_map copy_of l) (one-written part there);
           })
           (subst (λ b. Adds q list answers context (one_if b (HoldsMeta k) ++ rest) one new)
-          (ap (λ b. has_import_meta (tree_of q k) && not b) (ap stands_written is_told)
-          ∙ and-false (has_import_meta (tree_of q k)))
+          (and_right (has_import_meta (tree_of q k)) (not (stands_written (answers k)))
+          (ap (λ o. not (stands_written o)) is_told))
           behind))
 
       reached : IsReached q k

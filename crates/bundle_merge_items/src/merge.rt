@@ -10,7 +10,7 @@ ghost use Rattle.bundle_merge_whole.specs.planned.Decided.{back_plan, external_p
 ghost use Rattle.bundle_merge_whole.specs.sound.Decided.{AreTold};
 ghost use Rattle.bundle_merge_names.specs.Bundle.{AreBundleParts};
 ghost use Rattle.bundle_merge_names.specs.Numbers.{position};
-ghost use Rattle.bundle_merge_names.specs.Refused.{RefusesNames};
+ghost use Rattle.bundle_merge_names.specs.Refused.{RefusesNames, TakesFew};
 ghost use Rattle.bundle_merge_items.specs.Adds.{AreAnswered};
 ghost use Rattle.bundle_merge_items.specs.Blocks.{AddsBlocks, AddsOwned, AddsPlan, AreItemsMade, AreWithin, InBundle, IsBlockPut, IsPlaced};
 ghost use Rattle.bundle_merge_items.specs.Merged.{AddsBlock, AreBlocksOnce, IsMergedOf};
@@ -49,6 +49,10 @@ pub fn merge_modules(alloc: Global, bundle: &BundleParts<'_, '_, '_>) -> Result<
         AreAnswered q answers →
         AreTold q (length bundle.now.parts.now) meta count →
         IsMergedOf q list answers bundle.now meta count merged) }
+    ensures few { IfOk result (λ merged.
+        (q : Program) (list : List ℕ) (answers : ℕ → Option Answer) →
+        AreBundleParts q list answers bundle.now →
+        TakesFew q list answers (position bundle.now.contexts) (position merged.contexts)) }
     ensures refused { IfErr result (λ refusal.
         (q : Program) (list : List ℕ) (answers : ℕ → Option Answer) →
         AreBundleParts q list answers bundle.now →

@@ -2,7 +2,7 @@
 use Rattle.std.proofs.Common.{◌≡◌, ◌↔◌, ◌⊎◌, ◌+◌, inl, inr, ℕ, zero, Bool, List, Option, length, refl, sym, subst, ◌∙◌, arith}
 use Rattle.std.specs.Prelude.{Contains}
 use Rattle.bundle_rules.specs.Bundle as b
-use Rattle.bundle_rules.specs.Bundle.{Cause, AsModule, IsDue, IsUsed, externals}
+use Rattle.bundle_rules.specs.Bundle.{Cause, AsModule, IsDue, IsUsed}
 use Rattle.bundle_rules.specs.Entries.{Taken, Named, Whole}
 use Rattle.bundle_rules.specs.Linking as l
 use Rattle.bundle_rules.specs.Meaning as m
@@ -132,8 +132,8 @@ split p list written holder given = by given.its
     by (of_helpers is) = inr (inl is)
     by (of_modules is) = inr (inr (record { its = is; fresh = given.fresh }))
 
-first-given : (p : Program) (list : List ℕ) (written : ℕ → Bool) (holder : Holder) → IsOfExternals p list holder → IsGiven written (IsOfLabels p list) holder
-first-given p list written holder is = record {
+pub external-given : (p : Program) (list : List ℕ) (written : ℕ → Bool) (holder : Holder) → IsOfExternals p list holder → IsGiven written (IsOfLabels p list) holder
+external-given p list written holder is = record {
   its = of_externals is;
   fresh = λ j same. let e : NameOf (m.Of (l.External is.specifier is.its)) ≡ NameOf (m.Meta j) = sym is.is ∙ same in absurd cc;
 }
@@ -143,12 +143,25 @@ helper-other its_name j same = cc
 helper-other its_parameter j same = cc
 helper-other its_variable j same = cc
 
-behind : (p : Program) (list : List ℕ) (written : ℕ → Bool) (holder : Holder) → Behind p written holder → IsGiven written (IsOfLabels p list) holder
-behind p list written holder (inl is) = record {
+pub helpers-given : (p : Program) (list : List ℕ) (written : ℕ → Bool) (holder : Holder) → IsOfHelpers p holder → IsGiven written (IsOfLabels p list) holder
+helpers-given p list written holder is = record {
   its = of_helpers is;
   fresh = λ j same. absurd (helper-other is.its j same);
 }
-behind p list written holder (inr is) = record { its = of_modules is.its; fresh = is.fresh }
+
+pub modules-given : (p : Program) (list : List ℕ) (written : ℕ → Bool) (holder : Holder) → IsGiven written (IsOfModules p) holder → IsGiven written (IsOfLabels p list) holder
+modules-given p list written holder is = record { its = of_modules is.its; fresh = is.fresh }
+
+behind : (p : Program) (list : List ℕ) (written : ℕ → Bool) (holder : Holder) → Behind p written holder → IsGiven written (IsOfLabels p list) holder
+behind p list written holder (inl is) = helpers-given p list written holder is
+behind p list written holder (inr is) = modules-given p list written holder is
+
+-- a label that gets a name is one of those
+pub label-given : (p : Program) (list : List ℕ) (answers : ℕ → Option Answer) (bundle : BundleParts) → AreBundleParts p list answers bundle → (label : Label) → IsGiven (λ k. stands_written (answers k)) (IsHolder p answers) (holder_of label) → IsGiven (λ k. stands_written (answers k)) (IsOfLabels p list) (holder_of label)
+label-given p list answers bundle parts label given = record {
+  its = labels-from p list answers (listed p list answers bundle parts) (holder_of label) (labelled label) given.its;
+  fresh = given.fresh;
+}
 
 -- names for externals, then the helper, then the modules are names for all labels that have a context
 pub adds-all : (p : Program) (list : List ℕ) (answers : ℕ → Option Answer) (bundle : BundleParts) → AreBundleParts p list answers bundle → (first second third fourth : Names)
@@ -161,6 +174,6 @@ adds-all p list answers bundle parts first second third fourth externals_too hel
     let written : ℕ → Bool = λ k. stands_written (answers k) in
     adds-labels p list (IsGiven written (IsOfLabels p list)) (IsGiven written (IsHolder p answers)) first fourth
     (λ label given. record { its = labels-to p list answers has (holder_of label) given.its; fresh = given.fresh })
-    (λ label given. record { its = labels-from p list answers has (holder_of label) (labelled label) given.its; fresh = given.fresh })
-    (adds-on p list (IsOfExternals p list) (Behind p written) (IsGiven written (IsOfLabels p list)) first second fourth (split p list written) (first-given p list written) (behind p list written) externals_too
+    (label-given p list answers bundle parts)
+    (adds-on p list (IsOfExternals p list) (Behind p written) (IsGiven written (IsOfLabels p list)) first second fourth (split p list written) (external-given p list written) (behind p list written) externals_too
     (adds-on p list (IsOfHelpers p) (IsGiven written (IsOfModules p)) (Behind p written) second third fourth (λ holder its. its) (λ holder its. inl its) (λ holder its. inr its) helpers_too modules_too))

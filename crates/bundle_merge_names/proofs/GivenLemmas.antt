@@ -1,5 +1,5 @@
 -- What linking hands over of externals and of loads is what is meant of them.
-use Rattle.std.proofs.Common.{◌≡◌, ◌<◌, ◌⊎◌, inl, inr, ℕ, Bool, true, false, List, Some, length, map, take, refl, ap, sym, subst, ◌∙◌}
+use Rattle.std.proofs.Common.{◌≡◌, ◌<◌, ◌⊎◌, inl, inr, ℕ, Bool, true, false, List, Some, length, map, refl, ap, sym, subst, ◌∙◌}
 use Rattle.std.specs.Prelude.{◌↔◌, Contains, IsTrue, codes, filter, flat_map, is_some, slice_get}
 use Rattle.std.proofs.lemmas.Bool.{true≢false}
 use Rattle.std.proofs.lemmas.List.Elements.{All-contains}
@@ -27,7 +27,7 @@ use Rattle.bundle_merge_names.specs.Bundle.{IsPartOf}
 use Rattle.bundle_merge_whole.specs.made.Given.{Holder, NameOf}
 use Rattle.bundle_merge_names.specs.Held.{GivesName}
 use Rattle.bundle_merge_names.proofs.AddLemmas.{adds-none, adds-on, adds-one}
-use Rattle.bundle_merge_names.proofs.ScopeLemmas.{taken-there, there-below}
+use Rattle.bundle_merge_names.proofs.ScopeLemmas.{there-below}
 use Rattle.bundle_merge_names.proofs.SomeLemmas.{IsOfSome, adds-where}
 use Rattle.bundle_merge_names.proofs.TakenLemmas.{adds-like}
 use Rattle.bundle_merge_names.specs.Named.{IsGiven}
@@ -186,22 +186,31 @@ module _ (p : Program) (k : ℕ) where
         by (its_loads is) = inr (inr (inl is))
         by (its_namespace is) = inr (inr (inr is))
 
-    first-given : (holder : Holder) → First holder → IsGiven written (IsOfModule p k) holder
-    first-given holder is = record {
+    pub load-given : (holder : Holder) → First holder → IsGiven written (IsOfModule p k) holder
+    load-given holder is = record {
       its = its_load is;
       fresh = λ j same. let e : NameOf (m.Load k) ≡ NameOf (m.Meta j) = sym is.is ∙ same in absurd cc;
     }
 
-    behind : (holder : Holder) → LastThree holder → IsGiven written (IsOfModule p k) holder
-    behind holder (inl is) = record { its = its_meta is.its; fresh = is.fresh }
-    behind holder (inr (inl is)) = record {
+    pub meta-given : (holder : Holder) → GivenSecond holder → IsGiven written (IsOfModule p k) holder
+    meta-given holder is = record { its = its_meta is.its; fresh = is.fresh }
+
+    pub loads-given : (holder : Holder) → IsOfLoads p k holder → IsGiven written (IsOfModule p k) holder
+    loads-given holder is = record {
       its = its_loads is;
       fresh = λ j same. let e : NameOf (m.Of (l.CommonJs k is.c is.its)) ≡ NameOf (m.Meta j) = sym is.is ∙ same in absurd cc;
     }
-    behind holder (inr (inr is)) = record {
+
+    pub namespace-given : (holder : Holder) → Fourth holder → IsGiven written (IsOfModule p k) holder
+    namespace-given holder is = record {
       its = its_namespace is;
       fresh = λ j same. let e : NameOf (m.Of (l.Namespace k)) ≡ NameOf (m.Meta j) = sym is.is ∙ same in absurd cc;
     }
+
+    behind : (holder : Holder) → LastThree holder → IsGiven written (IsOfModule p k) holder
+    behind holder (inl is) = meta-given holder is
+    behind holder (inr (inl is)) = loads-given holder is
+    behind holder (inr (inr is)) = namespace-given holder is
 
     pub adds-module : (list : List ℕ) (a b c d e : Names)
         → AddsNames p list First a b
@@ -210,11 +219,17 @@ module _ (p : Program) (k : ℕ) where
         → AddsNames p list Fourth d e
         → AddsNames p list (IsGiven written (IsOfModule p k)) a e
     adds-module list a b c d e one two three four =
-        adds-on p list First LastThree (IsGiven written (IsOfModule p k)) a b e split first-given behind one
+        adds-on p list First LastThree (IsGiven written (IsOfModule p k)) a b e split load-given behind one
         (adds-on p list GivenSecond LastTwo LastThree b c e (λ holder is. is) (λ holder is. inl is) (λ holder is. inr is) two
         (adds-on p list (IsOfLoads p k) Fourth LastTwo c d e (λ holder is. is) (λ holder is. inl is) (λ holder is. inr is) three four))
 
-    -- the object for `import.meta`
+    -- the object for `import.meta` gets a name where none is written
+    pub second-given : (part : Part) → is_some part.written ≡ written k → is_some part.written ≡ false → (holder : Holder) → Second holder → GivenSecond holder
+    second-given part says none holder found = record {
+      its = found;
+      fresh = λ j same. let e : NameOf (m.Meta k) ≡ NameOf (m.Meta j) = sym found.is ∙ same in let one : j ≡ k = cc in ap written one ∙ sym says ∙ none;
+    }
+
     pub meta-none : (list : List ℕ) (part : Part) (a : Names) → IsPartOf p k part → part.tables.now.has_import_meta ≡ false → AddsNames p list GivenSecond a a
     meta-none list part a is none = adds-none p list GivenSecond a (λ holder found. true≢false (sym (is.meta ∙ found.its.so) ∙ none))
 
@@ -223,12 +238,7 @@ module _ (p : Program) (k : ℕ) where
 
     pub meta-one : (list : List ℕ) (part : Part) (a b : Names) → IsPartOf p k part → is_some part.written ≡ written k → is_some part.written ≡ false → part.tables.now.has_import_meta ≡ true → GivesName (n.Meta k) (codes "importMeta") a b → AddsNames p list GivenSecond a b
     meta-one list part a b is says none has gives =
-        adds-like p list Second GivenSecond a b
-        (λ holder found. record {
-          its = found;
-          fresh = λ j same. let e : NameOf (m.Meta k) ≡ NameOf (m.Meta j) = sym found.is ∙ same in let one : j ≡ k = cc in ap written one ∙ sym says ∙ none;
-        })
-        (λ holder found. found.its)
+        adds-like p list Second GivenSecond a b (second-given part says none) (λ holder found. found.its)
         (adds-where p list (has_import_meta (tree_of p k) ≡ true) (NameOf (m.Meta k)) a b (sym is.meta ∙ has) (adds-one p list (n.Meta k) (codes "importMeta") a b refl gives))
 
 -- what the module at this place needs and gets a name
@@ -247,7 +257,3 @@ module _ (p : Program) (written : ℕ → Bool) (parts : List Part) (reached : (
       let its = given.its in
       let at = there-below parts its.k ((reached its.k).0 its.reached) in
       record { i = its.k; x = at.0; there = at.1; is = record { its = its.its; fresh = given.fresh } }
-
-  -- those of the first modules are some of all
-  pub taken-to : (n : ℕ) (holder : Holder) → IsOfSome (OfPart p written) (take n parts) holder → IsOfModules p holder
-  taken-to n holder some = (modules-to holder (record { i = some.i; x = some.x; there = taken-there parts n some.i some.x some.there; is = some.is })).its

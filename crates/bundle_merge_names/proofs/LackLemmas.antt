@@ -8,24 +8,26 @@ use Rattle.bundle_rules.specs.Idents.{Ident}
 use Rattle.bundle_rules.specs.Linking as l
 use Rattle.bundle_rules.specs.Meaning as m
 use Rattle.bundle_rules.specs.Nodes.{Text}
-use Rattle.bundle_rules.specs.Program.{Program}
+use Rattle.bundle_rules.specs.Program.{Program, IsReached}
 use Rattle.bundle_link_targets.proofs.ListLemmas.{there-place}
 use Rattle.bundle_merge_names.specs.declared.error.MergeError.{MergeError}
 use Rattle.bundle_merge_names.specs.declared.names.Label.{Label}
 use Rattle.bundle_merge_names.specs.declared.names.Names.{Names}
 use Rattle.bundle_merge_names.specs.declared.part.BundleParts.{BundleParts}
-use Rattle.bundle_merge_whole.specs.made.Given.{Answer, Holder, NameOf}
+use Rattle.bundle_merge_whole.specs.made.Given.{Answer, stands_written, Holder, NameOf}
+use Rattle.bundle_merge_whole.specs.made.Alone.{IsHolder}
 use Rattle.bundle_merge_whole.specs.planned.Counted.{sum_of}
 use Rattle.bundle_merge_whole.specs.planned.Decided.{numbers_from}
-use Rattle.bundle_merge_names.specs.Added.{AddsNames, AreUsedUp, IsNamedOf, IsOfLabels, IsWhere, RefusesLabels, for_contexts, for_memory, with_taken}
+use Rattle.bundle_merge_names.specs.Added.{AddsNames, IsNamedOf, IsOfLabels, IsWhere, RefusesLabels, for_contexts, for_memory, with_taken}
 use Rattle.bundle_merge_names.specs.Bundle.{AreBundleParts}
 use Rattle.bundle_merge_names.specs.Held as h
 use Rattle.bundle_merge_names.specs.Held.{AreAllHeld, GivesName, IsHeldAs, RefusesName}
 use Rattle.bundle_merge_names.specs.Inside.{AreScopesNamed, HoldsNothing}
-use Rattle.bundle_merge_names.specs.Named.{held, holder_of}
+use Rattle.bundle_merge_names.specs.Named.{IsGiven, held, holder_of}
 use Rattle.bundle_merge_names.specs.Numbers.{position}
 use Rattle.bundle_merge_names.specs.Refused as r
-use Rattle.bundle_merge_names.specs.Refused.{AreLabels, RefusesNames, for_labels, for_scopes}
+use Rattle.bundle_merge_names.specs.Refused.{AreLabels, HasAtMost, RefusesNames, TakesFew, for_labels, for_scopes}
+use Rattle.bundle_merge_names.proofs.DueLemmas.{label-given}
 use Rattle.bundle_merge_names.proofs.LabelLemmas.{same-held}
 use Rattle.bundle_merge_names.proofs.NamesLemmas.{same-labels}
 use Rattle.bundle_merge_names.proofs.RefusedLemmas.{up-few}
@@ -157,36 +159,57 @@ module _ (p : Program) (list : List ℕ) (answers : ℕ → Option Answer) (bund
   none-held : (label : Label) (ident : Ident) → held before label ≡ Some ident → ⊥
   none-held label ident at = none-some ident (sym (same-labels before old labels label ∙ nothing.labels label) ∙ at)
 
-  module _ (last : Names) (used : AreUsedUp (IsOfLabels p list) before last) where
+  -- a label that gets a name
+  abbrev Gets : Holder → Type 0
+  Gets holder = IsGiven (λ j. stands_written (answers j)) (IsOfLabels p list) holder
+
+  -- what was given since, each to a label
+  module _ (last : Names)
+      (others : (other : Label) (ident : Ident) → held last other ≡ Some ident → (held before other ≡ Some ident) ⊎ Gets (holder_of other))
+      (later : position before.contexts ≤ position last.contexts)
+      (all_so : (from : ℕ) → AreAllHeld from before → AreAllHeld from last) where
     abbrev count : ℕ
-    count = 4294967296 - position before.contexts
+    count = position last.contexts - position before.contexts
 
     all : AreAllHeld (position before.contexts) last
-    all = used.all_so (position before.contexts) (record { each = λ c low high. absurd (omega (arith, low, high)) })
+    all = all_so (position before.contexts) (record { each = λ c low high. absurd (omega (arith, low, high)) })
 
     have : HaveContexts last (position before.contexts) count
-    have = have-contexts last count (position before.contexts) (λ c low high. all.each c low (let full = used.full in let later = used.later in omega (arith, high, full, later)))
+    have = have-contexts last count (position before.contexts) (λ c low high. all.each c low (omega (arith, high, later)))
 
-    are-labels : AreLabels p list have.holders
+    are-labels : AreLabels p list answers have.holders
     are-labels = record { each = each; once = once last (position before.contexts) count have }
       where
-        each : (holder : Holder) → Contains have.holders holder → IsOfLabels p list holder
+        each : (holder : Holder) → Contains have.holders holder → Gets holder
         each holder there =
             let at = there-place have.holders holder there in
             let one = have.at at.0 holder at.1 in
-            subst (IsOfLabels p list) one.1 (elim (used.others one.0.label one.0.ident one.0.there) [ inl was ↦ absurd (none-held one.0.label one.0.ident was) | inr its ↦ its ])
+            subst Gets one.1 (elim (others one.0.label one.0.ident one.0.there) [ inl was ↦ absurd (none-held one.0.label one.0.ident was) | inr its ↦ its ])
 
-  -- contexts are lacking for the labels
-  pub names-refused : (refusal : MergeError) → RefusesLabels (IsOfLabels p list) before refusal → RefusesNames p list answers (position bundle.contexts) refusal
-  names-refused _ for_memory = for_scopes r.for_memory
-  names-refused _ (for_contexts last used) = for_labels (record {
-    holders = (have last used).holders;
-    are = are-labels last used;
-    above = λ most has.
+    given-few : (most : ℕ → ℕ) → ((k : ℕ) → IsReached p k → HasAtMost p answers k (most k)) → position last.contexts ≤ position bundle.contexts + sum_of most list + length have.holders
+    given-few most has =
         let few = up-few p list answers bundle parts most has (length bundle.parts.now) (position before.contexts) (omega arith) named.taken in
         let same : sum_of most list ≡ sum_of most (numbers_from 0 (length bundle.parts.now)) = ap (sum_of most) parts.places in
-        let long = (have last used).long in
+        let long = have.long in
+        omega (arith, few, same, long, later)
+
+    takes-few : TakesFew p list answers (position bundle.contexts) (position last.contexts)
+    takes-few = record { holders = have.holders; are = are-labels; few = given-few }
+
+  -- contexts are lacking for the labels
+  pub names-refused : (refusal : MergeError) → RefusesLabels Gets before refusal → RefusesNames p list answers (position bundle.contexts) refusal
+  names-refused _ for_memory = for_scopes r.for_memory
+  names-refused _ (for_contexts last used) = for_labels (record {
+    holders = (have last used.others used.later used.all_so).holders;
+    are = are-labels last used.others used.later used.all_so;
+    above = λ most has.
+        let few = given-few last used.others used.later used.all_so most has in
         let full = used.full in
-        let later = used.later in
-        omega (arith, few, same, long, full, later);
+        omega (arith, few, full);
   })
+
+  -- no more are given than there are bindings and labels
+  pub names-few : (names : Names) → AddsNames p list (IsGiven (λ j. stands_written (answers j)) (IsHolder p answers)) before names → TakesFew p list answers (position bundle.contexts) (position names.contexts)
+  names-few names adds = takes-few names
+      (λ other ident at. elim (adds.others other ident at) [ inl was ↦ inl was | inr its ↦ inr (label-given p list answers bundle parts other its.0) ])
+      adds.later adds.all_so

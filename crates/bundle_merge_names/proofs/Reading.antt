@@ -6,7 +6,6 @@ use Rattle.bundle_rules.specs.Bundle.{Defines, HoldsMeta, defines, holds_meta}
 use Rattle.bundle_rules.specs.Entries.{has_import_meta}
 use Rattle.bundle_rules.specs.Idents.{Ident}
 use Rattle.bundle_rules.specs.Linking as l
-use Rattle.bundle_rules.specs.Linking.{IsCommonJs}
 use Rattle.bundle_rules.specs.Meaning.{HasKind, IsMeant, Meta, Of}
 use Rattle.bundle_rules.specs.Program.{Program, tree_of, IsReached}
 use Rattle.bundle_rules.specs.Scopes.{ModuleKind}

@@ -7,9 +7,10 @@ use Rattle.bundle_rules.specs.Program.{Program, tree_of, IsReached}
 use Rattle.bundle_rules.specs.Scopes.{ModuleKind, Es}
 use Rattle.bundle_merge_whole.specs.planned.Counted.{sum_of}
 use Rattle.bundle_merge_names.specs.Added.{IsOfLabels}
+use Rattle.bundle_merge_names.specs.Named.{IsGiven}
 use Rattle.bundle_merge_names.specs.declared.error.MergeError.{MergeError}
 use Rattle.bundle_merge_names.specs.declared.error.MergeError.TheVariants.{ContextsUsedUp, OutOfMemory}
-use Rattle.bundle_merge_whole.specs.made.Given.{Answer, Fresh, Written, Holder, InsideOf, AnsweredOf}
+use Rattle.bundle_merge_whole.specs.made.Given.{Answer, Fresh, Written, stands_written, Holder, InsideOf, AnsweredOf}
 use Rattle.bundle_merge_whole.specs.made.Alone.{IsHolder}
 
 -- the bindings of what the hook answered that get contexts: what is written already has its own
@@ -45,23 +46,36 @@ pub data RefusesContextsIn (p : Program) (list : List ℕ) (answers : ℕ → Op
       LacksContexts p list answers next →
       RefusesContextsIn p list answers next (ContextsUsedUp (Some m))
 
--- different holders of contexts that are labels of the linker's own or names of the helper
-pub record AreLabels (p : Program) (list : List ℕ) (holders : List Holder) : Type 0 where
-  pub each : (holder : Holder) → Contains holders holder → IsOfLabels p list holder
+-- different holders that get contexts and are labels of the linker's own or names of the helper
+pub record AreLabels (p : Program) (list : List ℕ) (answers : ℕ → Option Answer)
+    (holders : List Holder) : Type 0 where
+  pub each : (holder : Holder) →
+      Contains holders holder →
+      IsGiven (λ m. stands_written (answers m)) (IsOfLabels p list) holder
   pub once : (i j : ℕ) (holder : Holder) →
       slice_get holders i ≡ Some holder →
       slice_get holders j ≡ Some holder →
       i ≡ j
 
 -- from the next one on there are fewer contexts than the modules of a list have bindings and the
--- linker has labels
+-- linker has labels that get one
 pub record LacksForLabels (p : Program) (list : List ℕ) (answers : ℕ → Option Answer)
     (next : ℕ) : Type 0 where
   pub holders : List Holder
-  pub are : AreLabels p list holders
+  pub are : AreLabels p list answers holders
   pub above : (most : ℕ → ℕ) →
       ((m : ℕ) → IsReached p m → HasAtMost p answers m (most m)) →
       4294967295 < next + sum_of most list + length holders
+
+-- what was given ends no later than the bindings of a list's modules and different labels of the
+-- linker count
+pub record TakesFew (p : Program) (list : List ℕ) (answers : ℕ → Option Answer)
+    (next to : ℕ) : Type 0 where
+  pub holders : List Holder
+  pub are : AreLabels p list answers holders
+  pub few : (most : ℕ → ℕ) →
+      ((m : ℕ) → IsReached p m → HasAtMost p answers m (most m)) →
+      to ≤ next + sum_of most list + length holders
 
 -- a bundle gets no names: for memory, or since no context is left for a scope of a module or of what
 -- the hook answered for it, or for a label

@@ -21,7 +21,7 @@ ghost use Rattle.bundle_merge_names.specs.Inside.{AreScopesNamed, GivesModule, H
 ghost use Rattle.bundle_merge_names.specs.Named.{IsGiven};
 ghost use Rattle.bundle_merge_names.specs.Numbers as numbers;
 ghost use Rattle.bundle_merge_names.specs.Ranges.{GivesAnswered, GivesContexts, RefusesAnswered, RefusesContexts};
-ghost use Rattle.bundle_merge_names.specs.Refused.{RefusesContextsIn, RefusesNames};
+ghost use Rattle.bundle_merge_names.specs.Refused.{RefusesContextsIn, RefusesNames, TakesFew};
 ghost use Rattle.bundle_merge_names.specs.Scoped.{AreMarks, GivesScope, RefusesScope, flag_in, scope_number};
 
 use crate::error::MergeError;
@@ -42,6 +42,11 @@ pub fn names_of<'a>(
         (p : Program) (list : List ℕ) (answers : ℕ → Option Answer) →
         AreBundleParts p list answers bundle.now →
         (context : Contexts) × AreNamesOf p list answers context bundle.now names) }
+    ensures few { IfOk result (λ names.
+        (p : Program) (list : List ℕ) (answers : ℕ → Option Answer) →
+        AreBundleParts p list answers bundle.now →
+        TakesFew p list answers (numbers.position bundle.now.contexts)
+        (numbers.position names.contexts)) }
     ensures refused { IfErr result (λ refusal.
         (p : Program) (list : List ℕ) (answers : ℕ → Option Answer) →
         AreBundleParts p list answers bundle.now →
@@ -62,6 +67,11 @@ fn give_names<'a>(
         (p : Program) (list : List ℕ) (answers : ℕ → Option Answer) →
         AreBundleParts p list answers bundle.now →
         (context : Contexts) × AreNamesOf p list answers context bundle.now names.new) }
+    ensures few { OnOk result (HoldsNothing bundle.now names.old →
+        (p : Program) (list : List ℕ) (answers : ℕ → Option Answer) →
+        AreBundleParts p list answers bundle.now →
+        TakesFew p list answers (numbers.position bundle.now.contexts)
+        (numbers.position names.new.contexts)) }
     ensures refused { IfErr result (λ refusal.
         HoldsNothing bundle.now names.old →
         (p : Program) (list : List ℕ) (answers : ℕ → Option Answer) →
@@ -262,7 +272,8 @@ fn give_labels<'a>(
     ensures refused { IfErr result (λ refusal.
         (p : Program) (list : List ℕ) (answers : ℕ → Option Answer) →
         AreBundleParts p list answers bundle.now →
-        RefusesLabels (IsOfLabels p list) names.old refusal) }
+        RefusesLabels (IsGiven (λ m. stands_written (answers m)) (IsOfLabels p list))
+        names.old refusal) }
 {
     give_externals(names, bundle.linking)?;
     give_helpers(names, bundle)?;
@@ -456,7 +467,8 @@ fn give_modules<'a>(
     ensures refused { IfErr result (λ refusal.
         (p : Program) (list : List ℕ) (answers : ℕ → Option Answer) →
         AreBundleParts p list answers bundle.now →
-        RefusesLabels (IsOfModules p) names.old refusal) }
+        RefusesLabels (IsGiven (λ m. stands_written (answers m)) (IsOfModules p))
+        names.old refusal) }
 {
     for (module, part) in bundle.parts.iter().enumerate() {
         give_module(names, bundle.linking, module, part)?;
@@ -480,13 +492,15 @@ fn give_module<'a>(
         IsPartOf p «module» part.now →
         is_some part.now.written ≡ written «module» →
         AddsNames p list (IsGiven written (IsOfModule p «module»)) names.old names.new) }
-    ensures refused { IfErr result (λ refusal. (p : Program) (list : List ℕ) →
+    ensures refused { IfErr result (λ refusal.
+        (p : Program) (list : List ℕ) (written : ℕ → Bool) →
         IsLinkingOf p linking.now →
         HandsOver p list linking.now →
         AreModules p →
         IsReached p «module» →
         IsPartOf p «module» part.now →
-        RefusesLabels (IsOfModule p «module») names.old refusal) }
+        is_some part.now.written ≡ written «module» →
+        RefusesLabels (IsGiven written (IsOfModule p «module»)) names.old refusal) }
 {
     give_load(names, linking, module)?;
     give_meta(names, module, part)?;
@@ -519,10 +533,11 @@ fn give_meta(names: &mut Names<'_>, module: usize, part: &Part<'_, '_>) -> Resul
         AddsNames p list (IsGiven written
         (IsWhere (has_import_meta (tree_of p «module») ≡ true) (NameOf (meaning.Meta «module»))))
         names.old names.new) }
-    ensures refused { IfErr result (λ refusal. (p : Program) →
+    ensures refused { IfErr result (λ refusal. (p : Program) (written : ℕ → Bool) →
         IsPartOf p «module» part.now →
-        RefusesLabels
-        (IsWhere (has_import_meta (tree_of p «module») ≡ true) (NameOf (meaning.Meta «module»)))
+        is_some part.now.written ≡ written «module» →
+        RefusesLabels (IsGiven written
+        (IsWhere (has_import_meta (tree_of p «module») ≡ true) (NameOf (meaning.Meta «module»))))
         names.old refusal) }
 {
     if !part.tables.has_import_meta {

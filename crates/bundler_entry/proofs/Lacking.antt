@@ -43,8 +43,8 @@ use Rattle.bundler_entry.proofs.AskedLemmas.{its_file}
 use Rattle.bundler_entry.proofs.Bundled.{AreHeld, at-place, by-places}
 use Rattle.bundler_entry.proofs.InnerLemmas.{scope-begins}
 use Rattle.bundler_entry.proofs.Known as known
-use Rattle.bundler_entry.proofs.LackLemmas.{refused-lacks}
-use Rattle.bundler_entry.proofs.NeedsLemmas.{named-by, needs-by, needs-earlier}
+use Rattle.bundle_merge_items.proofs.LackLemmas.{refused-lacks}
+use Rattle.bundle_merge_items.proofs.NeedsLemmas.{named-by, needs-by, needs-earlier}
 
 module _ (p : Program) (entry : ℕ) (call : Call) (w : IsCallOf p entry call) (linked : Linked)
     (l : IsLinkedEntry p call linked) where

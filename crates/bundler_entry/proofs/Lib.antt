@@ -13,7 +13,5 @@ pub mod StatementLemmas
 pub mod BundleLemmas
 mod PartsLemmas
 pub mod InnerLemmas
-pub mod NeedsLemmas
-pub mod LackLemmas
 pub mod Bundled
 pub mod Lacking

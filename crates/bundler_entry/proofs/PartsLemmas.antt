@@ -80,14 +80,16 @@ one-answer None answered handed read part none =
     subst (AreAnswers None part) (sym handed) none
 one-answer (Some meta) None handed read part none = absurd handed
 one-answer (Some meta) (Some answered) handed read part none =
-    let its = read meta refl in
-    (none, record {
-      told = ap (λ given. kept_properties given) (sym handed.0);
-      listed = ap (map item_of) handed.1 ∙ its.list
-          ∙ ap (λ given. properties_tree (flat_map (key_value_prop_items 0) given)) (sym handed.0);
-      table = subst (IsTable BySymbol Es (map item_of answered.pieces.now)) (sym handed.2)
-          (subst (λ list. IsTable BySymbol Es (map item_of list) meta.names) (sym handed.1) its.names);
-    })
+    let its = read meta refl in (
+      none,
+      record {
+        told = ap (λ given. kept_properties given) (sym handed.0);
+        listed = ap (map item_of) handed.1 ∙ its.list
+            ∙ ap (λ given. properties_tree (flat_map (key_value_prop_items 0) given)) (sym handed.0);
+        table = subst (IsTable BySymbol Es (map item_of answered.pieces.now)) (sym handed.2)
+            (subst (λ list. IsTable BySymbol Es (map item_of list) meta.names) (sym handed.1) its.names);
+      },
+    )
 
 -- each answer is handed on with what was read of it
 answers-are : (metas : List (Option ReadMeta)) (answers : List (Option Answered)) →

@@ -1,7 +1,7 @@
 -- The items of a bundle whose names are given.
 use Rattle.std.proofs.Common.{◌<◌, refl, sym, subst}
 use Rattle.bundle_merge_names.specs.Numbers.{position}
-use Rattle.bundle_merge_names.specs.Refused.{for_memory, for_scopes}
+use Rattle.bundle_merge_names.specs.Refused.{TakesFew, for_memory, for_scopes}
 use Rattle.bundle_merge_names.specs.declared.error.MergeError.TheVariants.{OutOfMemory}
 use Rattle.bundle_merge_names.proofs.ScopeLemmas.{handed-on}
 use Rattle.bundle_merge_items.specs.Added.{items_of}
@@ -22,6 +22,12 @@ returns-clause-merged c = λ q list answers meta count sound parts once answered
       made = its.made;
       is = refl;
     }
+
+pub returns-clause-few : goal.returns-clause-few
+returns-clause-few c = λ q list answers parts.
+    subst
+    (λ contexts. TakesFew q list answers (position c.args.bundle.now.contexts) (position contexts))
+    (sym c.contexts.ensures) (c.in_ok-names.ensures.few q list answers parts)
 
 pub returns-in_err-names-clause-refused : goal.returns-in_err-names-clause-refused
 returns-in_err-names-clause-refused c = handed-on _ _ _ c.from_residual.ensures.1 c.in_err-names.ensures.refused

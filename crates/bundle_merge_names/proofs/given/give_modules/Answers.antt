@@ -1,12 +1,12 @@
 -- Each module that is gone over gets names for what it needs.
-use Rattle.std.proofs.Common.{◌+◌, length, take, refl, subst, arith}
+use Rattle.std.proofs.Common.{◌+◌, length, refl, subst, arith}
 use Rattle.std.proofs.lemmas.Option.{slice_get_read}
 use Rattle.bundle_scope_denote.proofs.LoopLemmas.{take-whole}
 use Rattle.bundle_merge_whole.specs.made.Given.{stands_written}
-use Rattle.bundle_merge_names.specs.Added.{AddsNames, IsOfModule, IsOfModules}
+use Rattle.bundle_merge_names.specs.Added.{AddsNames, IsOfModules}
 use Rattle.bundle_merge_names.specs.Named.{IsGiven}
-use Rattle.bundle_merge_names.proofs.GivenLemmas.{OfPart, modules-from, modules-to, taken-to}
-use Rattle.bundle_merge_names.proofs.LackLemmas.{refuses-after, refuses-like}
+use Rattle.bundle_merge_names.proofs.GivenLemmas.{OfPart, modules-from, modules-to}
+use Rattle.bundle_merge_names.proofs.LackLemmas.{refuses-like, some-refused}
 use Rattle.bundle_merge_names.proofs.ScopeLemmas.{handed-on}
 use Rattle.bundle_merge_names.proofs.SomeLemmas.{IsOfSome, some-first, some-next}
 use Rattle.bundle_merge_names.proofs.TakenLemmas.{adds-like}
@@ -43,9 +43,8 @@ returns-in_err-give_module-clause-refused c = handed-on _ _ _ c.from_residual.en
     let part = c.part-item.result in
     let refusal = c.in_err-give_module.field-0.0 in
     let at = slice_get_read parts (length parts) i part refl c.loop-module-test.true c.part-item.is in
-    let reached = (are.reached i).1 c.loop-module-test.true in
-    refuses-after p list (IsOfSome (OfPart p (λ m. stands_written (answers m))) (take i parts)) (IsOfModules p) c.args.names.now c.loop-module.names refusal
-    (taken-to p (λ m. stands_written (answers m)) parts are.reached i)
-    (c.loop-module.invariant p list answers are)
-    (refuses-like (IsOfModule p i) (IsOfModules p) c.loop-module.names refusal (λ holder is. record { k = i; reached = reached; its = is })
-    (c.in_err-give_module.ensures.refused p list are.linking are.handed are.modules reached (are.parts i part at))))
+    refuses-like (IsOfSome (OfPart p (λ m. stands_written (answers m))) parts) (IsGiven (λ m. stands_written (answers m)) (IsOfModules p)) c.args.names.now refusal
+    (modules-to p (λ m. stands_written (answers m)) parts are.reached)
+    (some-refused p list (OfPart p (λ m. stands_written (answers m))) parts i part c.args.names.now c.loop-module.names refusal at (c.loop-module.invariant p list answers are)
+    (c.in_err-give_module.ensures.refused p list (λ m. stands_written (answers m)) are.linking are.handed are.modules ((are.reached i).1 c.loop-module-test.true) (are.parts i part at)
+    (part-written p list answers c.args.bundle.now are i part at))))

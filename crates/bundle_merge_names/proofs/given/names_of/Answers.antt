@@ -1,10 +1,18 @@
 -- Names that hold nothing get all.
-use Rattle.bundle_merge_names.specs.Inside.{HoldsNothing}
 use Rattle.bundle_merge_names.proofs.ScopeLemmas.{handed-on}
 use Rattle.bundle_merge_names.proofs.given.names_of.Goals as goal
 
 pub returns-clause-named : goal.returns-clause-named
 returns-clause-named c = λ p list answers parts. c.in_ok-give_names.ensures.given (record {
+  locals = c.new-names.ensures.locals;
+  scopes = c.new-names.ensures.scopes;
+  answered = c.new-names.ensures.answered;
+  labels = c.new-names.ensures.labels;
+  contexts = c.new-names.ensures.contexts;
+}) p list answers parts
+
+pub returns-clause-few : goal.returns-clause-few
+returns-clause-few c = λ p list answers parts. c.in_ok-give_names.ensures.few (record {
   locals = c.new-names.ensures.locals;
   scopes = c.new-names.ensures.scopes;
   answered = c.new-names.ensures.answered;

@@ -38,7 +38,7 @@ answered-few (Some (Fresh properties)) = omega arith
 answered-few (Some (Written ctxt notes properties)) = omega arith
 
 -- a CommonJS module has no `import.meta`
-none-asked : (p : Program) (m : ℕ) → IsCommonJs p m → has_import_meta (tree_of p m) ≡ false
+pub none-asked : (p : Program) (m : ℕ) → IsCommonJs p m → has_import_meta (tree_of p m) ≡ false
 none-asked p m common = not-so (has_import_meta (tree_of p m)) (and_parts _ _ common.script).1
 
 -- the names of the helper, where there is one
@@ -157,7 +157,7 @@ module _ (q : Program) (hooks : Hooks) (d : Decided) (its : AreDecided q (form_o
   holder-there holder (n.of_modules modules) =
       module-held modules.k modules.reached holder modules.its
 
-  labels-few : (holders : List Holder) → AreLabels q d.list holders →
+  labels-few : (holders : List Holder) → AreLabels q d.list answers holders →
       length holders ≤ length (injected_labels d) + count_if has_helper 2
   labels-few holders are =
       let few =
@@ -165,7 +165,7 @@ module _ (q : Program) (hooks : Hooks) (d : Decided) (its : AreDecided q (form_o
       (λ i holder at.
       let there =
       get-contains all_holders holder
-      (holder-there holder (are.each holder (contains-get holders i holder at))) in
+      (holder-there holder (are.each holder (contains-get holders i holder at)).its) in
       (there.0, holder, there.1, refl)) in
       let long = all-length in omega (arith, few, long)
 
