@@ -250,11 +250,17 @@ module _ (q : Program) (list : List ℕ) (answers : ℕ → Option Answer) (cont
       (sym (told.meta_told k ((its.parts.reached k).0 reached)))
       (by (answers k) refl (adds meta count told reached (owned Es (is_es not-script)))))
     where
+      reached : IsReached q k
+      reached = (its.parts.reached k).1 (slice_get_within bundle.parts.now k part at)
+
+      not-script : IsCommonJs q k → ⊥
+      not-script cjs = false≢true (sym false' ∙ tells.1 cjs)
+
       -- what stands behind the object
-      abbrev rest : List Cause
+      rest : List Cause
       rest = behind_plan (decided_of bundle meta count) k
 
-      abbrev Whole : Type 0
+      Whole : Type 0
       Whole =
           Adds q list answers context
           (one_if (has_import_meta (tree_of q k)) (HoldsMeta k) ++ rest) old new
@@ -294,9 +300,3 @@ module _ (q : Program) (list : List ℕ) (answers : ℕ → Option Answer) (cont
           (and_right (has_import_meta (tree_of q k)) (not (stands_written (answers k)))
           (ap (λ o. not (stands_written o)) is_told))
           behind))
-
-      reached : IsReached q k
-      reached = (its.parts.reached k).1 (slice_get_within bundle.parts.now k part at)
-
-      not-script : IsCommonJs q k → ⊥
-      not-script cjs = false≢true (sym false' ∙ tells.1 cjs)

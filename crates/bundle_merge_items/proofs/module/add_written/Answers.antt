@@ -1,5 +1,6 @@
 -- The object that is written already is copied as it is.
 use Rattle.std.proofs.Common.{sym, ap, ◌∙◌, ◌++◌, ◌∷◌, [], append-nil}
+use Rattle.std.specs.Prelude.{flat_map}
 use Rattle.bundle_tree_listed.specs.Tree.{module_item_items}
 use Rattle.bundle_merge_items.specs.Added.{copy_of, items_of}
 use Rattle.bundle_merge_items.proofs.Behind.{behind-all, behind-next}
@@ -22,3 +23,5 @@ pub returns : goal.returns
 returns c =
     behind-all copy_of c.written_items-item-items.result.now c.loop-item.item-index
     c.args.items.now c.loop-item.items c.loop-item-test.false c.loop-item.invariant
+    ∙ ap (λ its. items_of c.args.items.now ++ flat_map copy_of its)
+    c.written_items-item-items.ensures
