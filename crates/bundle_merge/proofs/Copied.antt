@@ -1,7 +1,6 @@
 -- What is copied of the items of modules, one by one, with those that are left, is all of each module's.
-use Rattle.std.proofs.Common.{◌≡◌, ℕ, zero, suc, Bool, true, false, cond, List, [], ◌∷◌, ◌++◌, Option, Some, None, length, map, nat_eq, refl, ap, sym, ◌∙◌, append-nil, append_assoc, eqb-true, eq-eqb, arith}
-use Rattle.std.specs.Prelude.{filter, option_map, position, replicate, slice_get, slice_set}
-use Rattle.std.proofs.lemmas.Bool.{false≢true}
+use Rattle.std.proofs.Common.{◌≡◌, ℕ, zero, suc, Bool, true, false, cond, List, [], ◌∷◌, ◌++◌, Some, None, length, map, nat_eq, refl, ap, sym, ◌∙◌, append-nil, append_assoc, eqb-true, eq-eqb, arith}
+use Rattle.std.specs.Prelude.{filter, replicate, slice_get, slice_set}
 use Rattle.std.proofs.lemmas.Option.{none-some, same_Some}
 use Rattle.bundle_tree_ast.specs.declared.module.Module.{Module}
 use Rattle.bundle_tree_piece.specs.Item.{Item}

@@ -1,6 +1,6 @@
 -- A program that a check of linking finds nothing wrong with, and in which no module declares a name twice, has no
 -- fault.
-use Rattle.std.proofs.Common.{◌≡◌, ◌≢◌, ℕ, None, Option, Some, ap, sym, ◌∙◌, arith}
+use Rattle.std.proofs.Common.{◌≡◌, ℕ, None, sym, ◌∙◌, arith}
 use Rattle.std.proofs.lemmas.Option.{none-some}
 use Rattle.bundle_tree_names.specs.FileName.{Name}
 use Rattle.bundle_rules.specs.Doubled.{first_doubled}

@@ -1,5 +1,5 @@
 -- The object of an `import.meta` that is written already: its properties are some, and which contexts stand in it.
-use Rattle.std.proofs.Common.{◌≡◌, ◌≢◌, ◌≤◌, ◌<◌, ℕ, zero, suc, Bool, true, List, [], ◌∷◌, ◌++◌, Some, Contains, codes, drop, map, option_map, slice_get, refl, sym, ap, ◌∙◌, subst, append-nil, arith}
+use Rattle.std.proofs.Common.{◌≡◌, ◌≢◌, ◌<◌, ℕ, zero, suc, Bool, true, List, [], ◌∷◌, ◌++◌, Some, Contains, codes, drop, option_map, slice_get, sym, ap, ◌∙◌, subst, append-nil, arith}
 use Rattle.std.specs.Prelude.{nat_le, nat_lt}
 use Rattle.std.specs.List.{AllZip}
 use Rattle.std.proofs.lemmas.Bool.{and_parts, leb-true}
@@ -10,14 +10,13 @@ use Rattle.bundle_tree_ast.specs.declared.expr.Expr.{Expr}
 use Rattle.bundle_tree_ast.specs.declared.prop.KeyValueProp.{KeyValueProp}
 use Rattle.bundle_tree_piece.specs.Item as h
 use Rattle.bundle_tree_piece.specs.Item.{Item}
-use Rattle.bundle_tree_listed.specs.Tree.{key_value_prop_items}
 use Rattle.bundle_rules.specs.Bundle.{Hooks, properties_tree}
 use Rattle.bundle_rules.specs.Cleared.{cleared}
 use Rattle.bundle_rules.specs.Contexts.{may_have_context}
 use Rattle.bundle_rules.specs.Declarations.{BySymbol, ByContext, Name}
 use Rattle.bundle_rules.specs.Denotes.{Bound, Denoted, by_symbol, denotations, denoted_as, without_context}
 use Rattle.bundle_rules.specs.Idents.{Ident, ident_of}
-use Rattle.bundle_rules.specs.Merged.{IsMetaItem, meta_item}
+use Rattle.bundle_rules.specs.Merged.{IsMetaItem}
 use Rattle.bundle_rules.specs.Places.{Occurrence, occurrences, start}
 use Rattle.bundle_rules.specs.Program.{Program}
 use Rattle.bundle_rules.specs.Scopes.{Es, Inner, ScopeKind}

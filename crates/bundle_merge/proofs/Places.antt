@@ -1,6 +1,6 @@
 -- What was read of the modules of a program by their places on its list is that of a program of which these are the
 -- numbers, and is linked and merged as that.
-use Rattle.std.proofs.Common.{◌≡◌, ◌↔◌, ◌⊎◌, inl, inr, ℕ, zero, suc, ◌+◌, ◌-◌, ◌<◌, Bool, true, false, List, [], ◌∷◌, ◌++◌, Option, Some, None, Contains, length, map, refl, sym, ap, ◌∙◌, subst, arith}
+use Rattle.std.proofs.Common.{◌≡◌, ◌↔◌, ℕ, zero, suc, ◌-◌, ◌<◌, Bool, true, List, [], ◌∷◌, ◌++◌, Option, Some, None, Contains, length, map, refl, sym, ap, ◌∙◌, subst, arith}
 use Rattle.std.specs.Prelude.{option_map, slice_get, unwrap_or}
 use Rattle.std.specs.Option.{option_and_then}
 use Rattle.std.proofs.lemmas.Option.{none-some, same_Some, slice_get_within}
@@ -11,16 +11,13 @@ use Rattle.bundle_order_sort.proofs.OnceLemmas.{IsOnce as IsOnceBehind}
 use Rattle.bundle_order_graph.specs.Modules.{Modules, deps}
 use Rattle.bundle_order_graph.specs.Walks.{along, itself}
 use Rattle.bundle_order_graph.proofs.WalkLemmas.{Reaches-trans}
-use Rattle.bundle_rules.specs.Cleared.{cleared}
 use Rattle.bundle_rules.specs.Declarations.{Declared as Declaration}
 use Rattle.bundle_rules.specs.Doubled.{first_doubled}
 use Rattle.bundle_rules.specs.Entries.{ExportEntry, exports_of, is_named}
 use Rattle.bundle_rules.specs.Faults.{Fault, IsFaultless, IsFaultlessProgram, ProgramFault, doubled_declaration}
 use Rattle.bundle_rules.specs.Judging.{requests_in}
-use Rattle.bundle_rules.specs.Meaning.{HasKind}
 use Rattle.bundle_rules.specs.Nodes.{Text}
 use Rattle.bundle_rules.specs.Program.{Loaded, Program, requested, tree_of, IsReached}
-use Rattle.bundle_rules.specs.Scopes.{ModuleKind}
 use Rattle.bundle_rules.specs.Tables.{TellsCommonJs}
 use Rattle.bundle_rules.proofs.FaultLemmas as faults
 use Rattle.bundle_link_index.specs.Leads.{leads_from as by_lead, required_of}
@@ -50,7 +47,7 @@ use Rattle.bundle_merge_whole.proofs.moved.Owed.{AreMoved}
 use Rattle.bundle_merge_whole.proofs.moved.Places.{placed-moved}
 use Rattle.bundle_merge_whole.proofs.planned.RequestLemmas.{list-once, list-reached}
 use Rattle.bundle_merge_names.specs.declared.part.Part.{Part}
-use Rattle.bundle_merge.specs.Placed.{AreRight, IsRead, ArePlaced}
+use Rattle.bundle_merge.specs.Placed.{AreRight, ArePlaced}
 use Rattle.bundle_merge.proofs.Faultless.{faultless-program}
 
 last-there : (before : List ℕ) (x : ℕ) → slice_get (before ++ x ∷ []) (length before) ≡ Some x

@@ -1,11 +1,10 @@
 -- Prepared items of modules are read as the trees of their modules without contexts and notes, behind the object of an
 -- `import.meta`, if there is one.
-use Rattle.std.proofs.Common.{◌≡◌, ◌≢◌, ℕ, zero, suc, ◌<◌, ◌==◌, Bool, true, false, List, [], ◌∷◌, ◌++◌, Option, Some, None, Contains, codes, drop, length, map, nat_eq, refl, sym, ap, ◌∙◌, subst, append-nil, eq-eqb, eqb-true, arith}
-use Rattle.std.specs.Prelude.{bytes_eq, flat_map, is_some, option_map, position, slice_get, string_bytes, take, if◌then◌else◌}
+use Rattle.std.proofs.Common.{◌≡◌, ◌≢◌, ℕ, ◌<◌, ◌==◌, Bool, true, false, List, [], ◌∷◌, ◌++◌, Option, Some, None, Contains, codes, drop, map, refl, sym, ap, ◌∙◌, subst, eq-eqb, eqb-true, arith}
+use Rattle.std.specs.Prelude.{bytes_eq, is_some, option_map, slice_get, string_bytes, take, if◌then◌else◌}
 use Rattle.std.specs.Option.{option_and_then, option_or}
 use Rattle.std.proofs.lemmas.Bool.{false≢true}
 use Rattle.std.proofs.lemmas.Option.{none-some, same_Some, slice_get_within}
-use Rattle.indexmap.specs.IndexMap.{get_by_text}
 use Rattle.bundle_tree_leaf.specs.declared.kind.ExportMetadata.{ExportMetadata}
 use Rattle.bundle_tree_ast.specs.declared.module.Module.{Module}
 use Rattle.bundle_tree_ast.specs.declared.module.ModuleItem.{ModuleItem}
@@ -25,7 +24,6 @@ use Rattle.bundle_rules.specs.Declarations.{BySymbol, ByContext, Name as ItsName
 use Rattle.bundle_rules.specs.Denotes.{Bound, denoted_as}
 use Rattle.bundle_rules.specs.Entries.{has_import_meta, is_import_meta}
 use Rattle.bundle_rules.specs.Faults.{IsFaultless}
-use Rattle.bundle_rules.specs.Idents.{Ident}
 use Rattle.bundle_rules.specs.Judging.{requests_in}
 use Rattle.bundle_rules.specs.Meaning.{HasKind, is_es, is_common_js}
 use Rattle.bundle_rules.specs.Merged.{AreItemsOf, Contexts, IsMetaItem, IsPrepared, MetaItems, StandsIn, meta_item, none, one}
@@ -51,11 +49,11 @@ use Rattle.bundle_link_reached.proofs.AlikeLemmas.{common_js_on, flip}
 use Rattle.bundle_link_reached.proofs.ClearedNodes.{cleared-module-tree}
 use Rattle.bundle_link_reached.proofs.DefaultLemmas.{default-once-cleared}
 use Rattle.bundle_link_reached.proofs.LeadLemmas.{told-led}
-use Rattle.bundle_link_reached.proofs.NumberLemmas.{at-place, got, held, place-there, place-of}
+use Rattle.bundle_link_reached.proofs.NumberLemmas.{at-place, held, place-there}
 use Rattle.bundle_link_reached.proofs.ProgramLemmas.{mapped}
 use Rattle.bundle_link_reached.proofs.RequestLemmas.{requests_to}
 use Rattle.bundle_link_reached.proofs.ToldLemmas.{kind_told}
-use Rattle.bundle_link.specs.Programs.{AreModulesOf, IsLinkerOf, IsModuleOf, numbers}
+use Rattle.bundle_link.specs.Programs.{IsModuleOf}
 use Rattle.bundle_link.specs.declared.link.Linker.{Linker}
 use Rattle.bundle_link.specs.declared.transformed.TransformedModule.{TransformedModule}
 use Rattle.bundle_link.proofs.ClearedTables.{cleared-table}
@@ -68,12 +66,10 @@ use Rattle.bundle_merge_whole.proofs.answered.Resolving.{resolved-cleared}
 use Rattle.bundle_merge_whole.proofs.cleared.Cleared.{checked-cleared, leads-cleared, list-cleared, meta-cleared, meta-item-cleared, of-cleared-kind, of-cleared-reached, to-cleared-reached, tree-of-cleared, undoubled-cleared}
 use Rattle.bundle_merge_whole.proofs.grown.Trees.{kept_fit}
 use Rattle.bundle_merge_whole.proofs.planned.RequestLemmas.{list-once}
-use Rattle.bundle_merge_names.specs.Bundle.{IsWrittenIn, own_items}
 use Rattle.bundle_merge_names.specs.declared.part.Part.{Part}
-use Rattle.bundle_merge_items.specs.Added.{items_of}
-use Rattle.bundle_merge.specs.Handed.{AreObjectsApart, StandsInObject, StandsInside, its_inside, its_name}
+use Rattle.bundle_merge.specs.Handed.{AreObjectsApart, StandsInObject, its_inside, its_name}
 use Rattle.bundle_merge.specs.Placed.{AreRight, HasFront, IsRead, nothing, object}
-use Rattle.bundle_merge.specs.Read.{AreAllKnown, IsKnown, IsReadAt, IsReadOf, first_declared, front_of, held_by, list_of, own_list, own_part, without_front}
+use Rattle.bundle_merge.specs.Read.{AreAllKnown, IsKnown, IsReadAt, IsReadOf, first_declared, held_by, list_of, own_list, without_front}
 use Rattle.bundle_merge.specs.Ready.{AreOwnObjects, HasOwnContexts, IsMergeable}
 use Rattle.bundle_merge.proofs.Objects as o
 use Rattle.bundle_merge.proofs.Objects.{AnswersFit}

@@ -1,7 +1,7 @@
 -- What is read of the prepared items of a module: its own items, and the name of the statement in front of them that
 -- holds its `import.meta`.
 use Rattle.std.specs.Prelude.{◌≡◌, ℕ, List, [], ◌∷◌, Option, Some, None, Contains, drop, map, nat_eq, option_map, slice_get, take, if◌then◌else◌}
-use Rattle.std.specs.List.{AllZip, flat_map}
+use Rattle.std.specs.List.{flat_map}
 use Rattle.indexmap.specs.IndexMap.{get_by_text}
 use Rattle.indexmap.specs.IndexSet.{index_of_by}
 use Rattle.bundle_tree_ast.specs.declared.module.Module.{Module}

@@ -1,5 +1,5 @@
 -- The copies are those of the modules on the list.
-use Rattle.std.proofs.Common.{◌≡◌, List, ℕ, map, inl, refl, ap, sym, ◌∙◌, subst}
+use Rattle.std.proofs.Common.{List, ℕ, map, inl, refl, ap, sym, ◌∙◌, subst}
 use Rattle.std.proofs.lemmas.Result.{IfOk-weaker, IfErr-weaker, err_from_is_err_and}
 use Rattle.bundle_rules.specs.Parts.{in_order}
 use Rattle.bundle_link_index.specs.Numbered.{IsOnce}

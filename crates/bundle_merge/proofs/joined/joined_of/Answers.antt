@@ -1,5 +1,5 @@
 -- What is merged is merged of copies of the prepared items, and no fault of theirs is told.
-use Rattle.std.proofs.Common.{◌≡◌, ℕ, List, length, map, inl, inr, refl, sym, subst}
+use Rattle.std.proofs.Common.{◌≡◌, ℕ, List, length, map, inl, inr, sym, subst}
 use Rattle.std.proofs.lemmas.Result.{IfOk-weaker, IfErr-weaker, err_from_is_err_and}
 use Rattle.bundle_tree_ast.specs.declared.module.Module.{Module}
 use Rattle.bundle_tree_names.specs.FileName.{Name as FileName}

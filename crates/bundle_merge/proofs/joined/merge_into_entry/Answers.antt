@@ -1,5 +1,5 @@
 -- The items that are merged are those of the entry, as a module.
-use Rattle.std.proofs.Common.{List, map, ap, sym, ◌∙◌, subst, inl, refl}
+use Rattle.std.proofs.Common.{List, ap, sym, ◌∙◌, subst}
 use Rattle.std.proofs.lemmas.Result.{err_from_is_err_and}
 use Rattle.bundle_tree_piece.specs.Item.{Item}
 use Rattle.bundle_rules.specs.Merged.{IsMerged}

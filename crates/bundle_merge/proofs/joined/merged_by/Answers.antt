@@ -1,10 +1,9 @@
 -- What is merged is made of the modules that were read.
-use Rattle.std.proofs.Common.{◌≡◌, ◌∙◌, List, ap, inl, refl, sym, subst}
+use Rattle.std.proofs.Common.{List, ap, refl, sym, subst}
 use Rattle.std.specs.List.{AllZip}
 use Rattle.std.specs.Prelude.{unwrap_or}
-use Rattle.std.proofs.lemmas.Result.{err_from_is_err_and}
 use Rattle.bundle_merge_names.specs.declared.part.Part.{Part}
-use Rattle.bundle_merge.specs.Handed.{IsBundleRead, IsPartRead}
+use Rattle.bundle_merge.specs.Handed.{IsPartRead}
 use Rattle.bundle_merge.proofs.HandedLemmas.{made-of-read, refused-of-read}
 use Rattle.bundle_merge.proofs.joined.merged_by.Goals as goal
 

@@ -1,8 +1,7 @@
 -- What is merged is of the modules that were read, as they are linked.
 use Rattle.std.proofs.Common.{List, subst}
-use Rattle.std.proofs.lemmas.Result.{IfOk-weaker, IfErr-weaker, err_from_is_err_and}
+use Rattle.std.proofs.lemmas.Result.{IfOk-weaker, IfErr-weaker}
 use Rattle.bundle_order_sort.specs.declared.plan.Block.{Block}
-use Rattle.bundle_merge_names.specs.declared.error.MergeError.{MergeError}
 use Rattle.bundle_merge.specs.Handed.{IsMadeOfRead, MayRefuseRead}
 use Rattle.bundle_merge.specs.Ready.{hooks_by}
 use Rattle.bundle_merge.proofs.HandedLemmas.{planned-same}

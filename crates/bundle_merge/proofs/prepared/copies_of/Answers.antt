@@ -1,16 +1,14 @@
 -- An item more is copied, if its module has a place.
-use Rattle.std.proofs.Common.{◌≡◌, ℕ, zero, List, [], Option, Some, length, map, replicate, nat_eq, ap, sym, ◌∙◌}
+use Rattle.std.proofs.Common.{◌≡◌, List, [], length, map, replicate, ap, sym, ◌∙◌}
 use Rattle.std.proofs.lemmas.List.{length-replicate}
 use Rattle.std.proofs.lemmas.Option.{none-some}
 use Rattle.bundle_tree_ast.specs.declared.module.ModuleItem.{ModuleItem}
 use Rattle.bundle_tree_listed.specs.Tree.{module_item_items}
-use Rattle.bundle_tree_piece.specs.Item.{Item}
 use Rattle.bundle_link_reached.proofs.NumberLemmas.{at-place, held, place-there}
 use Rattle.bundle_merge_items.specs.Added.{items_of}
 use Rattle.bundle_merge_modules.specs.Held.{trees_of}
 use Rattle.bundle_merge_parts.specs.Parts.{Owned}
 use Rattle.bundle_rules.specs.Parts.{in_order}
-use Rattle.bundle_merge.specs.Prepared.{with_one}
 use Rattle.bundle_merge.proofs.Copied.{copied-begin, copied-end, copied-none, copied-one, with_one-long, with_rest}
 use Rattle.bundle_merge.proofs.prepared.copies_of.Goals as goal
 

@@ -1,5 +1,5 @@
 -- A module that is told to be CommonJS is read as one.
-use Rattle.std.proofs.Common.{◌≡◌, Bool, ap, sym, ◌∙◌}
+use Rattle.std.proofs.Common.{Bool, ap, sym, ◌∙◌}
 use Rattle.std.specs.Prelude.{if◌then◌else◌}
 use Rattle.bundle_rules.specs.Scopes.{Es, Cjs}
 use Rattle.bundle_merge.proofs.KindLemmas.{kind-is}
