@@ -379,9 +379,11 @@ module _ (p : Program) (list : List ℕ) (right : AreRight p list) (links : List
       local = its.local;
       next = its.next;
       later = its.later;
+      inside = its.inside;
       resolved = its.resolved;
       meta = its.meta;
       ctxt = its.ctxt;
+      above = its.above;
       own = its.own;
       is = its.is;
     }
@@ -403,9 +405,11 @@ module _ (p : Program) (list : List ℕ) (right : AreRight p list) (links : List
       local = its.local;
       next = its.next;
       later = its.later;
+      inside = its.inside;
       resolved = its.resolved;
       meta = its.meta;
       ctxt = its.ctxt;
+      above = its.above;
       own = its.own;
       is = its.is;
     }

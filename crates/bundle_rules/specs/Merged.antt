@@ -39,7 +39,7 @@ meta_item meta ctxt properties =
     h.Open 0 (h.VarDecl Const meta) ∷ h.Open 1 h.VarDeclarator ∷ h.Open 0 h.BindingIdent ∷ h.Ident 0 (codes "importMeta") ctxt Binding ∷ h.Close
     ∷ h.Open 1 h.ObjectLit ∷ (properties ++ h.Close ∷ h.Close ∷ h.Close ∷ [])
 
--- an item is the one that holds the `import.meta` of m: properties without a fault that the hook may answer, resolved by themselves, so that nothing outside binds a name in them; its own binding has a context that stands nowhere in them
+-- an item is the one that holds the `import.meta` of m: properties without a fault that the hook may answer, resolved by themselves with contexts above that of globals, so that nothing outside binds a name in them; its own binding has a context above that of globals too, which stands nowhere in them
 pub record IsMetaItem (p : Program) (hooks : Hooks) (m : ℕ) (item : List Item) : Type 0 where
   pub answered : List Item
   pub held : MayHold p hooks m answered
@@ -48,9 +48,11 @@ pub record IsMetaItem (p : Program) (hooks : Hooks) (m : ℕ) (item : List Item)
   pub local : ℕ
   pub next : ℕ
   pub later : ℕ
+  pub inside : 1 < next
   pub resolved : IsResolvedFrom Es local next later (properties_tree answered) (properties_tree properties)
   pub meta : ExportMetadata
   pub ctxt : ℕ
+  pub above : 1 < ctxt
   pub own : (o : Occurrence) → Contains (occurrences properties) o → o.ctxt ≢ ctxt
   pub is : item ≡ meta_item meta ctxt properties
 

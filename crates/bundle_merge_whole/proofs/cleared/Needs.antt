@@ -37,9 +37,11 @@ module _ (p : Program) (f g : Modules) (w : AreSameCleared f g) where
     local = its.local;
     next = its.next;
     later = its.later;
+    inside = its.inside;
     resolved = its.resolved;
     meta = its.meta;
     ctxt = its.ctxt;
+    above = its.above;
     own = its.own;
     is = its.is;
   }
