@@ -39,7 +39,7 @@ impl<'r, 'c> Rebuild<'r, 'c> {
         ensures { IfOk result (λ made.
             Remade Anywhere each_param_items self.old list.now made self.new) }
     {
-        let mut made = Vec::new(self.alloc);
+        let mut made = Vec::with_capacity(self.alloc, list.len())?;
         for element in list {
             made.push(self.param(element)?)?;
         }
@@ -139,7 +139,7 @@ impl<'r, 'c> Rebuild<'r, 'c> {
         ensures { IfOk result (λ made.
             Remade Anywhere each_class_member_items self.old list.now made self.new) }
     {
-        let mut made = Vec::new(self.alloc);
+        let mut made = Vec::with_capacity(self.alloc, list.len())?;
         for element in list {
             made.push(self.class_member(element)?)?;
         }

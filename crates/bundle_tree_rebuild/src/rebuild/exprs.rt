@@ -199,7 +199,7 @@ impl<'r, 'c> Rebuild<'r, 'c> {
         ensures { IfOk result (λ made.
             Remade Anywhere each_expr_items self.old list.now made self.new) }
     {
-        let mut made = Vec::new(self.alloc);
+        let mut made = Vec::with_capacity(self.alloc, list.len())?;
         for element in list {
             made.push(self.expr(element)?)?;
         }
@@ -309,7 +309,7 @@ impl<'r, 'c> Rebuild<'r, 'c> {
         ensures { IfOk result (λ made.
             Remade Anywhere each_option_expr_or_spread_items self.old list.now made self.new) }
     {
-        let mut made = Vec::new(self.alloc);
+        let mut made = Vec::with_capacity(self.alloc, list.len())?;
         for element in list {
             made.push(self.expr_or_spread_place(element)?)?;
         }
@@ -324,7 +324,7 @@ impl<'r, 'c> Rebuild<'r, 'c> {
         ensures { IfOk result (λ made.
             Remade Anywhere each_expr_or_spread_items self.old list.now made self.new) }
     {
-        let mut made = Vec::new(self.alloc);
+        let mut made = Vec::with_capacity(self.alloc, list.len())?;
         for element in list {
             made.push(self.expr_or_spread(element)?)?;
         }

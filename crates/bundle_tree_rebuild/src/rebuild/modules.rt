@@ -41,7 +41,7 @@ impl<'r, 'c> Rebuild<'r, 'c> {
         ensures { IfOk result (λ made.
             Remade Anywhere each_module_item_items self.old items.now made.items self.new) }
     {
-        let mut made = Vec::new(self.alloc);
+        let mut made = Vec::with_capacity(self.alloc, items.len())?;
         for element in items {
             made.push(self.module_item(element)?)?;
         }
@@ -134,7 +134,7 @@ impl<'r, 'c> Rebuild<'r, 'c> {
         ensures { IfOk result (λ made.
             Remade Anywhere each_import_specifier_items self.old list.now made self.new) }
     {
-        let mut made = Vec::new(self.alloc);
+        let mut made = Vec::with_capacity(self.alloc, list.len())?;
         for element in list {
             made.push(self.import_specifier(element)?)?;
         }
@@ -178,7 +178,7 @@ impl<'r, 'c> Rebuild<'r, 'c> {
             Remade Anywhere (each_export_specifier_items (role_of are_own)) self.old list.now made
             self.new) }
     {
-        let mut made = Vec::new(self.alloc);
+        let mut made = Vec::with_capacity(self.alloc, list.len())?;
         for element in list {
             made.push(self.export_specifier(are_own, element)?)?;
         }

@@ -171,7 +171,7 @@ impl<'r, 'c> Rebuild<'r, 'c> {
         ensures { IfOk result (λ made.
             Remade Anywhere each_tpl_element_items self.now list.now made self.now) }
     {
-        let mut made = Vec::new(self.alloc);
+        let mut made = Vec::with_capacity(self.alloc, list.len())?;
         for element in list {
             made.push(self.tpl_element(element)?)?;
         }

@@ -40,7 +40,7 @@ impl<'r, 'c> Rebuild<'r, 'c> {
         ensures { IfOk result (λ made.
             Remade InObject each_prop_or_spread_items self.old list.now made self.new) }
     {
-        let mut made = Vec::new(self.alloc);
+        let mut made = Vec::with_capacity(self.alloc, list.len())?;
         for element in list {
             made.push(self.prop_or_spread(element)?)?;
         }

@@ -104,7 +104,7 @@ pub option_expr-returns-in_ok-expr-in-Some : goal.option_expr-returns-in_ok-expr
 option_expr-returns-in_ok-expr-in-Some t c = along c.in-Some.is (rule.option_expr-Some c.in_ok-expr-in-Some.ensures)
 
 pub each_expr-loop-element-init : goal.each_expr-loop-element-init
-each_expr-loop-element-init t c = none_so_far Anywhere expr_items c.new-made.ensures.items
+each_expr-loop-element-init t c = none_so_far Anywhere expr_items c.in_ok-made.ensures.items
 
 pub each_expr-loop-element-preserved : goal.each_expr-loop-element-preserved
 each_expr-loop-element-preserved t c = one_more Anywhere expr_items _ _ c.loop-element-test.true c.element-item.is c.in_ok-push.ensures.items c.loop-element.invariant c.in_ok-expr.ensures
@@ -146,7 +146,7 @@ pub expr_or_spread_place-returns-in_ok-expr_or_spread-in-Some : goal.expr_or_spr
 expr_or_spread_place-returns-in_ok-expr_or_spread-in-Some t c = along c.in-Some.is (rule.expr_or_spread_place-Some c.in_ok-expr_or_spread-in-Some.ensures)
 
 pub each_option_expr_or_spread-loop-element-init : goal.each_option_expr_or_spread-loop-element-init
-each_option_expr_or_spread-loop-element-init t c = none_so_far Anywhere expr_or_spread_place_items c.new-made.ensures.items
+each_option_expr_or_spread-loop-element-init t c = none_so_far Anywhere expr_or_spread_place_items c.in_ok-made.ensures.items
 
 pub each_option_expr_or_spread-loop-element-preserved : goal.each_option_expr_or_spread-loop-element-preserved
 each_option_expr_or_spread-loop-element-preserved t c = one_more Anywhere expr_or_spread_place_items _ _ c.loop-element-test.true c.element-item.is c.in_ok-push.ensures.items c.loop-element.invariant c.in_ok-expr_or_spread_place.ensures
@@ -155,7 +155,7 @@ pub each_option_expr_or_spread-returns : goal.each_option_expr_or_spread-returns
 each_option_expr_or_spread-returns t c = all_of_them Anywhere expr_or_spread_place_items each_option_expr_or_spread_items row.all_option_expr_or_spread c.deref-element-items.ensures.value c.loop-element-test.false c.loop-element.invariant
 
 pub each_expr_or_spread-loop-element-init : goal.each_expr_or_spread-loop-element-init
-each_expr_or_spread-loop-element-init t c = none_so_far Anywhere expr_or_spread_items c.new-made.ensures.items
+each_expr_or_spread-loop-element-init t c = none_so_far Anywhere expr_or_spread_items c.in_ok-made.ensures.items
 
 pub each_expr_or_spread-loop-element-preserved : goal.each_expr_or_spread-loop-element-preserved
 each_expr_or_spread-loop-element-preserved t c = one_more Anywhere expr_or_spread_items _ _ c.loop-element-test.true c.element-item.is c.in_ok-push.ensures.items c.loop-element.invariant c.in_ok-expr_or_spread.ensures
@@ -254,7 +254,7 @@ pub stmt-returns-in_ok-expr-in-ExprStmt : goal.stmt-returns-in_ok-expr-in-ExprSt
 stmt-returns-in_ok-expr-in-ExprStmt t c = along c.in-ExprStmt.is (rule.stmt-ExprStmt c.in_ok-expr-in-ExprStmt.ensures)
 
 pub each_stmt-loop-element-init : goal.each_stmt-loop-element-init
-each_stmt-loop-element-init t c = none_so_far Anywhere stmt_items c.new-made.ensures.items
+each_stmt-loop-element-init t c = none_so_far Anywhere stmt_items c.in_ok-made.ensures.items
 
 pub each_stmt-loop-element-preserved : goal.each_stmt-loop-element-preserved
 each_stmt-loop-element-preserved t c = one_more Anywhere stmt_items _ _ c.loop-element-test.true c.element-item.is c.in_ok-push.ensures.items c.loop-element.invariant c.in_ok-stmt.ensures
@@ -272,7 +272,7 @@ pub switch_case-returns : goal.switch_case-returns
 switch_case-returns t c = rule.switch_case c.in_ok-test.ensures c.in_ok-cons.ensures
 
 pub each_switch_case-loop-element-init : goal.each_switch_case-loop-element-init
-each_switch_case-loop-element-init t c = none_so_far Anywhere switch_case_items c.new-made.ensures.items
+each_switch_case-loop-element-init t c = none_so_far Anywhere switch_case_items c.in_ok-made.ensures.items
 
 pub each_switch_case-loop-element-preserved : goal.each_switch_case-loop-element-preserved
 each_switch_case-loop-element-preserved t c = one_more Anywhere switch_case_items _ _ c.loop-element-test.true c.element-item.is c.in_ok-push.ensures.items c.loop-element.invariant c.in_ok-switch_case.ensures
@@ -323,7 +323,7 @@ pub var_declarator-returns : goal.var_declarator-returns
 var_declarator-returns t c = rule.var_declarator c.in_ok-name.ensures c.in_ok-init.ensures
 
 pub each_var_declarator-loop-element-init : goal.each_var_declarator-loop-element-init
-each_var_declarator-loop-element-init t c = none_so_far Anywhere var_declarator_items c.new-made.ensures.items
+each_var_declarator-loop-element-init t c = none_so_far Anywhere var_declarator_items c.in_ok-made.ensures.items
 
 pub each_var_declarator-loop-element-preserved : goal.each_var_declarator-loop-element-preserved
 each_var_declarator-loop-element-preserved t c = one_more Anywhere var_declarator_items _ _ c.loop-element-test.true c.element-item.is c.in_ok-push.ensures.items c.loop-element.invariant c.in_ok-var_declarator.ensures
@@ -338,7 +338,7 @@ pub prop_or_spread-returns-in_ok-prop-in-Prop : goal.prop_or_spread-returns-in_o
 prop_or_spread-returns-in_ok-prop-in-Prop t c = along c.in-Prop.is (rule.prop_or_spread-Prop c.in_ok-prop-in-Prop.ensures)
 
 pub each_prop_or_spread-loop-element-init : goal.each_prop_or_spread-loop-element-init
-each_prop_or_spread-loop-element-init t c = none_so_far InObject prop_or_spread_items c.new-made.ensures.items
+each_prop_or_spread-loop-element-init t c = none_so_far InObject prop_or_spread_items c.in_ok-made.ensures.items
 
 pub each_prop_or_spread-loop-element-preserved : goal.each_prop_or_spread-loop-element-preserved
 each_prop_or_spread-loop-element-preserved t c = one_more InObject prop_or_spread_items _ _ c.loop-element-test.true c.element-item.is c.in_ok-push.ensures.items c.loop-element.invariant c.in_ok-prop_or_spread.ensures
@@ -425,7 +425,7 @@ pub pat_place-returns-in_ok-pat-in-Some : goal.pat_place-returns-in_ok-pat-in-So
 pat_place-returns-in_ok-pat-in-Some t c = along_pattern c.in-Some.is (rule.pat_place-Some c.in_ok-pat-in-Some.ensures)
 
 pub each_pat-loop-element-init : goal.each_pat-loop-element-init
-each_pat-loop-element-init t c = λ role occurs. none_so_far Anywhere (pat_items role) c.new-made.ensures.items
+each_pat-loop-element-init t c = λ role occurs. none_so_far Anywhere (pat_items role) c.in_ok-made.ensures.items
 
 pub each_pat-loop-element-preserved : goal.each_pat-loop-element-preserved
 each_pat-loop-element-preserved t c = λ role occurs. one_more Anywhere (pat_items role) _ _ c.loop-element-test.true c.element-item.is c.in_ok-push.ensures.items (c.loop-element.invariant role occurs) (c.in_ok-pat.ensures role occurs)
@@ -434,7 +434,7 @@ pub each_pat-returns : goal.each_pat-returns
 each_pat-returns t c = λ role occurs. all_of_them Anywhere (pat_items role) (each_pat_items role) (row.all_pat role) c.deref-element-items.ensures.value c.loop-element-test.false (c.loop-element.invariant role occurs)
 
 pub each_option_pat-loop-element-init : goal.each_option_pat-loop-element-init
-each_option_pat-loop-element-init t c = λ role occurs. none_so_far Anywhere (pat_place_items role) c.new-made.ensures.items
+each_option_pat-loop-element-init t c = λ role occurs. none_so_far Anywhere (pat_place_items role) c.in_ok-made.ensures.items
 
 pub each_option_pat-loop-element-preserved : goal.each_option_pat-loop-element-preserved
 each_option_pat-loop-element-preserved t c = λ role occurs. one_more Anywhere (pat_place_items role) _ _ c.loop-element-test.true c.element-item.is c.in_ok-push.ensures.items (c.loop-element.invariant role occurs) (c.in_ok-pat_place.ensures role occurs)
@@ -458,7 +458,7 @@ pub object_pat_prop-returns-in_ok-rest_pat-in-RestPat : goal.object_pat_prop-ret
 object_pat_prop-returns-in_ok-rest_pat-in-RestPat t c = along_pattern c.in-RestPat.is (rule.object_pat_prop-RestPat c.in_ok-rest_pat-in-RestPat.ensures)
 
 pub each_object_pat_prop-loop-element-init : goal.each_object_pat_prop-loop-element-init
-each_object_pat_prop-loop-element-init t c = λ role occurs. none_so_far Anywhere (object_pat_prop_items role) c.new-made.ensures.items
+each_object_pat_prop-loop-element-init t c = λ role occurs. none_so_far Anywhere (object_pat_prop_items role) c.in_ok-made.ensures.items
 
 pub each_object_pat_prop-loop-element-preserved : goal.each_object_pat_prop-loop-element-preserved
 each_object_pat_prop-loop-element-preserved t c = λ role occurs. one_more Anywhere (object_pat_prop_items role) _ _ c.loop-element-test.true c.element-item.is c.in_ok-push.ensures.items (c.loop-element.invariant role occurs) (c.in_ok-object_pat_prop.ensures role occurs)
@@ -491,7 +491,7 @@ pub param-returns : goal.param-returns
 param-returns t c = rule.param c.in_ok-pat.ensures
 
 pub each_param-loop-element-init : goal.each_param-loop-element-init
-each_param-loop-element-init t c = none_so_far Anywhere param_items c.new-made.ensures.items
+each_param-loop-element-init t c = none_so_far Anywhere param_items c.in_ok-made.ensures.items
 
 pub each_param-loop-element-preserved : goal.each_param-loop-element-preserved
 each_param-loop-element-preserved t c = one_more Anywhere param_items _ _ c.loop-element-test.true c.element-item.is c.in_ok-push.ensures.items c.loop-element.invariant c.in_ok-param.ensures
@@ -524,7 +524,7 @@ pub class_member-returns-in-EmptyStmt : goal.class_member-returns-in-EmptyStmt
 class_member-returns-in-EmptyStmt t c = along c.in-EmptyStmt.is rule.class_member-EmptyStmt
 
 pub each_class_member-loop-element-init : goal.each_class_member-loop-element-init
-each_class_member-loop-element-init t c = none_so_far Anywhere class_member_items c.new-made.ensures.items
+each_class_member-loop-element-init t c = none_so_far Anywhere class_member_items c.in_ok-made.ensures.items
 
 pub each_class_member-loop-element-preserved : goal.each_class_member-loop-element-preserved
 each_class_member-loop-element-preserved t c = one_more Anywhere class_member_items _ _ c.loop-element-test.true c.element-item.is c.in_ok-push.ensures.items c.loop-element.invariant c.in_ok-class_member.ensures

@@ -7,7 +7,7 @@ use Rattle.bundle_tree_rebuild.proofs.Remaking.{none_so_far, one_more, all_of_th
 use Rattle.bundle_tree_rebuild.proofs.rebuild.Rebuild.each_import_specifier.Goals as goal
 
 pub loop-element-init : goal.loop-element-init
-loop-element-init c = none_so_far Anywhere import_specifier_items c.new-made.ensures.items
+loop-element-init c = none_so_far Anywhere import_specifier_items c.in_ok-made.ensures.items
 
 pub loop-element-preserved : goal.loop-element-preserved
 loop-element-preserved c = one_more Anywhere import_specifier_items _ _ c.loop-element-test.true c.element-item.is c.in_ok-push.ensures.items c.loop-element.invariant c.in_ok-import_specifier.ensures
