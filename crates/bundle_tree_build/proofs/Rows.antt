@@ -1,12 +1,11 @@
 -- Nodes and lists of nodes one field after another.
-use Rattle.std.proofs.Common.{◌≡◌, ℕ, zero, Bool, true, false, List, [], ◌∷◌, ◌++◌, append_assoc, append-nil, Option, Some, None, refl, sym, subst, ◌∙◌}
+use Rattle.std.proofs.Common.{◌≡◌, ℕ, Bool, true, false, List, [], ◌∷◌, ◌++◌, append_assoc, append-nil, Option, Some, None, refl, sym, subst, ◌∙◌}
 use Rattle.std.proofs.lemmas.Bool.{false≢true}
 use Rattle.bundle_tree_piece.specs.declared.piece.Role.{Role}
 use Rattle.bundle_tree_piece.specs.declared.piece.Role.TheVariants as r
 use Rattle.bundle_tree_piece.specs.Item as h
 use Rattle.bundle_tree_piece.specs.Item.{Item, Head}
 use Rattle.bundle_tree_build.specs.Sorts.{Sort, AnItem, ADecl, AStmt, AnInit, ALoopHead, AnExpr, ACallee, AnArrowBody, APattern, Count, One, Optional, Many, Places, Slot, slot, Holding, Refused, Nothing, Fields, Exports, holds, name_of, is_leaf}
-use Rattle.bundle_tree_build.specs.Parse.{has_source, export_slots}
 use Rattle.bundle_tree_build.proofs.Whole.{after, has_number, AreIn, no_more, over, a_name, a_hole, a_leaf, a_node, an_export_list, IsIn, name, leaf, node, export_list}
 
 -- one or none

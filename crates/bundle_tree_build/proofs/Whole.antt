@@ -1,14 +1,14 @@
 -- Lists in which each field holds what may stand there are taken whole.
-use Rattle.std.proofs.Common.{◌≡◌, ℕ, zero, suc, ◌+◌, ◌-◌, ◌<◌, ◌≤◌, Bool, true, false, not, ◌||◌, cond, List, [], ◌∷◌, ◌++◌, length, append_assoc, append-nil, length-append, Option, Some, None, refl, sym, ap, subst, ◌∙◌, arith}
+use Rattle.std.proofs.Common.{◌≡◌, ℕ, zero, suc, ◌+◌, ◌≤◌, Bool, true, false, ◌||◌, cond, List, [], ◌∷◌, ◌++◌, length, append_assoc, length-append, Option, Some, None, refl, sym, ap, subst, ◌∙◌, arith}
 use Rattle.std.proofs.lemmas.Bool.{false≢true}
 use Rattle.std.proofs.Math.Dec.{eqb_refl}
-use Rattle.std.specs.Prelude.{T, nat_eq, ◌&&◌}
+use Rattle.std.specs.Prelude.{T, nat_eq}
 use Rattle.bundle_tree_piece.specs.declared.piece.Role.{Role}
 use Rattle.bundle_tree_piece.specs.declared.piece.Role.TheVariants as r
 use Rattle.bundle_tree_piece.specs.Item as h
 use Rattle.bundle_tree_piece.specs.Item.{Item, Head}
-use Rattle.bundle_tree_build.specs.Sorts.{Sort, AnItem, ADecl, AStmt, AnInit, ALoopHead, AnExpr, ACallee, AnArrowBody, APattern, Count, One, Optional, Many, Places, Slot, slot, Holding, Nothing, Fields, Exports, holds, name_of, is_leaf}
-use Rattle.bundle_tree_build.specs.Parse.{Taker, begins_in, begins_with_hole, same_role, after_ident, after_name, after_hole, after_maybe, after_each, after_place, after_slot, after_slots, after_node, after_one, after_opening, after_inside, closed, then, within, taken, has_source, export_slots}
+use Rattle.bundle_tree_build.specs.Sorts.{Sort, Count, One, Optional, Many, Places, Slot, slot, Nothing, Fields, Exports, holds, name_of, is_leaf}
+use Rattle.bundle_tree_build.specs.Parse.{Taker, begins_in, begins_with_hole, same_role, after_name, after_maybe, after_each, after_place, after_slots, after_node, after_one, closed, then, within, taken, has_source, export_slots}
 
 -- whether something has to stand in a field
 abbrev pub is_needed : Count → Bool

@@ -1,10 +1,10 @@
 -- How a list is taken from its front, place by place: what is left of it, where it begins with what stands there.
-use Rattle.std.specs.Prelude.{ℕ, zero, suc, pred, Bool, true, false, cond, ◌&&◌, List, [], ◌∷◌, length, Option, Some, None, nat_eq}
+use Rattle.std.specs.Prelude.{ℕ, zero, suc, Bool, true, false, cond, ◌&&◌, List, [], ◌∷◌, length, Option, Some, None, nat_eq}
 use Rattle.bundle_tree_piece.specs.declared.piece.Role.{Role}
 use Rattle.bundle_tree_piece.specs.declared.piece.Role.TheVariants as r
 use Rattle.bundle_tree_piece.specs.Item as h
 use Rattle.bundle_tree_piece.specs.Item.{Item, Head}
-use Rattle.bundle_tree_build.specs.Sorts.{Sort, AString, AnExport, Count, One, Optional, Many, Places, Slot, slot, Holding, Refused, Nothing, Fields, Exports, name_of, holds, is_leaf}
+use Rattle.bundle_tree_build.specs.Sorts.{Sort, AString, AnExport, One, Optional, Many, Places, Slot, slot, Holding, Refused, Nothing, Fields, Exports, name_of, holds, is_leaf}
 
 -- what one place takes from a list
 abbrev pub Taker : Type 0
@@ -18,8 +18,8 @@ same_role _ _ = false
 
 -- a node that begins: its head, and the list inside and after it
 pub record Opening : Type 0 where
-  head : Head
-  inside : List Item
+  pub head : Head
+  pub inside : List Item
 
 -- the node with which the list begins, if it is in this field
 abbrev pub opened : ℕ → List Item → Option Opening

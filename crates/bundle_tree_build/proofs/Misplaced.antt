@@ -1,0 +1,60 @@
+-- Nodes that may not stand in a place: all that its method does not name.
+use Rattle.std.proofs.Common.{◌≡◌, refl}
+use Rattle.bundle_tree_piece.specs.declared.piece.Node.{Node}
+use Rattle.bundle_tree_piece.specs.declared.piece.Node.TheVariants as n
+use Rattle.bundle_tree_piece.specs.declared.piece.Role.{Role}
+use Rattle.bundle_tree_piece.specs.Item.{head_of}
+use Rattle.bundle_tree_build.specs.Sorts.{AWord, APrivateName, AString, ANumber, ABigInt, ARegex, ATextPart, AWordLiteral, ABindingIdent, AMemberExpr, AParen, AComputedKey, ATemplate, Refused, holds}
+
+pub no_word : (node : Node) → ((x0 : _) → node ≡ n.IdentName x0 → ⊥) → holds AWord (head_of node) ≡ Refused
+no_word (n.IdentName x0) not_IdentName = absurd (not_IdentName x0 refl)
+no_word _ not_IdentName = refl
+
+pub no_private_name : (node : Node) → ((x0 : _) → node ≡ n.PrivateName x0 → ⊥) → holds APrivateName (head_of node) ≡ Refused
+no_private_name (n.PrivateName x0) not_PrivateName = absurd (not_PrivateName x0 refl)
+no_private_name _ not_PrivateName = refl
+
+pub no_string : (node : Node) → ((x0 : _) (x1 : _) → node ≡ n.Str x0 x1 → ⊥) → holds AString (head_of node) ≡ Refused
+no_string (n.Str x0 x1) not_Str = absurd (not_Str x0 x1 refl)
+no_string _ not_Str = refl
+
+pub no_number : (node : Node) → ((x0 : _) → node ≡ n.Number x0 → ⊥) → holds ANumber (head_of node) ≡ Refused
+no_number (n.Number x0) not_Number = absurd (not_Number x0 refl)
+no_number _ not_Number = refl
+
+pub no_big_int : (node : Node) → ((x0 : _) → node ≡ n.BigInt x0 → ⊥) → holds ABigInt (head_of node) ≡ Refused
+no_big_int (n.BigInt x0) not_BigInt = absurd (not_BigInt x0 refl)
+no_big_int _ not_BigInt = refl
+
+pub no_regex : (node : Node) → ((x0 : _) → node ≡ n.Regex x0 → ⊥) → holds ARegex (head_of node) ≡ Refused
+no_regex (n.Regex x0) not_Regex = absurd (not_Regex x0 refl)
+no_regex _ not_Regex = refl
+
+pub no_text_part : (node : Node) → ((x0 : _) → node ≡ n.TplElement x0 → ⊥) → holds ATextPart (head_of node) ≡ Refused
+no_text_part (n.TplElement x0) not_TplElement = absurd (not_TplElement x0 refl)
+no_text_part _ not_TplElement = refl
+
+pub no_word_literal : (node : Node) → ((x0 : _) → node ≡ n.Bool x0 → ⊥) → (node ≡ n.Null → ⊥) → holds AWordLiteral (head_of node) ≡ Refused
+no_word_literal (n.Bool x0) not_Bool not_Null = absurd (not_Bool x0 refl)
+no_word_literal n.Null not_Bool not_Null = absurd (not_Null refl)
+no_word_literal _ not_Bool not_Null = refl
+
+pub no_binding_ident : (role : Role) (node : Node) → (node ≡ n.BindingIdent → ⊥) → holds (ABindingIdent role) (head_of node) ≡ Refused
+no_binding_ident role n.BindingIdent not_BindingIdent = absurd (not_BindingIdent refl)
+no_binding_ident role _ not_BindingIdent = refl
+
+pub no_member_expr : (node : Node) → (node ≡ n.MemberExpr → ⊥) → holds AMemberExpr (head_of node) ≡ Refused
+no_member_expr n.MemberExpr not_MemberExpr = absurd (not_MemberExpr refl)
+no_member_expr _ not_MemberExpr = refl
+
+pub no_paren : (node : Node) → (node ≡ n.ParenExpr → ⊥) → holds AParen (head_of node) ≡ Refused
+no_paren n.ParenExpr not_ParenExpr = absurd (not_ParenExpr refl)
+no_paren _ not_ParenExpr = refl
+
+pub no_computed_key : (node : Node) → (node ≡ n.ComputedPropName → ⊥) → holds AComputedKey (head_of node) ≡ Refused
+no_computed_key n.ComputedPropName not_ComputedPropName = absurd (not_ComputedPropName refl)
+no_computed_key _ not_ComputedPropName = refl
+
+pub no_template : (node : Node) → (node ≡ n.Tpl → ⊥) → holds ATemplate (head_of node) ≡ Refused
+no_template n.Tpl not_Tpl = absurd (not_Tpl refl)
+no_template _ not_Tpl = refl
