@@ -4,7 +4,7 @@ use Rattle.bundle_tree_piece.specs.declared.piece.Node.{Node}
 use Rattle.bundle_tree_piece.specs.declared.piece.Node.TheVariants as n
 use Rattle.bundle_tree_piece.specs.declared.piece.Role.{Role}
 use Rattle.bundle_tree_piece.specs.Item.{head_of}
-use Rattle.bundle_tree_build.specs.Sorts.{AWord, APrivateName, AString, ANumber, ABigInt, ARegex, ATextPart, AWordLiteral, ABindingIdent, AMemberExpr, AParen, AComputedKey, ATemplate, Refused, holds}
+use Rattle.bundle_tree_build.specs.Sorts.{ABigInt, ABindingIdent, AComputedKey, AMemberExpr, ANumber, AParen, APrivateName, ARegex, AString, ATemplate, ATextPart, AWord, AWordLiteral, Refused, holds}
 
 pub no_word : (node : Node) → ((x0 : _) → node ≡ n.IdentName x0 → ⊥) → holds AWord (head_of node) ≡ Refused
 no_word (n.IdentName x0) not_IdentName = absurd (not_IdentName x0 refl)
@@ -44,17 +44,17 @@ no_binding_ident role n.BindingIdent not_BindingIdent = absurd (not_BindingIdent
 no_binding_ident role _ not_BindingIdent = refl
 
 pub no_member_expr : (node : Node) → (node ≡ n.MemberExpr → ⊥) → holds AMemberExpr (head_of node) ≡ Refused
-no_member_expr n.MemberExpr not_MemberExpr = absurd (not_MemberExpr refl)
-no_member_expr _ not_MemberExpr = refl
+no_member_expr n.MemberExpr not = absurd (not refl)
+no_member_expr _ not = refl
 
-pub no_paren : (node : Node) → (node ≡ n.ParenExpr → ⊥) → holds AParen (head_of node) ≡ Refused
-no_paren n.ParenExpr not_ParenExpr = absurd (not_ParenExpr refl)
-no_paren _ not_ParenExpr = refl
+pub no_paren_expr : (node : Node) → (node ≡ n.ParenExpr → ⊥) → holds AParen (head_of node) ≡ Refused
+no_paren_expr n.ParenExpr not = absurd (not refl)
+no_paren_expr _ not = refl
 
-pub no_computed_key : (node : Node) → (node ≡ n.ComputedPropName → ⊥) → holds AComputedKey (head_of node) ≡ Refused
-no_computed_key n.ComputedPropName not_ComputedPropName = absurd (not_ComputedPropName refl)
-no_computed_key _ not_ComputedPropName = refl
+pub no_computed_prop_name : (node : Node) → (node ≡ n.ComputedPropName → ⊥) → holds AComputedKey (head_of node) ≡ Refused
+no_computed_prop_name n.ComputedPropName not = absurd (not refl)
+no_computed_prop_name _ not = refl
 
-pub no_template : (node : Node) → (node ≡ n.Tpl → ⊥) → holds ATemplate (head_of node) ≡ Refused
-no_template n.Tpl not_Tpl = absurd (not_Tpl refl)
-no_template _ not_Tpl = refl
+pub no_tpl : (node : Node) → (node ≡ n.Tpl → ⊥) → holds ATemplate (head_of node) ≡ Refused
+no_tpl n.Tpl not = absurd (not refl)
+no_tpl _ not = refl

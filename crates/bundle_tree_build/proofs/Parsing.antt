@@ -5,9 +5,10 @@ use Rattle.std.proofs.lemmas.Grind.{common_steps}
 use Rattle.std.specs.Prelude.{nat_eq, IfErr}
 use Rattle.bundle_tree_listed.proofs.Rows.{rows}
 use Rattle.bundle_tree_walk.proofs.Steps.{steps}
+use Rattle.bundle_tree_piece.specs.declared.piece.Role.{Role}
 use Rattle.bundle_tree_piece.specs.Item as h
 use Rattle.bundle_tree_piece.specs.Item.{Item, Head}
-use Rattle.bundle_tree_build.specs.Sorts.{Sort, Slot, Holding, Refused, Nothing, Fields, holds, name_of, is_leaf}
+use Rattle.bundle_tree_build.specs.Sorts.{Sort, AnIdent, Slot, Holding, Refused, Nothing, Fields, holds, name_of, is_leaf}
 use Rattle.bundle_tree_build.specs.Parse.{Taker, Opening, opened, upcoming, begins_in, after_ident, after_name, after_each, after_close, after_slot, after_slots, after_node, after_opening, after_one, closed, within, taken, then}
 
 pub within-more : (less room : ℕ) → less + 1 ≡ room → within room ≡ Some (taken less)
@@ -113,11 +114,32 @@ no_room room sort field old inside head all e deep is full =
     ∙ ap (λ o. after_node None o inside) is))
 
 -- one place after the other
-pub slot_more : {taker : Taker} {it : Slot} {more : List Slot} {list next : List Item} → after_slot taker it list ≡ Some next → after_slots taker (it ∷ more) list ≡ after_slots taker more next
-slot_more {taker} {more = more} e = ap (then (after_slots taker more)) e
+pub slot_more : (taker : Taker) (it : Slot) (more : List Slot) (list next : List Item) → after_slot taker it list ≡ Some next → after_slots taker (it ∷ more) list ≡ after_slots taker more next
+slot_more taker it more list next e = ap (then (after_slots taker more)) e
 
-pub slot_refused : {taker : Taker} {it : Slot} {more : List Slot} {list : List Item} → after_slot taker it list ≡ None → after_slots taker (it ∷ more) list ≡ None
-slot_refused {taker} {more = more} e = ap (then (after_slots taker more)) e
+pub slot_refused : (taker : Taker) (it : Slot) (more : List Slot) (list : List Item) → after_slot taker it list ≡ None → after_slots taker (it ∷ more) list ≡ None
+slot_refused taker it more list e = ap (then (after_slots taker more)) e
+
+no_name_opened : (found : Bool) (role : Role) (field at : ℕ) (head : Head) (rest : List Item) → after_opening None (AnIdent role) field (h.Open at head ∷ rest) (cond found (Some (record { head = head; inside = rest })) None) ≡ None
+no_name_opened true role field at head rest = refl
+no_name_opened false role field at head rest = refl
+
+-- a name that stands alone
+pub a_name : (role : Role) (room : Option Taker) (field : ℕ) (list next : List Item) → after_ident role field list ≡ Some next → after_one room (AnIdent role) field list ≡ Some next
+unfolding after_one
+a_name role room field (h.Ident at sym ctxt found ∷ rest) next e = e
+a_name role room field [] next e = absurd (none_is e)
+a_name role room field (h.Open at head ∷ rest) next e = absurd (none_is e)
+a_name role room field (h.Hole at ∷ rest) next e = absurd (none_is e)
+a_name role room field (h.Close ∷ rest) next e = absurd (none_is e)
+
+pub no_name : (role : Role) (room : Option Taker) (field : ℕ) (list : List Item) → after_ident role field list ≡ None → after_one room (AnIdent role) field list ≡ None
+unfolding after_one
+no_name role room field (h.Ident at found ctxt it ∷ rest) e = e
+no_name role room field [] e = refl
+no_name role room field (h.Open at head ∷ rest) e = no_name_opened (nat_eq at field) role field at head rest
+no_name role room field (h.Hole at ∷ rest) e = refl
+no_name role room field (h.Close ∷ rest) e = refl
 
 -- what an error says, of whatever error
 pub if_err : {A E : Type 0} (result : Result A E) (P : E → Type 0) → ((why : E) → P why) → IfErr result P
