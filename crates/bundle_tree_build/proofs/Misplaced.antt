@@ -4,7 +4,7 @@ use Rattle.bundle_tree_piece.specs.declared.piece.Node.{Node}
 use Rattle.bundle_tree_piece.specs.declared.piece.Node.TheVariants as n
 use Rattle.bundle_tree_piece.specs.declared.piece.Role.{Role}
 use Rattle.bundle_tree_piece.specs.Item.{head_of}
-use Rattle.bundle_tree_build.specs.Sorts.{ABigInt, ABindingIdent, AComputedKey, AMemberExpr, ANumber, AParen, APrivateName, ARegex, AString, ATemplate, ATextPart, AWord, AWordLiteral, Refused, holds}
+use Rattle.bundle_tree_build.specs.Sorts.{ABigInt, ABindingIdent, ABlock, ACase, AClass, AComputedKey, ADeclarator, AFunction, AHandler, AMemberExpr, ANumber, AParameter, AParen, APrivateName, ARegex, ARestPattern, AString, ASuperMember, ATemplate, ATextPart, AVarDecl, AWord, AWordLiteral, AnArgument, AnArrayPattern, AnAssignPattern, AnObjectPattern, AnOptCall, Refused, holds}
 
 pub no_word : (node : Node) → ((x0 : _) → node ≡ n.IdentName x0 → ⊥) → holds AWord (head_of node) ≡ Refused
 no_word (n.IdentName x0) not_IdentName = absurd (not_IdentName x0 refl)
@@ -58,3 +58,63 @@ no_computed_prop_name _ not = refl
 pub no_tpl : (node : Node) → (node ≡ n.Tpl → ⊥) → holds ATemplate (head_of node) ≡ Refused
 no_tpl n.Tpl not = absurd (not refl)
 no_tpl _ not = refl
+
+pub no_super_prop_expr : (node : Node) → (node ≡ n.SuperPropExpr → ⊥) → holds ASuperMember (head_of node) ≡ Refused
+no_super_prop_expr n.SuperPropExpr not = absurd (not refl)
+no_super_prop_expr _ not = refl
+
+pub no_opt_call : (node : Node) → (node ≡ n.OptCall → ⊥) → holds AnOptCall (head_of node) ≡ Refused
+no_opt_call n.OptCall not = absurd (not refl)
+no_opt_call _ not = refl
+
+pub no_expr_or_spread : (node : Node) → ((x0 : _) → node ≡ n.ExprOrSpread x0 → ⊥) → holds AnArgument (head_of node) ≡ Refused
+no_expr_or_spread (n.ExprOrSpread x0) not = absurd (not x0 refl)
+no_expr_or_spread _ not = refl
+
+pub no_block_stmt : (node : Node) → (node ≡ n.BlockStmt → ⊥) → holds ABlock (head_of node) ≡ Refused
+no_block_stmt n.BlockStmt not = absurd (not refl)
+no_block_stmt _ not = refl
+
+pub no_switch_case : (node : Node) → (node ≡ n.SwitchCase → ⊥) → holds ACase (head_of node) ≡ Refused
+no_switch_case n.SwitchCase not = absurd (not refl)
+no_switch_case _ not = refl
+
+pub no_catch_clause : (node : Node) → (node ≡ n.CatchClause → ⊥) → holds AHandler (head_of node) ≡ Refused
+no_catch_clause n.CatchClause not = absurd (not refl)
+no_catch_clause _ not = refl
+
+pub no_var_decl : (node : Node) → ((x0 : _) (x1 : _) → node ≡ n.VarDecl x0 x1 → ⊥) → holds AVarDecl (head_of node) ≡ Refused
+no_var_decl (n.VarDecl x0 x1) not = absurd (not x0 x1 refl)
+no_var_decl _ not = refl
+
+pub no_var_declarator : (node : Node) → (node ≡ n.VarDeclarator → ⊥) → holds ADeclarator (head_of node) ≡ Refused
+no_var_declarator n.VarDeclarator not = absurd (not refl)
+no_var_declarator _ not = refl
+
+pub no_function : (node : Node) → ((x0 : _) (x1 : _) → node ≡ n.Function x0 x1 → ⊥) → holds AFunction (head_of node) ≡ Refused
+no_function (n.Function x0 x1) not = absurd (not x0 x1 refl)
+no_function _ not = refl
+
+pub no_param : (node : Node) → (node ≡ n.Param → ⊥) → holds AParameter (head_of node) ≡ Refused
+no_param n.Param not = absurd (not refl)
+no_param _ not = refl
+
+pub no_class : (node : Node) → (node ≡ n.Class → ⊥) → holds AClass (head_of node) ≡ Refused
+no_class n.Class not = absurd (not refl)
+no_class _ not = refl
+
+pub no_array_pat : (role : Role) (node : Node) → (node ≡ n.ArrayPat → ⊥) → holds (AnArrayPattern role) (head_of node) ≡ Refused
+no_array_pat role n.ArrayPat not = absurd (not refl)
+no_array_pat role _ not = refl
+
+pub no_rest_pat : (role : Role) (node : Node) → (node ≡ n.RestPat → ⊥) → holds (ARestPattern role) (head_of node) ≡ Refused
+no_rest_pat role n.RestPat not = absurd (not refl)
+no_rest_pat role _ not = refl
+
+pub no_object_pat : (role : Role) (node : Node) → (node ≡ n.ObjectPat → ⊥) → holds (AnObjectPattern role) (head_of node) ≡ Refused
+no_object_pat role n.ObjectPat not = absurd (not refl)
+no_object_pat role _ not = refl
+
+pub no_assign_pat : (role : Role) (node : Node) → (node ≡ n.AssignPat → ⊥) → holds (AnAssignPattern role) (head_of node) ≡ Refused
+no_assign_pat role n.AssignPat not = absurd (not refl)
+no_assign_pat role _ not = refl
