@@ -8,7 +8,7 @@ use Rattle.bundle_tree_walk.proofs.Steps.{steps}
 use Rattle.bundle_tree_piece.specs.declared.piece.Role.{Role}
 use Rattle.bundle_tree_piece.specs.Item as h
 use Rattle.bundle_tree_piece.specs.Item.{Item, Head}
-use Rattle.bundle_tree_build.specs.Sorts.{Sort, AnIdent, Slot, Holding, Refused, Nothing, Fields, holds, name_of, is_leaf}
+use Rattle.bundle_tree_build.specs.Sorts.{Sort, AnIdent, ATextPart, Slot, Holding, Refused, Nothing, Fields, holds, name_of, is_leaf}
 use Rattle.bundle_tree_build.specs.Parse.{Taker, Opening, opened, upcoming, begins_in, after_ident, after_name, after_each, after_close, after_slot, after_slots, after_node, after_opening, after_one, closed, within, taken, then}
 
 pub within-more : (less room : ℕ) → less + 1 ≡ room → within room ≡ Some (taken less)
@@ -141,6 +141,19 @@ no_name role room field (h.Open at head ∷ rest) e = no_name_opened (nat_eq at 
 no_name role room field (h.Hole at ∷ rest) e = refl
 no_name role room field (h.Close ∷ rest) e = refl
 
+-- what has no fields is taken alike in any room
+pub in_any_room : (room : Option Taker) (sort : Sort) (field : ℕ) (list : List Item) → is_leaf sort ≡ true → after_one room sort field list ≡ after_one None sort field list
+unfolding after_one
+in_any_room room sort field list leaf = alike (opened field list)
+  where
+    alike : (node : Option Opening) → after_opening room sort field list node ≡ after_opening None sort field list node
+    alike None = refl
+    alike (Some node) = ap (λ b. after_node (cond b None room) (holds sort node.head) node.inside) leaf ∙ sym (ap (λ b. after_node (cond b None None) (holds sort node.head) node.inside) leaf)
+
+pub text_parts : (room : Option Taker) (field : ℕ) → after_one room ATextPart field ≡ after_one None ATextPart field
+unfolding after_one
+text_parts room field = refl
+
 -- what an error says, of whatever error
 pub if_err : {A E : Type 0} (result : Result A E) (P : E → Type 0) → ((why : E) → P why) → IfErr result P
 if_err (Ok it) P each_one = tt
@@ -177,6 +190,7 @@ pub ruleset parsing = (
   within-none,
   a_node,
   no_opening,
+  in_any_room,
   same_place,
   no_node,
   each_ended,
@@ -193,6 +207,7 @@ pub ruleset building = (
   within-none,
   a_node,
   no_opening,
+  in_any_room,
   same_place,
   no_node,
   each_ended,

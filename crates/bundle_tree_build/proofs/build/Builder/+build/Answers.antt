@@ -1,13 +1,13 @@
 -- What each method takes of a node: its fields one after the other, and its end.
-use Rattle.std.proofs.Common.{◌≡◌, ◌∙◌, None, ap, refl, [], ◌∷◌, arith}
+use Rattle.std.proofs.Common.{◌≡◌, ◌∙◌, None, ap, length, refl, [], ◌∷◌, arith}
 use Rattle.std.proofs.lemmas.Grind.{common_steps}
 use Rattle.bundle_tree_piece.specs.declared.piece.Node.{Node}
 use Rattle.bundle_tree_piece.specs.Item.{head_of}
 use Rattle.bundle_tree_build.specs.declared.build.BuildError.TheVariants.{Form}
 use Rattle.bundle_tree_build.specs.Sorts.{AStmt, ABlock, ACase, AHandler, AVarDecl, ADeclarator, AnExpr, AnArgument, AMemberExpr, ASuperMember, AParen, ATemplate, AnOptCall, AComputedKey, AMemberKey, ASuperKey, APattern, AnAssignPattern, AnArrayPattern, ARestPattern, AnObjectPattern, APatternProperty, AFunction, AParameter, AClass, AClassMember, ATextPart, One, Optional, Many, Places, slot, holds}
 use Rattle.bundle_tree_piece.specs.declared.piece.Role.TheVariants as r
-use Rattle.bundle_tree_build.specs.Parse.{taken}
-use Rattle.bundle_tree_build.proofs.Parsing.{if_err, node_done, node_unfinished, node_unclosed, no_room, slot_more, slot_refused, misplaced}
+use Rattle.bundle_tree_build.specs.Parse.{after_each, taken, within}
+use Rattle.bundle_tree_build.proofs.Parsing.{if_err, node_done, node_unfinished, node_unclosed, no_room, slot_more, slot_refused, misplaced, text_parts}
 use Rattle.bundle_tree_build.proofs.Misplaced.{no_array_pat, no_assign_pat, no_block_stmt, no_catch_clause, no_class, no_computed_prop_name, no_expr_or_spread, no_function, no_member_expr, no_object_pat, no_opt_call, no_param, no_paren_expr, no_rest_pat, no_super_prop_expr, no_switch_case, no_tpl, no_var_decl, no_var_declarator}
 use Rattle.bundle_tree_build.proofs.build.Builder.+build.Goals as goal
 
@@ -111,7 +111,7 @@ computed_prop_name-returns-in_default t c = record {
 pub tpl-returns-clause-taken : goal.tpl-returns-clause-taken
 tpl-returns-clause-taken t c =
     node_done c.args.room c.in_ok-less.less ATemplate c.args.field c.args.self.now _ _ _ _ (slot 0 Many AnExpr ∷ slot 1 Many ATextPart ∷ []) c.in_ok-open.ensures.taken refl (ap (λ (it : Node). holds ATemplate (head_of it)) c.in-Tpl.is) c.in_ok-less.ensures.within
-    (slot_more (taken c.in_ok-less.less) (slot 0 Many AnExpr) (slot 1 Many ATextPart ∷ []) c.open.new.self _ c.in_ok-exprs.ensures.taken ∙ (slot_more (taken c.in_ok-less.less) (slot 1 Many ATextPart) ([]) c.each_expr.new.self _ c.in_ok-quasis.ensures.taken)) c.in_ok-close.ensures.taken
+    (slot_more (taken c.in_ok-less.less) (slot 0 Many AnExpr) (slot 1 Many ATextPart ∷ []) c.open.new.self _ c.in_ok-exprs.ensures.taken ∙ (slot_more (taken c.in_ok-less.less) (slot 1 Many ATextPart) ([]) c.each_expr.new.self _ (ap (λ one. after_each one 1 (length c.each_expr.new.self) c.each_expr.new.self) (text_parts (within c.in_ok-less.less) 1) ∙ c.in_ok-quasis.ensures.taken))) c.in_ok-close.ensures.taken
 
 pub tpl-returns-in_err-less-clause-refused : goal.tpl-returns-in_err-less-clause-refused
 tpl-returns-in_err-less-clause-refused t c =
@@ -129,14 +129,14 @@ pub tpl-returns-in_err-quasis-clause-refused : goal.tpl-returns-in_err-quasis-cl
 tpl-returns-in_err-quasis-clause-refused t c =
     let refused : c.in_err-quasis.field-0.0 ≡ Form → taken c.args.room ATemplate c.args.field c.args.self.now ≡ None =
     λ form. node_unfinished c.args.room c.in_ok-less.less ATemplate c.args.field c.args.self.now _ _ (slot 0 Many AnExpr ∷ slot 1 Many ATextPart ∷ []) c.in_ok-open.ensures.taken refl (ap (λ (it : Node). holds ATemplate (head_of it)) c.in-Tpl.is) c.in_ok-less.ensures.within
-    (slot_more (taken c.in_ok-less.less) (slot 0 Many AnExpr) (slot 1 Many ATextPart ∷ []) c.open.new.self _ c.in_ok-exprs.ensures.taken ∙ (slot_refused (taken c.in_ok-less.less) (slot 1 Many ATextPart) ([]) c.each_expr.new.self (c.in_err-quasis.ensures.refused form))) in
+    (slot_more (taken c.in_ok-less.less) (slot 0 Many AnExpr) (slot 1 Many ATextPart ∷ []) c.open.new.self _ c.in_ok-exprs.ensures.taken ∙ (slot_refused (taken c.in_ok-less.less) (slot 1 Many ATextPart) ([]) c.each_expr.new.self (ap (λ one. after_each one 1 (length c.each_expr.new.self) c.each_expr.new.self) (text_parts (within c.in_ok-less.less) 1) ∙ c.in_err-quasis.ensures.refused form))) in
     grind (arith, common_steps, refused)
 
 pub tpl-returns-in_err-close-clause-refused : goal.tpl-returns-in_err-close-clause-refused
 tpl-returns-in_err-close-clause-refused t c =
     if_err c.from_residual-in_err-close.result _
     (λ why form. node_unclosed c.args.room c.in_ok-less.less ATemplate c.args.field c.args.self.now _ _ _ (slot 0 Many AnExpr ∷ slot 1 Many ATextPart ∷ []) c.in_ok-open.ensures.taken refl (ap (λ (it : Node). holds ATemplate (head_of it)) c.in-Tpl.is) c.in_ok-less.ensures.within
-    (slot_more (taken c.in_ok-less.less) (slot 0 Many AnExpr) (slot 1 Many ATextPart ∷ []) c.open.new.self _ c.in_ok-exprs.ensures.taken ∙ (slot_more (taken c.in_ok-less.less) (slot 1 Many ATextPart) ([]) c.each_expr.new.self _ c.in_ok-quasis.ensures.taken)) c.in_err-close.ensures.refused)
+    (slot_more (taken c.in_ok-less.less) (slot 0 Many AnExpr) (slot 1 Many ATextPart ∷ []) c.open.new.self _ c.in_ok-exprs.ensures.taken ∙ (slot_more (taken c.in_ok-less.less) (slot 1 Many ATextPart) ([]) c.each_expr.new.self _ (ap (λ one. after_each one 1 (length c.each_expr.new.self) c.each_expr.new.self) (text_parts (within c.in_ok-less.less) 1) ∙ c.in_ok-quasis.ensures.taken))) c.in_err-close.ensures.refused)
 
 pub tpl-returns-in_default : goal.tpl-returns-in_default
 tpl-returns-in_default t c = record {
