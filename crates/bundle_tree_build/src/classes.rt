@@ -1,12 +1,24 @@
 //! Functions and classes (ECMA-262, 15).
 
+ghost use Rattle.std.specs.Prelude.{◌≡◌, ◌∷◌, ◌++◌, ℕ, List, Some, None, IfOk, IfErr, length};
+ghost use Rattle.bundle_tree_piece.specs.Item.{head_of, Item, Open, Close};
+ghost use Rattle.bundle_tree_build.specs.declared.build.BuildError.TheVariants.{Form};
+ghost use Rattle.bundle_tree_listed.specs.Tree.{class_items, class_member_items, each_class_member_items, each_param_items, function_items, node, param_items};
+ghost use Rattle.bundle_tree_build.specs.Sorts.{AFunction, AParameter, AClass, AClassMember, AMethod, AField, holds};
+ghost use Rattle.bundle_tree_build.specs.Parse.{after_each, after_inside, taken};
+
 use crate::build::{BuildError, Builder, inside};
 use bundle_tree_ast::{Class, ClassMember, Function, Param};
 use bundle_tree_piece::{Node, Role};
 
 impl<'p, 'a> Builder<'p, 'a> {
     #[cycle(build)]
-    pub(crate) fn function(&mut self, room: usize, field: u8) -> Result<Function, BuildError> {
+    #[tactic(auto, using(crate::proofs::Parsing::building))]
+    pub(crate) fn function(&mut self, room: usize, field: u8) -> Result<Function, BuildError>
+        ensures taken { IfOk result (λ made. taken room AFunction field self.old ≡ Some self.new) }
+        ensures made { IfOk result (λ made. self.old ≡ function_items field made ++ self.new) }
+        ensures refused { IfErr result (λ why. why ≡ Form → taken room AFunction field self.old ≡ None) }
+    {
         let Node::Function {
             is_generator,
             is_async,
@@ -27,9 +39,15 @@ impl<'p, 'a> Builder<'p, 'a> {
     }
 
     #[cycle(build)]
-    pub(crate) fn each_param(&mut self, room: usize, field: u8) -> Result<Vec<Param>, BuildError> {
+    #[tactic(auto, using(crate::proofs::Parsing::building))]
+    pub(crate) fn each_param(&mut self, room: usize, field: u8) -> Result<Vec<Param>, BuildError>
+        ensures taken { IfOk result (λ made. after_each (taken room AParameter field) field (length self.old) self.old ≡ Some self.new) }
+        ensures made { IfOk result (λ made. self.old ≡ each_param_items field made ++ self.new) }
+        ensures refused { IfErr result (λ why. why ≡ Form → after_each (taken room AParameter field) field (length self.old) self.old ≡ None) }
+    {
         let mut list = Vec::new(self.alloc);
-        for _ in 0..self.most() {
+        let most = self.most();
+        for count in 0..most {
             if !self.is_in(field) {
                 break;
             }
@@ -40,7 +58,12 @@ impl<'p, 'a> Builder<'p, 'a> {
     }
 
     #[cycle(build)]
-    pub(crate) fn param(&mut self, room: usize, field: u8) -> Result<Param, BuildError> {
+    #[tactic(auto, using(crate::proofs::Parsing::building))]
+    pub(crate) fn param(&mut self, room: usize, field: u8) -> Result<Param, BuildError>
+        ensures taken { IfOk result (λ made. taken room AParameter field self.old ≡ Some self.new) }
+        ensures made { IfOk result (λ made. self.old ≡ param_items field made ++ self.new) }
+        ensures refused { IfErr result (λ why. why ≡ Form → taken room AParameter field self.old ≡ None) }
+    {
         let Node::Param = self.open(field)? else {
             return Err(BuildError::Form);
         };
@@ -51,7 +74,12 @@ impl<'p, 'a> Builder<'p, 'a> {
     }
 
     #[cycle(build)]
-    pub(crate) fn class(&mut self, room: usize, field: u8) -> Result<Class, BuildError> {
+    #[tactic(auto, using(crate::proofs::Parsing::building))]
+    pub(crate) fn class(&mut self, room: usize, field: u8) -> Result<Class, BuildError>
+        ensures taken { IfOk result (λ made. taken room AClass field self.old ≡ Some self.new) }
+        ensures made { IfOk result (λ made. self.old ≡ class_items field made ++ self.new) }
+        ensures refused { IfErr result (λ why. why ≡ Form → taken room AClass field self.old ≡ None) }
+    {
         let Node::Class = self.open(field)? else {
             return Err(BuildError::Form);
         };
@@ -63,13 +91,19 @@ impl<'p, 'a> Builder<'p, 'a> {
     }
 
     #[cycle(build)]
+    #[tactic(auto, using(crate::proofs::Parsing::building))]
     pub(crate) fn each_class_member(
         &mut self,
         room: usize,
         field: u8,
-    ) -> Result<Vec<ClassMember>, BuildError> {
+    ) -> Result<Vec<ClassMember>, BuildError>
+        ensures taken { IfOk result (λ made. after_each (taken room AClassMember field) field (length self.old) self.old ≡ Some self.new) }
+        ensures made { IfOk result (λ made. self.old ≡ each_class_member_items field made ++ self.new) }
+        ensures refused { IfErr result (λ why. why ≡ Form → after_each (taken room AClassMember field) field (length self.old) self.old ≡ None) }
+    {
         let mut list = Vec::new(self.alloc);
-        for _ in 0..self.most() {
+        let most = self.most();
+        for count in 0..most {
             if !self.is_in(field) {
                 break;
             }
@@ -80,11 +114,12 @@ impl<'p, 'a> Builder<'p, 'a> {
     }
 
     #[cycle(build)]
-    pub(crate) fn class_member(
-        &mut self,
-        room: usize,
-        field: u8,
-    ) -> Result<ClassMember, BuildError> {
+    #[tactic(auto, using(crate::proofs::Parsing::building))]
+    pub(crate) fn class_member(&mut self, room: usize, field: u8) -> Result<ClassMember, BuildError>
+        ensures taken { IfOk result (λ made. taken room AClassMember field self.old ≡ Some self.new) }
+        ensures made { IfOk result (λ made. self.old ≡ class_member_items field made ++ self.new) }
+        ensures refused { IfErr result (λ why. why ≡ Form → taken room AClassMember field self.old ≡ None) }
+    {
         let node = self.open(field)?;
         let less = inside(room)?;
         let member = match node {
@@ -108,11 +143,17 @@ impl<'p, 'a> Builder<'p, 'a> {
     }
 
     #[cycle(build)]
+    #[tactic(auto, using(crate::proofs::Parsing::building))]
     pub(crate) fn method_member(
         &mut self,
         room: usize,
         node: Node<'a>,
-    ) -> Result<ClassMember, BuildError> {
+    ) -> Result<ClassMember, BuildError>
+        ensures taken { IfOk result (λ made. after_inside (taken room) (holds AMethod (head_of node.entry)) self.old ≡ Some self.new) }
+        ensures made { IfOk result (λ made. (field : ℕ) (rest : List Item) → self.new ≡ Close ∷ rest →
+            Open field (head_of node.entry) ∷ self.old ≡ class_member_items field made ++ rest) }
+        ensures refused { IfErr result (λ why. why ≡ Form → after_inside (taken room) (holds AMethod (head_of node.entry)) self.old ≡ None) }
+    {
         match node {
             Node::ClassMethod { kind, is_static } => {
                 let key = self.prop_name(room, 0)?;
@@ -139,11 +180,17 @@ impl<'p, 'a> Builder<'p, 'a> {
     }
 
     #[cycle(build)]
+    #[tactic(auto, using(crate::proofs::Parsing::building))]
     pub(crate) fn prop_member(
         &mut self,
         room: usize,
         node: Node<'a>,
-    ) -> Result<ClassMember, BuildError> {
+    ) -> Result<ClassMember, BuildError>
+        ensures taken { IfOk result (λ made. after_inside (taken room) (holds AField (head_of node.entry)) self.old ≡ Some self.new) }
+        ensures made { IfOk result (λ made. (field : ℕ) (rest : List Item) → self.new ≡ Close ∷ rest →
+            Open field (head_of node.entry) ∷ self.old ≡ class_member_items field made ++ rest) }
+        ensures refused { IfErr result (λ why. why ≡ Form → after_inside (taken room) (holds AField (head_of node.entry)) self.old ≡ None) }
+    {
         match node {
             Node::ClassProp { is_static } => {
                 let key = self.prop_name(room, 0)?;

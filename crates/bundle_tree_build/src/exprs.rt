@@ -1,5 +1,13 @@
 //! Expressions (ECMA-262, 13).
 
+ghost use Rattle.std.specs.Prelude.{◌≡◌, ◌∷◌, ◌++◌, ℕ, List, Some, None, IfOk, IfErr, length};
+ghost use Rattle.bundle_tree_piece.specs.Item.{head_of, Item, Open, Close};
+ghost use Rattle.bundle_tree_build.specs.declared.build.BuildError.TheVariants.{Form};
+ghost use Rattle.bundle_tree_listed.specs.Tree.{arrow_body_items, callee_items, each_expr_items, each_expr_or_spread_items, each_option_expr_or_spread_items, expr_items, expr_or_spread_items, expr_or_spread_place_items, is_given, member_expr_items, node, opt_call_items, opt_chain_base_items, option_boxed_expr_items, option_each_expr_or_spread_items, option_expr_items, paren_expr_items, super_prop_expr_items, tpl_items};
+ghost use Rattle.bundle_tree_build.specs.Sorts.{AnExpr, AnOpenedExpr, AFunctionExpr, ACompoundExpr, ACallExpr, AnArgument, ACallee, AnArrowBody, AMemberExpr, ASuperMember, AParen, ATemplate, ALink, AnOptCall, holds, arguments};
+ghost use Rattle.bundle_tree_build.specs.Parse.{after_maybe, after_each, after_place, after_slots, after_inside, taken};
+ghost use Rattle.bundle_tree_ast.specs.declared.class.ClassMember.TheBlock.{back-Expr-NewExpr-1};
+
 use crate::build::{BuildError, Builder, inside};
 use bundle_tree_ast::{
     ArrowBody, Callee, Expr, ExprOrSpread, MemberExpr, OptCall, OptChainBase, ParenExpr,
@@ -9,7 +17,12 @@ use bundle_tree_piece::{Node, Role};
 
 impl<'p, 'a> Builder<'p, 'a> {
     #[cycle(build)]
-    pub(crate) fn expr(&mut self, room: usize, field: u8) -> Result<Expr, BuildError> {
+    #[tactic(auto, using(crate::proofs::Parsing::building))]
+    pub(crate) fn expr(&mut self, room: usize, field: u8) -> Result<Expr, BuildError>
+        ensures taken { IfOk result (λ made. taken room AnExpr field self.old ≡ Some self.new) }
+        ensures made { IfOk result (λ made. self.old ≡ expr_items field made ++ self.new) }
+        ensures refused { IfErr result (λ why. why ≡ Form → taken room AnExpr field self.old ≡ None) }
+    {
         match self.upcoming() {
             None => Ok(Expr::Ident(self.ident(field, Role::Reference)?)),
             Some(
@@ -33,7 +46,12 @@ impl<'p, 'a> Builder<'p, 'a> {
 
     // An expression that is no leaf and no node of its own type.
     #[cycle(build)]
-    pub(crate) fn opened_expr(&mut self, room: usize, field: u8) -> Result<Expr, BuildError> {
+    #[tactic(auto, using(crate::proofs::Parsing::building))]
+    pub(crate) fn opened_expr(&mut self, room: usize, field: u8) -> Result<Expr, BuildError>
+        ensures taken { IfOk result (λ made. taken room AnOpenedExpr field self.old ≡ Some self.new) }
+        ensures made { IfOk result (λ made. self.old ≡ expr_items field made ++ self.new) }
+        ensures refused { IfErr result (λ why. why ≡ Form → taken room AnOpenedExpr field self.old ≡ None) }
+    {
         let node = self.open(field)?;
         let less = inside(room)?;
         let expr = match node {
@@ -55,11 +73,13 @@ impl<'p, 'a> Builder<'p, 'a> {
     }
 
     #[cycle(build)]
-    pub(crate) fn function_expr(
-        &mut self,
-        room: usize,
-        node: Node<'a>,
-    ) -> Result<Expr, BuildError> {
+    #[tactic(auto, using(crate::proofs::Parsing::building))]
+    pub(crate) fn function_expr(&mut self, room: usize, node: Node<'a>) -> Result<Expr, BuildError>
+        ensures taken { IfOk result (λ made. after_inside (taken room) (holds AFunctionExpr (head_of node.entry)) self.old ≡ Some self.new) }
+        ensures made { IfOk result (λ made. (field : ℕ) (rest : List Item) → self.new ≡ Close ∷ rest →
+            Open field (head_of node.entry) ∷ self.old ≡ expr_items field made ++ rest) }
+        ensures refused { IfErr result (λ why. why ≡ Form → after_inside (taken room) (holds AFunctionExpr (head_of node.entry)) self.old ≡ None) }
+    {
         match node {
             Node::FnExpr => {
                 let ident = self.option_ident(0, Role::Binding)?;
@@ -85,11 +105,13 @@ impl<'p, 'a> Builder<'p, 'a> {
     }
 
     #[cycle(build)]
-    pub(crate) fn compound_expr(
-        &mut self,
-        room: usize,
-        node: Node<'a>,
-    ) -> Result<Expr, BuildError> {
+    #[tactic(auto, using(crate::proofs::Parsing::building))]
+    pub(crate) fn compound_expr(&mut self, room: usize, node: Node<'a>) -> Result<Expr, BuildError>
+        ensures taken { IfOk result (λ made. after_inside (taken room) (holds ACompoundExpr (head_of node.entry)) self.old ≡ Some self.new) }
+        ensures made { IfOk result (λ made. (field : ℕ) (rest : List Item) → self.new ≡ Close ∷ rest →
+            Open field (head_of node.entry) ∷ self.old ≡ expr_items field made ++ rest) }
+        ensures refused { IfErr result (λ why. why ≡ Form → after_inside (taken room) (holds ACompoundExpr (head_of node.entry)) self.old ≡ None) }
+    {
         match node {
             Node::ArrayLit => {
                 let elems = self.each_option_expr_or_spread(room, 0)?;
@@ -113,7 +135,13 @@ impl<'p, 'a> Builder<'p, 'a> {
     }
 
     #[cycle(build)]
-    pub(crate) fn call_expr(&mut self, room: usize, node: Node<'a>) -> Result<Expr, BuildError> {
+    #[tactic(auto, using(crate::proofs::Parsing::building))]
+    pub(crate) fn call_expr(&mut self, room: usize, node: Node<'a>) -> Result<Expr, BuildError>
+        ensures taken { IfOk result (λ made. after_inside (taken room) (holds ACallExpr (head_of node.entry)) self.old ≡ Some self.new) }
+        ensures made { IfOk result (λ made. (field : ℕ) (rest : List Item) → self.new ≡ Close ∷ rest →
+            Open field (head_of node.entry) ∷ self.old ≡ expr_items field made ++ rest) }
+        ensures refused { IfErr result (λ why. why ≡ Form → after_inside (taken room) (holds ACallExpr (head_of node.entry)) self.old ≡ None) }
+    {
         match node {
             Node::CallExpr => {
                 let callee = self.callee(room, 0)?;
@@ -134,11 +162,17 @@ impl<'p, 'a> Builder<'p, 'a> {
     }
 
     #[cycle(build)]
+    #[tactic(auto, using(crate::proofs::Parsing::building))]
     pub(crate) fn args_of_new(
         &mut self,
         room: usize,
         has_args: bool,
-    ) -> Result<Option<Vec<ExprOrSpread>>, BuildError> {
+    ) -> Result<Option<Vec<ExprOrSpread>>, BuildError>
+        ensures taken { IfOk result (λ made. after_slots (taken room) (arguments has_args) self.old ≡ Some self.new) }
+        ensures made { IfOk result (λ made. self.old ≡ option_each_expr_or_spread_items 1 made ++ self.new) }
+        ensures given { IfOk result (λ made. is_given (back-Expr-NewExpr-1 made) ≡ has_args.entry) }
+        ensures refused { IfErr result (λ why. why ≡ Form → after_slots (taken room) (arguments has_args) self.old ≡ None) }
+    {
         if has_args {
             Ok(Some(self.each_expr_or_spread(room, 1)?))
         } else {
@@ -147,17 +181,23 @@ impl<'p, 'a> Builder<'p, 'a> {
     }
 
     #[cycle(build)]
-    pub(crate) fn boxed_expr(&mut self, room: usize, field: u8) -> Result<Box<Expr>, BuildError> {
+    #[tactic(auto, using(crate::proofs::Parsing::building))]
+    pub(crate) fn boxed_expr(&mut self, room: usize, field: u8) -> Result<Box<Expr>, BuildError>
+        ensures taken { IfOk result (λ made. taken room AnExpr field self.old ≡ Some self.new) }
+        ensures made { IfOk result (λ made. self.old ≡ expr_items field made.value ++ self.new) }
+        ensures refused { IfErr result (λ why. why ≡ Form → taken room AnExpr field self.old ≡ None) }
+    {
         let expr = self.expr(room, field)?;
         Ok(Box::new(self.alloc, expr)?)
     }
 
     #[cycle(build)]
-    pub(crate) fn option_expr(
-        &mut self,
-        room: usize,
-        field: u8,
-    ) -> Result<Option<Expr>, BuildError> {
+    #[tactic(auto, using(crate::proofs::Parsing::building))]
+    pub(crate) fn option_expr(&mut self, room: usize, field: u8) -> Result<Option<Expr>, BuildError>
+        ensures taken { IfOk result (λ made. after_maybe (taken room AnExpr field) field self.old ≡ Some self.new) }
+        ensures made { IfOk result (λ made. self.old ≡ option_expr_items field made ++ self.new) }
+        ensures refused { IfErr result (λ why. why ≡ Form → after_maybe (taken room AnExpr field) field self.old ≡ None) }
+    {
         if self.is_in(field) {
             Ok(Some(self.expr(room, field)?))
         } else {
@@ -166,11 +206,16 @@ impl<'p, 'a> Builder<'p, 'a> {
     }
 
     #[cycle(build)]
+    #[tactic(auto, using(crate::proofs::Parsing::building))]
     pub(crate) fn option_boxed_expr(
         &mut self,
         room: usize,
         field: u8,
-    ) -> Result<Option<Box<Expr>>, BuildError> {
+    ) -> Result<Option<Box<Expr>>, BuildError>
+        ensures taken { IfOk result (λ made. after_maybe (taken room AnExpr field) field self.old ≡ Some self.new) }
+        ensures made { IfOk result (λ made. self.old ≡ option_boxed_expr_items field made ++ self.new) }
+        ensures refused { IfErr result (λ why. why ≡ Form → after_maybe (taken room AnExpr field) field self.old ≡ None) }
+    {
         if self.is_in(field) {
             Ok(Some(self.boxed_expr(room, field)?))
         } else {
@@ -179,9 +224,15 @@ impl<'p, 'a> Builder<'p, 'a> {
     }
 
     #[cycle(build)]
-    pub(crate) fn each_expr(&mut self, room: usize, field: u8) -> Result<Vec<Expr>, BuildError> {
+    #[tactic(auto, using(crate::proofs::Parsing::building))]
+    pub(crate) fn each_expr(&mut self, room: usize, field: u8) -> Result<Vec<Expr>, BuildError>
+        ensures taken { IfOk result (λ made. after_each (taken room AnExpr field) field (length self.old) self.old ≡ Some self.new) }
+        ensures made { IfOk result (λ made. self.old ≡ each_expr_items field made ++ self.new) }
+        ensures refused { IfErr result (λ why. why ≡ Form → after_each (taken room AnExpr field) field (length self.old) self.old ≡ None) }
+    {
         let mut list = Vec::new(self.alloc);
-        for _ in 0..self.most() {
+        let most = self.most();
+        for count in 0..most {
             if !self.is_in(field) {
                 break;
             }
@@ -192,11 +243,16 @@ impl<'p, 'a> Builder<'p, 'a> {
     }
 
     #[cycle(build)]
+    #[tactic(auto, using(crate::proofs::Parsing::building))]
     pub(crate) fn expr_or_spread(
         &mut self,
         room: usize,
         field: u8,
-    ) -> Result<ExprOrSpread, BuildError> {
+    ) -> Result<ExprOrSpread, BuildError>
+        ensures taken { IfOk result (λ made. taken room AnArgument field self.old ≡ Some self.new) }
+        ensures made { IfOk result (λ made. self.old ≡ expr_or_spread_items field made ++ self.new) }
+        ensures refused { IfErr result (λ why. why ≡ Form → taken room AnArgument field self.old ≡ None) }
+    {
         let Node::ExprOrSpread { spread } = self.open(field)? else {
             return Err(BuildError::Form);
         };
@@ -207,13 +263,19 @@ impl<'p, 'a> Builder<'p, 'a> {
     }
 
     #[cycle(build)]
+    #[tactic(auto, using(crate::proofs::Parsing::building))]
     pub(crate) fn each_expr_or_spread(
         &mut self,
         room: usize,
         field: u8,
-    ) -> Result<Vec<ExprOrSpread>, BuildError> {
+    ) -> Result<Vec<ExprOrSpread>, BuildError>
+        ensures taken { IfOk result (λ made. after_each (taken room AnArgument field) field (length self.old) self.old ≡ Some self.new) }
+        ensures made { IfOk result (λ made. self.old ≡ each_expr_or_spread_items field made ++ self.new) }
+        ensures refused { IfErr result (λ why. why ≡ Form → after_each (taken room AnArgument field) field (length self.old) self.old ≡ None) }
+    {
         let mut list = Vec::new(self.alloc);
-        for _ in 0..self.most() {
+        let most = self.most();
+        for count in 0..most {
             if !self.is_in(field) {
                 break;
             }
@@ -224,11 +286,16 @@ impl<'p, 'a> Builder<'p, 'a> {
     }
 
     #[cycle(build)]
+    #[tactic(auto, using(crate::proofs::Parsing::building))]
     pub(crate) fn option_expr_or_spread(
         &mut self,
         room: usize,
         field: u8,
-    ) -> Result<Option<ExprOrSpread>, BuildError> {
+    ) -> Result<Option<ExprOrSpread>, BuildError>
+        ensures taken { IfOk result (λ made. after_place (taken room AnArgument field) field self.old ≡ Some self.new) }
+        ensures made { IfOk result (λ made. self.old ≡ expr_or_spread_place_items field made ++ self.new) }
+        ensures refused { IfErr result (λ why. why ≡ Form → after_place (taken room AnArgument field) field self.old ≡ None) }
+    {
         if self.is_hole() {
             self.hole(field)?;
             Ok(None)
@@ -238,13 +305,19 @@ impl<'p, 'a> Builder<'p, 'a> {
     }
 
     #[cycle(build)]
+    #[tactic(auto, using(crate::proofs::Parsing::building))]
     pub(crate) fn each_option_expr_or_spread(
         &mut self,
         room: usize,
         field: u8,
-    ) -> Result<Vec<Option<ExprOrSpread>>, BuildError> {
+    ) -> Result<Vec<Option<ExprOrSpread>>, BuildError>
+        ensures taken { IfOk result (λ made. after_each (after_place (taken room AnArgument field) field) field (length self.old) self.old ≡ Some self.new) }
+        ensures made { IfOk result (λ made. self.old ≡ each_option_expr_or_spread_items field made ++ self.new) }
+        ensures refused { IfErr result (λ why. why ≡ Form → after_each (after_place (taken room AnArgument field) field) field (length self.old) self.old ≡ None) }
+    {
         let mut list = Vec::new(self.alloc);
-        for _ in 0..self.most() {
+        let most = self.most();
+        for count in 0..most {
             if !self.is_in(field) {
                 break;
             }
@@ -255,7 +328,12 @@ impl<'p, 'a> Builder<'p, 'a> {
     }
 
     #[cycle(build)]
-    pub(crate) fn callee(&mut self, room: usize, field: u8) -> Result<Callee, BuildError> {
+    #[tactic(auto, using(crate::proofs::Parsing::building))]
+    pub(crate) fn callee(&mut self, room: usize, field: u8) -> Result<Callee, BuildError>
+        ensures taken { IfOk result (λ made. taken room ACallee field self.old ≡ Some self.new) }
+        ensures made { IfOk result (λ made. self.old ≡ callee_items field made ++ self.new) }
+        ensures refused { IfErr result (λ why. why ≡ Form → taken room ACallee field self.old ≡ None) }
+    {
         match self.upcoming() {
             Some(Node::Super) => {
                 let _ = self.open(field)?;
@@ -272,7 +350,12 @@ impl<'p, 'a> Builder<'p, 'a> {
     }
 
     #[cycle(build)]
-    pub(crate) fn arrow_body(&mut self, room: usize, field: u8) -> Result<ArrowBody, BuildError> {
+    #[tactic(auto, using(crate::proofs::Parsing::building))]
+    pub(crate) fn arrow_body(&mut self, room: usize, field: u8) -> Result<ArrowBody, BuildError>
+        ensures taken { IfOk result (λ made. taken room AnArrowBody field self.old ≡ Some self.new) }
+        ensures made { IfOk result (λ made. self.old ≡ arrow_body_items field made ++ self.new) }
+        ensures refused { IfErr result (λ why. why ≡ Form → taken room AnArrowBody field self.old ≡ None) }
+    {
         match self.upcoming() {
             Some(Node::BlockStmt) => Ok(ArrowBody::BlockStmt(self.block_stmt(room, field)?)),
             _ => Ok(ArrowBody::Expr(self.boxed_expr(room, field)?)),
@@ -280,7 +363,12 @@ impl<'p, 'a> Builder<'p, 'a> {
     }
 
     #[cycle(build)]
-    pub(crate) fn member_expr(&mut self, room: usize, field: u8) -> Result<MemberExpr, BuildError> {
+    #[tactic(auto, using(crate::proofs::Parsing::building))]
+    pub(crate) fn member_expr(&mut self, room: usize, field: u8) -> Result<MemberExpr, BuildError>
+        ensures taken { IfOk result (λ made. taken room AMemberExpr field self.old ≡ Some self.new) }
+        ensures made { IfOk result (λ made. self.old ≡ member_expr_items field made ++ self.new) }
+        ensures refused { IfErr result (λ why. why ≡ Form → taken room AMemberExpr field self.old ≡ None) }
+    {
         let Node::MemberExpr = self.open(field)? else {
             return Err(BuildError::Form);
         };
@@ -292,11 +380,16 @@ impl<'p, 'a> Builder<'p, 'a> {
     }
 
     #[cycle(build)]
+    #[tactic(auto, using(crate::proofs::Parsing::building))]
     pub(crate) fn super_prop_expr(
         &mut self,
         room: usize,
         field: u8,
-    ) -> Result<SuperPropExpr, BuildError> {
+    ) -> Result<SuperPropExpr, BuildError>
+        ensures taken { IfOk result (λ made. taken room ASuperMember field self.old ≡ Some self.new) }
+        ensures made { IfOk result (λ made. self.old ≡ super_prop_expr_items field made ++ self.new) }
+        ensures refused { IfErr result (λ why. why ≡ Form → taken room ASuperMember field self.old ≡ None) }
+    {
         let Node::SuperPropExpr = self.open(field)? else {
             return Err(BuildError::Form);
         };
@@ -307,7 +400,12 @@ impl<'p, 'a> Builder<'p, 'a> {
     }
 
     #[cycle(build)]
-    pub(crate) fn paren_expr(&mut self, room: usize, field: u8) -> Result<ParenExpr, BuildError> {
+    #[tactic(auto, using(crate::proofs::Parsing::building))]
+    pub(crate) fn paren_expr(&mut self, room: usize, field: u8) -> Result<ParenExpr, BuildError>
+        ensures taken { IfOk result (λ made. taken room AParen field self.old ≡ Some self.new) }
+        ensures made { IfOk result (λ made. self.old ≡ paren_expr_items field made ++ self.new) }
+        ensures refused { IfErr result (λ why. why ≡ Form → taken room AParen field self.old ≡ None) }
+    {
         let Node::ParenExpr = self.open(field)? else {
             return Err(BuildError::Form);
         };
@@ -318,7 +416,12 @@ impl<'p, 'a> Builder<'p, 'a> {
     }
 
     #[cycle(build)]
-    pub(crate) fn tpl(&mut self, room: usize, field: u8) -> Result<Tpl, BuildError> {
+    #[tactic(auto, using(crate::proofs::Parsing::building))]
+    pub(crate) fn tpl(&mut self, room: usize, field: u8) -> Result<Tpl, BuildError>
+        ensures taken { IfOk result (λ made. taken room ATemplate field self.old ≡ Some self.new) }
+        ensures made { IfOk result (λ made. self.old ≡ tpl_items field made ++ self.new) }
+        ensures refused { IfErr result (λ why. why ≡ Form → taken room ATemplate field self.old ≡ None) }
+    {
         let Node::Tpl = self.open(field)? else {
             return Err(BuildError::Form);
         };
@@ -330,11 +433,16 @@ impl<'p, 'a> Builder<'p, 'a> {
     }
 
     #[cycle(build)]
+    #[tactic(auto, using(crate::proofs::Parsing::building))]
     pub(crate) fn opt_chain_base(
         &mut self,
         room: usize,
         field: u8,
-    ) -> Result<OptChainBase, BuildError> {
+    ) -> Result<OptChainBase, BuildError>
+        ensures taken { IfOk result (λ made. taken room ALink field self.old ≡ Some self.new) }
+        ensures made { IfOk result (λ made. self.old ≡ opt_chain_base_items field made ++ self.new) }
+        ensures refused { IfErr result (λ why. why ≡ Form → taken room ALink field self.old ≡ None) }
+    {
         match self.upcoming() {
             Some(Node::OptCall) => Ok(OptChainBase::OptCall(self.opt_call(room, field)?)),
             _ => Ok(OptChainBase::MemberExpr(self.member_expr(room, field)?)),
@@ -342,7 +450,12 @@ impl<'p, 'a> Builder<'p, 'a> {
     }
 
     #[cycle(build)]
-    pub(crate) fn opt_call(&mut self, room: usize, field: u8) -> Result<OptCall, BuildError> {
+    #[tactic(auto, using(crate::proofs::Parsing::building))]
+    pub(crate) fn opt_call(&mut self, room: usize, field: u8) -> Result<OptCall, BuildError>
+        ensures taken { IfOk result (λ made. taken room AnOptCall field self.old ≡ Some self.new) }
+        ensures made { IfOk result (λ made. self.old ≡ opt_call_items field made ++ self.new) }
+        ensures refused { IfErr result (λ why. why ≡ Form → taken room AnOptCall field self.old ≡ None) }
+    {
         let Node::OptCall = self.open(field)? else {
             return Err(BuildError::Form);
         };

@@ -1,14 +1,27 @@
 //! Patterns, and what is assigned to (ECMA-262, 13.15.5 and 14.3.3). `role` is what the names in them are.
 
+ghost use Rattle.std.specs.Prelude.{◌≡◌, ◌++◌, Some, None, IfOk, IfErr, length};
+ghost use Rattle.bundle_tree_build.specs.declared.build.BuildError.TheVariants.{Form};
+ghost use Rattle.bundle_tree_listed.specs.Tree.{array_pat_items, assign_target_items, each_object_pat_prop_items, each_option_pat_items, each_pat_items, object_pat_items, object_pat_prop_items, option_pat_items, pat_items, pat_place_items, rest_pat_items};
+ghost use Rattle.bundle_tree_build.specs.Sorts.{APattern, AnAssignPattern, AnArrayPattern, ARestPattern, AnObjectPattern, APatternProperty, ATarget};
+ghost use Rattle.bundle_tree_build.specs.Parse.{after_maybe, after_each, after_place, taken};
+
 use crate::build::{BuildError, Builder, inside};
 use bundle_tree_ast::{ArrayPat, AssignTarget, ObjectPat, ObjectPatProp, Pat, RestPat};
 use bundle_tree_piece::{Node, Role};
 
 impl<'p, 'a> Builder<'p, 'a> {
     #[cycle(build)]
-    pub(crate) fn pat(&mut self, room: usize, field: u8, role: Role) -> Result<Pat, BuildError> {
+    #[tactic(auto, using(crate::proofs::Parsing::building))]
+    pub(crate) fn pat(&mut self, room: usize, field: u8, role: Role) -> Result<Pat, BuildError>
+        ensures taken { IfOk result (λ made. taken room (APattern role) field self.old ≡ Some self.new) }
+        ensures made { IfOk result (λ made. self.old ≡ pat_items role field made ++ self.new) }
+        ensures refused { IfErr result (λ why. why ≡ Form → taken room (APattern role) field self.old ≡ None) }
+    {
         match self.upcoming() {
-            Some(Node::BindingIdent) => Ok(Pat::BindingIdent(self.binding_ident(field, role)?)),
+            Some(Node::BindingIdent) => Ok(Pat::BindingIdent(self.binding_ident(
+                room, field, role,
+            )?)),
             Some(Node::ArrayPat) => Ok(Pat::ArrayPat(self.array_pat(room, field, role)?)),
             Some(Node::RestPat) => Ok(Pat::RestPat(self.rest_pat(room, field, role)?)),
             Some(Node::ObjectPat) => Ok(Pat::ObjectPat(self.object_pat(room, field, role)?)),
@@ -18,12 +31,17 @@ impl<'p, 'a> Builder<'p, 'a> {
     }
 
     #[cycle(build)]
+    #[tactic(auto, using(crate::proofs::Parsing::building))]
     pub(crate) fn assign_pat(
         &mut self,
         room: usize,
         field: u8,
         role: Role,
-    ) -> Result<Pat, BuildError> {
+    ) -> Result<Pat, BuildError>
+        ensures taken { IfOk result (λ made. taken room (AnAssignPattern role) field self.old ≡ Some self.new) }
+        ensures made { IfOk result (λ made. self.old ≡ pat_items role field made ++ self.new) }
+        ensures refused { IfErr result (λ why. why ≡ Form → taken room (AnAssignPattern role) field self.old ≡ None) }
+    {
         let Node::AssignPat = self.open(field)? else {
             return Err(BuildError::Form);
         };
@@ -35,23 +53,33 @@ impl<'p, 'a> Builder<'p, 'a> {
     }
 
     #[cycle(build)]
+    #[tactic(auto, using(crate::proofs::Parsing::building))]
     pub(crate) fn boxed_pat(
         &mut self,
         room: usize,
         field: u8,
         role: Role,
-    ) -> Result<Box<Pat>, BuildError> {
+    ) -> Result<Box<Pat>, BuildError>
+        ensures taken { IfOk result (λ made. taken room (APattern role) field self.old ≡ Some self.new) }
+        ensures made { IfOk result (λ made. self.old ≡ pat_items role field made.value ++ self.new) }
+        ensures refused { IfErr result (λ why. why ≡ Form → taken room (APattern role) field self.old ≡ None) }
+    {
         let pat = self.pat(room, field, role)?;
         Ok(Box::new(self.alloc, pat)?)
     }
 
     #[cycle(build)]
+    #[tactic(auto, using(crate::proofs::Parsing::building))]
     pub(crate) fn option_pat(
         &mut self,
         room: usize,
         field: u8,
         role: Role,
-    ) -> Result<Option<Pat>, BuildError> {
+    ) -> Result<Option<Pat>, BuildError>
+        ensures taken { IfOk result (λ made. after_maybe (taken room (APattern role) field) field self.old ≡ Some self.new) }
+        ensures made { IfOk result (λ made. self.old ≡ option_pat_items role field made ++ self.new) }
+        ensures refused { IfErr result (λ why. why ≡ Form → after_maybe (taken room (APattern role) field) field self.old ≡ None) }
+    {
         if self.is_in(field) {
             Ok(Some(self.pat(room, field, role)?))
         } else {
@@ -60,14 +88,20 @@ impl<'p, 'a> Builder<'p, 'a> {
     }
 
     #[cycle(build)]
+    #[tactic(auto, using(crate::proofs::Parsing::building))]
     pub(crate) fn each_pat(
         &mut self,
         room: usize,
         field: u8,
         role: Role,
-    ) -> Result<Vec<Pat>, BuildError> {
+    ) -> Result<Vec<Pat>, BuildError>
+        ensures taken { IfOk result (λ made. after_each (taken room (APattern role) field) field (length self.old) self.old ≡ Some self.new) }
+        ensures made { IfOk result (λ made. self.old ≡ each_pat_items role field made ++ self.new) }
+        ensures refused { IfErr result (λ why. why ≡ Form → after_each (taken room (APattern role) field) field (length self.old) self.old ≡ None) }
+    {
         let mut list = Vec::new(self.alloc);
-        for _ in 0..self.most() {
+        let most = self.most();
+        for count in 0..most {
             if !self.is_in(field) {
                 break;
             }
@@ -78,12 +112,17 @@ impl<'p, 'a> Builder<'p, 'a> {
     }
 
     #[cycle(build)]
+    #[tactic(auto, using(crate::proofs::Parsing::building))]
     pub(crate) fn place_of_pat(
         &mut self,
         room: usize,
         field: u8,
         role: Role,
-    ) -> Result<Option<Pat>, BuildError> {
+    ) -> Result<Option<Pat>, BuildError>
+        ensures taken { IfOk result (λ made. after_place (taken room (APattern role) field) field self.old ≡ Some self.new) }
+        ensures made { IfOk result (λ made. self.old ≡ pat_place_items role field made ++ self.new) }
+        ensures refused { IfErr result (λ why. why ≡ Form → after_place (taken room (APattern role) field) field self.old ≡ None) }
+    {
         if self.is_hole() {
             self.hole(field)?;
             Ok(None)
@@ -93,14 +132,20 @@ impl<'p, 'a> Builder<'p, 'a> {
     }
 
     #[cycle(build)]
+    #[tactic(auto, using(crate::proofs::Parsing::building))]
     pub(crate) fn each_place_of_pat(
         &mut self,
         room: usize,
         field: u8,
         role: Role,
-    ) -> Result<Vec<Option<Pat>>, BuildError> {
+    ) -> Result<Vec<Option<Pat>>, BuildError>
+        ensures taken { IfOk result (λ made. after_each (after_place (taken room (APattern role) field) field) field (length self.old) self.old ≡ Some self.new) }
+        ensures made { IfOk result (λ made. self.old ≡ each_option_pat_items role field made ++ self.new) }
+        ensures refused { IfErr result (λ why. why ≡ Form → after_each (after_place (taken room (APattern role) field) field) field (length self.old) self.old ≡ None) }
+    {
         let mut list = Vec::new(self.alloc);
-        for _ in 0..self.most() {
+        let most = self.most();
+        for count in 0..most {
             if !self.is_in(field) {
                 break;
             }
@@ -111,12 +156,17 @@ impl<'p, 'a> Builder<'p, 'a> {
     }
 
     #[cycle(build)]
+    #[tactic(auto, using(crate::proofs::Parsing::building))]
     pub(crate) fn array_pat(
         &mut self,
         room: usize,
         field: u8,
         role: Role,
-    ) -> Result<ArrayPat, BuildError> {
+    ) -> Result<ArrayPat, BuildError>
+        ensures taken { IfOk result (λ made. taken room (AnArrayPattern role) field self.old ≡ Some self.new) }
+        ensures made { IfOk result (λ made. self.old ≡ array_pat_items role field made ++ self.new) }
+        ensures refused { IfErr result (λ why. why ≡ Form → taken room (AnArrayPattern role) field self.old ≡ None) }
+    {
         let Node::ArrayPat = self.open(field)? else {
             return Err(BuildError::Form);
         };
@@ -127,12 +177,17 @@ impl<'p, 'a> Builder<'p, 'a> {
     }
 
     #[cycle(build)]
+    #[tactic(auto, using(crate::proofs::Parsing::building))]
     pub(crate) fn rest_pat(
         &mut self,
         room: usize,
         field: u8,
         role: Role,
-    ) -> Result<RestPat, BuildError> {
+    ) -> Result<RestPat, BuildError>
+        ensures taken { IfOk result (λ made. taken room (ARestPattern role) field self.old ≡ Some self.new) }
+        ensures made { IfOk result (λ made. self.old ≡ rest_pat_items role field made ++ self.new) }
+        ensures refused { IfErr result (λ why. why ≡ Form → taken room (ARestPattern role) field self.old ≡ None) }
+    {
         let Node::RestPat = self.open(field)? else {
             return Err(BuildError::Form);
         };
@@ -143,12 +198,17 @@ impl<'p, 'a> Builder<'p, 'a> {
     }
 
     #[cycle(build)]
+    #[tactic(auto, using(crate::proofs::Parsing::building))]
     pub(crate) fn object_pat(
         &mut self,
         room: usize,
         field: u8,
         role: Role,
-    ) -> Result<ObjectPat, BuildError> {
+    ) -> Result<ObjectPat, BuildError>
+        ensures taken { IfOk result (λ made. taken room (AnObjectPattern role) field self.old ≡ Some self.new) }
+        ensures made { IfOk result (λ made. self.old ≡ object_pat_items role field made ++ self.new) }
+        ensures refused { IfErr result (λ why. why ≡ Form → taken room (AnObjectPattern role) field self.old ≡ None) }
+    {
         let Node::ObjectPat = self.open(field)? else {
             return Err(BuildError::Form);
         };
@@ -159,14 +219,20 @@ impl<'p, 'a> Builder<'p, 'a> {
     }
 
     #[cycle(build)]
+    #[tactic(auto, using(crate::proofs::Parsing::building))]
     pub(crate) fn each_object_pat_prop(
         &mut self,
         room: usize,
         field: u8,
         role: Role,
-    ) -> Result<Vec<ObjectPatProp>, BuildError> {
+    ) -> Result<Vec<ObjectPatProp>, BuildError>
+        ensures taken { IfOk result (λ made. after_each (taken room (APatternProperty role) field) field (length self.old) self.old ≡ Some self.new) }
+        ensures made { IfOk result (λ made. self.old ≡ each_object_pat_prop_items role field made ++ self.new) }
+        ensures refused { IfErr result (λ why. why ≡ Form → after_each (taken room (APatternProperty role) field) field (length self.old) self.old ≡ None) }
+    {
         let mut list = Vec::new(self.alloc);
-        for _ in 0..self.most() {
+        let most = self.most();
+        for count in 0..most {
             if !self.is_in(field) {
                 break;
             }
@@ -177,12 +243,17 @@ impl<'p, 'a> Builder<'p, 'a> {
     }
 
     #[cycle(build)]
+    #[tactic(auto, using(crate::proofs::Parsing::building))]
     pub(crate) fn object_pat_prop(
         &mut self,
         room: usize,
         field: u8,
         role: Role,
-    ) -> Result<ObjectPatProp, BuildError> {
+    ) -> Result<ObjectPatProp, BuildError>
+        ensures taken { IfOk result (λ made. taken room (APatternProperty role) field self.old ≡ Some self.new) }
+        ensures made { IfOk result (λ made. self.old ≡ object_pat_prop_items role field made ++ self.new) }
+        ensures refused { IfErr result (λ why. why ≡ Form → taken room (APatternProperty role) field self.old ≡ None) }
+    {
         if let Some(Node::RestPat) = self.upcoming() {
             return Ok(ObjectPatProp::RestPat(self.rest_pat(room, field, role)?));
         }
@@ -195,7 +266,7 @@ impl<'p, 'a> Builder<'p, 'a> {
                 ObjectPatProp::KeyValuePatProp { key, value }
             }
             Node::AssignPatProp => {
-                let key = self.binding_ident(0, role)?;
+                let key = self.binding_ident(less, 0, role)?;
                 let value = self.option_expr(less, 1)?;
                 ObjectPatProp::AssignPatProp { key, value }
             }
@@ -206,13 +277,19 @@ impl<'p, 'a> Builder<'p, 'a> {
     }
 
     #[cycle(build)]
+    #[tactic(auto, using(crate::proofs::Parsing::building))]
     pub(crate) fn assign_target(
         &mut self,
         room: usize,
         field: u8,
-    ) -> Result<AssignTarget, BuildError> {
+    ) -> Result<AssignTarget, BuildError>
+        ensures taken { IfOk result (λ made. taken room ATarget field self.old ≡ Some self.new) }
+        ensures made { IfOk result (λ made. self.old ≡ assign_target_items field made ++ self.new) }
+        ensures refused { IfErr result (λ why. why ≡ Form → taken room ATarget field self.old ≡ None) }
+    {
         match self.upcoming() {
             Some(Node::BindingIdent) => Ok(AssignTarget::BindingIdent(self.binding_ident(
+                room,
                 field,
                 Role::Reference,
             )?)),
