@@ -1,5 +1,4 @@
 pub mod Parsing
-pub mod Misplaced
 pub mod Whole
 pub mod Rows
 pub mod Trees

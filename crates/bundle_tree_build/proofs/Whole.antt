@@ -1,5 +1,5 @@
 -- Lists in which each field holds what may stand there are taken whole.
-use Rattle.std.proofs.Common.{◌≡◌, ℕ, zero, suc, ◌+◌, ◌≤◌, Bool, true, false, ◌||◌, cond, List, [], ◌∷◌, ◌++◌, length, append_assoc, length-append, Option, Some, None, refl, sym, ap, subst, ◌∙◌, arith}
+use Rattle.std.proofs.Common.{◌≡◌, ℕ, zero, suc, ◌+◌, ◌≤◌, Bool, true, false, ◌||◌, List, [], ◌∷◌, ◌++◌, length, append_assoc, length-append, Option, Some, None, refl, sym, ap, subst, ◌∙◌, arith}
 use Rattle.std.proofs.lemmas.Bool.{false≢true}
 use Rattle.std.proofs.Math.Dec.{eqb_refl}
 use Rattle.std.specs.Prelude.{T, nat_eq}
@@ -7,7 +7,7 @@ use Rattle.bundle_tree_piece.specs.declared.piece.Role.{Role}
 use Rattle.bundle_tree_piece.specs.declared.piece.Role.TheVariants as r
 use Rattle.bundle_tree_piece.specs.Item as h
 use Rattle.bundle_tree_piece.specs.Item.{Item, Head}
-use Rattle.bundle_tree_build.specs.Sorts.{Sort, Count, One, Optional, Many, Places, Slot, slot, Nothing, Fields, Exports, holds, name_of, is_leaf}
+use Rattle.bundle_tree_build.specs.Sorts.{Sort, Count, One, Optional, Many, Places, Slot, slot, Fields, Exports, holds, name_of}
 use Rattle.bundle_tree_build.specs.Parse.{Taker, begins_in, begins_with_hole, same_role, after_name, after_maybe, after_each, after_place, after_slots, after_node, after_one, closed, then, within, taken, has_source, export_slots}
 
 -- whether something has to stand in a field
@@ -33,16 +33,14 @@ pub data AreIn : List Slot → List Item → Type 0 where
   over : {number : ℕ} {count : Count} {sort : Sort} {more : List Slot} {items : List Item} → is_needed count ≡ false → has_number number more ≡ false → AreIn more items → AreIn (slot number count sort ∷ more) items
   a_name : {number : ℕ} {count : Count} {sort : Sort} {more : List Slot} {x : List ℕ} {ctxt : ℕ} {role : Role} {rest : List Item} → name_of sort ≡ Some role → AreIn (after number count sort more) rest → AreIn (slot number count sort ∷ more) (h.Ident number x ctxt role ∷ rest)
   a_hole : {number : ℕ} {sort : Sort} {more : List Slot} {rest : List Item} → AreIn (slot number Places sort ∷ more) rest → AreIn (slot number Places sort ∷ more) (h.Hole number ∷ rest)
-  a_leaf : {number : ℕ} {count : Count} {sort : Sort} {more : List Slot} {head : Head} {rest : List Item} → holds sort head ≡ Nothing → AreIn (after number count sort more) rest → AreIn (slot number count sort ∷ more) (h.Open number head ∷ h.Close ∷ rest)
-  a_node : {number : ℕ} {count : Count} {sort : Sort} {more all : List Slot} {head : Head} {inside rest : List Item} → is_leaf sort ≡ false → holds sort head ≡ Fields all → AreIn all inside → AreIn (after number count sort more) rest → AreIn (slot number count sort ∷ more) (h.Open number head ∷ (inside ++ h.Close ∷ rest))
-  an_export_list : {number : ℕ} {count : Count} {sort : Sort} {more : List Slot} {head : Head} {source : Bool} {inside rest : List Item} → is_leaf sort ≡ false → holds sort head ≡ Exports → ((behind : List Item) → has_source zero (inside ++ h.Close ∷ behind) ≡ source) → AreIn (export_slots source) inside → AreIn (after number count sort more) rest → AreIn (slot number count sort ∷ more) (h.Open number head ∷ (inside ++ h.Close ∷ rest))
+  a_node : {number : ℕ} {count : Count} {sort : Sort} {more all : List Slot} {head : Head} {inside rest : List Item} → holds sort head ≡ Fields all → AreIn all inside → AreIn (after number count sort more) rest → AreIn (slot number count sort ∷ more) (h.Open number head ∷ (inside ++ h.Close ∷ rest))
+  an_export_list : {number : ℕ} {count : Count} {sort : Sort} {more : List Slot} {head : Head} {source : Bool} {inside rest : List Item} → holds sort head ≡ Exports → ((behind : List Item) → has_source zero (inside ++ h.Close ∷ behind) ≡ source) → AreIn (export_slots source) inside → AreIn (after number count sort more) rest → AreIn (slot number count sort ∷ more) (h.Open number head ∷ (inside ++ h.Close ∷ rest))
 
 -- one name or one node, in the field of that number, where that sort is
 pub data IsIn : Sort → ℕ → List Item → Type 0 where
   name : {sort : Sort} {field : ℕ} {x : List ℕ} {ctxt : ℕ} {role : Role} → name_of sort ≡ Some role → IsIn sort field (h.Ident field x ctxt role ∷ [])
-  leaf : {sort : Sort} {field : ℕ} {head : Head} → holds sort head ≡ Nothing → IsIn sort field (h.Open field head ∷ h.Close ∷ [])
-  node : {sort : Sort} {field : ℕ} {head : Head} {all : List Slot} {inside : List Item} → is_leaf sort ≡ false → holds sort head ≡ Fields all → AreIn all inside → IsIn sort field (h.Open field head ∷ (inside ++ h.Close ∷ []))
-  export_list : {sort : Sort} {field : ℕ} {head : Head} {source : Bool} {inside : List Item} → is_leaf sort ≡ false → holds sort head ≡ Exports → ((behind : List Item) → has_source zero (inside ++ h.Close ∷ behind) ≡ source) → AreIn (export_slots source) inside → IsIn sort field (h.Open field head ∷ (inside ++ h.Close ∷ []))
+  node : {sort : Sort} {field : ℕ} {head : Head} {all : List Slot} {inside : List Item} → holds sort head ≡ Fields all → AreIn all inside → IsIn sort field (h.Open field head ∷ (inside ++ h.Close ∷ []))
+  export_list : {sort : Sort} {field : ℕ} {head : Head} {source : Bool} {inside : List Item} → holds sort head ≡ Exports → ((behind : List Item) → has_source zero (inside ++ h.Close ∷ behind) ≡ source) → AreIn (export_slots source) inside → IsIn sort field (h.Open field head ∷ (inside ++ h.Close ∷ []))
 
 -- Small facts.
 
@@ -79,9 +77,8 @@ starts no_more number e rest = refl
 starts (over {number = at} {more = more} needed free them) number e rest = starts them number (right_of (nat_eq at number) (has_number number more) e) rest
 starts (a_name {number = at} {more = more} is them) number e rest = left_of (nat_eq at number) (has_number number more) e
 starts (a_hole {number = at} {more = more} them) number e rest = left_of (nat_eq at number) (has_number number more) e
-starts (a_leaf {number = at} {more = more} is them) number e rest = left_of (nat_eq at number) (has_number number more) e
-starts (a_node {number = at} {more = more} deep is inside them) number e rest = left_of (nat_eq at number) (has_number number more) e
-starts (an_export_list {number = at} {more = more} deep is source inside them) number e rest = left_of (nat_eq at number) (has_number number more) e
+starts (a_node {number = at} {more = more} is inside them) number e rest = left_of (nat_eq at number) (has_number number more) e
+starts (an_export_list {number = at} {more = more} is source inside them) number e rest = left_of (nat_eq at number) (has_number number more) e
 
 -- the first field, where so many may stand in it
 after_first : ℕ → Taker → Slot → List Item → Option (List Item)
@@ -131,18 +128,15 @@ name_taken : (room : ℕ) (sort : Sort) (field : ℕ) (x : List ℕ) (ctxt : ℕ
 unfolding after_one
 name_taken room sort field x ctxt role rest e = ap (λ o. after_name o field (h.Ident field x ctxt role ∷ rest)) e ∙ rw (same_number field, role_itself role) refl
 
-opened_node : (room : ℕ) (sort : Sort) (field : ℕ) (head : Head) (list : List Item) → taken room sort field (h.Open field head ∷ list) ≡ after_node (cond (is_leaf sort) None (within room)) (holds sort head) list
+opened_node : (room : ℕ) (sort : Sort) (field : ℕ) (head : Head) (list : List Item) → taken room sort field (h.Open field head ∷ list) ≡ after_node (within room) (holds sort head) list
 unfolding after_one
 opened_node room sort field head list = rw (same_number field) refl
 
-leaf_taken : (room : ℕ) (sort : Sort) (field : ℕ) (head : Head) (rest : List Item) → holds sort head ≡ Nothing → taken room sort field (h.Open field head ∷ h.Close ∷ rest) ≡ Some rest
-leaf_taken room sort field head rest e = opened_node room sort field head (h.Close ∷ rest) ∙ ap (λ o. after_node (cond (is_leaf sort) None (within room)) o (h.Close ∷ rest)) e
+node_taken : (room : ℕ) (sort : Sort) (field : ℕ) (head : Head) (all : List Slot) (list rest : List Item) → holds sort head ≡ Fields all → after_slots (taken room) all list ≡ Some (h.Close ∷ rest) → taken (suc room) sort field (h.Open field head ∷ list) ≡ Some rest
+node_taken room sort field head all list rest e is = opened_node (suc room) sort field head list ∙ (ap (λ o. after_node (within (suc room)) o list) e ∙ ap closed is)
 
-node_taken : (room : ℕ) (sort : Sort) (field : ℕ) (head : Head) (all : List Slot) (list rest : List Item) → is_leaf sort ≡ false → holds sort head ≡ Fields all → after_slots (taken room) all list ≡ Some (h.Close ∷ rest) → taken (suc room) sort field (h.Open field head ∷ list) ≡ Some rest
-node_taken room sort field head all list rest deep e is = opened_node (suc room) sort field head list ∙ (ap (λ b. after_node (cond b None (within (suc room))) (holds sort head) list) deep ∙ (ap (λ o. after_node (within (suc room)) o list) e ∙ ap closed is))
-
-list_taken : (room : ℕ) (sort : Sort) (field : ℕ) (head : Head) (source : Bool) (list rest : List Item) → is_leaf sort ≡ false → holds sort head ≡ Exports → has_source zero list ≡ source → after_slots (taken room) (export_slots source) list ≡ Some (h.Close ∷ rest) → taken (suc room) sort field (h.Open field head ∷ list) ≡ Some rest
-list_taken room sort field head source list rest deep e has is = opened_node (suc room) sort field head list ∙ (ap (λ b. after_node (cond b None (within (suc room))) (holds sort head) list) deep ∙ (ap (λ o. after_node (within (suc room)) o list) e ∙ (ap (λ b. closed (after_slots (taken room) (export_slots b) list)) has ∙ ap closed is)))
+list_taken : (room : ℕ) (sort : Sort) (field : ℕ) (head : Head) (source : Bool) (list rest : List Item) → holds sort head ≡ Exports → has_source zero list ≡ source → after_slots (taken room) (export_slots source) list ≡ Some (h.Close ∷ rest) → taken (suc room) sort field (h.Open field head ∷ list) ≡ Some rest
+list_taken room sort field head source list rest e has is = opened_node (suc room) sort field head list ∙ (ap (λ o. after_node (within (suc room)) o list) e ∙ (ap (λ b. closed (after_slots (taken room) (export_slots b) list)) has ∙ ap closed is))
 
 -- what stands in the fields of a node is taken, and its end is left
 whole : {slots : List Slot} {items : List Item} → AreIn slots items → (room most : ℕ) (rest : List Item) → length items ≤ room → length items ≤ most → after_most most (taken room) slots (items ++ h.Close ∷ rest) ≡ Some (h.Close ∷ rest)
@@ -156,37 +150,33 @@ whole (a_name {number = n} {count = c} {sort = s} {more = more} {x = x} {ctxt = 
 whole (a_hole {rest = others} them) room zero rest fits few = absurd (omega (arith, few))
 whole (a_hole {number = n} {sort = s} {more = more} {rest = others} them) room (suc most) rest fits few =
     empty_place (taken room) n s more (others ++ h.Close ∷ rest) most ∙ whole them room most rest (omega (arith, fits)) (omega (arith, few))
-whole (a_leaf {rest = others} is them) room zero rest fits few = absurd (omega (arith, few))
-whole (a_leaf {number = n} {count = c} {sort = s} {more = more} {head = head} {rest = others} is them) room (suc most) rest fits few =
-    step (taken room) n c s more (h.Open n head ∷ h.Close ∷ (others ++ h.Close ∷ rest)) (others ++ h.Close ∷ rest) (h.Close ∷ rest) (length others) most (leaf_taken room s n head (others ++ h.Close ∷ rest) is) (same_number n) refl (omega (arith, few)) (rw length-append (omega arith)) (λ many le. whole them room many rest (omega (arith, fits)) le)
-whole (a_node {inside = inside} {rest = others} deep is in_it them) room zero rest fits few = absurd (omega (arith, few))
-whole (a_node {inside = inside} {rest = others} deep is in_it them) zero (suc most) rest fits few = absurd (omega (arith, fits))
-whole (a_node {number = n} {count = c} {sort = s} {more = more} {all = all} {head = head} {inside = inside} {rest = others} deep is in_it them) (suc room) (suc most) rest fits few =
+whole (a_node {inside = inside} {rest = others} is in_it them) room zero rest fits few = absurd (omega (arith, few))
+whole (a_node {inside = inside} {rest = others} is in_it them) zero (suc most) rest fits few = absurd (omega (arith, fits))
+whole (a_node {number = n} {count = c} {sort = s} {more = more} {all = all} {head = head} {inside = inside} {rest = others} is in_it them) (suc room) (suc most) rest fits few =
     let sizes : length (inside ++ h.Close ∷ others) ≡ length inside + suc (length others) = length-append inside (h.Close ∷ others) in
     let behind : List Item = others ++ h.Close ∷ rest in
     let within_it : after_slots (taken room) all (inside ++ h.Close ∷ behind) ≡ Some (h.Close ∷ behind) = all_most (taken room) all (inside ++ h.Close ∷ behind) ∙ whole in_it room (length (inside ++ h.Close ∷ behind)) behind (omega (arith, fits, sizes)) (rw length-append (omega arith)) in
     subst (λ list. after_most (suc most) (taken (suc room)) (slot n c s ∷ more) (h.Open n head ∷ list) ≡ Some (h.Close ∷ rest)) (sym (append_assoc inside (h.Close ∷ others) (h.Close ∷ rest)))
-    (step (taken (suc room)) n c s more (h.Open n head ∷ (inside ++ h.Close ∷ behind)) behind (h.Close ∷ rest) (length others) most (node_taken room s n head all (inside ++ h.Close ∷ behind) behind deep is within_it) (same_number n) refl (omega (arith, few, sizes)) (rw length-append (omega arith)) (λ many le. whole them (suc room) many rest (omega (arith, fits, sizes)) le))
-whole (an_export_list {inside = inside} {rest = others} deep is has in_it them) room zero rest fits few = absurd (omega (arith, few))
-whole (an_export_list {inside = inside} {rest = others} deep is has in_it them) zero (suc most) rest fits few = absurd (omega (arith, fits))
-whole (an_export_list {number = n} {count = c} {sort = s} {more = more} {head = head} {source = source} {inside = inside} {rest = others} deep is has in_it them) (suc room) (suc most) rest fits few =
+    (step (taken (suc room)) n c s more (h.Open n head ∷ (inside ++ h.Close ∷ behind)) behind (h.Close ∷ rest) (length others) most (node_taken room s n head all (inside ++ h.Close ∷ behind) behind is within_it) (same_number n) refl (omega (arith, few, sizes)) (rw length-append (omega arith)) (λ many le. whole them (suc room) many rest (omega (arith, fits, sizes)) le))
+whole (an_export_list {inside = inside} {rest = others} is has in_it them) room zero rest fits few = absurd (omega (arith, few))
+whole (an_export_list {inside = inside} {rest = others} is has in_it them) zero (suc most) rest fits few = absurd (omega (arith, fits))
+whole (an_export_list {number = n} {count = c} {sort = s} {more = more} {head = head} {source = source} {inside = inside} {rest = others} is has in_it them) (suc room) (suc most) rest fits few =
     let sizes : length (inside ++ h.Close ∷ others) ≡ length inside + suc (length others) = length-append inside (h.Close ∷ others) in
     let behind : List Item = others ++ h.Close ∷ rest in
     let within_it : after_slots (taken room) (export_slots source) (inside ++ h.Close ∷ behind) ≡ Some (h.Close ∷ behind) = all_most (taken room) (export_slots source) (inside ++ h.Close ∷ behind) ∙ whole in_it room (length (inside ++ h.Close ∷ behind)) behind (omega (arith, fits, sizes)) (rw length-append (omega arith)) in
     subst (λ list. after_most (suc most) (taken (suc room)) (slot n c s ∷ more) (h.Open n head ∷ list) ≡ Some (h.Close ∷ rest)) (sym (append_assoc inside (h.Close ∷ others) (h.Close ∷ rest)))
-    (step (taken (suc room)) n c s more (h.Open n head ∷ (inside ++ h.Close ∷ behind)) behind (h.Close ∷ rest) (length others) most (list_taken room s n head source (inside ++ h.Close ∷ behind) behind deep is (has behind) within_it) (same_number n) refl (omega (arith, few, sizes)) (rw length-append (omega arith)) (λ many le. whole them (suc room) many rest (omega (arith, fits, sizes)) le))
+    (step (taken (suc room)) n c s more (h.Open n head ∷ (inside ++ h.Close ∷ behind)) behind (h.Close ∷ rest) (length others) most (list_taken room s n head source (inside ++ h.Close ∷ behind) behind is (has behind) within_it) (same_number n) refl (omega (arith, few, sizes)) (rw length-append (omega arith)) (λ many le. whole them (suc room) many rest (omega (arith, fits, sizes)) le))
 
 -- a node that may stand in a place is taken there
 pub whole_node : {sort : Sort} {field : ℕ} {items : List Item} → IsIn sort field items → (room : ℕ) (rest : List Item) → length items ≤ room → taken room sort field (items ++ rest) ≡ Some rest
 whole_node {sort} {field} (name {x = x} {ctxt = ctxt} {role = role} is) room rest fits = name_taken room sort field x ctxt role rest is
-whole_node {sort} {field} (leaf {head = head} is) room rest fits = leaf_taken room sort field head rest is
-whole_node {sort} {field} (node {head = head} {all = all} {inside = inside} deep is in_it) zero rest fits = absurd (omega (arith, fits))
-whole_node {sort} {field} (node {head = head} {all = all} {inside = inside} deep is in_it) (suc room) rest fits =
+whole_node {sort} {field} (node {head = head} {all = all} {inside = inside} is in_it) zero rest fits = absurd (omega (arith, fits))
+whole_node {sort} {field} (node {head = head} {all = all} {inside = inside} is in_it) (suc room) rest fits =
     let sizes : length (inside ++ h.Close ∷ []) ≡ length inside + 1 = length-append inside (h.Close ∷ []) in
     subst (λ list. taken (suc room) sort field (h.Open field head ∷ list) ≡ Some rest) (sym (append_assoc inside (h.Close ∷ []) rest))
-    (node_taken room sort field head all (inside ++ h.Close ∷ rest) rest deep is (all_most (taken room) all (inside ++ h.Close ∷ rest) ∙ whole in_it room (length (inside ++ h.Close ∷ rest)) rest (omega (arith, fits, sizes)) (rw length-append (omega arith))))
-whole_node {sort} {field} (export_list {head = head} {source = source} {inside = inside} deep is has in_it) zero rest fits = absurd (omega (arith, fits))
-whole_node {sort} {field} (export_list {head = head} {source = source} {inside = inside} deep is has in_it) (suc room) rest fits =
+    (node_taken room sort field head all (inside ++ h.Close ∷ rest) rest is (all_most (taken room) all (inside ++ h.Close ∷ rest) ∙ whole in_it room (length (inside ++ h.Close ∷ rest)) rest (omega (arith, fits, sizes)) (rw length-append (omega arith))))
+whole_node {sort} {field} (export_list {head = head} {source = source} {inside = inside} is has in_it) zero rest fits = absurd (omega (arith, fits))
+whole_node {sort} {field} (export_list {head = head} {source = source} {inside = inside} is has in_it) (suc room) rest fits =
     let sizes : length (inside ++ h.Close ∷ []) ≡ length inside + 1 = length-append inside (h.Close ∷ []) in
     subst (λ list. taken (suc room) sort field (h.Open field head ∷ list) ≡ Some rest) (sym (append_assoc inside (h.Close ∷ []) rest))
-    (list_taken room sort field head source (inside ++ h.Close ∷ rest) rest deep is (has rest) (all_most (taken room) (export_slots source) (inside ++ h.Close ∷ rest) ∙ whole in_it room (length (inside ++ h.Close ∷ rest)) rest (omega (arith, fits, sizes)) (rw length-append (omega arith))))
+    (list_taken room sort field head source (inside ++ h.Close ∷ rest) rest is (has rest) (all_most (taken room) (export_slots source) (inside ++ h.Close ∷ rest) ∙ whole in_it room (length (inside ++ h.Close ∷ rest)) rest (omega (arith, fits, sizes)) (rw length-append (omega arith))))

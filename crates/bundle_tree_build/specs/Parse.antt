@@ -1,10 +1,10 @@
 -- How a list is taken from its front, place by place: what is left of it, where it begins with what stands there.
-use Rattle.std.specs.Prelude.{ℕ, zero, suc, Bool, true, false, cond, ◌&&◌, List, [], ◌∷◌, length, Option, Some, None, nat_eq}
+use Rattle.std.specs.Prelude.{ℕ, zero, suc, ◌+◌, ◌-◌, Bool, true, false, cond, ◌&&◌, List, [], ◌∷◌, length, Option, Some, None, nat_eq}
 use Rattle.bundle_tree_piece.specs.declared.piece.Role.{Role}
 use Rattle.bundle_tree_piece.specs.declared.piece.Role.TheVariants as r
 use Rattle.bundle_tree_piece.specs.Item as h
 use Rattle.bundle_tree_piece.specs.Item.{Item, Head}
-use Rattle.bundle_tree_build.specs.Sorts.{Sort, AString, AnExport, One, Optional, Many, Places, Slot, slot, Holding, Refused, Nothing, Fields, Exports, name_of, holds, is_leaf}
+use Rattle.bundle_tree_build.specs.Sorts.{Sort, AString, AnExport, One, Optional, Many, Places, Slot, slot, Holding, Refused, Fields, Exports, name_of, holds}
 
 -- what one place takes from a list
 abbrev pub Taker : Type 0
@@ -25,11 +25,6 @@ pub record Opening : Type 0 where
 abbrev pub opened : ℕ → List Item → Option Opening
 opened field (h.Open at head ∷ rest) = cond (nat_eq at field) (Some (record { head = head; inside = rest })) None
 opened field _ = None
-
--- the head of the node with which the list begins, whatever its field
-abbrev pub upcoming : List Item → Option Head
-upcoming (h.Open at head ∷ rest) = Some head
-upcoming _ = None
 
 -- whether the list begins in this field
 abbrev pub begins_in : ℕ → List Item → Bool
@@ -95,14 +90,26 @@ abbrev pub after_slots : Taker → List Slot → List Item → Option (List Item
 after_slots taker [] list = Some list
 after_slots taker (it ∷ more) list = then (after_slots taker more) (after_slot taker it list)
 
--- whether a source, in field 1, comes in the export list that is open, so many nodes deep
+-- whether the source of the export list that is open, in field 1, begins here, so many nodes deep
+abbrev pub is_source : ℕ → Item → Bool
+is_source depth (h.Open at head) = nat_eq depth 0 && nat_eq at 1
+is_source depth _ = false
+
+-- whether the node around ends here
+abbrev pub is_end : ℕ → Item → Bool
+is_end depth h.Close = nat_eq depth 0
+is_end depth _ = false
+
+-- how many nodes deep what follows is
+abbrev pub depth_behind : ℕ → Item → ℕ
+depth_behind depth (h.Open at head) = depth + 1
+depth_behind depth h.Close = depth - 1
+depth_behind depth _ = depth
+
+-- whether a source comes in the export list that is open, so many nodes deep
 abbrev pub has_source : ℕ → List Item → Bool
 has_source depth [] = false
-has_source zero (h.Open (suc zero) head ∷ rest) = true
-has_source depth (h.Open at head ∷ rest) = has_source (suc depth) rest
-has_source zero (h.Close ∷ rest) = false
-has_source (suc depth) (h.Close ∷ rest) = has_source depth rest
-has_source depth (_ ∷ rest) = has_source depth rest
+has_source depth (item ∷ rest) = cond (is_source depth item) true (cond (is_end depth item) false (has_source (depth_behind depth item) rest))
 
 abbrev pub export_slots : Bool → List Slot
 export_slots true = slot 0 Many (AnExport r.Word) ∷ slot 1 One AString ∷ []
@@ -110,20 +117,18 @@ export_slots false = slot 0 Many (AnExport r.Reference) ∷ []
 
 -- what is inside of a node
 abbrev pub after_inside : Taker → Holding → List Item → Option (List Item)
+after_inside taker Refused list = None
 after_inside taker (Fields all) list = after_slots taker all list
 after_inside taker Exports list = after_slots taker (export_slots (has_source zero list)) list
-after_inside taker _ list = None
 
--- what is inside of a node and its end; a node with fields only where there is room for a further one
+-- what is inside of a node and its end; only where there is room for a further node
 abbrev pub after_node : Option Taker → Holding → List Item → Option (List Item)
-after_node room Refused list = None
-after_node room Nothing list = after_close list
 after_node None held list = None
 after_node (Some taker) held list = closed (after_inside taker held list)
 
 abbrev pub after_opening : Option Taker → Sort → ℕ → List Item → Option Opening → Option (List Item)
 after_opening room sort field list None = after_name (name_of sort) field list
-after_opening room sort field list (Some node) = after_node (cond (is_leaf sort) None room) (holds sort node.head) node.inside
+after_opening room sort field list (Some node) = after_node room (holds sort node.head) node.inside
 
 -- one place
 unfoldable pub after_one : Option Taker → Taker

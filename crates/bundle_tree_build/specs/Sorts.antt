@@ -18,7 +18,6 @@ pub data Sort : Type 0 where
   ADefault : Sort
   -- statements (ECMA-262, 14)
   AStmt : Sort
-  AnOpenedStmt : Sort
   APlainStmt : Sort
   ABranchStmt : Sort
   ALoop : Sort
@@ -34,7 +33,6 @@ pub data Sort : Type 0 where
   ADeclarator : Sort
   -- expressions (ECMA-262, 13)
   AnExpr : Sort
-  AnOpenedExpr : Sort
   AFunctionExpr : Sort
   ACompoundExpr : Sort
   ACallExpr : Sort
@@ -82,7 +80,6 @@ pub data Sort : Type 0 where
   ABigInt : Sort
   ARegex : Sort
   ALiteral : Sort
-  AWordLiteral : Sort
   ATextPart : Sort
 
 -- how many nodes stand in a field: one; one or none; each number; each number, with places that hold nothing
@@ -96,11 +93,10 @@ pub data Count : Type 0 where
 pub data Slot : Type 0 where
   slot : ℕ → Count → Sort → Slot
 
--- what a node holds: it may not stand there; nothing; its fields; an export list, whose names are words of another
--- module where a source comes after them
+-- what a node holds: it may not stand there; its fields; an export list, whose names are words of another module
+-- where a source comes after them
 pub data Holding : Type 0 where
   Refused : Holding
-  Nothing : Holding
   Fields : List Slot → Holding
   Exports : Holding
 
@@ -129,7 +125,6 @@ name_of ACallee = Some r.Reference
 name_of AnArrowBody = Some r.Reference
 name_of (APattern names) = Some r.Reference
 name_of APropertyOrSpread = Some r.Reference
-name_of AProperty = Some r.Reference
 name_of _ = None
 
 -- Which nodes stand where.
@@ -469,7 +464,6 @@ takes (AnExport names) = is_export
 takes (AModuleName names) = is_string
 takes ADefault = is_default
 takes AStmt = is_stmt
-takes AnOpenedStmt = is_opened_stmt
 takes APlainStmt = is_plain_stmt
 takes ABranchStmt = is_branch
 takes ALoop = is_loop
@@ -483,7 +477,6 @@ takes ADecl = is_decl
 takes AVarDecl = is_var_decl
 takes ADeclarator = is_declarator
 takes AnExpr = is_expr
-takes AnOpenedExpr = is_opened_expr
 takes AFunctionExpr = is_function_expr
 takes ACompoundExpr = is_compound
 takes ACallExpr = is_call
@@ -527,7 +520,6 @@ takes ANumber = is_number
 takes ABigInt = is_big_int
 takes ARegex = is_regex
 takes ALiteral = is_literal
-takes AWordLiteral = is_word_literal
 takes ATextPart = is_text_part
 
 -- the arguments of a `new`, where it has a list of them
@@ -592,7 +584,7 @@ fields names h.CallExpr = Fields (slot 0 One ACallee ∷ slot 1 Many AnArgument 
 fields names (h.NewExpr has_args) = Fields (slot 0 One AnExpr ∷ arguments has_args)
 fields names h.SeqExpr = Fields (slot 0 Many AnExpr ∷ [])
 fields names h.Tpl = Fields (slot 0 Many AnExpr ∷ slot 1 Many ATextPart ∷ [])
-fields names (h.TplElement raw) = Nothing
+fields names (h.TplElement raw) = Fields []
 fields names h.TaggedTpl = Fields (slot 0 One AnExpr ∷ slot 1 One ATemplate ∷ [])
 fields names (h.ArrowExpr is_async) = Fields (slot 0 Many (APattern r.Binding) ∷ slot 1 One AnArrowBody ∷ [])
 fields names h.ClassExpr = Fields (slot 0 Optional (AnIdent r.Binding) ∷ slot 1 One AClass ∷ [])
@@ -603,17 +595,17 @@ fields names h.ParenExpr = Fields (slot 0 One AnExpr ∷ [])
 fields names (h.OptChainExpr optional) = Fields (slot 1 One ALink ∷ [])
 fields names h.OptCall = Fields (slot 0 One AnExpr ∷ slot 1 Many AnArgument ∷ [])
 fields names (h.ExprOrSpread spread) = Fields (slot 1 One AnExpr ∷ [])
-fields names h.Super = Nothing
-fields names h.Import = Nothing
+fields names h.Super = Fields []
+fields names h.Import = Fields []
 -- names and literals (ECMA-262, 12.7 and 13.2.3)
-fields names (h.IdentName sym) = Nothing
-fields names (h.PrivateName sym) = Nothing
-fields names (h.Str value raw) = Nothing
-fields names (h.Bool value) = Nothing
-fields names h.Null = Nothing
-fields names (h.Number raw) = Nothing
-fields names (h.BigInt raw) = Nothing
-fields names (h.Regex raw) = Nothing
+fields names (h.IdentName sym) = Fields []
+fields names (h.PrivateName sym) = Fields []
+fields names (h.Str value raw) = Fields []
+fields names (h.Bool value) = Fields []
+fields names h.Null = Fields []
+fields names (h.Number raw) = Fields []
+fields names (h.BigInt raw) = Fields []
+fields names (h.Regex raw) = Fields []
 -- properties of object literals (ECMA-262, 13.2.5)
 fields names h.SpreadElement = Fields (slot 0 One AnExpr ∷ [])
 fields names h.KeyValueProp = Fields (slot 0 One AKey ∷ slot 1 One AnExpr ∷ [])
@@ -643,18 +635,3 @@ fields names h.StaticBlock = Fields (slot 0 One ABlock ∷ [])
 -- what a node of such a head holds where that sort is
 abbrev pub holds : Sort → Head → Holding
 holds sort head = cond (takes sort head) (fields (names_in sort) head) Refused
-
--- whether no node that may stand there has fields
-abbrev pub is_leaf : Sort → Bool
-is_leaf (AnIdent names) = true
-is_leaf (AModuleName names) = true
-is_leaf AWord = true
-is_leaf APrivateName = true
-is_leaf AString = true
-is_leaf ANumber = true
-is_leaf ABigInt = true
-is_leaf ARegex = true
-is_leaf ALiteral = true
-is_leaf AWordLiteral = true
-is_leaf ATextPart = true
-is_leaf _ = false

@@ -1,12 +1,12 @@
 //! What is left of a list, and the tree that it gives.
 
-ghost use Rattle.std.specs.Prelude.{◌≡◌, ◌+◌, ◌∷◌, [], map, option_map, length, Option, Some, None, ◌↔◌, IfOk, IfErr, IsTrue, OnErr};
+ghost use Rattle.std.specs.Prelude.{◌≡◌, ◌+◌, ◌∷◌, [], map, length, Option, Some, None, ◌↔◌, IfOk, IfErr, IsTrue, OnErr};
 ghost use Rattle.bundle_tree_piece.specs.Item.{head_of, item_of, Close, Hole, Ident, Open};
 ghost use Rattle.std.specs.List.{flat_map};
 ghost use Rattle.bundle_tree_listed.specs.Tree.{key_value_prop_items, module_items};
 ghost use Rattle.bundle_tree_build.specs.declared.build.BuildError.TheVariants.{Form};
 ghost use Rattle.bundle_tree_build.specs.Refused.{IsListOfNoModule, IsListOfNoProperties};
-ghost use Rattle.bundle_tree_build.specs.Parse.{after_close, after_hole, after_ident, begins_in, begins_with_hole, begins_with_ident, opened, taken, upcoming, within};
+ghost use Rattle.bundle_tree_build.specs.Parse.{after_close, after_hole, after_ident, begins_in, begins_with_hole, begins_with_ident, opened, taken, within};
 
 use bundle_tree_ast::{KeyValueProp, Module};
 use bundle_tree_piece::{Node, Piece, Role};
@@ -70,9 +70,9 @@ pub fn module_of<'a>(alloc: Global, pieces: &[Piece<'a>]) -> Result<Module, Buil
     ensures refused { IfErr result (λ why. why ≡ Form → IsListOfNoModule (map item_of pieces.now)) }
 {
     let mut builder = Builder { alloc, pieces };
-    let body = builder.module(pieces.len())?;
+    let module = builder.module(pieces.len())?;
     if builder.is_over() {
-        Ok(Module { body })
+        Ok(module)
     } else {
         Err(BuildError::Form)
     }
@@ -104,7 +104,7 @@ pub fn properties_of<'a>(
 #[derive(Drop)]
 pub(crate) struct Builder<'p, 'a> {
     pub(crate) alloc: Global,
-    pieces: &'p [Piece<'a>],
+    pub(crate) pieces: &'p [Piece<'a>],
 }
 
 impl<'p, 'a> Model for Builder<'p, 'a> {
@@ -193,16 +193,6 @@ impl<'p, 'a> Builder<'p, 'a> {
                 role: found,
             } if at == field && found == role => Ok((sym, ctxt)),
             _ => Err(BuildError::Form),
-        }
-    }
-
-    /// The node that begins next, if one does.
-    pub(crate) fn upcoming(&self) -> Option<Node<'a>>
-        ensures { option_map head_of result ≡ upcoming self.now }
-    {
-        match self.pieces.first() {
-            Some(Piece::Open { node, .. }) => Some(*node),
-            _ => None,
         }
     }
 
