@@ -1,4 +1,5 @@
 pub mod Parsing
+pub mod Misplaced
 pub mod Whole
 pub mod Rows
 pub mod Trees

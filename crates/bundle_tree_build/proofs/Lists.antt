@@ -1,12 +1,14 @@
 -- A list that is not taken, or of which something is left, is the list of no tree.
-use Rattle.std.proofs.Common.{◌≡◌, ℕ, ◌≤◌, true, false, List, [], length, Option, Some, None, sym, ap, subst, ◌∙◌, rules}
+use Rattle.std.proofs.Common.{◌≡◌, ℕ, ◌≤◌, true, false, List, [], length, map, ◌+◌, arith, Option, Some, None, sym, ap, subst, ◌∙◌, rules}
 use Rattle.std.proofs.lemmas.Bool.{false≢true}
 use Rattle.std.proofs.lemmas.Grind.{common_steps}
+use Rattle.std.proofs.lemmas.List.{length-map}
 use Rattle.std.specs.List.{flat_map}
 use Rattle.bundle_tree_ast.specs.declared.module.Module.{Module}
 use Rattle.bundle_tree_ast.specs.declared.expr.Expr.{Expr}
 use Rattle.bundle_tree_ast.specs.declared.prop.KeyValueProp.{KeyValueProp}
-use Rattle.bundle_tree_piece.specs.Item.{Item}
+use Rattle.bundle_tree_piece.specs.declared.piece.Piece.{Piece}
+use Rattle.bundle_tree_piece.specs.Item.{Item, item_of}
 use Rattle.bundle_tree_listed.specs.Tree.{key_value_prop_items, module_items}
 use Rattle.bundle_tree_build.specs.Sorts.{AModule, AKeyValue}
 use Rattle.bundle_tree_build.specs.Parse.{after_each, taken}
@@ -42,11 +44,25 @@ no_properties room items fits e list is = none_is (sym e ∙ properties_in_room 
 pub no_whole_properties : (room : ℕ) (items left : List Item) → length items ≤ room → after_each (taken room AKeyValue 0) 0 (length items) items ≡ Some left → (left ≡ [] → ⊥) → IsListOfNoProperties items
 no_whole_properties room items left fits e more list is = more (same_left left [] (sym e ∙ properties_in_room list room items is fits))
 
+-- The same of pieces.
+
+pub no_list : (pieces : List Piece) → taken (length pieces) AModule 0 (map item_of pieces) ≡ None → IsListOfNoModule (map item_of pieces)
+no_list pieces e = no_module (length pieces) (map item_of pieces) (rw length-map (omega arith)) e
+
+pub no_whole_list : (pieces : List Piece) (left : List Item) → taken (length pieces) AModule 0 (map item_of pieces) ≡ Some left → (left ≡ [] → ⊥) → IsListOfNoModule (map item_of pieces)
+no_whole_list pieces left e more = no_whole_module (length pieces) (map item_of pieces) left (rw length-map (omega arith)) e more
+
+pub no_rows : (pieces : List Piece) → after_each (taken (length pieces) AKeyValue 0) 0 (length (map item_of pieces)) (map item_of pieces) ≡ None → IsListOfNoProperties (map item_of pieces)
+no_rows pieces e = no_properties (length pieces) (map item_of pieces) (rw length-map (omega arith)) e
+
+pub no_whole_rows : (pieces : List Piece) (left : List Item) → after_each (taken (length pieces) AKeyValue 0) 0 (length (map item_of pieces)) (map item_of pieces) ≡ Some left → (left ≡ [] → ⊥) → IsListOfNoProperties (map item_of pieces)
+no_whole_rows pieces left e more = no_whole_properties (length pieces) (map item_of pieces) left (rw length-map (omega arith)) e more
+
 -- all of them, as the proofs use them
 pub ruleset lists = (
   common_steps,
-  no_module,
-  no_whole_module,
-  no_properties,
-  no_whole_properties,
+  no_list,
+  no_whole_list,
+  no_rows,
+  no_whole_rows,
 )

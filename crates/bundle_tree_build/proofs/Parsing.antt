@@ -1,16 +1,16 @@
 -- How what is left of a list follows from step to step.
-use Rattle.std.proofs.Common.{◌≡◌, ℕ, zero, suc, ◌+◌, ◌-◌, ◌<◌, ◌≤◌, Bool, true, false, cond, List, [], ◌∷◌, length, map, drop, get_or, drop-cons, Option, Some, None, refl, sym, ap, subst, ◌∙◌, arith}
+use Rattle.std.proofs.Common.{◌≡◌, ℕ, zero, suc, ◌+◌, ◌-◌, ◌<◌, ◌≤◌, Bool, true, false, cond, List, [], ◌∷◌, length, map, drop, get_or, drop-cons, Option, Some, None, Result, Ok, Err, refl, sym, ap, subst, ◌∙◌, arith}
 use Rattle.std.proofs.lemmas.Bool.{false≢true}
 use Rattle.std.proofs.lemmas.Grind.{common_steps}
-use Rattle.std.specs.Prelude.{nat_eq}
+use Rattle.std.specs.Prelude.{nat_eq, IfErr}
 use Rattle.bundle_tree_listed.proofs.Rows.{rows}
 use Rattle.bundle_tree_walk.proofs.Steps.{steps}
 use Rattle.bundle_tree_piece.specs.declared.piece.Role.{Role}
 use Rattle.bundle_tree_piece.specs.Item as h
 use Rattle.bundle_tree_piece.specs.declared.piece.Piece.{Piece}
 use Rattle.bundle_tree_piece.specs.Item.{Item, Head, item_of}
-use Rattle.bundle_tree_build.specs.Sorts.{Sort, AnIdent, Refused, Fields, holds, name_of}
-use Rattle.bundle_tree_build.specs.Parse.{Taker, Opening, opened, begins_in, begins_with_ident, after_ident, after_name, after_each, after_close, after_inside, after_node, after_opening, after_one, closed, within, taken, then, is_source, is_end, depth_behind, has_source}
+use Rattle.bundle_tree_build.specs.Sorts.{Sort, AnIdent, AModuleName, AString, Refused, Fields, holds, name_of}
+use Rattle.bundle_tree_build.specs.Parse.{Taker, Opening, opened, begins_in, begins_with_ident, after_ident, after_name, after_each, after_close, after_inside, after_node, after_opening, after_one, closed, within, taken, then, is_zero, outwards, is_source, is_end, depth_behind, has_source}
 
 pub within-more : (less room : ℕ) → less + 1 ≡ room → within room ≡ Some (taken less)
 within-more less room e = subst (λ n. within n ≡ Some (taken less)) (let s : suc less ≡ room = omega (arith, e) in s) refl
@@ -58,12 +58,16 @@ pub leaf_unclosed : (room less : ℕ) (sort : Sort) (field : ℕ) (list inside :
 leaf_unclosed room less sort field list inside head e fits is close =
     place_unclosed room less sort field list inside inside head e fits (ap (λ o. after_inside (taken less) o inside) is) close
 
+pub same_string : (role : Role) (head : Head) → holds (AModuleName role) head ≡ holds AString head
+same_string role (h.Str value raw) = refl
+same_string role _ = refl
+
 -- A name, and what is none and no node.
 
 pub an_ident : (room : Option Taker) (sort : Sort) (field : ℕ) (list : List Item) → begins_with_ident list ≡ true → after_one room sort field list ≡ after_name (name_of sort) field list
 unfolding after_one
 an_ident room sort field [] e = absurd (false≢true e)
-an_ident room sort field (h.Ident at sym ctxt role ∷ rest) e = refl
+an_ident room sort field (h.Ident at x ctxt role ∷ rest) e = refl
 an_ident room sort field (h.Hole at ∷ rest) e = absurd (false≢true e)
 an_ident room sort field (h.Close ∷ rest) e = absurd (false≢true e)
 an_ident room sort field (h.Open at it ∷ rest) e = absurd (false≢true e)
@@ -71,7 +75,7 @@ an_ident room sort field (h.Open at it ∷ rest) e = absurd (false≢true e)
 no_name : (name : Option Role) (field : ℕ) (list : List Item) → begins_with_ident list ≡ false → after_name name field list ≡ None
 no_name None field list e = refl
 no_name (Some role) field [] e = refl
-no_name (Some role) field (h.Ident at sym ctxt found ∷ rest) e = absurd (false≢true (sym e))
+no_name (Some role) field (h.Ident at x ctxt found ∷ rest) e = absurd (false≢true (sym e))
 no_name (Some role) field (h.Hole at ∷ rest) e = refl
 no_name (Some role) field (h.Close ∷ rest) e = refl
 no_name (Some role) field (h.Open at it ∷ rest) e = refl
@@ -94,7 +98,7 @@ held_none (Some taker) list = refl
 pub name_place : (room : Option Taker) (role : Role) (field : ℕ) (list : List Item) → after_one room (AnIdent role) field list ≡ after_ident role field list
 unfolding after_one
 name_place room role field [] = refl
-name_place room role field (h.Ident at sym ctxt found ∷ rest) = refl
+name_place room role field (h.Ident at x ctxt found ∷ rest) = refl
 name_place room role field (h.Hole at ∷ rest) = refl
 name_place room role field (h.Close ∷ rest) = refl
 name_place room role field (h.Open at it ∷ rest) = here (nat_eq at field)
@@ -102,6 +106,11 @@ name_place room role field (h.Open at it ∷ rest) = here (nat_eq at field)
     here : (found : Bool) → after_opening room (AnIdent role) field (h.Open at it ∷ rest) (cond found (Some (record { head = it; inside = rest })) None) ≡ None
     here true = held_none room rest
     here false = refl
+
+-- what an error says, of whatever error
+pub if_err : {A E : Type 0} (result : Result A E) (P : E → Type 0) → ((why : E) → P why) → IfErr result P
+if_err (Ok it) P each_one = tt
+if_err (Err why) P each_one = each_one why
 
 -- The elements of a loop.
 
@@ -136,6 +145,17 @@ read-at pieces place x inside is =
     ap (map item_of) (drop-cons pieces place x inside ∙ ap (λ (y : Piece). y ∷ drop (suc place) pieces) (sym is))
     ∙ ap (λ n. item_of x ∷ map item_of (drop n pieces)) next
 
+pub zero_is : (n : ℕ) → n ≡ 0 → is_zero n ≡ true
+zero_is n e = subst (λ m. is_zero m ≡ true) (sym e) refl
+
+pub more_than_zero : (n : ℕ) → (n ≡ 0 → ⊥) → is_zero n ≡ false
+more_than_zero zero more = absurd (more refl)
+more_than_zero (suc n) more = refl
+
+pub outwards_is : (n : ℕ) → outwards n ≡ n - 1
+outwards_is zero = refl
+outwards_is (suc n) = omega arith
+
 pub source_here : (depth : ℕ) (item : Item) (rest : List Item) → is_source depth item ≡ true → has_source depth (item ∷ rest) ≡ true
 source_here depth item rest e = rw e refl
 
@@ -161,6 +181,13 @@ pub ruleset parsing = (
   neither,
   nothing_opened,
   name_place,
+  source_here,
+  source_ended,
+  source_past,
+  read-at,
+  zero_is,
+  more_than_zero,
+  outwards_is,
   each_ended,
   each_next,
   each_refused,

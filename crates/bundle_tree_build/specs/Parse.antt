@@ -1,5 +1,5 @@
 -- How a list is taken from its front, place by place: what is left of it, where it begins with what stands there.
-use Rattle.std.specs.Prelude.{ℕ, zero, suc, ◌+◌, ◌-◌, Bool, true, false, cond, ◌&&◌, List, [], ◌∷◌, length, Option, Some, None, nat_eq}
+use Rattle.std.specs.Prelude.{ℕ, zero, suc, Bool, true, false, cond, ◌&&◌, List, [], ◌∷◌, length, Option, Some, None, nat_eq}
 use Rattle.bundle_tree_piece.specs.declared.piece.Role.{Role}
 use Rattle.bundle_tree_piece.specs.declared.piece.Role.TheVariants as r
 use Rattle.bundle_tree_piece.specs.Item as h
@@ -90,20 +90,29 @@ abbrev pub after_slots : Taker → List Slot → List Item → Option (List Item
 after_slots taker [] list = Some list
 after_slots taker (it ∷ more) list = then (after_slots taker more) (after_slot taker it list)
 
+abbrev pub is_zero : ℕ → Bool
+is_zero zero = true
+is_zero (suc _) = false
+
+-- one node less deep
+abbrev pub outwards : ℕ → ℕ
+outwards zero = zero
+outwards (suc depth) = depth
+
 -- whether the source of the export list that is open, in field 1, begins here, so many nodes deep
 abbrev pub is_source : ℕ → Item → Bool
-is_source depth (h.Open at head) = nat_eq depth 0 && nat_eq at 1
+is_source depth (h.Open at head) = is_zero depth && nat_eq at 1
 is_source depth _ = false
 
 -- whether the node around ends here
 abbrev pub is_end : ℕ → Item → Bool
-is_end depth h.Close = nat_eq depth 0
+is_end depth h.Close = is_zero depth
 is_end depth _ = false
 
 -- how many nodes deep what follows is
 abbrev pub depth_behind : ℕ → Item → ℕ
-depth_behind depth (h.Open at head) = depth + 1
-depth_behind depth h.Close = depth - 1
+depth_behind depth (h.Open at head) = suc depth
+depth_behind depth h.Close = outwards depth
 depth_behind depth _ = depth
 
 -- whether a source comes in the export list that is open, so many nodes deep

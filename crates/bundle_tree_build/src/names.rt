@@ -1,6 +1,6 @@
 //! Names and literals (ECMA-262, 12.7 and 13.2.3).
 
-ghost use Rattle.std.specs.Prelude.{◌≡◌, ◌∷◌, ◌++◌, [], ℕ, List, Some, None, IfOk, IfErr, length, string_bytes, zero};
+ghost use Rattle.std.specs.Prelude.{◌≡◌, ◌∷◌, ◌++◌, [], ℕ, List, Some, None, IfOk, IfErr, length, string_bytes};
 ghost use Rattle.std.specs.List.{flat_map};
 ghost use Rattle.bundle_tree_piece.specs.Item.{head_of, Item, Open, Close};
 ghost use Rattle.bundle_tree_build.specs.declared.build.BuildError.TheVariants.{Form, OutOfMemory};
@@ -87,11 +87,11 @@ impl<'p, 'a> Builder<'p, 'a> {
         role: Role,
     ) -> Result<BindingIdent, BuildError>
         ensures taken { IfOk result (λ made.
-            after_inside (taken zero) (holds (ABindingIdent role) (head_of node.entry)) self.old ≡ Some self.new) }
+            (room : ℕ) → after_inside (taken room) (holds (ABindingIdent role) (head_of node.entry)) self.old ≡ Some self.new) }
         ensures made { IfOk result (λ made. (field : ℕ) (rest : List Item) →
             self.new ≡ Close ∷ rest → Open field (head_of node.entry) ∷ self.old ≡ binding_ident_items role field made ++ rest) }
         ensures refused { IfErr result (λ why.
-            why ≡ Form → after_inside (taken zero) (holds (ABindingIdent role) (head_of node.entry)) self.old ≡ None) }
+            why ≡ Form → (room : ℕ) → after_inside (taken room) (holds (ABindingIdent role) (head_of node.entry)) self.old ≡ None) }
     {
         match node {
             Node::BindingIdent => {
