@@ -1,0 +1,6 @@
+pub mod Parsing
+pub mod Misplaced
+pub mod Whole
+pub mod Rows
+pub mod Trees
+pub mod Lists
