@@ -1,11 +1,13 @@
--- The data that a value of a text stands for: what `serde_json` reads, with each number taken as one.
-use Rattle.std.specs.Prelude.{List, unwrap_or}
+-- The data that a value of a text stands for: what `serde_json` reads, with a number beyond all floats as the
+-- infinite float.
+use Rattle.std.specs.Prelude.{List, false, unwrap_or}
+use Rattle.std.specs.Float.{inf}
 use Rattle.std.specs.declared.alloc.Global.{Global}
 use Rattle.json.specs.Json as json
 use Rattle.json.specs.Value.{value_view}
 use Rattle.json.specs.Value as of_values
 use Rattle.json.specs.declared.value.Value.{Value}
-use Rattle.serde_json.specs.Data.{Data, null, boolean, number, unsigned, string, array, object, Items, no_items, item, Members, no_members, put}
+use Rattle.serde_json.specs.Data.{Data, null, boolean, number, float, string, array, object, Items, no_items, item, Members, no_members, put}
 use Rattle.serde_json.specs.Read.{number_of}
 
 -- as `of_json`, but for numbers beyond all floats, whose documents are refused
@@ -13,7 +15,7 @@ abbrev mutual
   pub plain : json.Json → Data
   plain json.null = null
   plain (json.boolean b) = boolean b
-  plain (json.number s) = number (unwrap_or (number_of s) (unsigned 0))
+  plain (json.number s) = number (unwrap_or (number_of s) (float (inf false)))
   plain (json.string s) = string s
   plain (json.array js) = array (plain_items js)
   plain (json.object ms) = object (plain_members ms no_members)
