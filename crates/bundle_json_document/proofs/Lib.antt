@@ -4,8 +4,10 @@ mod laid
 mod Lists
 mod Maps
 mod Modules
+mod Numbers
 mod Objects
 mod Parts
+mod Refusals
 mod Results
 mod Turns
 mod Whole

@@ -1,13 +1,10 @@
 -- Two lists that grow by one place each.
-use Rattle.std.proofs.Common.{◌≡◌, ◌+◌, ◌<◌, ℕ, List, [], ◌∷◌, ◌++◌, Option, Some, None, IfSome, unwrap_or, length, take, get_or, map, Global, Vec, Bor, refl, ap, sym, ◌∙◌}
+use Rattle.std.proofs.Common.{◌≡◌, ◌+◌, ◌<◌, ℕ, List, [], ◌∷◌, ◌++◌, Option, Some, length, take, get_or, map, Global, Vec, Bor, refl, ap, sym, ◌∙◌}
 use Rattle.std.proofs.lemmas.List.{take_more, map-append}
 use Rattle.std.specs.List.{AllZip}
-use Rattle.json.specs.Find as find
-use Rattle.json.specs.Json as json
 use Rattle.json.specs.Value.{items_view, members_view}
-use Rattle.serde_json.specs.Data.{Data, null, boolean, number, string, item, array, object, unsigned, no_members}
-use Rattle.serde_json.specs.Find.{as_array, as_number}
-use Rattle.serde_json.specs.Read.{number_of}
+use Rattle.serde_json.specs.Data.{Data, null, boolean, number, string, item, array, object, no_members}
+use Rattle.serde_json.specs.Find.{as_array}
 use Rattle.serde_json.specs.View.{items_of}
 use Rattle.bundle_json_form.specs.Plain.{items_seen, plain, plain_items, plain_members, seen}
 use Rattle.json.specs.declared.value.Value.{Value, Object}
@@ -40,16 +37,6 @@ array_found (number n) list e = absurd (cc)
 array_found (string s) list e = absurd (cc)
 array_found (array ds) list e = let same : items_seen list ≡ ds = (cc) in ap array (sym same ∙ each_seen list)
 array_found (object ms) list e = absurd (cc)
-
--- the number that was found is that of the value
-pub number_found : (j : json.Json) (s : List ℕ) (r : Option ℕ) → Some s ≡ find.as_number j → IfSome r (λ n. number_of s ≡ Some (unsigned n)) → IfSome r (λ n. as_number (plain j) ≡ Some (unsigned n))
-number_found json.null s r e is = absurd (cc)
-number_found (json.boolean b) s r e is = absurd (cc)
-number_found (json.number t) s None e is = is
-number_found (json.number t) s (Some n) e is = let same : s ≡ t = (cc) in ap (λ o. Some (unwrap_or o (unsigned 0))) (ap number_of (sym same) ∙ is)
-number_found (json.string t) s r e is = absurd (cc)
-number_found (json.array js) s r e is = absurd (cc)
-number_found (json.object ms) s r e is = absurd (cc)
 
 pub seen_object : (list : Vec (Bor (List ℕ) × Value Global) Global) → seen (Object list) ≡ object (plain_members (members_view list.items) no_members)
 seen_object list = ap plain (view-Object list)

@@ -1,15 +1,17 @@
 -- What a document is, as a JSON value.
-use Rattle.std.specs.Prelude.{◌≡◌, ℕ, ◌^◌, ◌<◌, ◌⊎◌, List, [], Bool, false, Option, Some, None, IsSome, IsSomeAnd, IsUtf8, codes, flat_map}
+use Rattle.std.specs.Prelude.{◌≡◌, ℕ, ◌^◌, ◌<◌, ◌⊎◌, List, [], Bool, true, false, Option, Some, None, IsSome, IsSomeAnd, IsUtf8, codes, flat_map}
 use Rattle.std.specs.List.{AllZip}
+use Rattle.std.specs.Io.KnownBytes.{Consumes, IsAtEnd}
 use Rattle.std.specs.String.{string_bytes}
 use Rattle.std.specs.declared.alloc.Global.{Global}
 use Rattle.std.specs.declared.string.String.{String}
 use Rattle.std.specs.declared.vec.Vec.{Vec}
+use Rattle.json.specs.Json.{value as next_value}
+use Rattle.json.specs.Lex.{tokens}
 use Rattle.serde_json.specs.Data.{Data, unsigned, string, array, object, item, no_items, no_members}
 use Rattle.serde_json.specs.Find.{get, as_bool, as_number, as_array, as_object}
-use Rattle.serde_json.specs.Read.{read}
+use Rattle.serde_json.specs.Read.{max_depth, read}
 use Rattle.serde_json.specs.View.{items_of, members_of}
-use Rattle.serde_json.specs.Written.{has_float}
 use Rattle.bundle_tree_leaf.specs.declared.kind.ExportMetadata.{ExportMetadata}
 use Rattle.bundle_tree_ast.specs.declared.expr.Expr.{Expr}
 use Rattle.bundle_tree_ast.specs.declared.module.Module.{Module}
@@ -21,13 +23,15 @@ use Rattle.bundle_tree_names.specs.declared.config.Config.{Config}
 use Rattle.bundle_tree_names.specs.declared.config.ModuleType.{ModuleType}
 use Rattle.bundle_tree_names.specs.declared.config.ModuleType.TheVariants.{Es, Iife}
 use Rattle.bundle_tree_names.specs.declared.file_name.FileName.{FileName}
+use Rattle.bundle_json_document.specs.Numbers.{holds_of_read, is_whole}
 use Rattle.bundle_json_document.specs.declared.document.Document.{Document}
 
--- the value of a text: the text is UTF-8 and JSON, and no number in it is a float
+-- the value of a text: the text is UTF-8 and JSON, and each number in it is whole, also where another member of the same
+-- key takes its place
 pub record IsValueOf (text : List ℕ) (d : Data) : Type 0 where
   pub utf8 : IsUtf8 text
   pub json : read text ≡ Some d
-  pub no_float : has_float d ≡ false
+  pub whole : holds_of_read is_whole (next_value max_depth (tokens text)) ≡ true
 
 -- the value is an array, and its items stand one by one for these
 abbrev pub IsList : {X : Type 0} → (Data → X → Type 0) → List X → Data → Type 0
@@ -117,7 +121,17 @@ pub record IsDocumentText (text : List ℕ) (document : Document) (lists : List 
   pub is_document : IsDocument value document
   pub are_lists : AreLists (get (codes "meta") value) lists
 
+-- the text is that of no document, with whatever lists
+abbrev pub IsNoDocumentText : List ℕ → Type 0
+IsNoDocumentText text = (document : Document) (lists : List (String Global × Vec (KeyValueProp Expr) Global)) → ¬ IsDocumentText text document lists
+
+-- what was there to be read is read whole, and it is the text of no document
+abbrev pub HasNoDocument : Option (List ℕ) → Option (List ℕ) → Type 0
+HasNoDocument old new = (text : List ℕ) × Consumes old new text × IsAtEnd new × IsNoDocumentText text
+
 -- the status and the line of an input that cannot be read, of a text that is no document, and of want of memory
-abbrev pub IsRefusalLine : ℕ → List ℕ → Type 0
-IsRefusalLine status line =
-    ((status ≡ 2) × (line ≡ codes "error: input\n")) ⊎ ((status ≡ 2) × (line ≡ codes "error: document\n")) ⊎ ((status ≡ 1) × (line ≡ codes "error 22: OutOfMemory\n"))
+abbrev pub IsRefusalLine : Type 0 → ℕ → List ℕ → Type 0
+IsRefusalLine no_document status line =
+    ((status ≡ 2) × (line ≡ codes "error: input\n"))
+    ⊎ ((status ≡ 2) × (line ≡ codes "error: document\n") × no_document)
+    ⊎ ((status ≡ 1) × (line ≡ codes "error 22: OutOfMemory\n"))

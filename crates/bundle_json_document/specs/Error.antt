@@ -1,4 +1,5 @@
 -- Why a document could not be read, where a part of it could not.
+use Rattle.std.specs.Prelude.{◌≡◌}
 use Rattle.bundle_json_form.specs.declared.error.FormError.{FormError}
 use Rattle.bundle_json_form.specs.declared.error.FormError.TheVariants.{Form as NoForm, OutOfMemory as NoMemory}
 use Rattle.bundle_tree_build.specs.declared.build.BuildError.{BuildError}
@@ -15,3 +16,11 @@ of_form NoMemory = OutOfMemory
 abbrev pub of_list : BuildError → DocumentError
 of_list NoTree = Form
 of_list NoRoom = OutOfMemory
+
+-- where it is not for want of memory, this is the reason
+abbrev pub RefusesFor : Type 0 → DocumentError → Type 0
+RefusesFor reason refusal = refusal ≡ Form → reason
+
+-- nothing is so
+abbrev pub NoneIs : {X : Type 0} → (X → Type 0) → Type 0
+NoneIs {X = X} P = (x : X) → ¬ P x

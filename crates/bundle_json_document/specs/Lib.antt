@@ -2,6 +2,7 @@ pub mod Answer
 pub mod Bundles
 pub mod Document
 pub mod Error
+pub mod Numbers
 pub mod Parties
 pub mod Seen
 pub mod Stream

@@ -1,15 +1,14 @@
 -- What is read from the tokens of a text, while it is read.
-use Rattle.std.specs.Prelude.{◌≡◌, ℕ, List, [], Bool, true, false, not, ◌&&◌, Option, Some, None, IsSomeAnd, codes, flat_map}
+use Rattle.std.specs.Prelude.{◌≡◌, ℕ, List, [], true, Option, Some, None, IsSomeAnd, codes, flat_map}
 use Rattle.std.specs.BTreeMap.{BTreeMap}
 use Rattle.std.specs.declared.alloc.Global.{Global}
 use Rattle.std.specs.declared.string.String.{String}
 use Rattle.std.specs.declared.vec.Vec.{Vec}
 use Rattle.json.specs.Token.{Token}
 use Rattle.json.specs.Json as json
-use Rattle.serde_json.specs.Data.{Num, Data, Members, object, put}
-use Rattle.serde_json.specs.Find.{as_array, get_member, is_float}
-use Rattle.serde_json.specs.Read.{number_of, of_json, converted}
-use Rattle.serde_json.specs.Written.{has_float}
+use Rattle.serde_json.specs.Data.{Data, Members, object, put}
+use Rattle.serde_json.specs.Find.{as_array, get_member}
+use Rattle.serde_json.specs.Read.{of_json, converted}
 use Rattle.bundle_tree_ast.specs.declared.expr.Expr.{Expr}
 use Rattle.bundle_tree_ast.specs.declared.module.Module.{Module}
 use Rattle.bundle_tree_ast.specs.declared.module.ModuleItem.{ModuleItem}
@@ -19,36 +18,14 @@ use Rattle.bundle_json_form.specs.Form.{text_at, top, AreForms}
 use Rattle.bundle_tree_names.specs.declared.config.Config.{Config}
 use Rattle.bundle_tree_names.specs.declared.file_name.FileName.{FileName}
 use Rattle.bundle_json_document.specs.Document.{no_notes, AreLists, AreSettings, IsEntry, IsList, IsMap, IsModule}
+use Rattle.bundle_json_document.specs.Numbers.{holds_of_read, is_whole}
 use Rattle.bundle_json_document.specs.declared.stream.ModuleParts.{ModuleParts}
 use Rattle.bundle_json_document.specs.declared.stream.Parts.{Parts}
 
--- a number that is there and no float
-abbrev pub is_whole_number : Option Num → Bool
-is_whole_number None = false
-is_whole_number (Some n) = not (is_float n)
-
--- no number is a float, nor beyond all floats
-abbrev mutual
-  pub is_whole : json.Json → Bool
-  is_whole json.null = true
-  is_whole (json.boolean b) = true
-  is_whole (json.number s) = is_whole_number (number_of s)
-  is_whole (json.string s) = true
-  is_whole (json.array js) = items_are_whole js
-  is_whole (json.object ms) = members_are_whole ms
-
-  pub items_are_whole : json.Items → Bool
-  items_are_whole json.no_items = true
-  items_are_whole (json.item j js) = is_whole j && items_are_whole js
-
-  pub members_are_whole : json.Members → Bool
-  members_are_whole json.no_members = true
-  members_are_whole (json.member k j ms) = is_whole j && members_are_whole ms
-
--- the tokens `old` are those of the value `d` and then `new`, and no number in it is a float
+-- the tokens `old` are those of the value `d` and then `new`, and each number in it is whole
 pub record IsNext (depth : ℕ) (old new : List Token) (d : Data) : Type 0 where
   pub read : converted of_json (json.value depth old) ≡ Some (d, new)
-  pub no_float : has_float d ≡ false
+  pub whole : holds_of_read is_whole (json.value depth old) ≡ true
 
 -- what is kept of the value under a key: what it stands for, and nothing where there is no value
 abbrev pub IsKept : {X : Type 0} → (Data → X → Type 0) → Option Data → Option X → Type 0

@@ -3,7 +3,8 @@
 ghost use Rattle.std.specs.Prelude.{◌≡◌, ℕ, List, IsUtf8, IfOk, IfErr, OnOk};
 ghost use Rattle.std.specs.Io.KnownBytes.{Consumes, IsAtEnd};
 ghost use Rattle.bundle_json_form.specs.Plain.{seen};
-ghost use Rattle.bundle_json_document.specs.Document.{IsDocumentText, IsRefusalLine, IsValueOf};
+ghost use Rattle.bundle_json_document.specs.Document.{HasNoDocument, IsDocumentText, IsNoDocumentText, IsRefusalLine, IsValueOf};
+ghost use Rattle.bundle_json_document.specs.Error.{NoneIs, RefusesFor};
 ghost use Rattle.bundle_json_document.specs.Parties.{lists_of};
 ghost use Rattle.bundle_json_document.specs.Writing.{AppendsFront};
 
@@ -40,7 +41,7 @@ pub fn read_document<R: Read + Drop, E: Write>(
     ensures no_error { OnOk result (errors.new ≡ errors.old) }
     ensures refused { IfErr result (λ status.
         (line : List ℕ)
-        × IsRefusalLine status line
+        × IsRefusalLine (HasNoDocument (R.remaining input.old) (R.remaining input.new)) status line
         × AppendsFront (E.contents errors.old) (E.contents errors.new) line) }
 {
     let mut text = Vec::new(alloc);
@@ -59,7 +60,8 @@ pub fn read_document<R: Read + Drop, E: Write>(
 
 // The document in a text, and the lists of properties.
 fn judged(alloc: Global, text: &[u8]) -> Result<(Document, Lists), DocumentError>
-    ensures { IfOk result (λ made. IsDocumentText text.now made.0 made.1.entries) }
+    ensures ok { IfOk result (λ made. IsDocumentText text.now made.0 made.1.entries) }
+    ensures refused { IfErr result (RefusesFor (IsNoDocumentText text.now)) }
 {
     match from_utf8(text) {
         Ok(text) => document_in(alloc, text),
@@ -71,7 +73,8 @@ fn judged(alloc: Global, text: &[u8]) -> Result<(Document, Lists), DocumentError
 // last holds, and one before it may be of any form.
 fn document_in(alloc: Global, text: &str) -> Result<(Document, Lists), DocumentError>
     requires { IsUtf8 text.now }
-    ensures { IfOk result (λ made. IsDocumentText text.now made.0 made.1.entries) }
+    ensures ok { IfOk result (λ made. IsDocumentText text.now made.0 made.1.entries) }
+    ensures refused { IfErr result (RefusesFor (IsNoDocumentText text.now)) }
 {
     match streamed(alloc, text) {
         Ok(made) => Ok(made),
@@ -96,7 +99,8 @@ fn streamed(alloc: Global, text: &str) -> Result<(Document, Lists), DocumentErro
 // The document in a text, as one value.
 fn whole(alloc: Global, text: &str) -> Result<(Document, Lists), DocumentError>
     requires { IsUtf8 text.now }
-    ensures { IfOk result (λ made. IsDocumentText text.now made.0 made.1.entries) }
+    ensures ok { IfOk result (λ made. IsDocumentText text.now made.0 made.1.entries) }
+    ensures refused { IfErr result (RefusesFor (IsNoDocumentText text.now)) }
 {
     let notes = ExportMetadata::default();
     let mut scratch = Scratch::new(alloc);
@@ -117,14 +121,15 @@ fn whole(alloc: Global, text: &str) -> Result<(Document, Lists), DocumentError>
     Ok((document, lists))
 }
 
-// The value of a text. Refused where it is no JSON, for a float in it, and for memory.
+// The value of a text. Refused where it is no JSON, for a number in it that is not whole, and for memory.
 fn value_of<'a>(
     alloc: Global,
     text: &'a str,
     scratch: &'a mut Scratch,
 ) -> Result<Value<'a>, DocumentError>
     requires { IsUtf8 text.now }
-    ensures { IfOk result (λ value. IsValueOf text.now (seen value)) }
+    ensures ok { IfOk result (λ value. IsValueOf text.now (seen value)) }
+    ensures refused { IfErr result (RefusesFor (NoneIs (IsValueOf text.now))) }
 {
     let mut reader = Reader::new(text, scratch)?;
     let value = read_value(alloc, &mut reader, 127)?;

@@ -1,9 +1,10 @@
 //! The settings of a document.
 
-ghost use Rattle.std.specs.Prelude.{map, IfOk};
+ghost use Rattle.std.specs.Prelude.{map, IfErr, IfOk};
 ghost use Rattle.std.specs.List.{AllZip};
 ghost use Rattle.bundle_json_form.specs.Plain.{seen};
 ghost use Rattle.bundle_json_document.specs.Document.{AreSettings, AreTexts, IsLimit, IsModuleType, IsText, IsTruth};
+ghost use Rattle.bundle_json_document.specs.Error.{NoneIs, RefusesFor};
 ghost use Rattle.bundle_json_document.specs.Seen.{found};
 
 use crate::error::DocumentError;
@@ -16,7 +17,8 @@ use std::alloc::Global;
 /// The settings in an object, each of which may be left out, and so may the object. Refused where one is
 /// of another form, and for memory.
 pub(crate) fn settings(alloc: Global, value: Option<&Value<'_>>) -> Result<Config, DocumentError>
-    ensures { IfOk result (AreSettings (found value.entry)) }
+    ensures ok { IfOk result (AreSettings (found value.entry)) }
+    ensures refused { IfErr result (RefusesFor (NoneIs (AreSettings (found value.entry)))) }
 {
     let Some(value) = value else {
         return Ok(Config::new(alloc));
@@ -35,7 +37,8 @@ pub(crate) fn settings(alloc: Global, value: Option<&Value<'_>>) -> Result<Confi
 
 // A truth value, or false.
 fn truth(value: Option<&Value<'_>>) -> Result<bool, DocumentError>
-    ensures { IfOk result (IsTruth (found value.entry)) }
+    ensures ok { IfOk result (IsTruth (found value.entry)) }
+    ensures refused { IfErr result (λ _. NoneIs (IsTruth (found value.entry))) }
 {
     match value {
         None => Ok(false),
@@ -45,7 +48,8 @@ fn truth(value: Option<&Value<'_>>) -> Result<bool, DocumentError>
 
 // A list of texts, or an empty one.
 fn texts(alloc: Global, value: Option<&Value<'_>>) -> Result<Vec<String>, DocumentError>
-    ensures { IfOk result (λ texts. AreTexts (found value.entry) texts.items) }
+    ensures ok { IfOk result (λ texts. AreTexts (found value.entry) texts.items) }
+    ensures refused { IfErr result (RefusesFor (NoneIs (AreTexts (found value.entry)))) }
 {
     match value {
         None => Ok(Vec::new(alloc)),
@@ -55,7 +59,9 @@ fn texts(alloc: Global, value: Option<&Value<'_>>) -> Result<Vec<String>, Docume
 
 // The texts that these values are.
 fn texts_in(alloc: Global, values: &[Value<'_>]) -> Result<Vec<String>, DocumentError>
-    ensures { IfOk result (λ texts. AllZip IsText (map seen values.now) texts.items) }
+    ensures ok { IfOk result (λ texts. AllZip IsText (map seen values.now) texts.items) }
+    ensures refused { IfErr result
+        (RefusesFor (NoneIs (AllZip IsText (map seen values.now)))) }
 {
     let mut texts = Vec::new(alloc);
     for value in values {
@@ -67,7 +73,8 @@ fn texts_in(alloc: Global, values: &[Value<'_>]) -> Result<Vec<String>, Document
 
 // What a bundle is written as, an ES module where nothing is said.
 fn module_type(value: Option<&Value<'_>>) -> Result<ModuleType, DocumentError>
-    ensures { IfOk result (IsModuleType (found value.entry)) }
+    ensures ok { IfOk result (IsModuleType (found value.entry)) }
+    ensures refused { IfErr result (λ _. NoneIs (IsModuleType (found value.entry))) }
 {
     match value {
         None => Ok(ModuleType::Es),
@@ -82,7 +89,8 @@ fn module_type(value: Option<&Value<'_>>) -> Result<ModuleType, DocumentError>
 
 // How many modules a bundle may have, as many as there can be where nothing is said.
 fn limit(value: Option<&Value<'_>>) -> Result<u32, DocumentError>
-    ensures { IfOk result (IsLimit (found value.entry)) }
+    ensures ok { IfOk result (IsLimit (found value.entry)) }
+    ensures refused { IfErr result (λ _. NoneIs (IsLimit (found value.entry))) }
 {
     let Some(value) = value else {
         return Ok(u32::MAX);

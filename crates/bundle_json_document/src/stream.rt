@@ -4,7 +4,7 @@
 //! stands in memory as a value. Of equal keys the last holds; one that is of another form is refused here,
 //! also where a later one takes its place.
 
-ghost use Rattle.std.specs.Prelude.{◌≡◌, ◌<◌, [], ◌∷◌, ◌++◌, length, map, IfOk, OnOk, Option, Some, option_map, codes};
+ghost use Rattle.std.specs.Prelude.{◌≡◌, ◌≢◌, ◌<◌, [], ◌∷◌, ◌++◌, length, List, map, IfErr, IfOk, OnErr, OnOk, Option, Some, option_map, codes};
 ghost use Rattle.std.specs.List.{flat_map};
 ghost use Rattle.json.specs.Json.{read_key};
 ghost use Rattle.json.specs.Token.{Token as SpecToken};
@@ -15,6 +15,7 @@ ghost use Rattle.bundle_json_form.specs.Plain.{seen};
 ghost use Rattle.bundle_tree_piece.specs.Item.{Close, Open, item_of, Module as module_head};
 ghost use Rattle.bundle_tree_listed.specs.Tree.{module_item_items};
 ghost use Rattle.bundle_json_document.specs.Document.{no_notes, AreLists, AreSettings, IsDocument, IsMap, IsModule};
+ghost use Rattle.bundle_json_document.specs.Error.{NoneIs, RefusesFor};
 ghost use Rattle.bundle_json_document.specs.Stream.{AreItems, AreListsIn, AreParts, AreSettingsIn, IsKept, IsNext, KeepsMember, KeepsModuleMember};
 
 use crate::document::Document;
@@ -181,7 +182,7 @@ fn given<T: Drop>(part: Option<T>) -> Result<T, DocumentError>
 }
 
 /// The parts of a document, whose value comes next; `notes` is what is noted on what is handed in. Refused
-/// where it is no document, for a float in it, and for memory.
+/// where it is no document, for a number in it that is not whole, and for memory.
 pub(crate) fn read_parts<'a>(
     alloc: Global,
     reader: &mut Reader<'a>,
@@ -204,13 +205,15 @@ pub(crate) fn read_parts<'a>(
     Ok(parts)
 }
 
-/// The next value. Refused where there is none, for a float in it, and for memory.
+/// The next value. Refused where there is none, for a number in it that is not whole, and for memory.
 pub(crate) fn read_value<'a>(
     alloc: Global,
     reader: &mut Reader<'a>,
     depth: usize,
 ) -> Result<Value<'a>, DocumentError>
     ensures ok { IfOk result (λ value. IsNext depth reader.old reader.new (seen value)) }
+    ensures refused { IfErr result
+        (RefusesFor ((rest : List SpecToken) → NoneIs (IsNext depth reader.old rest))) }
     ensures shorter { OnOk result (length reader.new < length reader.old) }
 {
     let value = match Value::read(alloc, reader, depth) {
@@ -419,7 +422,8 @@ fn open_array(reader: &mut Reader<'_>) -> Result<(), DocumentError>
 
 /// Nothing more comes. Refused where something does.
 pub(crate) fn end(reader: &mut Reader<'_>) -> Result<(), DocumentError>
-    ensures { OnOk result (reader.old ≡ []) }
+    ensures ok { OnOk result (reader.old ≡ []) }
+    ensures refused { OnErr result (reader.old ≢ []) }
 {
     match reader.next() {
         None => Ok(()),

@@ -6,5 +6,5 @@ use Rattle.bundle_json_document.proofs.read.judged.Goals as goal
 pub document_in-requires : goal.document_in-requires
 document_in-requires c = subst IsUtf8 (sym c.in-Ok.ensures.cases.0) c.in-Ok.ensures.cases.1
 
-pub returns-in-Ok : goal.returns-in-Ok
-returns-in-Ok c = subst (λ text. IfOk c.document_in.result (λ made. IsDocumentText text made.0 made.1.entries)) c.in-Ok.ensures.cases.0 c.document_in.ensures
+pub returns-in-Ok-clause-ok : goal.returns-in-Ok-clause-ok
+returns-in-Ok-clause-ok c = subst (λ text. IfOk c.document_in.result (λ made. IsDocumentText text made.0 made.1.entries)) c.in-Ok.ensures.cases.0 c.document_in.ensures.ok

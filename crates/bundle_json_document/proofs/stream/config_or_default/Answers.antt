@@ -8,4 +8,4 @@ pub returns-in-Some : goal.returns-in-Some
 returns-in-Some c = λ d kept. config_given d c.in-Some.config (subst (IsKept AreSettingsIn d) c.in-Some.is kept)
 
 pub returns-in-None : goal.returns-in-None
-returns-in-None c = if_ok_weaker _ _ c.settings.result (λ config are d kept. config_left_out d config are (subst (IsKept AreSettingsIn d) c.in-None.is kept)) c.settings.ensures
+returns-in-None c = if_ok_weaker _ _ c.settings.result (λ config are d kept. config_left_out d config are (subst (IsKept AreSettingsIn d) c.in-None.is kept)) c.settings.ensures.ok

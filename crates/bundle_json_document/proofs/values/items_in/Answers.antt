@@ -3,5 +3,5 @@ use Rattle.bundle_json_form.specs.Plain.{items_seen, seen}
 use Rattle.bundle_json_document.proofs.Lists.{array_found}
 use Rattle.bundle_json_document.proofs.values.items_in.Goals as goal
 
-pub returns-in-Some : goal.returns-in-Some
-returns-in-Some c = array_found (seen c.args.value.now) c.in-Some.items.now (sym (ap (option_map (λ list. items_seen list.now)) c.in-Some.is) ∙ c.items.ensures)
+pub returns-in-Some-clause-ok : goal.returns-in-Some-clause-ok
+returns-in-Some-clause-ok c = array_found (seen c.args.value.now) c.in-Some.items.now (sym (ap (option_map (λ list. items_seen list.now)) c.in-Some.is) ∙ c.items.ensures)

@@ -15,8 +15,8 @@ loop-member-preserved c =
     let l = c.loop-member in
     last_turn c.args.all.now l.member-index c.member-item.result l.members.entries c.insert.new.self.entries _ (omega arith) c.member-item.is l.invariant refl c.in_ok-insert.ensures.entries
 
-pub returns : goal.returns
-returns c =
+pub returns-clause-ok : goal.returns-clause-ok
+returns-clause-ok c =
     let l = c.loop-member in
     let all : take l.member-index c.args.all.now ≡ c.args.all.now = take_all l.member-index c.args.all.now (omega arith) in
     l.invariant ∙ ap (λ them. plain_members (members_view them) no_members) all
