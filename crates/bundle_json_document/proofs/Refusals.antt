@@ -1,5 +1,5 @@
 -- What is refused is no document.
-use Rattle.std.proofs.Common.{◌≡◌, ◌≢◌, ℕ, zero, suc, ◌<◌, List, [], ◌∷◌, ◌++◌, length, get_or, map, true, false, Option, Some, None, IsSomeAnd, ◌⊎◌, inl, inr, codes, flat_map, option_and_then, option_map, unwrap_or, string_bytes, refl, sym, ap, ◌∙◌, subst, arith, true≢false}
+use Rattle.std.proofs.Common.{◌≡◌, ℕ, zero, suc, ◌<◌, List, [], ◌∷◌, ◌++◌, length, get_or, map, false, Option, Some, None, IsSomeAnd, ◌⊎◌, inl, inr, codes, flat_map, option_and_then, unwrap_or, refl, sym, ap, ◌∙◌, subst, arith, true≢false}
 use Rattle.std.specs.List.{AllZip}
 use Rattle.std.specs.declared.alloc.Global.{Global}
 use Rattle.std.specs.declared.string.String.{String}
@@ -43,16 +43,12 @@ pub not_whole : (depth : ℕ) (ts r rest : List Token) (j : json.Json) (d : Data
 not_whole depth ts r rest j d is not next =
     true≢false (sym next.whole ∙ ap (holds_of_read is_whole) is ∙ not)
 
--- no value
-pub not_next : (depth : ℕ) (ts rest : List Token) (d : Data) → json.value depth ts ≡ None → ¬ IsNext depth ts rest d
-not_next depth ts rest d none next = let e = ap (converted of_json) none in let h = next.read in absurd (cc)
-
 -- the value of a text is the next one of its tokens, and no token comes behind it
 next_at : (o : Option (json.Json × List Token)) (d : Data)
     → option_and_then of_json (option_and_then (λ p. json.if_last p.0 p.1) o) ≡ Some d → converted of_json o ≡ Some (d, [])
 next_at None d e = absurd (cc)
-next_at (Some (j , [])) d e = rw e refl
-next_at (Some (j , t ∷ ts)) d e = absurd (cc)
+next_at (Some (j, [])) d e = rw e refl
+next_at (Some (j, t ∷ ts)) d e = absurd (cc)
 
 pub next_of : (text : List ℕ) (d : Data) → IsValueOf text d → IsNext 127 (tokens text) [] d
 next_of text d value = record {

@@ -1,7 +1,7 @@
 -- A value whose numbers are whole, read as data.
 use Rattle.std.proofs.Common.{◌≡◌, ℕ, List, Bool, true, false, ◌&&◌, Option, Some, None, option_map, refl, sym, ap, true≢false}
 use Rattle.json.specs.Json as json
-use Rattle.serde_json.specs.Data.{Num, Data, array, object, Members, no_members, put}
+use Rattle.serde_json.specs.Data.{Num, array, object, Members, no_members, put}
 use Rattle.serde_json.specs.Read.{of_json, of_items, of_members, number_of}
 use Rattle.bundle_json_form.specs.Plain.{plain, plain_items, plain_members}
 use Rattle.bundle_json_document.specs.Numbers.{is_whole, is_whole_number, items_are_whole, members_are_whole}
