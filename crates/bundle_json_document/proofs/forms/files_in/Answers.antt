@@ -21,7 +21,7 @@ returns-clause-ok c =
 pub returns-in_err-made-clause-refused : goal.returns-in_err-made-clause-refused
 returns-in_err-made-clause-refused c =
     let l = c.loop-name in
-    handed_on _ _ c.from_residual-in_err-made.ensures.1
+    handed_on _ _ c.from_residual.ensures.1
     (none_mapped IsModule c.args.members.now.entries l.invariant.0 l.name-iterator c.next.new.self
     (c.in-Some.name.now, c.in-Some.value.now) l.invariant.1 c.in-Some.ensures.steps)
     c.in_err-made.ensures.refused

@@ -16,7 +16,7 @@ returns-clause-ok c =
 
 pub returns-in_err-pieces-clause-refused : goal.returns-in_err-pieces-clause-refused
 returns-in_err-pieces-clause-refused c =
-    handed_on _ _ c.from_residual-in_err-pieces.ensures.1 (λ none. none)
+    handed_on _ _ c.from_residual.ensures.1 (λ none. none)
     (no_form _ (λ none it is. none (module_items 0 it)
     (subst (λ notes. IsForm notes top (seen c.args.value.now) (module_items 0 it)) (sym c.requires) is))
     c.in_err-pieces.ensures.refused)

@@ -19,7 +19,7 @@ returns-clause-ok c =
 pub returns-in_err-pieces-clause-refused : goal.returns-in_err-pieces-clause-refused
 returns-in_err-pieces-clause-refused c =
     let d = seen c.args.value.now in
-    handed_on _ _ c.from_residual-in_err-pieces.ensures.1 (λ none. none)
+    handed_on _ _ c.from_residual.ensures.1 (λ none. none)
     (no_form _ (λ none them are. none (flat_map (key_value_prop_items 0) them.items)
     (subst (λ notes. IsSomeAnd (as_array d) (λ ds. AreForms notes top ds (flat_map (key_value_prop_items 0) them.items)))
     (sym c.requires) are))
