@@ -3,7 +3,7 @@
 ghost use Rattle.std.specs.Prelude.{◌≡◌, ℕ, List, IsUtf8, IfOk, IfErr, OnOk};
 ghost use Rattle.std.specs.Io.KnownBytes.{Consumes, IsAtEnd};
 ghost use Rattle.bundle_json_form.specs.Plain.{seen};
-ghost use Rattle.bundle_json_document.specs.Document.{IsDocumentText, IsRefusalLine, IsValueOf};
+ghost use Rattle.bundle_json_document.specs.Document.{HasNoDocument, IsDocumentText, IsNoDocumentText, IsRefusalLine, IsValueOf};
 ghost use Rattle.bundle_json_document.specs.Error.{NoneIs, RefusesFor};
 ghost use Rattle.bundle_json_document.specs.Parties.{lists_of};
 ghost use Rattle.bundle_json_document.specs.Writing.{AppendsFront};
@@ -41,7 +41,7 @@ pub fn read_document<R: Read + Drop, E: Write>(
     ensures no_error { OnOk result (errors.new ≡ errors.old) }
     ensures refused { IfErr result (λ status.
         (line : List ℕ)
-        × IsRefusalLine status line
+        × IsRefusalLine (HasNoDocument (R.remaining input.old) (R.remaining input.new)) status line
         × AppendsFront (E.contents errors.old) (E.contents errors.new) line) }
 {
     let mut text = Vec::new(alloc);
@@ -60,7 +60,8 @@ pub fn read_document<R: Read + Drop, E: Write>(
 
 // The document in a text, and the lists of properties.
 fn judged(alloc: Global, text: &[u8]) -> Result<(Document, Lists), DocumentError>
-    ensures { IfOk result (λ made. IsDocumentText text.now made.0 made.1.entries) }
+    ensures ok { IfOk result (λ made. IsDocumentText text.now made.0 made.1.entries) }
+    ensures refused { IfErr result (RefusesFor (IsNoDocumentText text.now)) }
 {
     match from_utf8(text) {
         Ok(text) => document_in(alloc, text),
@@ -72,7 +73,8 @@ fn judged(alloc: Global, text: &[u8]) -> Result<(Document, Lists), DocumentError
 // last holds, and one before it may be of any form.
 fn document_in(alloc: Global, text: &str) -> Result<(Document, Lists), DocumentError>
     requires { IsUtf8 text.now }
-    ensures { IfOk result (λ made. IsDocumentText text.now made.0 made.1.entries) }
+    ensures ok { IfOk result (λ made. IsDocumentText text.now made.0 made.1.entries) }
+    ensures refused { IfErr result (RefusesFor (IsNoDocumentText text.now)) }
 {
     match streamed(alloc, text) {
         Ok(made) => Ok(made),
@@ -97,7 +99,8 @@ fn streamed(alloc: Global, text: &str) -> Result<(Document, Lists), DocumentErro
 // The document in a text, as one value.
 fn whole(alloc: Global, text: &str) -> Result<(Document, Lists), DocumentError>
     requires { IsUtf8 text.now }
-    ensures { IfOk result (λ made. IsDocumentText text.now made.0 made.1.entries) }
+    ensures ok { IfOk result (λ made. IsDocumentText text.now made.0 made.1.entries) }
+    ensures refused { IfErr result (RefusesFor (IsNoDocumentText text.now)) }
 {
     let notes = ExportMetadata::default();
     let mut scratch = Scratch::new(alloc);
