@@ -20,6 +20,7 @@ use Rattle.bundle_json_form.specs.declared.error.FormError.TheVariants.{Form as 
 use Rattle.bundle_tree_ast.specs.declared.expr.Expr.{Expr}
 use Rattle.bundle_tree_ast.specs.declared.module.Module.{Module}
 use Rattle.bundle_tree_ast.specs.declared.prop.KeyValueProp.{KeyValueProp}
+use Rattle.bundle_tree_build.specs.Refused.{IsListOfNoModule, IsListOfNoProperties}
 use Rattle.bundle_tree_build.specs.declared.build.BuildError.{BuildError}
 use Rattle.bundle_tree_build.specs.declared.build.BuildError.TheVariants.{Form as NoTree, OutOfMemory as NoRoom}
 use Rattle.bundle_tree_listed.specs.Tree.{key_value_prop_items, module_items}
@@ -189,17 +190,16 @@ no_form NoForm f (inr reason) is = f reason
 no_form NoMemory f why is = absurd (cc)
 
 -- a list of which nothing is built
-pub no_tree : {P Q : Type 0} (refusal : BuildError) → (P → Q) → (refusal ≡ NoRoom) ⊎ P → RefusesFor Q (of_list refusal)
-no_tree NoTree f (inl memory) is = absurd (cc)
-no_tree NoTree f (inr reason) is = f reason
+pub no_tree : {P Q : Type 0} (refusal : BuildError) → (P → Q) → (refusal ≡ NoTree → P) → RefusesFor Q (of_list refusal)
+no_tree NoTree f why is = f (why refl)
 no_tree NoRoom f why is = absurd (cc)
 
 -- the one list that is read of a value is the list of no module
 pub no_module : (d : Data) (list : List Item) → ((other : List Item) → IsForm no_notes top d other → other ≡ list)
-    → ((it : Module) → ¬ (module_items 0 it ≡ list)) → NoneIs (IsModule d)
+    → IsListOfNoModule list → NoneIs (IsModule d)
 no_module d list only none = λ it is. none it (only (module_items 0 it) is)
 
 pub no_properties : (d : Data) (list : List Item)
     → ((other : List Item) → IsSomeAnd (as_array d) (λ ds. AreForms no_notes top ds other) → other ≡ list)
-    → ((them : List (KeyValueProp Expr)) → ¬ (flat_map (key_value_prop_items 0) them ≡ list)) → NoneIs (AreProperties d)
+    → IsListOfNoProperties list → NoneIs (AreProperties d)
 no_properties d list only none = λ them are. none them.items (only (flat_map (key_value_prop_items 0) them.items) are)

@@ -11,7 +11,7 @@ use Rattle.bundle_json_document.proofs.forms.module_in.Goals as goal
 pub returns-clause-ok : goal.returns-clause-ok
 returns-clause-ok c =
     let d = seen c.args.value.now in
-    let listed : module_items 0 c.in_ok-made.made ≡ map item_of c.in_ok-pieces.pieces.items = c.in_ok-made.ensures ∙ ap (map item_of) c.as_slice.ensures.value in
+    let listed : module_items 0 c.in_ok-made.made ≡ map item_of c.in_ok-pieces.pieces.items = c.in_ok-made.ensures.made ∙ ap (map item_of) c.as_slice.ensures.value in
     subst (IsForm no_notes top d) (sym listed) (subst (λ notes. IsForm notes top d (map item_of c.in_ok-pieces.pieces.items)) c.requires c.in_ok-pieces.ensures.read)
 
 pub returns-in_err-pieces-clause-refused : goal.returns-in_err-pieces-clause-refused

@@ -12,7 +12,7 @@ use Rattle.bundle_json_document.proofs.forms.properties_in.Goals as goal
 pub returns-clause-ok : goal.returns-clause-ok
 returns-clause-ok c =
     let d = seen c.args.value.now in
-    let listed : flat_map (key_value_prop_items 0) c.in_ok-made.made.items ≡ map item_of c.in_ok-pieces.pieces.items = c.in_ok-made.ensures ∙ ap (map item_of) c.as_slice.ensures.value in
+    let listed : flat_map (key_value_prop_items 0) c.in_ok-made.made.items ≡ map item_of c.in_ok-pieces.pieces.items = c.in_ok-made.ensures.made ∙ ap (map item_of) c.as_slice.ensures.value in
     subst (λ list. IsSomeAnd (as_array d) (λ ds. AreForms no_notes top ds list)) (sym listed)
     (subst (λ notes. IsSomeAnd (as_array d) (λ ds. AreForms notes top ds (map item_of c.in_ok-pieces.pieces.items))) c.requires c.in_ok-pieces.ensures.read)
 
