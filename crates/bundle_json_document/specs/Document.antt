@@ -129,9 +129,10 @@ IsNoDocumentText text = (document : Document) (lists : List (String Global × Ve
 abbrev pub HasNoDocument : Option (List ℕ) → Option (List ℕ) → Type 0
 HasNoDocument old new = (text : List ℕ) × Consumes old new text × IsAtEnd new × IsNoDocumentText text
 
--- the status and the line of an input that cannot be read, of a text that is no document, and of want of memory
-abbrev pub IsRefusalLine : Type 0 → ℕ → List ℕ → Type 0
-IsRefusalLine no_document status line =
-    ((status ≡ 2) × (line ≡ codes "error: input\n"))
+-- the status and the line of an input that cannot be read, where reading may fail, of a text that is no document, and of
+-- want of memory
+abbrev pub IsRefusalLine : Type 0 → Type 0 → ℕ → List ℕ → Type 0
+IsRefusalLine may_fail no_document status line =
+    ((status ≡ 2) × (line ≡ codes "error: input\n") × may_fail)
     ⊎ ((status ≡ 2) × (line ≡ codes "error: document\n") × no_document)
     ⊎ ((status ≡ 1) × (line ≡ codes "error 22: OutOfMemory\n"))

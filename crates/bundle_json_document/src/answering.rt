@@ -4,24 +4,23 @@ ghost use Rattle.std.specs.Prelude.{◌≡◌, ◌≢◌, ◌⊎◌, ℕ, List, 
 ghost use Rattle.std.specs.Io.KnownBytes.{Appends};
 ghost use Rattle.bundle_tree_names.specs.declared.error.Error.{Error};
 ghost use Rattle.bundle_json_document.specs.Answer.{line_of as line_in, IsAnswer, IsRefusal};
-ghost use Rattle.bundle_json_document.specs.Writing.{AppendsFront};
+ghost use Rattle.bundle_json_document.specs.Writing.{AppendsFront, AppendsOrFails};
 
 use crate::document::Document;
+use crate::output::{Output, refuse};
 use crate::parties::{DocumentLoader, DocumentResolver};
 use crate::text::bundles_text;
-use crate::writing::{refuse, write_line};
 use bundle_tree::hook::Hook;
 use bundle_tree_names::error::Error;
 use bundler_call::Bundler;
 use std::alloc::{AllocError, Global};
-use std::io::Write;
 
 /// Bundles what a document asks for and writes the text of the bundles, with a line feed behind it.
 ///
 /// The status is 0 where all of it is written, and then nothing is said on `errors`; 1 for a refusal,
 /// of which one line is written on `errors`, its number and its name, and nothing on `output`; and 3 where
-/// `output` fails, without a word. Of a text that a writer does not take whole a front is written.
-pub fn answer<W: Write, E: Write>(
+/// `output` fails, without a word. Of a text that an output does not take whole a front is written.
+pub fn answer<W: Output, E: Output>(
     alloc: Global,
     document: Document,
     hook: Box<dyn Hook>,
@@ -33,6 +32,7 @@ pub fn answer<W: Write, E: Write>(
         (text : List ℕ)
         × IsAnswer (may_give hook) (may_fail_hook hook) document text
         × Appends (W.contents output.old) (W.contents output.new) (text ++ codes "\n") }
+    ensures fails { result ≡ 3 → W.may_fail_write output.old }
     ensures cut_off { result ≡ 3 →
         (text : List ℕ)
         × IsAnswer (may_give hook) (may_fail_hook hook) document text
@@ -40,13 +40,14 @@ pub fn answer<W: Write, E: Write>(
     ensures refused { result ≡ 1 →
         (refusal : Error)
         × IsRefusal (may_give hook) (may_fail_hook hook) document refusal
-        × AppendsFront (E.contents errors.old) (E.contents errors.new) (line_in refusal) }
+        × AppendsOrFails (E.may_fail_write errors.old) (E.contents errors.old)
+            (E.contents errors.new) (line_in refusal) }
     ensures no_output { result ≡ 1 → output.new ≡ output.old }
     ensures no_error { result ≢ 1 → errors.new ≡ errors.old }
 {
     match answer_text(alloc, document, hook) {
         Ok(text) => {
-            if write_line(output, text.as_bytes()) {
+            if output.write_line(text.as_bytes()) {
                 0
             } else {
                 3
@@ -57,12 +58,13 @@ pub fn answer<W: Write, E: Write>(
 }
 
 // Writes the line of a refusal, or of the want of memory for that line. The status is 1.
-fn report<E: Write>(alloc: Global, refusal: &Error, errors: &mut E) -> u8
+fn report<E: Output>(alloc: Global, refusal: &Error, errors: &mut E) -> u8
     ensures status { result ≡ 1 }
-    ensures line { (AppendsFront (E.contents errors.old) (E.contents errors.new)
-        (line_in refusal.now))
+    ensures line { (AppendsOrFails (E.may_fail_write errors.old) (E.contents errors.old)
+        (E.contents errors.new) (line_in refusal.now))
         ⊎
-        (AppendsFront (E.contents errors.old) (E.contents errors.new) (line_in Error.OutOfMemory)) }
+        (AppendsOrFails (E.may_fail_write errors.old) (E.contents errors.old)
+        (E.contents errors.new) (line_in Error.OutOfMemory)) }
 {
     match line_of(alloc, refusal) {
         Ok(line) => refuse(errors, line.as_bytes(), 1),

@@ -5,6 +5,8 @@ mod answering;
 mod document;
 mod error;
 mod forms;
+mod input;
+mod output;
 mod parties;
 mod read;
 mod settings;
@@ -15,6 +17,8 @@ mod writing;
 
 pub use answering::answer;
 pub use document::Document;
+pub use input::{Input, InputError};
+pub use output::Output;
 pub use parties::MetaHook;
 pub use read::read_document;
 pub use text::bundles_text;

@@ -6,21 +6,21 @@ ghost use Rattle.bundle_json_form.specs.Plain.{seen};
 ghost use Rattle.bundle_json_document.specs.Document.{HasNoDocument, IsDocumentText, IsNoDocumentText, IsRefusalLine, IsValueOf};
 ghost use Rattle.bundle_json_document.specs.Error.{NoneIs, RefusesFor};
 ghost use Rattle.bundle_json_document.specs.Parties.{lists_of};
-ghost use Rattle.bundle_json_document.specs.Writing.{AppendsFront};
+ghost use Rattle.bundle_json_document.specs.Writing.{AppendsOrFails};
 
 use crate::document::Document;
 use crate::error::DocumentError;
 use crate::forms::{Lists, entries, files, lists};
+use crate::input::{Input, InputError};
+use crate::output::{Output, refuse};
 use crate::parties::MetaHook;
 use crate::settings::settings;
 use crate::stream::{end, read_parts, read_value};
-use crate::writing::refuse;
 use bundle_json_form::seen::get;
 use bundle_tree_ast::ExportMetadata;
 use json::{Reader, Scratch, Value};
 use simdutf8::compat::from_utf8;
 use std::alloc::Global;
-use std::io::{ErrorKind, Read, Write};
 
 /// Reads the whole input, and then the document in it, with the properties of `import.meta` that it
 /// lists.
@@ -28,7 +28,7 @@ use std::io::{ErrorKind, Read, Write};
 /// Refused with the status 2 for an input that cannot be read and for a text that is no document, and
 /// with 1 for want of memory, each with its line on `errors`. Of a line that `errors` does not take whole
 /// a front is written.
-pub fn read_document<R: Read + Drop, E: Write>(
+pub fn read_document<R: Input, E: Output>(
     alloc: Global,
     input: &mut R,
     errors: &mut E,
@@ -41,16 +41,18 @@ pub fn read_document<R: Read + Drop, E: Write>(
     ensures no_error { OnOk result (errors.new ≡ errors.old) }
     ensures refused { IfErr result (λ status.
         (line : List ℕ)
-        × IsRefusalLine (HasNoDocument (R.remaining input.old) (R.remaining input.new)) status line
-        × AppendsFront (E.contents errors.old) (E.contents errors.new) line) }
+        × IsRefusalLine (R.may_fail_read input.old)
+            (HasNoDocument (R.remaining input.old) (R.remaining input.new)) status line
+        × AppendsOrFails (E.may_fail_write errors.old) (E.contents errors.old)
+            (E.contents errors.new) line) }
 {
-    let mut text = Vec::new(alloc);
-    if let Err(error) = input.read_to_end(&mut text) {
-        return Err(match error.kind() {
-            ErrorKind::OutOfMemory => refuse(errors, b"error 22: OutOfMemory\n", 1),
-            _ => refuse(errors, b"error: input\n", 2),
-        });
-    }
+    let text = match input.read_whole(alloc) {
+        Ok(text) => text,
+        Err(InputError::Failed) => return Err(refuse(errors, b"error: input\n", 2)),
+        Err(InputError::OutOfMemory) => {
+            return Err(refuse(errors, b"error 22: OutOfMemory\n", 1));
+        }
+    };
     match judged(alloc, text.as_slice()) {
         Ok((document, lists)) => Ok((document, MetaHook::new(lists))),
         Err(DocumentError::Form) => Err(refuse(errors, b"error: document\n", 2)),

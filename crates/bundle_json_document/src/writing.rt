@@ -6,15 +6,6 @@ ghost use Rattle.bundle_json_document.specs.Writing.{AppendsFront};
 
 use std::io::{ErrorKind, Write};
 
-/// Writes a refusal and gives its status, which a failed write does not change.
-pub(crate) fn refuse<E: Write>(errors: &mut E, line: &[u8], status: u8) -> u8
-    ensures status { result ≡ status }
-    ensures line { AppendsFront (E.contents errors.old) (E.contents errors.new) line.now }
-{
-    let _is_written = write_text(errors, line);
-    status
-}
-
 /// Writes the text and a line feed, and sees to it that they reach their place. False where the writer
 /// fails.
 pub(crate) fn write_line<W: Write>(output: &mut W, text: &[u8]) -> bool
@@ -30,8 +21,8 @@ pub(crate) fn write_line<W: Write>(output: &mut W, text: &[u8]) -> bool
     output.flush().is_ok() && is_written
 }
 
-// Writes the text. False where the writer fails.
-fn write_text<W: Write>(writer: &mut W, text: &[u8]) -> bool
+/// Writes the text. False where the writer fails.
+pub(crate) fn write_text<W: Write>(writer: &mut W, text: &[u8]) -> bool
     ensures whole { IsTrue result →
         Appends (W.contents writer.old) (W.contents writer.new) text.now }
     ensures front { AppendsFront (W.contents writer.old) (W.contents writer.new) text.now }

@@ -1,4 +1,5 @@
-use Rattle.std.proofs.Common.{◌⊎◌, Bool, List, inl, inr}
+use Rattle.std.proofs.Common.{◌⊎◌, ◌++◌, Bool, List, codes, inl, inr, string_bytes, subst}
+use Rattle.std.specs.Io.KnownBytes.{Appends}
 use Rattle.bundle_tree_ast.specs.declared.expr.Expr.{Expr}
 use Rattle.bundle_tree_ast.specs.declared.prop.KeyValueProp.{KeyValueProp}
 use Rattle.bundle_tree_names.specs.FileName.{Name}
@@ -16,3 +17,13 @@ the_one may_give may_fail_hook document refusal right (inr line) = (OutOfMemory,
 
 pub returns-clause-refused : goal.returns-clause-refused
 returns-clause-refused g c = λ _. the_one _ _ c.args.document c.in-Err.refusal c.in-Err.ensures.refused c.report.ensures.line
+
+pub returns-then-write_line-clause-written : goal.returns-then-write_line-clause-written
+returns-then-write_line-clause-written g c = λ _. (
+  string_bytes c.in-Ok.text,
+  c.in-Ok.ensures.made,
+  subst
+  (λ it. Appends (g.W.Output.contents c.args.output.now) (g.W.Output.contents c.write_line.new.self) (it ++ codes "\n"))
+  c.as_bytes.ensures.value
+  (c.write_line.ensures.whole c.if-write_line.true),
+)
