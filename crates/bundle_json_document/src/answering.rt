@@ -41,7 +41,7 @@ pub fn answer<W: Output, E: Output>(
         (refusal : Error)
         × IsRefusal (may_give hook) (may_fail_hook hook) document refusal
         × AppendsOrFails (E.may_fail_write errors.old) (E.contents errors.old)
-            (E.contents errors.new) (line_in refusal) }
+        (E.contents errors.new) (line_in refusal) }
     ensures no_output { result ≡ 1 → output.new ≡ output.old }
     ensures no_error { result ≢ 1 → errors.new ≡ errors.old }
 {

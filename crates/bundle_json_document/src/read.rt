@@ -42,9 +42,9 @@ pub fn read_document<R: Input, E: Output>(
     ensures refused { IfErr result (λ status.
         (line : List ℕ)
         × IsRefusalLine (R.may_fail_read input.old)
-            (HasNoDocument (R.remaining input.old) (R.remaining input.new)) status line
+        (HasNoDocument (R.remaining input.old) (R.remaining input.new)) status line
         × AppendsOrFails (E.may_fail_write errors.old) (E.contents errors.old)
-            (E.contents errors.new) line) }
+        (E.contents errors.new) line) }
 {
     let text = match input.read_whole(alloc) {
         Ok(text) => text,

@@ -23,7 +23,7 @@ returns-then-write_line-clause-written g c = λ _. (
   string_bytes c.in-Ok.text,
   c.in-Ok.ensures.made,
   subst
-  (λ it. Appends (g.W.Output.contents c.args.output.now) (g.W.Output.contents c.write_line.new.self) (it ++ codes "\n"))
-  c.as_bytes.ensures.value
-  (c.write_line.ensures.whole c.if-write_line.true),
+      (λ it. Appends (g.W.Output.contents c.args.output.now) (g.W.Output.contents c.write_line.new.self) (it ++ codes "\n"))
+      c.as_bytes.ensures.value
+      (c.write_line.ensures.whole c.if-write_line.true),
 )
