@@ -147,11 +147,7 @@ impl<'p, 'a> Builder<'p, 'a> {
 
     #[cycle(build)]
     #[tactic(auto, using(crate::proofs::Parsing::building))]
-    fn each_class_member(
-        &mut self,
-        room: usize,
-        field: u8,
-    ) -> Result<Vec<ClassMember>, BuildError>
+    fn each_class_member(&mut self, room: usize, field: u8) -> Result<Vec<ClassMember>, BuildError>
         ensures taken { IfOk result (λ made.
             after_each (taken room AClassMember field) field (length self.old) self.old ≡ Some self.new) }
         ensures made { IfOk result (λ made.

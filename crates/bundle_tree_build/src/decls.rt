@@ -53,11 +53,7 @@ impl<'p, 'a> Builder<'p, 'a> {
 
     #[cycle(build)]
     #[tactic(auto, using(crate::proofs::Parsing::building))]
-    pub(crate) fn var_decl_of(
-        &mut self,
-        room: usize,
-        node: Node<'a>,
-    ) -> Result<VarDecl, BuildError>
+    pub(crate) fn var_decl_of(&mut self, room: usize, node: Node<'a>) -> Result<VarDecl, BuildError>
         ensures taken { IfOk result (λ made.
             after_inside (taken room) (holds AVarDecl (head_of node.entry)) self.old ≡ Some self.new) }
         ensures made { IfOk result (λ made. (field : ℕ) (rest : List Item) →

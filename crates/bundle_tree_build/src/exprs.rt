@@ -59,20 +59,21 @@ impl<'p, 'a> Builder<'p, 'a> {
             Node::Tpl => Ok(Expr::Tpl(self.tpl_of(room, node)?)),
             Node::ThisExpr => Ok(Expr::ThisExpr),
             Node::MetaPropExpr { kind } => Ok(Expr::MetaPropExpr { kind }),
-            Node::FnExpr | Node::ClassExpr | Node::ArrowExpr { .. } => self.function_expr_of(room, node),
-            Node::ArrayLit | Node::ObjectLit | Node::SeqExpr | Node::TaggedTpl => self.compound_expr_of(room, node),
-            Node::CallExpr | Node::NewExpr { .. } | Node::OptChainExpr { .. } => self.call_expr_of(room, node),
+            Node::FnExpr | Node::ClassExpr | Node::ArrowExpr { .. } => self.function_expr_of(
+                room, node,
+            ),
+            Node::ArrayLit | Node::ObjectLit | Node::SeqExpr | Node::TaggedTpl =>
+                self.compound_expr_of(room, node),
+            Node::CallExpr | Node::NewExpr { .. } | Node::OptChainExpr { .. } => self.call_expr_of(
+                room, node,
+            ),
             _ => self.operator_expr_of(room, node),
         }
     }
 
     #[cycle(build)]
     #[tactic(auto, using(crate::proofs::Parsing::building))]
-    fn function_expr_of(
-        &mut self,
-        room: usize,
-        node: Node<'a>,
-    ) -> Result<Expr, BuildError>
+    fn function_expr_of(&mut self, room: usize, node: Node<'a>) -> Result<Expr, BuildError>
         ensures taken { IfOk result (λ made.
             after_inside (taken room) (holds AFunctionExpr (head_of node.entry)) self.old ≡ Some self.new) }
         ensures made { IfOk result (λ made. (field : ℕ) (rest : List Item) →
@@ -106,11 +107,7 @@ impl<'p, 'a> Builder<'p, 'a> {
 
     #[cycle(build)]
     #[tactic(auto, using(crate::proofs::Parsing::building))]
-    fn compound_expr_of(
-        &mut self,
-        room: usize,
-        node: Node<'a>,
-    ) -> Result<Expr, BuildError>
+    fn compound_expr_of(&mut self, room: usize, node: Node<'a>) -> Result<Expr, BuildError>
         ensures taken { IfOk result (λ made.
             after_inside (taken room) (holds ACompoundExpr (head_of node.entry)) self.old ≡ Some self.new) }
         ensures made { IfOk result (λ made. (field : ℕ) (rest : List Item) →
@@ -235,11 +232,7 @@ impl<'p, 'a> Builder<'p, 'a> {
 
     #[cycle(build)]
     #[tactic(auto, using(crate::proofs::Parsing::building))]
-    pub(crate) fn option_expr(
-        &mut self,
-        room: usize,
-        field: u8,
-    ) -> Result<Option<Expr>, BuildError>
+    pub(crate) fn option_expr(&mut self, room: usize, field: u8) -> Result<Option<Expr>, BuildError>
         ensures taken { IfOk result (λ made.
             after_maybe (taken room AnExpr field) field self.old ≡ Some self.new) }
         ensures made { IfOk result (λ made. self.old ≡ option_expr_items field made ++ self.new) }
@@ -297,11 +290,7 @@ impl<'p, 'a> Builder<'p, 'a> {
 
     #[cycle(build)]
     #[tactic(auto, using(crate::proofs::Parsing::building))]
-    fn expr_or_spread(
-        &mut self,
-        room: usize,
-        field: u8,
-    ) -> Result<ExprOrSpread, BuildError>
+    fn expr_or_spread(&mut self, room: usize, field: u8) -> Result<ExprOrSpread, BuildError>
         ensures taken { IfOk result (λ made. taken room AnArgument field self.old ≡ Some self.new) }
         ensures made { IfOk result (λ made.
             self.old ≡ expr_or_spread_items field made ++ self.new) }
@@ -317,11 +306,7 @@ impl<'p, 'a> Builder<'p, 'a> {
 
     #[cycle(build)]
     #[tactic(auto, using(crate::proofs::Parsing::building))]
-    fn expr_or_spread_of(
-        &mut self,
-        room: usize,
-        node: Node<'a>,
-    ) -> Result<ExprOrSpread, BuildError>
+    fn expr_or_spread_of(&mut self, room: usize, node: Node<'a>) -> Result<ExprOrSpread, BuildError>
         ensures taken { IfOk result (λ made.
             after_inside (taken room) (holds AnArgument (head_of node.entry)) self.old ≡ Some self.new) }
         ensures made { IfOk result (λ made. (field : ℕ) (rest : List Item) →
@@ -468,11 +453,7 @@ impl<'p, 'a> Builder<'p, 'a> {
 
     #[cycle(build)]
     #[tactic(auto, using(crate::proofs::Parsing::building))]
-    fn arrow_body_of(
-        &mut self,
-        room: usize,
-        node: Node<'a>,
-    ) -> Result<ArrowBody, BuildError>
+    fn arrow_body_of(&mut self, room: usize, node: Node<'a>) -> Result<ArrowBody, BuildError>
         ensures taken { IfOk result (λ made.
             after_inside (taken room) (holds AnArrowBody (head_of node.entry)) self.old ≡ Some self.new) }
         ensures made { IfOk result (λ made. (field : ℕ) (rest : List Item) →
@@ -593,11 +574,7 @@ impl<'p, 'a> Builder<'p, 'a> {
 
     #[cycle(build)]
     #[tactic(auto, using(crate::proofs::Parsing::building))]
-    fn opt_chain_base(
-        &mut self,
-        room: usize,
-        field: u8,
-    ) -> Result<OptChainBase, BuildError>
+    fn opt_chain_base(&mut self, room: usize, field: u8) -> Result<OptChainBase, BuildError>
         ensures taken { IfOk result (λ made. taken room ALink field self.old ≡ Some self.new) }
         ensures made { IfOk result (λ made.
             self.old ≡ opt_chain_base_items field made ++ self.new) }
@@ -613,11 +590,7 @@ impl<'p, 'a> Builder<'p, 'a> {
 
     #[cycle(build)]
     #[tactic(auto, using(crate::proofs::Parsing::building))]
-    fn opt_chain_base_of(
-        &mut self,
-        room: usize,
-        node: Node<'a>,
-    ) -> Result<OptChainBase, BuildError>
+    fn opt_chain_base_of(&mut self, room: usize, node: Node<'a>) -> Result<OptChainBase, BuildError>
         ensures taken { IfOk result (λ made.
             after_inside (taken room) (holds ALink (head_of node.entry)) self.old ≡ Some self.new) }
         ensures made { IfOk result (λ made. (field : ℕ) (rest : List Item) →
@@ -633,11 +606,7 @@ impl<'p, 'a> Builder<'p, 'a> {
 
     #[cycle(build)]
     #[tactic(auto, using(crate::proofs::Parsing::building))]
-    fn opt_call_of(
-        &mut self,
-        room: usize,
-        node: Node<'a>,
-    ) -> Result<OptCall, BuildError>
+    fn opt_call_of(&mut self, room: usize, node: Node<'a>) -> Result<OptCall, BuildError>
         ensures taken { IfOk result (λ made.
             after_inside (taken room) (holds AnOptCall (head_of node.entry)) self.old ≡ Some self.new) }
         ensures made { IfOk result (λ made. (field : ℕ) (rest : List Item) →

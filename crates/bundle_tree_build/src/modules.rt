@@ -98,7 +98,9 @@ impl<'p, 'a> Builder<'p, 'a> {
             | Node::NamedExport { .. }
             | Node::ExportDefaultDecl
             | Node::ExportDefaultExpr
-            | Node::ExportAll { .. } => Ok(ModuleItem::ModuleDecl(self.module_decl_of(room, node)?)),
+            | Node::ExportAll { .. } => Ok(ModuleItem::ModuleDecl(self.module_decl_of(
+                room, node,
+            )?)),
             _ => Ok(ModuleItem::Stmt(self.stmt_of(room, node)?)),
         }
     }

@@ -153,11 +153,7 @@ impl<'p, 'a> Builder<'p, 'a> {
     }
 
     #[tactic(auto, using(crate::proofs::Parsing::parsing))]
-    pub(crate) fn private_name(
-        &mut self,
-        room: usize,
-        field: u8,
-    ) -> Result<PrivateName, BuildError>
+    pub(crate) fn private_name(&mut self, room: usize, field: u8) -> Result<PrivateName, BuildError>
         ensures taken { IfOk result (λ made.
             taken room APrivateName field self.old ≡ Some self.new) }
         ensures made { IfOk result (λ made. self.old ≡ private_name_items field made ++ self.new) }

@@ -62,12 +62,7 @@ impl<'p, 'a> Builder<'p, 'a> {
 
     #[cycle(build)]
     #[tactic(auto, using(crate::proofs::Parsing::building))]
-    fn boxed_pat(
-        &mut self,
-        room: usize,
-        field: u8,
-        role: Role,
-    ) -> Result<Box<Pat>, BuildError>
+    fn boxed_pat(&mut self, room: usize, field: u8, role: Role) -> Result<Box<Pat>, BuildError>
         ensures taken { IfOk result (λ made.
             taken room (APattern role) field self.old ≡ Some self.new) }
         ensures made { IfOk result (λ made.
@@ -350,11 +345,7 @@ impl<'p, 'a> Builder<'p, 'a> {
 
     #[cycle(build)]
     #[tactic(auto, using(crate::proofs::Parsing::building))]
-    fn assign_target_of(
-        &mut self,
-        room: usize,
-        node: Node<'a>,
-    ) -> Result<AssignTarget, BuildError>
+    fn assign_target_of(&mut self, room: usize, node: Node<'a>) -> Result<AssignTarget, BuildError>
         ensures taken { IfOk result (λ made.
             after_inside (taken room) (holds ATarget (head_of node.entry)) self.old ≡ Some self.new) }
         ensures made { IfOk result (λ made. (field : ℕ) (rest : List Item) →
@@ -363,17 +354,20 @@ impl<'p, 'a> Builder<'p, 'a> {
             why ≡ Form → after_inside (taken room) (holds ATarget (head_of node.entry)) self.old ≡ None) }
     {
         match node {
-            Node::BindingIdent => Ok(AssignTarget::BindingIdent(
-                self.binding_ident_of(node, Role::Reference)?,
-            )),
+            Node::BindingIdent => Ok(AssignTarget::BindingIdent(self.binding_ident_of(
+                node,
+                Role::Reference,
+            )?)),
             Node::MemberExpr => Ok(AssignTarget::MemberExpr(self.member_expr_of(room, node)?)),
-            Node::SuperPropExpr => Ok(AssignTarget::SuperPropExpr(
-                self.super_prop_expr_of(room, node)?,
-            )),
+            Node::SuperPropExpr => Ok(AssignTarget::SuperPropExpr(self.super_prop_expr_of(
+                room, node,
+            )?)),
             Node::ParenExpr => Ok(AssignTarget::ParenExpr(self.paren_expr_of(room, node)?)),
-            Node::ArrayPat => Ok(AssignTarget::ArrayPat(
-                self.array_pat_of(room, node, Role::Reference)?,
-            )),
+            Node::ArrayPat => Ok(AssignTarget::ArrayPat(self.array_pat_of(
+                room,
+                node,
+                Role::Reference,
+            )?)),
             _ => Ok(AssignTarget::ObjectPat(self.object_pat_of(room, node, Role::Reference)?)),
         }
     }

@@ -52,9 +52,7 @@ impl<'p, 'a> Builder<'p, 'a> {
             why ≡ Form → taken room APropertyOrSpread field self.old ≡ None) }
     {
         if self.is_ident() {
-            return Ok(PropOrSpread::Prop(Prop::Shorthand(
-                self.ident(field, Role::Reference)?,
-            )));
+            return Ok(PropOrSpread::Prop(Prop::Shorthand(self.ident(field, Role::Reference)?)));
         }
         let node = self.open(field)?;
         let less = inside(room)?;
@@ -65,11 +63,7 @@ impl<'p, 'a> Builder<'p, 'a> {
 
     #[cycle(build)]
     #[tactic(auto, using(crate::proofs::Parsing::building))]
-    fn prop_or_spread_of(
-        &mut self,
-        room: usize,
-        node: Node<'a>,
-    ) -> Result<PropOrSpread, BuildError>
+    fn prop_or_spread_of(&mut self, room: usize, node: Node<'a>) -> Result<PropOrSpread, BuildError>
         ensures taken { IfOk result (λ made.
             after_inside (taken room) (holds APropertyOrSpread (head_of node.entry)) self.old ≡ Some self.new) }
         ensures made { IfOk result (λ made. (field : ℕ) (rest : List Item) →
@@ -160,11 +154,7 @@ impl<'p, 'a> Builder<'p, 'a> {
 
     #[cycle(build)]
     #[tactic(auto, using(crate::proofs::Parsing::building))]
-    fn key_value_prop_of(
-        &mut self,
-        room: usize,
-        node: Node<'a>,
-    ) -> Result<KeyValueProp, BuildError>
+    fn key_value_prop_of(&mut self, room: usize, node: Node<'a>) -> Result<KeyValueProp, BuildError>
         ensures taken { IfOk result (λ made.
             after_inside (taken room) (holds AKeyValue (head_of node.entry)) self.old ≡ Some self.new) }
         ensures made { IfOk result (λ made. (field : ℕ) (rest : List Item) →

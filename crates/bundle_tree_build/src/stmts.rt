@@ -39,7 +39,9 @@ impl<'p, 'a> Builder<'p, 'a> {
     {
         match node {
             Node::BlockStmt => Ok(Stmt::BlockStmt(self.block_stmt_of(room, node)?)),
-            Node::ClassDecl | Node::FnDecl | Node::VarDecl { .. } => Ok(Stmt::Decl(self.decl_of(room, node)?)),
+            Node::ClassDecl | Node::FnDecl | Node::VarDecl { .. } => Ok(Stmt::Decl(self.decl_of(
+                room, node,
+            )?)),
             Node::EmptyStmt => Ok(Stmt::EmptyStmt),
             Node::DebuggerStmt => Ok(Stmt::DebuggerStmt),
             Node::BreakStmt => {
@@ -55,11 +57,8 @@ impl<'p, 'a> Builder<'p, 'a> {
             | Node::ForStmt
             | Node::ForInStmt
             | Node::ForOfStmt { .. } => self.loop_stmt_of(room, node),
-            Node::IfStmt
-            | Node::SwitchStmt
-            | Node::TryStmt
-            | Node::WithStmt
-            | Node::LabeledStmt => self.branch_stmt_of(room, node),
+            Node::IfStmt | Node::SwitchStmt | Node::TryStmt | Node::WithStmt | Node::LabeledStmt =>
+                self.branch_stmt_of(room, node),
             _ => self.plain_stmt_of(room, node),
         }
     }
@@ -223,11 +222,7 @@ impl<'p, 'a> Builder<'p, 'a> {
 
     #[cycle(build)]
     #[tactic(auto, using(crate::proofs::Parsing::building))]
-    fn option_boxed_stmt(
-        &mut self,
-        room: usize,
-        field: u8,
-    ) -> Result<Option<Box<Stmt>>, BuildError>
+    fn option_boxed_stmt(&mut self, room: usize, field: u8) -> Result<Option<Box<Stmt>>, BuildError>
         ensures taken { IfOk result (λ made.
             after_maybe (taken room AStmt field) field self.old ≡ Some self.new) }
         ensures made { IfOk result (λ made.
@@ -303,11 +298,7 @@ impl<'p, 'a> Builder<'p, 'a> {
 
     #[cycle(build)]
     #[tactic(auto, using(crate::proofs::Parsing::building))]
-    fn option_block_stmt(
-        &mut self,
-        room: usize,
-        field: u8,
-    ) -> Result<Option<BlockStmt>, BuildError>
+    fn option_block_stmt(&mut self, room: usize, field: u8) -> Result<Option<BlockStmt>, BuildError>
         ensures taken { IfOk result (λ made.
             after_maybe (taken room ABlock field) field self.old ≡ Some self.new) }
         ensures made { IfOk result (λ made.
@@ -324,11 +315,7 @@ impl<'p, 'a> Builder<'p, 'a> {
 
     #[cycle(build)]
     #[tactic(auto, using(crate::proofs::Parsing::building))]
-    fn each_switch_case(
-        &mut self,
-        room: usize,
-        field: u8,
-    ) -> Result<Vec<SwitchCase>, BuildError>
+    fn each_switch_case(&mut self, room: usize, field: u8) -> Result<Vec<SwitchCase>, BuildError>
         ensures taken { IfOk result (λ made.
             after_each (taken room ACase field) field (length self.old) self.old ≡ Some self.new) }
         ensures made { IfOk result (λ made.
@@ -441,11 +428,7 @@ impl<'p, 'a> Builder<'p, 'a> {
 
     #[cycle(build)]
     #[tactic(auto, using(crate::proofs::Parsing::building))]
-    fn option_for_init(
-        &mut self,
-        room: usize,
-        field: u8,
-    ) -> Result<Option<ForInit>, BuildError>
+    fn option_for_init(&mut self, room: usize, field: u8) -> Result<Option<ForInit>, BuildError>
         ensures taken { IfOk result (λ made.
             after_maybe (taken room AnInit field) field self.old ≡ Some self.new) }
         ensures made { IfOk result (λ made.

@@ -302,70 +302,70 @@ abbrev pub invariant-each_expr-loop-count : goal.invariant-each_expr-loop-count
 invariant-each_expr-loop-count l =
     (l.initial.self ≡ flat_map (expr_items l.field) l.list.items ++ l.self)
     × (after_each (taken l.room AnExpr l.field) l.field (length l.initial.self) l.initial.self
-        ≡ after_each (taken l.room AnExpr l.field) l.field (l.most - l.count) l.self)
+    ≡ after_each (taken l.room AnExpr l.field) l.field (l.most - l.count) l.self)
 
 abbrev pub invariant-each_expr_or_spread-loop-count : goal.invariant-each_expr_or_spread-loop-count
 invariant-each_expr_or_spread-loop-count l =
     (l.initial.self ≡ flat_map (expr_or_spread_items l.field) l.list.items ++ l.self)
     × (after_each (taken l.room AnArgument l.field) l.field (length l.initial.self) l.initial.self
-        ≡ after_each (taken l.room AnArgument l.field) l.field (l.most - l.count) l.self)
+    ≡ after_each (taken l.room AnArgument l.field) l.field (l.most - l.count) l.self)
 
 abbrev pub invariant-each_option_expr_or_spread-loop-count : goal.invariant-each_option_expr_or_spread-loop-count
 invariant-each_option_expr_or_spread-loop-count l =
     (l.initial.self ≡ flat_map (expr_or_spread_place_items l.field) l.list.items ++ l.self)
     × (after_each (after_place (taken l.room AnArgument l.field) l.field) l.field (length l.initial.self) l.initial.self
-        ≡ after_each (after_place (taken l.room AnArgument l.field) l.field) l.field (l.most - l.count) l.self)
+    ≡ after_each (after_place (taken l.room AnArgument l.field) l.field) l.field (l.most - l.count) l.self)
 
 abbrev pub invariant-each_prop_or_spread-loop-count : goal.invariant-each_prop_or_spread-loop-count
 invariant-each_prop_or_spread-loop-count l =
     (l.initial.self ≡ flat_map (prop_or_spread_items l.field) l.list.items ++ l.self)
     × (after_each (taken l.room APropertyOrSpread l.field) l.field (length l.initial.self) l.initial.self
-        ≡ after_each (taken l.room APropertyOrSpread l.field) l.field (l.most - l.count) l.self)
+    ≡ after_each (taken l.room APropertyOrSpread l.field) l.field (l.most - l.count) l.self)
 
 abbrev pub invariant-each_pat-loop-count : goal.invariant-each_pat-loop-count
 invariant-each_pat-loop-count l =
     (l.initial.self ≡ flat_map (pat_items l.role l.field) l.list.items ++ l.self)
     × (after_each (taken l.room (APattern l.role) l.field) l.field (length l.initial.self) l.initial.self
-        ≡ after_each (taken l.room (APattern l.role) l.field) l.field (l.most - l.count) l.self)
+    ≡ after_each (taken l.room (APattern l.role) l.field) l.field (l.most - l.count) l.self)
 
 abbrev pub invariant-each_place_of_pat-loop-count : goal.invariant-each_place_of_pat-loop-count
 invariant-each_place_of_pat-loop-count l =
     (l.initial.self ≡ flat_map (pat_place_items l.role l.field) l.list.items ++ l.self)
     × (after_each (after_place (taken l.room (APattern l.role) l.field) l.field) l.field (length l.initial.self) l.initial.self
-        ≡ after_each (after_place (taken l.room (APattern l.role) l.field) l.field) l.field (l.most - l.count) l.self)
+    ≡ after_each (after_place (taken l.room (APattern l.role) l.field) l.field) l.field (l.most - l.count) l.self)
 
 abbrev pub invariant-each_object_pat_prop-loop-count : goal.invariant-each_object_pat_prop-loop-count
 invariant-each_object_pat_prop-loop-count l =
     (l.initial.self ≡ flat_map (object_pat_prop_items l.role l.field) l.list.items ++ l.self)
     × (after_each (taken l.room (APatternProperty l.role) l.field) l.field (length l.initial.self) l.initial.self
-        ≡ after_each (taken l.room (APatternProperty l.role) l.field) l.field (l.most - l.count) l.self)
+    ≡ after_each (taken l.room (APatternProperty l.role) l.field) l.field (l.most - l.count) l.self)
 
 abbrev pub invariant-each_stmt-loop-count : goal.invariant-each_stmt-loop-count
 invariant-each_stmt-loop-count l =
     (l.initial.self ≡ flat_map (stmt_items l.field) l.list.items ++ l.self)
     × (after_each (taken l.room AStmt l.field) l.field (length l.initial.self) l.initial.self
-        ≡ after_each (taken l.room AStmt l.field) l.field (l.most - l.count) l.self)
+    ≡ after_each (taken l.room AStmt l.field) l.field (l.most - l.count) l.self)
 
 abbrev pub invariant-each_switch_case-loop-count : goal.invariant-each_switch_case-loop-count
 invariant-each_switch_case-loop-count l =
     (l.initial.self ≡ flat_map (switch_case_items l.field) l.list.items ++ l.self)
     × (after_each (taken l.room ACase l.field) l.field (length l.initial.self) l.initial.self
-        ≡ after_each (taken l.room ACase l.field) l.field (l.most - l.count) l.self)
+    ≡ after_each (taken l.room ACase l.field) l.field (l.most - l.count) l.self)
 
 abbrev pub invariant-each_var_declarator-loop-count : goal.invariant-each_var_declarator-loop-count
 invariant-each_var_declarator-loop-count l =
     (l.initial.self ≡ flat_map (var_declarator_items l.field) l.list.items ++ l.self)
     × (after_each (taken l.room ADeclarator l.field) l.field (length l.initial.self) l.initial.self
-        ≡ after_each (taken l.room ADeclarator l.field) l.field (l.most - l.count) l.self)
+    ≡ after_each (taken l.room ADeclarator l.field) l.field (l.most - l.count) l.self)
 
 abbrev pub invariant-each_param-loop-count : goal.invariant-each_param-loop-count
 invariant-each_param-loop-count l =
     (l.initial.self ≡ flat_map (param_items l.field) l.list.items ++ l.self)
     × (after_each (taken l.room AParameter l.field) l.field (length l.initial.self) l.initial.self
-        ≡ after_each (taken l.room AParameter l.field) l.field (l.most - l.count) l.self)
+    ≡ after_each (taken l.room AParameter l.field) l.field (l.most - l.count) l.self)
 
 abbrev pub invariant-each_class_member-loop-count : goal.invariant-each_class_member-loop-count
 invariant-each_class_member-loop-count l =
     (l.initial.self ≡ flat_map (class_member_items l.field) l.list.items ++ l.self)
     × (after_each (taken l.room AClassMember l.field) l.field (length l.initial.self) l.initial.self
-        ≡ after_each (taken l.room AClassMember l.field) l.field (l.most - l.count) l.self)
+    ≡ after_each (taken l.room AClassMember l.field) l.field (l.most - l.count) l.self)

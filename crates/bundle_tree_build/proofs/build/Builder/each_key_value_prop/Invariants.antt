@@ -10,4 +10,4 @@ abbrev pub invariant-loop-count : goal.invariant-loop-count
 invariant-loop-count l =
     (l.initial.self ≡ flat_map (key_value_prop_items l.field) l.list.items ++ l.self)
     × (after_each (taken l.room AKeyValue l.field) l.field (length l.initial.self) l.initial.self
-        ≡ after_each (taken l.room AKeyValue l.field) l.field (l.most - l.count) l.self)
+    ≡ after_each (taken l.room AKeyValue l.field) l.field (l.most - l.count) l.self)
