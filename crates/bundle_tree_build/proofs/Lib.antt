@@ -1,5 +1,6 @@
 pub mod Parsing
 pub mod Misplaced
+pub mod Made
 pub mod Whole
 pub mod Rows
 pub mod Trees

@@ -1,11 +1,14 @@
 -- What is taken of a place, and what is made of it: a node that begins there, what it holds, and its end.
-use Rattle.std.proofs.Common.{◌∙◌, ◌∷◌, List, ap}
+use Rattle.std.proofs.Common.{◌∙◌, ◌∷◌, ◌++◌, List, ap}
 use Rattle.bundle_tree_piece.specs.Item as h
 use Rattle.bundle_tree_piece.specs.Item.{Item, head_of}
-use Rattle.bundle_tree_listed.specs.Tree.{stmt_items}
+use Rattle.bundle_tree_piece.specs.declared.piece.Node.{Node}
+use Rattle.bundle_tree_piece.specs.declared.piece.Role.TheVariants as r
+use Rattle.bundle_tree_listed.specs.Tree.{block_stmt_items, expr_items, function_items, option_block_stmt_items, option_catch_clause_items, option_expr_items, option_for_init_items, pat_items, prop_name_items, stmt_items, tpl_items}
 use Rattle.bundle_tree_build.specs.Parse.{after_inside, taken}
 use Rattle.bundle_tree_build.proofs.Misplaced.{other_arrow_body, other_assign_target, other_callee, other_decl, other_for_head, other_for_init, other_member_prop, other_opt_chain_base, other_pat, other_prop_name, other_prop_or_spread, other_super_prop}
 use Rattle.bundle_tree_build.specs.Sorts.{ABlock, ACallee, ACase, AClass, AClassMember, ADeclarator, AFunction, AHandler, AKey, ALink, ALoopHead, AMemberKey, AParameter, APattern, APatternProperty, APropertyOrSpread, AStmt, ASuperKey, ATarget, ATemplate, AnArgument, AnArrowBody, AnExpr, AnInit}
+use Rattle.bundle_tree_build.proofs.Made as made
 use Rattle.bundle_tree_build.proofs.Parsing.{if_err, place_done, place_unclosed}
 use Rattle.bundle_tree_build.proofs.build.Builder.+build.Goals as goal
 
@@ -611,3 +614,66 @@ super_prop_of-returns-in_ok-computed_prop_name_of-in_default t c = record {
   made = λ field rest e. c.in_ok-computed_prop_name_of-in_default.ensures.made field rest e;
   refused = tt;
 }
+
+-- A node of several fields, each with what is made of it.
+
+pub branch_stmt_of-returns-in_ok-finalizer-in-TryStmt-clause-made : goal.branch_stmt_of-returns-in_ok-finalizer-in-TryStmt-clause-made
+unfolding stmt_items
+branch_stmt_of-returns-in_ok-finalizer-in-TryStmt-clause-made t c =
+    λ field rest e. ap (λ (it : Node). h.Open field (head_of it) ∷ c.args.self.now) c.in-TryStmt.is
+    ∙ made.a_node field h.TryStmt (block_stmt_items 0 c.in_ok-block-in-TryStmt.block ++ (option_catch_clause_items 1 c.in_ok-handler-in-TryStmt.handler ++ (option_block_stmt_items 2 c.in_ok-finalizer-in-TryStmt.finalizer))) c.args.self.now rest
+    (made.a_field (block_stmt_items 0 c.in_ok-block-in-TryStmt.block) (option_catch_clause_items 1 c.in_ok-handler-in-TryStmt.handler ++ (option_block_stmt_items 2 c.in_ok-finalizer-in-TryStmt.finalizer)) c.args.self.now c.block_stmt.new.self (h.Close ∷ rest) c.in_ok-block-in-TryStmt.ensures.made
+    (made.a_field (option_catch_clause_items 1 c.in_ok-handler-in-TryStmt.handler) (option_block_stmt_items 2 c.in_ok-finalizer-in-TryStmt.finalizer) c.block_stmt.new.self c.option_catch_clause.new.self (h.Close ∷ rest) c.in_ok-handler-in-TryStmt.ensures.made
+    (made.the_last (option_block_stmt_items 2 c.in_ok-finalizer-in-TryStmt.finalizer) c.option_catch_clause.new.self c.option_block_stmt.new.self rest c.in_ok-finalizer-in-TryStmt.ensures.made e)))
+
+pub compound_expr_of-returns-in_ok-tpl-in-TaggedTpl-clause-made : goal.compound_expr_of-returns-in_ok-tpl-in-TaggedTpl-clause-made
+unfolding stmt_items
+compound_expr_of-returns-in_ok-tpl-in-TaggedTpl-clause-made t c =
+    λ field rest e. ap (λ (it : Node). h.Open field (head_of it) ∷ c.args.self.now) c.in-TaggedTpl.is
+    ∙ made.a_node field h.TaggedTpl (expr_items 0 c.in_ok-tag-in-TaggedTpl.tag.value ++ (tpl_items 1 c.in_ok-tpl-in-TaggedTpl.tpl)) c.args.self.now rest
+    (made.a_field (expr_items 0 c.in_ok-tag-in-TaggedTpl.tag.value) (tpl_items 1 c.in_ok-tpl-in-TaggedTpl.tpl) c.args.self.now c.boxed_expr.new.self (h.Close ∷ rest) c.in_ok-tag-in-TaggedTpl.ensures.made
+    (made.the_last (tpl_items 1 c.in_ok-tpl-in-TaggedTpl.tpl) c.boxed_expr.new.self c.tpl.new.self rest c.in_ok-tpl-in-TaggedTpl.ensures.made e))
+
+pub for_stmt_of-returns-in_ok-body-in-ForStmt-clause-made : goal.for_stmt_of-returns-in_ok-body-in-ForStmt-clause-made
+unfolding stmt_items
+for_stmt_of-returns-in_ok-body-in-ForStmt-clause-made t c =
+    λ field rest e. ap (λ (it : Node). h.Open field (head_of it) ∷ c.args.self.now) c.in-ForStmt.is
+    ∙ made.a_node field h.ForStmt (option_for_init_items 0 c.in_ok-init-in-ForStmt.init ++ (option_expr_items 1 c.in_ok-test-in-ForStmt.test ++ (option_expr_items 2 c.in_ok-update-in-ForStmt.update ++ (stmt_items 3 c.in_ok-body-in-ForStmt.body.value)))) c.args.self.now rest
+    (made.a_field (option_for_init_items 0 c.in_ok-init-in-ForStmt.init) (option_expr_items 1 c.in_ok-test-in-ForStmt.test ++ (option_expr_items 2 c.in_ok-update-in-ForStmt.update ++ (stmt_items 3 c.in_ok-body-in-ForStmt.body.value))) c.args.self.now c.option_for_init.new.self (h.Close ∷ rest) c.in_ok-init-in-ForStmt.ensures.made
+    (made.a_field (option_expr_items 1 c.in_ok-test-in-ForStmt.test) (option_expr_items 2 c.in_ok-update-in-ForStmt.update ++ (stmt_items 3 c.in_ok-body-in-ForStmt.body.value)) c.option_for_init.new.self c.option_expr.new.self (h.Close ∷ rest) c.in_ok-test-in-ForStmt.ensures.made
+    (made.a_field (option_expr_items 2 c.in_ok-update-in-ForStmt.update) (stmt_items 3 c.in_ok-body-in-ForStmt.body.value) c.option_expr.new.self c.option_expr-in-ForStmt.new.self (h.Close ∷ rest) c.in_ok-update-in-ForStmt.ensures.made
+    (made.the_last (stmt_items 3 c.in_ok-body-in-ForStmt.body.value) c.option_expr-in-ForStmt.new.self c.boxed_stmt.new.self rest c.in_ok-body-in-ForStmt.ensures.made e))))
+
+pub method_of-returns-in_ok-function-in-ClassMethod-clause-made : goal.method_of-returns-in_ok-function-in-ClassMethod-clause-made
+unfolding stmt_items
+method_of-returns-in_ok-function-in-ClassMethod-clause-made t c =
+    λ field rest e. ap (λ (it : Node). h.Open field (head_of it) ∷ c.args.self.now) c.in-ClassMethod.is
+    ∙ made.a_node field (h.ClassMethod c.in-ClassMethod.kind c.in-ClassMethod.is_static) (prop_name_items 0 c.in_ok-key-in-ClassMethod.key ++ (function_items 1 c.in_ok-function-in-ClassMethod.function)) c.args.self.now rest
+    (made.a_field (prop_name_items 0 c.in_ok-key-in-ClassMethod.key) (function_items 1 c.in_ok-function-in-ClassMethod.function) c.args.self.now c.prop_name.new.self (h.Close ∷ rest) c.in_ok-key-in-ClassMethod.ensures.made
+    (made.the_last (function_items 1 c.in_ok-function-in-ClassMethod.function) c.prop_name.new.self c.function.new.self rest c.in_ok-function-in-ClassMethod.ensures.made e))
+
+pub prop_of-returns-in_ok-body-in-SetterProp-clause-made : goal.prop_of-returns-in_ok-body-in-SetterProp-clause-made
+unfolding stmt_items
+prop_of-returns-in_ok-body-in-SetterProp-clause-made t c =
+    λ field rest e. ap (λ (it : Node). h.Open field (head_of it) ∷ c.args.self.now) c.in-SetterProp.is
+    ∙ made.a_node field h.SetterProp (prop_name_items 0 c.in_ok-key-in-SetterProp.key ++ (pat_items r.Binding 1 c.in_ok-param-in-SetterProp.param ++ (block_stmt_items 2 c.in_ok-body-in-SetterProp.body))) c.args.self.now rest
+    (made.a_field (prop_name_items 0 c.in_ok-key-in-SetterProp.key) (pat_items r.Binding 1 c.in_ok-param-in-SetterProp.param ++ (block_stmt_items 2 c.in_ok-body-in-SetterProp.body)) c.args.self.now c.prop_name-in-SetterProp.new.self (h.Close ∷ rest) c.in_ok-key-in-SetterProp.ensures.made
+    (made.a_field (pat_items r.Binding 1 c.in_ok-param-in-SetterProp.param) (block_stmt_items 2 c.in_ok-body-in-SetterProp.body) c.prop_name-in-SetterProp.new.self c.pat.new.self (h.Close ∷ rest) c.in_ok-param-in-SetterProp.ensures.made
+    (made.the_last (block_stmt_items 2 c.in_ok-body-in-SetterProp.body) c.pat.new.self c.block_stmt-in-SetterProp.new.self rest c.in_ok-body-in-SetterProp.ensures.made e)))
+
+pub prop_of-returns-in_ok-function-in-MethodProp-clause-made : goal.prop_of-returns-in_ok-function-in-MethodProp-clause-made
+unfolding stmt_items
+prop_of-returns-in_ok-function-in-MethodProp-clause-made t c =
+    λ field rest e. ap (λ (it : Node). h.Open field (head_of it) ∷ c.args.self.now) c.in-MethodProp.is
+    ∙ made.a_node field h.MethodProp (prop_name_items 0 c.in_ok-key-in-MethodProp.key ++ (function_items 1 c.in_ok-function-in-MethodProp.function)) c.args.self.now rest
+    (made.a_field (prop_name_items 0 c.in_ok-key-in-MethodProp.key) (function_items 1 c.in_ok-function-in-MethodProp.function) c.args.self.now c.prop_name-in-MethodProp.new.self (h.Close ∷ rest) c.in_ok-key-in-MethodProp.ensures.made
+    (made.the_last (function_items 1 c.in_ok-function-in-MethodProp.function) c.prop_name-in-MethodProp.new.self c.function.new.self rest c.in_ok-function-in-MethodProp.ensures.made e))
+
+pub wide_operator_expr_of-returns-in_ok-alt-in-CondExpr-clause-made : goal.wide_operator_expr_of-returns-in_ok-alt-in-CondExpr-clause-made
+unfolding stmt_items
+wide_operator_expr_of-returns-in_ok-alt-in-CondExpr-clause-made t c =
+    λ field rest e. ap (λ (it : Node). h.Open field (head_of it) ∷ c.args.self.now) c.in-CondExpr.is
+    ∙ made.a_node field h.CondExpr (expr_items 0 c.in_ok-test-in-CondExpr.test.value ++ (expr_items 1 c.in_ok-cons-in-CondExpr.cons.value ++ (expr_items 2 c.in_ok-alt-in-CondExpr.alt.value))) c.args.self.now rest
+    (made.a_field (expr_items 0 c.in_ok-test-in-CondExpr.test.value) (expr_items 1 c.in_ok-cons-in-CondExpr.cons.value ++ (expr_items 2 c.in_ok-alt-in-CondExpr.alt.value)) c.args.self.now c.boxed_expr-in-CondExpr.new.self (h.Close ∷ rest) c.in_ok-test-in-CondExpr.ensures.made
+    (made.a_field (expr_items 1 c.in_ok-cons-in-CondExpr.cons.value) (expr_items 2 c.in_ok-alt-in-CondExpr.alt.value) c.boxed_expr-in-CondExpr.new.self c.boxed_expr-in-CondExpr-2.new.self (h.Close ∷ rest) c.in_ok-cons-in-CondExpr.ensures.made
+    (made.the_last (expr_items 2 c.in_ok-alt-in-CondExpr.alt.value) c.boxed_expr-in-CondExpr-2.new.self c.boxed_expr-in-CondExpr-3.new.self rest c.in_ok-alt-in-CondExpr.ensures.made e)))
