@@ -42,7 +42,7 @@ use Rattle.bundle_merge.specs.Handed.{AreObjectsApart, AreReadFrom, AreReadIn, I
 use Rattle.bundle_merge.specs.Placed.{ArePlaced}
 use Rattle.bundle_merge.specs.Prepared.{items_of_each}
 use Rattle.bundle_merge.specs.Read.{own_list}
-use Rattle.bundle_merge.specs.Ready.{AreOwnObjects, IsMergeable, IsMergedAs, IsRefusedAs, TakesAs}
+use Rattle.bundle_merge.specs.Ready.{IsMergeable, IsMergedAs, IsRefusedAs, TakesAs}
 use Rattle.bundle_merge.specs.Refusals.{IsRefusalOfRead, MayLackNames}
 use Rattle.bundle_merge.specs.declared.read.Read.{Read}
 use Rattle.bundle_merge.proofs.Bundle as bundles
@@ -196,7 +196,7 @@ none-told file tree error none told = by (fault_of error) refl told
     by None is tells = no-fault error is
     by (Some fault) is tells = absurd (none tells.stage tells.place fault tells.there)
 
-module _ (p : Program) (hooks : Hooks) (contexts : ℕ → Contexts) (next : ℕ) (prepared : Parts) (linker : Linker) (w : IsMergeable p contexts linker) (prepares : IsPrepared p hooks contexts next prepared) (objects : AreOwnObjects p hooks prepared) (fits : AnswersFit hooks) where
+module _ (p : Program) (hooks : Hooks) (contexts : ℕ → Contexts) (next : ℕ) (prepared : Parts) (linker : Linker) (w : IsMergeable p contexts linker) (prepares : IsPrepared p hooks contexts next prepared) (fits : AnswersFit hooks) where
   abbrev all : List ℕ
   all = linker.linked.list.items
 
@@ -240,51 +240,51 @@ module _ (p : Program) (hooks : Hooks) (contexts : ℕ → Contexts) (next : ℕ
         same_Some copy.0 its.items (sym copy.1 ∙ its.there) in
         let file = name_of its.known.file_name in
         none-told file (own_list its.items.body.items) error
-        (ready.own-faultless p hooks contexts next prepared linker w prepares objects fits its.number
+        (ready.own-faultless p hooks contexts next prepared linker w prepares fits its.number
         (is-reached its.place its.number its.at) its.items.body.items
         (sym (ap items_of same) ∙ copy.2) file
-        (ready.known-faultless p hooks contexts next prepared linker w prepares objects fits its.number its.known
+        (ready.known-faultless p hooks contexts next prepared linker w prepares fits its.number its.known
         its.is_known))
         its.told
 
     module _ (reads : List Read) (from : AreReadFrom linker all all copies (length all) reads) where
       -- what is told of what stands in front of them
       abbrev answers : ℕ → Option Answer
-      answers k = (ready.told-at p hooks contexts next prepared linker w prepares objects fits k).0
+      answers k = (ready.told-at p hooks contexts next prepared linker w prepares fits k).0
 
       abbrev tells : (k : ℕ) →
-          ready.ToldAt p hooks contexts next prepared linker w prepares objects fits k (answers k)
-      tells k = (ready.told-at p hooks contexts next prepared linker w prepares objects fits k).1
+          ready.ToldAt p hooks contexts next prepared linker w prepares fits k (answers k)
+      tells k = (ready.told-at p hooks contexts next prepared linker w prepares fits k).1
 
       pub read-in : AreReadIn (cleared_program p) hooks linker (λ m. (contexts m).local) next reads
       read-in = record {
         links = w.of.modules.links;
         begins = w.of.modules.begins;
         graph = λ m. w.of.linked.graph m ∙ ap (λ r. r m) (sym (requested-cleared p));
-        right = ready.are-right p hooks contexts next prepared linker w prepares objects fits;
+        right = ready.are-right p hooks contexts next prepared linker w prepares fits;
         answers = answers;
         fronts = λ k m read part at there handed.
             (let copy = copy-at k m at in
-            ready.has-front p hooks contexts next prepared linker w prepares objects fits m
+            ready.has-front p hooks contexts next prepared linker w prepares fits m
             (is-reached k m at) copy.0.body.items copy.2 k at copy.0 refl part
             (from.each k m copy.0 read part at copy.1 there handed)
-            (ready.told-there p hooks contexts next prepared linker w prepares objects fits answers
+            (ready.told-there p hooks contexts next prepared linker w prepares fits answers
             tells k m at));
         past =
-            ready.past-none p hooks contexts next prepared linker w prepares objects fits answers
+            ready.past-none p hooks contexts next prepared linker w prepares fits answers
             tells;
         objects =
-            ready.objects-apart p hooks contexts next prepared linker w prepares objects fits answers
+            ready.objects-apart p hooks contexts next prepared linker w prepares fits answers
             tells;
         long = from.long;
         each = λ k m read part at there handed.
             (let copy = copy-at k m at in
-            ready.is-read p hooks contexts next prepared linker w prepares objects fits m (is-reached k m at)
+            ready.is-read p hooks contexts next prepared linker w prepares fits m (is-reached k m at)
             copy.0.body.items copy.2 k at copy.0 refl part
             (from.each k m copy.0 read part at copy.1 there handed));
         locals = λ k m read part at there handed.
             (let copy = copy-at k m at in
-            ready.has-local p hooks contexts next prepared linker w prepares objects fits m (is-reached k m at)
+            ready.has-local p hooks contexts next prepared linker w prepares fits m (is-reached k m at)
             copy.0.body.items copy.2 k at copy.0 refl part
             (from.each k m copy.0 read part at copy.1 there handed));
         own = λ m reached. (prepares.above_one m (of-cleared-reached p m reached)).0;

@@ -70,7 +70,7 @@ use Rattle.bundle_merge_names.specs.declared.part.Part.{Part}
 use Rattle.bundle_merge.specs.Handed.{AreObjectsApart, StandsInObject, its_inside, its_name}
 use Rattle.bundle_merge.specs.Placed.{AreRight, HasFront, IsRead, nothing, object}
 use Rattle.bundle_merge.specs.Read.{AreAllKnown, IsKnown, IsReadAt, IsReadOf, first_declared, held_by, list_of, own_list, without_front}
-use Rattle.bundle_merge.specs.Ready.{AreOwnObjects, HasOwnContexts, IsMergeable}
+use Rattle.bundle_merge.specs.Ready.{IsMergeable}
 use Rattle.bundle_merge.proofs.Objects as o
 use Rattle.bundle_merge.proofs.Objects.{AnswersFit}
 use Rattle.bundle_merge.proofs.Places.{one-place}
@@ -225,7 +225,7 @@ same-ctxt {a = a} {b = b} {notes = notes} {other = other} {xs = xs} {ys = ys} sa
     let one : Written a notes xs ≡ Written b other ys =
     same_Some (Written a notes xs) (Written b other ys) same in cc
 
-module _ (p : Program) (hooks : Hooks) (contexts : ℕ → Contexts) (next : ℕ) (prepared : Parts) (linker : Linker) (w : IsMergeable p contexts linker) (ready : IsPrepared p hooks contexts next prepared) (objects : AreOwnObjects p hooks prepared) (fits : AnswersFit hooks) where
+module _ (p : Program) (hooks : Hooks) (contexts : ℕ → Contexts) (next : ℕ) (prepared : Parts) (linker : Linker) (w : IsMergeable p contexts linker) (ready : IsPrepared p hooks contexts next prepared) (fits : AnswersFit hooks) where
   abbrev list : List ℕ
   list = linker.linked.list.items
 
@@ -332,7 +332,7 @@ module _ (p : Program) (hooks : Hooks) (contexts : ℕ → Contexts) (next : ℕ
     record AFront : Type 0 where
       pub item : List Item
       pub has : has_import_meta (tree_of p m) ≡ true
-      pub own : HasOwnContexts p hooks m item
+      pub own : IsMetaItem p hooks m item
       pub are : items_in (in_order prepared) m ≡ item ∷ parts given.tree
       pub outside : (o : Occurrence) → Contains (occurrences item) o → o.ctxt ≢ (contexts m).local
 
@@ -354,7 +354,7 @@ module _ (p : Program) (hooks : Hooks) (contexts : ℕ → Contexts) (next : ℕ
         by (one {item = item} has is) are outside = a_front (record {
           item = item;
           has = has;
-          own = objects.each m item (parts given.tree) reached has are;
+          own = is;
           are = are;
           outside = λ o there. outside item o (held (item ∷ []) item 0 refl) there;
         })
@@ -384,9 +384,9 @@ module _ (p : Program) (hooks : Hooks) (contexts : ℕ → Contexts) (next : ℕ
         o.ctxt ≢ ctxt
 
   object-of-front : (m : ℕ) (reached : IsReached p m) (front : AFront m reached) →
-      IsObjectOf m front.own.its.ctxt front.own.its.meta front.own.its.properties
+      IsObjectOf m front.own.ctxt front.own.meta front.own.properties
   object-of-front m reached front =
-      let its = front.own.its in
+      let its = front.own in
       record {
         item = front.item;
         is = its.is;
@@ -396,7 +396,7 @@ module _ (p : Program) (hooks : Hooks) (contexts : ℕ → Contexts) (next : ℕ
         behind = parts (given m reached).tree;
         are = front.are;
         outside = front.outside;
-        name_above = front.own.name;
+        name_above = front.own.above;
         name_stands = o.name-stands its;
         inside_above = λ i u kind begins name at denoted.
             o.inside-above its i u at front.own.inside kind begins name denoted;
@@ -420,7 +420,7 @@ module _ (p : Program) (hooks : Hooks) (contexts : ℕ → Contexts) (next : ℕ
       by : Fronts m reached → (answer : Option Answer) × Told m answer
       by (no_front none_there are) = (None, plain none_there)
       by (a_front front) =
-          let its = front.own.its in (
+          let its = front.own in (
             Some (Written its.ctxt its.meta its.properties),
             written (object-of-front m reached front),
           )
@@ -467,9 +467,9 @@ module _ (p : Program) (hooks : Hooks) (contexts : ℕ → Contexts) (next : ℕ
         by (no_front none_there are) =
             all-own its.tree is-fit items (tree-meta ∙ none_there) (prepared_are ∙ are)
         by (a_front front) =
-            others-own its.tree is-fit items (tree-meta ∙ front.has) front.own.its.meta
-            front.own.its.ctxt front.own.its.properties
-            (split-items items _ (parts its.tree) (prepared_are ∙ front.are ∙ ap (λ x. x ∷ parts its.tree) front.own.its.is))
+            others-own its.tree is-fit items (tree-meta ∙ front.has) front.own.meta
+            front.own.ctxt front.own.properties
+            (split-items items _ (parts its.tree) (prepared_are ∙ front.are ∙ ap (λ x. x ∷ parts its.tree) front.own.is))
 
     own-cleared : tree_of q m ≡ cleared (own_list items)
     own-cleared = sym is-cleared ∙ ap cleared (sym own-tree)

@@ -1,5 +1,5 @@
 -- When the modules of a linker are those of a program whose prepared items are merged.
-use Rattle.std.specs.Prelude.{◌≡◌, ◌<◌, ℕ, Bool, true, List, ◌∷◌, Option, Contains, length, map}
+use Rattle.std.specs.Prelude.{◌≡◌, ℕ, Bool, List, Option, Contains, length, map}
 use Rattle.std.specs.List.{flat_map}
 use Rattle.bundle_tree_ast.specs.declared.expr.Expr.{Expr}
 use Rattle.bundle_tree_ast.specs.declared.prop.KeyValueProp.{KeyValueProp}
@@ -7,10 +7,8 @@ use Rattle.bundle_tree_piece.specs.Item.{Item}
 use Rattle.bundle_tree_listed.specs.Tree.{key_value_prop_items}
 use Rattle.bundle_tree_names.specs.FileName.{Name}
 use Rattle.bundle_rules.specs.Bundle.{Hooks}
-use Rattle.bundle_rules.specs.Entries.{has_import_meta}
-use Rattle.bundle_rules.specs.Merged.{Contexts, IsMetaItem}
-use Rattle.bundle_rules.specs.Parts.{Parts, in_order, items_in}
-use Rattle.bundle_rules.specs.Program.{Program, tree_of, IsReached}
+use Rattle.bundle_rules.specs.Merged.{Contexts}
+use Rattle.bundle_rules.specs.Program.{Program}
 use Rattle.bundle_link.specs.Programs.{IsLinkerOf}
 use Rattle.bundle_link.specs.declared.link.Linker.{Linker}
 use Rattle.bundle_link.specs.declared.transformed.TransformedModule.{TransformedModule}
@@ -48,21 +46,6 @@ pub record IsMergeable (p : Program) (contexts : ℕ → Contexts) (linker : Lin
   pub locals : (its : TransformedModule) →
       Contains linker.modules.items its →
       (contexts its.id).local ≡ its.local_ctxt
-
--- the item that holds the `import.meta` of a module has contexts of its own: it was resolved from a number on that is
--- above that of globals, and so is the context of its name
-pub record HasOwnContexts (p : Program) (hooks : Hooks) (m : ℕ) (item : List Item) : Type 0 where
-  pub its : IsMetaItem p hooks m item
-  pub inside : 1 < its.next
-  pub name : 1 < its.ctxt
-
--- the same of the first item of each module that has an `import.meta`
-pub record AreOwnObjects (p : Program) (hooks : Hooks) (prepared : Parts) : Type 0 where
-  pub each : (m : ℕ) (first : List Item) (rest : List (List Item)) →
-      IsReached p m →
-      has_import_meta (tree_of p m) ≡ true →
-      items_in (in_order prepared) m ≡ first ∷ rest →
-      HasOwnContexts p hooks m first
 
 -- what is merged of a bundle, as the merge of bundles promises it
 abbrev pub IsMergedAs : BundleParts → Merged → Type 0

@@ -18,7 +18,7 @@ ghost use Rattle.bundle_merge_items.specs.Added.{items_of};
 ghost use Rattle.bundle_merge.specs.Handed.{AreReadFrom, AreReadIn, IsLinkRead, IsLinkedRead, IsMadeOfRead, IsPartRead, MayRefuseRead};
 ghost use Rattle.bundle_merge.specs.Prepared.{items_of_each};
 ghost use Rattle.bundle_merge.specs.Read.{AreAllKnown, IsKnown};
-ghost use Rattle.bundle_merge.specs.Ready.{Answering, AreOwnObjects, IsMergeable, hooks_by};
+ghost use Rattle.bundle_merge.specs.Ready.{Answering, IsMergeable, hooks_by};
 ghost use Rattle.bundle_merge.specs.Refusals.{IsLack, IsLackAfter, IsRefusalOfOne, IsRefusalOfRead, MayLack, MayLackNames, MayRefuse};
 
 use crate::prepared::{copies_of, places_of};
@@ -61,7 +61,6 @@ pub fn merge_into_entry<'a>(
         (p : Program) (given : Answering) (its : ℕ → ModuleContexts) →
         IsMergeable p its linker.now →
         IsPrepared p (hooks_by given) its contexts.old.next prepared.now →
-        AreOwnObjects p (hooks_by given) prepared.now →
         IsMerged (λ x. x) (λ m. (its m).local) p (hooks_by given) (Parts.body_of merged)) }
     ensures given { OnOk result (HasGiven contexts.old contexts.new) }
     ensures refused { IfErr result (MayRefuse contexts.old.file linker.now.modules.items) }
@@ -69,7 +68,6 @@ pub fn merge_into_entry<'a>(
         (p : Program) (given : Answering) (its : ℕ → ModuleContexts) →
         IsMergeable p its linker.now →
         IsPrepared p (hooks_by given) its contexts.old.next prepared.now →
-        AreOwnObjects p (hooks_by given) prepared.now →
         MayLack p (hooks_by given) contexts.old.file contexts.old.next refusal) }
     ensures unchanged { OnErr result (contexts.new ≡ contexts.old) }
 {
@@ -93,7 +91,6 @@ fn joined<'a>(
         (p : Program) (given : Answering) (its : ℕ → ModuleContexts) →
         IsMergeable p its linker.now →
         IsPrepared p (hooks_by given) its contexts.now.next prepared.now →
-        AreOwnObjects p (hooks_by given) prepared.now →
         places.now.keys ≡ numbers_once linker.now.linked.list.items →
         IsMerged (λ x. x) (λ m. (its m).local) p (hooks_by given) (tree.joined (items_of made.0))) }
     ensures refused { IfErr result (MayRefuse contexts.now.file linker.now.modules.items) }
@@ -101,7 +98,6 @@ fn joined<'a>(
         (p : Program) (given : Answering) (its : ℕ → ModuleContexts) →
         IsMergeable p its linker.now →
         IsPrepared p (hooks_by given) its contexts.now.next prepared.now →
-        AreOwnObjects p (hooks_by given) prepared.now →
         places.now.keys ≡ numbers_once linker.now.linked.list.items →
         MayLack p (hooks_by given) contexts.now.file contexts.now.next refusal) }
 {
@@ -122,7 +118,6 @@ fn joined_of<'a>(
         (p : Program) (given : Answering) (its : ℕ → ModuleContexts) (prepared : Parts.Parts) →
         IsMergeable p its linker.now →
         IsPrepared p (hooks_by given) its contexts.now.next prepared →
-        AreOwnObjects p (hooks_by given) prepared →
         places.now.keys ≡ linker.now.linked.list.items →
         map items_of copies.now
         ≡ items_of_each (Parts.in_order prepared) linker.now.linked.list.items →
@@ -132,7 +127,6 @@ fn joined_of<'a>(
         (p : Program) (given : Answering) (its : ℕ → ModuleContexts) (prepared : Parts.Parts) →
         IsMergeable p its linker.now →
         IsPrepared p (hooks_by given) its contexts.now.next prepared →
-        AreOwnObjects p (hooks_by given) prepared →
         places.now.keys ≡ linker.now.linked.list.items →
         map items_of copies.now
         ≡ items_of_each (Parts.in_order prepared) linker.now.linked.list.items →

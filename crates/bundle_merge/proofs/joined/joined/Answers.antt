@@ -13,17 +13,17 @@ use Rattle.bundle_merge.proofs.joined.joined.Goals as goal
 pub returns-in_err-copies-clause-lacks : goal.returns-in_err-copies-clause-lacks
 returns-in_err-copies-clause-lacks c =
     let q = err_from_is_err_and c.from_residual.result c.from_residual.ensures.1 in
-    rw (q.1, q.2) (λ p given its w ready objects places. inl refl)
+    rw (q.1, q.2) (λ p given its w ready places. inl refl)
 
 pub returns-clause-bundle : goal.returns-clause-bundle
 returns-clause-bundle c =
     IfOk-weaker c.joined_of.result _ _
-    (λ made all p given its w ready objects places.
+    (λ made all p given its w ready places.
     (let list = c.args.linker.now.linked.list.items in
     let once : IsOnce list = one-place list (list-once p list w.of.linked.list) in
     let keys = places ∙ once-same list once in
     let copied = c.in_ok-copies.ensures (subst (λ (l : List ℕ). IsOnce l) (sym keys) once) in
-    all p given its c.args.prepared.now w ready objects keys
+    all p given its c.args.prepared.now w ready keys
     (ap (map items_of) c.deref.ensures.value ∙ copied
     ∙ ap (items_of_each (in_order c.args.prepared.now)) keys)))
     c.joined_of.ensures.bundle
@@ -31,12 +31,12 @@ returns-clause-bundle c =
 pub returns-clause-lacks : goal.returns-clause-lacks
 returns-clause-lacks c =
     IfErr-weaker c.joined_of.result _ _
-    (λ refusal lacks p given its w ready objects places.
+    (λ refusal lacks p given its w ready places.
     (let list = c.args.linker.now.linked.list.items in
     let once : IsOnce list = one-place list (list-once p list w.of.linked.list) in
     let keys = places ∙ once-same list once in
     let copied = c.in_ok-copies.ensures (subst (λ (l : List ℕ). IsOnce l) (sym keys) once) in
-    lacks p given its c.args.prepared.now w ready objects keys
+    lacks p given its c.args.prepared.now w ready keys
     (ap (map items_of) c.deref.ensures.value ∙ copied
     ∙ ap (items_of_each (in_order c.args.prepared.now)) keys)))
     c.joined_of.ensures.lacks

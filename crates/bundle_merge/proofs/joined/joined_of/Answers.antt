@@ -16,7 +16,7 @@ use Rattle.bundle_merge_items.specs.Added.{items_of}
 use Rattle.bundle_merge.specs.Handed.{AreReadFrom, AreReadIn}
 use Rattle.bundle_merge.specs.Prepared.{items_of_each}
 use Rattle.bundle_merge.specs.Read.{AreAllKnown}
-use Rattle.bundle_merge.specs.Ready.{Answering, AreOwnObjects, IsMergeable, hooks_by}
+use Rattle.bundle_merge.specs.Ready.{Answering, IsMergeable, hooks_by}
 use Rattle.bundle_merge.specs.Refusals.{MayLackNames}
 use Rattle.bundle_merge.specs.declared.read.Read.{Read}
 use Rattle.bundle_merge.proofs.Joining.{long-copies, memory-alone, read-in}
@@ -27,22 +27,21 @@ use Rattle.bundle_merge.proofs.joined.joined_of.Goals as goal
 pub returns-in_err-reads-clause-lacks : goal.returns-in_err-reads-clause-lacks
 returns-in_err-reads-clause-lacks c =
     let q = err_from_is_err_and c.from_residual.result c.from_residual.ensures.1 in
-    rw (q.1, q.2) (λ p given its prepared w ready objects keys copied.
+    rw (q.1, q.2) (λ p given its prepared w ready keys copied.
     (let linker = c.args.linker.now in
     let copies = c.args.copies.now in
     let next = c.args.contexts.now.next in
     let hooks = hooks_by given in
     let fits = answers-fit given in
-    inl (memory-alone p hooks its next prepared linker w ready objects fits copies copied _
-    (c.in_err-reads.ensures.told (all-known p hooks its next prepared linker w ready objects fits)
-    (long-copies p hooks its next prepared linker w ready objects fits copies copied)))))
+    inl (memory-alone p hooks its next prepared linker w ready fits copies copied _
+    (c.in_err-reads.ensures.told (all-known p hooks its next prepared linker w ready fits)
+    (long-copies p hooks its next prepared linker w ready fits copies copied)))))
 
 -- what was read is read of the program
 abbrev IsReadSo : (linker : Linker) (copies : List Module) (next : ℕ) (reads : List Read) → Type 0
 IsReadSo linker copies next reads =
     (p : Program) (given : Answering) (its : ℕ → Contexts) (prepared : Parts) →
     IsMergeable p its linker → IsPrepared p (hooks_by given) its next prepared →
-    AreOwnObjects p (hooks_by given) prepared →
     map items_of copies ≡ items_of_each (in_order prepared) linker.linked.list.items →
     AreReadIn (cleared_program p) (hooks_by given) linker (λ m. (its m).local) next reads
 
@@ -52,15 +51,15 @@ read-so : (linker : Linker) (ids : List ℕ) (copies : List Module) (next : ℕ)
     length copies ≡ length linker.linked.list.items →
     AreReadFrom linker ids linker.linked.list.items copies (length copies) reads) →
     IsReadSo linker copies next reads
-read-so linker ids copies next reads keys read p given its prepared w ready objects copied =
+read-so linker ids copies next reads keys read p given its prepared w ready copied =
     let hooks = hooks_by given in
     let fits = answers-fit given in
     let list = linker.linked.list.items in
-    let long = long-copies p hooks its next prepared linker w ready objects fits copies copied in
-    read-in p hooks its next prepared linker w ready objects fits copies copied reads
+    let long = long-copies p hooks its next prepared linker w ready fits copies copied in
+    read-in p hooks its next prepared linker w ready fits copies copied reads
     (subst (λ (n : ℕ). AreReadFrom linker list list copies n reads) long
     (subst (λ (ids : List ℕ). AreReadFrom linker ids list copies (length copies) reads) keys
-    (read (all-known p hooks its next prepared linker w ready objects fits) long)))
+    (read (all-known p hooks its next prepared linker w ready fits) long)))
 
 pub returns-in-Ok-clause-bundle : goal.returns-in-Ok-clause-bundle
 returns-in-Ok-clause-bundle c =
@@ -69,11 +68,11 @@ returns-in-Ok-clause-bundle c =
     let next = c.args.contexts.now.next in
     let reads = c.in_ok-reads.reads.items in
     IfOk-weaker c.with_next.result _ _
-    (λ made same p given its prepared w ready objects keys copied.
+    (λ made same p given its prepared w ready keys copied.
     (let hooks = hooks_by given in
     let read =
     read-so linker c.args.places.now.keys copies next reads keys c.in_ok-reads.ensures.read p given
-    its prepared w ready objects copied in
+    its prepared w ready copied in
     subst (λ (m : Module). IsMerged (λ x. x) (λ m. (its m).local) p hooks (joined (items_of m)))
     (sym same)
     (merged-of-cleared p (λ x. x) (λ m. (its m).local) hooks _
@@ -93,11 +92,11 @@ returns-in-Ok-clause-lacks c =
     let next = c.args.contexts.now.next in
     let reads = c.in_ok-reads.reads.items in
     IfErr-weaker c.with_next.result _ _
-    (λ refusal lack p given its prepared w ready objects keys copied.
+    (λ refusal lack p given its prepared w ready keys copied.
     (let hooks = hooks_by given in
     let read =
     read-so linker c.args.places.now.keys copies next reads keys c.in_ok-reads.ensures.read p given
-    its prepared w ready objects copied in
+    its prepared w ready copied in
     elim lack [
       | inl memory ↦ inl memory
       | inr used ↦
@@ -124,11 +123,11 @@ returns-clause-lacks c =
     let next = c.args.contexts.now.next in
     let reads = c.in_ok-reads.reads.items in
     let error = c.in_ok-lack_of_contexts-in-Err-ContextsUsedUp.field-0 in
-    λ p given its prepared w ready objects keys copied.
+    λ p given its prepared w ready keys copied.
     (let hooks = hooks_by given in
     let read =
     read-so linker c.args.places.now.keys copies next reads keys c.in_ok-reads.ensures.read p given
-    its prepared w ready objects copied in
+    its prepared w ready copied in
     inr (
       subst (λ (file : FileName). IsUsedUp file error) c.file.ensures
           c.in_ok-lack_of_contexts-in-Err-ContextsUsedUp.ensures,

@@ -11,16 +11,16 @@ use Rattle.bundle_merge.proofs.Joining.{body-joined}
 use Rattle.bundle_merge.proofs.joined.merge_into_entry.Goals as goal
 
 pub returns-clause-bundle : goal.returns-clause-bundle
-returns-clause-bundle c = λ p given its w ready objects.
+returns-clause-bundle c = λ p given its w ready.
     let its_module = c.in_ok-module.«module» in
     subst (λ (tree : List Item). IsMerged (λ x. x) (λ m. (its m).local) p (hooks_by given) tree)
     (sym (ap body_of c.in_ok-merged.ensures ∙ body-joined c.entry.result (items_of its_module)))
-    (c.in_ok-module.ensures.bundle p given its w ready objects
+    (c.in_ok-module.ensures.bundle p given its w ready
     (c.in_ok-places.ensures ∙ ap numbers_once c.list.ensures))
 
 pub returns-in_err-module-clause-lacks : goal.returns-in_err-module-clause-lacks
 returns-in_err-module-clause-lacks c =
     let q = err_from_is_err_and c.from_residual-in_err-module.result c.from_residual-in_err-module.ensures.1 in
-    rw (q.1, q.2) (λ p given its w ready objects.
-    c.in_err-module.ensures.lacks p given its w ready objects
+    rw (q.1, q.2) (λ p given its w ready.
+    c.in_err-module.ensures.lacks p given its w ready
     (c.in_ok-places.ensures ∙ ap numbers_once c.list.ensures))
