@@ -17,12 +17,12 @@ ghost use Rattle.bundle_merge_whole.specs.finished.Ended.{AreEndNames, IsNamedAt
 ghost use Rattle.bundler_entry.specs.Finished.{IsFinished, NamesInTurn, is_renaming};
 ghost use Rattle.bundler_entry.specs.declared.unlinked.Unlinked.TheVariants.{OutOfMemory};
 
+use crate::source::list_of;
 use crate::unlinked::Unlinked;
 use bundle_merge_forms::wrap_with_iife;
 use bundle_scope_denote::{Denotations, ModuleKind, Reading, denotations};
 use bundle_scope_names::{Contexts, Names, changes_of, hygienic_names, keyword_names};
 use bundle_tree_ast::Module;
-use bundle_tree_list::pieces_of_module;
 use bundle_tree_names::config::{Config, ModuleType};
 use bundle_tree_piece::Piece;
 use bundle_tree_rebuild::Rebuild;
@@ -62,27 +62,29 @@ fn named(alloc: Global, merged: &Module, config: &Config) -> Result<Module, Allo
         NamesInTurn (is_renaming config.now) (module_items 0 merged.now)
         (module_items 0 made)) }
 {
-    let list = pieces_of_module(alloc, merged)?;
+    let list = list_of(alloc, merged)?;
     let denoted = denotations(alloc, &list, ModuleKind::Es, Reading::ByContext)?;
-    renamed(alloc, merged, &list, &denoted, config)
+    renamed(alloc, merged, list, denoted, config)
 }
 
-// The same, where this is its list, and this is what its names denote.
+// The same, where this is its list, and this is what its names denote, which are let go of before the tree is made.
 fn renamed<'c>(
     alloc: Global,
     merged: &Module,
-    list: &[Piece<'c>],
-    denoted: &Denotations<'c>,
+    list: Vec<Piece<'c>>,
+    denoted: Denotations<'c>,
     config: &Config,
 ) -> Result<Module, AllocError>
-    requires { IsTable ByContext Es (map item_of list.now) denoted.now }
-    ensures at_once { map item_of list.now ≡ module_items 0 merged.now → IfOk result (λ made.
+    requires { IsTable ByContext Es (map item_of list.items) denoted }
+    ensures at_once { map item_of list.items ≡ module_items 0 merged.now → IfOk result (λ made.
         IsNamedAtOnce (is_renaming config.now) (module_items 0 merged.now)
         (module_items 0 made)) }
     ensures editable { IfOk result (λ made. IsEditable (module_items 0 merged.now)) }
 {
-    let names = names_of(alloc, list, denoted, config)?;
-    let changes = changes_of(alloc, list, denoted, &names, contexts_of(config))?;
+    let names = names_of(alloc, &list, &denoted, config)?;
+    let changes = changes_of(alloc, &list, &denoted, &names, contexts_of(config))?;
+    drop(list);
+    drop(denoted);
     let mut rebuild = Rebuild::new(alloc, &changes);
     rebuild.module(merged)
 }
