@@ -10,7 +10,7 @@ use Rattle.bundle_rules.specs.Entries.{Settings}
 use Rattle.bundle_rules.specs.Kept.{Kept}
 use Rattle.bundle_rules.specs.Faults.{Fault, DoubledEntry, Parties, fault_of}
 use Rattle.bundle_rules.specs.Headline.{IsBundleOf}
-use Rattle.bundle_rules.specs.Judging.{Entry, Outcome, GoesOn, Refused, IsDoubledEntry}
+use Rattle.bundle_rules.specs.Judging.{Entry, Outcome, GoesOn, Refused, Refuses, IsDoubledEntry}
 use Rattle.bundler_call.specs.Answer.{bundled_of}
 use Rattle.bundler_call.specs.Kept.{entry_of, parties_of}
 use Rattle.bundler_call.specs.declared.bundle.Bundle.{Bundle}
@@ -37,6 +37,11 @@ AreApart entries = (i j : ℕ) (a b : Entry) → i < j → slice_get entries i �
 -- the fault is that of the first entry that doubles another
 abbrev pub IsFaultOfList : List Entry → Fault → Type 0
 IsFaultOfList entries fault = (later : Entry) × IsDoubledEntry entries later × (fault ≡ DoubledEntry later.file later.name)
+
+-- the fault that a refusal tells of is the first in the order of judging; want of memory tells of none
+abbrev pub IsToldOf : Parties → Settings → List Entry → (old new : Kept) → Error → Type 0
+IsToldOf parties settings entries old new refusal =
+    IfSome (fault_of refusal) (λ fault. Refuses parties settings entries old fault new)
 
 -- a bundle is that of an entry, over what is kept
 abbrev pub IsBundledFor : Parties → Settings → Kept → String Global × FileName → Bundle → Type 0
