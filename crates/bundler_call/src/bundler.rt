@@ -88,15 +88,7 @@ impl<L: Load + Drop, R: Resolve + Drop> Bundler<L, R> {
         }
         let (list, ids) = loaded(&mut self.library, alloc, entries.as_slice(), &self.config)?;
         let kept = &self.library.kept;
-        Ok(linked_bundles(
-            alloc,
-            kept,
-            &list,
-            &self.config,
-            &*self.hook,
-            entries,
-            ids,
-        )?)
+        Ok(linked_bundles(alloc, kept, &list, &self.config, &*self.hook, entries, ids)?)
     }
 
     /// The same, once and for all: the loader and the resolver are let go of when all modules are loaded.
@@ -123,9 +115,7 @@ impl<L: Load + Drop, R: Resolve + Drop> Bundler<L, R> {
         let mut library = library;
         let (list, ids) = loaded(&mut library, alloc, entries.as_slice(), &config)?;
         let kept = library.into_kept();
-        Ok(linked_bundles(
-            alloc, &kept, &list, &config, &*hook, entries, ids,
-        )?)
+        Ok(linked_bundles(alloc, &kept, &list, &config, &*hook, entries, ids)?)
     }
 }
 

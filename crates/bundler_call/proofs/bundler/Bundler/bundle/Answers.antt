@@ -19,7 +19,7 @@ use Rattle.bundler_call.proofs.bundler.Bundler.bundle.Goals as goal
 -- No entry.
 
 pub returns-then-is_empty-clause-headline : goal.returns-then-is_empty-clause-headline
-returns-then-is_empty-clause-headline g c = 
+returns-then-is_empty-clause-headline g c =
     empty_headline _ (settings_of c.args.self.now.config) c.args.entries.items _ (kept_of c.args.self.now.library.kept)
     (nil_from_length c.args.entries.items (sym c.args.entries.ok.0 ∙ eqb-true _ 0 (sym c.is_empty.ensures ∙ c.if-is_empty.true)))
     c.new.ensures.items
