@@ -29,7 +29,7 @@ use bundle_tree_names::ModuleId;
 use bundle_tree_names::config::Config;
 use bundle_tree_names::error::Error;
 use bundle_tree_names::file_name::FileName;
-use bundler_entry::{Call, Program, Unlinked};
+use bundler_entry::{Call, Program, Unlinked, finished};
 use bundler_kept::Kept as Keeping;
 use indexmap::IndexSet;
 use std::alloc::{AllocError, Global};
@@ -88,10 +88,20 @@ impl<L: Load + Drop, R: Resolve + Drop> Bundler<L, R> {
         }
         let (list, ids) = loaded(&mut self.library, alloc, entries.as_slice(), &self.config)?;
         let kept = &self.library.kept;
-        Ok(linked_bundles(alloc, kept, &list, &self.config, &*self.hook, entries, ids)?)
+        let merged = merged_bundles(
+            alloc,
+            kept,
+            &list,
+            &self.config,
+            &*self.hook,
+            entries,
+            ids,
+        )?;
+        Ok(finished_bundles(alloc, merged, &self.config)?)
     }
 
-    /// The same, once and for all: the loader and the resolver are let go of when all modules are loaded.
+    /// The same, once and for all: the loader and the resolver are let go of when all modules are loaded, and the modules
+    /// when they are merged.
     pub fn into_bundles(
         self,
         alloc: Global,
@@ -115,7 +125,9 @@ impl<L: Load + Drop, R: Resolve + Drop> Bundler<L, R> {
         let mut library = library;
         let (list, ids) = loaded(&mut library, alloc, entries.as_slice(), &config)?;
         let kept = library.into_kept();
-        Ok(linked_bundles(alloc, &kept, &list, &config, &*hook, entries, ids)?)
+        let merged = merged_bundles(alloc, &kept, &list, &config, &*hook, entries, ids)?;
+        drop(kept);
+        Ok(finished_bundles(alloc, merged, &config)?)
     }
 }
 
@@ -212,8 +224,34 @@ fn numbered<L: Load + Drop, R: Resolve + Drop>(
     Ok((list, ids))
 }
 
-// A bundle for each entry, where these are the numbers of their files, and all that they need is on the list.
-fn linked_bundles(
+// The bundles, finished.
+fn finished_bundles(
+    alloc: Global,
+    merged: Vec<Bundle>,
+    config: &Config,
+) -> Result<Vec<Bundle>, AllocError>
+    ensures { IfOk result (λ bundles.
+        AllZip (IsFinishedBundle config.now) merged.items bundles.items) }
+{
+    let mut bundles = Vec::new(alloc);
+    for bundle in merged {
+        bundles.push(finished_bundle(alloc, bundle, config)?)?;
+    }
+    Ok(bundles)
+}
+
+// A bundle, finished.
+fn finished_bundle(alloc: Global, merged: Bundle, config: &Config) -> Result<Bundle, AllocError>
+    ensures { IfOk result (IsFinishedBundle config.now merged) }
+{
+    let Bundle { kind, id, module } = merged;
+    let module = finished(alloc, module, config)?;
+    Ok(Bundle { kind, id, module })
+}
+
+// A bundle for each entry, before it is finished, where these are the numbers of their files, and all that they need is
+// on the list.
+fn merged_bundles(
     alloc: Global,
     kept: &Keeping<ModuleData>,
     list: &LoadList,
@@ -227,8 +265,8 @@ fn linked_bundles(
         IsLoaded (settings_of config.now) (kept_of kept.now) list.now →
         AllZip (IsNumberedOn (kept_of kept.now) list.now) entries.items ids.items →
         AllZip
-        (IsBundledFor (answered_by (may_give hook.now) (may_fail_hook hook.now))
-        (settings_of config.now) (kept_of kept.now))
+        (IsBundledOf (answered_by (may_give hook.now) (may_fail_hook hook.now)) config.now
+        (kept_of kept.now))
         entries.items bundles.items) }
     ensures refused { IfErr result (λ unlinked.
         IsLoaded (settings_of config.now) (kept_of kept.now) list.now →
@@ -252,8 +290,8 @@ fn bundles_of<'x>(
     ensures bundles { IfOk result (λ bundles. (kept : Kept) (list : LoadList) →
         IsReadOf (settings_of config.now) kept list program.now →
         AllZip (IsNumberedOn kept list) entries.items ids.items →
-        AllZip (IsBundledFor (answered_by (may_give hook.now) (may_fail_hook hook.now))
-        (settings_of config.now) kept) entries.items bundles.items) }
+        AllZip (IsBundledOf (answered_by (may_give hook.now) (may_fail_hook hook.now)) config.now
+        kept) entries.items bundles.items) }
     ensures refused { IfErr result (λ unlinked. (kept : Kept) (list : LoadList) →
         IsReadOf (settings_of config.now) kept list program.now →
         AllZip (IsNumberedOn kept list) entries.items ids.items →

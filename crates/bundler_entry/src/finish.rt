@@ -1,7 +1,7 @@
 //! The module of what was merged: no binding has a keyword's name, no two names clash, and it is one function's call
 //! where the settings say so.
 
-ghost use Rattle.std.specs.Prelude.{◌≡◌, IfErr, IfOk, map, if◌then◌else◌};
+ghost use Rattle.std.specs.Prelude.{◌≡◌, IfOk, map, if◌then◌else◌};
 ghost use Rattle.bundle_scope_names.specs.declared.names.Contexts.TheVariants.{Clear, Keep};
 ghost use Rattle.bundle_merge_whole.specs.finished.Twice.{IsEditable};
 ghost use Rattle.bundle_tree_piece.specs.Item.{item_of};
@@ -15,10 +15,8 @@ ghost use Rattle.bundle_scope_denote.specs.Listed.{IsTable};
 ghost use Rattle.bundle_tree_listed.specs.Tree.{module_items};
 ghost use Rattle.bundle_merge_whole.specs.finished.Ended.{AreEndNames, IsNamedAtOnce};
 ghost use Rattle.bundler_entry.specs.Finished.{IsFinished, NamesInTurn, is_renaming};
-ghost use Rattle.bundler_entry.specs.declared.unlinked.Unlinked.TheVariants.{OutOfMemory};
 
 use crate::source::list_of;
-use crate::unlinked::Unlinked;
 use bundle_merge_forms::wrap_with_iife;
 use bundle_scope_denote::{Denotations, ModuleKind, Reading, denotations};
 use bundle_scope_names::{Contexts, Names, changes_of, hygienic_names, keyword_names};
@@ -28,13 +26,13 @@ use bundle_tree_piece::Piece;
 use bundle_tree_rebuild::Rebuild;
 use std::alloc::{AllocError, Global};
 
-/// The module of what was merged. Both keywords and names are renamed in one go. Refused only where memory runs out.
-pub fn finished(alloc: Global, merged: &Module, config: &Config) -> Result<Module, Unlinked>
-    ensures finished { IfOk result (λ made.
-        IsFinished config.now (module_items 0 merged.now) (module_items 0 made)) }
-    ensures refused { IfErr result (λ refusal. refusal ≡ OutOfMemory) }
+/// The module of what was merged, which is let go of. Both keywords and names are renamed in one go.
+pub fn finished(alloc: Global, merged: Module, config: &Config) -> Result<Module, AllocError>
+    ensures { IfOk result (λ made.
+        IsFinished config.now (module_items 0 merged) (module_items 0 made)) }
 {
-    let named = named(alloc, merged, config)?;
+    let named = named(alloc, &merged, config)?;
+    drop(merged);
     match config.module {
         ModuleType::Es => Ok(named),
         ModuleType::Iife => called(alloc, &named),
@@ -42,14 +40,13 @@ pub fn finished(alloc: Global, merged: &Module, config: &Config) -> Result<Modul
 }
 
 // A module as the call of one function.
-fn called(alloc: Global, module: &Module) -> Result<Module, Unlinked>
-    ensures wrapped { CanBeWrapped «module».now.body.items → IfOk result
+fn called(alloc: Global, module: &Module) -> Result<Module, AllocError>
+    ensures { CanBeWrapped «module».now.body.items → IfOk result
         (λ made. module_items 0 made ≡ wrapped (module_items 0 «module».now)) }
-    ensures refused { IfErr result (λ refusal. refusal ≡ OutOfMemory) }
 {
     match wrap_with_iife(alloc, module) {
         Ok(call) => Ok(call),
-        Err(_) => Err(Unlinked::OutOfMemory),
+        Err(_) => Err(AllocError),
     }
 }
 
