@@ -10,7 +10,7 @@ ghost use Rattle.bundle_rules.specs.Judging.{Completes, NumbersEach};
 ghost use Rattle.bundle_rules.specs.Kept.{nothing_kept, Kept};
 ghost use Rattle.bundler_call.specs.Answer.{answer_of};
 ghost use Rattle.bundler_call.specs.Bundler.{config_of, files_of, hook_of, kept_by, loader_of, parties_held, resolver_of, settings_held, HasNumber};
-ghost use Rattle.bundler_call.specs.Judged.{Ends, AreApart, IsBundledFor, IsFaultOfList, IsToldOf, asked_by};
+ghost use Rattle.bundler_call.specs.Judged.{Ends, AreApart, IsFaultOfList, IsFinishedBundle, IsMergedBundle, IsToldOf, asked_by};
 ghost use Rattle.bundler_call.specs.Kept.{entry_of, kept_of, settings_of, IsBounded};
 ghost use Rattle.bundler_call.specs.Library.{MovesOn};
 ghost use Rattle.bundler_call.specs.Linking.{answered_by, IsLoaded, IsNumberedOn, IsReadOf, IsRefusalOfEntries};
@@ -265,7 +265,7 @@ fn merged_bundles(
         IsLoaded (settings_of config.now) (kept_of kept.now) list.now →
         AllZip (IsNumberedOn (kept_of kept.now) list.now) entries.items ids.items →
         AllZip
-        (IsBundledOf (answered_by (may_give hook.now) (may_fail_hook hook.now)) config.now
+        (IsMergedBundle (answered_by (may_give hook.now) (may_fail_hook hook.now)) config.now
         (kept_of kept.now))
         entries.items bundles.items) }
     ensures refused { IfErr result (λ unlinked.
@@ -290,7 +290,7 @@ fn bundles_of<'x>(
     ensures bundles { IfOk result (λ bundles. (kept : Kept) (list : LoadList) →
         IsReadOf (settings_of config.now) kept list program.now →
         AllZip (IsNumberedOn kept list) entries.items ids.items →
-        AllZip (IsBundledOf (answered_by (may_give hook.now) (may_fail_hook hook.now)) config.now
+        AllZip (IsMergedBundle (answered_by (may_give hook.now) (may_fail_hook hook.now)) config.now
         kept) entries.items bundles.items) }
     ensures refused { IfErr result (λ unlinked. (kept : Kept) (list : LoadList) →
         IsReadOf (settings_of config.now) kept list program.now →

@@ -4,13 +4,15 @@ use Rattle.std.proofs.Common.{eqb-true, refl, sym, map, subst, ◌∙◌}
 use Rattle.std.proofs.lemmas.List.{nil_from_length}
 use Rattle.std.specs.List.{AllZip}
 use Rattle.bundler_entry.specs.Unlinked.{error_of}
+use Rattle.bundle_tree_names.specs.declared.error.Error.TheVariants.{OutOfMemory}
 use Rattle.bundle_rules.specs.Judging as j
 use Rattle.bundle_rules.specs.Judging.{Completes}
 use Rattle.bundler_call.specs.Judged.{asked_by, IsBundledFor, IsToldOf}
 use Rattle.bundler_call.specs.Kept.{entry_of, kept_of, parties_of, settings_of}
 use Rattle.bundler_call.specs.Linking.{IsNumberedOn, IsRefusalOfEntries}
-use Rattle.bundler_call.proofs.Bundling.{along}
-use Rattle.bundler_call.proofs.Ending.{answers_none, bundled_headline, empty_headline, refused_headline, refused_linking, some_entry}
+use Rattle.bundler_call.proofs.Bundling.{all_finished, along}
+use Rattle.bundler_call.proofs.Ending.{answers_none, bundled_headline, empty_headline, refused_headline, refused_linking, some_entry, IsRefusedBy}
+use Rattle.bundler_call.proofs.Finding.{handed_on}
 use Rattle.bundler_call.proofs.Linking.{all_bundled_as, refusal_as}
 use Rattle.bundler_call.proofs.Numbered.{advances_for}
 use Rattle.bundler_call.proofs.Unasked.{completes_beside, refused_beside}
@@ -38,11 +40,17 @@ returns-in_err-list-clause-loader g c = c.in_err-list.ensures.grows.loader
 pub returns-in_err-list-clause-resolver : goal.returns-in_err-list-clause-resolver
 returns-in_err-list-clause-resolver g c = c.in_err-list.ensures.grows.resolver
 
-pub returns-in_err-linked_bundles-clause-loader : goal.returns-in_err-linked_bundles-clause-loader
-returns-in_err-linked_bundles-clause-loader g c = c.in_ok-list.ensures.grows.loader
+pub returns-in_err-merged-clause-loader : goal.returns-in_err-merged-clause-loader
+returns-in_err-merged-clause-loader g c = c.in_ok-list.ensures.grows.loader
 
-pub returns-in_err-linked_bundles-clause-resolver : goal.returns-in_err-linked_bundles-clause-resolver
-returns-in_err-linked_bundles-clause-resolver g c = c.in_ok-list.ensures.grows.resolver
+pub returns-in_err-merged-clause-resolver : goal.returns-in_err-merged-clause-resolver
+returns-in_err-merged-clause-resolver g c = c.in_ok-list.ensures.grows.resolver
+
+pub returns-in_err-finished_bundles-clause-loader : goal.returns-in_err-finished_bundles-clause-loader
+returns-in_err-finished_bundles-clause-loader g c = c.in_ok-list.ensures.grows.loader
+
+pub returns-in_err-finished_bundles-clause-resolver : goal.returns-in_err-finished_bundles-clause-resolver
+returns-in_err-finished_bundles-clause-resolver g c = c.in_ok-list.ensures.grows.resolver
 
 pub returns-clause-loader : goal.returns-clause-loader
 returns-clause-loader g c = c.in_ok-list.ensures.grows.loader
@@ -60,8 +68,8 @@ returns-in_err-list-clause-headline g c =
     (refused_beside g.L.Load.may_load g.L.Load.may_fail_load g.R.Resolve.may_resolve g.R.Resolve.may_fail_resolve _ _ settings c.args.self.now.library.loader c.args.self.now.library.resolver c.from_residual.result c.in_err-list.field-0.0 c.from_residual.ensures.1 (map entry_of c.args.entries.items) old new
     (subst (λ xs. IsToldOf (asked_by g.L.Load.may_load g.L.Load.may_fail_load g.R.Resolve.may_resolve g.R.Resolve.may_fail_resolve c.args.self.now.library.loader c.args.self.now.library.resolver) settings (map entry_of xs) old new c.in_err-list.field-0.0) c.as_slice.ensures.value c.in_err-list.ensures.refused))
 
-pub returns-in_err-linked_bundles-clause-headline : goal.returns-in_err-linked_bundles-clause-headline
-returns-in_err-linked_bundles-clause-headline g c =
+pub returns-in_err-merged-clause-headline : goal.returns-in_err-merged-clause-headline
+returns-in_err-merged-clause-headline g c =
     let settings = settings_of c.args.self.now.config in
     let old = kept_of c.args.self.now.library.kept in
     let new = kept_of c.loaded.new.library.kept in
@@ -69,15 +77,24 @@ returns-in_err-linked_bundles-clause-headline g c =
     let may_fail_load = g.L.Load.may_fail_load c.args.self.now.library.loader in
     let may_resolve = g.R.Resolve.may_resolve c.args.self.now.library.resolver in
     let may_fail_resolve = g.R.Resolve.may_fail_resolve c.args.self.now.library.resolver in
-    refused_headline _ settings c.args.entries.items old new c.from_residual-in_err-linked_bundles.result (error_of c.in_err-linked_bundles.field-0.0) c.from_residual-in_err-linked_bundles.ensures.1
+    refused_headline _ settings c.args.entries.items old new c.from_residual-in_err-merged.result (error_of c.in_err-merged.field-0.0) c.from_residual-in_err-merged.ensures.1
     (advances_for _ _ settings c.as_slice.result.now c.args.entries.items _ _ _ _ old new c.as_slice.ensures.value c.in_ok-list.ensures.grows).grows
-    (refused_linking _ settings _ (map entry_of c.args.entries.items) old new c.in_err-linked_bundles.field-0.0 c.from_residual-in_err-linked_bundles.ensures.1
+    (refused_linking _ settings _ (map entry_of c.args.entries.items) old new c.in_err-merged.field-0.0 c.from_residual-in_err-merged.ensures.1
     (completes_beside g.L.Load.may_load g.L.Load.may_fail_load g.R.Resolve.may_resolve g.R.Resolve.may_fail_resolve _ _ settings c.args.self.now.library.loader c.args.self.now.library.resolver (map entry_of c.args.entries.items) old new
     (subst (λ xs. Completes (asked_by g.L.Load.may_load g.L.Load.may_fail_load g.R.Resolve.may_resolve g.R.Resolve.may_fail_resolve c.args.self.now.library.loader c.args.self.now.library.resolver) settings (map entry_of xs) old new) c.as_slice.ensures.value c.in_ok-list.ensures.completes))
-    (along c.deref_box-1.ensures.1 (λ v. IsRefusalOfEntries (parties_of may_load may_fail_load may_resolve may_fail_resolve ((goal.Hook-dyn g v).may_give v.1) ((goal.Hook-dyn g v).may_fail_hook v.1)) settings new (map entry_of c.args.entries.items) c.in_err-linked_bundles.field-0.0)
-    (refusal_as may_load may_fail_load may_resolve may_fail_resolve _ _ new settings (map entry_of c.args.entries.items) c.in_err-linked_bundles.field-0.0
-    (c.in_err-linked_bundles.ensures.refused c.in_ok-list.ensures.loaded
+    (along c.deref_box-1.ensures.1 (λ v. IsRefusalOfEntries (parties_of may_load may_fail_load may_resolve may_fail_resolve ((goal.Hook-dyn g v).may_give v.1) ((goal.Hook-dyn g v).may_fail_hook v.1)) settings new (map entry_of c.args.entries.items) c.in_err-merged.field-0.0)
+    (refusal_as may_load may_fail_load may_resolve may_fail_resolve _ _ new settings (map entry_of c.args.entries.items) c.in_err-merged.field-0.0
+    (c.in_err-merged.ensures.refused c.in_ok-list.ensures.loaded
     (subst (λ xs. AllZip (IsNumberedOn new c.in_ok-list.list) xs c.in_ok-list.ids.items) c.as_slice.ensures.value c.in_ok-list.ensures.numbered)))))
+
+pub returns-in_err-finished_bundles-clause-headline : goal.returns-in_err-finished_bundles-clause-headline
+returns-in_err-finished_bundles-clause-headline g c =
+    let settings = settings_of c.args.self.now.config in
+    let old = kept_of c.args.self.now.library.kept in
+    let new = kept_of c.loaded.new.library.kept in
+    refused_headline _ settings c.args.entries.items old new c.from_residual-in_err-finished_bundles.result OutOfMemory c.from_residual-in_err-finished_bundles.ensures.1
+    (advances_for _ _ settings c.as_slice.result.now c.args.entries.items _ _ _ _ old new c.as_slice.ensures.value c.in_ok-list.ensures.grows).grows
+    (handed_on c.from_residual-in_err-finished_bundles.result OutOfMemory (IsRefusedBy _ settings (map entry_of c.args.entries.items) old new) c.from_residual-in_err-finished_bundles.ensures.1 tt)
 
 -- Bundles.
 
@@ -90,11 +107,11 @@ returns-clause-headline g c =
     let may_fail_load = g.L.Load.may_fail_load c.args.self.now.library.loader in
     let may_resolve = g.R.Resolve.may_resolve c.args.self.now.library.resolver in
     let may_fail_resolve = g.R.Resolve.may_fail_resolve c.args.self.now.library.resolver in
-    bundled_headline _ settings c.args.entries.items old new c.in_ok-linked_bundles.field-0.items
+    bundled_headline _ settings c.args.entries.items old new c.in_ok-finished_bundles.field-0.items
     (advances_for _ _ settings c.as_slice.result.now c.args.entries.items _ _ _ _ old new c.as_slice.ensures.value c.in_ok-list.ensures.grows).grows
     (completes_beside g.L.Load.may_load g.L.Load.may_fail_load g.R.Resolve.may_resolve g.R.Resolve.may_fail_resolve _ _ settings c.args.self.now.library.loader c.args.self.now.library.resolver (map entry_of c.args.entries.items) old new
     (subst (λ xs. Completes (asked_by g.L.Load.may_load g.L.Load.may_fail_load g.R.Resolve.may_resolve g.R.Resolve.may_fail_resolve c.args.self.now.library.loader c.args.self.now.library.resolver) settings (map entry_of xs) old new) c.as_slice.ensures.value c.in_ok-list.ensures.completes))
-    (along c.deref_box-1.ensures.1 (λ v. AllZip (IsBundledFor (parties_of may_load may_fail_load may_resolve may_fail_resolve ((goal.Hook-dyn g v).may_give v.1) ((goal.Hook-dyn g v).may_fail_hook v.1)) settings new) c.args.entries.items c.in_ok-linked_bundles.field-0.items)
-    (all_bundled_as may_load may_fail_load may_resolve may_fail_resolve _ _ settings new c.args.entries.items c.in_ok-linked_bundles.field-0.items
-    (c.in_ok-linked_bundles.ensures.bundles c.in_ok-list.ensures.loaded
-    (subst (λ xs. AllZip (IsNumberedOn new c.in_ok-list.list) xs c.in_ok-list.ids.items) c.as_slice.ensures.value c.in_ok-list.ensures.numbered))))
+    (along c.deref_box-1.ensures.1 (λ v. AllZip (IsBundledFor (parties_of may_load may_fail_load may_resolve may_fail_resolve ((goal.Hook-dyn g v).may_give v.1) ((goal.Hook-dyn g v).may_fail_hook v.1)) settings new) c.args.entries.items c.in_ok-finished_bundles.field-0.items)
+    (all_bundled_as may_load may_fail_load may_resolve may_fail_resolve _ _ settings new c.args.entries.items c.in_ok-finished_bundles.field-0.items
+    (all_finished c.args.self.now.config _ new c.args.entries.items c.in_ok-merged.merged.items c.in_ok-finished_bundles.field-0.items (c.in_ok-merged.ensures.bundles c.in_ok-list.ensures.loaded
+    (subst (λ xs. AllZip (IsNumberedOn new c.in_ok-list.list) xs c.in_ok-list.ids.items) c.as_slice.ensures.value c.in_ok-list.ensures.numbered)) c.in_ok-finished_bundles.ensures)))

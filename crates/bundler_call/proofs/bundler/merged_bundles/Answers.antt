@@ -1,7 +1,7 @@
 -- What is told of what was read is told of the list.
 use Rattle.std.proofs.lemmas.Result.{IfErr-weaker, IfOk-weaker}
 use Rattle.bundler_call.specs.Kept.{kept_of}
-use Rattle.bundler_call.proofs.bundler.linked_bundles.Goals as goal
+use Rattle.bundler_call.proofs.bundler.merged_bundles.Goals as goal
 
 pub returns-clause-bundles : goal.returns-clause-bundles
 returns-clause-bundles g c = IfOk-weaker c.bundles_of.result _ _ (λ bundles made loaded all. made (kept_of c.args.library.now.kept) c.args.list.now (c.in_ok-program.ensures loaded) all) c.bundles_of.ensures.bundles
