@@ -74,17 +74,17 @@ module _ (parties : Parties) (config : Config) (kept : Kept) (list : LoadList) w
     made_more made bundle is_made named numbered is_merged =
         let program : IsProgramOf kept (settings_of config) (entry_of entry) (program_of kept (settings_of config) id) = program_here entry id number_here.0 in
         let its : IsMergedBundle parties config kept entry bundle = λ whole finished.
-            let right = is_merged.bundle whole.«module» finished.tree in record {
-              its_kind = ap kind_of (finished.kind ∙ named);
-              p = program_of kept (settings_of config) id;
-              its_program = program;
-              its_id = finished.id ∙ numbered;
-              accepted = is_merged.accepted;
-              clean = right.clean;
-              undoubled = right.undoubled;
-              is_bundle = right.is_bundle;
-              names = right.names;
-            } in (
+        let right = is_merged.bundle whole.«module» finished.tree in record {
+          its_kind = ap kind_of (finished.kind ∙ named);
+          p = program_of kept (settings_of config) id;
+          its_program = program;
+          its_id = finished.id ∙ numbered;
+          accepted = is_merged.accepted;
+          clean = right.clean;
+          undoubled = right.undoubled;
+          is_bundle = right.is_bundle;
+          names = right.names;
+        } in (
           all_left.1,
           λ more are. subst (λ xs. AllZip (IsMergedBundle parties config kept) entries (xs ++ more)) (sym is_made) (subst (λ xs. AllZip (IsMergedBundle parties config kept) entries xs) (sym (append_assoc bundles (bundle ∷ []) more)) (so_far.1 (bundle ∷ more) (subst (λ xs. AllZip (IsMergedBundle parties config kept) xs (bundle ∷ more)) (sym is_rest) (its, are)))),
           λ fault refuses. refuses_on fault (refuses_later kept (settings_of config) parties (entry_of entry) (map entry_of left) (program_of kept (settings_of config) id) fault program is_merged.accepted refuses),

@@ -88,15 +88,7 @@ impl<L: Load + Drop, R: Resolve + Drop> Bundler<L, R> {
         }
         let (list, ids) = loaded(&mut self.library, alloc, entries.as_slice(), &self.config)?;
         let kept = &self.library.kept;
-        let merged = merged_bundles(
-            alloc,
-            kept,
-            &list,
-            &self.config,
-            &*self.hook,
-            entries,
-            ids,
-        )?;
+        let merged = merged_bundles(alloc, kept, &list, &self.config, &*self.hook, entries, ids)?;
         Ok(finished_bundles(alloc, merged, &self.config)?)
     }
 

@@ -20,10 +20,12 @@ use Rattle.bundler_call.proofs.bundler.Bundler.into_bundles.Goals as goal
 -- No entry.
 
 pub returns-then-is_empty-clause-headline : goal.returns-then-is_empty-clause-headline
-returns-then-is_empty-clause-headline g c = (kept_of c.args.self.library.kept, 
-    empty_headline _ (settings_of c.args.self.config) c.args.entries.items _ (kept_of c.args.self.library.kept)
-    (nil_from_length c.args.entries.items (sym c.args.entries.ok.0 ∙ eqb-true _ 0 (sym c.is_empty.ensures ∙ c.if-is_empty.true)))
-    c.new.ensures.items)
+returns-then-is_empty-clause-headline g c = (
+  kept_of c.args.self.library.kept,
+  empty_headline _ (settings_of c.args.self.config) c.args.entries.items _ (kept_of c.args.self.library.kept)
+      (nil_from_length c.args.entries.items (sym c.args.entries.ok.0 ∙ eqb-true _ 0 (sym c.is_empty.ensures ∙ c.if-is_empty.true)))
+      c.new.ensures.items,
+)
 
 pub returns-then-is_empty-clause-no_entry : goal.returns-then-is_empty-clause-no_entry
 returns-then-is_empty-clause-no_entry g c = λ none. answers_none _ (kept_of c.args.self.library.kept) c.new.ensures.items
@@ -37,11 +39,13 @@ pub returns-in_err-list-clause-headline : goal.returns-in_err-list-clause-headli
 returns-in_err-list-clause-headline g c =
     let settings = settings_of c.args.self.config in
     let old = kept_of c.args.self.library.kept in
-    let new = kept_of c.loaded.new.library.kept in
-    (new, refused_headline _ settings c.args.entries.items old new c.from_residual.result c.in_err-list.field-0.0 c.from_residual.ensures.1
-    (advances_for _ _ settings c.as_slice.result.now c.args.entries.items _ _ _ _ old new c.as_slice.ensures.value c.in_err-list.ensures.grows).grows
-    (refused_beside g.L.Load.may_load g.L.Load.may_fail_load g.R.Resolve.may_resolve g.R.Resolve.may_fail_resolve _ _ settings c.args.self.library.loader c.args.self.library.resolver c.from_residual.result c.in_err-list.field-0.0 c.from_residual.ensures.1 (map entry_of c.args.entries.items) old new
-    (subst (λ xs. IsToldOf (asked_by g.L.Load.may_load g.L.Load.may_fail_load g.R.Resolve.may_resolve g.R.Resolve.may_fail_resolve c.args.self.library.loader c.args.self.library.resolver) settings (map entry_of xs) old new c.in_err-list.field-0.0) c.as_slice.ensures.value c.in_err-list.ensures.refused)))
+    let new = kept_of c.loaded.new.library.kept in (
+      new,
+      refused_headline _ settings c.args.entries.items old new c.from_residual.result c.in_err-list.field-0.0 c.from_residual.ensures.1
+          (advances_for _ _ settings c.as_slice.result.now c.args.entries.items _ _ _ _ old new c.as_slice.ensures.value c.in_err-list.ensures.grows).grows
+          (refused_beside g.L.Load.may_load g.L.Load.may_fail_load g.R.Resolve.may_resolve g.R.Resolve.may_fail_resolve _ _ settings c.args.self.library.loader c.args.self.library.resolver c.from_residual.result c.in_err-list.field-0.0 c.from_residual.ensures.1 (map entry_of c.args.entries.items) old new
+          (subst (λ xs. IsToldOf (asked_by g.L.Load.may_load g.L.Load.may_fail_load g.R.Resolve.may_resolve g.R.Resolve.may_fail_resolve c.args.self.library.loader c.args.self.library.resolver) settings (map entry_of xs) old new c.in_err-list.field-0.0) c.as_slice.ensures.value c.in_err-list.ensures.refused)),
+    )
 
 pub returns-in_err-merged-clause-headline : goal.returns-in_err-merged-clause-headline
 returns-in_err-merged-clause-headline g c =
@@ -51,25 +55,29 @@ returns-in_err-merged-clause-headline g c =
     let may_load = g.L.Load.may_load c.args.self.library.loader in
     let may_fail_load = g.L.Load.may_fail_load c.args.self.library.loader in
     let may_resolve = g.R.Resolve.may_resolve c.args.self.library.resolver in
-    let may_fail_resolve = g.R.Resolve.may_fail_resolve c.args.self.library.resolver in
-    (new, refused_headline _ settings c.args.entries.items old new c.from_residual-in_err-merged.result (error_of c.in_err-merged.field-0.0) c.from_residual-in_err-merged.ensures.1
-    (advances_for _ _ settings c.as_slice.result.now c.args.entries.items _ _ _ _ old new c.as_slice.ensures.value c.in_ok-list.ensures.grows).grows
-    (refused_linking _ settings _ (map entry_of c.args.entries.items) old new c.in_err-merged.field-0.0 c.from_residual-in_err-merged.ensures.1
-    (completes_beside g.L.Load.may_load g.L.Load.may_fail_load g.R.Resolve.may_resolve g.R.Resolve.may_fail_resolve _ _ settings c.args.self.library.loader c.args.self.library.resolver (map entry_of c.args.entries.items) old new
-    (subst (λ xs. Completes (asked_by g.L.Load.may_load g.L.Load.may_fail_load g.R.Resolve.may_resolve g.R.Resolve.may_fail_resolve c.args.self.library.loader c.args.self.library.resolver) settings (map entry_of xs) old new) c.as_slice.ensures.value c.in_ok-list.ensures.completes))
-    (along c.deref_box-1.ensures.1 (λ v. IsRefusalOfEntries (parties_of may_load may_fail_load may_resolve may_fail_resolve ((goal.Hook-dyn g v).may_give v.1) ((goal.Hook-dyn g v).may_fail_hook v.1)) settings new (map entry_of c.args.entries.items) c.in_err-merged.field-0.0)
-    (refusal_as may_load may_fail_load may_resolve may_fail_resolve _ _ new settings (map entry_of c.args.entries.items) c.in_err-merged.field-0.0
-    (c.in_err-merged.ensures.refused c.in_ok-list.ensures.loaded
-    (subst (λ xs. AllZip (IsNumberedOn new c.in_ok-list.list) xs c.in_ok-list.ids.items) c.as_slice.ensures.value c.in_ok-list.ensures.numbered))))))
+    let may_fail_resolve = g.R.Resolve.may_fail_resolve c.args.self.library.resolver in (
+      new,
+      refused_headline _ settings c.args.entries.items old new c.from_residual-in_err-merged.result (error_of c.in_err-merged.field-0.0) c.from_residual-in_err-merged.ensures.1
+          (advances_for _ _ settings c.as_slice.result.now c.args.entries.items _ _ _ _ old new c.as_slice.ensures.value c.in_ok-list.ensures.grows).grows
+          (refused_linking _ settings _ (map entry_of c.args.entries.items) old new c.in_err-merged.field-0.0 c.from_residual-in_err-merged.ensures.1
+          (completes_beside g.L.Load.may_load g.L.Load.may_fail_load g.R.Resolve.may_resolve g.R.Resolve.may_fail_resolve _ _ settings c.args.self.library.loader c.args.self.library.resolver (map entry_of c.args.entries.items) old new
+          (subst (λ xs. Completes (asked_by g.L.Load.may_load g.L.Load.may_fail_load g.R.Resolve.may_resolve g.R.Resolve.may_fail_resolve c.args.self.library.loader c.args.self.library.resolver) settings (map entry_of xs) old new) c.as_slice.ensures.value c.in_ok-list.ensures.completes))
+          (along c.deref_box-1.ensures.1 (λ v. IsRefusalOfEntries (parties_of may_load may_fail_load may_resolve may_fail_resolve ((goal.Hook-dyn g v).may_give v.1) ((goal.Hook-dyn g v).may_fail_hook v.1)) settings new (map entry_of c.args.entries.items) c.in_err-merged.field-0.0)
+          (refusal_as may_load may_fail_load may_resolve may_fail_resolve _ _ new settings (map entry_of c.args.entries.items) c.in_err-merged.field-0.0
+          (c.in_err-merged.ensures.refused c.in_ok-list.ensures.loaded
+          (subst (λ xs. AllZip (IsNumberedOn new c.in_ok-list.list) xs c.in_ok-list.ids.items) c.as_slice.ensures.value c.in_ok-list.ensures.numbered))))),
+    )
 
 pub returns-in_err-finished_bundles-clause-headline : goal.returns-in_err-finished_bundles-clause-headline
 returns-in_err-finished_bundles-clause-headline g c =
     let settings = settings_of c.args.self.config in
     let old = kept_of c.args.self.library.kept in
-    let new = kept_of c.loaded.new.library.kept in
-    (new, refused_headline _ settings c.args.entries.items old new c.from_residual-in_err-finished_bundles.result OutOfMemory c.from_residual-in_err-finished_bundles.ensures.1
-    (advances_for _ _ settings c.as_slice.result.now c.args.entries.items _ _ _ _ old new c.as_slice.ensures.value c.in_ok-list.ensures.grows).grows
-    (handed_on c.from_residual-in_err-finished_bundles.result OutOfMemory (IsRefusedBy _ settings (map entry_of c.args.entries.items) old new) c.from_residual-in_err-finished_bundles.ensures.1 tt))
+    let new = kept_of c.loaded.new.library.kept in (
+      new,
+      refused_headline _ settings c.args.entries.items old new c.from_residual-in_err-finished_bundles.result OutOfMemory c.from_residual-in_err-finished_bundles.ensures.1
+          (advances_for _ _ settings c.as_slice.result.now c.args.entries.items _ _ _ _ old new c.as_slice.ensures.value c.in_ok-list.ensures.grows).grows
+          (handed_on c.from_residual-in_err-finished_bundles.result OutOfMemory (IsRefusedBy _ settings (map entry_of c.args.entries.items) old new) c.from_residual-in_err-finished_bundles.ensures.1 tt),
+    )
 
 -- Bundles.
 
@@ -81,12 +89,14 @@ returns-clause-headline g c =
     let may_load = g.L.Load.may_load c.args.self.library.loader in
     let may_fail_load = g.L.Load.may_fail_load c.args.self.library.loader in
     let may_resolve = g.R.Resolve.may_resolve c.args.self.library.resolver in
-    let may_fail_resolve = g.R.Resolve.may_fail_resolve c.args.self.library.resolver in
-    (new, bundled_headline _ settings c.args.entries.items old new c.in_ok-finished_bundles.field-0.items
-    (advances_for _ _ settings c.as_slice.result.now c.args.entries.items _ _ _ _ old new c.as_slice.ensures.value c.in_ok-list.ensures.grows).grows
-    (completes_beside g.L.Load.may_load g.L.Load.may_fail_load g.R.Resolve.may_resolve g.R.Resolve.may_fail_resolve _ _ settings c.args.self.library.loader c.args.self.library.resolver (map entry_of c.args.entries.items) old new
-    (subst (λ xs. Completes (asked_by g.L.Load.may_load g.L.Load.may_fail_load g.R.Resolve.may_resolve g.R.Resolve.may_fail_resolve c.args.self.library.loader c.args.self.library.resolver) settings (map entry_of xs) old new) c.as_slice.ensures.value c.in_ok-list.ensures.completes))
-    (along c.deref_box-1.ensures.1 (λ v. AllZip (IsBundledFor (parties_of may_load may_fail_load may_resolve may_fail_resolve ((goal.Hook-dyn g v).may_give v.1) ((goal.Hook-dyn g v).may_fail_hook v.1)) settings new) c.args.entries.items c.in_ok-finished_bundles.field-0.items)
-    (all_bundled_as may_load may_fail_load may_resolve may_fail_resolve _ _ settings new c.args.entries.items c.in_ok-finished_bundles.field-0.items
-    (all_finished c.args.self.config _ new c.args.entries.items c.in_ok-merged.merged.items c.in_ok-finished_bundles.field-0.items (c.in_ok-merged.ensures.bundles c.in_ok-list.ensures.loaded
-    (subst (λ xs. AllZip (IsNumberedOn new c.in_ok-list.list) xs c.in_ok-list.ids.items) c.as_slice.ensures.value c.in_ok-list.ensures.numbered)) c.in_ok-finished_bundles.ensures))))
+    let may_fail_resolve = g.R.Resolve.may_fail_resolve c.args.self.library.resolver in (
+      new,
+      bundled_headline _ settings c.args.entries.items old new c.in_ok-finished_bundles.field-0.items
+          (advances_for _ _ settings c.as_slice.result.now c.args.entries.items _ _ _ _ old new c.as_slice.ensures.value c.in_ok-list.ensures.grows).grows
+          (completes_beside g.L.Load.may_load g.L.Load.may_fail_load g.R.Resolve.may_resolve g.R.Resolve.may_fail_resolve _ _ settings c.args.self.library.loader c.args.self.library.resolver (map entry_of c.args.entries.items) old new
+          (subst (λ xs. Completes (asked_by g.L.Load.may_load g.L.Load.may_fail_load g.R.Resolve.may_resolve g.R.Resolve.may_fail_resolve c.args.self.library.loader c.args.self.library.resolver) settings (map entry_of xs) old new) c.as_slice.ensures.value c.in_ok-list.ensures.completes))
+          (along c.deref_box-1.ensures.1 (λ v. AllZip (IsBundledFor (parties_of may_load may_fail_load may_resolve may_fail_resolve ((goal.Hook-dyn g v).may_give v.1) ((goal.Hook-dyn g v).may_fail_hook v.1)) settings new) c.args.entries.items c.in_ok-finished_bundles.field-0.items)
+          (all_bundled_as may_load may_fail_load may_resolve may_fail_resolve _ _ settings new c.args.entries.items c.in_ok-finished_bundles.field-0.items
+          (all_finished c.args.self.config _ new c.args.entries.items c.in_ok-merged.merged.items c.in_ok-finished_bundles.field-0.items (c.in_ok-merged.ensures.bundles c.in_ok-list.ensures.loaded
+          (subst (λ xs. AllZip (IsNumberedOn new c.in_ok-list.list) xs c.in_ok-list.ids.items) c.as_slice.ensures.value c.in_ok-list.ensures.numbered)) c.in_ok-finished_bundles.ensures))),
+    )
