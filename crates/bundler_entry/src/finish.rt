@@ -73,8 +73,8 @@ fn renamed<'c>(
     config: &Config,
 ) -> Result<Module, AllocError>
     requires { IsTable ByContext Es (map item_of list.items) denoted }
-    ensures at_once { map item_of list.items ≡ module_items 0 merged.now → IfOk result (λ made.
-        IsNamedAtOnce (is_renaming config.now) (module_items 0 merged.now)
+    ensures at_once { map item_of list.entry.items ≡ module_items 0 merged.now →
+        IfOk result (λ made. IsNamedAtOnce (is_renaming config.now) (module_items 0 merged.now)
         (module_items 0 made)) }
     ensures editable { IfOk result (λ made. IsEditable (module_items 0 merged.now)) }
 {
