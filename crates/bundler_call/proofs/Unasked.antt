@@ -38,10 +38,10 @@ module _ {L R : Type 0} (may_load : L → Name → ModuleData → Type 0) (may_f
   hook_fault : (p : Program) (m : ℕ) (file : Name) (fault : Fault) →
       HookFault p alone m file fault → HookFault p beside m file fault
   hook_fault p m file fault (f.fails loaded there may) = absurd may
-  hook_fault p m file fault (f.answers properties held wrong) = absurd held.answered
+  hook_fault p m file fault (f.answers properties held wrong) = absurd held.answered.may
 
   as_much : AsMuch alone beside
-  as_much = λ p m. (λ its. absurd its.held.answered, hook_fault p m)
+  as_much = λ p m. (λ its. absurd its.held.answered.may, hook_fault p m)
 
   -- all is loaded
   pub completes_beside : (entries : List Entry) (old new : Kept) →

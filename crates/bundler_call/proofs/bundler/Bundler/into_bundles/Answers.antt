@@ -8,7 +8,8 @@ use Rattle.bundle_rules.specs.Judging as j
 use Rattle.bundle_rules.specs.Judging.{Completes}
 use Rattle.bundler_call.specs.Judged.{asked_by, IsBundledFor, IsToldOf}
 use Rattle.bundler_call.specs.Kept.{entry_of, kept_of, parties_of, settings_of}
-use Rattle.bundler_call.specs.Linking.{IsNumberedOn, IsRefusalOfEntries}
+use Rattle.bundler_call.specs.Linking.{IsLoaded, IsNumberedOn, IsRefusalOfEntries}
+use Rattle.bundler_call.specs.Loading.{files_on, AreSound}
 use Rattle.bundler_call.proofs.Bundling.{all_finished, along}
 use Rattle.bundler_call.proofs.Ending.{answers_none, bundled_headline, empty_headline, refused_headline, refused_linking, some_entry, IsRefusedBy}
 use Rattle.bundler_call.proofs.Finding.{handed_on}
@@ -32,6 +33,11 @@ returns-then-is_empty-clause-no_entry g c = λ none. answers_none _ (kept_of c.a
 
 pub loaded-requires : goal.loaded-requires
 loaded-requires g c = some_entry c.args.entries.items c.as_slice.result.now _ _ c.args.entries.ok.0 c.is_empty.ensures c.if-is_empty.false c.as_slice.ensures.value
+
+-- What was loaded is kept where the loader is let go of.
+
+pub merged_bundles-requires : goal.merged_bundles-requires
+merged_bundles-requires g c = subst (λ k. AreSound (kept_of k) (files_on c.in_ok-list.list)) (sym c.into_kept-kept.ensures) c.in_ok-list.ensures.sound
 
 -- Refusals.
 
@@ -62,10 +68,12 @@ returns-in_err-merged-clause-headline g c =
           (refused_linking _ settings _ (map entry_of c.args.entries.items) old new c.in_err-merged.field-0.0 c.from_residual-in_err-merged.ensures.1
           (completes_beside g.L.Load.may_load g.L.Load.may_fail_load g.R.Resolve.may_resolve g.R.Resolve.may_fail_resolve _ _ settings c.args.self.library.loader c.args.self.library.resolver (map entry_of c.args.entries.items) old new
           (subst (λ xs. Completes (asked_by g.L.Load.may_load g.L.Load.may_fail_load g.R.Resolve.may_resolve g.R.Resolve.may_fail_resolve c.args.self.library.loader c.args.self.library.resolver) settings (map entry_of xs) old new) c.as_slice.ensures.value c.in_ok-list.ensures.completes))
-          (along c.deref_box-1.ensures.1 (λ v. IsRefusalOfEntries (parties_of may_load may_fail_load may_resolve may_fail_resolve ((goal.Hook-dyn g v).may_give v.1) ((goal.Hook-dyn g v).may_fail_hook v.1)) settings new (map entry_of c.args.entries.items) c.in_err-merged.field-0.0)
-          (refusal_as may_load may_fail_load may_resolve may_fail_resolve _ _ new settings (map entry_of c.args.entries.items) c.in_err-merged.field-0.0
-          (c.in_err-merged.ensures.refused c.in_ok-list.ensures.loaded
-          (subst (λ xs. AllZip (IsNumberedOn new c.in_ok-list.list) xs c.in_ok-list.ids.items) c.as_slice.ensures.value c.in_ok-list.ensures.numbered))))),
+          (along c.into_kept-kept.ensures (λ k. IsRefusalOfEntries (parties_of may_load may_fail_load may_resolve may_fail_resolve ((goal.Hook-dyn g (c.args.self.hook.vtable, c.args.self.hook.value)).may_give c.args.self.hook.value) ((goal.Hook-dyn g (c.args.self.hook.vtable, c.args.self.hook.value)).may_fail_hook c.args.self.hook.value)) settings (kept_of k) (map entry_of c.args.entries.items) c.in_err-merged.field-0.0)
+          (along c.deref_box-1.ensures.1 (λ v. IsRefusalOfEntries (parties_of may_load may_fail_load may_resolve may_fail_resolve ((goal.Hook-dyn g v).may_give v.1) ((goal.Hook-dyn g v).may_fail_hook v.1)) settings (kept_of c.into_kept-kept.result) (map entry_of c.args.entries.items) c.in_err-merged.field-0.0)
+          (refusal_as may_load may_fail_load may_resolve may_fail_resolve _ _ (kept_of c.into_kept-kept.result) settings (map entry_of c.args.entries.items) c.in_err-merged.field-0.0
+          (c.in_err-merged.ensures.refused
+          (subst (λ k. IsLoaded settings (kept_of k) c.in_ok-list.list) (sym c.into_kept-kept.ensures) c.in_ok-list.ensures.loaded)
+          (subst (λ k. AllZip (IsNumberedOn (kept_of k) c.in_ok-list.list) c.args.entries.items c.in_ok-list.ids.items) (sym c.into_kept-kept.ensures) (subst (λ xs. AllZip (IsNumberedOn new c.in_ok-list.list) xs c.in_ok-list.ids.items) c.as_slice.ensures.value c.in_ok-list.ensures.numbered))))))),
     )
 
 pub returns-in_err-finished_bundles-clause-headline : goal.returns-in_err-finished_bundles-clause-headline
@@ -95,8 +103,12 @@ returns-clause-headline g c =
           (advances_for _ _ settings c.as_slice.result.now c.args.entries.items _ _ _ _ old new c.as_slice.ensures.value c.in_ok-list.ensures.grows).grows
           (completes_beside g.L.Load.may_load g.L.Load.may_fail_load g.R.Resolve.may_resolve g.R.Resolve.may_fail_resolve _ _ settings c.args.self.library.loader c.args.self.library.resolver (map entry_of c.args.entries.items) old new
           (subst (λ xs. Completes (asked_by g.L.Load.may_load g.L.Load.may_fail_load g.R.Resolve.may_resolve g.R.Resolve.may_fail_resolve c.args.self.library.loader c.args.self.library.resolver) settings (map entry_of xs) old new) c.as_slice.ensures.value c.in_ok-list.ensures.completes))
-          (along c.deref_box-1.ensures.1 (λ v. AllZip (IsBundledFor (parties_of may_load may_fail_load may_resolve may_fail_resolve ((goal.Hook-dyn g v).may_give v.1) ((goal.Hook-dyn g v).may_fail_hook v.1)) settings new) c.args.entries.items c.in_ok-finished_bundles.field-0.items)
-          (all_bundled_as may_load may_fail_load may_resolve may_fail_resolve _ _ settings new c.args.entries.items c.in_ok-finished_bundles.field-0.items
-          (all_finished c.args.self.config _ new c.args.entries.items c.in_ok-merged.merged.items c.in_ok-finished_bundles.field-0.items (c.in_ok-merged.ensures.bundles c.in_ok-list.ensures.loaded
-          (subst (λ xs. AllZip (IsNumberedOn new c.in_ok-list.list) xs c.in_ok-list.ids.items) c.as_slice.ensures.value c.in_ok-list.ensures.numbered)) c.in_ok-finished_bundles.ensures))),
+          (along c.into_kept-kept.ensures (λ k. AllZip (IsBundledFor (parties_of may_load may_fail_load may_resolve may_fail_resolve ((goal.Hook-dyn g (c.args.self.hook.vtable, c.args.self.hook.value)).may_give c.args.self.hook.value) ((goal.Hook-dyn g (c.args.self.hook.vtable, c.args.self.hook.value)).may_fail_hook c.args.self.hook.value)) settings (kept_of k)) c.args.entries.items c.in_ok-finished_bundles.field-0.items)
+          (along c.deref_box-1.ensures.1 (λ v. AllZip (IsBundledFor (parties_of may_load may_fail_load may_resolve may_fail_resolve ((goal.Hook-dyn g v).may_give v.1) ((goal.Hook-dyn g v).may_fail_hook v.1)) settings (kept_of c.into_kept-kept.result)) c.args.entries.items c.in_ok-finished_bundles.field-0.items)
+          (all_bundled_as may_load may_fail_load may_resolve may_fail_resolve _ _ settings (kept_of c.into_kept-kept.result) c.args.entries.items c.in_ok-finished_bundles.field-0.items
+          (all_finished c.args.self.config _ (kept_of c.into_kept-kept.result) c.args.entries.items c.in_ok-merged.merged.items c.in_ok-finished_bundles.field-0.items
+          (c.in_ok-merged.ensures.bundles
+          (subst (λ k. IsLoaded settings (kept_of k) c.in_ok-list.list) (sym c.into_kept-kept.ensures) c.in_ok-list.ensures.loaded)
+          (subst (λ k. AllZip (IsNumberedOn (kept_of k) c.in_ok-list.list) c.args.entries.items c.in_ok-list.ids.items) (sym c.into_kept-kept.ensures) (subst (λ xs. AllZip (IsNumberedOn new c.in_ok-list.list) xs c.in_ok-list.ids.items) c.as_slice.ensures.value c.in_ok-list.ensures.numbered)))
+          c.in_ok-finished_bundles.ensures)))),
     )
