@@ -1,6 +1,6 @@
 -- What is judged before a hook is asked is judged alike beside any hook.
 use Rattle.std.proofs.Common.{◌≡◌, ℕ, Bool, List, Result, refl, inl}
-use Rattle.std.specs.Prelude.{IfErr, IfSome}
+use Rattle.std.specs.Prelude.{IfErr}
 use Rattle.std.specs.Result.{IsErrAnd}
 use Rattle.bundle_tree_ast.specs.declared.expr.Expr.{Expr}
 use Rattle.bundle_tree_ast.specs.declared.prop.KeyValueProp.{KeyValueProp}

@@ -1,5 +1,4 @@
 -- The files of the entries get their numbers, and then all that they need is loaded, or the first fault on that way is told.
-use Rattle.std.proofs.Common.{◌∙◌}
 use Rattle.bundle_rules.specs.Judging.{GoesOn, LoadsAll, Refused}
 use Rattle.bundler_call.specs.Bundler.{files_of}
 use Rattle.bundler_call.specs.Judged.{asked_by}

@@ -5,7 +5,6 @@ use Rattle.std.proofs.lemmas.List.{nil_from_length}
 use Rattle.std.specs.List.{AllZip}
 use Rattle.bundler_entry.specs.Unlinked.{error_of}
 use Rattle.bundle_tree_names.specs.declared.error.Error.TheVariants.{OutOfMemory}
-use Rattle.bundle_rules.specs.Judging as j
 use Rattle.bundle_rules.specs.Judging.{Completes}
 use Rattle.bundler_call.specs.Judged.{asked_by, IsBundledFor, IsToldOf}
 use Rattle.bundler_call.specs.Kept.{entry_of, kept_of, parties_of, settings_of}

@@ -1,10 +1,9 @@
 -- A bundler that is let go of ends as the headline says, whatever it did keep.
-use Rattle.std.proofs.Common.{eqb-true, refl, sym, map, subst, ◌∙◌}
+use Rattle.std.proofs.Common.{eqb-true, sym, map, subst, ◌∙◌}
 use Rattle.std.proofs.lemmas.List.{nil_from_length}
 use Rattle.std.specs.List.{AllZip}
 use Rattle.bundler_entry.specs.Unlinked.{error_of}
 use Rattle.bundle_tree_names.specs.declared.error.Error.TheVariants.{OutOfMemory}
-use Rattle.bundle_rules.specs.Judging as j
 use Rattle.bundle_rules.specs.Judging.{Completes}
 use Rattle.bundler_call.specs.Judged.{asked_by, IsBundledFor, IsToldOf}
 use Rattle.bundler_call.specs.Kept.{entry_of, kept_of, parties_of, settings_of}
