@@ -1,6 +1,7 @@
 -- What a document is, as a JSON value.
 use Rattle.std.specs.Prelude.{◌≡◌, ℕ, ◌^◌, ◌<◌, ◌⊎◌, List, [], Bool, true, false, Option, Some, None, IsSome, IsSomeAnd, IsUtf8, codes, flat_map}
 use Rattle.std.specs.List.{AllZip}
+use Rattle.std.specs.Io.KnownBytes.{Consumes, IsAtEnd}
 use Rattle.std.specs.String.{string_bytes}
 use Rattle.std.specs.declared.alloc.Global.{Global}
 use Rattle.std.specs.declared.string.String.{String}
@@ -120,10 +121,18 @@ pub record IsDocumentText (text : List ℕ) (document : Document) (lists : List 
   pub is_document : IsDocument value document
   pub are_lists : AreLists (get (codes "meta") value) lists
 
+-- the text is that of no document, with whatever lists
+abbrev pub IsNoDocumentText : List ℕ → Type 0
+IsNoDocumentText text = (document : Document) (lists : List (String Global × Vec (KeyValueProp Expr) Global)) → ¬ IsDocumentText text document lists
+
+-- what was there to be read is read whole, and it is the text of no document
+abbrev pub HasNoDocument : Option (List ℕ) → Option (List ℕ) → Type 0
+HasNoDocument old new = (text : List ℕ) × Consumes old new text × IsAtEnd new × IsNoDocumentText text
+
 -- the status and the line of an input that cannot be read, where reading may fail, of a text that is no document, and of
 -- want of memory
-abbrev pub IsRefusalLine : Type 0 → ℕ → List ℕ → Type 0
-IsRefusalLine may_fail status line =
+abbrev pub IsRefusalLine : Type 0 → Type 0 → ℕ → List ℕ → Type 0
+IsRefusalLine may_fail no_document status line =
     ((status ≡ 2) × (line ≡ codes "error: input\n") × may_fail)
-    ⊎ ((status ≡ 2) × (line ≡ codes "error: document\n"))
+    ⊎ ((status ≡ 2) × (line ≡ codes "error: document\n") × no_document)
     ⊎ ((status ≡ 1) × (line ≡ codes "error 22: OutOfMemory\n"))

@@ -59,7 +59,9 @@ pub(crate) fn files<'v, 'a>(
     notes: &'a ExportMetadata,
 ) -> Result<BTreeMap<String, Module>, DocumentError>
     requires { notes.now ≡ no_notes }
-    ensures { IfOk result (λ files. IsMap IsModule files.entries (seen value.now)) }
+    ensures ok { IfOk result (λ files. IsMap IsModule files.entries (seen value.now)) }
+    ensures refused { IfErr result
+        (RefusesFor (NoneIs (λ files. IsMap IsModule files (seen value.now)))) }
 {
     let members = members_in(alloc, value)?;
     files_in(alloc, &members, notes)
@@ -72,8 +74,10 @@ fn files_in<'v, 'a>(
     notes: &'a ExportMetadata,
 ) -> Result<BTreeMap<String, Module>, DocumentError>
     requires { notes.now ≡ no_notes }
-    ensures { IfOk result (λ files.
+    ensures ok { IfOk result (λ files.
         IsMap IsModule files.entries (object (last_members members.now.entries))) }
+    ensures refused { IfErr result (RefusesFor (NoneIs (λ files.
+        IsMap IsModule files (object (last_members members.now.entries))))) }
 {
     let mut files = BTreeMap::new(alloc);
     for (name, value) in members.iter() {
@@ -91,7 +95,8 @@ fn module_in<'v, 'a>(
     notes: &'a ExportMetadata,
 ) -> Result<Module, DocumentError>
     requires { notes.now ≡ no_notes }
-    ensures { IfOk result (IsModule (seen value.now)) }
+    ensures ok { IfOk result (IsModule (seen value.now)) }
+    ensures refused { IfErr result (RefusesFor (NoneIs (IsModule (seen value.now)))) }
 {
     let pieces = read_module(alloc, value, notes)?;
     let made = build_module(alloc, pieces.as_slice())?;
@@ -106,7 +111,8 @@ pub(crate) fn lists<'v, 'a>(
     notes: &'a ExportMetadata,
 ) -> Result<Lists, DocumentError>
     requires { notes.now ≡ no_notes }
-    ensures { IfOk result (λ lists. AreLists (found value.entry) lists.entries) }
+    ensures ok { IfOk result (λ lists. AreLists (found value.entry) lists.entries) }
+    ensures refused { IfErr result (RefusesFor (NoneIs (AreLists (found value.entry)))) }
 {
     match value {
         None => Ok(BTreeMap::new(alloc)),
@@ -124,8 +130,10 @@ fn lists_in<'v, 'a>(
     notes: &'a ExportMetadata,
 ) -> Result<Lists, DocumentError>
     requires { notes.now ≡ no_notes }
-    ensures { IfOk result (λ lists.
+    ensures ok { IfOk result (λ lists.
         IsMap AreProperties lists.entries (object (last_members members.now.entries))) }
+    ensures refused { IfErr result (RefusesFor (NoneIs (λ lists.
+        IsMap AreProperties lists (object (last_members members.now.entries))))) }
 {
     let mut lists = BTreeMap::new(alloc);
     for (name, value) in members.iter() {
@@ -143,7 +151,8 @@ fn properties_in<'v, 'a>(
     notes: &'a ExportMetadata,
 ) -> Result<Vec<KeyValueProp>, DocumentError>
     requires { notes.now ≡ no_notes }
-    ensures { IfOk result (AreProperties (seen value.now)) }
+    ensures ok { IfOk result (AreProperties (seen value.now)) }
+    ensures refused { IfErr result (RefusesFor (NoneIs (AreProperties (seen value.now)))) }
 {
     let pieces = read_properties(alloc, value, notes)?;
     let made = build_properties(alloc, pieces.as_slice())?;

@@ -3,7 +3,7 @@
 ghost use Rattle.std.specs.Prelude.{◌≡◌, ℕ, List, IsUtf8, IfOk, IfErr, OnOk};
 ghost use Rattle.std.specs.Io.KnownBytes.{Consumes, IsAtEnd};
 ghost use Rattle.bundle_json_form.specs.Plain.{seen};
-ghost use Rattle.bundle_json_document.specs.Document.{IsDocumentText, IsRefusalLine, IsValueOf};
+ghost use Rattle.bundle_json_document.specs.Document.{HasNoDocument, IsDocumentText, IsNoDocumentText, IsRefusalLine, IsValueOf};
 ghost use Rattle.bundle_json_document.specs.Error.{NoneIs, RefusesFor};
 ghost use Rattle.bundle_json_document.specs.Parties.{lists_of};
 ghost use Rattle.bundle_json_document.specs.Writing.{AppendsOrFails};
@@ -41,7 +41,8 @@ pub fn read_document<R: Input, E: Output>(
     ensures no_error { OnOk result (errors.new ≡ errors.old) }
     ensures refused { IfErr result (λ status.
         (line : List ℕ)
-        × IsRefusalLine (R.may_fail_read input.old) status line
+        × IsRefusalLine (R.may_fail_read input.old)
+        (HasNoDocument (R.remaining input.old) (R.remaining input.new)) status line
         × AppendsOrFails (E.may_fail_write errors.old) (E.contents errors.old)
         (E.contents errors.new) line) }
 {
@@ -61,7 +62,8 @@ pub fn read_document<R: Input, E: Output>(
 
 // The document in a text, and the lists of properties.
 fn judged(alloc: Global, text: &[u8]) -> Result<(Document, Lists), DocumentError>
-    ensures { IfOk result (λ made. IsDocumentText text.now made.0 made.1.entries) }
+    ensures ok { IfOk result (λ made. IsDocumentText text.now made.0 made.1.entries) }
+    ensures refused { IfErr result (RefusesFor (IsNoDocumentText text.now)) }
 {
     match from_utf8(text) {
         Ok(text) => document_in(alloc, text),
@@ -73,7 +75,8 @@ fn judged(alloc: Global, text: &[u8]) -> Result<(Document, Lists), DocumentError
 // last holds, and one before it may be of any form.
 fn document_in(alloc: Global, text: &str) -> Result<(Document, Lists), DocumentError>
     requires { IsUtf8 text.now }
-    ensures { IfOk result (λ made. IsDocumentText text.now made.0 made.1.entries) }
+    ensures ok { IfOk result (λ made. IsDocumentText text.now made.0 made.1.entries) }
+    ensures refused { IfErr result (RefusesFor (IsNoDocumentText text.now)) }
 {
     match streamed(alloc, text) {
         Ok(made) => Ok(made),
@@ -98,7 +101,8 @@ fn streamed(alloc: Global, text: &str) -> Result<(Document, Lists), DocumentErro
 // The document in a text, as one value.
 fn whole(alloc: Global, text: &str) -> Result<(Document, Lists), DocumentError>
     requires { IsUtf8 text.now }
-    ensures { IfOk result (λ made. IsDocumentText text.now made.0 made.1.entries) }
+    ensures ok { IfOk result (λ made. IsDocumentText text.now made.0 made.1.entries) }
+    ensures refused { IfErr result (RefusesFor (IsNoDocumentText text.now)) }
 {
     let notes = ExportMetadata::default();
     let mut scratch = Scratch::new(alloc);

@@ -1,16 +1,31 @@
 //! Expressions of operators (ECMA-262, 13.4 to 13.16).
 
+ghost use Rattle.std.specs.Prelude.{◌≡◌, ◌∷◌, ◌++◌, ℕ, List, Some, None, IfOk, IfErr};
+ghost use Rattle.bundle_tree_piece.specs.Item.{head_of, Item, Open, Close};
+ghost use Rattle.bundle_tree_build.specs.declared.build.BuildError.TheVariants.{Form};
+ghost use Rattle.bundle_tree_listed.specs.Tree.{expr_items};
+ghost use Rattle.bundle_tree_build.specs.Sorts.{AnOperatorExpr, AWideOperatorExpr, holds};
+ghost use Rattle.bundle_tree_build.specs.Parse.{after_inside, taken};
+
 use crate::build::{BuildError, Builder};
 use bundle_tree_ast::Expr;
 use bundle_tree_piece::Node;
 
 impl<'p, 'a> Builder<'p, 'a> {
     #[cycle(build)]
-    pub(crate) fn operator_expr(
+    #[tactic(auto, using(crate::proofs::Parsing::building))]
+    pub(crate) fn operator_expr_of(
         &mut self,
         room: usize,
         node: Node<'a>,
-    ) -> Result<Expr, BuildError> {
+    ) -> Result<Expr, BuildError>
+        ensures taken { IfOk result (λ made.
+            after_inside (taken room) (holds AnOperatorExpr (head_of node.entry)) self.old ≡ Some self.new) }
+        ensures made { IfOk result (λ made. (field : ℕ) (rest : List Item) →
+            self.new ≡ Close ∷ rest → Open field (head_of node.entry) ∷ self.old ≡ expr_items field made ++ rest) }
+        ensures refused { IfErr result (λ why.
+            why ≡ Form → after_inside (taken room) (holds AnOperatorExpr (head_of node.entry)) self.old ≡ None) }
+    {
         match node {
             Node::UnaryExpr { op } => {
                 let arg = self.boxed_expr(room, 1)?;
@@ -28,17 +43,21 @@ impl<'p, 'a> Builder<'p, 'a> {
                 let arg = self.boxed_expr(room, 0)?;
                 Ok(Expr::AwaitExpr { arg })
             }
-            _ => self.wide_operator_expr(room, node),
+            _ => self.wide_operator_expr_of(room, node),
         }
     }
 
     // An operator with several operands.
     #[cycle(build)]
-    pub(crate) fn wide_operator_expr(
-        &mut self,
-        room: usize,
-        node: Node<'a>,
-    ) -> Result<Expr, BuildError> {
+    #[tactic(auto, using(crate::proofs::Parsing::building))]
+    fn wide_operator_expr_of(&mut self, room: usize, node: Node<'a>) -> Result<Expr, BuildError>
+        ensures taken { IfOk result (λ made.
+            after_inside (taken room) (holds AWideOperatorExpr (head_of node.entry)) self.old ≡ Some self.new) }
+        ensures made { IfOk result (λ made. (field : ℕ) (rest : List Item) →
+            self.new ≡ Close ∷ rest → Open field (head_of node.entry) ∷ self.old ≡ expr_items field made ++ rest) }
+        ensures refused { IfErr result (λ why.
+            why ≡ Form → after_inside (taken room) (holds AWideOperatorExpr (head_of node.entry)) self.old ≡ None) }
+    {
         match node {
             Node::BinExpr { op } => {
                 let left = self.boxed_expr(room, 1)?;

@@ -12,5 +12,5 @@ returns-clause-ok c =
     let d = seen c.in_ok-value.value in
     let them = map item_of c.in_ok-pieces.pieces.items in
     let listed : flat_map (module_item_items 0) c.in_ok-made.made.body.items ≡ them =
-    inside c.in_ok-made.made them (c.in_ok-made.ensures ∙ ap (map item_of) c.as_slice.ensures.value ∙ c.in_ok-list.ensures) in
+    inside c.in_ok-made.made them (c.in_ok-made.ensures.made ∙ ap (map item_of) c.as_slice.ensures.value ∙ c.in_ok-list.ensures) in
     (d, c.in_ok-value.ensures.ok, subst (IsForm no_notes top d) (sym listed) (subst (λ notes. IsForm notes top d them) c.requires c.in_ok-pieces.ensures.read))
