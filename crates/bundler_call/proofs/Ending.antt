@@ -23,7 +23,7 @@ use Rattle.bundle_rules.specs.Judging.{Entry, Outcome, GoesOn, Refused, Grows, N
 use Rattle.bundle_rules.proofs.KeptLemmas.{stays}
 use Rattle.bundler_call.specs.Answer.{answer_of, bundled_of, refusal_of}
 use Rattle.bundler_call.specs.Bundler.{files_of}
-use Rattle.bundler_call.specs.Judged.{asked_by, AreApart, IsBundledFor, IsFaultOfList}
+use Rattle.bundler_call.specs.Judged.{asked_by, AreApart, IsBundledFor, IsFaultOfList, IsToldOf}
 use Rattle.bundler_call.specs.Kept.{entry_of, parties_of}
 use Rattle.bundler_call.specs.Linking.{IsRefusalOfEntries}
 use Rattle.bundler_call.specs.declared.bundle.Bundle.{Bundle}
@@ -67,21 +67,21 @@ module _ (parties : Parties) (settings : Settings) where
 
     module _ {T : Type 0} (result : Result T Error) (e : Error) (is : IsErrAnd result (λ x. x ≡ e)) where
       -- a file gets no number
-      pub refused_number : IfSome (fault_of e) (λ f. NumbersEach old (files_of entries) (Refused f) new) → IfErr result (IsRefusedBy parties settings (map entry_of entries) old new)
+      pub refused_number : IfSome (fault_of e) (λ f. NumbersEach old (files_of entries) (Refused f) new) → IfErr result (IsToldOf parties settings (map entry_of entries) old new)
       refused_number told =
-          handed_on result e (IsRefusedBy parties settings (map entry_of entries) old new) is
-          (told_as (fault_of e) _ _ (λ f numbers. inl (j.by_number (apart_distinct (map entry_of entries) apart) (subst (λ files. NumbersEach old files (Refused f) new) (sym (same_files entries)) numbers))) told)
+          handed_on result e (IsToldOf parties settings (map entry_of entries) old new) is
+          (told_as (fault_of e) _ _ (λ f numbers. j.by_number (apart_distinct (map entry_of entries) apart) (subst (λ files. NumbersEach old files (Refused f) new) (sym (same_files entries)) numbers)) told)
 
       -- a file is not loaded, is at fault by itself, or one of its requests is refused
-      pub refused_loading : (P : Fault → Type 0) (list : List Name) → NumbersEach old (files_of entries) GoesOn next → list ≡ files_of entries → ((f : Fault) → P f → LoadsAll parties settings list 0 next (Refused f) new) → IfSome (fault_of e) P → IfErr result (IsRefusedBy parties settings (map entry_of entries) old new)
+      pub refused_loading : (P : Fault → Type 0) (list : List Name) → NumbersEach old (files_of entries) GoesOn next → list ≡ files_of entries → ((f : Fault) → P f → LoadsAll parties settings list 0 next (Refused f) new) → IfSome (fault_of e) P → IfErr result (IsToldOf parties settings (map entry_of entries) old new)
       refused_loading P list numbered same loads told =
-          handed_on result e (IsRefusedBy parties settings (map entry_of entries) old new) is
-          (told_as (fault_of e) P _ (λ f its. inl (j.by_loading (apart_distinct (map entry_of entries) apart) (subst (λ files. NumbersEach old files GoesOn next) (sym (same_files entries)) numbered) (subst (λ files. LoadsAll parties settings files 0 next (Refused f) new) (same ∙ sym (same_files entries)) (loads f its)))) told)
+          handed_on result e (IsToldOf parties settings (map entry_of entries) old new) is
+          (told_as (fault_of e) P _ (λ f its. j.by_loading (apart_distinct (map entry_of entries) apart) (subst (λ files. NumbersEach old files GoesOn next) (sym (same_files entries)) numbered) (subst (λ files. LoadsAll parties settings files 0 next (Refused f) new) (same ∙ sym (same_files entries)) (loads f its))) told)
 
   -- an entry doubles another
-  pub refused_list : {T : Type 0} (result : Result T Error) (e : Error) (entries : List (String Global × FileName)) (old : Kept) → IsErrAnd result (λ x. x ≡ e) → IfSome (fault_of e) (IsFaultOfList (map entry_of entries)) → IfErr result (IsRefusedBy parties settings (map entry_of entries) old old)
+  pub refused_list : {T : Type 0} (result : Result T Error) (e : Error) (entries : List (String Global × FileName)) (old : Kept) → IsErrAnd result (λ x. x ≡ e) → IfSome (fault_of e) (IsFaultOfList (map entry_of entries)) → IfErr result (IsToldOf parties settings (map entry_of entries) old old)
   refused_list result e entries old is told =
-      handed_on result e (IsRefusedBy parties settings (map entry_of entries) old old) is (told_as (fault_of e) (IsFaultOfList (map entry_of entries)) _ (λ f (later, doubled, same). inl (subst (λ x. Refuses parties settings (map entry_of entries) old x old) (sym same) (j.by_list later doubled))) told)
+      handed_on result e (IsToldOf parties settings (map entry_of entries) old old) is (told_as (fault_of e) (IsFaultOfList (map entry_of entries)) _ (λ f (later, doubled, same). subst (λ x. Refuses parties settings (map entry_of entries) old x old) (sym same) (j.by_list later doubled)) told)
 
   -- an entry is refused, or contexts do not suffice
   linking : (entries : List Entry) (old new : Kept) → Completes parties settings entries old new → (unlinked : Unlinked) → IsRefusalOfEntries parties settings new entries unlinked → IsRefusedBy parties settings entries old new (error_of unlinked)

@@ -16,5 +16,6 @@ pub mod Programs
 pub mod Linking
 pub mod Sources
 pub mod Bundling
+pub mod Unasked
 pub mod Headlines
 pub mod PostOrder

@@ -24,7 +24,8 @@ use Rattle.bundler_entry.specs.Asked.{AreAnsweredBefore, AreAnswersBefore, IsAns
 use Rattle.bundler_entry.specs.Hook.{Holds, IsAskedFault}
 use Rattle.bundler_entry.specs.Hook as h
 use Rattle.bundler_entry.specs.Linked.{IsCallOf, IsLinkedEntry}
-use Rattle.bundler_entry.specs.Made.{AreOfAnswers, IsContextsFaultOf, IsMadeOf, IsRefusedMaking}
+use Rattle.bundler_entry.specs.Made.{AreOfAnswers, IsContextsFaultOf, IsRefusedMaking}
+use Rattle.bundler_entry.specs.Merged.{IsMergedIn}
 use Rattle.bundler_entry.specs.Unlinked.{error_of}
 use Rattle.bundler_entry.specs.declared.call.Call.{Call}
 use Rattle.bundler_entry.specs.declared.entry.Answer.{Answer}
@@ -35,7 +36,7 @@ use Rattle.bundler_entry.proofs.Bundled.{answers-held, entry-bundle}
 use Rattle.bundler_entry.proofs.Lacking.{contexts-lack}
 use Rattle.bundler_call.specs.Judged.{IsBundledFor}
 use Rattle.bundler_call.specs.Kept.{parties_of}
-use Rattle.bundler_call.specs.Linking.{answered_by, IsModuleFor, IsRefusalOfEntries, IsRefusalOfProgram, LacksContexts}
+use Rattle.bundler_call.specs.Linking.{answered_by, IsMergedFor, IsRefusalOfEntries, IsRefusalOfProgram, LacksContexts}
 use Rattle.bundler_call.specs.declared.bundle.Bundle.{Bundle}
 use Rattle.bundler_call.proofs.Judging.{told_as, told_where}
 
@@ -81,10 +82,12 @@ module _ (may_give : Name → Bool → List (KeyValueProp Expr) → Type 0) (may
     pub accepted : AcceptsProgram p (answered_by may_give may_fail)
     accepted = accepts linked.reached.list.items its.links.faultless its.reached.is_list (answered-before may_give p linked.reached.list.items (length linked.reached.list.items) given asked)
 
-    pub module_right : (made : Module) → (answers : ℕ → Option (List Item)) × AreOfAnswers given answers × IsMadeOf its.links.places call linked answers made → IsModuleFor (answered_by may_give may_fail) p made
-    module_right made (answers, of, is_made) = record {
+    pub merged_right : (merged : Module) → (answers : ℕ → Option (List Item)) × AreOfAnswers given answers × IsMergedIn its.links.places linked answers merged → IsMergedFor (answered_by may_give may_fail) call.config.now p merged
+    merged_right merged (answers, of, is_merged) = record {
       accepted = accepted;
-      bundle = entry-bundle p entry call is_call linked its (record { may_answer = Holds may_give }) answers (answers-held p entry call is_call linked its may_give given asked answers of) made is_made;
+      bundle = λ made finished.
+          entry-bundle p entry call is_call linked its (record { may_answer = Holds may_give }) answers (answers-held p entry call is_call linked its may_give given asked answers of) made
+          (record { merged = merged; is_merged = is_merged; finished = finished });
     }
 
     pub refused_merging : (unlinked : Unlinked) → (answers : ℕ → Option (List Item)) × AreOfAnswers given answers × IsRefusedMaking its.links.places call linked answers unlinked → IsRefusalOfProgram (answered_by may_give may_fail) p unlinked

@@ -2,7 +2,9 @@
 use Rattle.std.specs.Prelude.{◌≡◌, ◌⊎◌, ℕ, ◌<◌, slice_get, Some, IfSome, List, Result, Ok, Err}
 use Rattle.std.specs.declared.alloc.Global.{Global}
 use Rattle.std.specs.declared.string.String.{String}
+use Rattle.bundle_tree_listed.specs.Tree.{module_items}
 use Rattle.bundle_tree_names.specs.FileName.{Name}
+use Rattle.bundle_tree_names.specs.declared.config.Config.{Config}
 use Rattle.bundle_tree_names.specs.declared.file_name.FileName.{FileName}
 use Rattle.bundle_tree_names.specs.declared.error.Error.{Error}
 use Rattle.bundle_tree.specs.declared.load.ModuleData.{ModuleData}
@@ -10,9 +12,10 @@ use Rattle.bundle_rules.specs.Entries.{Settings}
 use Rattle.bundle_rules.specs.Kept.{Kept}
 use Rattle.bundle_rules.specs.Faults.{Fault, DoubledEntry, Parties, fault_of}
 use Rattle.bundle_rules.specs.Headline.{IsBundleOf}
-use Rattle.bundle_rules.specs.Judging.{Entry, Outcome, GoesOn, Refused, IsDoubledEntry}
+use Rattle.bundle_rules.specs.Judging.{Entry, Outcome, GoesOn, Refused, Refuses, IsDoubledEntry}
+use Rattle.bundler_entry.specs.Finished.{IsFinished}
 use Rattle.bundler_call.specs.Answer.{bundled_of}
-use Rattle.bundler_call.specs.Kept.{entry_of, parties_of}
+use Rattle.bundler_call.specs.Kept.{entry_of, parties_of, settings_of}
 use Rattle.bundler_call.specs.declared.bundle.Bundle.{Bundle}
 
 -- a part of the judging ends as the result says: it goes on, or is refused by the fault that is told; want of memory tells of none
@@ -38,7 +41,24 @@ AreApart entries = (i j : ℕ) (a b : Entry) → i < j → slice_get entries i �
 abbrev pub IsFaultOfList : List Entry → Fault → Type 0
 IsFaultOfList entries fault = (later : Entry) × IsDoubledEntry entries later × (fault ≡ DoubledEntry later.file later.name)
 
+-- the fault that a refusal tells of is the first in the order of judging; want of memory tells of none
+abbrev pub IsToldOf : Parties → Settings → List Entry → (old new : Kept) → Error → Type 0
+IsToldOf parties settings entries old new refusal =
+    IfSome (fault_of refusal) (λ fault. Refuses parties settings entries old fault new)
+
 -- a bundle is that of an entry, over what is kept
 abbrev pub IsBundledFor : Parties → Settings → Kept → String Global × FileName → Bundle → Type 0
 IsBundledFor parties settings kept entry bundle =
     IsBundleOf parties settings kept (bundled_of bundle) (entry_of entry)
+
+-- a bundle is another one, finished
+pub record IsFinishedBundle (config : Config) (merged made : Bundle) : Type 0 where
+  pub kind : made.kind ≡ merged.kind
+  pub id : made.id ≡ merged.id
+  pub tree : IsFinished config (module_items 0 merged.«module») (module_items 0 made.«module»)
+
+-- a bundle, once it is finished, is that of an entry, over what is kept
+abbrev pub IsMergedBundle : Parties → Config → Kept → String Global × FileName → Bundle → Type 0
+IsMergedBundle parties config kept entry merged =
+    (made : Bundle) → IsFinishedBundle config merged made →
+    IsBundledFor parties (settings_of config) kept entry made

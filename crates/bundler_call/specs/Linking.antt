@@ -8,12 +8,14 @@ use Rattle.bundle_tree_ast.specs.declared.module.Module.{Module}
 use Rattle.bundle_tree_listed.specs.Tree.{module_items}
 use Rattle.bundle_tree_names.specs.FileName.{Name, name_of}
 use Rattle.bundle_tree_names.specs.ModuleIdGenerator.{IsDistinct}
+use Rattle.bundle_tree_names.specs.declared.config.Config.{Config}
 use Rattle.bundle_tree_names.specs.declared.file_name.FileName.{FileName}
 use Rattle.bundle_rules.specs.Entries.{Settings}
 use Rattle.bundle_rules.specs.Faults.{Fault, Parties, fault_of}
 use Rattle.bundle_rules.specs.Judging.{Entry, AcceptsProgram, IsProgramOf, RefusesEntries, RefusesProgram}
 use Rattle.bundle_rules.specs.Kept.{Kept, number_in, program_of}
 use Rattle.bundle_rules.specs.Program.{Program}
+use Rattle.bundler_entry.specs.Finished.{IsFinished}
 use Rattle.bundler_entry.specs.Made.{IsContextsFaultOf, IsEntryBundle}
 use Rattle.bundler_entry.specs.Source.{IsProgramOf as IsReadAs}
 use Rattle.bundler_entry.specs.Unlinked.{error_of}
@@ -50,10 +52,12 @@ IsNumberedOn kept list entry id = IsFileOn kept list (name_of entry.1) id
 abbrev pub answered_by : (Name → Bool → List (KeyValueProp Expr) → Type 0) → (Name → Bool → Type 0) → Parties
 answered_by may_give may_fail_hook = parties_of (λ file given. ⊥) (λ file. ⊥) (λ file specifier found. ⊥) (λ file specifier. ⊥) may_give may_fail_hook
 
--- a module is the bundle of a program that is accepted
-pub record IsModuleFor (parties : Parties) (p : Program) (made : Module) : Type 0 where
+-- a module is what is merged of a program that is accepted: finished, it is the program's bundle
+pub record IsMergedFor (parties : Parties) (config : Config) (p : Program) (merged : Module) : Type 0 where
   pub accepted : AcceptsProgram p parties
-  pub bundle : IsEntryBundle p parties.hooks (module_items 0 made)
+  pub bundle : (made : Module) →
+      IsFinished config (module_items 0 merged) (module_items 0 made) →
+      IsEntryBundle p parties.hooks (module_items 0 made)
 
 -- why a program makes no module: its first fault or the first of the hook's answers, or want of
 -- memory; or contexts do not suffice, and it is accepted

@@ -6,11 +6,11 @@ ghost use Rattle.bundle_tree_names.specs.FileName.{name_of};
 ghost use Rattle.bundle_rules.specs.Faults.{DoubledEntry, fault_of};
 ghost use Rattle.bundle_rules.specs.Entries.{Settings};
 ghost use Rattle.bundle_rules.specs.Headline.{AnswersNothing, IsHeadline};
-ghost use Rattle.bundle_rules.specs.Judging.{NumbersEach};
+ghost use Rattle.bundle_rules.specs.Judging.{Completes, NumbersEach};
 ghost use Rattle.bundle_rules.specs.Kept.{nothing_kept, Kept};
 ghost use Rattle.bundler_call.specs.Answer.{answer_of};
 ghost use Rattle.bundler_call.specs.Bundler.{config_of, files_of, hook_of, kept_by, loader_of, parties_held, resolver_of, settings_held, HasNumber};
-ghost use Rattle.bundler_call.specs.Judged.{Ends, AreApart, IsBundledFor, IsFaultOfList};
+ghost use Rattle.bundler_call.specs.Judged.{Ends, AreApart, IsFaultOfList, IsFinishedBundle, IsMergedBundle, IsToldOf, asked_by};
 ghost use Rattle.bundler_call.specs.Kept.{entry_of, kept_of, settings_of, IsBounded};
 ghost use Rattle.bundler_call.specs.Library.{MovesOn};
 ghost use Rattle.bundler_call.specs.Linking.{answered_by, IsLoaded, IsNumberedOn, IsReadOf, IsRefusalOfEntries};
@@ -23,13 +23,14 @@ use crate::linked::module_on;
 use crate::load::{LoadList, load_all};
 use crate::program::program_on;
 use bundle_tree::hook::Hook;
-use bundle_tree::load::Load;
+use bundle_tree::load::{Load, ModuleData};
 use bundle_tree::resolve::Resolve;
 use bundle_tree_names::ModuleId;
 use bundle_tree_names::config::Config;
 use bundle_tree_names::error::Error;
 use bundle_tree_names::file_name::FileName;
-use bundler_entry::{Call, Program, Unlinked};
+use bundler_entry::{Call, Program, Unlinked, finished};
+use bundler_kept::Kept as Keeping;
 use indexmap::IndexSet;
 use std::alloc::{AllocError, Global};
 
@@ -85,20 +86,74 @@ impl<L: Load + Drop, R: Resolve + Drop> Bundler<L, R> {
         if entries.is_empty() {
             return Ok(Vec::new(alloc));
         }
-        refuse_doubled_entry(alloc, entries.as_slice())?;
-        let (list, ids) = numbered(&mut self.library, alloc, entries.as_slice())?;
-        let list = load_all(&mut self.library, alloc, list, &self.config)?;
-        let library = &self.library;
-        Ok(linked_bundles(
-            alloc,
-            library,
-            &list,
-            &self.config,
-            &*self.hook,
-            entries,
-            ids,
-        )?)
+        let (list, ids) = loaded(&mut self.library, alloc, entries.as_slice(), &self.config)?;
+        let kept = &self.library.kept;
+        let merged = merged_bundles(alloc, kept, &list, &self.config, &*self.hook, entries, ids)?;
+        Ok(finished_bundles(alloc, merged, &self.config)?)
     }
+
+    /// The same, once and for all: the loader and the resolver are let go of when all modules are loaded, and the modules
+    /// when they are merged.
+    pub fn into_bundles(
+        self,
+        alloc: Global,
+        entries: Vec<(String, FileName)>,
+    ) -> Result<Vec<Bundle>, Error>
+        ensures headline { (kept : Kept) × IsHeadline
+            (parties_held L.Load R.Resolve ⟦<dyn Hook as Hook>⟧ self)
+            (settings_held self) (map entry_of entries.items)
+            (kept_by self) (answer_of result) kept }
+        ensures no_entry { entries.items ≡ [] →
+            AnswersNothing (kept_by self) (answer_of result) (kept_by self) }
+    {
+        if entries.is_empty() {
+            return Ok(Vec::new(alloc));
+        }
+        let Bundler {
+            library,
+            config,
+            hook,
+        } = self;
+        let mut library = library;
+        let (list, ids) = loaded(&mut library, alloc, entries.as_slice(), &config)?;
+        let kept = library.into_kept();
+        let merged = merged_bundles(alloc, &kept, &list, &config, &*hook, entries, ids)?;
+        drop(kept);
+        Ok(finished_bundles(alloc, merged, &config)?)
+    }
+}
+
+// Loads all that the entries need. Gives the load list, and the numbers of the entries' files in their order.
+fn loaded<L: Load + Drop, R: Resolve + Drop>(
+    library: &mut Library<L, R>,
+    alloc: Global,
+    entries: &[(String, FileName)],
+    config: &Config,
+) -> Result<(LoadList, Vec<ModuleId>), Error>
+    requires { 0 < length entries.now }
+    ensures grows { MovesOn L.may_load R.may_resolve (settings_of config.now) (files_of entries.now)
+        library.old library.new }
+    ensures loaded { IfOk result (λ made.
+        IsLoaded (settings_of config.now) (kept_of library.new.kept) made.0) }
+    ensures sound { IfOk result (λ made. AreSound (kept_of library.new.kept) (files_on made.0)) }
+    ensures numbered { IfOk result (λ made.
+        AllZip (IsNumberedOn (kept_of library.new.kept) made.0) entries.now made.1.items) }
+    ensures completes { IfOk result (λ made.
+        Completes
+        (asked_by L.may_load L.may_fail_load R.may_resolve R.may_fail_resolve library.old.loader
+        library.old.resolver)
+        (settings_of config.now) (map entry_of entries.now) (kept_of library.old.kept)
+        (kept_of library.new.kept)) }
+    ensures refused { IfErr result (IsToldOf
+        (asked_by L.may_load L.may_fail_load R.may_resolve R.may_fail_resolve library.old.loader
+        library.old.resolver)
+        (settings_of config.now) (map entry_of entries.now) (kept_of library.old.kept)
+        (kept_of library.new.kept)) }
+{
+    refuse_doubled_entry(alloc, entries)?;
+    let (list, ids) = numbered(library, alloc, entries)?;
+    let list = load_all(library, alloc, list, config)?;
+    Ok((list, ids))
 }
 
 // Refuses two entries of one name or one file.
@@ -161,31 +216,57 @@ fn numbered<L: Load + Drop, R: Resolve + Drop>(
     Ok((list, ids))
 }
 
-// A bundle for each entry, where these are the numbers of their files, and all that they need is on the list.
-fn linked_bundles<L: Load + Drop, R: Resolve + Drop>(
+// The bundles, finished.
+fn finished_bundles(
     alloc: Global,
-    library: &Library<L, R>,
+    merged: Vec<Bundle>,
+    config: &Config,
+) -> Result<Vec<Bundle>, AllocError>
+    ensures { IfOk result (λ bundles.
+        AllZip (IsFinishedBundle config.now) merged.items bundles.items) }
+{
+    let mut bundles = Vec::new(alloc);
+    for bundle in merged {
+        bundles.push(finished_bundle(alloc, bundle, config)?)?;
+    }
+    Ok(bundles)
+}
+
+// A bundle, finished.
+fn finished_bundle(alloc: Global, merged: Bundle, config: &Config) -> Result<Bundle, AllocError>
+    ensures { IfOk result (IsFinishedBundle config.now merged) }
+{
+    let Bundle { kind, id, module } = merged;
+    let module = finished(alloc, module, config)?;
+    Ok(Bundle { kind, id, module })
+}
+
+// A bundle for each entry, before it is finished, where these are the numbers of their files, and all that they need is
+// on the list.
+fn merged_bundles(
+    alloc: Global,
+    kept: &Keeping<ModuleData>,
     list: &LoadList,
     config: &Config,
     hook: &dyn Hook,
     entries: Vec<(String, FileName)>,
     ids: Vec<ModuleId>,
 ) -> Result<Vec<Bundle>, Unlinked>
-    requires { AreSound (kept_of library.now.kept) (files_on list.now) }
+    requires { AreSound (kept_of kept.now) (files_on list.now) }
     ensures bundles { IfOk result (λ bundles.
-        IsLoaded (settings_of config.now) (kept_of library.now.kept) list.now →
-        AllZip (IsNumberedOn (kept_of library.now.kept) list.now) entries.items ids.items →
+        IsLoaded (settings_of config.now) (kept_of kept.now) list.now →
+        AllZip (IsNumberedOn (kept_of kept.now) list.now) entries.items ids.items →
         AllZip
-        (IsBundledFor (answered_by (may_give hook.now) (may_fail_hook hook.now))
-        (settings_of config.now) (kept_of library.now.kept))
+        (IsMergedBundle (answered_by (may_give hook.now) (may_fail_hook hook.now)) config.now
+        (kept_of kept.now))
         entries.items bundles.items) }
     ensures refused { IfErr result (λ unlinked.
-        IsLoaded (settings_of config.now) (kept_of library.now.kept) list.now →
-        AllZip (IsNumberedOn (kept_of library.now.kept) list.now) entries.items ids.items →
+        IsLoaded (settings_of config.now) (kept_of kept.now) list.now →
+        AllZip (IsNumberedOn (kept_of kept.now) list.now) entries.items ids.items →
         IsRefusalOfEntries (answered_by (may_give hook.now) (may_fail_hook hook.now))
-        (settings_of config.now) (kept_of library.now.kept) (map entry_of entries.items) unlinked) }
+        (settings_of config.now) (kept_of kept.now) (map entry_of entries.items) unlinked) }
 {
-    let program = program_on(library, alloc, list, config)?;
+    let program = program_on(kept, alloc, list, config)?;
     bundles_of(alloc, &program, config, hook, entries, ids)
 }
 
@@ -201,8 +282,8 @@ fn bundles_of<'x>(
     ensures bundles { IfOk result (λ bundles. (kept : Kept) (list : LoadList) →
         IsReadOf (settings_of config.now) kept list program.now →
         AllZip (IsNumberedOn kept list) entries.items ids.items →
-        AllZip (IsBundledFor (answered_by (may_give hook.now) (may_fail_hook hook.now))
-        (settings_of config.now) kept) entries.items bundles.items) }
+        AllZip (IsMergedBundle (answered_by (may_give hook.now) (may_fail_hook hook.now)) config.now
+        kept) entries.items bundles.items) }
     ensures refused { IfErr result (λ unlinked. (kept : Kept) (list : LoadList) →
         IsReadOf (settings_of config.now) kept list program.now →
         AllZip (IsNumberedOn kept list) entries.items ids.items →

@@ -65,12 +65,26 @@ impl<L: Load + Drop, R: Resolve + Drop> Library<L, R> {
         self.kept.id(file)
     }
 
+    /// What is kept. The loader and the resolver are let go of.
+    pub(crate) fn into_kept(self) -> Kept<ModuleData>
+        ensures { result ≡ self.kept }
+    {
+        let Library {
+            loader,
+            resolver,
+            kept,
+        } = self;
+        drop(loader);
+        drop(resolver);
+        kept
+    }
+
     /// The module of a file, if it is kept.
     pub(crate) fn module(&self, file: &FileName) -> Option<&ModuleData>
         ensures { option_map (λ loaded. kept_as loaded.now) result
             ≡ kept_module (kept_of self.now.kept) (name_of file.now) }
     {
-        self.kept.tree(file)
+        module_in(&self.kept, file)
     }
 
     // Whether the module of a file is kept.
@@ -170,6 +184,14 @@ impl<L: Load + Drop, R: Resolve + Drop> Library<L, R> {
             .resolve(alloc, &request.file, request.specifier.as_str());
         keep_resolved(&mut self.kept, own, resolved)
     }
+}
+
+/// The module of a file, if it is kept.
+pub(crate) fn module_in<'x>(kept: &'x Kept<ModuleData>, file: &FileName) -> Option<&'x ModuleData>
+    ensures { option_map (λ loaded. kept_as loaded.now) result
+        ≡ kept_module (kept_of kept.entry.now) (name_of file.now) }
+{
+    kept.tree(file)
 }
 
 // Makes room for one more tree.

@@ -1,10 +1,10 @@
-//! The module of an entry.
+//! The module of an entry, before it is finished.
 
 ghost use Rattle.std.specs.Prelude.{IfErr, IfOk};
 ghost use Rattle.bundle_tree_names.specs.FileName.{name_of};
 ghost use Rattle.bundle_rules.specs.Kept.{Kept, program_of};
 ghost use Rattle.bundler_call.specs.Kept.{settings_of};
-ghost use Rattle.bundler_call.specs.Linking.{answered_by, IsFileOn, IsModuleFor, IsReadOf, IsRefusalOfProgram};
+ghost use Rattle.bundler_call.specs.Linking.{answered_by, IsFileOn, IsMergedFor, IsReadOf, IsRefusalOfProgram};
 ghost use Rattle.bundler_call.specs.declared.load.LoadList.{LoadList};
 
 use bundle_tree::hook::Hook;
@@ -13,7 +13,7 @@ use bundle_tree_names::ModuleId;
 use bundler_entry::{Call, Unlinked, ask_all, linked_entry, module_of};
 use std::alloc::Global;
 
-/// The module of an entry, which has the number of its file.
+/// The module of an entry, which has the number of its file, before it is finished.
 pub fn module_on<'p, 'x>(
     alloc: Global,
     call: &Call<'p, 'x>,
@@ -22,8 +22,8 @@ pub fn module_on<'p, 'x>(
 ) -> Result<Module, Unlinked>
     ensures made { IfOk result (λ made. (kept : Kept) (list : LoadList) →
         IsReadOf (settings_of call.now.config.now) kept list call.now.program.now →
-        IsFileOn kept list (name_of call.now.entry.now) entry → IsModuleFor
-        (answered_by (may_give hook.now) (may_fail_hook hook.now))
+        IsFileOn kept list (name_of call.now.entry.now) entry → IsMergedFor
+        (answered_by (may_give hook.now) (may_fail_hook hook.now)) call.now.config.now
         (program_of kept (settings_of call.now.config.now) entry) made) }
     ensures refused { IfErr result (λ unlinked. (kept : Kept) (list : LoadList) →
         IsReadOf (settings_of call.now.config.now) kept list call.now.program.now →

@@ -2,74 +2,74 @@
 
 ghost use Rattle.std.specs.Prelude.{◌≡◌, ℕ, Some, IfOk};
 ghost use Rattle.bundle_tree_names.specs.FileName.{name_of};
-ghost use Rattle.bundle_rules.specs.Kept as kept;
+ghost use Rattle.bundle_rules.specs.Kept as rules;
 ghost use Rattle.bundle_rules.specs.Kept.{number_in};
 ghost use Rattle.bundler_entry.specs.Source.{AreSourcesOf, IsSourceOf};
 ghost use Rattle.bundler_call.specs.Kept.{kept_of, settings_of};
 ghost use Rattle.bundler_call.specs.Linking.{IsLoaded, IsReadOf};
 ghost use Rattle.bundler_call.specs.Loading.{files_on, ids_on, AreNumbered, AreSound, IsSound};
 
-use crate::library::Library;
+use crate::library::module_in;
 use crate::load::LoadList;
-use bundle_tree::load::Load;
-use bundle_tree::resolve::Resolve;
+use bundle_tree::load::ModuleData;
 use bundle_tree_names::config::Config;
 use bundle_tree_names::file_name::FileName;
 use bundler_entry::{Program, Source, program_of, source_of};
+use bundler_kept::Kept;
 use std::alloc::{AllocError, Global};
 
 /// Reads the files of a load list, which are kept and not at fault by themselves.
-pub fn program_on<'x, L: Load + Drop, R: Resolve + Drop>(
-    library: &'x Library<L, R>,
+pub fn program_on<'x>(
+    kept: &'x Kept<ModuleData>,
     alloc: Global,
     list: &'x LoadList,
     config: &Config,
 ) -> Result<Program<'x>, AllocError>
-    requires { AreSound (kept_of library.now.kept) (files_on list.now) }
+    requires { AreSound (kept_of kept.now) (files_on list.now) }
     ensures { IfOk result (λ program.
-        IsLoaded (settings_of config.now) (kept_of library.entry.now.kept) list.entry.now →
-        IsReadOf (settings_of config.now) (kept_of library.entry.now.kept) list.entry.now program) }
+        IsLoaded (settings_of config.now) (kept_of kept.entry.now) list.entry.now →
+        IsReadOf (settings_of config.now) (kept_of kept.entry.now) list.entry.now program) }
 {
-    let sources = sources_on(library, alloc, list, config)?;
+    let sources = sources_on(kept, alloc, list, config)?;
     program_of(alloc, &list.files, list.deps.as_slice(), sources)
 }
 
 // What was read of each file.
-fn sources_on<'x, L: Load + Drop, R: Resolve + Drop>(
-    library: &'x Library<L, R>,
+fn sources_on<'x>(
+    kept: &'x Kept<ModuleData>,
     alloc: Global,
     list: &'x LoadList,
     config: &Config,
 ) -> Result<Vec<Source<'x>>, AllocError>
-    requires { AreSound (kept_of library.now.kept) (files_on list.now) }
+    requires { AreSound (kept_of kept.now) (files_on list.now) }
     ensures { IfOk result (λ sources.
         (entry : ℕ) →
-        AreNumbered (kept_of library.entry.now.kept) list.entry.now →
+        AreNumbered (kept_of kept.entry.now) list.entry.now →
         AreSourcesOf
-        (kept.program_of (kept_of library.entry.now.kept) (settings_of config.now) entry)
+        (rules.program_of (kept_of kept.entry.now) (settings_of config.now) entry)
         (ids_on list.entry.now) sources.items) }
 {
     let mut sources = Vec::new(alloc);
     for (file, _) in &list.files {
-        sources.push(kept_source(library, alloc, file, config)?)?;
+        sources.push(kept_source(kept, alloc, file, config)?)?;
     }
     Ok(sources)
 }
 
 // Reads a file, which is kept and not at fault by itself.
-fn kept_source<'x, L: Load + Drop, R: Resolve + Drop>(
-    library: &'x Library<L, R>,
+fn kept_source<'x>(
+    kept: &'x Kept<ModuleData>,
     alloc: Global,
     file: &'x FileName,
     config: &Config,
 ) -> Result<Source<'x>, AllocError>
-    requires { IsSound (kept_of library.now.kept) (name_of file.now) }
+    requires { IsSound (kept_of kept.now) (name_of file.now) }
     ensures { IfOk result (λ source.
         (entry m : ℕ) →
-        number_in (kept_of library.entry.now.kept) (name_of file.entry.now) ≡ Some m →
-        IsSourceOf (kept.program_of (kept_of library.entry.now.kept) (settings_of config.now) entry)
+        number_in (kept_of kept.entry.now) (name_of file.entry.now) ≡ Some m →
+        IsSourceOf (rules.program_of (kept_of kept.entry.now) (settings_of config.now) entry)
         m source) }
 {
-    let loaded = library.module(file).unwrap();
+    let loaded = module_in(kept, file).unwrap();
     source_of(alloc, loaded, config)
 }

@@ -9,7 +9,8 @@ ghost use Rattle.bundle_rules.specs.Program as program;
 ghost use Rattle.bundle_rules.specs.Program.{tree_of};
 ghost use Rattle.bundler_entry.specs.Asked.{AreAnswersBefore, AreAskedAnswers, IsAnswerOf, IsAskedModule, IsRefusedAt, IsRefusedFor};
 ghost use Rattle.bundler_entry.specs.Hook.{AreRead};
-ghost use Rattle.bundler_entry.specs.Made.{AreOfAnswers, IsMadeOf, IsRefusedMaking, answers_in};
+ghost use Rattle.bundler_entry.specs.Made.{AreOfAnswers, IsRefusedMaking, answers_in};
+ghost use Rattle.bundler_entry.specs.Merged.{IsMergedIn};
 ghost use Rattle.bundler_entry.specs.declared.entry.Answer as answer;
 ghost use Rattle.bundler_entry.specs.Linked.{IsCallOf, IsLinkedEntry, IsReachedIn};
 ghost use Rattle.bundler_entry.specs.Unlinked.{error_of};
@@ -33,7 +34,7 @@ pub struct Answer {
     properties: Vec<KeyValueProp>,
 }
 
-/// The module of an entry that has no fault, where this is what the hook answered.
+/// The module of an entry that has no fault, before it is finished, where this is what the hook answered.
 pub fn module_of<'p, 'x>(
     alloc: Global,
     call: &Call<'p, 'x>,
@@ -44,7 +45,7 @@ pub fn module_of<'p, 'x>(
         IsCallOf p entry call.now → (its : IsLinkedEntry p call.now linked.now) →
         AreAskedAnswers its.links.places answers.now →
         (given : ℕ → Option (List Item)) × AreOfAnswers answers.now given
-        × IsMadeOf its.links.places call.now linked.now given made) }
+        × IsMergedIn its.links.places linked.now given made) }
     ensures refused { IfErr result (λ unlinked. (p : program.Program) (entry : ℕ) →
         IsCallOf p entry call.now → (its : IsLinkedEntry p call.now linked.now) →
         AreAskedAnswers its.links.places answers.now →

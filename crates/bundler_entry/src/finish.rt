@@ -1,7 +1,7 @@
 //! The module of what was merged: no binding has a keyword's name, no two names clash, and it is one function's call
 //! where the settings say so.
 
-ghost use Rattle.std.specs.Prelude.{◌≡◌, IfErr, IfOk, map, if◌then◌else◌};
+ghost use Rattle.std.specs.Prelude.{◌≡◌, IfOk, map, if◌then◌else◌};
 ghost use Rattle.bundle_scope_names.specs.declared.names.Contexts.TheVariants.{Clear, Keep};
 ghost use Rattle.bundle_merge_whole.specs.finished.Twice.{IsEditable};
 ghost use Rattle.bundle_tree_piece.specs.Item.{item_of};
@@ -15,26 +15,24 @@ ghost use Rattle.bundle_scope_denote.specs.Listed.{IsTable};
 ghost use Rattle.bundle_tree_listed.specs.Tree.{module_items};
 ghost use Rattle.bundle_merge_whole.specs.finished.Ended.{AreEndNames, IsNamedAtOnce};
 ghost use Rattle.bundler_entry.specs.Finished.{IsFinished, NamesInTurn, is_renaming};
-ghost use Rattle.bundler_entry.specs.declared.unlinked.Unlinked.TheVariants.{OutOfMemory};
 
-use crate::unlinked::Unlinked;
+use crate::source::list_of;
 use bundle_merge_forms::wrap_with_iife;
 use bundle_scope_denote::{Denotations, ModuleKind, Reading, denotations};
 use bundle_scope_names::{Contexts, Names, changes_of, hygienic_names, keyword_names};
 use bundle_tree_ast::Module;
-use bundle_tree_list::pieces_of_module;
 use bundle_tree_names::config::{Config, ModuleType};
 use bundle_tree_piece::Piece;
 use bundle_tree_rebuild::Rebuild;
 use std::alloc::{AllocError, Global};
 
-/// The module of what was merged. Both keywords and names are renamed in one go. Refused only where memory runs out.
-pub fn finished(alloc: Global, merged: &Module, config: &Config) -> Result<Module, Unlinked>
-    ensures finished { IfOk result (λ made.
-        IsFinished config.now (module_items 0 merged.now) (module_items 0 made)) }
-    ensures refused { IfErr result (λ refusal. refusal ≡ OutOfMemory) }
+/// The module of what was merged, which is let go of. Both keywords and names are renamed in one go.
+pub fn finished(alloc: Global, merged: Module, config: &Config) -> Result<Module, AllocError>
+    ensures { IfOk result (λ made.
+        IsFinished config.now (module_items 0 merged) (module_items 0 made)) }
 {
-    let named = named(alloc, merged, config)?;
+    let named = named(alloc, &merged, config)?;
+    drop(merged);
     match config.module {
         ModuleType::Es => Ok(named),
         ModuleType::Iife => called(alloc, &named),
@@ -42,14 +40,13 @@ pub fn finished(alloc: Global, merged: &Module, config: &Config) -> Result<Modul
 }
 
 // A module as the call of one function.
-fn called(alloc: Global, module: &Module) -> Result<Module, Unlinked>
-    ensures wrapped { CanBeWrapped «module».now.body.items → IfOk result
+fn called(alloc: Global, module: &Module) -> Result<Module, AllocError>
+    ensures { CanBeWrapped «module».now.body.items → IfOk result
         (λ made. module_items 0 made ≡ wrapped (module_items 0 «module».now)) }
-    ensures refused { IfErr result (λ refusal. refusal ≡ OutOfMemory) }
 {
     match wrap_with_iife(alloc, module) {
         Ok(call) => Ok(call),
-        Err(_) => Err(Unlinked::OutOfMemory),
+        Err(_) => Err(AllocError),
     }
 }
 
@@ -62,27 +59,29 @@ fn named(alloc: Global, merged: &Module, config: &Config) -> Result<Module, Allo
         NamesInTurn (is_renaming config.now) (module_items 0 merged.now)
         (module_items 0 made)) }
 {
-    let list = pieces_of_module(alloc, merged)?;
+    let list = list_of(alloc, merged)?;
     let denoted = denotations(alloc, &list, ModuleKind::Es, Reading::ByContext)?;
-    renamed(alloc, merged, &list, &denoted, config)
+    renamed(alloc, merged, list, denoted, config)
 }
 
-// The same, where this is its list, and this is what its names denote.
+// The same, where this is its list, and this is what its names denote, which are let go of before the tree is made.
 fn renamed<'c>(
     alloc: Global,
     merged: &Module,
-    list: &[Piece<'c>],
-    denoted: &Denotations<'c>,
+    list: Vec<Piece<'c>>,
+    denoted: Denotations<'c>,
     config: &Config,
 ) -> Result<Module, AllocError>
-    requires { IsTable ByContext Es (map item_of list.now) denoted.now }
-    ensures at_once { map item_of list.now ≡ module_items 0 merged.now → IfOk result (λ made.
-        IsNamedAtOnce (is_renaming config.now) (module_items 0 merged.now)
+    requires { IsTable ByContext Es (map item_of list.items) denoted }
+    ensures at_once { map item_of list.entry.items ≡ module_items 0 merged.now →
+        IfOk result (λ made. IsNamedAtOnce (is_renaming config.now) (module_items 0 merged.now)
         (module_items 0 made)) }
     ensures editable { IfOk result (λ made. IsEditable (module_items 0 merged.now)) }
 {
-    let names = names_of(alloc, list, denoted, config)?;
-    let changes = changes_of(alloc, list, denoted, &names, contexts_of(config))?;
+    let names = names_of(alloc, &list, &denoted, config)?;
+    let changes = changes_of(alloc, &list, &denoted, &names, contexts_of(config))?;
+    drop(list);
+    drop(denoted);
     let mut rebuild = Rebuild::new(alloc, &changes);
     rebuild.module(merged)
 }

@@ -14,6 +14,7 @@ mod unlinked;
 
 pub use call::Call;
 pub use entry::{Answer, ask_all, module_of};
+pub use finish::finished;
 pub use linked::{Linked, linked_entry};
 pub use source::{Program, Source, program_of, source_of};
 pub use unlinked::Unlinked;

@@ -13,12 +13,11 @@ ghost use Rattle.bundle_merge_whole.specs.made.Given.{all_fresh};
 ghost use Rattle.bundle_merge_items.specs.Adds.{AreAnswered};
 ghost use Rattle.bundler_entry.specs.Hook.{AreRead};
 ghost use Rattle.bundler_entry.specs.Linked.{HasFiles, HasPlace, HasPlaces, IsCallOf, IsFileAt, IsLinkedEntry};
-ghost use Rattle.bundler_entry.specs.Made.{IsMadeOf, IsRefusedMaking, answers_in};
+ghost use Rattle.bundler_entry.specs.Made.{IsRefusedMaking, answers_in};
 ghost use Rattle.bundler_entry.specs.Merged.{IsMergedIn, TellsContexts};
 ghost use Rattle.bundler_entry.specs.Parts.{AreBodies, AreEntryParts, IsAnswerRead, IsBodyAt, IsEntryPart};
 
 use crate::call::{Call, file_at, source_at};
-use crate::finish::finished;
 use crate::linked::Linked;
 use crate::meta::ReadMeta;
 use crate::source::Source;
@@ -83,7 +82,7 @@ fn body_of<'x>(alloc: Global, source: &Source<'x>) -> Result<Denotations<'x>, Al
     )
 }
 
-/// The module that all modules make, where this is what the hook answered, by their numbers.
+/// The module that all modules make, before it is finished, where this is what the hook answered, by their numbers.
 pub fn made<'p, 'x, 'h>(
     alloc: Global,
     call: &Call<'p, 'x>,
@@ -93,7 +92,7 @@ pub fn made<'p, 'x, 'h>(
     ensures made { IfOk result (λ made. (p : program.Program) (entry : ℕ) →
         IsCallOf p entry call.now → (its : IsLinkedEntry p call.now linked.now) →
         AreRead metas.now → AreAnswered its.links.places (all_fresh (answers_in metas.now)) →
-        IsMadeOf its.links.places call.now linked.now (answers_in metas.now) made) }
+        IsMergedIn its.links.places linked.now (answers_in metas.now) made) }
     ensures refused { IfErr result (λ unlinked. (p : program.Program) (entry : ℕ) →
         IsCallOf p entry call.now → (its : IsLinkedEntry p call.now linked.now) →
         AreRead metas.now → AreAnswered its.links.places (all_fresh (answers_in metas.now)) →
@@ -102,7 +101,11 @@ pub fn made<'p, 'x, 'h>(
     let (reached, linking) = (&linked.reached, &linked.linking);
     let bodies = bodies_of(alloc, call, reached, linking)?;
     let merged = merged_of(alloc, call, linked, bodies.as_slice(), metas)?;
-    finished(alloc, &merged.module, call.config)
+    let Merged {
+        module,
+        contexts: _contexts,
+    } = merged;
+    Ok(module)
 }
 
 // The items that all modules make, where these are the names of the CommonJS ones.

@@ -20,7 +20,7 @@ use bundle_link_reached::Files;
 use bundle_link_tables::{Tables, tables_of};
 use bundle_scope_denote::{Denotations, ModuleKind, Reading, denotations};
 use bundle_tree::load::ModuleData;
-use bundle_tree_ast::ModuleItem;
+use bundle_tree_ast::{Module, ModuleItem};
 use bundle_tree_list::pieces_of_module;
 use bundle_tree_names::ModuleId;
 use bundle_tree_names::config::Config;
@@ -62,7 +62,7 @@ pub fn source_of<'x>(
         module_of p m ≡ Some (kept_as loaded.now) →
         IsSourceOf p m source) }
 {
-    let pieces = pieces_of_module(alloc, &loaded.module)?;
+    let pieces = list_of(alloc, &loaded.module)?;
     let names = denotations(alloc, pieces.as_slice(), ModuleKind::Es, Reading::BySymbol)?;
     let tables = tables_in(alloc, pieces.as_slice(), &names, config)?;
     let items = loaded.module.body.as_slice();
@@ -73,6 +73,15 @@ pub fn source_of<'x>(
         names,
         tables,
     })
+}
+
+/// The list of a module, without room for more.
+pub fn list_of<'x>(alloc: Global, module: &'x Module) -> Result<Vec<Piece<'x>>, AllocError>
+    ensures { IfOk result (λ list. map item_of list.items ≡ module_items 0 «module».now) }
+{
+    let mut list = pieces_of_module(alloc, module)?;
+    list.shrink_to_fit();
+    Ok(list)
 }
 
 // The tables of a list that has no fault, where these are its names.

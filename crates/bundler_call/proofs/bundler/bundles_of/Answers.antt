@@ -1,6 +1,5 @@
 -- One more bundle stands for one more entry; where no entry is left, all have theirs. A refusal of one is of all.
 use Rattle.std.proofs.Common.{refl, inl, inr}
-use Rattle.bundler_call.specs.Kept.{settings_of}
 use Rattle.bundler_call.proofs.Bundling.{made_all, made_more, number_here, refused_here}
 use Rattle.bundler_call.proofs.Finding.{handed_on}
 use Rattle.bundler_call.proofs.Numbered.{counted_less, none_left}
@@ -10,24 +9,24 @@ pub loop-entry-preserved-in_ok-push : goal.loop-entry-preserved-in_ok-push
 loop-entry-preserved-in_ok-push g c = (
   counted_less _ _ _ _ _ c.in-Some.ensures.steps.0.0 c.in-Some.ensures.steps.0.1 c.loop-entry.invariant.0,
   counted_less _ _ _ _ _ c.in-Some.ensures.steps.1.0 c.in-Some.ensures.steps.1.1 c.loop-entry.invariant.1,
-  λ kept list read all. made_more _ (settings_of c.args.config.now) kept list c.args.entries.items _ _ _ _ _ c.in-Some.entry c.in-Some.id c.in-Some.ensures.steps.0.0 c.in-Some.ensures.steps.1.0 (c.loop-entry.invariant.2 kept list read all) _ _ c.in_ok-push.ensures.items refl refl
-      (c.in_ok-module.ensures.made kept list read (number_here _ (settings_of c.args.config.now) kept list c.args.entries.items _ _ _ _ _ c.in-Some.entry c.in-Some.id c.in-Some.ensures.steps.0.0 c.in-Some.ensures.steps.1.0 (c.loop-entry.invariant.2 kept list read all))),
+  λ kept list read all. made_more _ c.args.config.now kept list c.args.entries.items _ _ _ _ _ c.in-Some.entry c.in-Some.id c.in-Some.ensures.steps.0.0 c.in-Some.ensures.steps.1.0 (c.loop-entry.invariant.2 kept list read all) _ _ c.in_ok-push.ensures.items refl refl
+      (c.in_ok-module.ensures.made kept list read (number_here _ c.args.config.now kept list c.args.entries.items _ _ _ _ _ c.in-Some.entry c.in-Some.id c.in-Some.ensures.steps.0.0 c.in-Some.ensures.steps.1.0 (c.loop-entry.invariant.2 kept list read all))),
 )
 
 pub loop-entry-preserved : goal.loop-entry-preserved
 loop-entry-preserved g c = (
   counted_less _ _ _ _ _ c.in-Some.ensures.steps.0.0 c.in-Some.ensures.steps.0.1 c.loop-entry.invariant.0,
   counted_less _ _ _ _ _ c.in-Some.ensures.steps.1.0 c.in-Some.ensures.steps.1.1 c.loop-entry.invariant.1,
-  λ kept list read all. made_more _ (settings_of c.args.config.now) kept list c.args.entries.items _ _ _ _ _ c.in-Some.entry c.in-Some.id c.in-Some.ensures.steps.0.0 c.in-Some.ensures.steps.1.0 (c.loop-entry.invariant.2 kept list read all) _ _ c.in_ok-push.ensures.items refl refl
-      (c.in_ok-module.ensures.made kept list read (number_here _ (settings_of c.args.config.now) kept list c.args.entries.items _ _ _ _ _ c.in-Some.entry c.in-Some.id c.in-Some.ensures.steps.0.0 c.in-Some.ensures.steps.1.0 (c.loop-entry.invariant.2 kept list read all))),
+  λ kept list read all. made_more _ c.args.config.now kept list c.args.entries.items _ _ _ _ _ c.in-Some.entry c.in-Some.id c.in-Some.ensures.steps.0.0 c.in-Some.ensures.steps.1.0 (c.loop-entry.invariant.2 kept list read all) _ _ c.in_ok-push.ensures.items refl refl
+      (c.in_ok-module.ensures.made kept list read (number_here _ c.args.config.now kept list c.args.entries.items _ _ _ _ _ c.in-Some.entry c.in-Some.id c.in-Some.ensures.steps.0.0 c.in-Some.ensures.steps.1.0 (c.loop-entry.invariant.2 kept list read all))),
 )
 
 pub returns-clause-bundles : goal.returns-clause-bundles
 returns-clause-bundles g c = λ kept list read all.
-    made_all _ (settings_of c.args.config.now) kept list _ _ _ _ (elim c.in-None.ensures.steps [ inl none ↦ inl (none_left _ _ c.loop-entry.invariant.0 none.1.0) | inr none ↦ inr (none_left _ _ c.loop-entry.invariant.1 none.1.0) ]) (c.loop-entry.invariant.2 kept list read all)
+    made_all _ c.args.config.now kept list _ _ _ _ (elim c.in-None.ensures.steps [ inl none ↦ inl (none_left _ _ c.loop-entry.invariant.0 none.1.0) | inr none ↦ inr (none_left _ _ c.loop-entry.invariant.1 none.1.0) ]) (c.loop-entry.invariant.2 kept list read all)
 
 pub returns-in_err-module-clause-refused : goal.returns-in_err-module-clause-refused
 returns-in_err-module-clause-refused g c =
     handed_on c.from_residual.result c.in_err-module.field-0.0 _ c.from_residual.ensures.1 (λ kept list read all.
-    refused_here _ (settings_of c.args.config.now) kept list c.args.entries.items _ _ _ _ _ c.in-Some.entry c.in-Some.id c.in-Some.ensures.steps.0.0 c.in-Some.ensures.steps.1.0 (c.loop-entry.invariant.2 kept list read all) c.in_err-module.field-0.0
-    (c.in_err-module.ensures.refused kept list read (number_here _ (settings_of c.args.config.now) kept list c.args.entries.items _ _ _ _ _ c.in-Some.entry c.in-Some.id c.in-Some.ensures.steps.0.0 c.in-Some.ensures.steps.1.0 (c.loop-entry.invariant.2 kept list read all))))
+    refused_here _ c.args.config.now kept list c.args.entries.items _ _ _ _ _ c.in-Some.entry c.in-Some.id c.in-Some.ensures.steps.0.0 c.in-Some.ensures.steps.1.0 (c.loop-entry.invariant.2 kept list read all) c.in_err-module.field-0.0
+    (c.in_err-module.ensures.refused kept list read (number_here _ c.args.config.now kept list c.args.entries.items _ _ _ _ _ c.in-Some.entry c.in-Some.id c.in-Some.ensures.steps.0.0 c.in-Some.ensures.steps.1.0 (c.loop-entry.invariant.2 kept list read all))))

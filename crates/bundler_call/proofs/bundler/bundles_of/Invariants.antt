@@ -13,4 +13,4 @@ invariant-loop-entry g l =
     (length l.entry-iterator.a.rest.items ≡ l.entry-iterator.a.rest.len)
     × (length l.entry-iterator.b.rest.items ≡ l.entry-iterator.b.rest.len)
     × ((kept : Kept) (list : LoadList) → IsReadOf (settings_of l.config) kept list l.program → AllZip (IsNumberedOn kept list) l.fn.entries.items l.fn.ids.items
-    → AreMadeSoFar (answered_by ((goal.Hook-dyn g l.hook.now).may_give l.hook.now.1) ((goal.Hook-dyn g l.hook.now).may_fail_hook l.hook.now.1)) (settings_of l.config) kept list l.fn.entries.items l.entry-iterator.a.rest.items l.entry-iterator.b.rest.items l.bundles.items)
+    → AreMadeSoFar (answered_by ((goal.Hook-dyn g l.hook.now).may_give l.hook.now.1) ((goal.Hook-dyn g l.hook.now).may_fail_hook l.hook.now.1)) l.config kept list l.fn.entries.items l.entry-iterator.a.rest.items l.entry-iterator.b.rest.items l.bundles.items)

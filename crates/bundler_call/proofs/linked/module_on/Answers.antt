@@ -6,7 +6,7 @@ use Rattle.bundler_entry.specs.Asked.{AreAnswersBefore}
 use Rattle.bundler_entry.proofs.Bundled.{asked-answers}
 use Rattle.bundler_call.specs.Kept.{settings_of}
 use Rattle.bundler_call.proofs.Finding.{handed_on}
-use Rattle.bundler_call.proofs.Linking.{module_right, refused_hook, refused_linking, refused_merging}
+use Rattle.bundler_call.proofs.Linking.{merged_right, refused_hook, refused_linking, refused_merging}
 use Rattle.bundler_call.proofs.Sources.{call_of}
 use Rattle.bundler_call.proofs.linked.module_on.Goals as goal
 
@@ -31,7 +31,7 @@ returns-clause-made g c =
     let is_call = call_of kept list c.args.call.now c.args.entry read there in
     let its = c.in_ok-linked.ensures.linked p is_call in
     let asked = subst (AreAnswersBefore ((goal.Hook-dyn g c.args.hook.now).may_give c.args.hook.now.1) p c.in_ok-linked.linked.reached.list.items (length c.in_ok-linked.linked.reached.list.items)) (sym c.deref.ensures.value) (c.in_ok-answers.ensures.answered p c.args.entry is_call its) in
-    module_right _ _ p c.args.entry c.args.call.now is_call c.in_ok-linked.linked its _ asked made
+    merged_right _ _ p c.args.entry c.args.call.now is_call c.in_ok-linked.linked its _ asked made
     (right p c.args.entry is_call its (asked-answers p c.args.entry c.args.call.now is_call c.in_ok-linked.linked its _ _ asked))) c.module_of.ensures.made
 
 pub returns-clause-refused : goal.returns-clause-refused

@@ -11,13 +11,13 @@ use Rattle.bundler_call.proofs.Sources.{module_numbered}
 use Rattle.bundler_call.proofs.program.kept_source.Goals as goal
 
 pub unwrap-loaded-requires : goal.unwrap-loaded-requires
-unwrap-loaded-requires g c = is_there (kept_of c.args.library.now.kept) (name_of c.args.file.now) c.module.result c.module.ensures c.requires
+unwrap-loaded-requires c = is_there (kept_of c.args.kept.now) (name_of c.args.file.now) c.module_in.result c.module_in.ensures c.requires
 
 pub source_of-requires : goal.source_of-requires
-source_of-requires g c = read_sound (kept_of c.args.library.now.kept) (name_of c.args.file.now) c.unwrap-loaded.result.now (sym c.module.ensures ∙ ap (option_map (λ (x : Bor ModuleData). kept_as x.now)) c.unwrap-loaded.ensures) c.requires
+source_of-requires c = read_sound (kept_of c.args.kept.now) (name_of c.args.file.now) c.unwrap-loaded.result.now (sym c.module_in.ensures ∙ ap (option_map (λ (x : Bor ModuleData). kept_as x.now)) c.unwrap-loaded.ensures) c.requires
 
 pub returns : goal.returns
-returns g c =
-    IfOk-weaker c.source_of.result _ _ (λ source gives entry m number. gives (program_of (kept_of c.args.library.now.kept) (settings_of c.args.config.now) entry) m (refl, refl)
-    (module_numbered (kept_of c.args.library.now.kept) (settings_of c.args.config.now) entry (name_of c.args.file.now) m (kept_as c.unwrap-loaded.result.now) number (sym c.module.ensures ∙ ap (option_map (λ (x : Bor ModuleData). kept_as x.now)) c.unwrap-loaded.ensures)))
+returns c =
+    IfOk-weaker c.source_of.result _ _ (λ source gives entry m number. gives (program_of (kept_of c.args.kept.now) (settings_of c.args.config.now) entry) m (refl, refl)
+    (module_numbered (kept_of c.args.kept.now) (settings_of c.args.config.now) entry (name_of c.args.file.now) m (kept_as c.unwrap-loaded.result.now) number (sym c.module_in.ensures ∙ ap (option_map (λ (x : Bor ModuleData). kept_as x.now)) c.unwrap-loaded.ensures)))
     c.source_of.ensures

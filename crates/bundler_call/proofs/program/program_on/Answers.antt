@@ -5,5 +5,5 @@ use Rattle.bundler_call.proofs.Sources.{read_of}
 use Rattle.bundler_call.proofs.program.program_on.Goals as goal
 
 pub returns : goal.returns
-returns g c =
-    read_of c.program_of.result (settings_of c.args.config.now) (kept_of c.args.library.now.kept) c.args.list.now _ _ _ refl c.as_slice.ensures.value c.in_ok-sources.ensures c.program_of.ensures.program c.program_of.ensures.files
+returns c =
+    read_of c.program_of.result (settings_of c.args.config.now) (kept_of c.args.kept.now) c.args.list.now _ _ _ refl c.as_slice.ensures.value c.in_ok-sources.ensures c.program_of.ensures.program c.program_of.ensures.files

@@ -6,6 +6,6 @@ use Rattle.bundler_call.proofs.Sources.{AreReadSoFar}
 use Rattle.bundler_call.proofs.program.sources_on.Given as goal
 
 abbrev pub invariant-loop-file : goal.invariant-loop-file
-invariant-loop-file g l =
-    AreSound (kept_of l.library.kept) (names_of_entries l.file-iterator)
-    × (AreNumbered (kept_of l.library.kept) l.list → AreReadSoFar (kept_of l.library.kept) (settings_of l.config) l.list.files.entries l.file-iterator l.sources.items)
+invariant-loop-file l =
+    AreSound (kept_of l.kept) (names_of_entries l.file-iterator)
+    × (AreNumbered (kept_of l.kept) l.list → AreReadSoFar (kept_of l.kept) (settings_of l.config) l.list.files.entries l.file-iterator l.sources.items)

@@ -13,8 +13,8 @@ under : {X Y C : Type 0} (r : Result X Y) (P : X → Type 0) → (C → IfOk r P
 under (Ok x) P f = f
 under (Err e) P f = tt
 
-pub returns-in-Es-clause-finished : goal.returns-in-Es-clause-finished
-returns-in-Es-clause-finished c = record {
+pub returns-in-Es : goal.returns-in-Es
+returns-in-Es c = record {
   named = c.in_ok-named.named;
   at_once = c.in_ok-named.ensures.at_once;
   in_turn = c.in_ok-named.ensures.in_turn;
@@ -22,8 +22,8 @@ returns-in-Es-clause-finished c = record {
   as_call = λ so. absurd (false≢true (sym (ap is_call c.in-Es.is) ∙ so));
 }
 
-pub returns-in-Iife-clause-finished : goal.returns-in-Iife-clause-finished
-returns-in-Iife-clause-finished c =
+pub returns-in-Iife : goal.returns-in-Iife
+returns-in-Iife c =
     IfOk-weaker c.called.result _ _
     (λ made is. record {
       named = c.in_ok-named.named;
@@ -32,4 +32,4 @@ returns-in-Iife-clause-finished c =
       as_module = λ so. absurd (false≢true (sym so ∙ ap is_call c.in-Iife.is));
       as_call = λ so can. is can;
     })
-    (under c.called.result (λ made. module_items 0 made ≡ wrapped (module_items 0 c.in_ok-named.named)) c.called.ensures.wrapped)
+    (under c.called.result (λ made. module_items 0 made ≡ wrapped (module_items 0 c.in_ok-named.named)) c.called.ensures)

@@ -1,7 +1,6 @@
 -- One rebuild comes to both renamings.
-use Rattle.std.proofs.Common.{map, ap, ◌∙◌, Result, Ok, Err}
+use Rattle.std.proofs.Common.{Result, Ok, Err}
 use Rattle.std.specs.Result.{IfOk}
-use Rattle.bundle_tree_piece.specs.Item.{item_of}
 use Rattle.bundle_tree_listed.specs.Tree.{module_items}
 use Rattle.bundle_scope_renamed.proofs.grown.Grown.{module_fit}
 use Rattle.bundle_merge_whole.specs.finished.Ended.{IsNamedAtOnce}
@@ -24,5 +23,5 @@ returns-clause-in_turn c =
     (λ made. IsEditable (module_items 0 c.args.merged.now)) _
     (λ made at_once editable. λ resolved only tidy.
     in-turn (is_renaming c.args.config.now) (module_items 0 c.args.merged.now) editable resolved only (one_plain (module_fit 0 c.args.merged.now)) tidy (module_items 0 made) at_once)
-    (c.renamed.ensures.at_once (ap (map item_of) c.deref-2.ensures.value ∙ c.in_ok-list.ensures))
+    (c.renamed.ensures.at_once c.in_ok-list.ensures)
     c.renamed.ensures.editable

@@ -21,15 +21,15 @@ pub returns-clause-at_once : goal.returns-clause-at_once
 returns-clause-at_once c = λ same.
     IfOk-weaker c.module.result _ _
     (λ made one. record {
-      table = c.args.denoted.now;
-      denotes = subst (λ tree. IsTable ByContext Es tree c.args.denoted.now) same c.requires;
+      table = c.args.denoted;
+      denotes = subst (λ tree. IsTable ByContext Es tree c.args.denoted) same c.requires;
       names = c.in_ok-names.names;
-      right = subst (λ tree. AreEndNames (is_renaming c.args.config.now) tree c.args.denoted.now c.in_ok-names.names) same c.in_ok-names.ensures;
+      right = subst (λ tree. AreEndNames (is_renaming c.args.config.now) tree c.args.denoted c.in_ok-names.names) (ap (map item_of) c.deref.ensures.value ∙ same) c.in_ok-names.ensures;
       is =
           rebuilt_so (plain_edited c.new-rebuild.ensures (one.in_field 0))
-          ∙ ap (rebuilt (module_items 0 c.args.merged.now)) (ap (map change_of) c.deref.ensures.value ∙ c.in_ok-changes.ensures)
-          ∙ ap (λ contexts. rebuilt (module_items 0 c.args.merged.now) (name_changes c.in_ok-names.names contexts (idents (map item_of c.args.list.now)) (map (λ denoted. denoted.binding) c.args.denoted.now.occurrences.items))) c.contexts_of.ensures
-          ∙ ap (λ (tree : List Item). rebuilt (module_items 0 c.args.merged.now) (name_changes c.in_ok-names.names (if is_renaming c.args.config.now then Clear else Keep) (idents tree) (map (λ denoted. denoted.binding) c.args.denoted.now.occurrences.items))) same;
+          ∙ ap (rebuilt (module_items 0 c.args.merged.now)) (ap (map change_of) c.deref-3.ensures.value ∙ c.in_ok-changes.ensures)
+          ∙ ap (λ contexts. rebuilt (module_items 0 c.args.merged.now) (name_changes c.in_ok-names.names contexts (idents (map item_of c.deref-2.result.now)) (map (λ denoted. denoted.binding) c.args.denoted.occurrences.items))) c.contexts_of.ensures
+          ∙ ap (λ (tree : List Item). rebuilt (module_items 0 c.args.merged.now) (name_changes c.in_ok-names.names (if is_renaming c.args.config.now then Clear else Keep) (idents tree) (map (λ denoted. denoted.binding) c.args.denoted.occurrences.items))) (ap (map item_of) c.deref-2.ensures.value ∙ same);
     })
     c.module.ensures
 

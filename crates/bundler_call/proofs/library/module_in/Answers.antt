@@ -7,9 +7,9 @@ use Rattle.bundler_kept.specs.Kept.{trees_in}
 use Rattle.bundler_kept.proofs.Keeping.{option_map-step}
 use Rattle.bundler_call.specs.Kept.{kept_as}
 use Rattle.bundler_call.proofs.Finding.{lookup-read}
-use Rattle.bundler_call.proofs.library.Library.module.Goals as goal
+use Rattle.bundler_call.proofs.library.module_in.Goals as goal
 
 pub returns : goal.returns
-returns g c =
+returns c =
     option_map-step (λ (loaded : Bor ModuleData). loaded.now) kept_as c.tree.result ∙ ap (option_map kept_as) c.tree.ensures
-    ∙ sym (lookup-read kept_as (name_eq (name_of c.args.file.now)) (trees_in c.args.self.now.kept))
+    ∙ sym (lookup-read kept_as (name_eq (name_of c.args.file.now)) (trees_in c.args.kept.now))
