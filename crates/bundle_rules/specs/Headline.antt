@@ -58,7 +58,7 @@ pub record IsBundleOf (parties : Parties) (settings : Settings) (kept : Kept) (b
   pub is_bundle : IsBundle p parties.hooks (form_of settings) (reading_of settings) bundled.tree
   pub names : HasRightNames p parties.hooks bundled.tree
 
--- contexts do not suffice for one of the programs: all that the entries reach is kept, the programs before are accepted, and so is this one; that may be told wherever the counted sum is above the last context, and names the module whose tree or hook's answer gets the contexts, else the entry
+-- contexts do not suffice for one of the programs: all that the entries reach is kept, the programs before are accepted, and so is this one; that may be told wherever the counted sum is above the last context, and names some reached module that gets contexts of its own, or the entry
 pub record IsContextsFault (parties : Parties) (settings : Settings) (entries : List Entry) (old kept : Kept) (fault : Fault) : Type 0 where
   pub completes : Completes parties settings entries old kept
   pub i : ℕ
@@ -85,7 +85,7 @@ IsRight parties settings entries old (Bundles bundles) new = Completes parties s
 IsRight parties settings entries old (Refusal fault) new = Refuses parties settings entries old fault new ⊎ IsContextsFault parties settings entries old new fault
 IsRight parties settings entries old NoMemory new = Unit {0}
 
--- THE HEADLINE: for each list of entries, settings and parties, what a call answers is right, and what is kept only grows, by answers of the parties to what the call has to ask
+-- THE HEADLINE: for each list of entries, settings and parties, what a call answers is right, and what is kept only grows, by answers of the parties to requests of what was met, none of them answered before
 pub record IsHeadline (parties : Parties) (settings : Settings) (entries : List Entry) (old : Kept) (answer : Answer) (new : Kept) : Type 0 where
   pub right : IsRight parties settings entries old answer new
   pub grows : Grows parties.answers settings (files_of entries) old new
@@ -96,7 +96,7 @@ abbrev pub AnswersWhereFaultless : Parties → Settings → List Entry → Kept 
 AnswersWhereFaultless parties settings entries old answer new =
     ((fault : Fault) → Refuses parties settings entries old fault new → ⊥) → ((fault : Fault) → IsContextsFault parties settings entries old new fault → ⊥) → answer ≢ NoMemory → (bundles : List Bundled) × (answer ≡ Bundles bundles)
 
--- an empty list of entries is answered by no bundle, and nothing is asked
+-- an empty list of entries is answered by no bundle, and nothing changes
 pub record AnswersNothing (old : Kept) (answer : Answer) (new : Kept) : Type 0 where
   pub none : answer ≡ Bundles []
   pub same : new ≡ old

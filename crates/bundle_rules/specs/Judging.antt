@@ -119,7 +119,7 @@ pub data Asks (parties : Parties) (file : Name) : List Text → Kept → List Na
 abbrev pub requests_in : Settings → List Item → List Text
 requests_in settings tree = requests_of settings (is_free tree) tree
 
--- `Grows answers settings entries old new`: what is kept grows from old to new by answers of the parties, each to a request that the call has to make and that was not answered before; nothing that was kept changes
+-- `Grows answers settings entries old new`: what is kept grows from old to new by answers of the parties, each to a request of what was met and that was not answered before; nothing that was kept changes
 pub data Grows (answers : Answers) (settings : Settings) (entries : List Name) : Kept → Kept → Type 0 where
   -- nothing is new
   same : {kept : Kept} → Grows answers settings entries kept kept

@@ -25,7 +25,7 @@ pub struct Config {
     pub external_modules: Vec<String>,
     /// What the bundle is written as.
     pub module: ModuleType,
-    /// How many modules a bundle may have.
+    /// How many modules may be kept.
     pub max_modules: u32,
 }
 

@@ -16,7 +16,7 @@ pub enum Error {
     Resolve { file: FileName, specifier: String },
     /// The hook failed on `file`.
     Hook { file: FileName },
-    /// The bundle has as many modules as its settings allow, and `file` is not among them.
+    /// As many modules are kept as the settings allow, and `file` is not among them.
     TooManyModules { file: FileName },
     /// The next context, one of the module in `file`, would be above 4294967295.
     ContextsUsedUp { file: FileName },
