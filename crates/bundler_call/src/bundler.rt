@@ -92,8 +92,8 @@ impl<L: Load + Drop, R: Resolve + Drop> Bundler<L, R> {
         Ok(finished_bundles(alloc, merged, &self.config)?)
     }
 
-    /// The same, once and for all: the loader and the resolver are let go of when all modules are loaded, and the modules
-    /// when they are merged.
+    /// What `bundle` gives, refused as that is, of a bundler that is called for the last time: the loader and the resolver
+    /// are let go of when all modules are loaded, and the modules when they are merged, so that it takes less memory.
     pub fn into_bundles(
         self,
         alloc: Global,
