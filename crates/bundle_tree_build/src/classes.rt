@@ -73,6 +73,7 @@ impl<'p, 'a> Builder<'p, 'a> {
             let it = self.param(room, field)?;
             list.push(it)?;
         }
+        list.shrink_to_fit();
         Ok(list)
     }
 
@@ -164,6 +165,7 @@ impl<'p, 'a> Builder<'p, 'a> {
             let it = self.class_member(room, field)?;
             list.push(it)?;
         }
+        list.shrink_to_fit();
         Ok(list)
     }
 

@@ -97,6 +97,7 @@ impl<'p, 'a> Builder<'p, 'a> {
             let it = self.var_declarator(room, field)?;
             list.push(it)?;
         }
+        list.shrink_to_fit();
         Ok(list)
     }
 

@@ -285,6 +285,7 @@ impl<'p, 'a> Builder<'p, 'a> {
             let it = self.expr(room, field)?;
             list.push(it)?;
         }
+        list.shrink_to_fit();
         Ok(list)
     }
 
@@ -346,6 +347,7 @@ impl<'p, 'a> Builder<'p, 'a> {
             let it = self.expr_or_spread(room, field)?;
             list.push(it)?;
         }
+        list.shrink_to_fit();
         Ok(list)
     }
 
@@ -394,6 +396,7 @@ impl<'p, 'a> Builder<'p, 'a> {
             let it = self.option_expr_or_spread(room, field)?;
             list.push(it)?;
         }
+        list.shrink_to_fit();
         Ok(list)
     }
 

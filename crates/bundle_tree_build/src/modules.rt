@@ -66,6 +66,7 @@ impl<'p, 'a> Builder<'p, 'a> {
             let it = self.module_item(room, field)?;
             list.push(it)?;
         }
+        list.shrink_to_fit();
         Ok(list)
     }
 
@@ -167,6 +168,7 @@ impl<'p, 'a> Builder<'p, 'a> {
             let it = self.import_specifier(room, field)?;
             list.push(it)?;
         }
+        list.shrink_to_fit();
         Ok(list)
     }
 
@@ -287,6 +289,7 @@ impl<'p, 'a> Builder<'p, 'a> {
             let it = self.export_specifier(room, field, role)?;
             list.push(it)?;
         }
+        list.shrink_to_fit();
         Ok(list)
     }
 

@@ -337,6 +337,7 @@ impl<'p, 'a> Builder<'p, 'a> {
             let it = self.tpl_element(room, field)?;
             list.push(it)?;
         }
+        list.shrink_to_fit();
         Ok(list)
     }
 }

@@ -119,6 +119,7 @@ impl<'p, 'a> Builder<'p, 'a> {
             let it = self.pat(room, field, role)?;
             list.push(it)?;
         }
+        list.shrink_to_fit();
         Ok(list)
     }
 
@@ -169,6 +170,7 @@ impl<'p, 'a> Builder<'p, 'a> {
             let it = self.place_of_pat(room, field, role)?;
             list.push(it)?;
         }
+        list.shrink_to_fit();
         Ok(list)
     }
 
@@ -268,6 +270,7 @@ impl<'p, 'a> Builder<'p, 'a> {
             let it = self.object_pat_prop(room, field, role)?;
             list.push(it)?;
         }
+        list.shrink_to_fit();
         Ok(list)
     }
 

@@ -38,6 +38,7 @@ impl<'p, 'a> Builder<'p, 'a> {
             let it = self.prop_or_spread(room, field)?;
             list.push(it)?;
         }
+        list.shrink_to_fit();
         Ok(list)
     }
 
@@ -134,6 +135,7 @@ impl<'p, 'a> Builder<'p, 'a> {
             let it = self.key_value_prop(room, field)?;
             list.push(it)?;
         }
+        list.shrink_to_fit();
         Ok(list)
     }
 

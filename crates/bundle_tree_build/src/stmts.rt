@@ -255,6 +255,7 @@ impl<'p, 'a> Builder<'p, 'a> {
             let it = self.stmt(room, field)?;
             list.push(it)?;
         }
+        list.shrink_to_fit();
         Ok(list)
     }
 
@@ -332,6 +333,7 @@ impl<'p, 'a> Builder<'p, 'a> {
             let it = self.switch_case(room, field)?;
             list.push(it)?;
         }
+        list.shrink_to_fit();
         Ok(list)
     }
 
