@@ -41,15 +41,15 @@ pub fn denotations<'a>(
     Ok(table_of(walk, found))
 }
 
-// The bindings of a list, and what each of its occurrences denotes.
+/// The bindings of a list, and what each of its occurrences denotes.
 #[derive(Drop)]
-struct Found<'a> {
+pub(crate) struct Found<'a> {
     bindings: Vec<Binding<'a>>,
     occurrences: Vec<Denoted>,
 }
 
-// The table of a list, by what was met and what was found along it.
-fn table_of<'a>(walk: Walk<'a>, found: Found<'a>) -> Denotations<'a>
+/// The table of a list, by what was met and what was found along it.
+pub(crate) fn table_of<'a>(walk: Walk<'a>, found: Found<'a>) -> Denotations<'a>
     ensures scopes { result.scopes.items ≡ walk.entry.scopes.items }
     ensures bindings { result.bindings.items ≡ found.entry.bindings.items }
     ensures occurrences { result.occurrences.items ≡ found.entry.occurrences.items }
@@ -76,8 +76,11 @@ fn found_along<'a>(
     searched(alloc, walk)
 }
 
-// Goes over a list, where the name `arguments` without a context gets a number too.
-fn go_over_with_arguments<'a>(walk: &mut Walk<'a>, pieces: &[Piece<'a>]) -> Result<(), AllocError>
+/// Goes over a list, where the name `arguments` without a context gets a number too.
+pub(crate) fn go_over_with_arguments<'a>(
+    walk: &mut Walk<'a>,
+    pieces: &[Piece<'a>],
+) -> Result<(), AllocError>
     requires { IsBlank walk.old }
     ensures whole { OnOk result
         (IsWhole walk.new (reading_as walk.old.reading) (kind_as walk.old.kind)
@@ -94,8 +97,8 @@ fn go_over_with_arguments<'a>(walk: &mut Walk<'a>, pieces: &[Piece<'a>]) -> Resu
     Ok(())
 }
 
-// The same by what was met in one pass over the list.
-fn searched<'a>(alloc: Global, walk: &Walk<'a>) -> Result<Found<'a>, AllocError>
+/// What is found by what was met in one pass over a list.
+pub(crate) fn searched<'a>(alloc: Global, walk: &Walk<'a>) -> Result<Found<'a>, AllocError>
     requires named { AreNamed walk.now }
     requires seen { AreSeenNamed walk.now }
     ensures { IfOk result (λ found.
