@@ -1,6 +1,6 @@
 //! What each occurrence of a list denotes.
 
-ghost use Rattle.std.specs.Prelude.{◌≡◌, ◌<◌, ◌||◌, ◌&&◌, IfOk, List, OnOk, Some, length, map, slice_get};
+ghost use Rattle.std.specs.Prelude.{◌≡◌, ◌<◌, ◌||◌, ◌&&◌, IfOk, List, OnOk, Some, false, length, map, slice_get};
 ghost use Rattle.std.specs.List.{list_any};
 ghost use Rattle.bundle_tree_piece.specs.Item.{Item, item_of};
 ghost use Rattle.bundle_rules.specs.Scopes as Scopes;
@@ -195,8 +195,10 @@ impl<'a> Search<'a> {
         ensures { IfOk result
             (Denotes BySymbol walk.now self.old self.new (name_as name.entry) number from) }
     {
-        let adds = is_arguments(name.sym);
-        let found = nearest(&walk.scopes, &self.bindings.keys, adds, number, from);
+        if !is_arguments(name.sym) {
+            return Ok(nearest_key(&walk.scopes, &self.bindings.keys, number, from));
+        }
+        let found = nearest(&walk.scopes, &self.bindings.keys, true, number, from);
         let binding = self.put(found, name, number)?;
         Ok(binding)
     }
@@ -213,10 +215,9 @@ impl<'a> Search<'a> {
         ensures { IfOk result
             (Denotes ByContext walk.now self.old self.new (name_as name.entry) number from) }
     {
-        let found = nearest(&walk.scopes, &self.bindings.keys, false, number, from);
+        let found = nearest_key(&walk.scopes, &self.bindings.keys, number, from);
         if found.is_some() {
-            let binding = self.put(found, name, number)?;
-            return Ok(binding);
+            return Ok(found);
         }
         if is_unresolved(name.ctxt) {
             return Ok(None);
@@ -261,6 +262,32 @@ fn number_at(numbers: &[usize], place: usize) -> Option<usize>
     ensures { result ≡ slice_get numbers.now place }
 {
     numbers.get(place).copied()
+}
+
+// The number of the key of a name in the nearest scope, from one on outwards, that has it among these keys.
+fn nearest_key(
+    scopes: &[Scope],
+    keys: &IndexSet<(usize, usize)>,
+    name: usize,
+    from: usize,
+) -> Option<usize>
+    ensures { bound.NumberOf keys.now.keys name
+        (nearest_at (map numbered scopes.now)
+        (bound.binds_at (map numbered scopes.now) keys.now.keys false name) from)
+        result }
+{
+    let mut at = Some(from);
+    for _ in 0..scopes.len() {
+        let Some(scope) = at else {
+            return None;
+        };
+        let found = keys.get_index_of(&(scope, name));
+        if found.is_some() {
+            return found;
+        }
+        at = outer_at(scopes, scope);
+    }
+    None
 }
 
 // The number of the nearest scope, from one on outwards, that has the name with a number among these keys, or

@@ -8,8 +8,8 @@ use Rattle.bundle_scope_denote.proofs.StartLemmas.{whole-named}
 use Rattle.bundle_scope_denote.proofs.TableLemmas.{if_ok}
 use Rattle.bundle_scope_denote.proofs.doubled.doubled_along.Goals as goal
 
-pub first_met-requires-clause-named : goal.first_met-requires-clause-named
-first_met-requires-clause-named c = whole-named (reading_as c.args.walk.now.reading) (kind_as c.args.walk.now.kind) (map item_of c.args.pieces.now) c.go_over.new.self c.in_ok-go_over.ensures.whole
+pub first_met-requires : goal.first_met-requires
+first_met-requires c = whole-named (reading_as c.args.walk.now.reading) (kind_as c.args.walk.now.kind) (map item_of c.args.pieces.now) c.go_over.new.self c.in_ok-go_over.ensures.whole
 
 pub returns : goal.returns
 returns c =
