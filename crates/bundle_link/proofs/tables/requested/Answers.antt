@@ -14,7 +14,7 @@ returns-in-Ok-clause-given c = λ settings links.
     let requests = rw c.in-Ok.is at c.in_ok-answer.ensures.requests in
     requests settings links.0 (links.1 ∙ ap (map string_bytes) (sym c.deref.ensures.value))
 
-pub returns-clause-refused : goal.returns-clause-refused
-returns-clause-refused c =
+pub returns-in_ok-tree_refusal-in-Err-clause-refused : goal.returns-in_ok-tree_refusal-in-Err-clause-refused
+returns-in_ok-tree_refusal-in-Err-clause-refused c =
     let first = rw c.in-Err.is at (c.in_ok-answer.ensures.judged (name_of c.args.file.now)) in
     subst (λ told. IfSome told (IsFirstTreeFault (name_of c.args.file.now) (map item_of c.args.pieces.now))) (sym c.in_ok-tree_refusal-in-Err.ensures) first
