@@ -1,1 +1,4 @@
+pub mod Holding
 pub mod Keeping
+pub mod Marking
+pub mod Searching

@@ -1,1 +1,4 @@
+pub mod Held
 pub mod Kept
+pub mod Marks
+pub mod Placed

@@ -2,6 +2,10 @@
 //! loaded, and the files that requests lead to. What is kept is never changed and never forgotten.
 #![tactic(auto)]
 
+mod places;
+
+mod marked;
+
 pub mod kept;
 
 pub use kept::{Kept, Request};

@@ -55,7 +55,7 @@ loop-specifier-preserved g c = (
       let before = c.loop-specifier.invariant.5 numbered in
       let after = c.in_ok-id.ensures.numbered before.0 in (
         after,
-        all_lead_more (kept_of c.loop-specifier.library.kept) (kept_of c.id_of.new.library.kept) c.loop-specifier.list.files.entries c.id_of.new.list.files.entries
+        all_lead_more (kept_of c.loop-specifier.library.kept) (kept_of c.id_of.new.library.kept) c.loop-specifier.list.files c.id_of.new.list.files
             (record { stays = c.in_ok-id.ensures.keeps.stays; begins = c.in_ok-id.ensures.begins; before = before.0; after = after })
             (name_of c.args.file.now) c.loop-specifier.deps.items c.push.new.self.items (c.in-Some.specifier, c.in_ok-id.id) c.in_ok-push.ensures.items before.1 (c.in_ok-id.ensures.leads before.0),
       ),
