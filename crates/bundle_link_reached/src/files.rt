@@ -46,10 +46,7 @@ impl<'x> Files<'x> {
 }
 
 // The numbers of files, in the order of the files.
-fn ids_of(
-    alloc: Global,
-    files: &[(FileName, ModuleId)],
-) -> Result<IndexSet<ModuleId>, AllocError>
+fn ids_of(alloc: Global, files: &[(FileName, ModuleId)]) -> Result<IndexSet<ModuleId>, AllocError>
     ensures { IfOk result (λ ids. ids.keys ≡ numbers_once (numbers_of files.now)) }
 {
     let mut ids = IndexSet::new(alloc);

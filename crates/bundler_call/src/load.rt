@@ -62,7 +62,8 @@ impl LoadList {
         if self.files.has(id) {
             return Ok(());
         }
-        self.files.push(file.clone()?, id)
+        self.files.push(file.clone()?, id)?;
+        Ok(())
     }
 
     // The file at a place. No file has two.

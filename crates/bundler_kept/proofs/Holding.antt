@@ -7,7 +7,7 @@ use Rattle.std.specs.Map.{lookup}
 use Rattle.std.specs.Option.{option_map}
 use Rattle.std.proofs.lemmas.Bool.{and_left, and_parts}
 use Rattle.std.proofs.lemmas.Slice.Eq.{bytes_eq-Decides}
-use Rattle.std.proofs.lemmas.List.{map_push, length-append}
+use Rattle.std.proofs.lemmas.List.{map_push, length-map}
 use Rattle.std.proofs.lemmas.List.Elements.{Contains-get_or}
 use Rattle.std.proofs.lemmas.Option.{slice_get_within, slice_get-get_or, get_or_from_slice_get}
 use Rattle.bundle_tree_names.specs.FileName.{Name, real, custom, name_eq, name_of}
@@ -89,9 +89,9 @@ module _ {N : Type 0} (eq : N → N → Bool) (laws : IsEquivalence eq) (first :
       pub keys_stay : (more : List N) → by_keys (keys ++ more) ≡ by_keys keys
       keys_stay more = map_alike _ _ list (λ i e at. ap (λ (k : N). (k, v e.1)) (key_stays more e.0 (below i e at)))
 
-  -- numbers are below a larger count too
-  pub below_more : {X : Type 0} (list : List (ℕ × X)) (more : List N) → AreBelow (length keys) list → AreBelow (length (keys ++ more)) list
-  below_more list more below = λ i e at. omega (arith, below i e at, length-append keys more)
+-- numbers are below a larger count too
+pub below_longer : {X : Type 0} (count more : ℕ) (list : List (ℕ × X)) → count ≤ more → AreBelow count list → AreBelow more list
+below_longer count more list le below = λ i e at. omega (arith, le, below i e at)
 
 -- one more number that is below the count
 pub below_push : {X : Type 0} (count : ℕ) (list : List (ℕ × X)) (n : ℕ) (x : X) → AreBelow count list → n < count → AreBelow count (list ++ (n, x) ∷ [])
@@ -99,6 +99,10 @@ below_push {X} count list n x below less = λ i e at. elim (push_cases list (n, 
   | inl old ↦ below i e old
   | inr last ↦ subst (λ (b : ℕ × X). b.0 < count) last.1 less
 ]
+
+-- numbers of files are those of their names
+pub below_names : {X : Type 0} (files : List (Bool × Text)) (list : List (ℕ × X)) → AreBelow (length files) list → AreBelow (length (map named files)) list
+below_names files list = subst (λ n. AreBelow n list) (sym (length-map files named))
 
 module _ (names : List Name) where
   -- a file that is found is there, and has its number
@@ -122,13 +126,26 @@ module _ (names : List Name) where
       let at = place-Contains names name there in
       true≢false (sym ((name_eq-Decides name name).1 refl) ∙ nowhere_at (name_eq name) names at.0 name is at.1)
 
+  -- a tree that is looked for by its file is looked for by the number
+  pub tree_by : {M : Type 0} (trees : List (ℕ × M)) → AreBelow (length names) trees → (name : Name) (n : ℕ) → StandOnce name_eq names → position (name_eq name) names ≡ Some n → lookup (name_eq name) (trees_by names trees) ≡ lookup (eqb n) trees
+  tree_by {M} trees below name n once found = lookup_by name_eq name_eq_equiv (custom []) names trees below (λ (x : M). x) name n once found ∙ itself (lookup (eqb n) trees)
+
+  pub tree_never : {M : Type 0} (trees : List (ℕ × M)) → AreBelow (length names) trees → (name : Name) → position (name_eq name) names ≡ None → lookup (name_eq name) (trees_by names trees) ≡ None
+  tree_never {M} trees below name none = lookup_never name_eq name_eq_equiv (custom []) names trees below (λ (x : M). x) name none
+
   -- a file whose tree is kept was met
   pub loaded_met : {M : Type 0} (trees : List (ℕ × M)) → AreBelow (length names) trees → (name : Name) → IsSome (lookup (name_eq name) (trees_by names trees)) → Contains names name
   loaded_met {M} trees below name some = by (position (name_eq name) names) refl
     where
       by : (o : Option ℕ) → position (name_eq name) names ≡ o → Contains names name
       by (Some n) is = found_there name n is
-      by None is = absurd (true≢false (sym some ∙ ap is_some (lookup_never name_eq name_eq_equiv (custom []) names trees below (λ (x : M). x) name is)))
+      by None is = absurd (true≢false (sym some ∙ ap is_some (tree_never trees below name is)))
+
+  pub are_met : {M : Type 0} (trees : List (ℕ × M)) (seen_names : List Name) (seen_trees : List (Name × M)) → AreBelow (length names) trees → names ≡ seen_names → trees_by names trees ≡ seen_trees
+      → (name : Name) → IsSome (lookup (name_eq name) seen_trees) → Contains seen_names name
+  are_met {M} trees seen_names seen_trees below same_names same_trees name some =
+      subst (λ (l : List Name). Contains l name) same_names
+      (loaded_met trees below name (subst (λ (l : List (Name × M)). IsSome (lookup (name_eq name) l)) (sym same_trees) some))
 
   -- the tree of a file that was met goes last
   pub trees_more : {M : Type 0} (trees : List (ℕ × M)) (name : Name) (n : ℕ) (tree : M) → position (name_eq name) names ≡ Some n → trees_by names (trees ++ (n, tree) ∷ []) ≡ trees_by names trees ++ (name, tree) ∷ []
@@ -175,6 +192,10 @@ module _ (names : List Name) where
       map_push (asked_by names) requests (n, asked.specifier)
       ∙ ap (λ (x : Name). map (asked_by names) requests ++ asked_from x asked.specifier ∷ []) (key_there name_eq name_eq_equiv (custom []) names n asked.file (name_found_at asked.file n found))
 
+-- numbers of requests are those of what they ask
+pub below_asked : {X : Type 0} (names : List Name) (requests : List (ℕ × Text)) (list : List (ℕ × X)) → AreBelow (length requests) list → AreBelow (length (map (asked_by names) requests)) list
+below_asked names requests list = subst (λ n. AreBelow n list) (sym (length-map requests (asked_by names)))
+
 -- requests are equal where their parts are
 pub asked_laws : IsEquivalence asked_eq
 asked_laws = and_equiv (on_equiv (λ (a : Asked). a.file) name_eq_equiv) (on_equiv (λ (a : Asked). a.specifier) nat_list_eq_equiv)
@@ -184,7 +205,19 @@ same_asked a b same =
     let parts = and_parts (name_eq a.file b.file) (bytes_eq a.specifier b.specifier) same in
     ap₂ (λ file specifier. record { file = file; specifier = specifier }) ((name_eq-Decides a.file b.file).0 parts.0) ((bytes_eq-Decides a.specifier b.specifier).0 parts.1)
 
+-- the request with no number
+abbrev pub nobody : Asked
+nobody = record { file = custom []; specifier = [] }
+
 module _ (asked : List Asked) where
+  -- the file that a request leads to is looked for by the number of the request
+  pub target_by : (targets : List (ℕ × FileName)) → AreBelow (length asked) targets → (a : Asked) (n : ℕ) → StandOnce asked_eq asked → position (asked_eq a) asked ≡ Some n
+      → lookup (asked_eq a) (resolved_by asked targets) ≡ option_map name_of (lookup (eqb n) targets)
+  target_by targets below a n once found = lookup_by asked_eq asked_laws nobody asked targets below name_of a n once found
+
+  pub target_never : (targets : List (ℕ × FileName)) → AreBelow (length asked) targets → (a : Asked) → position (asked_eq a) asked ≡ None → lookup (asked_eq a) (resolved_by asked targets) ≡ None
+  target_never targets below a none = lookup_never asked_eq asked_laws nobody asked targets below name_of a none
+
   -- a request that is found is there, and has its number
   pub asked_found_at : (a : Asked) (n : ℕ) → position (asked_eq a) asked ≡ Some n → slice_get asked n ≡ Some a
   asked_found_at a n found =
@@ -206,4 +239,4 @@ module _ (asked : List Asked) where
   pub resolved_more : (targets : List (ℕ × FileName)) (a : Asked) (n : ℕ) (file : FileName) → position (asked_eq a) asked ≡ Some n → resolved_by asked (targets ++ (n, file) ∷ []) ≡ resolved_by asked targets ++ (a, name_of file) ∷ []
   resolved_more targets a n file found =
       map_push (λ (e : ℕ × FileName). (asked_at asked e.0, name_of e.1)) targets (n, file)
-      ∙ ap (λ (x : Asked). resolved_by asked targets ++ (x, name_of file) ∷ []) (get_or_from_slice_get asked n a (record { file = custom []; specifier = [] }) (asked_found_at a n found))
+      ∙ ap (λ (x : Asked). resolved_by asked targets ++ (x, name_of file) ∷ []) (get_or_from_slice_get asked n a nobody (asked_found_at a n found))

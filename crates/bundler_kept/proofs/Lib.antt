@@ -1,3 +1,4 @@
+pub mod Hashing
 pub mod Holding
 pub mod Keeping
 pub mod Marking

@@ -1,5 +1,5 @@
 -- A search for a text with a mark, by the places of texts.
-use Rattle.std.proofs.Common.{◌≡◌, ℕ, ◌<◌, ◌⊎◌, inl, inr, ◌&&◌, Bool, true, false, List, [], ◌∷◌, ◌++◌, map, length, Option, Some, None, OnSome, position, slice_get, bytes_eq, eqb, Global, String, string_bytes, refl, sym, ap, ap₂, subst, ◌∙◌, true≢false, arith}
+use Rattle.std.proofs.Common.{◌≡◌, ℕ, ◌<◌, ◌⊎◌, inl, inr, ◌&&◌, Bool, true, false, List, [], ◌∷◌, ◌++◌, map, length, Option, Some, None, OnSome, Result, Ok, Err, OnErr, position, slice_get, bytes_eq, eqb, Global, String, string_bytes, refl, sym, ap, ap₂, subst, ◌∙◌, true≢false, arith}
 use Rattle.std.specs.Cmp.{IsEquivalence, on_equiv}
 use Rattle.std.specs.Cmp.Lexicographic.{nat_list_eq_equiv}
 use Rattle.std.specs.Option.{option_map}
@@ -8,6 +8,7 @@ use Rattle.std.proofs.lemmas.List.{map_push}
 use Rattle.std.proofs.lemmas.Option.{none-some, same_Some, slice_get_cases, slice_get_within, slice_get-map, get_or_from_slice_get}
 use Rattle.std.proofs.lemmas.Slice.Eq.{bytes_eq-Decides}
 use Rattle.bundle_rules.specs.Nodes.{Text}
+use Rattle.bundler_kept.specs.Hashed.{same_text}
 use Rattle.bundler_kept.specs.Marks.{is_marked, marked_in, text_at, AreWithin}
 use Rattle.bundler_kept.specs.Placed.{StandOnce}
 use Rattle.bundler_kept.proofs.Searching.{map_alike, nowhere_at, places_tell, position-never, position-said, push_cases}
@@ -28,9 +29,9 @@ pub on_some_of : {X P : Type 0} (o : Option X) → P → OnSome o P
 on_some_of None p = tt
 on_some_of (Some x) p = p
 
--- whether two strings have one text
-abbrev pub same_text : String Global → String Global → Bool
-same_text a b = bytes_eq (string_bytes a) (string_bytes b)
+pub on_err_of : {T E P : Type 0} (r : Result T E) → P → OnErr r P
+on_err_of (Ok x) p = tt
+on_err_of (Err e) p = p
 
 pub text_laws : IsEquivalence same_text
 text_laws = on_equiv string_bytes nat_list_eq_equiv
@@ -57,8 +58,8 @@ module _ {T : Type 0} (eq : T → T → Bool) where
     marked_nowhere mark text none =
         position-said (λ (its : T × ℕ). (its.0, text_at texts its.1)) (is_marked eq (mark, string_bytes text)) (λ its. false) marks
         (λ i its at.
-            let own = there_is texts its.1 (within i its at) in
-            and_right (eq mark its.0) _ (ap (bytes_eq (string_bytes text)) (text_there texts its.1 own.0 own.1) ∙ nowhere_at (same_text text) texts its.1 own.0 none own.1))
+        let own = there_is texts its.1 (within i its at) in
+        and_right (eq mark its.0) _ (ap (bytes_eq (string_bytes text)) (text_there texts its.1 own.0 own.1) ∙ nowhere_at (same_text text) texts its.1 own.0 none own.1))
         ∙ position-never (λ (its : T × ℕ). false) marks (λ i its at. refl)
 
     -- and where it stands at one, a search for it with a mark is one for the place
@@ -67,9 +68,9 @@ module _ {T : Type 0} (eq : T → T → Bool) where
     marked_found once mark text place found =
         position-said (λ (its : T × ℕ). (its.0, text_at texts its.1)) (is_marked eq (mark, string_bytes text)) (at_place (mark, place)) marks
         (λ i its at.
-            let own = there_is texts its.1 (within i its at) in
-            ap (λ t. eq mark its.0 && bytes_eq (string_bytes text) t) (text_there texts its.1 own.0 own.1)
-            ∙ ap (λ b. eq mark its.0 && b) (places_tell same_text text_laws texts once text own.0 place its.1 found own.1))
+        let own = there_is texts its.1 (within i its at) in
+        ap (λ t. eq mark its.0 && bytes_eq (string_bytes text) t) (text_there texts its.1 own.0 own.1)
+        ∙ ap (λ b. eq mark its.0 && b) (places_tell same_text text_laws texts once text own.0 place its.1 found own.1))
 
     -- no two marks with their texts are equal
     pub marked_once : StandOnce same_text texts → StandOnce at_place marks → StandOnce (is_marked eq) (marked_in texts marks)

@@ -1,13 +1,13 @@
 -- The place to which a search for a key comes, and keys that are put last.
-use Rattle.std.proofs.Common.{◌≡◌, ℕ, zero, suc, ◌+◌, ◌<◌, ◌≤◌, ◌⊎◌, inl, inr, Bool, true, false, cond, not, nat_lt, List, [], ◌∷◌, ◌++◌, map, length, Option, Some, None, position, slice_get, get_or, eqb, refl, sym, ap, subst, ◌∙◌, true≢false, arith, lt-ltb, le-ltb, BTreeMap, Ordering, is_eq}
+use Rattle.std.proofs.Common.{◌≡◌, ℕ, zero, suc, ◌+◌, ◌<◌, ◌≤◌, ◌⊎◌, inl, inr, Bool, true, false, cond, not, nat_lt, List, [], ◌∷◌, ◌++◌, map, length, Option, Some, None, IfSome, position, slice_get, get_or, eqb, refl, sym, ap, subst, ◌∙◌, true≢false, arith, lt-ltb, le-ltb, BTreeMap, Ordering, is_eq}
 use Rattle.std.specs.Cmp.{IsEquivalence}
 use Rattle.std.specs.List.{position_or_len}
 use Rattle.std.specs.Map.{lookup}
 use Rattle.std.specs.Option.{option_map}
 use Rattle.std.specs.BTreeMap.{get, is_at, IsEmpty}
-use Rattle.std.proofs.lemmas.Bool.{eqb-true, eq-eqb, false_from_ne_true}
+use Rattle.std.proofs.lemmas.Bool.{eqb-true, eq-eqb, false_from_ne_true, ltb-true}
 use Rattle.std.proofs.lemmas.List.Quantifiers.{position-Some}
-use Rattle.std.proofs.lemmas.Option.{none-some, same_Some, slice_get_cases, slice_get_within, slice_get-get_or}
+use Rattle.std.proofs.lemmas.Option.{cond_some, none-some, same_Some, slice_get_cases, slice_get_within, slice_get-get_or}
 use Rattle.bundler_kept.specs.Placed.{ArePlaced, StandOnce}
 
 -- what stands in a list with one more at its end: what stood in it, or that
@@ -104,6 +104,13 @@ module _ {K : Type 0} (t : K → Bool) where
       let found = position-Some t ks i d at in
       (get_or ks i d, slice_get-get_or ks i d found.0, found.1)
 
+-- what a search finds is the place of a key
+pub within_of : {K : Type 0} (t : K → Bool) (ks : List K) (o : Option ℕ) → o ≡ position t ks → IfSome o (λ i. i < length ks)
+within_of t ks None is = tt
+within_of t ks (Some i) is =
+    let its = cond_some (nat_lt (position_or_len t ks) (length ks)) (position_or_len t ks) i (sym is) in
+    subst (λ n. n < length ks) its.1 (ltb-true (position_or_len t ks) (length ks) its.0)
+
 -- a search among what keys say is one among the keys
 pub position-said : {A B : Type 0} (f : A → B) (s : B → Bool) (t : A → Bool) (xs : List A) → ((i : ℕ) (a : A) → slice_get xs i ≡ Some a → s (f a) ≡ t a) → position s (map f xs) ≡ position t xs
 position-said f s t [] same = refl
@@ -149,10 +156,10 @@ module _ {K : Type 0} (eq : K → K → Bool) (laws : IsEquivalence eq) where
       by false p =
           p
           ∙ sym (
-            false_from_ne_true (eqb i j) (λ same.
-                let its = found_at (eq n) ks i k found in
-                let is : its.0 ≡ k = same_Some its.0 k (sym its.1 ∙ ap (slice_get ks) (eqb-true i j same) ∙ at) in
-                true≢false (sym its.2 ∙ ap (eq n) is ∙ p))
+          false_from_ne_true (eqb i j) (λ same.
+          let its = found_at (eq n) ks i k found in
+          let is : its.0 ≡ k = same_Some its.0 k (sym its.1 ∙ ap (slice_get ks) (eqb-true i j same) ∙ at) in
+          true≢false (sym its.2 ∙ ap (eq n) is ∙ p))
           )
 
   -- keys stand once when a new one is put last
@@ -167,18 +174,15 @@ module _ {K : Type 0} (cmp : K → K → Ordering) (eq : K → K → Bool) where
   placed-nothing places empty = record { once = λ i key at. absurd (none-some key at); found = λ key. ap (lookup (is_at (cmp key))) empty }
 
   module _ (laws : IsEquivalence eq) (matches : (x y : K) → eq x y ≡ is_eq (cmp x y)) where
-    -- a key that is not there is put last, and a copy of it in the map
-    pub placed-more : (keys : List K) (key copy : K) (places next : BTreeMap K ℕ) → ArePlaced cmp eq keys places → eq key copy ≡ true → position (eq key) keys ≡ None
-        → ((q : K) → get cmp next q ≡ cond (is_at (cmp copy) q) (Some (length keys)) (get cmp places q)) → ArePlaced cmp eq (keys ++ key ∷ []) next
-    placed-more keys key copy places next placed same none put = record { once = once-push eq laws keys key placed.once none; found = λ q. by q (eq key q) refl }
+    -- a key that is not there is put last
+    pub placed-more : (keys : List K) (key : K) (places next : BTreeMap K ℕ) → ArePlaced cmp eq keys places → position (eq key) keys ≡ None
+        → ((q : K) → get cmp next q ≡ cond (is_at (cmp key) q) (Some (length keys)) (get cmp places q)) → ArePlaced cmp eq (keys ++ key ∷ []) next
+    placed-more keys key places next placed none put = record { once = once-push eq laws keys key placed.once none; found = λ q. by q (eq key q) refl }
       where
-        copied : (q : K) (b : Bool) → eq key q ≡ b → is_at (cmp copy) q ≡ b
-        copied q b is = sym (matches copy q) ∙ sym (laws.congr key copy q same) ∙ is
-
         by : (q : K) (b : Bool) → eq key q ≡ b → get cmp next q ≡ position (eq q) (keys ++ key ∷ [])
         by q true is =
-            put q ∙ ap (λ b. cond b (Some (length keys)) (get cmp places q)) (copied q true is)
+            put q ∙ ap (λ b. cond b (Some (length keys)) (get cmp places q)) (sym (matches key q) ∙ is)
             ∙ sym (position-last (eq q) keys key (sym (same_search eq laws key q is keys) ∙ none) (laws.symm q key ∙ is))
         by q false is =
-            put q ∙ ap (λ b. cond b (Some (length keys)) (get cmp places q)) (copied q false is)
+            put q ∙ ap (λ b. cond b (Some (length keys)) (get cmp places q)) (sym (matches key q) ∙ is)
             ∙ placed.found q ∙ sym (position-others (eq q) keys key (laws.symm q key ∙ is))

@@ -1,3 +1,4 @@
+pub mod Hashed
 pub mod Held
 pub mod Kept
 pub mod Marks

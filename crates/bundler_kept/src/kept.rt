@@ -1,6 +1,6 @@
 //! What a bundler keeps from one call to the next.
 
-ghost use Rattle.std.specs.Prelude.{◌≡◌, ◌+◌, ◌<◌, ◌≤◌, ◌++◌, ◌∷◌, [], length, map, position, Some, None, IfOk, IfErr, OnOk, OnErr, OnSome, option_copied, Contains};
+ghost use Rattle.std.specs.Prelude.{◌≡◌, ◌+◌, ◌<◌, ◌≤◌, ◌++◌, ◌∷◌, [], length, map, position, Some, None, IfOk, IfErr, IfSome, OnOk, OnErr, OnSome, option_copied, Contains};
 ghost use Rattle.std.specs.Map.{lookup};
 ghost use Rattle.std.specs.Option.{option_map};
 ghost use Rattle.bundle_tree_names.specs.FileName.{name_of, name_eq};
@@ -93,11 +93,13 @@ impl<M: Drop> Kept<M> {
         ensures refused { IfErr result (IsRefusal (names_in self.new) (name_of file.now)) }
         ensures absent { OnErr result (¬ Contains (names_in self.new) (name_of file.now)) }
     {
-        let number = match number_in(&self.files, file) {
-            Some(number) => number,
-            None => add_file(&mut self.files, file)?,
-        };
-        Ok(ModuleId::from_u32(number as u32))
+        match number_in(&self.files, file) {
+            Some(number) => Ok(ModuleId::from_u32(number as u32)),
+            None => {
+                let number = add_file(&mut self.files, file)?;
+                Ok(ModuleId::from_u32(number as u32))
+            }
+        }
     }
 
     /// How many trees are kept.
@@ -173,10 +175,13 @@ impl<M: Drop> Kept<M> {
     {
         self.targets.reserve(1)?;
         let file = number_in(&self.files, &request.file).unwrap();
-        if self.requests.get(file, &request.specifier).is_none() {
-            self.requests.add(file, &request.specifier)?;
+        match self.requests.get(file, &request.specifier) {
+            Some(_number) => Ok(()),
+            None => {
+                self.requests.add(file, &request.specifier)?;
+                Ok(())
+            }
         }
-        Ok(())
     }
 
     /// Keeps the file that a request leads to, which has none. There is room for it, so that it is never
@@ -197,6 +202,7 @@ impl<M: Drop> Kept<M> {
 // The number of a file among these, if it has one.
 fn number_in(files: &Marked<bool>, file: &FileName) -> Option<usize>
     ensures number { result ≡ position (name_eq (name_of file.now)) (map named files.now) }
+    ensures within { IfSome result (λ number. number < length files.now) }
     ensures once { OnSome result (StandOnce name_eq (map named files.now)) }
 {
     match file {

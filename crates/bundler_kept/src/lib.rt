@@ -2,10 +2,9 @@
 //! loaded, and the files that requests lead to. What is kept is never changed and never forgotten.
 #![tactic(auto)]
 
-mod places;
-
-mod marked;
-
 pub mod kept;
+mod marked;
+mod places;
+mod texts;
 
 pub use kept::{Kept, Request};

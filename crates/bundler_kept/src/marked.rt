@@ -1,17 +1,19 @@
 //! Texts that strangers choose, each with a mark, in the order in which they came.
 
-ghost use Rattle.std.specs.Prelude.{◌≡◌, ◌++◌, ◌∷◌, [], ℕ, length, position, slice_get, string_bytes, Global, None, Some, String, OnOk, IfOk, OnErr, OnSome};
+ghost use Rattle.std.specs.Prelude.{◌≡◌, ◌++◌, ◌∷◌, [], ℕ, length, position, slice_get, string_bytes, None, Some, String, OnOk, IfOk, OnErr, OnSome};
+ghost use Rattle.std.specs.declared.alloc.Global.{Global};
 ghost use Rattle.bundler_kept.specs.Placed.{StandOnce};
 ghost use Rattle.bundler_kept.specs.Marks.{is_marked};
 
 use crate::places::Places;
+use crate::texts::Texts;
 use std::alloc::{AllocError, Global};
 use std::marker::Model;
 
 /// Texts, each with a mark, in the order in which they came. Clauses see the list of the marks with their texts.
 #[derive(Drop)]
 pub struct Marked<T: Ord + Copy + Drop> {
-    texts: Places<String>,
+    texts: Texts,
     // Each mark with the place of its text.
     marks: Places<(T, usize)>,
 }
@@ -34,7 +36,7 @@ impl<T: Ord + Copy + Drop> Marked<T> {
         ensures { result ≡ [] }
     {
         Marked {
-            texts: Places::new(alloc),
+            texts: Texts::new(alloc),
             marks: Places::new(alloc),
         }
     }
@@ -64,13 +66,13 @@ impl<T: Ord + Copy + Drop> Marked<T> {
         ensures err { OnErr result (self.new ≡ self.old) }
     {
         let place = place_of(&mut self.texts, text)?;
-        self.marks.add((mark, place), (mark, place))?;
+        self.marks.add((mark, place))?;
         Ok(())
     }
 }
 
 // The place of a text among these, where it goes last unless it is there.
-fn place_of(texts: &mut Places<String>, text: &String) -> Result<usize, AllocError>
+fn place_of(texts: &mut Texts, text: &String) -> Result<usize, AllocError>
     ensures there { IfOk result (λ place.
         (own : String Global) × (slice_get texts.new place ≡ Some own)
         × (string_bytes own ≡ string_bytes text.now)) }
@@ -82,9 +84,7 @@ fn place_of(texts: &mut Places<String>, text: &String) -> Result<usize, AllocErr
         Some(place) => Ok(place),
         None => {
             let place = texts.len();
-            let own = text.clone()?;
-            let copy = text.clone()?;
-            texts.add(own, copy)?;
+            texts.add(text)?;
             Ok(place)
         }
     }

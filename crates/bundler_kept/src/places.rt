@@ -1,6 +1,6 @@
 //! Keys that strangers choose, in the order in which they came.
 
-ghost use Rattle.std.specs.Prelude.{◌≡◌, ◌++◌, ◌∷◌, [], true, length, position, None, OnOk, OnErr};
+ghost use Rattle.std.specs.Prelude.{◌≡◌, ◌++◌, ◌∷◌, [], length, position, None, OnOk, OnErr};
 ghost use Rattle.bundler_kept.specs.Placed.{StandOnce};
 
 use std::alloc::{AllocError, Global};
@@ -11,13 +11,13 @@ use std::marker::Model;
 ///
 /// A key is found by its order among the keys and never by its hash, so that no choice of keys makes a search long.
 #[derive(Drop)]
-pub struct Places<K: Ord + Drop> {
+pub struct Places<K: Ord + Copy + Drop> {
     keys: Vec<K>,
     // Where each of the keys stands among them.
     places: BTreeMap<K, usize>,
 }
 
-impl<K: Ord + Drop> Model for Places<K> {
+impl<K: Ord + Copy + Drop> Model for Places<K> {
     ghost use Rattle.std.specs.Prelude.{List};
 
     ghost Value = { List K };
@@ -29,7 +29,7 @@ impl<K: Ord + Drop> Model for Places<K> {
     ghost invariant = { λ set. ArePlaced K.cmp K.eq set.keys.items set.places };
 }
 
-impl<K: Ord + Drop> Places<K> {
+impl<K: Ord + Copy + Drop> Places<K> {
     /// No keys. It takes no memory.
     pub fn new(alloc: Global) -> Places<K>
         ensures { result ≡ [] }
@@ -56,16 +56,15 @@ impl<K: Ord + Drop> Places<K> {
         self.places.get(key).copied()
     }
 
-    /// Puts a key that is not there last, and a copy of it. Where memory runs out the keys stay.
-    pub fn add(&mut self, key: K, copy: K) -> Result<(), AllocError>
-        requires same { K.eq key copy ≡ true }
-        requires absent { position (K.eq key) self.old ≡ None }
+    /// Puts a key that is not there last. Where memory runs out the keys stay.
+    pub fn add(&mut self, key: K) -> Result<(), AllocError>
+        requires { position (K.eq key) self.old ≡ None }
         ensures added { OnOk result (self.new ≡ self.old ++ key ∷ []) }
         ensures err { OnErr result (self.new ≡ self.old) }
     {
         let place = self.keys.len();
         self.keys.reserve(1)?;
-        self.places.insert(copy, place)?;
+        self.places.insert(key, place)?;
         self.keys.push(key)?;
         Ok(())
     }
