@@ -1,5 +1,8 @@
 //! What a document is read from.
 
+ghost use Rattle.std.specs.Prelude.{IfOk, OnOk};
+ghost use Rattle.std.specs.Io.KnownBytes.{Consumes, IsAtEnd};
+
 use std::alloc::Global;
 use std::io::{ErrorKind, Read};
 
@@ -40,13 +43,32 @@ impl<R: Read + Drop> Input for R {
     ghost may_fail_read = { λ _. ⊤ };
 
     fn read_whole(&mut self, alloc: Global) -> Result<Vec<u8>, InputError> {
-        let mut text = Vec::new(alloc);
-        match self.read_to_end(&mut text) {
-            Ok(_) => Ok(text),
-            Err(error) => Err(match error.kind() {
-                ErrorKind::OutOfMemory => InputError::OutOfMemory,
-                _ => InputError::Failed,
-            }),
+        read_to_end(alloc, self)
+    }
+}
+
+// Reads all that is left, by way of a room of its own: to grow a list for each read would fill its new part first.
+fn read_to_end<R: Read>(alloc: Global, reader: &mut R) -> Result<Vec<u8>, InputError>
+    ensures text { IfOk result (λ text.
+        Consumes (R.remaining reader.old) (R.remaining reader.new) text.items) }
+    ensures whole { OnOk result (IsAtEnd (R.remaining reader.new)) }
+{
+    let mut text = Vec::new(alloc);
+    let mut room = [0u8; 65536];
+    for _ in 0..u64::MAX {
+        match reader.read(&mut room) {
+            Ok(0) => return Ok(text),
+            Ok(count) => {
+                if text.extend_from_slice(&room[..count]).is_err() {
+                    return Err(InputError::OutOfMemory);
+                }
+            }
+            Err(error) => match error.kind() {
+                ErrorKind::Interrupted => {}
+                ErrorKind::OutOfMemory => return Err(InputError::OutOfMemory),
+                _ => return Err(InputError::Failed),
+            },
         }
     }
+    Err(InputError::Failed)
 }

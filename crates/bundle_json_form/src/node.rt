@@ -11,7 +11,7 @@ ghost use Rattle.bundle_json_form.specs.Reading.{HasScalars, IsFilled};
 
 use crate::error::FormError;
 use crate::layout::name_of;
-use crate::seen::{as_bool, as_str, get, is_null};
+use crate::seen::{as_bool, as_str, get, is_null, is_same};
 use bundle_tree_leaf::kind::{ExportMetadata, MetaPropKind, MethodKind, VarDeclKind};
 use bundle_tree_leaf::operator::{AssignOp, BinaryOp, UnaryOp, UpdateOp};
 use bundle_tree_piece::Node;
@@ -284,7 +284,7 @@ pub fn kind_named<'a>(name: &str, meta: &'a ExportMetadata) -> Result<Node<'a>, 
     ensures refused { IfErr result (λ _. (kind : Head) → form.name kind ≢ name.now) }
 {
     match guess(name.as_bytes(), meta) {
-        Some(kind) if name_of(&kind) == name => Ok(kind),
+        Some(kind) if is_same(name_of(&kind), name) => Ok(kind),
         _ => Err(FormError::Form),
     }
 }
@@ -345,14 +345,15 @@ impl<'v, 'a> Object<'v, 'a> {
         }
     }
 
-    /// The node that the value stands for.
-    pub fn node(&self) -> Result<Node<'a>, FormError>
+    /// The node that the value stands for, whose name is `name`.
+    pub fn node(&self, name: &str) -> Result<Node<'a>, FormError>
+        requires { text_at (codes "type") (seen self.now.value.now) ≡ Some name.now }
         ensures read { IfOk result (λ it.
             IsHeadOf self.now.meta.now (seen self.now.value.now) (head_of it)) }
         ensures refused { IfErr result (λ _.
             (head : Head) → ¬ IsHeadOf self.now.meta.now (seen self.now.value.now) head) }
     {
-        let kind = kind_named(self.text("type")?, self.meta)?;
+        let kind = kind_named(name, self.meta)?;
         self.filled(kind)
     }
 

@@ -1,6 +1,8 @@
 //! What stands in the object of a node, member by member in the order of their keys.
 
 ghost use Rattle.std.specs.Prelude.{◌≡◌, IfOk, IfErr, OnOk};
+ghost use Rattle.std.specs.Ordering.{nat_cmp};
+ghost use Rattle.std.specs.Cmp.Lexicographic.{slice_cmp};
 ghost use Rattle.bundle_tree_piece.specs.Item.{head_of};
 ghost use Rattle.bundle_json_form.specs.Scalars.{scalar_of, scalars_in};
 ghost use Rattle.bundle_json_form.specs.Plan.{content_of, plan, put as with_member, put_scalar as with_scalar, put_scalars as with_scalars, planned, BelongsAt, StandsAt};
@@ -105,11 +107,26 @@ fn place_of(members: &[Member<'_>], key: &'static str) -> Result<usize, usize>
     ensures free { IfErr result (BelongsAt key.now (planned members.now)) }
 {
     for (place, member) in members.iter().enumerate() {
-        match Ord::cmp(&key, &member.key) {
+        match order(key, member.key) {
             Ordering::Less => return Err(place),
             Ordering::Equal => return Ok(place),
             Ordering::Greater => {}
         }
     }
     Err(members.len())
+}
+
+// The order of two texts. The words of a form mostly differ in their first byte.
+fn order(text: &'static str, other: &'static str) -> Ordering
+    ensures { result ≡ slice_cmp nat_cmp text.now other.now }
+{
+    let (bytes, others) = (text.as_bytes(), other.as_bytes());
+    if bytes.is_empty() || others.is_empty() || bytes[0] == others[0] {
+        return Ord::cmp(&text, &other);
+    }
+    if bytes[0] < others[0] {
+        Ordering::Less
+    } else {
+        Ordering::Greater
+    }
 }

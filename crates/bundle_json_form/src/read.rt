@@ -13,7 +13,7 @@ use crate::error::FormError;
 use crate::layout::{Field, Shape, fields_of};
 use crate::node::Object;
 use crate::role::{Place, role_in, role_of_ident};
-use crate::seen::{get as get_in, is_null, items};
+use crate::seen::{get as get_in, is_null, is_same, items};
 use bundle_tree_leaf::kind::ExportMetadata;
 use bundle_tree_piece::{Node, Piece, Role};
 use json::Value;
@@ -84,10 +84,11 @@ fn read_node<'v, 'a>(
     ensures refused { IfErr result (RefusesFor
         (HasNoNode object.entry.meta.now place (seen object.entry.value.now))) }
 {
-    if object.text("type")? == "Ident" {
+    let name = object.text("type")?;
+    if is_same(name, "Ident") {
         return read_ident(pieces, object, place);
     }
-    let node = object.node()?;
+    let node = object.node(name)?;
     let field = place.field;
     add(pieces, Piece::Open { field, node })?;
     for field in fields_of(&node) {

@@ -9,7 +9,10 @@ ghost use Rattle.bundle_tree_piece.specs.Item.{item_of};
 ghost use Rattle.bundle_tree_listed.specs.Tree.{module_items};
 ghost use Rattle.bundle_link_tables.specs.Judged.{doubled_name};
 ghost use Rattle.bundle_link_tables.specs.TablesOf.{entry_by_origin, export_entry_of, import_entry_of, taken_of};
+ghost use Rattle.bundle_rules.specs.Bound.{is_free};
+ghost use Rattle.bundle_rules.specs.Entries as the_entries;
 ghost use Rattle.bundle_rules.specs.Entries.{Settings, has_import_meta};
+ghost use Rattle.bundle_rules.specs.Faults.{IsFaultless};
 ghost use Rattle.bundle_rules.specs.Nodes.{has_text, Text};
 ghost use Rattle.bundle_rules.specs.Tables as t;
 ghost use Rattle.bundle_rules.specs.Tables.{IsExportTable, IsImportTable, IsRequestTable};
@@ -18,7 +21,7 @@ ghost use Rattle.bundle_link.specs.Read.{AreTablesOf};
 ghost use Rattle.bundle_link.specs.Refusals.{IsTreeRefusal, Links};
 
 use crate::fault::tree_refusal;
-use bundle_link_tables::{Export, Import as Read, Origin, Tables, Taken, tables_of};
+use bundle_link_tables::{Export, Import as Read, Origin, Tables, Taken, requests_in, tables_of};
 use bundle_scope_denote::{ModuleKind, Reading, denotations};
 use bundle_tree_ast::Module;
 use bundle_tree_list::pieces_of_module;
@@ -77,8 +80,9 @@ pub fn requests_of(
         IsRequestTable settings (name_of file.now) (module_items 0 «module».now)
         (t.Given (map (λ text. string_bytes text) requests.items))) }
 {
-    let tables = read(alloc, file, module, config)?;
-    Ok(owned_texts(alloc, &tables.requests)?)
+    let pieces = pieces_of_module(alloc, module)?;
+    let requests = requested(alloc, file, &pieces, config)?;
+    Ok(owned_texts(alloc, &requests)?)
 }
 
 /// What a module imports, in the order of the source.
@@ -154,6 +158,28 @@ pub(crate) fn read_list<'a>(
     )?;
     match answer {
         Ok(tables) => Ok(tables),
+        Err(fault) => Err(tree_refusal(alloc, file, fault)?),
+    }
+}
+
+// What the list of a module asks to be loaded.
+fn requested<'a>(
+    alloc: Global,
+    file: &FileName,
+    pieces: &[Piece<'a>],
+    config: &Config,
+) -> Result<Vec<&'a str>, Error>
+    ensures refused { IfErr result (IsTreeRefusal (name_of file.now) (map item_of pieces.now)) }
+    ensures faultless { OnOk result (IsFaultless (name_of file.now) (map item_of pieces.now)) }
+    ensures given { IfOk result (λ requests.
+        (settings : Settings) →
+        Links config.now settings →
+        map (λ request. request.now) requests.items
+        ≡ the_entries.requests_of settings (is_free (map item_of pieces.now)) (map item_of pieces.now)) }
+{
+    let answer = requests_in(alloc, pieces, config.require, &config.external_modules)?;
+    match answer {
+        Ok(requests) => Ok(requests),
         Err(fault) => Err(tree_refusal(alloc, file, fault)?),
     }
 }

@@ -1,12 +1,12 @@
 -- When what is read of modules is that of a program, and what is told of them is its first fault.
 use Rattle.std.specs.Prelude.{◌≡◌, ℕ, zero, suc, ◌<◌, ◌-◌, List, [], ◌∷◌, ◌++◌, Option, Some, None, Result, Ok, Err, length, map, slice_get}
-use Rattle.std.specs.Borrow.{Bor}
+use Rattle.std.specs.Option.{option_map}
 use Rattle.bundle_tree_piece.specs.Item.{Item, item_of}
-use Rattle.bundle_tree_piece.specs.declared.piece.Piece.{Piece}
 use Rattle.bundle_tree_names.specs.FileName.{Name}
-use Rattle.bundle_rules.specs.Scopes.{ModuleKind}
+use Rattle.bundle_rules.specs.Scopes.{Es, ModuleKind}
 use Rattle.bundle_rules.specs.Declarations.{Declared}
 use Rattle.bundle_rules.specs.Doubled.{first_doubled}
+use Rattle.bundle_scope_denote.specs.Listed.{place_and_symbol, told_of}
 use Rattle.bundle_scope_denote.specs.declared.table.Doubled.{Doubled}
 use Rattle.bundle_rules.specs.Program.{Program, tree_of}
 use Rattle.bundle_rules.specs.Meaning.{HasKind}
@@ -20,6 +20,7 @@ use Rattle.bundle_link_targets.specs.Meant.{AreModules, IsModuleTree}
 use Rattle.bundle_link_targets.specs.declared.linking.Linking.{Linking}
 use Rattle.bundle_link_reached.specs.Default.{DeclaresDefaultAlone}
 use Rattle.bundle_link_reached.specs.First.{IsFirstOf, HasNoFault}
+use Rattle.bundle_link_reached.specs.declared.judging.Listed.{Listed}
 use Rattle.bundle_link_reached.specs.declared.judging.Told.{Told}
 use Rattle.bundle_link_reached.specs.declared.judging.Told.TheVariants as t
 
@@ -34,12 +35,24 @@ pub record IsReadable (q : Program) (n : ℕ) : Type 0 where
   pub default : (m : ℕ) → DeclaresDefaultAlone (tree_of q m)
   pub others : (m : ℕ) → (m < n → ⊥) → tree_of q m ≡ []
 
--- in these lists just the names are declared twice that are so in the trees
-abbrev pub AreListsOf : Program → List (Bor (List Piece)) → Type 0
-AreListsOf q lists = (m : ℕ) (list : Bor (List Piece)) → slice_get lists m ≡ Some list → (kind : ModuleKind) → first_doubled kind (map item_of list.now) ≡ first_doubled kind (tree_of q m)
+-- the first name is noted that the list declares twice as an ES module, and none where it declares none twice
+abbrev pub IsNoted : Listed → Type 0
+IsNoted list =
+    option_map told_of list.doubled
+    ≡ option_map place_and_symbol (first_doubled Es (map item_of list.pieces.now))
+
+-- in the list of a module just the names are declared twice that are so in its tree, and the first is noted
+pub record IsListOf (q : Program) (m : ℕ) (list : Listed) : Type 0 where
+  pub same : (kind : ModuleKind) →
+      first_doubled kind (map item_of list.pieces.now) ≡ first_doubled kind (tree_of q m)
+  pub noted : IsNoted list
+
+-- these are the lists of the modules in turn
+abbrev pub AreListsOf : Program → List Listed → Type 0
+AreListsOf q lists = (m : ℕ) (list : Listed) → slice_get lists m ≡ Some list → IsListOf q m list
 
 -- the modules and the lists are those of a program, the last of them that of the entry
-pub record AreReadOf (q : Program) (modules : List LinkModule) (lists : List (Bor (List Piece))) (setting : Setting) : Type 0 where
+pub record AreReadOf (q : Program) (modules : List LinkModule) (lists : List Listed) (setting : Setting) : Type 0 where
   pub program : IsProgramOf q modules (numbers_below (length modules)) (length modules - 1) setting.require
   pub iife : q.settings.iife ≡ setting.iife
   pub readable : IsReadable q (length modules)

@@ -1,16 +1,27 @@
 //! The first fault of modules that are to be linked.
 
-ghost use Rattle.std.specs.Prelude.{◌≡◌, IfOk, length};
+ghost use Rattle.std.specs.Prelude.{◌≡◌, IfOk, length, map};
+ghost use Rattle.std.specs.Option.{option_map};
 ghost use Rattle.bundle_scope_denote.specs.Kinds.{kind_as};
+ghost use Rattle.bundle_scope_denote.specs.Listed.{place_and_symbol, told_of};
+ghost use Rattle.bundle_tree_piece.specs.Item.{item_of};
 ghost use Rattle.bundle_link_targets.specs.Linked.{IsJudgedBy, IsLinkingOf};
+ghost use Rattle.bundle_rules.specs.Doubled as doubled;
 ghost use Rattle.bundle_rules.specs.Meaning.{HasKind};
 ghost use Rattle.bundle_rules.specs.Program.{Program};
-ghost use Rattle.bundle_link_reached.specs.Judged.{AreListsOf, AreReadOf, IsJudgedAs, IsReadable, TellsDoubled, TellsFirst, module_of, numbers_below};
+ghost use Rattle.bundle_link_reached.specs.Judged.{AreListsOf, AreReadOf, IsJudgedAs, IsNoted, IsReadable, TellsDoubled, TellsFirst, module_of, numbers_below};
 
 use bundle_link_targets::{Fault, LinkModule, Linking, Setting};
 use bundle_scope_denote::{Doubled, ModuleKind, first_doubled};
 use bundle_tree_piece::Piece;
 use std::alloc::{AllocError, Global};
+
+/// The list of a module, and the first name that it declares twice as an ES module.
+#[derive(Clone, Copy)]
+pub struct Listed<'l, 'a> {
+    pub pieces: &'l [Piece<'a>],
+    pub doubled: Option<Doubled<'a>>,
+}
 
 /// A fault of modules, which stand at places.
 #[derive(Clone, Copy, PartialEq, Eq, Debug)]
@@ -39,7 +50,7 @@ impl<'a> Told<'a> {
 pub fn judged<'l, 'a>(
     alloc: Global,
     modules: &[LinkModule<'l, 'a>],
-    lists: &[&[Piece<'a>]],
+    lists: &[Listed<'l, 'a>],
     setting: Setting,
 ) -> Result<Result<Linking<'a>, Told<'a>>, AllocError>
     ensures { IfOk result (λ found. (q : Program) → AreReadOf q modules.now lists.now setting →
@@ -67,10 +78,10 @@ fn numbers_to(alloc: Global, end: usize) -> Result<Vec<usize>, AllocError>
 }
 
 // The first fault of linked modules, where these are their lists in turn.
-fn first_fault<'a>(
+fn first_fault<'l, 'a>(
     alloc: Global,
     linking: &Linking<'a>,
-    lists: &[&[Piece<'a>]],
+    lists: &[Listed<'l, 'a>],
 ) -> Result<Option<Told<'a>>, AllocError>
     ensures { IfOk result (λ found.
         (q : Program) →
@@ -93,10 +104,10 @@ fn first_fault<'a>(
 }
 
 // The first name that a module declares twice.
-fn doubled_in<'a>(
+fn doubled_in<'l, 'a>(
     alloc: Global,
     linking: &Linking<'a>,
-    lists: &[&[Piece<'a>]],
+    lists: &[Listed<'l, 'a>],
 ) -> Result<Option<Told<'a>>, AllocError>
     ensures { IfOk result (λ found.
         (q : Program) →
@@ -105,11 +116,32 @@ fn doubled_in<'a>(
         TellsDoubled q (length lists.now) found) }
 {
     for (module, list) in lists.iter().enumerate() {
-        if let Some(doubled) = first_doubled(alloc, *list, kind_of(linking, module))? {
+        if let Some(doubled) = doubled_of(alloc, *list, kind_of(linking, module))? {
             return Ok(Some(Told::Doubled(module, doubled)));
         }
     }
     Ok(None)
+}
+
+// The first name that a list declares twice, which is noted of one that is an ES module's.
+fn doubled_of<'l, 'a>(
+    alloc: Global,
+    list: Listed<'l, 'a>,
+    kind: ModuleKind,
+) -> Result<Option<Doubled<'a>>, AllocError>
+    ensures { IfOk result (λ found.
+        IsNoted list.entry →
+        option_map told_of found
+        ≡ option_map place_and_symbol
+        (doubled.first_doubled (kind_as kind) (map item_of list.entry.pieces.now))) }
+{
+    match kind {
+        ModuleKind::Es => Ok(list.doubled),
+        ModuleKind::Cjs => {
+            let found = first_doubled(alloc, list.pieces, ModuleKind::Cjs)?;
+            Ok(found)
+        }
+    }
 }
 
 // As what a module is read.

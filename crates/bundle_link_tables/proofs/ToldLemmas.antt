@@ -103,6 +103,12 @@ told_by_tree file tree table exports listed is are names =
     ap (λ d. first_fault file d (undeclared_name (λ x. has_text x (told_top_names table tree)) listed) (has_head is_with tree)) (ap (doubled_name []) are ∙ doubled_filter [] (exports_of tree))
     ∙ ap (λ u. first_fault file (doubled_name [] (exports_of tree)) u (has_head is_with tree)) (undeclared_alike (λ x. has_text x (told_top_names table tree)) (is_top_name tree) (top_told tree table is) listed ∙ ap (undeclared_name (is_top_name tree)) names)
 
+-- the same where no list of exports without `from` stands in the tree
+pub told_unlisted : (file : Name) (tree : List Item) (exports : List ExportEntry) → exports ≡ filter (λ entry. not (is_star entry)) (exports_of tree) → listed_names tree ≡ [] → first_fault file (doubled_name [] exports) None (has_head is_with tree) ≡ first_fault file (doubled_name [] (exports_of tree)) (undeclared_name (is_top_name tree) (listed_names tree)) (has_head is_with tree)
+told_unlisted file tree exports are none =
+    ap (λ d. first_fault file d None (has_head is_with tree)) (ap (doubled_name []) are ∙ doubled_filter [] (exports_of tree))
+    ∙ ap (λ l. first_fault file (doubled_name [] (exports_of tree)) (undeclared_name (is_top_name tree) l) (has_head is_with tree)) (sym none)
+
 module _ (file : Name) (tree : List Item) where
   judged_by : (told : Option Fault) → told ≡ first_fault file (doubled_name [] (exports_of tree)) (undeclared_name (is_top_name tree) (listed_names tree)) (has_head is_with tree) → MatchOption told (IsFaultless file tree) (IsFirstTreeFault file tree)
   judged_by told is = let P : Option Fault → Type 0 = λ it. MatchOption it (IsFaultless file tree) (IsFirstTreeFault file tree) in subst P (sym is) (judged file tree)

@@ -1,6 +1,6 @@
 //! What is wrong with a module by itself.
 
-ghost use Rattle.std.specs.Prelude.{◌≡◌, [], map, option_map, bytes_eq, IfOk};
+ghost use Rattle.std.specs.Prelude.{◌≡◌, [], None, map, option_map, bytes_eq, IfOk};
 ghost use Rattle.bundle_tree_names.specs.FileName.{Name};
 ghost use Rattle.bundle_tree_piece.specs.Item.{item_of};
 ghost use Rattle.bundle_rules.specs.Bundle.{is_with};
@@ -45,6 +45,29 @@ pub fn first_fault<'a>(
     }
     if let Some(name) = unbound_name(alloc, pieces, denotations, &given.listed)? {
         return Ok(Some(TreeFault::UndeclaredExport { name }));
+    }
+    if has_with(pieces) {
+        return Ok(Some(TreeFault::With));
+    }
+    Ok(None)
+}
+
+/// The same of a module in which no list of exports without `from` stands: what its names denote decides nothing.
+#[tactic(auto, using(std::proofs::lemmas::Grind::common_steps, crate::proofs::ToldLemmas::told_doubled, crate::proofs::ToldLemmas::told_with, crate::proofs::ToldLemmas::told_none))]
+pub fn first_unlisted_fault<'a>(
+    alloc: Global,
+    pieces: &[Piece<'a>],
+    given: &Given<'a>,
+) -> Result<Option<TreeFault<'a>>, AllocError>
+    ensures { (file : Name) →
+        IfOk result (λ fault.
+        option_map (fault_in file) fault
+        ≡ judged.first_fault file
+        (judged.doubled_name [] (map export_entry_of given.now.exports.items)) None
+        (has_head is_with (map item_of pieces.now))) }
+{
+    if let Some(name) = doubled_name(alloc, &given.exports)? {
+        return Ok(Some(TreeFault::DoubledExport { name }));
     }
     if has_with(pieces) {
         return Ok(Some(TreeFault::With));

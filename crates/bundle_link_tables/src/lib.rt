@@ -10,11 +10,13 @@ mod faults;
 mod free;
 mod imports;
 mod listed;
+pub mod requests;
 mod sources;
 pub mod table;
 pub mod tables;
 mod walk;
 
+pub use requests::requests_in;
 pub use table::{
     AskedName, Export, Import, Origin, Read, RequireCall, Source, Tables, Taken, TreeFault, Use,
 };

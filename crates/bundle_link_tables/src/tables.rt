@@ -122,8 +122,8 @@ pub fn tables_of<'a>(
     Ok(Ok(put_together(pieces, denotations, entries, made)))
 }
 
-// The texts, each once.
-fn texts<'t>(alloc: Global, list: &'t [String]) -> Result<TextSet<&'t str>, AllocError>
+/// The texts, each once.
+pub(crate) fn texts<'t>(alloc: Global, list: &'t [String]) -> Result<TextSet<&'t str>, AllocError>
     ensures { IfOk result (λ texts. HasTexts texts (map string_bytes list.now)) }
 {
     let mut texts = TextSet::new(alloc);
@@ -249,8 +249,8 @@ fn put_together<'a>(
     }
 }
 
-// What a module asks to be loaded: what is not external, and the literal calls that are linked, each text once.
-fn requests<'a>(
+/// What a module asks to be loaded: what is not external, and the literal calls that are linked, each text once.
+pub(crate) fn requests<'a>(
     alloc: Global,
     given: &Given<'a>,
     calls: &[RequireCall<'a>],

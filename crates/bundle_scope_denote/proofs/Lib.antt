@@ -18,6 +18,7 @@ pub mod ImpliedLemmas
 pub mod FoundLemmas
 pub mod TidyLemmas
 pub mod SearchLemmas
+pub mod NearestLemmas
 pub mod StartLemmas
 pub mod LoopLemmas
 pub mod OrderLemmas

@@ -17,3 +17,11 @@ message_of items = flat_map told items
 -- the salt whose hashers begin with a digest
 abbrev pub salted : List ℕ → Salt
 salted digest = record { begun = sip.write sip.initial digest }
+
+-- the salt whose hashers begin with nothing
+abbrev pub unsalted : Salt
+unsalted = record { begun = sip.initial }
+
+-- a list of fewer pieces has that one
+abbrev pub few : ℕ
+few = 256

@@ -1,6 +1,6 @@
 //! What each occurrence of a list denotes.
 
-ghost use Rattle.std.specs.Prelude.{◌≡◌, ◌<◌, ◌||◌, ◌&&◌, IfOk, List, OnOk, Some, length, map, slice_get};
+ghost use Rattle.std.specs.Prelude.{◌≡◌, ◌<◌, ◌||◌, ◌&&◌, IfOk, List, OnOk, Some, false, length, map, slice_get};
 ghost use Rattle.std.specs.List.{list_any};
 ghost use Rattle.bundle_tree_piece.specs.Item.{Item, item_of};
 ghost use Rattle.bundle_rules.specs.Scopes as Scopes;
@@ -41,15 +41,15 @@ pub fn denotations<'a>(
     Ok(table_of(walk, found))
 }
 
-// The bindings of a list, and what each of its occurrences denotes.
+/// The bindings of a list, and what each of its occurrences denotes.
 #[derive(Drop)]
-struct Found<'a> {
+pub(crate) struct Found<'a> {
     bindings: Vec<Binding<'a>>,
     occurrences: Vec<Denoted>,
 }
 
-// The table of a list, by what was met and what was found along it.
-fn table_of<'a>(walk: Walk<'a>, found: Found<'a>) -> Denotations<'a>
+/// The table of a list, by what was met and what was found along it.
+pub(crate) fn table_of<'a>(walk: Walk<'a>, found: Found<'a>) -> Denotations<'a>
     ensures scopes { result.scopes.items ≡ walk.entry.scopes.items }
     ensures bindings { result.bindings.items ≡ found.entry.bindings.items }
     ensures occurrences { result.occurrences.items ≡ found.entry.occurrences.items }
@@ -76,8 +76,11 @@ fn found_along<'a>(
     searched(alloc, walk)
 }
 
-// Goes over a list, where the name `arguments` without a context gets a number too.
-fn go_over_with_arguments<'a>(walk: &mut Walk<'a>, pieces: &[Piece<'a>]) -> Result<(), AllocError>
+/// Goes over a list, where the name `arguments` without a context gets a number too.
+pub(crate) fn go_over_with_arguments<'a>(
+    walk: &mut Walk<'a>,
+    pieces: &[Piece<'a>],
+) -> Result<(), AllocError>
     requires { IsBlank walk.old }
     ensures whole { OnOk result
         (IsWhole walk.new (reading_as walk.old.reading) (kind_as walk.old.kind)
@@ -94,8 +97,8 @@ fn go_over_with_arguments<'a>(walk: &mut Walk<'a>, pieces: &[Piece<'a>]) -> Resu
     Ok(())
 }
 
-// The same by what was met in one pass over the list.
-fn searched<'a>(alloc: Global, walk: &Walk<'a>) -> Result<Found<'a>, AllocError>
+/// What is found by what was met in one pass over a list.
+pub(crate) fn searched<'a>(alloc: Global, walk: &Walk<'a>) -> Result<Found<'a>, AllocError>
     requires named { AreNamed walk.now }
     requires seen { AreSeenNamed walk.now }
     ensures { IfOk result (λ found.
@@ -192,8 +195,10 @@ impl<'a> Search<'a> {
         ensures { IfOk result
             (Denotes BySymbol walk.now self.old self.new (name_as name.entry) number from) }
     {
-        let adds = is_arguments(name.sym);
-        let found = nearest(&walk.scopes, &self.bindings.keys, adds, number, from);
+        if !is_arguments(name.sym) {
+            return Ok(nearest_key(&walk.scopes, &self.bindings.keys, number, from));
+        }
+        let found = nearest(&walk.scopes, &self.bindings.keys, true, number, from);
         let binding = self.put(found, name, number)?;
         Ok(binding)
     }
@@ -210,10 +215,9 @@ impl<'a> Search<'a> {
         ensures { IfOk result
             (Denotes ByContext walk.now self.old self.new (name_as name.entry) number from) }
     {
-        let found = nearest(&walk.scopes, &self.bindings.keys, false, number, from);
+        let found = nearest_key(&walk.scopes, &self.bindings.keys, number, from);
         if found.is_some() {
-            let binding = self.put(found, name, number)?;
-            return Ok(binding);
+            return Ok(found);
         }
         if is_unresolved(name.ctxt) {
             return Ok(None);
@@ -258,6 +262,32 @@ fn number_at(numbers: &[usize], place: usize) -> Option<usize>
     ensures { result ≡ slice_get numbers.now place }
 {
     numbers.get(place).copied()
+}
+
+// The number of the key of a name in the nearest scope, from one on outwards, that has it among these keys.
+fn nearest_key(
+    scopes: &[Scope],
+    keys: &IndexSet<(usize, usize)>,
+    name: usize,
+    from: usize,
+) -> Option<usize>
+    ensures { bound.NumberOf keys.now.keys name
+        (nearest_at (map numbered scopes.now)
+        (bound.binds_at (map numbered scopes.now) keys.now.keys false name) from)
+        result }
+{
+    let mut at = Some(from);
+    for _ in 0..scopes.len() {
+        let Some(scope) = at else {
+            return None;
+        };
+        let found = keys.get_index_of(&(scope, name));
+        if found.is_some() {
+            return found;
+        }
+        at = outer_at(scopes, scope);
+    }
+    None
 }
 
 // The number of the nearest scope, from one on outwards, that has the name with a number among these keys, or

@@ -58,6 +58,17 @@ fn doubled_along<'a>(
         (doubled.first_doubled (kind_as walk.old.kind) (map item_of pieces.now))) }
 {
     walk.go_over(pieces)?;
+    first_met(alloc, walk)
+}
+
+/// The first declaration of a walk that may not stand beside those before it.
+pub(crate) fn first_met<'a>(
+    alloc: Global,
+    walk: &Walk<'a>,
+) -> Result<Option<Doubled<'a>>, AllocError>
+    requires { AreNamed walk.now }
+    ensures { IfOk result (TellsFirst walk.now) }
+{
     let mut met = Met::new(alloc);
     met.first_excluded(alloc, walk)
 }

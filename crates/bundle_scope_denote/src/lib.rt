@@ -1,11 +1,13 @@
-//! What each occurrence of a list denotes, in one table, and the first doubled declaration; and what tables of texts
-//! that strangers choose are made with: the salt of a list, and sets and maps that are searched by order.
+//! What each occurrence of a list denotes, in one table, and the first doubled declaration, each by itself or both
+//! of one pass; and what tables of texts that strangers choose are made with: the salt of a list, and sets and maps
+//! that are searched by order.
 #![tactic(auto)]
 
 pub mod denote;
 pub mod doubled;
 mod homes;
 mod kinds;
+pub mod named;
 pub mod salt;
 pub mod table;
 pub mod texts;
@@ -13,5 +15,6 @@ mod walk;
 
 pub use denote::denotations;
 pub use doubled::first_doubled;
+pub use named::{Named, names_and_doubled};
 pub use salt::{Salt, salt_of};
 pub use table::{Binding, Denotations, Denoted, Doubled, ModuleKind, Reading, Scope, ScopeKind};

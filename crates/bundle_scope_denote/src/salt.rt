@@ -1,10 +1,10 @@
 //! A hash of the symbols of a list, whose key is made of these symbols themselves.
 
-ghost use Rattle.std.specs.Prelude.{◌≡◌, ◌++◌, List, ℕ, map};
+ghost use Rattle.std.specs.Prelude.{◌≡◌, ◌++◌, ◌<◌, ◌≤◌, List, ℕ, length, map};
 ghost use Rattle.sha2.specs.Hashers.{Holds512};
 ghost use Rattle.sha2.specs.Sha512.{sha512};
 ghost use Rattle.bundle_tree_piece.specs.Item.{item_of};
-ghost use Rattle.bundle_scope_denote.specs.Salted.{message_of, salted, told};
+ghost use Rattle.bundle_scope_denote.specs.Salted.{few, message_of, salted, told, unsalted};
 
 use bundle_tree_piece::Piece;
 use sha2::{Digest, Sha512};
@@ -13,7 +13,8 @@ use std::hash::{BuildHasher, DefaultHasher, Hasher};
 /// Makes hashers for tables whose keys hold symbols of one list: SipHash-1-3 (Aumasson and Bernstein), begun
 /// with the digest of all these symbols. Whoever chooses symbols that would meet in such a table has changed
 /// the digest, and with it where each of them goes; and the same list always has the same tables, without a
-/// random number.
+/// random number. Of a list of few pieces nothing is digested: whoever makes all its symbols meet has made
+/// tables of a few names, which are soon gone over.
 #[derive(Clone, Copy)]
 pub struct Salt {
     begun: DefaultHasher,
@@ -29,9 +30,35 @@ impl BuildHasher for Salt {
     }
 }
 
+// A list of fewer pieces needs no digest.
+const FEW: usize = 256;
+
 /// The salt of a list: that of the SHA-512 digest of its identifiers' symbols, each with the byte
-/// 255 behind it, which stands in no text.
+/// 255 behind it, which stands in no text. A list of fewer than 256 pieces has one that begins with nothing, which
+/// is the same for all of them.
 pub fn salt_of<'a>(pieces: &[Piece<'a>]) -> Salt
+    ensures few { length pieces.now < few → result ≡ unsalted }
+    ensures many { few ≤ length pieces.now →
+        result ≡ salted (sha512 (message_of (map item_of pieces.now))) }
+{
+    if pieces.len() < FEW {
+        unsalted()
+    } else {
+        salted_by(pieces)
+    }
+}
+
+// The salt that begins with nothing.
+fn unsalted() -> Salt
+    ensures { result ≡ unsalted }
+{
+    Salt {
+        begun: DefaultHasher::new(),
+    }
+}
+
+// The salt of the digest of a list's symbols.
+fn salted_by<'a>(pieces: &[Piece<'a>]) -> Salt
     ensures { result ≡ salted (sha512 (message_of (map item_of pieces.now))) }
 {
     let mut digest = Sha512::new();

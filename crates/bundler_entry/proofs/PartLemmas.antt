@@ -1,10 +1,9 @@
 -- One more module as it is linked.
 use Rattle.std.proofs.Common.{◌≡◌, ℕ, zero, suc, ◌+◌, ◌⊎◌, inl, inr, List, [], ◌∷◌, ◌++◌, Some, length, refl, sym, ap, ◌∙◌, subst, arith}
 use Rattle.std.specs.Prelude.{slice_get}
-use Rattle.std.specs.Borrow.{Bor}
 use Rattle.std.proofs.lemmas.Option.{none-some, same_Some}
-use Rattle.bundle_tree_piece.specs.declared.piece.Piece.{Piece}
 use Rattle.bundle_link_index.specs.declared.target.LinkModule.{LinkModule}
+use Rattle.bundle_link_reached.specs.declared.judging.Listed.{Listed}
 use Rattle.bundle_link_reached.specs.declared.reached.Reached.{Reached}
 use Rattle.bundler_entry.specs.Linked.{AreLists, AreParts, IsListAt, IsPartAt}
 use Rattle.bundler_entry.specs.declared.source.Source.{Source}
@@ -33,7 +32,7 @@ parts_more sources reached n parts more part is its are = subst (AreParts source
   each = each_push (IsPartAt sources reached) parts part n are.long are.each its;
 })
 
-pub lists_more : (sources : List Source) (reached : Reached) (n : ℕ) (lists more : List (Bor (List Piece))) (list : Bor (List Piece)) → more ≡ lists ++ list ∷ [] → IsListAt sources reached n list → AreLists sources reached n lists → AreLists sources reached (n + 1) more
+pub lists_more : (sources : List Source) (reached : Reached) (n : ℕ) (lists more : List Listed) (list : Listed) → more ≡ lists ++ list ∷ [] → IsListAt sources reached n list → AreLists sources reached n lists → AreLists sources reached (n + 1) more
 lists_more sources reached n lists more list is its are = subst (AreLists sources reached (n + 1)) (sym is) (record {
   long = let long = long_push lists list in omega (arith, long, are.long);
   each = each_push (IsListAt sources reached) lists list n are.long are.each its;

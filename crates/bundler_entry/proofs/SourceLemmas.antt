@@ -12,13 +12,14 @@ use Rattle.bundle_tree.specs.declared.load.ModuleData.{ModuleData}
 use Rattle.bundle_rules.specs.Nodes.{Text}
 use Rattle.bundle_rules.specs.Cleared.{cleared}
 use Rattle.bundle_rules.specs.Declarations.{BySymbol}
+use Rattle.bundle_rules.specs.Doubled.{first_doubled}
 use Rattle.bundle_rules.specs.Entries.{ExportEntry, exports_of, has_import_meta, is_named}
 use Rattle.bundle_rules.specs.Faults.{IsFaultless}
 use Rattle.bundle_rules.specs.Program.{Loaded, Program, module_of, tree_of}
 use Rattle.bundle_rules.specs.Scopes.{Es}
 use Rattle.bundle_rules.proofs.CallLemmas.{has_import_meta-cleared}
 use Rattle.bundle_rules.proofs.FaultLemmas as faults
-use Rattle.bundle_scope_denote.specs.Listed.{IsTable}
+use Rattle.bundle_scope_denote.specs.Listed.{IsTable, place_and_symbol, told_of}
 use Rattle.bundle_scope_renamed.specs.fit.Fits.{IsFit}
 use Rattle.bundle_scope_renamed.specs.fit.Sorts.{AModule}
 use Rattle.bundle_merge_whole.proofs.grown.Trees.{kept_fit}
@@ -35,8 +36,9 @@ use Rattle.bundler_entry.specs.declared.source.Source.{Source}
 
 pub read_as : (p : Program) (m : ℕ) (config : Config) (file : Name) (given : ModuleData) (source : Source) → Links config p.settings → module_of p m ≡ Some (kept_as given) → name_of source.given.now ≡ name_of given.file_name
     → map item_of source.pieces.items ≡ module_items 0 given.«module» → source.items.now ≡ given.«module».body.items → IsTable BySymbol Es (map item_of source.pieces.items) source.names
+    → option_map told_of source.doubled ≡ option_map place_and_symbol (first_doubled Es (map item_of source.pieces.items))
     → AreTablesOf config file (module_items 0 given.«module») source.tables → source.tables.has_import_meta ≡ has_import_meta (module_items 0 given.«module») → IsSourceOf p m source
-read_as p m config file given source links there named list items names tables meta =
+read_as p m config file given source links there named list items names doubled tables meta =
     let tree : List Item = module_items 0 given.«module» in
     let is : tree_of p m ≡ cleared tree = ap (λ (o : Option Loaded). unwrap_or (option_map (λ (loaded : Loaded). loaded.items) o) []) there in
     record {
@@ -46,6 +48,7 @@ read_as p m config file given source links there named list items names tables m
       list = is ∙ ap cleared (sym list);
       listed = list ∙ ap (λ (its : List ModuleItem). node 0 h.Module (flat_map (module_item_items 0) its)) (sym items);
       names = names;
+      doubled = doubled;
       table = cleared-table p m config file tree source.tables links is tables;
       meta = meta ∙ sym (has_import_meta-cleared tree) ∙ ap has_import_meta (sym is);
       tree = subst IsModuleTree (sym is) (cleared-module-tree given.«module»);
@@ -69,6 +72,7 @@ read_at p q m k source settings same its =
       list = sym is ∙ its.list;
       listed = its.listed;
       names = its.names;
+      doubled = its.doubled;
       table = table_at p q m k source.tables settings is its.table;
       meta = its.meta ∙ ap has_import_meta is;
       tree = subst IsModuleTree is its.tree;

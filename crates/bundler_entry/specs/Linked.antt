@@ -1,13 +1,11 @@
 -- When the modules that an entry reaches are those of a program, and linked.
 use Rattle.std.specs.Prelude.{◌≡◌, ℕ, ◌<◌, ◌≤◌, List, Option, Some, Contains, length, slice_get}
-use Rattle.std.specs.Borrow.{Bor}
 use Rattle.std.specs.Option.{option_and_then}
 use Rattle.std.specs.declared.alloc.Global.{Global}
 use Rattle.std.specs.declared.string.String.{String}
 use Rattle.indexmap.specs.IndexMap.{IndexMap, get_by_text}
 use Rattle.bundle_tree_names.specs.FileName.{name_of}
 use Rattle.bundle_tree_names.specs.declared.file_name.FileName.{FileName}
-use Rattle.bundle_tree_piece.specs.declared.piece.Piece.{Piece}
 use Rattle.bundle_rules.specs.Nodes.{Text}
 use Rattle.bundle_rules.specs.Program.{Program, file_of, module_of}
 use Rattle.bundle_rules.specs.Faults.{IsFaultlessProgram, fault_of, last_number}
@@ -20,6 +18,7 @@ use Rattle.bundle_link_targets.specs.declared.linking.Linking.{Linking}
 use Rattle.bundle_link_reached.specs.Alike.{IsAlike, IsAt}
 use Rattle.bundle_link_reached.specs.Judged.{module_of as module_of_fault, numbers_below, says}
 use Rattle.bundle_link_reached.specs.Reached.{IsReachedOf}
+use Rattle.bundle_link_reached.specs.declared.judging.Listed.{Listed}
 use Rattle.bundle_link_reached.specs.declared.judging.Told.{Told}
 use Rattle.bundle_link_reached.specs.declared.reached.Reached.{Reached}
 use Rattle.bundle_order_sort.specs.Plan.{IsPlanOf}
@@ -111,18 +110,19 @@ pub record AreParts (sources : List Source) (reached : Reached) (n : ℕ) (parts
   pub long : length parts ≡ n
   pub each : (k : ℕ) (part : LinkModule) → slice_get parts k ≡ Some part → IsPartAt sources reached k part
 
--- it is the list of module k
-pub record IsListAt (sources : List Source) (reached : Reached) (k : ℕ) (list : Bor (List Piece)) : Type 0 where
+-- it is the list of module k, with what is noted of it
+pub record IsListAt (sources : List Source) (reached : Reached) (k : ℕ) (list : Listed) : Type 0 where
   pub place : ℕ
   pub source : Source
   pub its_place : slice_get reached.places.items k ≡ Some place
   pub its_source : slice_get sources place ≡ Some source
-  pub same : list.now ≡ source.pieces.items
+  pub same : list.pieces.now ≡ source.pieces.items
+  pub doubled : list.doubled ≡ source.doubled
 
 -- these are the lists of the first n modules
-pub record AreLists (sources : List Source) (reached : Reached) (n : ℕ) (lists : List (Bor (List Piece))) : Type 0 where
+pub record AreLists (sources : List Source) (reached : Reached) (n : ℕ) (lists : List Listed) : Type 0 where
   pub long : length lists ≡ n
-  pub each : (k : ℕ) (list : Bor (List Piece)) →
+  pub each : (k : ℕ) (list : Listed) →
       slice_get lists k ≡ Some list →
       IsListAt sources reached k list
 

@@ -13,12 +13,11 @@ use crate::fault::{doubled_refusal, link_refusal};
 use crate::source::Source;
 use crate::unlinked::Unlinked;
 use bundle_link::link::setting_of;
-use bundle_link_reached::{Reached, Told, judged, reached_from};
+use bundle_link_reached::{Listed, Reached, Told, judged, reached_from};
 use bundle_link_targets::{LinkModule, Linking};
 use bundle_order_sort::{Plan, plan_of};
 use bundle_tree_names::ModuleId;
 use bundle_tree_names::file_name::FileName;
-use bundle_tree_piece::Piece;
 use std::alloc::{AllocError, Global};
 
 /// The modules that an entry reaches, what their names are linked to, and the blocks of those that reach each other,
@@ -127,12 +126,12 @@ fn part_at<'t, 'x>(
     Some(LinkModule { tables, leads })
 }
 
-// The lists of the modules.
+// The lists of the modules, and what each declares twice.
 fn lists_of<'t, 'x>(
     alloc: Global,
     sources: &'t [Source<'x>],
     reached: &Reached,
-) -> Result<Vec<&'t [Piece<'x>]>, AllocError>
+) -> Result<Vec<Listed<'t, 'x>>, AllocError>
     ensures { IfOk result (λ lists.
         HasPlaces sources.entry.now reached.now (length reached.now.places.items) →
         AreLists sources.entry.now reached.now (length reached.now.places.items) lists.items) }
@@ -140,7 +139,10 @@ fn lists_of<'t, 'x>(
     let mut lists = Vec::new(alloc);
     for place in &reached.places {
         if let Some(source) = sources.get(*place) {
-            lists.push(source.pieces.as_slice())?;
+            lists.push(Listed {
+                pieces: source.pieces.as_slice(),
+                doubled: source.doubled,
+            })?;
         }
     }
     Ok(lists)

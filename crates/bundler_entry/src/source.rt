@@ -18,7 +18,7 @@ ghost use Rattle.bundler_entry.specs.Source.{AreSourcesOf, IsProgramOf, IsSource
 
 use bundle_link_reached::Files;
 use bundle_link_tables::{Tables, tables_of};
-use bundle_scope_denote::{Denotations, ModuleKind, Reading, denotations};
+use bundle_scope_denote::{Denotations, Doubled, ModuleKind, names_and_doubled};
 use bundle_tree::load::ModuleData;
 use bundle_tree_ast::{Module, ModuleItem};
 use bundle_tree_list::pieces_of_module;
@@ -28,14 +28,15 @@ use bundle_tree_names::file_name::FileName;
 use bundle_tree_piece::Piece;
 use std::alloc::{AllocError, Global};
 
-/// A file as it was read: the name that its loader gave it, its items, its list, what its names denote in an ES module, and its
-/// tables.
+/// A file as it was read: the name that its loader gave it, its items, its list, what its names denote in an ES module,
+/// the first of them that it declares twice there, and its tables.
 #[derive(Drop)]
 pub struct Source<'x> {
     pub given: &'x FileName,
     pub items: &'x [ModuleItem],
     pub pieces: Vec<Piece<'x>>,
     pub names: Denotations<'x>,
+    pub doubled: Option<Doubled<'x>>,
     pub tables: Tables<'x>,
 }
 
@@ -62,14 +63,15 @@ pub fn source_of<'x>(
         IsSourceOf p m source) }
 {
     let pieces = list_of(alloc, &loaded.module)?;
-    let names = denotations(alloc, pieces.as_slice(), ModuleKind::Es, Reading::BySymbol)?;
-    let tables = tables_in(alloc, pieces.as_slice(), &names, config)?;
+    let named = names_and_doubled(alloc, pieces.as_slice(), ModuleKind::Es)?;
+    let tables = tables_in(alloc, pieces.as_slice(), &named.names, config)?;
     let items = loaded.module.body.as_slice();
     Ok(Source {
         given: &loaded.file_name,
         items,
         pieces,
-        names,
+        names: named.names,
+        doubled: named.doubled,
         tables,
     })
 }

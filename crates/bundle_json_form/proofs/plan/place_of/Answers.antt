@@ -7,15 +7,15 @@ pub returns-in-Less-clause-free : goal.returns-in-Less-clause-free
 returns-in-Less-clause-free c =
     let them = c.args.members.now in
     let within : c.loop-place.place < length (planned them) = omega (arith, length_planned them) in
-    belongs_at c.args.key.now (planned them) c.loop-place.place _ within (next_member them c.loop-place.place _ (omega arith)) (sym c.cmp.ensures ∙ c.in-Less.is) c.loop-place.invariant
+    belongs_at c.args.key.now (planned them) c.loop-place.place _ within (next_member them c.loop-place.place _ (omega arith)) (sym c.order.ensures ∙ c.in-Less.is) c.loop-place.invariant
 
 pub returns-in-Equal-clause-there : goal.returns-in-Equal-clause-there
 returns-in-Equal-clause-there c =
     let them = c.args.members.now in
     let within : c.loop-place.place < length (planned them) = omega (arith, length_planned them) in
-    stands_at c.args.key.now (planned them) c.loop-place.place _ within (next_member them c.loop-place.place _ (omega arith)) (sym c.cmp.ensures ∙ c.in-Equal.is) c.loop-place.invariant
+    stands_at c.args.key.now (planned them) c.loop-place.place _ within (next_member them c.loop-place.place _ (omega arith)) (sym c.order.ensures ∙ c.in-Equal.is) c.loop-place.invariant
 
 pub loop-place-preserved : goal.loop-place-preserved
 loop-place-preserved c =
     let them = c.args.members.now in
-    below_more c.args.key.now (planned them) c.loop-place.place _ (next_member them c.loop-place.place _ (omega arith)) (front_member them c.loop-place.place _ (omega arith)) (sym c.cmp.ensures ∙ c.in-Greater.is) c.loop-place.invariant
+    below_more c.args.key.now (planned them) c.loop-place.place _ (next_member them c.loop-place.place _ (omega arith)) (front_member them c.loop-place.place _ (omega arith)) (sym c.order.ensures ∙ c.in-Greater.is) c.loop-place.invariant

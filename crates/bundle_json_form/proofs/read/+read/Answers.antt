@@ -73,7 +73,7 @@ pub read_node-returns-in_err-read_field-clause-refused : goal.read_node-returns-
 read_node-returns-in_err-read_field-clause-refused t c =
     handed _ _ c.from_residual-in_err-read_field.ensures.1
     (no_field _ _ _ _ c.fields_of-field-items.result c.loop-field.field-index _
-    (another_name _ _ _ c.in_ok-text.ensures.read c.if-eq.ensures)
+    (another_name _ _ _ c.in_ok-name.ensures.read c.if-is_same.ensures)
     c.in_ok-node.ensures.read c.fields_of-field-items.ensures (omega arith) c.in-Some.is)
     c.in_err-read_field.ensures.refused
 

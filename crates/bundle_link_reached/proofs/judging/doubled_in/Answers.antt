@@ -13,7 +13,7 @@ returns-in-Some c = λ q are w.
     let kind = kind_as c.kind_of.result in
     let list = c.index-lists-module.result in
     let at = slice_get-get_or lists m list c.loop-module-test.true ∙ ap (λ y. Some y) (sym c.index-lists-module.is) in
-    first_in q (length lists) m kind c.in_ok-doubled.field-0 c.in-Some.doubled (first_doubled kind (map item_of list.now)) c.in_ok-doubled.ensures (are m list at kind) c.in-Some.is c.loop-module-test.true (c.kind_of.ensures q w) (c.loop-module.invariant q are w)
+    first_in q (length lists) m kind c.in_ok-doubled.field-0 c.in-Some.doubled (first_doubled kind (map item_of list.pieces.now)) (c.in_ok-doubled.ensures (are m list at).noted) ((are m list at).same kind) c.in-Some.is c.loop-module-test.true (c.kind_of.ensures q w) (c.loop-module.invariant q are w)
 
 pub loop-module-preserved : goal.loop-module-preserved
 loop-module-preserved c = λ q are w.
@@ -23,5 +23,5 @@ loop-module-preserved c = λ q are w.
     let list = c.index-lists-module.result in
     let at = slice_get-get_or lists m list c.loop-module-test.true ∙ ap (λ y. Some y) (sym c.index-lists-module.is) in
     none_more q m kind (c.loop-module.invariant q are w) (c.kind_of.ensures q w)
-    (none_in q m kind c.in_ok-doubled.field-0 (first_doubled kind (map item_of list.now)) c.in_ok-doubled.ensures (are m list at kind) c.in_default.is)
+    (none_in q m kind c.in_ok-doubled.field-0 (first_doubled kind (map item_of list.pieces.now)) (c.in_ok-doubled.ensures (are m list at).noted) ((are m list at).same kind) c.in_default.is)
     (one_kind q m)

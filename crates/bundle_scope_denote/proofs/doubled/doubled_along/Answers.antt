@@ -8,10 +8,10 @@ use Rattle.bundle_scope_denote.proofs.StartLemmas.{whole-named}
 use Rattle.bundle_scope_denote.proofs.TableLemmas.{if_ok}
 use Rattle.bundle_scope_denote.proofs.doubled.doubled_along.Goals as goal
 
-pub first_excluded-requires-clause-named : goal.first_excluded-requires-clause-named
-first_excluded-requires-clause-named c = whole-named (reading_as c.args.walk.now.reading) (kind_as c.args.walk.now.kind) (map item_of c.args.pieces.now) c.go_over.new.self c.in_ok-go_over.ensures.whole
+pub first_met-requires : goal.first_met-requires
+first_met-requires c = whole-named (reading_as c.args.walk.now.reading) (kind_as c.args.walk.now.kind) (map item_of c.args.pieces.now) c.go_over.new.self c.in_ok-go_over.ensures.whole
 
 pub returns : goal.returns
 returns c =
     let whole = subst (λ (r : Reading). IsWhole c.go_over.new.self r (kind_as c.args.walk.now.kind) (map item_of c.args.pieces.now)) (ap reading_as c.requires.reading) c.in_ok-go_over.ensures.whole in
-    if_ok c.first_excluded.result (λ found tells. tells (kind_as c.args.walk.now.kind) (map item_of c.args.pieces.now) whole) c.first_excluded.ensures
+    if_ok c.first_met.result (λ found tells. tells (kind_as c.args.walk.now.kind) (map item_of c.args.pieces.now) whole) c.first_met.ensures

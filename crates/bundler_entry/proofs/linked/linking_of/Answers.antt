@@ -1,10 +1,9 @@
 -- What is told by places is told of the program.
 use Rattle.std.proofs.Common.{List, Result, length, refl, sym, ◌∙◌, subst}
-use Rattle.std.specs.Borrow.{Bor}
-use Rattle.bundle_tree_piece.specs.declared.piece.Piece.{Piece}
 use Rattle.bundle_link_index.specs.declared.target.LinkModule.{LinkModule}
 use Rattle.bundle_link_targets.specs.declared.linking.Linking.{Linking}
 use Rattle.bundle_link_reached.specs.Judged.{AreReadOf, IsJudgedAs}
+use Rattle.bundle_link_reached.specs.declared.judging.Listed.{Listed}
 use Rattle.bundle_link_reached.specs.declared.judging.Told.{Told}
 use Rattle.bundler_entry.specs.Linked.{AreLists, AreParts, HasPlaces}
 use Rattle.bundler_entry.specs.declared.source.Source.{Source}
@@ -26,7 +25,7 @@ returns-in-Ok-clause-linked c = λ p entry w r.
     let setting = c.setting_of.result in
     let read = is_read p entry call w reached r n refl parts are setting lists are_lists (c.setting_of.ensures.require ∙ sym w.links.0) (w.iife ∙ sym c.setting_of.ensures.iife) in
     let handed = subst (λ (ms : List LinkModule). AreReadOf q ms lists setting) (sym c.deref.ensures.value) read in
-    let found = c.in_ok-found.ensures q (subst (λ (ls : List (Bor (List Piece))). AreReadOf q c.deref.result.now ls setting) (sym c.deref-2.ensures.value) handed) in
+    let found = c.in_ok-found.ensures q (subst (λ (ls : List Listed). AreReadOf q c.deref.result.now ls setting) (sym c.deref-2.ensures.value) handed) in
     let told = subst (λ (ms : List LinkModule). IsJudgedAs q (length ms) c.in_ok-found.found) c.deref.ensures.value found in
     linked_in p entry call w reached r n refl parts are c.in-Ok.linking
     (subst (λ (f : Result Linking Told). IsJudgedAs q (length parts) f) c.in-Ok.is told)
@@ -46,7 +45,7 @@ returns-clause-refused c = λ p entry w r.
     let setting = c.setting_of.result in
     let read = is_read p entry call w reached r n refl parts are setting lists are_lists (c.setting_of.ensures.require ∙ sym w.links.0) (w.iife ∙ sym c.setting_of.ensures.iife) in
     let handed = subst (λ (ms : List LinkModule). AreReadOf q ms lists setting) (sym c.deref.ensures.value) read in
-    let found = c.in_ok-found.ensures q (subst (λ (ls : List (Bor (List Piece))). AreReadOf q c.deref.result.now ls setting) (sym c.deref-2.ensures.value) handed) in
+    let found = c.in_ok-found.ensures q (subst (λ (ls : List Listed). AreReadOf q c.deref.result.now ls setting) (sym c.deref-2.ensures.value) handed) in
     let told = subst (λ (ms : List LinkModule). IsJudgedAs q (length ms) c.in_ok-found.found) c.deref.ensures.value found in
     first_told p entry call w reached r n refl parts are c.in-Err.told c.in_ok-refusal_of-in-Err.field-0
     (subst (λ (f : Result Linking Told). IsJudgedAs q (length parts) f) c.in-Err.is told) c.in_ok-refusal_of-in-Err.ensures

@@ -1,9 +1,11 @@
 -- The list is that of the module.
 use Rattle.std.proofs.Common.{ap, refl, sym, ◌∙◌, subst, map}
-use Rattle.bundle_scope_denote.specs.Listed.{IsTable}
+use Rattle.std.specs.Option.{option_map}
+use Rattle.bundle_scope_denote.specs.Listed.{IsTable, place_and_symbol}
 use Rattle.bundle_tree_piece.specs.Item.{item_of}
 use Rattle.bundle_rules.specs.Declarations.{BySymbol}
 use Rattle.bundle_rules.specs.Scopes.{Es}
+use Rattle.bundle_rules.specs.Doubled.{first_doubled}
 use Rattle.bundle_rules.specs.Entries.{has_import_meta}
 use Rattle.bundle_rules.specs.Faults.{IsFaultless}
 use Rattle.bundle_link.specs.Read.{AreTablesOf}
@@ -12,7 +14,7 @@ use Rattle.bundler_entry.proofs.source.source_of.Goals as goal
 
 pub tables_in-requires : goal.tables_in-requires
 tables_in-requires c = record {
-  table = subst (λ xs. IsTable BySymbol Es (map item_of xs) c.in_ok-names.names) (c.as_slice.ensures.value ∙ sym c.as_slice-2.ensures.value) c.in_ok-names.ensures;
+  table = subst (λ xs. IsTable BySymbol Es (map item_of xs) c.in_ok-named.named.names) (c.as_slice.ensures.value ∙ sym c.as_slice-2.ensures.value) c.in_ok-named.ensures.names;
   faultless = (c.requires.0, subst (IsFaultless c.requires.0) (sym (ap (map item_of) c.as_slice-2.ensures.value ∙ c.in_ok-pieces.ensures)) c.requires.1);
 }
 
@@ -21,6 +23,7 @@ returns c = λ p m links there.
     let list = ap (map item_of) c.as_slice-2.ensures.value ∙ c.in_ok-pieces.ensures in
     read_as p m c.args.config.now c.requires.0 c.args.loaded.now _ links there refl c.in_ok-pieces.ensures
     c.as_slice-items.ensures.value
-    (subst (λ xs. IsTable BySymbol Es (map item_of xs) c.in_ok-names.names) c.as_slice.ensures.value c.in_ok-names.ensures)
+    (subst (λ xs. IsTable BySymbol Es (map item_of xs) c.in_ok-named.named.names) c.as_slice.ensures.value c.in_ok-named.ensures.names)
+    (c.in_ok-named.ensures.doubled ∙ ap (λ xs. option_map place_and_symbol (first_doubled Es (map item_of xs))) c.as_slice.ensures.value)
     (subst (λ tree. AreTablesOf c.args.config.now c.requires.0 tree c.in_ok-tables.tables) list (c.in_ok-tables.ensures.given c.requires.0))
     (c.in_ok-tables.ensures.meta ∙ ap has_import_meta list)

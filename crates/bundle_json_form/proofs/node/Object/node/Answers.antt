@@ -6,5 +6,5 @@ use Rattle.bundle_json_form.proofs.node.Object.node.Goals as goal
 pub returns-clause-refused : goal.returns-clause-refused
 returns-clause-refused c =
     IfErr-weaker c.filled.result _ _
-    (λ _ none. not_filled _ _ _ _ c.in_ok-text.ensures.read c.in_ok-kind.ensures.named none)
+    (λ _ none. not_filled _ _ _ _ c.requires c.in_ok-kind.ensures.named none)
     c.filled.ensures.refused

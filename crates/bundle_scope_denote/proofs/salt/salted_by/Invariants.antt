@@ -3,7 +3,7 @@ use Rattle.std.proofs.Common.{map, take}
 use Rattle.sha2.specs.Hashers.{Holds512}
 use Rattle.bundle_tree_piece.specs.Item.{item_of}
 use Rattle.bundle_scope_denote.specs.Salted.{message_of}
-use Rattle.bundle_scope_denote.proofs.salt.salt_of.Given as goal
+use Rattle.bundle_scope_denote.proofs.salt.salted_by.Given as goal
 
 abbrev pub invariant-loop-piece : goal.invariant-loop-piece
 invariant-loop-piece l = Holds512 l.digest (message_of (map item_of (take l.piece-index l.pieces)))

@@ -6,7 +6,7 @@ use Rattle.sha2.specs.Hashers.{Holds512}
 use Rattle.bundle_tree_piece.specs.Item.{item_of}
 use Rattle.bundle_tree_piece.specs.declared.piece.Piece.{Piece}
 use Rattle.bundle_scope_denote.specs.Salted.{message_of, salted, told}
-use Rattle.bundle_scope_denote.proofs.salt.salt_of.Goals as goal
+use Rattle.bundle_scope_denote.proofs.salt.salted_by.Goals as goal
 
 -- the message of one element more
 message-more : (pieces : List Piece) (i : ℕ) (piece : Piece) → i < length pieces → piece ≡ get_or pieces i piece →

@@ -1,0 +1,28 @@
+-- What is asked for is told by the calls that are linked, and the fault with them.
+use Rattle.std.proofs.Common.{◌++◌, ap, sym, ◌∙◌, map, string_bytes}
+use Rattle.bundle_tree_piece.specs.Item.{item_of}
+use Rattle.bundle_rules.specs.Bound.{is_free}
+use Rattle.bundle_rules.specs.Nodes.{each_once, has_text}
+use Rattle.bundle_link_tables.specs.declared.table.RequireCall.{RequireCall}
+use Rattle.bundle_link_tables.specs.Sources.{unexternal}
+use Rattle.bundle_link_tables.proofs.ExportLemmas.{told_all}
+use Rattle.bundle_link_tables.proofs.RequestLemmas.{requested}
+use Rattle.bundle_link_tables.proofs.requests.requests_in.Goals as goal
+
+pub returns-in-Ok-clause-requests : goal.returns-in-Ok-clause-requests
+returns-in-Ok-clause-requests c = λ settings same said.
+    let texts = map string_bytes c.args.external.now in
+    let tree = map item_of c.args.pieces.now in
+    let sources = c.in_ok-entries.entries.given.sources.items in
+    let calls = rw c.in-Ok.is at c.in_ok-judged.ensures.calls in
+    c.in_ok-requests-in-Ok.ensures
+    ∙ ap (λ l. each_once (unexternal sources ++ map (λ (call : RequireCall). call.specifier.now) l)) c.deref.ensures.value
+    ∙ requested settings (is_free tree) tree texts sources c.in-Ok.calls.items said
+    (c.in_ok-entries.ensures.sources ∙ told_all c.in_ok-external.external texts _ c.in_ok-external.ensures)
+    (calls settings same (λ x. c.in_ok-external.ensures x ∙ ap (has_text x) (sym said)))
+
+pub returns-in-Ok-clause-judged : goal.returns-in-Ok-clause-judged
+returns-in-Ok-clause-judged c = λ file. rw c.in-Ok.is at (c.in_ok-judged.ensures.judged file)
+
+pub returns-clause-judged : goal.returns-clause-judged
+returns-clause-judged c = λ file. rw c.in-Err.is at (c.in_ok-judged.ensures.judged file)
