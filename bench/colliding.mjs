@@ -33,17 +33,17 @@ export const hashOf = (text, seed = seeds.text) =>
   folded(wordOf(text.slice(16, 24)) ^ stateOf(text, seed), wordOf(text.slice(24)) ^ MULTIPLIER);
 
 /** So many texts of 32 bytes with one hash, and as many that differ as these do with hashes of their own. */
-export function colliding(count, { seed = seeds.text, end = '' } = {}) {
-  const [first, third] = beginning(seed);
+export function colliding(count, { seed = seeds.text, start = 'n', end = '' } = {}) {
+  const [first, third] = beginning(seed, start);
   const ends = Array.from({ length: count }, (_, at) => letters(at, 8 - end.length) + end);
   const other = third.split('').reverse().join('');
   return { alike: ends.map((last) => first + third + last), apart: ends.map((last) => first + other + last) };
 }
 
-// A beginning of 16 bytes, none of them a digit at the start, and the state that it leads to, which is of letters too.
-function beginning(seed) {
+// A beginning of 16 bytes that starts so, and the state that it leads to, which is of letters too.
+function beginning(seed, start) {
   for (let at = 0; ; at++) {
-    const first = `n${letters(at, 15)}`;
+    const first = `${start}${letters(at, 16 - start.length)}`;
     const third = textOf(stateOf(first, seed));
     if ([...third].every((letter) => LETTERS.includes(letter))) return [first, third];
   }

@@ -82,7 +82,7 @@ function over_a_border(count, ahead) {
 // Names that strangers choose, for the two that are compared: all with one hash, or with hashes of their own.
 const chosen_names = {};
 function names(kind, count) {
-  const which = kind === 'file' ? { seed: seeds.file, end: '.js' } : {};
+  const which = { file: { seed: seeds.file, end: '.js' }, specifier: { start: './' }, text: {} }[kind];
   const most = Math.max(count, chosen_names[kind]?.alike.length ?? 0);
   if (chosen_names[kind]?.alike.length !== most) chosen_names[kind] = colliding(most, which);
   return { alike: chosen_names[kind].alike.slice(0, count), apart: chosen_names[kind].apart.slice(0, count) };
@@ -123,6 +123,15 @@ const of_names = {
     },
     entries: [['main', 'main.js']],
   }),
+  // Specifiers of files, whose names have hashes of their own.
+  requests: (list) => ({
+    config: {},
+    files: {
+      ...Object.fromEntries(list.map((name, at) => [`${name.slice(2)}.js`, [exported(constant(`x${at}`, at))]])),
+      'main.js': list.flatMap((name, at) => [imported(name, [[`x${at}`, `x${at}`]]), run(call('use', `x${at}`))]),
+    },
+    entries: [['main', 'main.js']],
+  }),
 };
 // So many entries that import all of so many files, each of which has import.meta.
 const with_metas = (entries) => (count) => {
@@ -141,7 +150,7 @@ const with_metas = (entries) => (count) => {
   };
 };
 
-const of_kind = (kind) => (kind === 'files' ? 'file' : 'text');
+const of_kind = (kind) => ({ files: 'file', requests: 'specifier' })[kind] ?? 'text';
 const with_names = (kind, which) => (count) => of_names[kind](names(of_kind(kind), count)[which]);
 
 /** The shapes: from which size on each is timed, what it is, and how it is made. */

@@ -3,7 +3,6 @@ use Rattle.std.specs.Prelude.{◌≡◌, ℕ, ◌<◌, List, [], Some, Contains,
 use Rattle.std.specs.declared.alloc.Global.{Global}
 use Rattle.std.specs.declared.string.String.{String}
 use Rattle.std.specs.declared.vec.Vec.{Vec}
-use Rattle.indexmap.specs.IndexMap.{IndexMap}
 use Rattle.bundle_tree_names.specs.FileName.{name_of}
 use Rattle.bundle_tree_names.specs.declared.file_name.FileName.{FileName}
 use Rattle.bundle_rules.specs.Judging.{requests_in}
@@ -19,8 +18,8 @@ abbrev pub number_of : FileName × ℕ → ℕ
 number_of file = file.1
 
 -- the numbers of files, by their places
-abbrev pub numbers_of : {S : Type 0} → IndexMap FileName ℕ S → List ℕ
-numbers_of files = map number_of files.entries
+abbrev pub numbers_of : List (FileName × ℕ) → List ℕ
+numbers_of files = map number_of files
 
 -- these are the requests of a module, in their order, and each leads where it leads in the program, to one of these modules
 pub record IsLed (p : Program) (numbers : List ℕ) (m : ℕ) (deps : Deps) : Type 0 where
@@ -30,12 +29,12 @@ pub record IsLed (p : Program) (numbers : List ℕ) (m : ℕ) (deps : Deps) : Ty
       (p.leads m (string_bytes dep.0) ≡ Some dep.1) × Contains numbers dep.1
 
 -- the files are those of the program under their numbers, which differ, and the requests of each lead where they lead in the program, to files that are there
-pub record AreFilesOf {S : Type 0} (p : Program) (files : IndexMap FileName ℕ S) (deps : List (Vec (String Global × ℕ) Global)) : Type 0 where
+pub record AreFilesOf (p : Program) (files : List (FileName × ℕ)) (deps : List (Vec (String Global × ℕ) Global)) : Type 0 where
   pub once : IsOnce (numbers_of files)
   pub named : (place : ℕ) (e : FileName × ℕ) →
-      slice_get files.entries place ≡ Some e →
+      slice_get files place ≡ Some e →
       file_of p e.1 ≡ Some (name_of e.0)
-  pub long : length deps ≡ length files.entries
+  pub long : length deps ≡ length files
   pub led : (place m : ℕ) (its : Vec (String Global × ℕ) Global) →
       slice_get (numbers_of files) place ≡ Some m →
       slice_get deps place ≡ Some its →

@@ -10,14 +10,14 @@ ghost use Rattle.bundle_link_reached.specs.Files.{AreFilesOf, AreNotedOf, IsGrap
 use bundle_order_graph::graph::ModuleGraph;
 use bundle_tree_names::ModuleId;
 use bundle_tree_names::file_name::FileName;
-use indexmap::{IndexMap, IndexSet};
+use indexmap::IndexSet;
 use std::alloc::{AllocError, Global};
 
 /// Files with their numbers; the requests of each, with the numbers of the files to which they lead; the numbers in the
 /// order of the files; and which module requests which.
 #[derive(Drop)]
 pub struct Files<'x> {
-    pub files: &'x IndexMap<FileName, ModuleId>,
+    pub files: &'x [(FileName, ModuleId)],
     pub deps: &'x [Vec<(String, ModuleId)>],
     pub ids: IndexSet<ModuleId>,
     pub graph: ModuleGraph,
@@ -27,7 +27,7 @@ impl<'x> Files<'x> {
     /// Notes which module requests which. The caller sees to it that the numbers of the files differ.
     pub fn new(
         alloc: Global,
-        files: &'x IndexMap<FileName, ModuleId>,
+        files: &'x [(FileName, ModuleId)],
         deps: &'x [Vec<(String, ModuleId)>],
     ) -> Result<Files<'x>, AllocError>
         ensures noted { IfOk result (λ made.
@@ -46,17 +46,12 @@ impl<'x> Files<'x> {
 }
 
 // The numbers of files, in the order of the files.
-fn ids_of(
-    alloc: Global,
-    files: &IndexMap<FileName, ModuleId>,
-) -> Result<IndexSet<ModuleId>, AllocError>
+fn ids_of(alloc: Global, files: &[(FileName, ModuleId)]) -> Result<IndexSet<ModuleId>, AllocError>
     ensures { IfOk result (λ ids. ids.keys ≡ numbers_once (numbers_of files.now)) }
 {
     let mut ids = IndexSet::new(alloc);
-    for place in 0..files.len() {
-        if let Some((_, id)) = files.get_index(place) {
-            ids.insert(*id)?;
-        }
+    for (_, id) in files {
+        ids.insert(*id)?;
     }
     Ok(ids)
 }

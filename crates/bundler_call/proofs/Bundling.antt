@@ -139,7 +139,7 @@ module _ (kept : Kept) (list : LoadList) (numbered : AreNumbered kept list) wher
   each_on (entry ∷ entries) [] there all = absurd all
   each_on (entry ∷ entries) (id ∷ ids) there all =
       let first : Contains (files_of (entry ∷ entries)) (name_of entry.1) = Contains-append_left (name_of entry.1 ∷ []) (files_of entries) (name_of entry.1) (Contains-push [] (name_of entry.1)) in (
-        (all.0, number_listed kept list.files.entries (name_of entry.1) id numbered (there (name_of entry.1) first) all.0),
+        (all.0, number_listed kept list.files (name_of entry.1) id numbered (there (name_of entry.1) first) all.0),
         each_on entries ids (λ file its. there file (Contains-append_right (name_of entry.1 ∷ []) (files_of entries) file its)) all.1,
       )
 

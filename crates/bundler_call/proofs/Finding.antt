@@ -60,6 +60,10 @@ module _ (test : Name → Bool) (trees : List (Name × ModuleData)) where
   pub none_if : lookup test trees ≡ None → lookup test (map (λ (e : Name × ModuleData). (e.0, kept_as e.1)) trees) ≡ None
   none_if none = lookup-read kept_as test trees ∙ read_none kept_as (lookup test trees) none
 
+  -- what is kept of a file was handed in
+  pub handed : IsSome (lookup test (map (λ (e : Name × ModuleData). (e.0, kept_as e.1)) trees)) → IsSome (lookup test trees)
+  handed some = sym (same_some kept_as (lookup test trees)) ∙ sym (ap is_some (lookup-read kept_as test trees)) ∙ some
+
   pub kept_if : (result : Option (Bor ModuleData)) (is : Bool) → option_map (λ (loaded : Bor ModuleData). loaded.now) result ≡ lookup test trees → is ≡ is_some result → is ≡ true → IsSome (lookup test (map (λ (e : Name × ModuleData). (e.0, kept_as e.1)) trees))
   kept_if result is value some there =
       ap is_some (lookup-read kept_as test trees) ∙ same_some kept_as (lookup test trees) ∙ ap is_some (sym value) ∙ same_some (λ (loaded : Bor ModuleData). loaded.now) result ∙ sym some ∙ there

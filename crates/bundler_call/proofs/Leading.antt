@@ -1,28 +1,29 @@
 -- The numbers of the files on a load list, and where the requests of each lead, stay right as the list and what is kept grow.
-use Rattle.std.proofs.Common.{append_assoc, get_or, false, true≢false, append-nil, ◌≤◌, ◌≡◌, ℕ, ◌<◌, ◌+◌, zero, suc, Bool, true, false, if◌then◌else◌, List, [], ◌∷◌, ◌++◌, length, map, slice_get, Option, Some, None, Contains, ◌⊎◌, inl, inr, refl, sym, ap, subst, ◌∙◌, arith}
-use Rattle.std.specs.List.{IsDistinct as AreApart}
+use Rattle.std.proofs.Common.{append_assoc, get_or, false, true≢false, append-nil, ◌≤◌, ◌≡◌, ℕ, ◌<◌, ◌+◌, zero, suc, true, false, List, [], ◌∷◌, ◌++◌, length, map, slice_get, nat_eq, Option, Some, None, Contains, ◌⊎◌, inl, inr, refl, sym, ap, subst, ◌∙◌, arith}
+use Rattle.std.specs.Cmp.{nat_eq_equiv}
+use Rattle.std.specs.List.{list_any}
 use Rattle.std.specs.Option.{option_map}
 use Rattle.std.specs.String.{string_bytes}
 use Rattle.std.specs.declared.alloc.Global.{Global}
 use Rattle.std.specs.declared.string.String.{String}
 use Rattle.std.specs.declared.vec.Vec.{Vec}
-use Rattle.std.proofs.lemmas.Bool.{cases_order}
+use Rattle.std.proofs.lemmas.Bool.{eqb-true}
 use Rattle.std.proofs.lemmas.List.{length_push, map_push}
 use Rattle.std.proofs.lemmas.List.Elements.{Contains-append_left, Contains-get_or, Contains-push, Contains-push_cases}
-use Rattle.std.proofs.lemmas.Map.Keys.{apart_from_distinct}
+use Rattle.std.proofs.lemmas.List.Quantifiers.{position-Some}
+use Rattle.std.proofs.lemmas.Map.Views.{Contains-from_any, list_any-from_Contains}
 use Rattle.std.proofs.lemmas.Option.{get_or_from_slice_get, same_Some, slice_get-get_or, slice_get-map, slice_get_within}
-use Rattle.indexmap.specs.IndexMap.{insert_entry}
 use Rattle.bundle_tree_names.specs.FileName.{Name, name_of, name_eq}
 use Rattle.bundle_tree_names.specs.FileNameLaws.{name_eq-Decides}
 use Rattle.bundle_tree_names.specs.ModuleIdGenerator.{IsDistinct}
 use Rattle.bundle_tree_names.specs.declared.file_name.FileName.{FileName}
-use Rattle.bundle_tree_names.proofs.Numbering.{file_eq}
 use Rattle.bundle_rules.specs.Entries.{Settings}
 use Rattle.bundle_rules.specs.Faults.{IsFaultless}
 use Rattle.bundle_rules.specs.Judging.{requests_in}
 use Rattle.bundle_rules.specs.Kept.{Kept, Stays, kept_file, kept_module, number_in}
 use Rattle.bundle_rules.specs.Nodes.{Text}
 use Rattle.bundle_rules.specs.Program.{Loaded}
+use Rattle.bundle_link_index.specs.Numbered.{IsOnce}
 use Rattle.bundler_kept.specs.Kept.{asked_of}
 use Rattle.bundler_kept.specs.declared.kept.Request.{Request}
 use Rattle.bundler_call.specs.Kept.{IsKept}
@@ -79,21 +80,12 @@ pub still_all_numbered : (c d : Kept) → Stays c d → (es : List (FileName × 
 still_all_numbered c d stays es numbered = λ place e at. still_numbered c d stays (name_of e.0) e.1 (numbered place e at)
 
 -- one more file with its number
-inserted_numbered : (kept : Kept) (es : List (FileName × ℕ)) (k : FileName) (v : ℕ) → number_in kept (name_of k) ≡ Some v → AreNumberedIn kept es → AreNumberedIn kept (insert_entry file_eq es k v)
-inserted_numbered kept [] k v its numbered zero e at = subst (λ (x : FileName × ℕ). number_in kept (name_of x.0) ≡ Some x.1) (same_Some (k, v) e at) its
-inserted_numbered kept [] k v its numbered (suc place) e at = cc
-inserted_numbered kept (x ∷ es) k v its numbered place e at = by (file_eq k x.0) refl (inserted_numbered kept es k v its (λ place. numbered (suc place))) place e at
-  where
-    by : (b : Bool) → file_eq k x.0 ≡ b → AreNumberedIn kept (insert_entry file_eq es k v) → AreNumberedIn kept (if b then (x.0, v) ∷ es else x ∷ insert_entry file_eq es k v)
-    by true test rest zero e at =
-        subst (λ (y : FileName × ℕ). number_in kept (name_of y.0) ≡ Some y.1) (same_Some (x.0, v) e at) (subst (λ (n : Name). number_in kept n ≡ Some v) ((name_eq-Decides (name_of k) (name_of x.0)).0 test) its)
-    by true test rest (suc place) e at = numbered (suc place) e at
-    by false test rest zero e at = numbered zero e at
-    by false test rest (suc place) e at = rest place e at
-
-pub placed_numbered : (kept : Kept) (es new : List (FileName × ℕ)) (k : FileName) (v : ℕ) (file : Name) → new ≡ insert_entry file_eq es k v → name_of k ≡ file → number_in kept file ≡ Some v → AreNumberedIn kept es → AreNumberedIn kept new
+pub placed_numbered : (kept : Kept) (es new : List (FileName × ℕ)) (k : FileName) (v : ℕ) (file : Name) → new ≡ es ++ (k, v) ∷ [] → name_of k ≡ file → number_in kept file ≡ Some v → AreNumberedIn kept es → AreNumberedIn kept new
 placed_numbered kept es new k v file is named its numbered =
-    subst (AreNumberedIn kept) (sym is) (inserted_numbered kept es k v (subst (λ (n : Name). number_in kept n ≡ Some v) (sym named) its) numbered)
+    subst (AreNumberedIn kept) (sym is) (λ place e at. elim (one_more_at es (k, v) place e at) [
+      | inl old ↦ numbered place e old
+      | inr last ↦ subst (λ (x : FileName × ℕ). number_in kept (name_of x.0) ≡ Some x.1) last.1 (ap (number_in kept) named ∙ its)
+    ])
 
 -- a file on the list has its number there
 pub number_listed : (kept : Kept) (es : List (FileName × ℕ)) (file : Name) (n : ℕ) → AreNumberedIn kept es → Contains (names_of_entries es) file → number_in kept file ≡ Some n → Contains (ids_of_entries es) n
@@ -101,6 +93,29 @@ number_listed kept es file n numbered there is =
     let its = item_of (λ (e : FileName × ℕ). name_of e.0) es file there in
     subst (Contains (ids_of_entries es)) (same_Some its.1.1 n (sym (numbered its.0 its.1 its.2) ∙ ap (number_in kept) its.3 ∙ is))
     (held_at (ids_of_entries es) its.0 its.1.1 (read_at (λ (e : FileName × ℕ). e.1) es its.0 its.1 its.2))
+
+-- files of one number are one
+same_file : (kept : Kept) (a b : Name) (n : ℕ) → number_in kept a ≡ Some n → number_in kept b ≡ Some n → a ≡ b
+same_file kept a b n at_a at_b =
+    let is_a = position-Some (name_eq a) kept.names n a at_a in
+    let is_b = position-Some (name_eq b) kept.names n a at_b in
+    (name_eq-Decides a (get_or kept.names n a)).0 is_a.1 ∙ sym ((name_eq-Decides b (get_or kept.names n a)).0 is_b.1)
+
+-- a file whose number stands on the list stands there itself
+pub listed : (kept : Kept) (es : List (FileName × ℕ)) (file : Name) (n : ℕ) → AreNumberedIn kept es → number_in kept file ≡ Some n → list_any (nat_eq n) (ids_of_entries es) ≡ true → Contains (names_of_entries es) file
+listed kept es file n numbered is any =
+    let its = item_of (λ (e : FileName × ℕ). e.1) es n (Contains-from_any eqb-true n (ids_of_entries es) any) in
+    let same : name_of its.1.0 ≡ file = same_file kept (name_of its.1.0) file n (numbered its.0 its.1 its.2 ∙ ap Some its.3) is in
+    subst (Contains (names_of_entries es)) same (held_at (names_of_entries es) its.0 (name_of its.1.0) (read_at (λ (e : FileName × ℕ). name_of e.0) es its.0 its.1 its.2))
+
+-- and one whose number does not goes last
+pub placed_last : (kept : Kept) (es new : List (FileName × ℕ)) (k : FileName) (n : ℕ) (file : Name) → AreNumberedIn kept es → number_in kept file ≡ Some n → list_any (nat_eq n) (ids_of_entries es) ≡ false → name_of k ≡ file
+    → new ≡ es ++ (k, n) ∷ [] → IsPlaced (names_of_entries es) file (names_of_entries new)
+placed_last kept es new k n file numbered is none named more =
+    inr (
+      λ there. true≢false (sym (list_any-from_Contains nat_eq_equiv n (ids_of_entries es) (number_listed kept es file n numbered there is)) ∙ none),
+      ap names_of_entries more ∙ map_push (λ (e : FileName × ℕ). name_of e.0) es (k, n) ∙ ap (λ f. names_of_entries es ++ f ∷ []) named,
+    )
 
 -- what grows: what is kept, and a list, and both before and after its files have their numbers
 pub record Goes (c d : Kept) (es fs : List (FileName × ℕ)) : Type 0 where
@@ -117,27 +132,14 @@ numbers_stay c d es fs grows n there =
     subst (λ (names : List Name). Contains names (name_of its.1.0)) (sym grows.begins.1) (Contains-append_left (names_of_entries es) grows.begins.0 (name_of its.1.0) (held_at (names_of_entries es) its.0 (name_of its.1.0) (read_at (λ (e : FileName × ℕ). name_of e.0) es its.0 its.1 its.2))) in
     number_listed d fs (name_of its.1.0) n grows.after listed (still_numbered c d grows.stays (name_of its.1.0) n (grows.before its.0 its.1 its.2 ∙ ap Some its.3))
 
--- keys that are equal stand at one place
-not_before : (es : List (FileName × ℕ)) → AreApart file_eq (map (λ (e : FileName × ℕ). e.0) es) → (i j : ℕ) (name : Name) → slice_get (names_of_entries es) i ≡ Some name → slice_get (names_of_entries es) j ≡ Some name → i < j → ⊥
-not_before es apart i j name at_i at_j before =
-    let a = item_at (λ (e : FileName × ℕ). name_of e.0) es i name at_i in
-    let b = item_at (λ (e : FileName × ℕ). name_of e.0) es j name at_j in
-    let keys : List FileName = map (λ (e : FileName × ℕ). e.0) es in
-    let key_a : get_or keys i a.0.0 ≡ a.0.0 = get_or_from_slice_get keys i a.0.0 a.0.0 (read_at (λ (e : FileName × ℕ). e.0) es i a.0 a.1) in
-    let key_b : get_or keys j a.0.0 ≡ b.0.0 = get_or_from_slice_get keys j b.0.0 a.0.0 (read_at (λ (e : FileName × ℕ). e.0) es j b.0 b.1) in
-    let inside : j < length keys = slice_get_within keys j b.0.0 (read_at (λ (e : FileName × ℕ). e.0) es j b.0 b.1) in
-    let differ : file_eq (get_or keys i a.0.0) (get_or keys j a.0.0) ≡ false = apart_from_distinct file_eq keys i j a.0.0 apart before inside in
-    let no : name_eq (name_of a.0.0) (name_of b.0.0) ≡ false = ap (λ k. file_eq k b.0.0) (sym key_a) ∙ ap (file_eq (get_or keys i a.0.0)) (sym key_b) ∙ differ in
-    true≢false (sym ((name_eq-Decides (name_of a.0.0) (name_of b.0.0)).1 (a.2 ∙ sym b.2)) ∙ no)
-
--- the files of a map stand in it once
-pub once_listed : (es : List (FileName × ℕ)) → AreApart file_eq (map (λ (e : FileName × ℕ). e.0) es) → IsDistinct (names_of_entries es)
-once_listed es apart = record {
-  one_place = λ i j name at_i at_j. elim (cases_order i j) [
-    | inl is ↦ is
-    | inr (inl before) ↦ absurd (not_before es apart i j name at_i at_j before)
-    | inr (inr after) ↦ absurd (not_before es apart j i name at_j at_i after)
-  ];
+-- files whose numbers differ stand on a list once
+pub once_listed : (kept : Kept) (es : List (FileName × ℕ)) → IsOnce (ids_of_entries es) → AreNumberedIn kept es → IsDistinct (names_of_entries es)
+once_listed kept es once numbered = record {
+  one_place = λ i j name at_i at_j.
+      let a = item_at (λ (e : FileName × ℕ). name_of e.0) es i name at_i in
+      let b = item_at (λ (e : FileName × ℕ). name_of e.0) es j name at_j in
+      let same : b.0.1 ≡ a.0.1 = same_Some b.0.1 a.0.1 (sym (numbered j b.0 b.1) ∙ ap (number_in kept) (b.2 ∙ sym a.2) ∙ numbered i a.0 a.1) in
+      once i j a.0.1 (read_at (λ (e : FileName × ℕ). e.1) es i a.0 a.1) (read_at (λ (e : FileName × ℕ). e.1) es j b.0 b.1 ∙ ap Some same);
 }
 
 -- Requests.

@@ -1,15 +1,10 @@
 -- What stands on a load list was met and is kept, and stays so.
-use Rattle.std.proofs.Common.{◌≡◌, ℕ, ◌+◌, ◌<◌, ◌≤◌, ◌^◌, suc, zero, Bool, true, false, List, [], ◌∷◌, ◌++◌, length, map, slice_get, Some, None, refl, sym, ap, subst, ◌∙◌, ◌⊎◌, inl, inr, arith, if◌then◌else◌, append_assoc, Contains, position, true≢false}
+use Rattle.std.proofs.Common.{◌≡◌, ℕ, ◌+◌, ◌<◌, ◌≤◌, ◌^◌, suc, zero, List, [], ◌∷◌, ◌++◌, length, map, slice_get, Some, None, refl, sym, ap, subst, ◌∙◌, ◌⊎◌, inl, inr, arith, append_assoc}
 use Rattle.std.proofs.lemmas.List.{append-nil}
-use Rattle.std.proofs.lemmas.List.Elements.{Contains-append_cases, Contains-append_left, Contains-append_right, Contains-push, Contains-push_cases}
 use Rattle.std.proofs.lemmas.Option.{slice_get_within, same_Some}
-use Rattle.indexmap.specs.IndexMap.{insert_entry}
 use Rattle.bundle_tree_names.specs.FileName.{Name, name_of}
 use Rattle.bundle_tree_names.specs.declared.file_name.FileName.{FileName}
-use Rattle.bundle_tree_names.proofs.Names.{Contains-slice_get, slice_get-push_cases}
-use Rattle.bundle_tree_names.proofs.Numbering.{file_eq, slice_get-position}
-use Rattle.bundle_tree_names.specs.FileNameLaws.{name_eq-Decides}
-use Rattle.bundle_tree_names.specs.ModuleIdGenerator.{names_of}
+use Rattle.bundle_tree_names.proofs.Names.{slice_get-push_cases}
 use Rattle.bundle_rules.specs.Kept.{Kept, Stays}
 use Rattle.bundler_call.specs.Kept.{IsMet}
 use Rattle.bundler_call.specs.Loading.{AreMet, AreSound, Begins, IsPlaced, IsSound}
@@ -35,45 +30,6 @@ begins_placed old new file (inr more) = (file ∷ [], more.1)
 -- the files of entries of a map
 abbrev pub names_of_entries : List (FileName × ℕ) → List Name
 names_of_entries entries = map (λ (e : FileName × ℕ). name_of e.0) entries
-
--- a list of one
-in_one : (x y : Name) → Contains (x ∷ []) y → x ≡ y
-in_one x y there = elim (Contains-push_cases [] x y there) [ inl none ↦ absurd (in_none y none) | inr is ↦ is ]
-  where
-    in_none : (y : Name) → Contains [] y → ⊥
-    in_none y (k, less, is) = omega (arith, less)
-
--- a file that is inserted goes last, unless it was there
-inserted : (es : List (FileName × ℕ)) (k : FileName) (v : ℕ) → IsPlaced (names_of_entries es) (name_of k) (names_of_entries (insert_entry file_eq es k v))
-inserted [] k v = inr (in_none (name_of k), refl)
-  where
-    in_none : (y : Name) → Contains [] y → ⊥
-    in_none y (k, less, is) = omega (arith, less)
-inserted (e ∷ es) k v = by (file_eq k e.0) refl (inserted es k v)
-  where
-    by : (b : Bool) → file_eq k e.0 ≡ b → IsPlaced (names_of_entries es) (name_of k) (names_of_entries (insert_entry file_eq es k v)) → IsPlaced (names_of_entries (e ∷ es)) (name_of k) (names_of_entries (if b then (e.0, v) ∷ es else e ∷ insert_entry file_eq es k v))
-    by true test rest = inl (Contains-append_left (name_of e.0 ∷ []) (names_of_entries es) (name_of k) (subst (Contains (name_of e.0 ∷ [])) (sym ((name_eq-Decides (name_of k) (name_of e.0)).0 test)) (Contains-push [] (name_of e.0))), refl)
-    by false test (inl same) = inl (Contains-append_right (name_of e.0 ∷ []) (names_of_entries es) (name_of k) same.0, ap (λ (xs : List Name). name_of e.0 ∷ xs) same.1)
-    by false test (inr more) = inr (
-      λ there. elim (Contains-append_cases (name_of e.0 ∷ []) (names_of_entries es) (name_of k) there) [
-        | inl first ↦ true≢false (sym ((name_eq-Decides (name_of k) (name_of e.0)).1 (sym (in_one _ _ first))) ∙ test)
-        | inr later ↦ more.0 later
-      ],
-      ap (λ (xs : List Name). name_of e.0 ∷ xs) more.1,
-    )
-
-pub placed : (es new : List (FileName × ℕ)) (k : FileName) (v : ℕ) (file : Name) → new ≡ insert_entry file_eq es k v → name_of k ≡ file → IsPlaced (names_of_entries es) file (names_of_entries new)
-placed es new k v file is named =
-    subst (λ (f : Name). IsPlaced (names_of_entries es) f (names_of_entries new)) named (elim (inserted es k v) [ inl same ↦ inl (same.0, ap names_of_entries is ∙ same.1) | inr more ↦ inr (more.0, ap names_of_entries is ∙ more.1) ])
-
--- a file that has a place stands on the list
-names_of_keys : (es : List (FileName × ℕ)) → names_of (map (λ (e : FileName × ℕ). e.0) es) ≡ names_of_entries es
-names_of_keys [] = refl
-names_of_keys (e ∷ es) = ap (λ (xs : List Name). name_of e.0 ∷ xs) (names_of_keys es)
-
-pub listed : (es : List (FileName × ℕ)) (file : FileName) (i : ℕ) → position (file_eq file) (map (λ (e : FileName × ℕ). e.0) es) ≡ Some i → Contains (names_of_entries es) (name_of file)
-listed es file i at =
-    subst (λ (names : List Name). Contains names (name_of file)) (names_of_keys es) (Contains-slice_get _ i (name_of file) (slice_get-position (map (λ (e : FileName × ℕ). e.0) es) file i at))
 
 -- a longer list has the same at the places of the shorter
 pub front_at : {X : Type 0} (xs more : List X) (i : ℕ) → i < length xs → slice_get (xs ++ more) i ≡ slice_get xs i

@@ -47,14 +47,14 @@ module _ (settings : Settings) (kept : Kept) (entry : ℕ) where
 
   module _ (list : LoadList) (distinct : IsDistinct (files_on list)) (numbered : AreNumbered kept list) where
     -- the entry with the number at a place
-    entry_at : (place m : ℕ) → slice_get (ids_on list) place ≡ Some m → (e : FileName × ℕ) × (slice_get list.files.entries place ≡ Some e) × (e.1 ≡ m)
-    entry_at place m at = item_at (λ (e : FileName × ℕ). e.1) list.files.entries place m at
+    entry_at : (place m : ℕ) → slice_get (ids_on list) place ≡ Some m → (e : FileName × ℕ) × (slice_get list.files place ≡ Some e) × (e.1 ≡ m)
+    entry_at place m at = item_at (λ (e : FileName × ℕ). e.1) list.files place m at
 
     -- the file with the number at a place
     place_named : (place m : ℕ) → slice_get (ids_on list) place ≡ Some m → (file : Name) × (slice_get (files_on list) place ≡ Some file) × (slice_get kept.names m ≡ Some file)
     place_named place m at =
         let its = entry_at place m at in
-        (name_of its.0.0, read_at (λ (e : FileName × ℕ). name_of e.0) list.files.entries place its.0 its.1, file_numbered kept (name_of its.0.0) m (numbered place its.0 its.1 ∙ ap Some its.2))
+        (name_of its.0.0, read_at (λ (e : FileName × ℕ). name_of e.0) list.files place its.0 its.1, file_numbered kept (name_of its.0.0) m (numbered place its.0 its.1 ∙ ap Some its.2))
 
     -- numbers stand once
     once : IsOnce (ids_on list)
@@ -67,6 +67,6 @@ module _ (settings : Settings) (kept : Kept) (entry : ℕ) where
     are_files asked long = record {
       once = once;
       named = λ place e at. file_numbered kept (name_of e.0) e.1 (numbered place e at);
-      long = long ∙ length-map list.files.entries (λ (e : FileName × ℕ). name_of e.0);
+      long = long ∙ length-map list.files (λ (e : FileName × ℕ). name_of e.0);
       led = λ place m its at there. (let file = place_named place m at in led (ids_on list) file.0 m its.items file.2 (asked place file.0 its file.1 there));
     }

@@ -8,7 +8,6 @@ use Rattle.std.specs.declared.string.String.{String}
 use Rattle.std.specs.declared.vec.Vec.{Vec}
 use Rattle.std.proofs.lemmas.List.Quantifiers.{position-Some}
 use Rattle.std.proofs.lemmas.Option.{same_Some}
-use Rattle.indexmap.specs.IndexMap.{IndexMap}
 use Rattle.bundle_tree_names.specs.FileName.{Name, name_of, name_eq}
 use Rattle.bundle_tree_names.specs.declared.file_name.FileName.{FileName}
 use Rattle.bundle_rules.specs.Entries.{Settings}
@@ -78,7 +77,7 @@ module _ (kept : Kept) (settings : Settings) where
   are_sources es sources are entry = record { long = as_many es sources are; each = λ place m source at there. each_read es sources are entry place m source at there }
 
 -- what was read of a list is the program of each entry
-pub read_of : {E : Type 0} (result : Result Read E) (settings : Settings) (kept : Kept) (list : LoadList) (files : Bor (IndexMap FileName ℕ _)) (deps : List (Vec (String Global × ℕ) Global)) (sources : List Source)
+pub read_of : {E : Type 0} (result : Result Read E) (settings : Settings) (kept : Kept) (list : LoadList) (files : Bor (List (FileName × ℕ))) (deps : List (Vec (String Global × ℕ) Global)) (sources : List Source)
     → files.now ≡ list.files → deps ≡ list.deps.items → ((entry : ℕ) → AreNumbered kept list → AreSourcesOf (program_of kept settings entry) (ids_on list) sources)
     → IfOk result (λ made. (p : Program) → AreFilesOf p files.now deps → AreSourcesOf p (numbers_of files.now) sources → IsProgramOf p made) → IfOk result (λ made. made.files.files ≡ files)
     → IfOk result (λ made. IsLoaded settings kept list → IsReadOf settings kept list made)
@@ -87,12 +86,12 @@ read_of (Ok made) settings kept list files deps sources same noted read program 
     let each : (entry : ℕ) → IsProgramOf (program_of kept settings entry) made = λ entry. program (program_of kept settings entry)
     (subst (λ x. AreFilesOf (program_of kept settings entry) x deps) (sym same) (subst (λ x. AreFilesOf (program_of kept settings entry) list.files x) (sym noted) (are_files settings kept entry list loaded.once loaded.numbered loaded.asked loaded.long)))
     (subst (λ x. AreSourcesOf (program_of kept settings entry) (numbers_of x) sources) (sym same) (read entry loaded.numbered)) in
-    record { loaded = loaded; program = each; ids = (each 0).files.ids ∙ ap (λ (b : Bor (IndexMap FileName ℕ _)). numbers_of b.now) its ∙ ap numbers_of same }
+    record { loaded = loaded; program = each; ids = (each 0).files.ids ∙ ap (λ (b : Bor (List (FileName × ℕ))). numbers_of b.now) its ∙ ap numbers_of same }
 
 -- a number on a list is one of those that were given
 number_below : (kept : Kept) (list : LoadList) → AreNumbered kept list → (m : ℕ) → Contains (ids_on list) m → m < length kept.names
 number_below kept list numbered m there =
-    let its = item_of (λ (e : FileName × ℕ). e.1) list.files.entries m there in
+    let its = item_of (λ (e : FileName × ℕ). e.1) list.files m there in
     (position-Some (name_eq (name_of its.1.0)) kept.names m (name_of its.1.0) (numbered its.0 its.1 its.2 ∙ ap Some its.3)).0
 
 -- a call whose files were read of a list is that of an entry on it

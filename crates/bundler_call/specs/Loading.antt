@@ -15,11 +15,11 @@ use Rattle.bundler_call.specs.declared.load.LoadList.{LoadList}
 
 -- the files on a load list, in their order
 abbrev pub files_on : LoadList → List Name
-files_on list = map (λ e. name_of e.0) list.files.entries
+files_on list = map (λ e. name_of e.0) list.files
 
 -- their numbers
 abbrev pub ids_on : LoadList → List ℕ
-ids_on list = map (λ e. e.1) list.files.entries
+ids_on list = map (λ e. e.1) list.files
 
 -- a file has gone last, unless it was there
 abbrev pub IsPlaced : List Name → Name → List Name → Type 0
@@ -43,7 +43,7 @@ AreSound kept files = (place : ℕ) (file : Name) → slice_get files place ≡ 
 
 -- the files on a load list have the numbers that are noted
 abbrev pub AreNumbered : Kept → LoadList → Type 0
-AreNumbered kept list = (place : ℕ) (e : FileName × ℕ) → slice_get list.files.entries place ≡ Some e → number_in kept (name_of e.0) ≡ Some e.1
+AreNumbered kept list = (place : ℕ) (e : FileName × ℕ) → slice_get list.files place ≡ Some e → number_in kept (name_of e.0) ≡ Some e.1
 
 -- a request of a file leads to the number of the file that is kept for it, which is one of these
 abbrev pub LeadsTo : Kept → List ℕ → Name → String Global × ℕ → Type 0

@@ -6,6 +6,7 @@ pub mod bundle;
 pub mod bundler;
 mod library;
 mod linked;
+mod listed;
 mod load;
 mod program;
 

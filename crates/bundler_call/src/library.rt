@@ -1,6 +1,6 @@
 //! The modules that a bundler knows, and the parties that it asks for those that it lacks.
 
-ghost use Rattle.std.specs.Prelude.{◌≡◌, ◌<◌, ◌++◌, ◌∷◌, [], false, Some, None, Err, IsOk, IsSome, IsTrue, IfOk, IfErr, IfSome, OnOk, OnErr, List};
+ghost use Rattle.std.specs.Prelude.{◌≡◌, ◌<◌, ◌++◌, ◌∷◌, [], false, Some, None, Err, Contains, IsOk, IsSome, IsTrue, IfOk, IfErr, IfSome, OnOk, OnErr, List};
 ghost use Rattle.std.specs.Map.{lookup};
 ghost use Rattle.std.specs.Option.{option_map};
 ghost use Rattle.std.specs.String.{string_bytes};
@@ -9,7 +9,7 @@ ghost use Rattle.bundle_rules.specs.Entries.{Settings};
 ghost use Rattle.bundle_rules.specs.Faults.{ResolveFails, fault_of};
 ghost use Rattle.bundle_rules.specs.Judging.{Loads, Numbers, Resolves};
 ghost use Rattle.bundle_rules.specs.Kept.{asked_eq, kept_file, kept_module, nothing_kept, number_in};
-ghost use Rattle.bundler_kept.specs.Kept.{asked_of, resolved_in, target_room, tree_room, trees_in};
+ghost use Rattle.bundler_kept.specs.Kept.{asked_of, names_in, resolved_in, tree_room, trees_in, HasRoomFor, LoadedAreMet};
 ghost use Rattle.bundler_call.specs.Kept.{kept_as, kept_of, settings_of, IsBounded, IsKept, IsMet, IsRequested, MayBeMet};
 ghost use Rattle.bundler_call.specs.Judged.{Ends, asked_by};
 ghost use Rattle.bundler_call.specs.Library.{Keeps, MovesOn};
@@ -142,6 +142,7 @@ impl<L: Load + Drop, R: Resolve + Drop> Library<L, R> {
             IsSome (kept_file (kept_of self.now.kept) (asked_of request.now)) }
         ensures none { result ≡ false →
             kept_file (kept_of self.now.kept) (asked_of request.now) ≡ None }
+        ensures met { LoadedAreMet self.now.kept }
     {
         self.kept.target(request).is_some()
     }
@@ -178,7 +179,7 @@ impl<L: Load + Drop, R: Resolve + Drop> Library<L, R> {
             file: request.file.clone()?,
             specifier: request.specifier.clone()?,
         };
-        reserve_target(&mut self.kept)?;
+        reserve_target(&mut self.kept, request)?;
         let resolved = self
             .resolver
             .resolve(alloc, &request.file, request.specifier.as_str());
@@ -199,17 +200,19 @@ fn reserve_tree(kept: &mut Kept<ModuleData>) -> Result<(), AllocError>
     ensures room { OnOk result (0 < tree_room kept.new) }
     ensures same { kept_of kept.new ≡ kept_of kept.old }
     ensures trees { trees_in kept.new ≡ trees_in kept.old }
+    ensures names { names_in kept.new ≡ names_in kept.old }
 {
     kept.reserve_tree()
 }
 
-// Makes room for one more request.
-fn reserve_target(kept: &mut Kept<ModuleData>) -> Result<(), AllocError>
-    ensures room { OnOk result (0 < target_room kept.new) }
+// Makes room for the file that a request leads to.
+fn reserve_target(kept: &mut Kept<ModuleData>, request: &Request) -> Result<(), AllocError>
+    requires { Contains (names_in kept.old) (name_of request.now.file) }
+    ensures room { OnOk result (HasRoomFor kept.new (asked_of request.now)) }
     ensures same { kept_of kept.new ≡ kept_of kept.old }
     ensures resolved { resolved_in kept.new ≡ resolved_in kept.old }
 {
-    kept.reserve_target()
+    kept.reserve_target(request)
 }
 
 // Keeps the tree of a file that has none, where its loader gave one. There is room for it.
@@ -219,6 +222,7 @@ fn keep_loaded(
     loaded: Result<ModuleData, LoadError>,
 ) -> Result<(), Error>
     requires room { 0 < tree_room kept.old }
+    requires met { Contains (names_in kept.old) (name_of file) }
     requires absent { lookup (name_eq (name_of file)) (trees_in kept.old) ≡ None }
     ensures given { IfOk loaded (λ tree.
         IsOk result
@@ -245,7 +249,7 @@ fn keep_resolved(
     request: Request,
     resolved: Result<FileName, ResolveError>,
 ) -> Result<(), Error>
-    requires room { 0 < target_room kept.old }
+    requires room { HasRoomFor kept.old (asked_of request) }
     requires absent { lookup (asked_eq (asked_of request)) (resolved_in kept.old) ≡ None }
     ensures given { IfOk resolved (λ file.
         IsOk result

@@ -16,6 +16,7 @@ ghost use Rattle.bundler_call.specs.Library.{Keeps, MovesOn};
 ghost use Rattle.bundler_call.specs.Loading.{files_on, ids_on, AllLead, AreAsked, AreMet, AreNumbered, AreSound, Begins, IsNoted, IsPlaced, IsSound, LeadsTo};
 
 use crate::library::Library;
+use crate::listed::Listed;
 use bundle_link::tables::requests_of;
 use bundle_tree::load::Load;
 use bundle_tree::resolve::Resolve;
@@ -24,14 +25,13 @@ use bundle_tree_names::config::Config;
 use bundle_tree_names::error::Error;
 use bundle_tree_names::file_name::FileName;
 use bundler_kept::Request;
-use indexmap::IndexMap;
 use std::alloc::{AllocError, Global};
 
 /// Files with their numbers, in the order in which they were met, and for each that was worked on its requests, in their
 /// order, each with the number of the file to which it leads.
 #[derive(Debug, Drop)]
 pub struct LoadList {
-    pub files: IndexMap<FileName, ModuleId>,
+    pub files: Listed,
     pub deps: Vec<Vec<(String, ModuleId)>>,
 }
 
@@ -42,13 +42,15 @@ impl LoadList {
         ensures deps { result.deps.items ≡ [] }
     {
         LoadList {
-            files: IndexMap::new(alloc),
+            files: Listed::new(alloc),
             deps: Vec::new(alloc),
         }
     }
 
     /// Puts a file with its number on the list, where it goes last unless it is there.
     pub(crate) fn place(&mut self, file: &FileName, id: ModuleId) -> Result<(), AllocError>
+        requires { (kept : Kept) × (number_in kept (name_of file.now) ≡ Some id)
+            × AreNumbered kept self.old }
         ensures placed { OnOk result
             (IsPlaced (files_on self.old) (name_of file.now) (files_on self.new)) }
         ensures numbered { (kept : Kept) →
@@ -57,10 +59,10 @@ impl LoadList {
             OnOk result (AreNumbered kept self.new) }
         ensures deps { self.new.deps ≡ self.old.deps }
     {
-        if let Some(_place) = self.files.get_index_of(file) {
+        if self.files.has(id) {
             return Ok(());
         }
-        self.files.insert(file.clone()?, id)?;
+        self.files.push(file.clone()?, id)?;
         Ok(())
     }
 
@@ -68,11 +70,11 @@ impl LoadList {
     fn file_at(&self, place: usize) -> Result<Option<FileName>, AllocError>
         ensures file { IfOk result (λ file.
             option_map name_of file ≡ slice_get (files_on self.now) place) }
-        ensures once { IsDistinct (files_on self.now) }
+        ensures once { (kept : Kept) → AreNumbered kept self.now → IsDistinct (files_on self.now) }
     {
-        // `len` says that no file stands twice.
+        // `len` says that no number stands twice.
         let _count = self.files.len();
-        match self.files.get_index(place) {
+        match self.files.as_slice().get(place) {
             Some((file, _)) => Ok(Some(file.clone()?)),
             None => Ok(None),
         }
@@ -96,7 +98,8 @@ pub(crate) fn load_all<L: Load + Drop, R: Resolve + Drop>(
     list: LoadList,
     config: &Config,
 ) -> Result<LoadList, Error>
-    requires { AreMet (kept_of library.old.kept) (files_on list) }
+    requires met { AreMet (kept_of library.old.kept) (files_on list) }
+    requires numbered { AreNumbered (kept_of library.old.kept) list }
     ensures grows { (entries : List Name) →
         MovesOn L.may_load R.may_resolve (settings_of config.now) entries library.old library.new }
     ensures loaded { IfOk result (λ list. AreSound (kept_of library.new.kept) (files_on list)) }
@@ -139,6 +142,7 @@ fn work_on<L: Load + Drop, R: Resolve + Drop>(
     config: &Config,
 ) -> Result<(), Error>
     requires met { AreMet (kept_of library.old.kept) (files_on list.old) }
+    requires numbered { AreNumbered (kept_of library.old.kept) list.old }
     requires listed { IsMet (kept_of library.old.kept) (name_of file.now) }
     ensures grows { (entries : List Name) →
         MovesOn L.may_load R.may_resolve (settings_of config.now) entries library.old library.new }
@@ -179,6 +183,7 @@ fn ask_each<L: Load + Drop, R: Resolve + Drop>(
     specifiers: Vec<String>,
 ) -> Result<Vec<(String, ModuleId)>, Error>
     requires met { AreMet (kept_of library.old.kept) (files_on list.old) }
+    requires numbered { AreNumbered (kept_of library.old.kept) list.old }
     requires loaded { IsKept (kept_of library.old.kept) (name_of file.now) }
     ensures keeps { Keeps library.old library.new }
     ensures grows { (settings : Settings) (entries : List Name) →
@@ -219,6 +224,7 @@ fn id_of<L: Load + Drop, R: Resolve + Drop>(
     specifier: &String,
 ) -> Result<ModuleId, Error>
     requires met { AreMet (kept_of library.old.kept) (files_on list.old) }
+    requires numbered { AreNumbered (kept_of library.old.kept) list.old }
     requires loaded { IsKept (kept_of library.old.kept) (name_of file.now) }
     ensures keeps { Keeps library.old library.new }
     ensures grows { (settings : Settings) (entries : List Name) →

@@ -31,7 +31,7 @@ pub fn program_on<'x>(
         IsReadOf (settings_of config.now) (kept_of kept.entry.now) list.entry.now program) }
 {
     let sources = sources_on(kept, alloc, list, config)?;
-    program_of(alloc, &list.files, list.deps.as_slice(), sources)
+    program_of(alloc, list.files.as_slice(), list.deps.as_slice(), sources)
 }
 
 // What was read of each file.
@@ -50,7 +50,7 @@ fn sources_on<'x>(
         (ids_on list.entry.now) sources.items) }
 {
     let mut sources = Vec::new(alloc);
-    for (file, _) in &list.files {
+    for (file, _) in list.files.as_slice() {
         sources.push(kept_source(kept, alloc, file, config)?)?;
     }
     Ok(sources)

@@ -64,7 +64,7 @@ module _ (p : Program) (entry : ℕ) (call : Call) (w : IsCallOf p entry call) (
   sources = call.program.now.sources.items
 
   abbrev entries : List (FileName × ℕ)
-  entries = call.program.now.files.files.now.entries
+  entries = call.program.now.files.files.now
 
   -- ---- the entry
   -- it stands last on the list

@@ -1,11 +1,25 @@
 -- A number that is above all numbers of files, and the least that is.
-use Rattle.std.proofs.Common.{◌≡◌, ℕ, zero, suc, ◌<◌, ◌≤◌, List, [], ◌∷◌, Contains, map, refl, sym, subst, arith}
+use Rattle.std.proofs.Common.{◌≡◌, ℕ, zero, suc, ◌+◌, ◌<◌, ◌≤◌, List, [], ◌∷◌, Contains, drop, get_or, length, map, ap, refl, sym, subst, ◌∙◌, arith}
+use Rattle.std.proofs.lemmas.List.{drop_more}
 use Rattle.bundle_tree_names.specs.declared.file_name.FileName.{FileName}
 use Rattle.bundle_link_reached.specs.Files.{number_of}
 
 -- the files
 abbrev pub Entries : Type 0
 Entries = List (FileName × ℕ)
+
+-- the first of the files that are left from a place on
+pub one-left : (files : Entries) (i : ℕ) (e : FileName × ℕ) → i < length files →
+    e ≡ get_or files i e → drop i files ≡ e ∷ drop (i + 1) files
+one-left files i e within is =
+    drop_more files i e within ∙ ap (λ y. y ∷ drop (i + 1) files) (sym is)
+
+-- none is left behind the last
+pub none-left : (files : Entries) (i : ℕ) → length files ≤ i → drop i files ≡ []
+none-left [] zero past = refl
+none-left [] (suc i) past = refl
+none-left (x ∷ files) zero past = absurd (omega (arith, past))
+none-left (x ∷ files) (suc i) past = none-left files i (omega (arith, past))
 
 -- each number is below
 abbrev pub AreBelow : ℕ → Entries → Type 0

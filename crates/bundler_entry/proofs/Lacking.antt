@@ -79,7 +79,7 @@ module _ (p : Program) (entry : ℕ) (call : Call) (w : IsCallOf p entry call) (
       let found =
       its_file p entry call w linked.reached l.reached k m at (Some file)
       (sym
-      (ap (option_and_then (slice_get call.program.now.files.files.now.entries)) its.1 ∙ its.2)) in
+      (ap (option_and_then (slice_get call.program.now.files.files.now)) its.1 ∙ its.2)) in
       found.2
       ∙ ap (λ (f : FileName × ℕ). Some (name_of f.0)) (sym (same_Some file found.0 found.1))
 

@@ -101,7 +101,7 @@ module _ (p : Program) (entry : ℕ) (call : Call) (w : IsCallOf p entry call) (
   file_at k m at =
       let place = place_of k m at in
       let number : slice_get (numbers_of call.program.now.files.files.now) place.0 ≡ Some m = ap (λ (l : List ℕ). slice_get l place.0) (sym w.program.files.ids) ∙ place.2 in
-      let file = mapped (λ (e : FileName × ℕ). e.1) call.program.now.files.files.now.entries place.0 m number in
+      let file = mapped (λ (e : FileName × ℕ). e.1) call.program.now.files.files.now place.0 m number in
       (file.0, (place.0, place.1, file.1), ap (file_of p) (sym file.2) ∙ w.program.files.files.named place.0 file.0 file.1)
 
   -- ---- the program by places

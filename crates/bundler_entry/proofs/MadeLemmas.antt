@@ -47,12 +47,12 @@ no-body q call reached k is_cjs tells off source Cjs there has =
 
 -- the file of a module
 pub file-there : (call : Call) (reached : Reached) (k : ℕ) (file : FileName × ℕ) →
-    Some file ≡ option_and_then (slice_get call.program.now.files.files.now.entries)
+    Some file ≡ option_and_then (slice_get call.program.now.files.files.now)
     (slice_get reached.places.items k) → IsFileAt call reached k file
 file-there call reached k file is = by (slice_get reached.places.items k) refl is
   where
     by : (o : Option ℕ) → slice_get reached.places.items k ≡ o →
-        Some file ≡ option_and_then (slice_get call.program.now.files.files.now.entries) o →
+        Some file ≡ option_and_then (slice_get call.program.now.files.files.now) o →
         IsFileAt call reached k file
     by None at there = absurd (none-some file (sym there))
     by (Some place) at there = (place, at, sym there)

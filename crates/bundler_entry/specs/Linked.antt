@@ -128,7 +128,7 @@ pub record AreLists (sources : List Source) (reached : Reached) (n : ℕ) (lists
 
 -- the file of a call at a place
 abbrev pub IsFileAt : Call → Reached → ℕ → FileName × ℕ → Type 0
-IsFileAt call reached k file = (place : ℕ) × (slice_get reached.places.items k ≡ Some place) × (slice_get call.program.now.files.files.now.entries place ≡ Some file)
+IsFileAt call reached k file = (place : ℕ) × (slice_get reached.places.items k ≡ Some place) × (slice_get call.program.now.files.files.now place ≡ Some file)
 
 -- the files of the first n modules are there
 abbrev pub HasFiles : Call → Reached → ℕ → Type 0

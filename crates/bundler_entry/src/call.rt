@@ -37,10 +37,11 @@ pub fn file_at<'p, 'x>(
     module: usize,
 ) -> Option<(&'x FileName, &'x ModuleId)>
     ensures { option_map deref_pair result
-        ≡ option_and_then (slice_get call.now.program.now.files.files.now.entries)
+        ≡ option_and_then (slice_get call.now.program.now.files.files.now)
         (slice_get reached.now.places.items «module») }
 {
     let program = call.program;
     let files = program.files.files;
-    files.get_index(*reached.places.get(module)?)
+    let (file, id) = files.get(*reached.places.get(module)?)?;
+    Some((file, id))
 }

@@ -26,7 +26,6 @@ use bundle_tree_names::ModuleId;
 use bundle_tree_names::config::Config;
 use bundle_tree_names::file_name::FileName;
 use bundle_tree_piece::Piece;
-use indexmap::IndexMap;
 use std::alloc::{AllocError, Global};
 
 /// A file as it was read: the name that its loader gave it, its items, its list, what its names denote in an ES module,
@@ -110,7 +109,7 @@ fn tables_in<'x>(
 /// The files of a call, with what was read of each.
 pub fn program_of<'x>(
     alloc: Global,
-    files: &'x IndexMap<FileName, ModuleId>,
+    files: &'x [(FileName, ModuleId)],
     deps: &'x [Vec<(String, ModuleId)>],
     sources: Vec<Source<'x>>,
 ) -> Result<Program<'x>, AllocError>
@@ -131,7 +130,7 @@ pub fn program_of<'x>(
 }
 
 // How many numbers there are up to the last one of a file.
-fn count_of_files(files: &IndexMap<FileName, ModuleId>) -> usize
+fn count_of_files(files: &[(FileName, ModuleId)]) -> usize
     ensures above { (m : ℕ) → Contains (numbers_of files.now) m → m < result }
     ensures least { (n : ℕ) → ((m : ℕ) → Contains (numbers_of files.now) m → m < n) →
         result ≤ n }

@@ -1,5 +1,5 @@
 -- What look-ups give among plain data, and at which place a name stands first.
-use Rattle.std.proofs.Common.{◌≡◌, ℕ, ◌<◌, ◌≤◌, Bool, true, false, cond, List, [], ◌∷◌, ◌++◌, Option, Some, None, Result, Ok, Err, IsOk, OnOk, Contains, length, get_or, slice_get, position, nat_lt, ◌⊎◌, inl, inr, refl, sym, ap, subst, ◌∙◌, true≢false, arith, lt-ltb, le-ltb}
+use Rattle.std.proofs.Common.{◌≡◌, ℕ, ◌<◌, ◌≤◌, Bool, true, false, cond, List, [], ◌∷◌, ◌++◌, Option, Some, None, Result, Ok, Err, IsOk, OnOk, OnSome, Contains, length, get_or, slice_get, position, nat_lt, ◌⊎◌, inl, inr, refl, sym, ap, subst, ◌∙◌, true≢false, arith, lt-ltb, le-ltb}
 use Rattle.std.specs.Prelude.{map}
 use Rattle.std.specs.List.{list_any, position_or_len}
 use Rattle.std.specs.Map.{lookup}
@@ -40,6 +40,11 @@ none_from_said v (Some x) h = cc
 pub on_ok : {T E : Type 0} (r : Result T E) (P : Type 0) → IsOk r → OnOk r P → P
 on_ok (Ok x) P is h = h
 on_ok (Err e) P is h = absurd (true≢false (sym is))
+
+-- what holds of a result that is there holds of one that is
+pub some_of : {X P : Type 0} (o : Option X) (x : X) → o ≡ Some x → OnSome o P → P
+some_of (Some y) x is h = h
+some_of None x is h = cc
 
 -- Places of names.
 

@@ -1,1 +1,5 @@
+pub mod Hashed
+pub mod Held
 pub mod Kept
+pub mod Marks
+pub mod Placed

@@ -3,5 +3,8 @@
 #![tactic(auto)]
 
 pub mod kept;
+mod marked;
+mod places;
+mod texts;
 
 pub use kept::{Kept, Request};

@@ -13,7 +13,7 @@ use Rattle.bundler_call.proofs.Numbered.{entry_listed, numbered_more}
 use Rattle.bundler_call.proofs.bundler.numbered.Goals as goal
 
 pub loop-file-init : goal.loop-file-init
-loop-file-init g c = (λ settings. advances_refl _ _ settings (files_of c.args.entries.now) _ _ (kept_of c.args.library.now.kept), subst (λ ids. AllZip (HasNumber (kept_of c.args.library.now.kept)) [] ids) (sym c.new-ids.ensures.items) tt, none_met_of (kept_of c.args.library.now.kept) (files_on c.new-list.result) c.new-list.ensures.files, λ outcome last numbers. numbers, λ apart. c.new-list.ensures.files, none_numbered (kept_of c.args.library.now.kept) c.new-list.result.files.entries c.new-list.ensures.files, c.new-list.ensures.deps, λ less. (let no : ⊥ = omega (arith, less) in absurd no))
+loop-file-init g c = (λ settings. advances_refl _ _ settings (files_of c.args.entries.now) _ _ (kept_of c.args.library.now.kept), subst (λ ids. AllZip (HasNumber (kept_of c.args.library.now.kept)) [] ids) (sym c.new-ids.ensures.items) tt, none_met_of (kept_of c.args.library.now.kept) (files_on c.new-list.result) c.new-list.ensures.files, λ outcome last numbers. numbers, λ apart. c.new-list.ensures.files, none_numbered (kept_of c.args.library.now.kept) c.new-list.result.files c.new-list.ensures.files, c.new-list.ensures.deps, λ less. (let no : ⊥ = omega (arith, less) in absurd no))
 
 pub returns-in_err-id-clause-grows : goal.returns-in_err-id-clause-grows
 returns-in_err-id-clause-grows g c = λ settings.
@@ -27,6 +27,10 @@ pub returns-in_err-push-clause-grows : goal.returns-in_err-push-clause-grows
 returns-in_err-push-clause-grows g c = λ settings.
     advances_trans _ _ settings (files_of c.args.entries.now) _ _ _ _ _ _ _ _ _ (c.loop-file.invariant.0 settings) (c.in_ok-id.ensures.grows settings (files_of c.args.entries.now) (inl (entry_listed c.args.entries.now c.loop-file.file-index _ c.loop-file-test.true (sym c.loop-file-item.is))))
 
+pub place-requires : goal.place-requires
+place-requires g c =
+    (kept_of c.id.new.self.kept, c.in_ok-id.ensures.numbered, still_all_numbered _ _ c.in_ok-id.ensures.keeps.stays c.loop-file.list.files c.loop-file.invariant.5)
+
 pub loop-file-preserved : goal.loop-file-preserved
 loop-file-preserved g c =
     let stays = c.in_ok-id.ensures.keeps.stays in (
@@ -35,7 +39,7 @@ loop-file-preserved g c =
       all_met_placed (kept_of c.id.new.self.kept) (files_on c.loop-file.list) (files_on c.place.new.self) _ c.in_ok-place.ensures.placed (still_all_met _ _ stays (files_on c.loop-file.list) c.loop-file.invariant.2) c.in_ok-id.ensures.met,
       numbers_next (files_of c.args.entries.now) _ _ _ (kept_of c.args.library.now.kept) (kept_of c.loop-file.library.kept) (kept_of c.id.new.self.kept) (files_from c.args.entries.now c.loop-file.file-index _ c.loop-file-test.true (sym c.loop-file-item.is)) c.loop-file.invariant.3 c.in_ok-id.ensures.judged,
       listed_more c.args.entries.now c.loop-file.file-index _ c.loop-file-test.true (sym c.loop-file-item.is) (files_on c.loop-file.list) (files_on c.place.new.self) c.in_ok-place.ensures.placed c.loop-file.invariant.4,
-      c.in_ok-place.ensures.numbered (kept_of c.id.new.self.kept) c.in_ok-id.ensures.numbered (still_all_numbered _ _ stays c.loop-file.list.files.entries c.loop-file.invariant.5),
+      c.in_ok-place.ensures.numbered (kept_of c.id.new.self.kept) c.in_ok-id.ensures.numbered (still_all_numbered _ _ stays c.loop-file.list.files c.loop-file.invariant.5),
       ap (λ deps. deps.items) c.in_ok-place.ensures.deps ∙ c.loop-file.invariant.6,
       λ less. c.in_ok-id.ensures.bounded,
     )

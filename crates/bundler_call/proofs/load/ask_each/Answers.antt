@@ -43,6 +43,9 @@ returns-in_err-id-clause-judged g c =
     (as_before (λ l r. Asks (asked_by g.L.Load.may_load g.L.Load.may_fail_load g.R.Resolve.may_resolve g.R.Resolve.may_fail_resolve l r) (name_of c.args.file.now) (string_bytes c.in-Some.specifier ∷ []) (kept_of c.loop-specifier.library.kept) (files_on c.loop-specifier.list) (Refused f) (kept_of c.id_of.new.library.kept) (files_on c.id_of.new.list)) _ _ _ _ c.loop-specifier.invariant.0.loader c.loop-specifier.invariant.0.resolver its))
     c.in_err-id.ensures.judged
 
+pub id_of-requires-clause-numbered : goal.id_of-requires-clause-numbered
+id_of-requires-clause-numbered g c = (c.loop-specifier.invariant.5 c.requires.numbered).0
+
 pub loop-specifier-preserved : goal.loop-specifier-preserved
 loop-specifier-preserved g c = (
   remains_trans _ _ _ _ _ _ _ _ _ c.loop-specifier.invariant.0 c.in_ok-id.ensures.keeps,
@@ -55,7 +58,7 @@ loop-specifier-preserved g c = (
       let before = c.loop-specifier.invariant.5 numbered in
       let after = c.in_ok-id.ensures.numbered before.0 in (
         after,
-        all_lead_more (kept_of c.loop-specifier.library.kept) (kept_of c.id_of.new.library.kept) c.loop-specifier.list.files.entries c.id_of.new.list.files.entries
+        all_lead_more (kept_of c.loop-specifier.library.kept) (kept_of c.id_of.new.library.kept) c.loop-specifier.list.files c.id_of.new.list.files
             (record { stays = c.in_ok-id.ensures.keeps.stays; begins = c.in_ok-id.ensures.begins; before = before.0; after = after })
             (name_of c.args.file.now) c.loop-specifier.deps.items c.push.new.self.items (c.in-Some.specifier, c.in_ok-id.id) c.in_ok-push.ensures.items before.1 (c.in_ok-id.ensures.leads before.0),
       ),

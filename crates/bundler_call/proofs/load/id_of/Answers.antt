@@ -13,6 +13,11 @@ use Rattle.bundler_call.proofs.Judging.{ends_handed}
 use Rattle.bundler_call.proofs.Placing.{ask_failed, ask_placed, ask_used_up, requested_as}
 use Rattle.bundler_call.proofs.load.id_of.Goals as goal
 
+pub place-requires : goal.place-requires
+place-requires g c =
+    let stays = stays_trans _ _ _ c.in_ok-resolve.ensures.keeps.stays c.in_ok-id.ensures.keeps.stays in
+    (kept_of c.id.new.self.kept, c.in_ok-id.ensures.numbered, still_all_numbered _ _ stays c.args.list.now.files c.requires.numbered)
+
 pub returns-in_err-request-clause-grows : goal.returns-in_err-request-clause-grows
 returns-in_err-request-clause-grows g c = λ settings entries its. advances_refl _ _ settings entries _ _ (kept_of c.args.library.now.kept)
 
@@ -78,10 +83,10 @@ returns-clause-judged g c =
 pub returns-clause-numbered : goal.returns-clause-numbered
 returns-clause-numbered g c = λ numbered.
     let stays = stays_trans _ _ _ c.in_ok-resolve.ensures.keeps.stays c.in_ok-id.ensures.keeps.stays in
-    c.in_ok-place.ensures.numbered (kept_of c.id.new.self.kept) c.in_ok-id.ensures.numbered (still_all_numbered _ _ stays c.args.list.now.files.entries numbered)
+    c.in_ok-place.ensures.numbered (kept_of c.id.new.self.kept) c.in_ok-id.ensures.numbered (still_all_numbered _ _ stays c.args.list.now.files numbered)
 
 pub returns-clause-leads : goal.returns-clause-leads
 returns-clause-leads g c = λ numbered.
     let stays = stays_trans _ _ _ c.in_ok-resolve.ensures.keeps.stays c.in_ok-id.ensures.keeps.stays in
-    leads_placed (kept_of c.resolve.new.self.kept) (kept_of c.id.new.self.kept) c.in_ok-id.ensures.keeps.stays c.args.list.now.files.entries c.place.new.self.files.entries (name_of c.args.file.now) (name_of c.in_ok-target.target) c.args.specifier.now c.in_ok-id.id c.in_ok-request.request c.in_ok-request.ensures.file c.in_ok-request.ensures.specifier c.in_ok-target.ensures c.in_ok-id.ensures.numbered c.in_ok-place.ensures.placed
-    (c.in_ok-place.ensures.numbered (kept_of c.id.new.self.kept) c.in_ok-id.ensures.numbered (still_all_numbered _ _ stays c.args.list.now.files.entries numbered))
+    leads_placed (kept_of c.resolve.new.self.kept) (kept_of c.id.new.self.kept) c.in_ok-id.ensures.keeps.stays c.args.list.now.files c.place.new.self.files (name_of c.args.file.now) (name_of c.in_ok-target.target) c.args.specifier.now c.in_ok-id.id c.in_ok-request.request c.in_ok-request.ensures.file c.in_ok-request.ensures.specifier c.in_ok-target.ensures c.in_ok-id.ensures.numbered c.in_ok-place.ensures.placed
+    (c.in_ok-place.ensures.numbered (kept_of c.id.new.self.kept) c.in_ok-id.ensures.numbered (still_all_numbered _ _ stays c.args.list.now.files numbered))

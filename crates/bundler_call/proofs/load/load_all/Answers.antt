@@ -15,10 +15,10 @@ use Rattle.bundler_call.proofs.Working.{begins_longer, loads_end, loads_next, lo
 use Rattle.bundler_call.proofs.load.load_all.Goals as goal
 
 pub loop-place-init : goal.loop-place-init
-loop-place-init g c = (λ entries. advances_refl _ _ (settings_of c.args.config.now) entries _ _ (kept_of c.args.library.now.kept), c.requires, none_before (kept_of c.args.library.now.kept) _, none_before_all _, λ outcome last all. all, begins_refl _, λ numbered. numbered, λ none numbered. asked_first (settings_of c.args.config.now) (kept_of c.args.library.now.kept) c.args.list.files.entries c.args.list.deps.items none)
+loop-place-init g c = (λ entries. advances_refl _ _ (settings_of c.args.config.now) entries _ _ (kept_of c.args.library.now.kept), c.requires.met, none_before (kept_of c.args.library.now.kept) _, none_before_all _, λ outcome last all. all, begins_refl _, λ numbered. numbered, λ none numbered. asked_first (settings_of c.args.config.now) (kept_of c.args.library.now.kept) c.args.list.files c.args.list.deps.items none)
 
 pub work_on-requires : goal.work_on-requires
-work_on-requires g c = record { met = c.loop-place.invariant.1; listed = c.loop-place.invariant.1 c.loop-place.place (name_of c.in-Some.file) (sym c.in_ok-file.ensures.file ∙ ap (option_map name_of) c.in-Some.is) }
+work_on-requires g c = record { met = c.loop-place.invariant.1; numbered = c.loop-place.invariant.6 c.requires.numbered; listed = c.loop-place.invariant.1 c.loop-place.place (name_of c.in-Some.file) (sym c.in_ok-file.ensures.file ∙ ap (option_map name_of) c.in-Some.is) }
 
 pub returns-in_err-work_on-clause-grows : goal.returns-in_err-work_on-clause-grows
 returns-in_err-work_on-clause-grows g c = λ entries. advances_trans _ _ (settings_of c.args.config.now) entries _ _ _ _ _ _ _ _ _ (c.loop-place.invariant.0 entries) (c.in_err-work_on.ensures.grows entries)
@@ -40,14 +40,14 @@ loop-place-preserved g c = (
   λ numbered. c.in_ok-work_on.ensures.numbered (c.loop-place.invariant.6 numbered),
   λ none numbered.
       let before = c.loop-place.invariant.6 numbered in
-      asked_next (settings_of c.args.config.now) (kept_of c.loop-place.library.kept) (kept_of c.work_on.new.library.kept) c.loop-place.list.files.entries c.work_on.new.list.files.entries
+      asked_next (settings_of c.args.config.now) (kept_of c.loop-place.library.kept) (kept_of c.work_on.new.library.kept) c.loop-place.list.files c.work_on.new.list.files
       (record { stays = advances_stays _ _ (settings_of c.args.config.now) [] _ _ _ _ _ _ (c.in_ok-work_on.ensures.grows []); begins = c.in_ok-work_on.ensures.begins; before = before; after = c.in_ok-work_on.ensures.numbered before })
       c.loop-place.list.deps.items c.work_on.new.list.deps.items c.loop-place.place (name_of c.in-Some.file) (sym c.in_ok-file.ensures.file ∙ ap (option_map name_of) c.in-Some.is) (c.in_ok-work_on.ensures.asked before) (c.loop-place.invariant.7 none numbered),
 )
 
 pub returns-clause-loaded : goal.returns-clause-loaded
 returns-clause-loaded g c =
-    all_kept_within (kept_of c.loop-place.library.kept) (files_on c.loop-place.list) c.loop-place.place (short_enough c.loop-place.list.files.entries c.len-count.result c.loop-place.place c.len-count.ensures.len c.len-count.ensures.small c.loop-place-test.false) c.loop-place.invariant.2
+    all_kept_within (kept_of c.loop-place.library.kept) (files_on c.loop-place.list) c.loop-place.place (short_enough c.loop-place.list.files c.len-count.result c.loop-place.place c.len-count.ensures.len c.len-count.ensures.small c.loop-place-test.false) c.loop-place.invariant.2
 
 pub returns-in_err-work_on-clause-judged : goal.returns-in_err-work_on-clause-judged
 returns-in_err-work_on-clause-judged g c =
@@ -61,30 +61,30 @@ returns-in_default-clause-judged g c =
 
 pub returns-clause-judged : goal.returns-clause-judged
 returns-clause-judged g c =
-    loads_end (asked_by g.L.Load.may_load g.L.Load.may_fail_load g.R.Resolve.may_resolve g.R.Resolve.may_fail_resolve c.args.library.now.loader c.args.library.now.resolver) (settings_of c.args.config.now) (files_on c.args.list) (files_on c.loop-place.list) c.loop-place.place (kept_of c.args.library.now.kept) (kept_of c.loop-place.library.kept) (short_enough c.loop-place.list.files.entries c.len-count.result c.loop-place.place c.len-count.ensures.len c.len-count.ensures.small c.loop-place-test.false) c.loop-place.invariant.3 c.loop-place.invariant.4
+    loads_end (asked_by g.L.Load.may_load g.L.Load.may_fail_load g.R.Resolve.may_resolve g.R.Resolve.may_fail_resolve c.args.library.now.loader c.args.library.now.resolver) (settings_of c.args.config.now) (files_on c.args.list) (files_on c.loop-place.list) c.loop-place.place (kept_of c.args.library.now.kept) (kept_of c.loop-place.library.kept) (short_enough c.loop-place.list.files c.len-count.result c.loop-place.place c.len-count.ensures.len c.len-count.ensures.small c.loop-place-test.false) c.loop-place.invariant.3 c.loop-place.invariant.4
 
 pub returns-in_default-clause-begins : goal.returns-in_default-clause-begins
 returns-in_default-clause-begins g c = c.loop-place.invariant.5
 
 pub returns-in_default-clause-once : goal.returns-in_default-clause-once
-returns-in_default-clause-once g c = c.in_ok-file.ensures.once
+returns-in_default-clause-once g c = c.in_ok-file.ensures.once (kept_of c.loop-place.library.kept) (c.loop-place.invariant.6 c.requires.numbered)
 
 pub returns-in_default-clause-numbered : goal.returns-in_default-clause-numbered
 returns-in_default-clause-numbered g c = c.loop-place.invariant.6
 
 pub returns-in_default-clause-asked : goal.returns-in_default-clause-asked
 returns-in_default-clause-asked g c = λ none numbered.
-    asked_all (settings_of c.args.config.now) (kept_of c.loop-place.library.kept) c.loop-place.list.files.entries c.loop-place.list.deps.items c.loop-place.place (none_past (files_on c.loop-place.list) c.loop-place.place (sym c.in_ok-file.ensures.file ∙ ap (option_map name_of) c.in_default.is)) c.loop-place.invariant.3 (c.loop-place.invariant.7 none numbered)
+    asked_all (settings_of c.args.config.now) (kept_of c.loop-place.library.kept) c.loop-place.list.files c.loop-place.list.deps.items c.loop-place.place (none_past (files_on c.loop-place.list) c.loop-place.place (sym c.in_ok-file.ensures.file ∙ ap (option_map name_of) c.in_default.is)) c.loop-place.invariant.3 (c.loop-place.invariant.7 none numbered)
 
 pub returns-clause-begins : goal.returns-clause-begins
 returns-clause-begins g c = c.loop-place.invariant.5
 
 pub returns-clause-once : goal.returns-clause-once
-returns-clause-once g c = once_listed c.loop-place.list.files.entries c.len-count.ensures.unique
+returns-clause-once g c = once_listed (kept_of c.loop-place.library.kept) c.loop-place.list.files c.len-count.ensures.once (c.loop-place.invariant.6 c.requires.numbered)
 
 pub returns-clause-numbered : goal.returns-clause-numbered
 returns-clause-numbered g c = c.loop-place.invariant.6
 
 pub returns-clause-asked : goal.returns-clause-asked
 returns-clause-asked g c = λ none numbered.
-    asked_all (settings_of c.args.config.now) (kept_of c.loop-place.library.kept) c.loop-place.list.files.entries c.loop-place.list.deps.items c.loop-place.place (short_enough c.loop-place.list.files.entries c.len-count.result c.loop-place.place c.len-count.ensures.len c.len-count.ensures.small c.loop-place-test.false) c.loop-place.invariant.3 (c.loop-place.invariant.7 none numbered)
+    asked_all (settings_of c.args.config.now) (kept_of c.loop-place.library.kept) c.loop-place.list.files c.loop-place.list.deps.items c.loop-place.place (short_enough c.loop-place.list.files c.len-count.result c.loop-place.place c.len-count.ensures.len c.len-count.ensures.small c.loop-place-test.false) c.loop-place.invariant.3 (c.loop-place.invariant.7 none numbered)

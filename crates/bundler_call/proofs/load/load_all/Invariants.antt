@@ -21,4 +21,4 @@ invariant-loop-place g l =
     (settings_of l.config) (files_on l.fn.list) (files_on l.list) l.place (kept_of l.initial.library.kept) (kept_of l.library.kept)
     × Begins (files_on l.fn.list) (files_on l.list)
     × (AreNumbered (kept_of l.initial.library.kept) l.fn.list → AreNumbered (kept_of l.library.kept) l.list)
-    × (l.fn.list.deps.items ≡ [] → AreNumbered (kept_of l.initial.library.kept) l.fn.list → AreAskedTo (settings_of l.config) (kept_of l.library.kept) l.list.files.entries l.list.deps.items l.place)
+    × (l.fn.list.deps.items ≡ [] → AreNumbered (kept_of l.initial.library.kept) l.fn.list → AreAskedTo (settings_of l.config) (kept_of l.library.kept) l.list.files l.list.deps.items l.place)

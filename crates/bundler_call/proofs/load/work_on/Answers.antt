@@ -15,7 +15,7 @@ use Rattle.bundler_call.proofs.Working.{requested, sound, work_done, work_faulty
 use Rattle.bundler_call.proofs.load.work_on.Goals as goal
 
 pub ask_each-requires : goal.ask_each-requires
-ask_each-requires g c = record { met = still_all_met _ (kept_of c.load.new.self.kept) (advances_stays _ _ (settings_of c.args.config.now) [] _ _ _ _ _ _ (c.in_ok-load.ensures.grows [])) _ c.requires.met; loaded = c.in_ok-load.ensures.there }
+ask_each-requires g c = record { met = still_all_met _ (kept_of c.load.new.self.kept) (advances_stays _ _ (settings_of c.args.config.now) [] _ _ _ _ _ _ (c.in_ok-load.ensures.grows [])) _ c.requires.met; numbered = still_all_numbered (kept_of c.args.library.now.kept) (kept_of c.load.new.self.kept) (advances_stays _ _ (settings_of c.args.config.now) [] _ _ _ _ _ _ (c.in_ok-load.ensures.grows [])) c.args.list.now.files c.requires.numbered; loaded = c.in_ok-load.ensures.there }
 
 pub returns-in_err-load-clause-judged : goal.returns-in_err-load-clause-judged
 returns-in_err-load-clause-judged g c = λ place there. leads_handed _ _ _ _ _ _ c.from_residual.ensures.1 (λ f its. j.not_loaded there its) c.in_err-load.ensures.judged
@@ -48,23 +48,23 @@ returns-clause-loaded g c =
     (sound (kept_of c.load.new.self.kept) (name_of c.args.file.now) (map string_bytes c.in_ok-specifiers.specifiers.items) (settings_of c.args.config.now) c.in_ok-load.ensures.there c.in_ok-specifiers.ensures.faultless)
 
 pub returns-clause-begins : goal.returns-clause-begins
-returns-clause-begins g c = begins_along _ _ _ c.in_ok-deps.ensures.begins (ap (λ files. names_of_entries files.entries) c.in_ok-add_deps.ensures.files)
+returns-clause-begins g c = begins_along _ _ _ c.in_ok-deps.ensures.begins (ap names_of_entries c.in_ok-add_deps.ensures.files)
 
 pub returns-clause-judged : goal.returns-clause-judged
 returns-clause-judged g c = λ place there.
     work_done (asked_by g.L.Load.may_load g.L.Load.may_fail_load g.R.Resolve.may_resolve g.R.Resolve.may_fail_resolve c.args.library.now.loader c.args.library.now.resolver) (settings_of c.args.config.now) (files_on c.args.list.now) place (name_of c.args.file.now) there (kept_of c.args.library.now.kept) (kept_of c.load.new.self.kept) c.in_ok-load.ensures.judged c.in_ok-load.ensures.there (map string_bytes c.in_ok-specifiers.specifiers.items) c.in_ok-specifiers.ensures.faultless (kept_of c.ask_each.new.library.kept) (files_on c.ask_each.new.list) (files_on c.add_deps.new.self)
     (as_before (λ l r. Asks (asked_by g.L.Load.may_load g.L.Load.may_fail_load g.R.Resolve.may_resolve g.R.Resolve.may_fail_resolve l r) (name_of c.args.file.now) (map string_bytes c.in_ok-specifiers.specifiers.items) (kept_of c.load.new.self.kept) (files_on c.args.list.now) GoesOn (kept_of c.ask_each.new.library.kept) (files_on c.ask_each.new.list)) _ _ _ _ (c.in_ok-load.ensures.grows []).loader (c.in_ok-load.ensures.grows []).resolver c.in_ok-deps.ensures.judged)
-    (ap (λ files. names_of_entries files.entries) c.in_ok-add_deps.ensures.files)
+    (ap names_of_entries c.in_ok-add_deps.ensures.files)
 
 pub returns-clause-numbered : goal.returns-clause-numbered
 returns-clause-numbered g c = λ numbered.
-    subst (λ files. AreNumberedIn (kept_of c.ask_each.new.library.kept) files.entries) (sym c.in_ok-add_deps.ensures.files)
-    (c.in_ok-deps.ensures.numbered (still_all_numbered (kept_of c.args.library.now.kept) (kept_of c.load.new.self.kept) (advances_stays _ _ (settings_of c.args.config.now) [] _ _ _ _ _ _ (c.in_ok-load.ensures.grows [])) c.args.list.now.files.entries numbered))
+    subst (AreNumberedIn (kept_of c.ask_each.new.library.kept)) (sym c.in_ok-add_deps.ensures.files)
+    (c.in_ok-deps.ensures.numbered (still_all_numbered (kept_of c.args.library.now.kept) (kept_of c.load.new.self.kept) (advances_stays _ _ (settings_of c.args.config.now) [] _ _ _ _ _ _ (c.in_ok-load.ensures.grows [])) c.args.list.now.files numbered))
 
 pub returns-clause-asked : goal.returns-clause-asked
 returns-clause-asked g c = λ numbered.
-    let leads = c.in_ok-deps.ensures.leads (still_all_numbered (kept_of c.args.library.now.kept) (kept_of c.load.new.self.kept) (advances_stays _ _ (settings_of c.args.config.now) [] _ _ _ _ _ _ (c.in_ok-load.ensures.grows [])) c.args.list.now.files.entries numbered) in
-    noted_last (settings_of c.args.config.now) (kept_of c.ask_each.new.library.kept) c.ask_each.new.list.files.entries c.add_deps.new.self.files.entries (ap (λ files. files.entries) c.in_ok-add_deps.ensures.files) (name_of c.args.file.now)
+    let leads = c.in_ok-deps.ensures.leads (still_all_numbered (kept_of c.args.library.now.kept) (kept_of c.load.new.self.kept) (advances_stays _ _ (settings_of c.args.config.now) [] _ _ _ _ _ _ (c.in_ok-load.ensures.grows [])) c.args.list.now.files numbered) in
+    noted_last (settings_of c.args.config.now) (kept_of c.ask_each.new.library.kept) c.ask_each.new.list.files c.add_deps.new.self.files (ap (λ files. files) c.in_ok-add_deps.ensures.files) (name_of c.args.file.now)
     c.args.list.now.deps.items c.ask_each.new.list.deps.items c.add_deps.new.self.deps.items c.in_ok-deps.deps (ap (λ deps. deps.items) c.in_ok-deps.ensures.deps) c.in_ok-add_deps.ensures.deps
     (all_asked (settings_of c.args.config.now) (kept_of c.load.new.self.kept) (kept_of c.ask_each.new.library.kept) c.in_ok-deps.ensures.keeps.stays (ids_on c.ask_each.new.list) (name_of c.args.file.now) (map string_bytes c.in_ok-specifiers.specifiers.items) c.in_ok-deps.deps.items
     c.in_ok-load.ensures.there c.in_ok-specifiers.ensures.faultless c.in_ok-deps.ensures.asked leads)

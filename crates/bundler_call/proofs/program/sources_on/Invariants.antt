@@ -1,4 +1,5 @@
 -- The files that are left are kept, and not at fault by themselves; the others are read.
+use Rattle.std.proofs.Common.{drop}
 use Rattle.bundler_call.specs.Kept.{kept_of, settings_of}
 use Rattle.bundler_call.specs.Loading.{AreNumbered, AreSound}
 use Rattle.bundler_call.proofs.Loading.{names_of_entries}
@@ -7,5 +8,5 @@ use Rattle.bundler_call.proofs.program.sources_on.Given as goal
 
 abbrev pub invariant-loop-file : goal.invariant-loop-file
 invariant-loop-file l =
-    AreSound (kept_of l.kept) (names_of_entries l.file-iterator)
-    × (AreNumbered (kept_of l.kept) l.list → AreReadSoFar (kept_of l.kept) (settings_of l.config) l.list.files.entries l.file-iterator l.sources.items)
+    AreSound (kept_of l.kept) (names_of_entries (drop l.file-index l.list.files))
+    × (AreNumbered (kept_of l.kept) l.list → AreReadSoFar (kept_of l.kept) (settings_of l.config) l.list.files (drop l.file-index l.list.files) l.sources.items)

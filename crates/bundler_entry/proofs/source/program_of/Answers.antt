@@ -1,7 +1,6 @@
 -- What was noted of the files is that of the program.
 use Rattle.std.proofs.Common.{ℕ, List, Contains, ap, sym, ◌∙◌, length, subst}
 use Rattle.std.specs.Borrow.{Bor}
-use Rattle.indexmap.specs.IndexMap.{IndexMap}
 use Rattle.bundle_tree_names.specs.declared.file_name.FileName.{FileName}
 use Rattle.bundle_link_reached.specs.Files.{numbers_of}
 use Rattle.std.specs.Prelude.{slice_get}
@@ -10,7 +9,7 @@ use Rattle.bundler_entry.proofs.source.program_of.Goals as goal
 pub returns-clause-program : goal.returns-clause-program
 returns-clause-program c = λ p files sources.
     let noted = c.in_ok-files.ensures.noted p files in
-    let ids = noted.ids ∙ ap (λ (f : Bor (IndexMap FileName ℕ _)). numbers_of f.now) c.in_ok-files.ensures.files in
+    let ids = noted.ids ∙ ap (λ (f : Bor (List (FileName × ℕ))). numbers_of f.now) c.in_ok-files.ensures.files in
     record {
       files = noted;
       sources = record {

@@ -1,12 +1,16 @@
 -- The tree that was just kept is found, and what is kept has grown by it.
-use Rattle.std.proofs.Common.{refl}
+use Rattle.std.proofs.Common.{Contains, refl, subst, sym}
 use Rattle.bundle_tree_names.specs.FileName.{name_of}
-use Rattle.bundler_kept.specs.Kept.{trees_in}
+use Rattle.bundler_kept.specs.Kept.{names_in, trees_in}
 use Rattle.bundler_call.specs.Kept.{kept_of, settings_of}
 use Rattle.bundler_call.proofs.Asking.{load_full, load_judged, load_kept}
 use Rattle.bundler_call.proofs.Finding.{tree_found}
 use Rattle.bundler_call.proofs.Growing.{advances_along, advances_refl, has_room, is_full, load_grows}
 use Rattle.bundler_call.proofs.library.Library.load.Goals as goal
+
+pub keep_loaded-requires-clause-met : goal.keep_loaded-requires-clause-met
+keep_loaded-requires-clause-met g c =
+    subst (λ l. Contains l (name_of c.in_ok-name.name)) (sym c.in_ok-reserve_tree.ensures.names) (subst (Contains (names_in c.args.self.now.kept)) (sym c.in_ok-name.ensures.cases) c.requires)
 
 pub returns-clause-there : goal.returns-clause-there
 returns-clause-there g c = tree_found _ _ (name_of c.args.file.now) _ _ _ c.in_ok-name.ensures.cases c.keep_loaded.ensures.given c.keep_loaded.ensures.refused

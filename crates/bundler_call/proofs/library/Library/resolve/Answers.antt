@@ -1,11 +1,21 @@
 -- The file that was just kept for a request is found, and what is kept has grown by it.
-use Rattle.std.proofs.Common.{refl}
-use Rattle.bundler_kept.specs.Kept.{asked_of}
+use Rattle.std.proofs.Common.{refl, subst, sym}
+use Rattle.bundle_tree_names.specs.FileName.{name_eq, name_of}
+use Rattle.bundler_kept.specs.Kept.{asked_of, trees_in, HasRoomFor}
 use Rattle.bundler_call.specs.Kept.{kept_of}
 use Rattle.bundler_call.proofs.Asking.{resolve_failed, resolve_judged, resolve_kept}
-use Rattle.bundler_call.proofs.Finding.{asked_same, target_found}
+use Rattle.bundler_call.proofs.Finding.{asked_same, handed, target_found}
 use Rattle.bundler_call.proofs.Growing.{advances_along, advances_refl, remains_along, remains_refl, resolve_grows, resolve_stays}
 use Rattle.bundler_call.proofs.library.Library.resolve.Goals as goal
+
+pub reserve_target-requires : goal.reserve_target-requires
+reserve_target-requires g c =
+    let file = name_of c.args.request.now.file in
+    c.leads.ensures.met file (handed (name_eq file) (trees_in c.args.self.now.kept) c.requires)
+
+pub keep_resolved-requires-clause-room : goal.keep_resolved-requires-clause-room
+keep_resolved-requires-clause-room g c =
+    subst (HasRoomFor c.reserve_target.new.kept) (sym (asked_same _ _ _ _ c.in_ok-clone.ensures.cases c.in_ok-clone-2.ensures.cases)) c.in_ok-reserve_target.ensures.room
 
 pub returns-clause-there : goal.returns-clause-there
 returns-clause-there g c =

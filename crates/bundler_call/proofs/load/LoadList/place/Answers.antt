@@ -1,15 +1,17 @@
 -- A file that is put on the list goes last, with its number.
 use Rattle.std.proofs.Common.{inl, refl, sym, ◌∙◌}
 use Rattle.bundle_tree_names.specs.FileName.{name_of}
-use Rattle.bundler_call.proofs.Leading.{placed_numbered}
-use Rattle.bundler_call.proofs.Loading.{listed, placed}
+use Rattle.bundler_call.proofs.Leading.{listed, placed_last, placed_numbered}
 use Rattle.bundler_call.proofs.load.LoadList.place.Goals as goal
 
-pub returns-in-Some-clause-placed : goal.returns-in-Some-clause-placed
-returns-in-Some-clause-placed c = inl (listed c.args.self.now.files.entries c.args.file.now c.in-Some._place (sym c.get_index_of.ensures.index ∙ c.in-Some.is), refl)
+pub returns-then-has-clause-placed : goal.returns-then-has-clause-placed
+returns-then-has-clause-placed c = inl (listed c.requires.0 c.args.self.now.files (name_of c.args.file.now) c.args.id c.requires.2 c.requires.1 (sym c.has.ensures ∙ c.if-has.true), refl)
+
+pub push-requires : goal.push-requires
+push-requires c = sym c.has.ensures ∙ c.if-has.false
 
 pub returns-clause-placed : goal.returns-clause-placed
-returns-clause-placed c = placed c.args.self.now.files.entries c.insert.new.self.entries _ _ (name_of c.args.file.now) c.in_ok-insert.ensures.entries c.in_ok-clone.ensures.cases
+returns-clause-placed c = placed_last c.requires.0 c.args.self.now.files c.push.new.self c.in_ok-clone.field-0 c.args.id (name_of c.args.file.now) c.requires.2 c.requires.1 (sym c.has.ensures ∙ c.if-has.false) c.in_ok-clone.ensures.cases c.in_ok-push.ensures
 
 pub returns-clause-numbered : goal.returns-clause-numbered
-returns-clause-numbered c = λ kept its numbered. placed_numbered kept c.args.self.now.files.entries c.insert.new.self.entries _ _ (name_of c.args.file.now) c.in_ok-insert.ensures.entries c.in_ok-clone.ensures.cases its numbered
+returns-clause-numbered c = λ kept its numbered. placed_numbered kept c.args.self.now.files c.push.new.self c.in_ok-clone.field-0 c.args.id (name_of c.args.file.now) c.in_ok-push.ensures c.in_ok-clone.ensures.cases its numbered

@@ -1,19 +1,57 @@
--- A new file goes last.
-use Rattle.std.proofs.Common.{◌≡◌, ◌∙◌, ◌++◌, ◌∷◌, [], ap}
-use Rattle.std.specs.Prelude.{map}
-use Rattle.std.proofs.lemmas.List.{map_push}
+-- A tree goes last, with the number of its file.
+use Rattle.std.proofs.Common.{◌≡◌, ◌<◌, ◌∙◌, ◌++◌, ◌∷◌, [], Contains, None, Some, ap, eqb, length, map, position, subst, sym}
+use Rattle.std.specs.Map.{lookup}
+use Rattle.std.proofs.lemmas.List.{length-map}
+use Rattle.std.proofs.lemmas.Option.{slice_get_within}
 use Rattle.indexmap.proofs.CallerLemmas.{insert_entry-new}
-use Rattle.bundle_tree_names.specs.FileName.{Name, name_of, name_eq}
-use Rattle.bundle_tree_names.specs.declared.file_name.FileName.{FileName}
-use Rattle.bundle_tree_names.proofs.Numbering.{file_eq}
-use Rattle.bundler_kept.proofs.Keeping.{lookup-keys, on_ok}
+use Rattle.bundle_tree_names.specs.FileName.{name_eq, name_of}
+use Rattle.bundler_kept.specs.Held.{named, trees_by, AreBelow, Held}
+use Rattle.bundler_kept.proofs.Holding.{below_names, below_push, name_found_at, there_found, tree_by, trees_more}
+use Rattle.bundler_kept.proofs.Keeping.{on_ok, some_of}
 use Rattle.bundler_kept.proofs.kept.Kept.keep_tree.Goals as goal
+
+pub unwrap-number-requires : goal.unwrap-number-requires
+unwrap-number-requires g c =
+    there_found (map named c.self.inside.files) (name_of c.args.file) c.number_in.result (sym c.number_in.ensures.number)
+    (subst (λ (h : Held g.row.M.Denot). Contains h.names (name_of c.args.file)) (sym c.self.view_is) c.requires.met)
+
+pub invariant_of-self : goal.invariant_of-self
+invariant_of-self g c =
+    let files = c.self.inside.files in
+    let names = map named files in
+    let trees = c.self.inside.trees in
+    let name = name_of c.args.file in
+    let n = c.unwrap-number.result in
+    let is : c.number_in.result ≡ Some n = c.unwrap-number.ensures in
+    let found : position (name_eq name) names ≡ Some n = sym c.number_in.ensures.number ∙ is in
+    let once = some_of c.number_in.result n is c.number_in.ensures.once in
+    let none : lookup (eqb n) trees.entries ≡ None
+    = sym (tree_by names trees.entries (below_names files trees.entries c.self.invariant.loaded) name n once found) ∙ ap (λ (h : Held g.row.M.Denot). lookup (name_eq name) h.trees) c.self.view_is ∙ c.requires.absent in
+    let room = subst (λ (h : Held g.row.M.Denot). 0 < h.tree_room) (sym c.self.view_is) c.requires.room in
+    let entries : c.insert.new.self.entries ≡ trees.entries ++ (n, c.args.tree) ∷ []
+    = on_ok c.insert.result _ (c.insert.ensures.succeeds room) c.insert.ensures.entries ∙ insert_entry-new eqb trees n c.args.tree none in
+    let less : n < length files = subst (λ k. n < k) (length-map files named) (slice_get_within names n name (name_found_at names name n found)) in
+    record {
+      bounded = c.self.invariant.bounded;
+      loaded = subst (AreBelow (length files)) (sym entries) (below_push (length files) trees.entries n c.args.tree c.self.invariant.loaded less);
+      asking = c.self.invariant.asking;
+      led = c.self.invariant.led;
+    }
 
 pub returns-clause-trees : goal.returns-clause-trees
 returns-clause-trees g c =
-    let old = c.args.self.now in
-    let said : FileName × g.row.M.Denot → Name × g.row.M.Denot = λ e. (name_of e.0, e.1) in
-    let none = lookup-keys name_of (name_eq (name_of c.args.file)) old.trees.entries ∙ c.requires.absent in
-    let entries : c.insert.new.self.entries ≡ old.trees.entries ++ (c.args.file, c.args.tree) ∷ [] =
-    on_ok c.insert.result _ (c.insert.ensures.succeeds c.requires.room) c.insert.ensures.entries ∙ insert_entry-new file_eq old.trees c.args.file c.args.tree none in
-    ap (map said) entries ∙ map_push said old.trees.entries (c.args.file, c.args.tree)
+    let files = c.self.inside.files in
+    let names = map named files in
+    let trees = c.self.inside.trees in
+    let name = name_of c.args.file in
+    let n = c.unwrap-number.result in
+    let is : c.number_in.result ≡ Some n = c.unwrap-number.ensures in
+    let found : position (name_eq name) names ≡ Some n = sym c.number_in.ensures.number ∙ is in
+    let once = some_of c.number_in.result n is c.number_in.ensures.once in
+    let none : lookup (eqb n) trees.entries ≡ None
+    = sym (tree_by names trees.entries (below_names files trees.entries c.self.invariant.loaded) name n once found) ∙ ap (λ (h : Held g.row.M.Denot). lookup (name_eq name) h.trees) c.self.view_is ∙ c.requires.absent in
+    let room = subst (λ (h : Held g.row.M.Denot). 0 < h.tree_room) (sym c.self.view_is) c.requires.room in
+    let entries : c.insert.new.self.entries ≡ trees.entries ++ (n, c.args.tree) ∷ []
+    = on_ok c.insert.result _ (c.insert.ensures.succeeds room) c.insert.ensures.entries ∙ insert_entry-new eqb trees n c.args.tree none in
+    ap (trees_by names) entries ∙ trees_more names trees.entries name n c.args.tree found
+    ∙ ap (λ (h : Held g.row.M.Denot). h.trees ++ (name, c.args.tree) ∷ []) c.self.view_is
