@@ -1,5 +1,5 @@
 -- The first of the files that are left is kept, and so are the others; each is read.
-use Rattle.std.proofs.Common.{◌+◌, ◌∙◌, ap, drop, get_or, refl}
+use Rattle.std.proofs.Common.{◌+◌, ◌<◌, ◌≤◌, ◌∙◌, ap, drop, get_or, length, refl, subst}
 use Rattle.bundler_entry.proofs.CountLemmas.{none-left, one-left}
 use Rattle.bundler_call.specs.Kept.{kept_of, settings_of}
 use Rattle.bundler_call.proofs.Loading.{first_kept, rest_kept}
@@ -17,8 +17,10 @@ kept_source-requires c =
     let files = c.args.list.now.files in
     let i = c.loop-file.file-index in
     let e = c.loop-file-item.result in
-    let is = c.loop-file-item.is ∙ ap (λ l. get_or l i e) c.as_slice.ensures in
-    first_kept (kept_of c.args.kept.now) (drop i files) (drop (i + 1) files) e c.loop-file.invariant.0 (one-left files i e c.loop-file-test.true is)
+    let same = c.as_slice-file-items.ensures in
+    let is = c.loop-file-item.is ∙ ap (λ l. get_or l i e) same in
+    let within = subst (λ l. i < length l) same c.loop-file-test.true in
+    first_kept (kept_of c.args.kept.now) (drop i files) (drop (i + 1) files) e c.loop-file.invariant.0 (one-left files i e within is)
 
 pub loop-file-preserved : goal.loop-file-preserved
 loop-file-preserved c =
@@ -27,7 +29,9 @@ loop-file-preserved c =
     let files = c.args.list.now.files in
     let i = c.loop-file.file-index in
     let e = c.loop-file-item.result in
-    let is = one-left files i e c.loop-file-test.true (c.loop-file-item.is ∙ ap (λ l. get_or l i e) c.as_slice.ensures) in (
+    let same = c.as_slice-file-items.ensures in
+    let within = subst (λ l. i < length l) same c.loop-file-test.true in
+    let is = one-left files i e within (c.loop-file-item.is ∙ ap (λ l. get_or l i e) same) in (
       rest_kept kept (drop i files) (drop (i + 1) files) e c.loop-file.invariant.0 is,
       λ numbered. read_more kept settings files (drop i files) (drop (i + 1) files) e _ _ c.in_ok-kept_source.field-0 is c.in_ok-push.ensures.items
           (λ entry. c.in_ok-kept_source.ensures entry e.1 (first_numbered kept settings files (drop i files) (drop (i + 1) files) e _ is (c.loop-file.invariant.1 numbered)))
@@ -37,5 +41,7 @@ loop-file-preserved c =
 pub returns : goal.returns
 returns c = λ entry numbered.
     let files = c.args.list.now.files in
+    let i = c.loop-file.file-index in
+    let past = subst (λ l. length l ≤ i) c.as_slice-file-items.ensures c.loop-file-test.false in
     are_sources (kept_of c.args.kept.now) (settings_of c.args.config.now) files _
-    (read_all (kept_of c.args.kept.now) (settings_of c.args.config.now) files (drop c.loop-file.file-index files) _ (none-left files c.loop-file.file-index c.loop-file-test.false) (c.loop-file.invariant.1 numbered)) entry
+    (read_all (kept_of c.args.kept.now) (settings_of c.args.config.now) files (drop i files) _ (none-left files i past) (c.loop-file.invariant.1 numbered)) entry
