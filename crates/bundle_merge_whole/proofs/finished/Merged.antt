@@ -34,7 +34,7 @@ use Rattle.bundle_merge_whole.proofs.composed.Recalling.{becoming_recalled, reca
 use Rattle.bundle_merge_whole.proofs.composed.Naming.{OneNode, IsStillNoted, all-turned, still, still-labels, still-items, still-told}
 use Rattle.bundle_merge_whole.proofs.composed.Paired.{is_paired}
 use Rattle.bundle_merge_whole.proofs.composed.Keywords.{zip-at as both-there}
-use Rattle.bundle_merge_whole.proofs.composed.Called.{symbol-becomes, outer-becomes, contexts-become, globals-become}
+use Rattle.bundle_merge_whole.proofs.composed.Called.{symbol-becomes, outer-becomes, contexts-become, contexts-stand, globals-become}
 use Rattle.bundle_merge_whole.proofs.finished.Items.{BothCalled, all-called, all-inside}
 use Rattle.bundle_merge_whole.proofs.finished.CommonJs.{load-function, functions-at, inside-again}
 
@@ -109,10 +109,11 @@ module _ (p : Program) (hooks : Hooks) (plan : List Cause) (items : List (List I
 
   -- contexts
   pub contexts-again : AreCalled (λ x. x) p hooks (labelled (joined items) ByContext first) first →
-      HasContexts local (labelled (joined items) ByContext first) →
-      HasContexts local (labelled (joined made) ByContext second)
+      HasContexts (λ x. x) local (labelled (joined items) ByContext first) →
+      HasContexts keyword_free local (labelled (joined made) ByContext second)
   contexts-again called contexts = record {
-    declared = λ scope name m x c kept. contexts-become (joined items) (joined made) resolved names rid b (recalled-written call (joined items) (joined made) names plain faithful rid.same calls) labels occur local (λ s n k y c. called.outer s n (Of (IsDeclared k y)) c) contexts.declared scope name m x (subst (λ l. Contains l (Bound scope name, Of (IsDeclared m x))) labels-are c) kept;
+    declared = λ scope name m x c kept. contexts-become (joined items) (joined made) resolved names rid b (recalled-written call (joined items) (joined made) names plain faithful rid.same calls) labels occur local (λ s n k y c. called.outer s n (Of (IsDeclared k y)) c) (λ s n k y c. contexts.declared s n k y c refl) scope name m x (subst (λ l. Contains l (Bound scope name, Of (IsDeclared m x))) labels-are c) kept;
+    stands = λ scope name m x c. contexts-stand (joined items) (joined made) resolved names rid b labels occur local (λ s n k y c. called.outer s n (Of (IsDeclared k y)) c) (λ s n k y c. contexts.declared s n k y c refl) scope name m x (subst (λ l. Contains l (Bound scope name, Of (IsDeclared m x))) labels-are c);
     globals = globals-become (joined items) (joined made) resolved names rid b contexts.globals;
   }
 
@@ -163,7 +164,7 @@ module _ (p : Program) (hooks : Hooks) (plan : List Cause) (items : List (List I
 
   -- the merged bundle without keywords
   pub merged-again : AreCalled (λ x. x) p hooks (labelled (joined items) ByContext first) first →
-      HasContexts local (labelled (joined items) ByContext first) →
+      HasContexts (λ x. x) local (labelled (joined items) ByContext first) →
       IsLaidOut p AsModule ByContext (joined made) second → BindsOwn (joined made) →
       IsMerged keyword_free local p hooks (joined made)
   merged-again called contexts laid own = record {

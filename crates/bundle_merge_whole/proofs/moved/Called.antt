@@ -183,10 +183,10 @@ module _ (p q : Program) (R : ℕ → ℕ → Type 0) (name back : ℕ → ℕ)
   }
 
   -- CONTEXTS
-  pub contexts-by : (local other : ℕ → ℕ) →
-      ((m : ℕ) → IsReached p m → local m ≡ other (name m)) → HasContexts local b →
-      HasContexts other c
-  contexts-by local other locals has = record {
+  pub contexts-by : (spelled : Text → Text) (local other : ℕ → ℕ) →
+      ((m : ℕ) → IsReached p m → local m ≡ other (name m)) → HasContexts spelled local b →
+      HasContexts spelled other c
+  contexts-by spelled local other locals has = record {
     declared = λ scope x m y there plain.
         let was = was-labelled name labels (Bound scope x) (Of (Declared m y)) there in
         let same : was.old ≡ Of (Declared (back m) y) =
@@ -199,5 +199,18 @@ module _ (p q : Program) (R : ℕ → ℕ → Type 0) (name back : ℕ → ℕ)
         has.declared scope x (back m) y
         (subst (λ l. Contains labels (Bound scope x, l)) same was.there) plain
         ∙ ap (λ n. Some n) (locals (back m) r ∙ ap other number);
+    stands = λ scope x m y there.
+        let was = was-labelled name labels (Bound scope x) (Of (Declared m y)) there in
+        let same : was.old ≡ Of (Declared (back m) y) =
+        sym (label-back p q R name back its was.old (reached (Bound scope x) was.old was.there))
+        ∙ ap (label_by back) was.is in
+        let r : IsReached p (back m) =
+        subst (IsLabelReached p) same (reached (Bound scope x) was.old was.there) in
+        let number : name (back m) ≡ m =
+        ap (λ l. declared_number (label_by name l)) (sym same) ∙ ap declared_number was.is in
+        let it =
+        has.stands scope x (back m) y
+        (subst (λ l. Contains labels (Bound scope x, l)) same was.there) in
+        (it.0, it.1, it.2, it.3 ∙ locals (back m) r ∙ ap other number);
     globals = has.globals;
   }
