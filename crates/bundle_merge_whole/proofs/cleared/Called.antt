@@ -96,6 +96,9 @@ module _ (p : Program) (f g : Modules) (w : AreSameCleared f g) where
         record {
           properties = answered.properties;
           held = may-hold-on p f g w hooks m answered.properties answered.held;
+          marks = answered.marks;
+          means = answered.means;
+          object = answered.object;
           alike = answered.alike;
         });
   }
