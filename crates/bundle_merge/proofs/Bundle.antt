@@ -10,7 +10,7 @@ use Rattle.bundle_order_graph.specs.Modules.{Modules, deps}
 use Rattle.bundle_order_sort.specs.Plan.{IsPlanOf}
 use Rattle.bundle_order_sort.specs.declared.plan.Block.{Block}
 use Rattle.bundle_order_sort.specs.declared.plan.Plan.{Plan}
-use Rattle.bundle_rules.specs.Bundle.{AsCall, AsModule, Hooks}
+use Rattle.bundle_rules.specs.Bundle.{AsCall, AsModule, Hooks, form_of}
 use Rattle.bundle_rules.specs.Entries.{has_import_meta}
 use Rattle.bundle_rules.specs.Faults.{NeedsTooManyContexts}
 use Rattle.bundle_rules.specs.Meaning.{HasKind, is_es, is_common_js}
@@ -55,7 +55,7 @@ use Rattle.bundle_merge_whole.proofs.sound.Found.{below-from, entry-at, from-the
 use Rattle.bundle_merge_whole.proofs.sound.Sound.{places-list, sound}
 use Rattle.bundle_merge_names.specs.Bundle as written
 use Rattle.bundle_merge_names.specs.Bundle.{AreAnswers, AreBundleParts, AreWrittenApart, IsPartOf, StandsWritten}
-use Rattle.bundle_merge_names.specs.Refused.{RefusesNames, TakesFew, for_labels}
+use Rattle.bundle_merge_names.specs.Refused.{RefusesNames, TakesFew}
 use Rattle.bundle_merge_names.specs.declared.error.MergeError.TheVariants as e
 use Rattle.bundle_merge_names.specs.declared.part.Answered.{Answered}
 use Rattle.bundle_merge_names.specs.Numbers.{position}
@@ -65,7 +65,7 @@ use Rattle.bundle_merge_items.specs.Added.{items_of}
 use Rattle.bundle_merge_items.specs.Adds.{AreAnswered, any_hooks, decided_of}
 use Rattle.bundle_merge_items.specs.Merged.{AreBlocksOnce}
 use Rattle.bundle_merge_items.specs.declared.merge.Merged.{Merged}
-use Rattle.bundle_merge_items.proofs.LackLemmas.{refused-lacks}
+use Rattle.bundle_merge_items.proofs.LackLemmas.{labels-lack, refused-lacks}
 use Rattle.bundle_merge_items.proofs.NeedsLemmas.{needs-by}
 use Rattle.bundle_merge_items.proofs.Once.{blocks-once}
 use Rattle.bundle_merge.specs.Handed.{AreObjectsApart, StandsInObject, StandsInside, its_inside, its_name}
@@ -513,31 +513,38 @@ module _ (p : Program) (list : List ℕ) (right : AreRight p list) (links : List
       written = λ k ctxt notes properties told. has-meta k (Written ctxt notes properties) told;
     }
 
-    -- the modules by their places do, where they get no names
-    places-need : (next : ℕ) (its : Option ℕ) →
-        RefusesNames q (numbers_from zero n) answers next (e.ContextsUsedUp its) →
+    -- the modules by their places do, where what is decided of them says so
+    places-need : (next : ℕ) →
+        ((its : Decided) → AreDecided q (form_of q.settings) its → NeedsTooManyContexts q hooks next) →
         NeedsTooManyContexts q hooks next
-    places-need next its refuses = by q.settings.iife refl
+    places-need next lacks = by q.settings.iife refl
       where
         by : (t : Bool) → q.settings.iife ≡ t → NeedsTooManyContexts q hooks next
         by false so =
-            refused-lacks q hooks d
+            lacks d
             (subst (λ t. AreDecided q (if t then AsCall else AsModule) d) (sym so) are-decided)
-            answers are-counted next its refuses
         by true so =
-            refused-lacks q hooks (record d { exports = true })
+            lacks (record d { exports = true })
             (subst (λ t. AreDecided q (if t then AsCall else AsModule) (record d { exports = true }))
             (sym so) (for-call q AsModule d are-decided))
-            answers are-counted next its refuses
 
     -- and so do those of the program
+    program-lacks : ((its : Decided) → AreDecided q (form_of q.settings) its →
+        NeedsTooManyContexts q hooks (position bundle.contexts)) →
+        NeedsTooManyContexts p hooks (position bundle.contexts)
+    program-lacks lacks =
+        needs-by q p (λ k m. IsAt list m k) (id_at list) (λ m. index_of m list) to-places hooks
+        (position bundle.contexts) (places-need (position bundle.contexts) lacks)
+
+    -- where they get no names
     pub program-needs : (its : Option ℕ) →
         RefusesNames q (numbers_from zero n) answers (position bundle.contexts)
         (e.ContextsUsedUp its) →
         NeedsTooManyContexts p hooks (position bundle.contexts)
     program-needs its refuses =
-        needs-by q p (λ k m. IsAt list m k) (id_at list) (λ m. index_of m list) to-places hooks
-        (position bundle.contexts) (places-need (position bundle.contexts) its refuses)
+        program-lacks
+        (λ its-decided are. refused-lacks q hooks its-decided are answers are-counted
+        (position bundle.contexts) its refuses)
 
     -- also where they get names, and all contexts are taken for them
     pub all-taken : (merged : Merged) →
@@ -546,8 +553,9 @@ module _ (p : Program) (list : List ℕ) (right : AreRight p list) (links : List
         position merged.contexts ≡ 4294967296 →
         NeedsTooManyContexts p hooks (position bundle.contexts)
     all-taken merged few full =
-        program-needs None
-        (for_labels (record {
+        program-lacks
+        (λ its are. labels-lack q hooks its are answers are-counted (position bundle.contexts)
+        (record {
           holders = few.holders;
           are = few.are;
           above = λ most has. (let its = few.few most has in omega (arith, its, full));

@@ -178,7 +178,7 @@ module _ (q : Program) (hooks : Hooks) (d : Decided) (its : AreDecided q (form_o
       (sum_of (tree_total q d.is_common_js answers) d.list) 0 (omega arith) (omega arith)
       (omega (arith, above))
 
-  labels-lack : (next : ℕ) → LacksForLabels q d.list answers next →
+  pub labels-lack : (next : ℕ) → LacksForLabels q d.list answers next →
       NeedsTooManyContexts q hooks next
   labels-lack next lacks =
       let above = lacks.above (tree_total q d.is_common_js answers) has-most in
@@ -191,4 +191,4 @@ module _ (q : Program) (hooks : Hooks) (d : Decided) (its : AreDecided q (form_o
       RefusesNames q d.list answers next (e.ContextsUsedUp k) → NeedsTooManyContexts q hooks next
   refused-lacks next k (for_scopes (for_module m begins holder lacks)) = scopes-lack next lacks
   refused-lacks next k (for_scopes (for_answer m begins holder lacks)) = scopes-lack next lacks
-  refused-lacks next k (for_labels lacks) = labels-lack next lacks
+  refused-lacks next k (for_labels label given lacks) = labels-lack next lacks

@@ -2,27 +2,33 @@
 use Rattle.std.proofs.Common.{◌≡◌, ◌↔◌, ℕ, ◌+◌, ◌<◌, ◌≤◌, List, ◌∷◌, Contains, map, refl, sym, ap, ap₂, ◌∙◌, subst, if◌then◌else◌, arith}
 use Rattle.std.specs.Prelude.{Some, slice_get}
 use Rattle.bundle_tree_piece.specs.Item.{Item}
-use Rattle.bundle_rules.specs.Bundle.{AreNames, AsCall, AsModule, Cause, Form, Hooks, IsDue, form_of}
+use Rattle.bundle_rules.specs.Bundle as d
+use Rattle.bundle_rules.specs.Bundle.{AreNames, AsCall, AsModule, Cause, Defines, Exports, Form, Helps, HoldsMeta, HoldsNamespace, Hooks, ImportsNames, ImportsNothing, ImportsWhole, IsDue, IsUsed, Loads, Own, Stars, form_of}
 use Rattle.bundle_rules.specs.Entries.{Named, Taken, Whole, has_import_meta}
 use Rattle.bundle_rules.specs.Faults as f
-use Rattle.bundle_rules.specs.Faults.{CountsTo, GetsContexts, InjectedCount, IsNamedForContexts, NeedsTooManyContexts, TreesCountTo, properties_count, tree_count}
+use Rattle.bundle_rules.specs.Faults.{CountsTo, GetsContexts, InjectedCount, IsNamedForContexts, NeedsTooManyContexts, TreesCountTo, has_own_name, properties_count, tree_count}
 use Rattle.bundle_rules.specs.Counts.{scope_count_from}
 use Rattle.bundle_rules.specs.Linking.{CommonJs, External}
 use Rattle.bundle_rules.specs.Meaning.{Of, IsMeant}
 use Rattle.bundle_rules.specs.Nodes.{Text}
 use Rattle.bundle_rules.specs.Places.{start}
-use Rattle.bundle_rules.specs.Program.{Program, IsReached}
+use Rattle.bundle_rules.specs.Program.{Program, IsList, IsReached}
 use Rattle.bundle_rules.specs.Scopes.{Es}
 use Rattle.bundle_link_index.proofs.ProgramLemmas.{map_back}
 use Rattle.bundle_link_reached.specs.Alike.{IsAlike}
 use Rattle.bundle_link_reached.proofs.ElementLemmas.{later}
+use Rattle.bundle_merge_whole.specs.made.Given.{Holder}
 use Rattle.bundle_merge_whole.specs.moved.Renumbered.{cause_by}
 use Rattle.bundle_merge_whole.proofs.moved.Due.{cause-back, common-by, due-by, due-named, mapped-at, reach-by, reach-named, turned-round}
 use Rattle.bundle_merge_whole.proofs.moved.Owed.{AreRenamed, EachModule}
 use Rattle.bundle_merge_whole.proofs.moved.Requested.{list-by, list-named}
 use Rattle.bundle_merge_whole.proofs.moved.Stand.{may-hold-by, meant-both}
 use Rattle.bundle_merge_whole.proofs.moved.Targets.{kind-by}
+use Rattle.bundle_merge_whole.proofs.moved.Reached.{asked-reached}
 use Rattle.bundle_merge_whole.proofs.planned.ListLemmas.{contains-get, here}
+use Rattle.bundle_merge_whole.proofs.planned.RequestLemmas.{listed-used}
+use Rattle.bundle_merge_names.specs.Added as n
+use Rattle.bundle_merge_names.specs.Added.{IsOfLabels, IsOfModule}
 
 names-as : {P Q : Text → Type 0} {names : List Text} → ((x : Text) → P x ↔ Q x) →
     AreNames P names → AreNames Q names
@@ -207,3 +213,58 @@ pub named-by : (p q : Program) (R : ℕ → ℕ → Type 0) (name back : ℕ →
 named-by p q R name back its hooks m reached gets =
     f.gets (reach-by p q R name back its m reached)
     (gets-by p q R name back its hooks (reach-named p q R name back its m reached) gets)
+
+-- a label of the linker's own stands in an item that is due
+label-due : (p : Program) (form : Form) (list : List ℕ) → IsList p list → (holder : Holder) →
+    IsOfLabels p list holder →
+    (cause : Cause) × IsDue p form cause × (has_own_name cause ≡ true)
+label-due p form list is holder (n.of_externals its) =
+    by_taken its.its its.meant
+  where
+    used : IsUsed p its.specifier
+    used = listed-used p list is its.specifier its.asked
+
+    by_taken : (taken : Taken) → IsMeant p (Of (External its.specifier taken)) →
+        (cause : Cause) × IsDue p form cause × (has_own_name cause ≡ true)
+    by_taken (Named x) meant = (ImportsNames its.specifier, d.imports_names used meant, refl)
+    by_taken Whole meant = (ImportsWhole its.specifier, d.imports_whole used meant, refl)
+label-due p form list is holder (n.of_helpers its) =
+    (Helps, d.helps its.reached its.common_js, refl)
+label-due p form list is holder (n.of_modules its) = by_module its.its
+  where
+    by_module : IsOfModule p its.k holder →
+        (cause : Cause) × IsDue p form cause × (has_own_name cause ≡ true)
+    by_module (n.its_load its_load) = (Defines its.k, d.defines its.reached its_load.so, refl)
+    by_module (n.its_meta its_meta) =
+        (HoldsMeta its.k, d.holds_meta its.reached its_meta.so, refl)
+    by_module (n.its_loads loads) = (
+      Defines loads.c,
+      d.defines (asked-reached p its.k loads.c its.reached loads.asked) loads.asked.common_js,
+      refl,
+    )
+    by_module (n.its_namespace space) =
+        (HoldsNamespace its.k, d.holds_namespace space.so, refl)
+
+-- other numbers change nothing in that
+own-name : (name : ℕ → ℕ) (cause : Cause) →
+    has_own_name (cause_by name cause) ≡ has_own_name cause
+own-name name (Own m k) = refl
+own-name name (ImportsNames s) = refl
+own-name name (ImportsWhole s) = refl
+own-name name (ImportsNothing s) = refl
+own-name name Helps = refl
+own-name name (Defines c) = refl
+own-name name (Loads m c) = refl
+own-name name (HoldsMeta m) = refl
+own-name name (HoldsNamespace m) = refl
+own-name name (Stars s) = refl
+own-name name Exports = refl
+
+-- or the entry, where a label of the linker's own gets none
+pub named-own : (p q : Program) (R : ℕ → ℕ → Type 0) (name back : ℕ → ℕ) →
+    AreRenamed p q R name back → (hooks : Hooks) (list : List ℕ) → IsList p list →
+    (holder : Holder) → IsOfLabels p list holder → IsNamedForContexts q hooks q.entry
+named-own p q R name back its hooks list is holder label =
+    let there = label-due p (form_of q.settings) list is holder label in
+    f.own (cause_by name there.0) (due-by p q R name back its there.1)
+    (own-name name there.0 ∙ there.2)

@@ -199,7 +199,7 @@ module _ (p : Program) (list : List ℕ) (answers : ℕ → Option Answer) (bund
   -- contexts are lacking for the labels
   pub names-refused : (refusal : MergeError) → RefusesLabels Gets before refusal → RefusesNames p list answers (position bundle.contexts) refusal
   names-refused _ for_memory = for_scopes r.for_memory
-  names-refused _ (for_contexts last used) = for_labels (record {
+  names-refused _ (for_contexts last used) = for_labels (holder_of used.label) used.due (record {
     holders = (have last used.others used.later used.all_so).holders;
     are = are-labels last used.others used.later used.all_so;
     above = λ most has.

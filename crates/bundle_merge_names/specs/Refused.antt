@@ -84,5 +84,7 @@ pub data RefusesNames (p : Program) (list : List ℕ) (answers : ℕ → Option 
   for_scopes : {refusal : MergeError} →
       RefusesContextsIn p list answers next refusal →
       RefusesNames p list answers next refusal
-  for_labels : LacksForLabels p list answers next →
+  for_labels : (label : Holder) →
+      IsGiven (λ m. stands_written (answers m)) (IsOfLabels p list) label →
+      LacksForLabels p list answers next →
       RefusesNames p list answers next (ContextsUsedUp None)

@@ -1,22 +1,23 @@
 -- The whole call for the smallest program: from nothing kept, with a loader that may hand in `f(1);` for main.js, the
 -- bundle `f(1);` is a right answer, and so it is as one function's call and where bundles are not renamed.
-use Rattle.std.proofs.Common.{◌≡◌, ℕ, Bool, zero, suc, ◌<◌, true, false, List, [], ◌∷◌, inl, inr, Option, Some, None, refl, sym, subst, ap, arith, lit<, true≢false}
+use Rattle.std.proofs.Common.{◌≡◌, ℕ, Bool, zero, suc, ◌<◌, true, false, List, [], ◌∷◌, inl, inr, Option, Some, None, refl, sym, subst, ap, ◌∙◌, arith, lit<, true≢false}
 use Rattle.std.specs.Prelude.{◌⊎◌, Contains, cond, slice_get}
 use Rattle.bundle_tree_names.specs.FileName.{name_eq}
-use Rattle.bundle_rules.specs.Program.{Loaded}
+use Rattle.bundle_rules.specs.Program.{Loaded, tree_of}
 use Rattle.bundle_tree_piece.specs.Item as h
 use Rattle.bundle_tree_piece.specs.Item.{Item, Head}
-use Rattle.bundle_rules.specs.Entries.{Settings, ExportEntry}
+use Rattle.bundle_rules.specs.Entries.{Settings, ExportEntry, has_import_meta}
 use Rattle.bundle_rules.specs.Kept.{Kept, Answers, nothing_kept, number_in, kept_module, kept_file}
-use Rattle.bundle_rules.specs.Bundle.{is_with}
-use Rattle.bundle_rules.specs.Faults.{Fault, Parties, ListedName, IsFaultless, doubled_export, undeclared_export, with_statement, NumbersUsedUp, GetsContexts, by_tree, by_function, by_answer, IsNamedForContexts, gets, own}
+use Rattle.bundle_rules.specs.Bundle as b
+use Rattle.bundle_rules.specs.Bundle.{Form, Cause, IsDue, is_with}
+use Rattle.bundle_rules.specs.Faults.{Fault, Parties, ListedName, IsFaultless, doubled_export, undeclared_export, with_statement, NumbersUsedUp, GetsContexts, by_tree, by_function, by_answer, has_own_name, IsNamedForContexts, gets, own}
 use Rattle.bundle_rules.specs.Judging.{Entry, requests_in, AreDistinct, Grows, same, met, Completes}
 use Rattle.bundle_rules.specs.Judging as j
 use Rattle.bundle_rules.specs.Forms.{wrapped}
 use Rattle.bundle_rules.specs.Headline.{Bundles, IsContextsFault, IsHeadline}
 use Rattle.bundle_rules.proofs.KeptLemmas.{stays}
 use Rattle.bundle_rules.proofs.Programs.{main_js, loaded}
-use Rattle.bundle_rules.proofs.BundleExamples.{Setup, as_module, as_call, with_contexts, p, no_element, only_main, es, kept, call, settings, tree, tree_with}
+use Rattle.bundle_rules.proofs.BundleExamples.{Setup, as_module, as_call, with_contexts, p, no_element, only_main, es, meant_nothing, kept, call, settings, tree, tree_with}
 use Rattle.bundle_rules.proofs.WholeExamples.{bundled, entry, is_bundle_of, is_bundle_of_contexts, is_bundle_of_a_call}
 
 abbrev entries : List Entry
@@ -106,15 +107,29 @@ list_comes_first parties settings old new fault f = f.completes.distinct entry (
     none : (k l : ℕ) (a b : Entry) → k < l → l < 1 → slice_get (entry ∷ entry ∷ []) k ≡ Some a → slice_get (entry ∷ entry ∷ []) l ≡ Some b → (a.name ≡ b.name) ⊎ (a.file ≡ b.file) → ⊥
     none k l a b below one there other either = grind arith
 
--- a want of contexts for `f(1);` names main.js: no scope begins in it, so that only the linker's own names get contexts
-pub names_the_entry : (how : Setup) (parties : Parties) (m : ℕ) → IsNamedForContexts (p how) parties.hooks m → m ≡ 0
-names_the_entry how parties m (gets reached its) = only_main how m reached
-names_the_entry how parties m own = refl
-
+-- no want of contexts is told of `f(1);`: no scope begins in it, and the linker adds no name of its own
 pub no_contexts_of_its_own : (how : Setup) (parties : Parties) → GetsContexts (p how) parties.hooks 0 → ⊥
 no_contexts_of_its_own how parties (by_tree some) = grind (arith, some)
 no_contexts_of_its_own how parties (by_function c) = es how 0 c
 no_contexts_of_its_own how parties (by_answer properties has held some) = true≢false (sym has)
+
+pub no_name_of_its_own : (how : Setup) (form : Form) (cause : Cause) → IsDue (p how) form cause → has_own_name cause ≡ false
+no_name_of_its_own how form cause (b.own reached other below) = refl
+no_name_of_its_own how form cause (b.imports_names used meant) = absurd (meant_nothing how _ meant)
+no_name_of_its_own how form cause (b.imports_whole used meant) = absurd (meant_nothing how _ meant)
+no_name_of_its_own how form cause (b.imports_nothing used none whole) = refl
+no_name_of_its_own how form cause (b.helps {c = c} reached common) = absurd (es how c common)
+no_name_of_its_own how form cause (b.defines {c = c} reached common) = absurd (es how c common)
+no_name_of_its_own how form cause (b.loads reached other asks) = absurd (es how _ asks.common_js)
+no_name_of_its_own how form cause (b.holds_meta {m = m} reached has) = absurd (true≢false (sym (subst (λ n. has_import_meta (tree_of (p how) n) ≡ true) (only_main how m reached) has)))
+no_name_of_its_own how form cause (b.holds_namespace meant) = absurd (meant_nothing how _ meant)
+no_name_of_its_own how form cause (b.stars star) = refl
+no_name_of_its_own how form cause (b.exports is linked) = refl
+no_name_of_its_own how form cause (b.returns called) = refl
+
+pub names_nothing : (how : Setup) (parties : Parties) (m : ℕ) → IsNamedForContexts (p how) parties.hooks m → ⊥
+names_nothing how parties m (gets reached its) = no_contexts_of_its_own how parties (subst (GetsContexts (p how) parties.hooks) (only_main how m reached) its)
+names_nothing how parties m (own cause due its) = true≢false (sym its ∙ no_name_of_its_own how _ cause due)
 
 -- Where `f(1);` alone is kept, nothing more is, whatever the parties answer: it asks for nothing.
 

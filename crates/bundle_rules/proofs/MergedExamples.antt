@@ -1,26 +1,31 @@
 -- Bundles that are refused, by contexts, by a fault of the program, or by what a hook answered.
-use Rattle.std.proofs.Common.{◌≡◌, ℕ, true, false, List, [], ◌∷◌, ◌++◌, Some, None, refl, sym, ap, arith, lit<, true≢false}
-use Rattle.std.specs.Prelude.{codes, slice_get}
-use Rattle.bundle_tree_leaf.specs.declared.kind.VarDeclKind.TheVariants.{Let, Var}
+use Rattle.std.proofs.Common.{◌≡◌, ℕ, zero, suc, true, false, List, [], ◌∷◌, ◌++◌, Some, None, refl, sym, ap, ◌∙◌, arith, lit<, true≢false}
+use Rattle.std.specs.Prelude.{Contains, codes, option_map, slice_get}
+use Rattle.std.proofs.lemmas.Option.{none-some, same_Some}
+use Rattle.bundle_tree_leaf.specs.declared.kind.VarDeclKind.TheVariants.{Const, Let, Var}
 use Rattle.bundle_tree_piece.specs.Item as h
 use Rattle.bundle_tree_piece.specs.Item.{Item}
 use Rattle.bundle_tree_piece.specs.declared.piece.Role.TheVariants.{Binding, Reference}
+use Rattle.bundle_rules.specs.Places.{Occurrence, occurrences}
 use Rattle.bundle_rules.specs.Scopes.{Es, Top}
-use Rattle.bundle_rules.specs.Declarations.{ByContext, Declared as Declaration}
-use Rattle.bundle_rules.specs.Denotes.{Bound}
+use Rattle.bundle_rules.specs.Declarations.{ByContext, Declared as Declaration, declared}
+use Rattle.bundle_rules.specs.Denotes.{Denoted, Bound, Global, denoted_of}
+use Rattle.bundle_rules.specs.Keywords.{keyword_free}
 use Rattle.bundle_order_graph.specs.Walks.{itself}
-use Rattle.bundle_rules.specs.Nodes.{IsWholeModule}
+use Rattle.bundle_rules.specs.Nodes.{Text, IsWholeModule}
+use Rattle.bundle_rules.specs.Statements.{no_notes}
 use Rattle.bundle_rules.specs.Entries.{Settings}
 use Rattle.bundle_rules.specs.Parts.{Parts}
 use Rattle.bundle_rules.specs.Program.{Program}
 use Rattle.bundle_rules.specs.Kept.{Kept, local_context}
 use Rattle.bundle_rules.specs.Linking.{Declared}
-use Rattle.bundle_rules.specs.Meaning.{Of, Labelling, is_es}
+use Rattle.bundle_rules.specs.Meaning.{Label, Of, Labelling, is_es}
 use Rattle.bundle_rules.specs.Bundle.{Hooks, Labelled, AreFaultless}
 use Rattle.bundle_rules.specs.Faults.{Parties}
 use Rattle.bundle_rules.specs.Judging.{Entry, AcceptsProgram}
 use Rattle.bundle_rules.specs.Merged.{Contexts, HasContexts, BindsOwn, IsPrepared}
 use Rattle.bundle_rules.specs.Headline.{BundleKind, Dynamic, IsBundleOf, IsClean}
+use Rattle.bundle_rules.proofs.PlacesLemmas.{occurrence_at-listed}
 use Rattle.bundle_rules.proofs.Trees.{node, module_of, word, number, function, declares, imports, exports_const, exports_default, uses, runs}
 use Rattle.bundle_rules.proofs.Programs.{program}
 use Rattle.bundle_rules.proofs.FaultExamples.{ring, x_is_missing, under_iife}
@@ -32,12 +37,57 @@ abbrev read : List Item → Labelling → Labelled
 read tree labels = record { tree = tree; reading = ByContext; labels = labels }
 
 -- where zzz has the context 4 the contexts are wrong
-strange_global : (local : ℕ → ℕ) → HasContexts local (read (module_of (runs (h.Ident 0 (codes "zzz") 4 Reference ∷ []))) []) → ⊥
-strange_global local has = let e : ◌≡◌ {A = ℕ} 4 1 = has.globals 2 _ (codes "zzz") refl refl in grind arith
+strange_global : (spelled : Text → Text) (local : ℕ → ℕ) → HasContexts spelled local (read (module_of (runs (h.Ident 0 (codes "zzz") 4 Reference ∷ []))) []) → ⊥
+strange_global spelled local has = let e : ◌≡◌ {A = ℕ} 4 1 = has.globals 2 _ (codes "zzz") refl refl in grind arith
 
 -- a name x of module 3 with another context than its module's is wrong too
-strange_local : (tree : List Item) → HasContexts local_context (read tree ((Bound Top (record { sym = codes "x"; ctxt = Some 2 }), Of (Declared 3 (codes "x"))) ∷ [])) → ⊥
+strange_local : (tree : List Item) → HasContexts keyword_free local_context (read tree ((Bound Top (record { sym = codes "x"; ctxt = Some 2 }), Of (Declared 3 (codes "x"))) ∷ [])) → ⊥
 strange_local tree has = cc (has.declared Top (record { sym = codes "x"; ctxt = Some 2 }) 3 (codes "x") (0, lit< tt, refl) refl)
+
+-- and so is `const __default#9` of `export default 1;` in module 0, where no name is `__default#2`
+abbrev default_with : ℕ → List Item
+default_with ctxt = node 0 (h.VarDecl Const no_notes) (node 1 h.VarDeclarator (node 0 h.BindingIdent (h.Ident 0 (codes "__default") ctxt Binding ∷ []) ++ number 1 (codes "1")))
+
+abbrev default_label : Labelling
+default_label = (Bound Top (record { sym = codes "__default"; ctxt = Some 9 }), Of (Declared 0 (codes "default"))) ∷ []
+
+strange_default : HasContexts keyword_free local_context (read (module_of (default_with 9)) default_label) → ⊥
+strange_default has = let it = has.stands Top (record { sym = codes "__default"; ctxt = Some 9 }) 0 (codes "default") (0, lit< tt, refl) in other it.0 it.1 it.3
+  where
+    other : (o : Occurrence) → Contains (occurrences (module_of (default_with 9))) o → o.ctxt ≡ 2 → ⊥
+    other o (zero, within, is) e = let nine : ◌≡◌ {A = ℕ} 9 2 = ap (λ (q : Occurrence). q.ctxt) is ∙ e in grind arith
+    other o (suc i, within, is) e = grind arith
+
+-- with `const __default = 2;` beside it in that module, which has that one, it may have lost its own
+lost_default : HasContexts keyword_free local_context (read (module_of (default_with 9 ++ default_with 2)) default_label)
+lost_default = record {
+  declared = λ scope name m x c kept. absurd (is_default m x (its_label c) kept);
+  stands = λ scope name m x c. let is = its_label c in (_, (1, lit< tt, refl), ap (λ l. keyword_free (text_of l)) is, ap (λ l. local_context (module_in l)) is);
+  globals = λ place o x there denotes. let listed = occurrence_at-listed both place o there in absurd (no_global listed.0 o x listed.1 (same_Some _ _ (sym (ap (option_map (denoted_of ByContext Es (declared ByContext Es both))) there) ∙ denotes)));
+}
+  where
+    text_of : Label → Text
+    text_of (Of (Declared m x)) = x
+    text_of l = []
+
+    module_in : Label → ℕ
+    module_in (Of (Declared m x)) = m
+    module_in l = 0
+
+    its_label : {d : Denoted} {l : Label} → Contains default_label (d, l) → Of (Declared 0 (codes "default")) ≡ l
+    its_label (zero, within, is) = ap (λ (pair : Denoted × Label). pair.1) is
+    its_label (suc i, within, is) = grind arith
+
+    is_default : (m : ℕ) (x : Text) → Of (Declared 0 (codes "default")) ≡ Of (Declared m x) → keyword_free x ≡ x → ⊥
+    is_default m x is kept = cc (ap (λ l. keyword_free (text_of l)) is ∙ kept ∙ sym (ap text_of is))
+
+    both : List Item
+    both = module_of (default_with 9 ++ default_with 2)
+
+    no_global : (i : ℕ) (o : Occurrence) (x : Text) → slice_get (occurrences both) i ≡ Some o → denoted_of ByContext Es (declared ByContext Es both) o ≡ Global x → ⊥
+    no_global zero o x at denotes = cc (ap (denoted_of ByContext Es (declared ByContext Es both)) (same_Some _ o at) ∙ denotes)
+    no_global (suc zero) o x at denotes = cc (ap (denoted_of ByContext Es (declared ByContext Es both)) (same_Some _ o at) ∙ denotes)
+    no_global (suc (suc i)) o x at denotes = absurd (none-some o at)
 
 -- a binding with the context 1 would be taken for a global
 bound_as_a_global : BindsOwn (module_of (runs (h.Ident 0 (codes "Object") 1 Binding ∷ []))) → ⊥

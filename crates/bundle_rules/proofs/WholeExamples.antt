@@ -179,8 +179,8 @@ is_prepared how hooks = record {
 -- It is merged as it is.
 
 -- nothing is declared, and the one name is a global
-contexts : (hooks : Hooks) → HasContexts local_context (labelled resolved_tree ByContext (pairing 1))
-contexts hooks = record { declared = λ scope name m x there keyword. absurd (no_element _ there); globals = λ place o x at global. (each place o at).1 }
+contexts : (hooks : Hooks) → HasContexts keyword_free local_context (labelled resolved_tree ByContext (pairing 1))
+contexts hooks = record { declared = λ scope name m x there kept. absurd (no_element _ there); stands = λ scope name m x there. absurd (no_element _ there); globals = λ place o x at global. (each place o at).1 }
 
 -- each item stands for the one statement
 own_alone : (m k : ℕ) (item : TopItem) → StandsFor (pairing 1) (Own m k) item → (m ≡ 0) × (k ≡ 0) × (item ≡ record { start = 1; items = call_with 1 })

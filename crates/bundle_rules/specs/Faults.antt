@@ -407,10 +407,24 @@ pub data GetsContexts (p : Program) (hooks : Hooks) (m : ℕ) : Type 0 where
       0 < scope_count_from start (properties_tree properties) →
       GetsContexts p hooks m
 
--- the module whose file is named where contexts do not suffice: one that gets some, or else the entry, for the linker's own names
+-- whether an item for this cause has a name of the linker's own, or loads by one
+abbrev pub has_own_name : Cause → Bool
+has_own_name (ImportsNames s) = true
+has_own_name (ImportsWhole s) = true
+has_own_name Helps = true
+has_own_name (Defines c) = true
+has_own_name (Loads m c) = true
+has_own_name (HoldsMeta m) = true
+has_own_name (HoldsNamespace d) = true
+has_own_name _ = false
+
+-- the module whose file is named where contexts do not suffice: one that gets some; or else the entry, where the linker has a name of its own to give
 pub data IsNamedForContexts (p : Program) (hooks : Hooks) : ℕ → Type 0 where
   gets : {m : ℕ} → IsReached p m → GetsContexts p hooks m → IsNamedForContexts p hooks m
-  own : IsNamedForContexts p hooks p.entry
+  own : (cause : Cause) →
+      IsDue p (form_of p.settings) cause →
+      has_own_name cause ≡ true →
+      IsNamedForContexts p hooks p.entry
 
 -- the first context above those of files: two for each number, and two more
 abbrev pub first_context : Program → ℕ

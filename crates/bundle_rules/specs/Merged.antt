@@ -11,7 +11,7 @@ use Rattle.bundle_rules.specs.Scopes.{ModuleKind, Es, Scope}
 use Rattle.bundle_rules.specs.Declarations.{ByContext, Name}
 use Rattle.bundle_rules.specs.Denotes.{Bound, Global, denoted_at, IsResolved}
 use Rattle.bundle_rules.specs.Doubled.{first_doubled}
-use Rattle.bundle_rules.specs.Keywords.{is_keyword, keyword_free}
+use Rattle.bundle_rules.specs.Keywords.{keyword_free}
 use Rattle.bundle_rules.specs.Nodes.{Text, parts, IsWholeModule}
 use Rattle.bundle_rules.specs.Entries.{has_import_meta}
 use Rattle.bundle_rules.specs.Cleared.{tidied}
@@ -131,12 +131,15 @@ pub record IsPrepared (p : Program) (hooks : Hooks) (contexts : ℕ → Contexts
 
 -- What comes of it.
 
--- contexts of a bundle that is read by them: a name that a module declares has the module's local one, but for keywords, which may have lost it; a global has 1
-pub record HasContexts (local : ℕ → ℕ) (b : Labelled) : Type 0 where
+-- contexts of a bundle that is read by them, where names are spelled so: a name that a module declares has the module's local one; one that is spelled otherwise may have lost it, but only to a name that is spelled so with it; a global has 1
+pub record HasContexts (spelled : Text → Text) (local : ℕ → ℕ) (b : Labelled) : Type 0 where
   pub declared : (scope : Scope) (name : Name) (m : ℕ) (x : Text) →
       Contains b.labels (Bound scope name, Of (Declared m x)) →
-      is_keyword x ≡ false →
+      spelled x ≡ x →
       name.ctxt ≡ Some (local m)
+  pub stands : (scope : Scope) (name : Name) (m : ℕ) (x : Text) →
+      Contains b.labels (Bound scope name, Of (Declared m x)) →
+      (o : Occurrence) × Contains (occurrences b.tree) o × (o.sym ≡ spelled x) × (o.ctxt ≡ local m)
   pub globals : (place : ℕ) (o : Occurrence) (x : Text) →
       occurrence_at b.tree place ≡ Some o →
       denoted_at ByContext Es b.tree place ≡ Some (Global x) →
@@ -151,7 +154,7 @@ pub record IsMerged (spelled : Text → Text) (local : ℕ → ℕ) (p : Program
   pub is_bundle : IsBundle p hooks AsModule ByContext tree
   pub resolved : IsResolved Es tree
   pub named : HasNamesOnly tree
-  pub contexts : HasContexts local (labelled tree ByContext is_bundle.pairing)
+  pub contexts : HasContexts spelled local (labelled tree ByContext is_bundle.pairing)
   pub binds : BindsOwn tree
   pub called : AreCalled spelled p hooks (labelled tree ByContext is_bundle.pairing) is_bundle.pairing
 

@@ -7,13 +7,13 @@ use Rattle.bundle_rules.specs.Declarations.{Name, BySymbol}
 use Rattle.bundle_tree_piece.specs.Item.{Item}
 use Rattle.bundle_rules.specs.Nodes.{Text, side_by_side}
 use Rattle.bundle_rules.specs.Statements.{TopItem, Element, taken_from, placed, own_statements}
-use Rattle.bundle_rules.specs.Bundle.{Hooks, Labelled, sense_of, elements_of, IsLoadFunction, MayHold, properties_tree, Pairing, StandsFor, Own, Defines, Helps, HoldsMeta}
+use Rattle.bundle_rules.specs.Bundle.{Hooks, Labelled, sense_of, elements_of, ItemMeans, IsLoadFunction, MayHold, properties_tree, PropertiesMean, Pairing, StandsFor, Own, Defines, Helps, HoldsMeta}
 use Rattle.std.specs.List.{AllZip}
 use Rattle.bundle_rules.specs.Entries.{Taken, Named, Whole, ImportEntry, ExportEntry, Local, Indirect, Star}
 use Rattle.bundle_rules.specs.Program.{Program, tree_of, resolves, IsList}
 use Rattle.bundle_rules.specs.Linking.{Target, Declared, Namespace, External, CommonJs, imports, exports}
-use Rattle.bundle_rules.specs.Meaning.{View, inner_bindings, own_view, Label, Of, Parameter, Load, Meta, Helper}
-use Rattle.bundle_rules.specs.Injected.{is_ascii_identifier}
+use Rattle.bundle_rules.specs.Meaning.{Mark, View, inner_bindings, own_view, Label, Of, Parameter, Load, Meta, Helper}
+use Rattle.bundle_rules.specs.Injected.{is_ascii_identifier, meta_object}
 
 -- whether the same is taken
 abbrev pub same_taken : Taken → Taken → Bool
@@ -86,10 +86,13 @@ item_symbols b item = inner_symbols (sense_of b).view item.start (elements_of it
 abbrev pub CalledAlike : (Text → Text) → Labelled → View → TopItem → List Element → Type 0
 CalledAlike spelled b view item statement = item_symbols b item ≡ map spelled (inner_symbols view 0 statement)
 
--- the same of the properties of an `import.meta` object, which are some answer of the hook
+-- the same of the properties of an `import.meta` object, which are those of an answer of the hook that the object means
 pub record CalledAsAnswered (spelled : Text → Text) (p : Program) (hooks : Hooks) (b : Labelled) (m : ℕ) (item : TopItem) : Type 0 where
   pub properties : List Item
   pub held : MayHold p hooks m properties
+  pub marks : List Mark
+  pub means : PropertiesMean properties marks
+  pub object : ItemMeans b item (meta_object m marks)
   pub alike : CalledAlike spelled b (record { tree = properties_tree properties; kind = Es; reading = BySymbol }) item (taken_from 3 properties)
 
 -- the bindings of a bundle are called right: each labelled one as its label and those inside items as in the source, each spelled so

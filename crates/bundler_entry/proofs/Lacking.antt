@@ -12,7 +12,7 @@ use Rattle.bundle_rules.specs.Declarations.{BySymbol, Name}
 use Rattle.bundle_rules.specs.Denotes.{Bound, denoted_as}
 use Rattle.bundle_rules.specs.Entries.{has_import_meta}
 use Rattle.bundle_rules.specs.Faults as f
-use Rattle.bundle_rules.specs.Faults.{Fault, GetsContexts, NeedsTooManyContexts, fault_of, first_context}
+use Rattle.bundle_rules.specs.Faults.{Fault, GetsContexts, IsNamedForContexts, NeedsTooManyContexts, fault_of, first_context}
 use Rattle.bundle_rules.specs.Meaning.{HasKind, is_common_js, is_es}
 use Rattle.bundle_rules.specs.Program.{Program, file_of, tree_of, IsReached}
 use Rattle.bundle_rules.specs.Scopes.{Inner, ModuleKind, ScopeKind}
@@ -29,7 +29,9 @@ use Rattle.bundle_merge_whole.proofs.answered.Numbered.{tree-fit}
 use Rattle.bundle_merge_whole.proofs.planned.BundleLemmas.{for-call}
 use Rattle.bundle_merge_whole.proofs.planned.TreeCountLemmas.{AreAnswers}
 use Rattle.bundle_merge_whole.proofs.sound.Decided.{decided}
-use Rattle.bundle_merge_names.specs.Refused.{RefusesNames, for_answer, for_module, for_scopes}
+use Rattle.bundle_merge_names.specs.Refused as names
+use Rattle.bundle_merge_names.specs.Refused.{RefusesNames, for_answer, for_labels, for_module, for_scopes}
+use Rattle.bundle_merge_names.specs.declared.error.MergeError.{MergeError}
 use Rattle.bundle_merge_names.specs.declared.error.MergeError.TheVariants as e
 use Rattle.bundler_entry.specs.Linked.{IsCallOf, IsFileAt, IsLinkedEntry}
 use Rattle.bundler_entry.specs.Made as made
@@ -44,7 +46,7 @@ use Rattle.bundler_entry.proofs.Bundled.{AreHeld, at-place, by-places}
 use Rattle.bundler_entry.proofs.InnerLemmas.{scope-begins}
 use Rattle.bundler_entry.proofs.Known as known
 use Rattle.bundle_merge_items.proofs.LackLemmas.{refused-lacks}
-use Rattle.bundle_merge_items.proofs.NeedsLemmas.{named-by, needs-by, needs-earlier}
+use Rattle.bundle_merge_items.proofs.NeedsLemmas.{named-by, named-own, needs-by, needs-earlier}
 
 module _ (p : Program) (entry : ℕ) (call : Call) (w : IsCallOf p entry call) (linked : Linked)
     (l : IsLinkedEntry p call linked) where
@@ -153,6 +155,16 @@ module _ (p : Program) (entry : ℕ) (call : Call) (w : IsCallOf p entry call) (
     refused-gets next k (for_scopes (for_answer m begins holder lacks)) =
         answer-gets k begins holder
 
+    -- where a label of the linker's own gets none, the entry is named
+    refused-own : (next : ℕ) (refusal : MergeError) → refusal ≡ e.ContextsUsedUp None →
+        RefusesNames q places (all_fresh given) next refusal → IsNamedForContexts p hooks p.entry
+    refused-own next _ none (for_scopes names.for_memory) = absurd cc
+    refused-own next _ none (for_scopes (for_module m begins holder lacks)) = absurd cc
+    refused-own next _ none (for_scopes (for_answer m begins holder lacks)) = absurd cc
+    refused-own next _ none (for_labels label its lacks) =
+        named-own q p (λ k m. IsAt ids m k) (id_at ids) (λ m. index_of m ids)
+        (by-places p entry call w linked l) hooks places are-decided.list label its.its
+
     -- LACKING
     pub contexts-lack : (unlinked : Unlinked) (fault : Fault) →
         IsRefusedMaking l.links.places call linked given unlinked →
@@ -176,7 +188,7 @@ module _ (p : Program) (entry : ℕ) (call : Call) (w : IsCallOf p entry call) (
         }
     contexts-lack unlinked fault (made.for_entry next told before refuses same) is = record {
       m = p.entry;
-      named = f.own;
+      named = refused-own next (e.ContextsUsedUp None) refl refuses;
       file = name_of call.entry.now;
       its_file = ap (file_of p) w.begins ∙ w.named;
       is = sym (same_Some (f.ContextsUsedUp (name_of told)) fault is) ∙ ap f.ContextsUsedUp same;

@@ -97,7 +97,7 @@ names-reached : (q : Program) (list : List ℕ) (answers : ℕ → Option Answer
     (refusal : MergeError) → RefusesNames q list answers next refusal → TellsReached q refusal
 names-reached q list answers next refusal (r.for_scopes refuses) =
     scopes-reached q list answers next refusal refuses
-names-reached q list answers next _ (r.for_labels lacks) = tt
+names-reached q list answers next _ (r.for_labels label given lacks) = tt
 
 module _ (p : Program) (entry : ℕ) (call : Call) (w : IsCallOf p entry call) (linked : Linked) (l : IsLinkedEntry p call linked) (answers : ℕ → Option (List Item)) where
   abbrev ids : List ℕ

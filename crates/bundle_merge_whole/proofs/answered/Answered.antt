@@ -301,7 +301,10 @@ module _ (list : List ℕ) {p : Program} {hooks : Hooks} {context : Contexts}
         ));
     called = (
       properties,
+      marks,
       facts.its.held,
+      properties-mean properties facts.its.fit marks facts.its.source,
+      refl,
       ap (map denoted_symbol) (sym inside-told)
           ∙ s.object-called list facts
           ∙ ap (map denoted_symbol) (sym (inner-names properties)),

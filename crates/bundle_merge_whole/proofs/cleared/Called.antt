@@ -96,6 +96,9 @@ module _ (p : Program) (f g : Modules) (w : AreSameCleared f g) where
         record {
           properties = answered.properties;
           held = may-hold-on p f g w hooks m answered.properties answered.held;
+          marks = answered.marks;
+          means = answered.means;
+          object = answered.object;
           alike = answered.alike;
         });
   }
@@ -108,7 +111,12 @@ module _ (p : Program) (f g : Modules) (w : AreSameCleared f g) where
     is_bundle = bundle-on p f g w hooks AsModule ByContext merged its.is_bundle;
     resolved = its.resolved;
     named = its.named;
-    contexts = record { declared = its.contexts.declared; globals = its.contexts.globals };
+    contexts =
+        record {
+          declared = its.contexts.declared;
+          stands = its.contexts.stands;
+          globals = its.contexts.globals;
+        };
     binds = its.binds;
     called =
         called-on spelled hooks (labelled merged ByContext its.is_bundle.pairing)

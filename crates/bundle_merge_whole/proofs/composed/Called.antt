@@ -1,16 +1,17 @@
 -- What bindings are called where keywords are renamed: as before, but for a `__` before a
 -- keyword's.
-use Rattle.std.proofs.Common.{◌≡◌, ◌≤◌, ℕ, ◌==◌, Bool, true, false, cond, List, [], ◌∷◌, ◌++◌, Option, Some, None, option_map, filter, find, codes, map, slice_get, refl, ap, sym, ◌∙◌, arith}
+use Rattle.std.proofs.Common.{◌≡◌, ◌≤◌, ℕ, ◌==◌, ◌&&◌, Bool, true, false, cond, not, List, [], ◌∷◌, ◌++◌, Option, Some, None, option_map, filter, find, bytes_eq, codes, map, slice_get, refl, ap, sym, ◌∙◌, eqb-true, arith}
 use Rattle.std.specs.Prelude.{Contains, is_some, IsTrue}
 use Rattle.std.specs.List.{AllZip}
-use Rattle.std.proofs.lemmas.Bool.{false≢true}
+use Rattle.std.proofs.lemmas.Bool.{false≢true, and_parts}
 use Rattle.std.proofs.lemmas.Option.{none-some, same_Some, slice_get-map}
+use Rattle.std.proofs.lemmas.Slice.Eq.{bytes_eq-Decides}
 use Rattle.bundle_tree_piece.specs.Item.{Item}
 use Rattle.bundle_rules.specs.Places.{Spot, Occurrence, occurrence_at, occurrences, in_field, occurrences_from}
 use Rattle.bundle_rules.specs.Scopes.{Es, Scope, scopes_around}
 use Rattle.bundle_rules.specs.Declarations.{Reading, ByContext, Name, Declared, declared, declaration_of}
 use Rattle.bundle_rules.specs.Denotes.{Denoted, Bound, Global, without_context, bound_in, is_written_in, is_implied_in, written_or_implied, denoted_by_context, own_or_found, denoted_of, denoted_at, denotations, IsResolved}
-use Rattle.bundle_rules.specs.Keywords.{is_keyword, keyword_free, keyword_free_of, has_right_context}
+use Rattle.bundle_rules.specs.Keywords.{is_keyword, keyword_free, keyword_free_of, has_ident, is_unused_context, has_right_context}
 use Rattle.bundle_rules.proofs.PlacesLemmas.{occurrence_at-listed, occurrences-at}
 use Rattle.bundle_rules.specs.Nodes.{Text}
 use Rattle.bundle_rules.specs.Renamed.{HasNamesOnly, IsRidOfKeywords}
@@ -22,7 +23,7 @@ use Rattle.bundle_rules.specs.Symbols.{denoted_symbol, symbol_of_label}
 use Rattle.bundle_merge_meaning.specs.joined.Notes.{its_name}
 use Rattle.bundle_merge_meaning.specs.joined.Joined.{joined}
 use Rattle.bundle_merge_meaning.specs.walked.Renewed.{Renews}
-use Rattle.bundle_scope_renamed.proofs.kept.Lists.{map-in}
+use Rattle.bundle_scope_renamed.proofs.kept.Lists.{list_any-found, map-in}
 use Rattle.bundle_merge_whole.specs.composed.Noted.{denoted_from, view_of}
 use Rattle.bundle_merge_whole.specs.composed.Names.{denoted_in_tree}
 use Rattle.bundle_merge_whole.specs.composed.Becoming.{Becoming, AllOccur, labels_of}
@@ -33,6 +34,7 @@ use Rattle.bundle_merge_whole.proofs.composed.Aligned.{Turns, turns-one, Corresp
 use Rattle.bundle_merge_whole.proofs.composed.Keywords.{size, at-before, at-after, symbol-at, context-stays, as-long, zip-at, name_in}
 use Rattle.bundle_merge_whole.proofs.composed.Naming.{was-labelled}
 use Rattle.bundle_merge_whole.proofs.composed.ListFacts.{pick}
+use Rattle.bundle_merge_whole.proofs.planned.ListLemmas.{contains-get}
 use Rattle.bundle_merge_meaning.proofs.loaded.Numbers.{both_once}
 
 -- the context of what an occurrence denotes is its own, if it has one
@@ -153,6 +155,24 @@ module _ (reading other : Reading) (items others : List (List Item))
 
 -- Keywords.
 
+-- a symbol that has become free of keywords is so
+free-twice : (x : Text) → keyword_free (keyword_free x) ≡ keyword_free x
+free-twice x = by_test (is_keyword x) refl
+  where
+    by_test : (b : Bool) → is_keyword x ≡ b → keyword_free (keyword_free x) ≡ keyword_free x
+    by_test true e =
+        let is : keyword_free x ≡ codes "__" ++ x =
+        ap (λ t. cond t (codes "__" ++ x) x) e in
+        ap keyword_free is ∙ sym is
+    by_test false e =
+        let is : keyword_free x ≡ x = ap (λ t. cond t (codes "__" ++ x) x) e in
+        ap keyword_free is
+
+-- and stays, whatever it denotes
+free-of : (x : Text) → keyword_free x ≡ x → (d : Denoted) → keyword_free_of x d ≡ x
+free-of x kept (Bound scope name) = kept
+free-of x kept (Global y) = refl
+
 module _ (before after : List Item) (resolved : IsResolved Es before) (names : HasNamesOnly before)
     (rid : IsRidOfKeywords before after) (b : Becoming ByContext before ByContext after) where
   -- an occurrence, what is made of it, and what the two denote
@@ -220,17 +240,17 @@ module _ (before after : List Item) (resolved : IsResolved Es before) (names : H
       by_old (Global x) labelled is =
           let e : Bound scope name ≡ Global x = is ∙ b.globals x in absurd cc
 
-  -- labelled bindings have the contexts of their modules, but for keywords
+  -- declared names have the contexts of their modules, but for keywords
   pub contexts-become : ((scope : Scope) (name : Name) → is_some name.ctxt ≡ true → is_some
       (b.bindings scope name).0.ctxt ≡ true) → (labels : Labelling) →
       AllOccur ByContext before labels → (local : ℕ → ℕ) →
       ((scope : Scope) (name : Name) (m : ℕ) (x : Text) → Contains labels
       (Bound scope name, Of (IsDeclared m x)) → name.sym ≡ x) →
       ((scope : Scope) (name : Name) (m : ℕ) (x : Text) → Contains labels
-      (Bound scope name, Of (IsDeclared m x)) → is_keyword x ≡ false → name.ctxt ≡ Some
-      (local m)) → (scope : Scope) (name : Name) (m : ℕ) (x : Text) →
+      (Bound scope name, Of (IsDeclared m x)) → name.ctxt ≡ Some (local m)) →
+      (scope : Scope) (name : Name) (m : ℕ) (x : Text) →
       Contains (labels_of b.becomes labels) (Bound scope name, Of (IsDeclared m x)) →
-      is_keyword x ≡ false → name.ctxt ≡ Some (local m)
+      keyword_free x ≡ x → name.ctxt ≡ Some (local m)
   contexts-become written labels occur local called contexts scope name m x c plain =
       let was =
       was-labelled ByContext ByContext before after b labels (Bound scope name)
@@ -249,13 +269,13 @@ module _ (before after : List Item) (resolved : IsResolved Es before) (names : H
           let e : Bound scope name ≡ Global y = is ∙ b.globals y in absurd cc
       by_old (Bound s n) labelled is =
           let it = both-of (Bound s n) (occur (Bound s n) (Of (IsDeclared m x)) labelled) in
-          let context = contexts s n m x labelled plain in
+          let context = contexts s n m x labelled in
           let symbol : it.o.sym ≡ x =
           sym (own-symbol (declared ByContext Es before) it.o)
           ∙ ap denoted_symbol it.denotes
           ∙ called s n m x labelled in
           let kept : keyword_free it.o.sym ≡ it.o.sym =
-          ap (λ q. cond q (codes "__" ++ it.o.sym) it.o.sym) (ap is_keyword symbol ∙ plain) in
+          ap keyword_free symbol ∙ plain ∙ sym symbol in
           let symbols : it.p.sym ≡ it.o.sym =
           symbol-at before after resolved names rid it.i it.o it.p it.at it.there
           ∙ ap (keyword_free_of it.o.sym) it.denotes
@@ -277,6 +297,104 @@ module _ (before after : List Item) (resolved : IsResolved Es before) (names : H
         where
           name_of_bound : {t : Scope} {k : Name} → Bound scope name ≡ Bound t k → name ≡ k
           name_of_bound e = cc
+
+  -- where one has lost it, it is to a name that is spelled so with it
+  pub contexts-stand : (labels : Labelling) → AllOccur ByContext before labels →
+      (local : ℕ → ℕ) →
+      ((scope : Scope) (name : Name) (m : ℕ) (x : Text) → Contains labels
+      (Bound scope name, Of (IsDeclared m x)) → name.sym ≡ x) →
+      ((scope : Scope) (name : Name) (m : ℕ) (x : Text) → Contains labels
+      (Bound scope name, Of (IsDeclared m x)) → name.ctxt ≡ Some (local m)) →
+      (scope : Scope) (name : Name) (m : ℕ) (x : Text) →
+      Contains (labels_of b.becomes labels) (Bound scope name, Of (IsDeclared m x)) →
+      (q : Occurrence) × Contains (occurrences after) q × (q.sym ≡ keyword_free x)
+      × (q.ctxt ≡ local m)
+  contexts-stand labels occur local called contexts scope name m x c =
+      let was =
+      was-labelled ByContext ByContext before after b labels (Bound scope name)
+      (Of (IsDeclared m x)) c in
+      by_old was.old was.labelled was.is
+    where
+      Stands : Type 0
+      Stands =
+          (q : Occurrence) × Contains (occurrences after) q × (q.sym ≡ keyword_free x)
+          × (q.ctxt ≡ local m)
+
+      right : (i : ℕ) (o p : Occurrence) → slice_get (occurrences before) i ≡ Some o →
+          slice_get (occurrences after) i ≡ Some p →
+          IsTrue (has_right_context (occurrences before) o p)
+      right i o p at there =
+          zip-at (λ old new. IsTrue (has_right_context (occurrences before) old new))
+          (occurrences before) (occurrences after) rid.free.contexts i o p at there
+
+      -- another name that had this identifier before has it still
+      another : (q : Occurrence) (i : ℕ) → slice_get (occurrences before) i ≡ Some q →
+          q.sym ≡ keyword_free x → q.ctxt ≡ local m → Stands
+      another q i at symbol context =
+          let later =
+          as-long (occurrences before) (occurrences after) i q
+          (size before after resolved names rid) at in
+          let kept : keyword_free q.sym ≡ q.sym =
+          ap keyword_free symbol ∙ free-twice x ∙ sym symbol in
+          let same : later.0.sym ≡ q.sym =
+          symbol-at before after resolved names rid i q later.0 at later.1
+          ∙ free-of q.sym kept (denoted_in_tree before q) in (
+            later.0,
+            contains-get (occurrences after) i later.0 later.1,
+            same ∙ symbol,
+            context-stays before after resolved names rid q later.0 same
+                (right i q later.0 at later.1)
+                ∙ context,
+          )
+
+      by_test : (o p : Occurrence) (i : ℕ) → slice_get (occurrences after) i ≡ Some p →
+          p.sym ≡ keyword_free x → o.ctxt ≡ local m →
+          IsTrue (has_right_context (occurrences before) o p) → (test : Bool) →
+          (not (bytes_eq o.sym p.sym) && has_ident (occurrences before) p.sym o.ctxt) ≡ test →
+          Stands
+      by_test o p i there symbol context its false e = (
+        p,
+        contains-get (occurrences after) i p there,
+        symbol,
+        eqb-true p.ctxt o.ctxt
+            (sym
+            (ap (λ t. cond t (is_unused_context (occurrences before) p.ctxt) (p.ctxt == o.ctxt)) e)
+            ∙ its)
+            ∙ context,
+      )
+      by_test o p i there symbol context its true e =
+          let has =
+          (and_parts (not (bytes_eq o.sym p.sym)) (has_ident (occurrences before) p.sym o.ctxt) e).1
+          in
+          let found =
+          list_any-found (λ (q : Occurrence). bytes_eq q.sym p.sym && q.ctxt == o.ctxt)
+          (occurrences before) has in
+          let both = and_parts (bytes_eq found.1.sym p.sym) (found.1.ctxt == o.ctxt) found.3 in
+          another found.1 found.0 found.2
+          ((bytes_eq-Decides found.1.sym p.sym).0 both.0 ∙ symbol)
+          (eqb-true found.1.ctxt o.ctxt both.1 ∙ context)
+
+      by_old : (old : Denoted) → Contains labels (old, Of (IsDeclared m x)) →
+          Bound scope name ≡ b.becomes old → Stands
+      by_old (Global y) labelled is =
+          let e : Bound scope name ≡ Global y = is ∙ b.globals y in absurd cc
+      by_old (Bound s n) labelled is =
+          let it = both-of (Bound s n) (occur (Bound s n) (Of (IsDeclared m x)) labelled) in
+          let symbol : it.o.sym ≡ x =
+          sym (own-symbol (declared ByContext Es before) it.o)
+          ∙ ap denoted_symbol it.denotes
+          ∙ called s n m x labelled in
+          let symbols : it.p.sym ≡ keyword_free x =
+          symbol-at before after resolved names rid it.i it.o it.p it.at it.there
+          ∙ ap (keyword_free_of it.o.sym) it.denotes
+          ∙ ap keyword_free symbol in
+          let context : it.o.ctxt ≡ local m =
+          sym
+          (own-context (declared ByContext Es before) it.o (local m)
+          (ap name_in it.denotes ∙ contexts s n m x labelled)) in
+          by_test it.o it.p it.i it.there symbols context (right it.i it.o it.p it.at it.there)
+          (not (bytes_eq it.o.sym it.p.sym)
+          && has_ident (occurrences before) it.p.sym it.o.ctxt) refl
 
   -- and globals have 1
   pub globals-become : ((place : ℕ) (o : Occurrence) (x : Text) → occurrence_at before place ≡ Some

@@ -118,14 +118,16 @@ global-one items whole named apart o of x e =
 -- declared names have the contexts of their modules, and globals have 1
 pub has-contexts : (items : List (List Item)) → AllOf IsWhole items → AllOf IsNamed items →
     AreApart items → (resolved : IsResolved Es (joined items)) → (table : Table) (local : ℕ → ℕ) →
-    HasModuleContexts local (joined items) table → (plan : List Cause) →
-    HasContexts local
+    HasModuleContexts local (joined items) table →
+    ((i : Ident) (m : ℕ) (x : Text) → Contains table (i, Of (IsDeclared m x)) → i.0 ≡ x) →
+    (plan : List Cause) →
+    HasContexts (λ x. x) local
     (labelled (joined items) ByContext (pairing_of (labels_in (joined items) table) items plan))
-has-contexts items whole named apart resolved table local its plan = record {
-  declared = λ scope name m x c plain.
+has-contexts items whole named apart resolved table local its called plan = record {
+  declared = λ scope name m x c kept.
       let from =
       label-from (joined items) resolved table (Bound scope name) (Of (IsDeclared m x)) c in
-      let at = its.declared (ident_of from.o) m x from.its plain in
+      let at = its.declared (ident_of from.o) m x from.its in
       let same =
       same-denoted (joined items) resolved from.o at.0 from.at
       (contains-in (occurrences (joined items)) at.0 at.2) (sym at.3) in
@@ -138,7 +140,16 @@ has-contexts items whole named apart resolved table local its plan = record {
       ap name_in (sym from.is ∙ same ∙ denotes)
       ∙ ap (λ (n : Name). n.ctxt) (declared-name at.0 at.1 at.4)
       ∙ ap (λ (i : Ident). Some i.1) at.3
-      ∙ ap Some (its.contexts (ident_of from.o) m x from.its plain);
+      ∙ ap Some (its.contexts (ident_of from.o) m x from.its);
+  stands = λ scope name m x c.
+      let from =
+      label-from (joined items) resolved table (Bound scope name) (Of (IsDeclared m x)) c in
+      let at = its.declared (ident_of from.o) m x from.its in (
+        at.0,
+        at.2,
+        ap (λ (i : Ident). i.0) at.3 ∙ called (ident_of from.o) m x from.its,
+        ap (λ (i : Ident). i.1) at.3 ∙ its.contexts (ident_of from.o) m x from.its,
+      );
   globals =
       λ place o x there denotes. global-one items whole named apart o
       (occurrence-of-item items whole place o there) x

@@ -2,7 +2,8 @@
 -- noted of them.
 use Rattle.std.proofs.Common.{◌≡◌, ℕ, zero, suc, ◌+◌, ◌&&◌, true, false, not, List, [], ◌∷◌, ◌++◌, append_assoc, length, filter, refl, ap, ap₂, sym, ◌∙◌, subst, arith}
 use Rattle.std.proofs.lemmas.Bool.{and_parts}
-use Rattle.std.specs.Prelude.{fold, position}
+use Rattle.std.proofs.lemmas.Option.{none-some, same_Some}
+use Rattle.std.specs.Prelude.{Some, fold, position, slice_get}
 use Rattle.std.specs.List.{AllZip}
 use Rattle.bundle_tree_piece.specs.Item as h
 use Rattle.bundle_tree_piece.specs.Item.{Item, Head}
@@ -12,7 +13,7 @@ use Rattle.bundle_rules.specs.Denotes.{Denoted}
 use Rattle.bundle_rules.specs.Nodes.{side_by_side}
 use Rattle.bundle_rules.specs.Shorthands.{is_shorthand_in_pattern, is_object}
 use Rattle.bundle_rules.specs.Sorting.{flat}
-use Rattle.bundle_rules.specs.Statements.{Element, TopItem, taken, taken_from, placed, own_statements}
+use Rattle.bundle_rules.specs.Statements.{Element, TopItem, top_items, taken, taken_from, placed, own_statements}
 use Rattle.bundle_rules.specs.Program.{Program, tree_of}
 use Rattle.bundle_rules.specs.Mentions.{same_denoted, each_denoted_once}
 use Rattle.bundle_rules.specs.Meaning.{Label, Meant, Mark, Inside, Known, Unbound, Labelling, IsOneToOne, View, Sense, NameMeans, is_inside, denoted, inner_bindings, OwnMeaning, Means}
@@ -296,6 +297,21 @@ module _ (b : Labelled) (listing : IsListing b.tree) where
       (subst IsPlainPath (sym path_is) (plain_field field path plain)) its states agree.0
       agree.1))
 
+  -- what is told of an item as a whole, it means
+  item_tells : (p : Program) (hooks : Hooks) (form : Form) (s : Spot) {item : List Item}
+      {noted : Noted} {cause : Cause} (tail : List Item) → IsAt b.tree s (item ++ tail) →
+      (field : ℕ) (path : List Around) → s.path ≡ in_field field path → IsPlainPath path →
+      IsNotedFor p hooks form item noted cause → ItemAgrees view b.labels s item noted →
+      (told : Told) → noted ≡ AsWhole told →
+      ItemMeans b (record { start = s.place; items = item }) told.1
+  item_tells p hooks form s {item = item} tail at field path path_is plain (as_whole {told = its} marked stand) agree told is =
+      let same : its ≡ told = cc in
+      subst (λ (t : Told). ItemMeans b (record { start = s.place; items = item }) t.1) same
+      (statement_means s item tail at field path path_is plain its marked agree)
+  item_tells p hooks form s tail at field path path_is plain (as_function nodes is its states) agree
+      told whole =
+      absurd cc
+
   noted_nodes : (p : Program) (hooks : Hooks) (form : Form) {item : List Item} {noted : Noted}
       {cause : Cause} → IsNotedFor p hooks form item noted cause → AreNodes item
   noted_nodes p hooks form (as_whole marked stand) = marked_nodes marked
@@ -328,6 +344,53 @@ module _ (b : Labelled) (listing : IsListing b.tree) where
             (behind.1 ∙ ap (in_field behind.0) path_is ∙ field-twice behind.0 field path) plain
             each.1 agree.1),
       )
+
+module _ (b : Labelled) (listing : IsListing b.tree) (p : Program) (hooks : Hooks) (form : Form) where
+  items_tell : (s : Spot) (items : List (List Item)) (noted : List Noted) (causes : List Cause)
+      (tail : List Item) → IsAt b.tree s (flat items ++ tail) → (field : ℕ) (path : List Around) →
+      s.path ≡ in_field field path → IsPlainPath path →
+      AreNotedFor p hooks form items noted causes →
+      ItemsAgree (sense_of b).view b.labels s items noted → (i : ℕ) (top : TopItem) (told : Told) →
+      slice_get (placed s.place items) i ≡ Some top → slice_get noted i ≡ Some (AsWhole told) →
+      ItemMeans b top told.1
+  items_tell s [] noted causes tail at field path path_is plain each agree i top told there is =
+      absurd (none-some top there)
+  items_tell s (item ∷ items) [] causes tail at field path path_is plain each agree i top told there
+      is =
+      absurd (none-some (AsWhole told) is)
+  items_tell s (item ∷ items) (one ∷ noted) [] tail at field path path_is plain each agree i top
+      told there is =
+      absurd each
+  items_tell s (item ∷ items) (one ∷ noted) (cause ∷ causes) tail at field path path_is plain each
+      agree zero top told there is =
+      subst (λ t. ItemMeans b t told.1) (same_Some _ top there)
+      (item_tells b listing p hooks form s (flat items ++ tail)
+      (at-as refl (append_assoc item (flat items) tail) at) field path path_is plain each.0 agree.0
+      told (same_Some one (AsWhole told) is))
+  items_tell s (item ∷ items) (one ∷ noted) (cause ∷ causes) tail at field path path_is plain each
+      agree (suc i) top told there is =
+      let here : IsAt b.tree s (item ++ (flat items ++ tail)) =
+      at-as refl (append_assoc item (flat items) tail) at in
+      let behind = fold-path (noted_nodes b listing p hooks form each.0) s in
+      items_tell (fold past s item) items noted causes tail
+      (at-behind item (flat items ++ tail) here) behind.0 path
+      (behind.1 ∙ ap (in_field behind.0) path_is ∙ field-twice behind.0 field path) plain each.1
+      agree.1 i top told
+      (ap (λ place. slice_get (placed place items) i) (fold-place s item) ∙ there) is
+
+-- what is told of the items of a bundle, they mean
+pub told_means : (p : Program) (hooks : Hooks) (reading : Reading) (labels : Labelling)
+    (items : List (List Item)) (noted : List Noted) (plan : List Cause) →
+    IsNotedBundle p hooks items noted plan → BundleAgrees reading labels items noted →
+    (i : ℕ) (top : TopItem) (told : Told) → slice_get (top_items (joined items)) i ≡ Some top →
+    slice_get noted i ≡ Some (AsWhole told) →
+    ItemMeans (labelled (joined items) reading (pairing_of labels items plan)) top told.1
+told_means p hooks reading labels items noted plan its agree i top told there is =
+    items_tell (labelled (joined items) reading (pairing_of labels items plan)) its.listing p hooks
+    AsModule first_spot items noted plan (h.Close ∷ [])
+    (at-past (h.Open 0 h.Module) (flat items ++ h.Close ∷ []) (at-first (joined items))) 0
+    (around h.Module 0 0 ∷ []) refl (refl, refl, tt) its.each agree i top told
+    (ap (λ l. slice_get l i) (sym (top_items-joined items its.single)) ∙ there) is
 
 -- items that are noted right make a bundle, in each reading in which their names denote what is
 -- noted of them

@@ -55,7 +55,7 @@ pub record IsMergedRight (p : Program) (hooks : Hooks) (plan : List Cause) (merg
   pub called : AreCalled (λ x. x) p hooks
       (labelled merged ByContext (pairing_of whole.ready.still.labels whole.ready.still.items plan))
       (pairing_of whole.ready.still.labels whole.ready.still.items plan)
-  pub contexts : HasContexts local_context
+  pub contexts : HasContexts (λ x. x) local_context
       (labelled merged ByContext (pairing_of whole.ready.still.labels whole.ready.still.items plan))
   pub binds : BindsOwn merged
 

@@ -101,7 +101,7 @@ module _ (p : Program) (hooks : Hooks) (plan : List Cause) (items : List (List I
 
   pub kept-joined : AreCalled (λ x. x) p hooks
       (labelled tree ByContext (pairing_of labels items plan)) (pairing_of labels items plan) →
-      HasContexts local (labelled tree ByContext (pairing_of labels items plan)) → BindsOwn tree →
+      HasContexts (λ x. x) local (labelled tree ByContext (pairing_of labels items plan)) → BindsOwn tree →
       IsMerged keyword_free local p hooks (recall call tree)
   kept-joined called contexts own =
       subst (IsMerged keyword_free local p hooks) (sym all.is)
@@ -114,7 +114,7 @@ pub keywords-keep-merged : (p : Program) (hooks : Hooks) (plan : List Cause) (me
     AreCalled (λ x. x) p hooks
     (labelled merged ByContext (pairing_of its.ready.still.labels its.ready.still.items plan))
     (pairing_of its.ready.still.labels its.ready.still.items plan) →
-    HasContexts local
+    HasContexts (λ x. x) local
     (labelled merged ByContext (pairing_of its.ready.still.labels its.ready.still.items plan)) →
     BindsOwn merged → IsMerged keyword_free local p hooks (recall call merged)
 keywords-keep-merged p hooks plan merged its call rule listed local called contexts own =
@@ -126,4 +126,4 @@ keywords-keep-merged p hooks plan merged its call rule listed local called conte
     (subst (IsResolved Es) is its.resolved) (subst HasNamesOnly is its.names) (subst ArePlain is its.plain) (subst HasWays is its.ways) (subst (HasObjects ByContext) is its.objects)
     (subst (IsKeywordRule call) is rule) (subst (AreListed Other) is listed)
     (subst (λ t. AreCalled (λ x. x) p hooks (labelled t ByContext (pairing_of still.labels still.items plan)) (pairing_of still.labels still.items plan)) is called)
-    (subst (λ t. HasContexts local (labelled t ByContext (pairing_of still.labels still.items plan))) is contexts) (subst BindsOwn is own))
+    (subst (λ t. HasContexts (λ x. x) local (labelled t ByContext (pairing_of still.labels still.items plan))) is contexts) (subst BindsOwn is own))

@@ -12,8 +12,8 @@ use Rattle.bundle_rules.specs.Statements.{TopItem, Element, own_statements, plac
 use Rattle.bundle_rules.specs.Program.{Program, tree_of, IsReached}
 use Rattle.bundle_rules.specs.Linking.{Declared}
 use Rattle.bundle_rules.specs.Meaning.{Label, Of, Labelling, Mark, Means, View, inner_bindings}
-use Rattle.bundle_rules.specs.Injected.{load_front, load_back}
-use Rattle.bundle_rules.specs.Bundle.{Cause, Own, Defines, Helps, HoldsMeta, AsModule, Hooks, IsDue, Labelled, labelled, sense_of, elements_of, SameMeaning, IsLoadFunction, Pairing, StandsFor}
+use Rattle.bundle_rules.specs.Injected.{load_front, load_back, meta_object}
+use Rattle.bundle_rules.specs.Bundle.{Cause, Own, Defines, Helps, HoldsMeta, AsModule, Hooks, IsDue, ItemMeans, Labelled, labelled, sense_of, elements_of, SameMeaning, IsLoadFunction, Pairing, StandsFor}
 use Rattle.bundle_rules.specs.Symbols.{symbol_of_label, item_symbols, inner_symbols, CalledAlike, AreCalled}
 use Rattle.bundle_rules.specs.Merged.{HasContexts}
 use Rattle.bundle_link_reached.specs.Alike.{IsAlike}
@@ -24,8 +24,9 @@ use Rattle.bundle_merge_whole.specs.moved.Renumbered.{label_by, marks_by, cause_
 use Rattle.bundle_merge_whole.proofs.moved.Owed.{AreRenamed, EachModule, IsLabelReached, AreLabelsReached}
 use Rattle.bundle_merge_whole.proofs.moved.Due.{turned-round, due-named, mapped-at, plan-due, plan-back}
 use Rattle.bundle_merge_whole.proofs.moved.Means.{means-by, own-meaning}
-use Rattle.bundle_merge_whole.proofs.moved.Stand.{may-hold-by}
-use Rattle.bundle_merge_whole.proofs.moved.Agrees.{was-labelled, label-back}
+use Rattle.bundle_merge_whole.proofs.moved.Forms.{meta-map}
+use Rattle.bundle_merge_whole.proofs.moved.Stand.{may-hold-by, properties-by}
+use Rattle.bundle_merge_whole.proofs.moved.Agrees.{was-labelled, is-labelled, label-back}
 use Rattle.bundle_merge_whole.proofs.moved.Requested.{list-by, list-named}
 use Rattle.bundle_merge_whole.proofs.moved.Symbols.{symbol-by}
 
@@ -98,6 +99,15 @@ module _ (p q : Program) (R : ℕ → ℕ → Type 0) (name back : ℕ → ℕ)
       means-by back view (λ place by. ⊥) (λ place by. ⊥) (λ d l. Contains others (d, l))
       (λ d l. Contains labels (d, l)) (λ place by is. is) (λ place by is none. is) back-labelled
       inner means
+
+  means-forth : (inner : List Denoted) (elements : List Element) (marks : List Mark) →
+      Means (sense_of b) inner elements marks →
+      Means (sense_of c) inner elements (marks_by name marks)
+  means-forth inner elements marks means =
+      let view : View = record { tree = tree; kind = Es; reading = reading } in
+      means-by name view (λ place by. ⊥) (λ place by. ⊥) (λ d l. Contains labels (d, l))
+      (λ d l. Contains others (d, l)) (λ place by is. is) (λ place by is none. is)
+      (is-labelled name labels) inner means
 
   same-back : (m : ℕ) → R (back m) m → (tops : List TopItem) (statements : List (List Element)) →
       AllZip (SameMeaning q c m) tops statements → AllZip (SameMeaning p b (back m)) tops statements
@@ -178,15 +188,24 @@ module _ (p q : Program) (R : ℕ → ℕ → Type 0) (name back : ℕ → ℕ)
           held =
               may-hold-by p q R name back its hooks (back m) m answered.properties was.named
               answered.held;
+          marks = marks_by name answered.marks;
+          means = properties-by name answered.properties answered.marks answered.means;
+          object =
+              subst (λ marks. ItemMeans c item marks)
+              (meta-map name (back m) answered.marks
+              ∙ ap (λ n. meta_object n (marks_by name answered.marks))
+              (its.names (back m) m was.named))
+              (means-forth (inner_bindings (sense_of b).view item.start (elements_of item))
+              (elements_of item) (meta_object (back m) answered.marks) answered.object);
           alike = answered.alike;
         };
   }
 
   -- CONTEXTS
-  pub contexts-by : (local other : ℕ → ℕ) →
-      ((m : ℕ) → IsReached p m → local m ≡ other (name m)) → HasContexts local b →
-      HasContexts other c
-  contexts-by local other locals has = record {
+  pub contexts-by : (spelled : Text → Text) (local other : ℕ → ℕ) →
+      ((m : ℕ) → IsReached p m → local m ≡ other (name m)) → HasContexts spelled local b →
+      HasContexts spelled other c
+  contexts-by spelled local other locals has = record {
     declared = λ scope x m y there plain.
         let was = was-labelled name labels (Bound scope x) (Of (Declared m y)) there in
         let same : was.old ≡ Of (Declared (back m) y) =
@@ -199,5 +218,18 @@ module _ (p q : Program) (R : ℕ → ℕ → Type 0) (name back : ℕ → ℕ)
         has.declared scope x (back m) y
         (subst (λ l. Contains labels (Bound scope x, l)) same was.there) plain
         ∙ ap (λ n. Some n) (locals (back m) r ∙ ap other number);
+    stands = λ scope x m y there.
+        let was = was-labelled name labels (Bound scope x) (Of (Declared m y)) there in
+        let same : was.old ≡ Of (Declared (back m) y) =
+        sym (label-back p q R name back its was.old (reached (Bound scope x) was.old was.there))
+        ∙ ap (label_by back) was.is in
+        let r : IsReached p (back m) =
+        subst (IsLabelReached p) same (reached (Bound scope x) was.old was.there) in
+        let number : name (back m) ≡ m =
+        ap (λ l. declared_number (label_by name l)) (sym same) ∙ ap declared_number was.is in
+        let it =
+        has.stands scope x (back m) y
+        (subst (λ l. Contains labels (Bound scope x, l)) same was.there) in
+        (it.0, it.1, it.2, it.3 ∙ locals (back m) r ∙ ap other number);
     globals = has.globals;
   }

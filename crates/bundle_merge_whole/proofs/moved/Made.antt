@@ -6,7 +6,8 @@ use Rattle.std.specs.Prelude.{slice_get}
 use Rattle.std.specs.List.{AllZip}
 use Rattle.bundle_tree_piece.specs.Item.{Item}
 use Rattle.bundle_rules.specs.Declarations.{ByContext}
-use Rattle.bundle_rules.specs.Meaning.{Labelling}
+use Rattle.bundle_rules.specs.Linking.{Declared as IsDeclared}
+use Rattle.bundle_rules.specs.Meaning.{Of, Labelling}
 use Rattle.bundle_rules.specs.Program.{Program, IsReached}
 use Rattle.bundle_rules.specs.Kept.{local_context}
 use Rattle.bundle_rules.specs.Bundle.{Cause, AsModule, Hooks, IsDue, IsLaidOut}
@@ -26,7 +27,7 @@ use Rattle.bundle_merge_whole.specs.moved.Renumbered.{cause_at}
 use Rattle.bundle_merge_whole.proofs.moved.Owed.{IsMergedBy, AreMoved, AreLabelsReached}
 use Rattle.bundle_merge_whole.proofs.together.Apart.{are-apart, all-named}
 use Rattle.bundle_merge_whole.proofs.together.Called.{are-called}
-use Rattle.bundle_merge_whole.proofs.together.Contexts.{module-contexts, binds-own}
+use Rattle.bundle_merge_whole.proofs.together.Contexts.{module-contexts, binds-own, called-labels}
 use Rattle.bundle_merge_whole.proofs.together.Facts.{all-fit, whole-items, whole-resolved}
 use Rattle.bundle_merge_whole.proofs.together.Modules.{one-entries}
 use Rattle.bundle_merge_whole.proofs.together.Tables.{notes-of}
@@ -65,7 +66,8 @@ module _ (p : Program) (hooks : Hooks) (list : List ℕ) (context : Contexts)
           contexts =
               has-contexts items whole named apart resolved (table_of items notes.noted) local
               (module-contexts p hooks list context answers plan items its notes local locals)
-              plan;
+              (λ i m x c. called-labels p hooks list context answers plan items its notes i
+              (Of (IsDeclared m x)) c) plan;
           binds = binds-own p hooks list context answers plan items its notes;
         };
         reached = labels-reached p hooks list context answers plan items its notes resolved;

@@ -79,7 +79,7 @@ module _ (p q : Program) (R : ℕ → ℕ → Type 0) (name back : ℕ → ℕ)
             reached still.bundle.due (λ x. x) owed.called;
         contexts =
             contexts-by p q R name back its hooks plan ByContext merged still.labels still.items
-            reached still.bundle.due local other locals owed.contexts;
+            reached still.bundle.due (λ x. x) local other locals owed.contexts;
         binds = owed.binds;
       }
 

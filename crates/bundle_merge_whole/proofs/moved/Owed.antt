@@ -22,7 +22,7 @@ pub record IsMergedBy (local : ℕ → ℕ) (p : Program) (hooks : Hooks) (plan 
   pub called : AreCalled (λ x. x) p hooks
       (labelled merged ByContext (pairing_of whole.ready.still.labels whole.ready.still.items plan))
       (pairing_of whole.ready.still.labels whole.ready.still.items plan)
-  pub contexts : HasContexts local
+  pub contexts : HasContexts (λ x. x) local
       (labelled merged ByContext (pairing_of whole.ready.still.labels whole.ready.still.items plan))
   pub binds : BindsOwn merged
 

@@ -39,7 +39,7 @@ use Rattle.bundle_merge_whole.proofs.moved.Forms.{import-names-map, export-list-
 -- Properties.
 
 -- the properties of `import.meta` mean nothing of a module
-properties-by : (name : ℕ → ℕ) (properties : List Item) (marks : List Mark) →
+pub properties-by : (name : ℕ → ℕ) (properties : List Item) (marks : List Mark) →
     PropertiesMean properties marks → PropertiesMean properties (marks_by name marks)
 properties-by name properties marks means =
     let view : View = record { tree = properties_tree properties; kind = Es; reading = BySymbol } in

@@ -10,11 +10,11 @@ use Rattle.bundle_rules.specs.Declarations.{ByContext}
 use Rattle.bundle_rules.specs.Denotes.{IsResolved}
 use Rattle.bundle_rules.specs.Nodes.{Text, side_by_side}
 use Rattle.bundle_rules.specs.Sorting.{flat}
-use Rattle.bundle_rules.specs.Statements.{TopItem, placed, Element, own_statements}
+use Rattle.bundle_rules.specs.Statements.{TopItem, placed, top_items, Element, own_statements}
 use Rattle.bundle_rules.specs.Program.{Program, tree_of}
 use Rattle.bundle_rules.specs.Meaning.{Labelling, own_view}
 use Rattle.bundle_rules.specs.Injected.{load_front}
-use Rattle.bundle_rules.specs.Bundle.{Cause, Own, Defines, Helps, HoldsMeta, AsModule, Hooks, Labelled, labelled, StandsFor, IsLoadFunction}
+use Rattle.bundle_rules.specs.Bundle.{Cause, Own, Defines, Helps, HoldsMeta, AsModule, Hooks, ItemMeans, Labelled, labelled, StandsFor, IsLoadFunction}
 use Rattle.bundle_rules.specs.Symbols.{inner_symbols, item_symbols, CalledAlike, AreCalled}
 use Rattle.bundle_rules.proofs.LoadLemmas.{inside_is}
 use Rattle.bundle_merge_meaning.specs.joined.Joined.{joined, AllOf, offset}
@@ -30,14 +30,16 @@ use Rattle.bundle_merge_whole.specs.composed.Noted.{Noted, AsWhole, AsFunction, 
 use Rattle.bundle_merge_whole.specs.composed.Names.{Table, labels_in, StatementNoted, StatementsNoted, ItemNoted}
 use Rattle.bundle_merge_whole.proofs.composed.Contexts.{outer-called}
 use Rattle.bundle_merge_whole.proofs.composed.ListFacts.{zip-at}
-use Rattle.bundle_merge_whole.proofs.composed.Paired.{beside-flat}
+use Rattle.bundle_merge_whole.proofs.composed.Paired.{beside-flat, told_means}
+use Rattle.bundle_merge_whole.proofs.composed.Merged.{merged_agrees}
+use Rattle.bundle_merge_whole.proofs.composed.Whole.{all-made}
 use Rattle.bundle_merge_whole.specs.made.Given.{Answer, Contexts}
 use Rattle.bundle_merge_whole.specs.made.Alone.{CalledAlone, StatementsCalled, symbols_inside, symbols_whole, symbols_answered}
 use Rattle.bundle_merge_whole.specs.together.Together.{AreTogether}
 use Rattle.bundle_merge_whole.specs.together.Table.{IsAloneAs, AllAloneAs, HasNotes, table_of}
 use Rattle.bundle_merge_whole.proofs.together.Apart.{all-named}
 use Rattle.bundle_merge_whole.proofs.together.Tables.{all-noted}
-use Rattle.bundle_merge_whole.proofs.together.Facts.{all-single, whole-items, whole-resolved}
+use Rattle.bundle_merge_whole.proofs.together.Facts.{all-single, noted-bundle, whole-items, whole-resolved}
 use Rattle.bundle_merge_whole.proofs.together.Contexts.{called-labels}
 use Rattle.bundle_merge_whole.proofs.together.Seats.{Seat, seat, placed-get, all-listed, part-symbols}
 
@@ -155,6 +157,7 @@ module _ (p : Program) (hooks : Hooks) (list : List ℕ) (context : Contexts)
     m : ℕ
     there : slice_get items m ≡ Some top.items
     noted : NotedAt p hooks list context answers notes.noted m cause top.items
+    listed : slice_get (top_items (joined items)) m ≡ Some top
     seats : Seat items m top.items
     place : seats.spot.place ≡ top.start
     names : ItemNoted items table top.items noted.one
@@ -174,6 +177,7 @@ module _ (p : Program) (hooks : Hooks) (list : List ℕ) (context : Contexts)
         m = stands.at;
         there = got.0;
         noted = noted;
+        listed = stands.item_there;
         seats = its_seat;
         place = its_seat.moves.place ∙ sym got.1;
         names =
@@ -314,6 +318,19 @@ module _ (p : Program) (hooks : Hooks) (list : List ℕ) (context : Contexts)
           (occurrences_from (fold past behind (flat parts.insides)) function_ends) four)
           parts.tolds names.1 (own_statements (tree_of p c)) called))
 
+  -- what is told of an item as a whole, it means
+  item-tells : (cause : Cause) (top : TopItem) (f : Found cause top) (told : Told) →
+      f.noted.one ≡ AsWhole told → ItemMeans bundle top told.1
+  item-tells cause top f told is =
+      let whole = whole-items p hooks list context answers plan items its notes in
+      let named = all-named p hooks list context answers plan items its in
+      let noted = noted-bundle p hooks list context answers plan items its notes in
+      told_means p hooks ByContext labels items notes.noted plan noted
+      (merged_agrees items table whole named resolved notes.noted
+      (all-made p hooks AsModule items notes.noted plan noted.each)
+      (all-noted p hooks list context answers plan items its notes.noted notes.each))
+      f.m top told f.listed (f.noted.there ∙ ap (λ o. Some o) is)
+
   -- CALLED
   pub are-called : AreCalled (λ x. x) p hooks bundle (pairing_of labels items plan)
   are-called = record {
@@ -331,13 +348,23 @@ module _ (p : Program) (hooks : Hooks) (list : List ℕ) (context : Contexts)
         whole-called Helps top stands (λ c e. absurd cc)
         ∙ called-alone Helps top (found Helps top stands);
     metas = λ m top stands.
-        let called = called-alone (HoldsMeta m) top (found (HoldsMeta m) top stands) in
+        let f = found (HoldsMeta m) top stands in
+        let told = whole-told (noted-for-cause (HoldsMeta m) top f) (λ c e. absurd cc) in
+        let called =
+        subst (λ one. CalledAlone p hooks (HoldsMeta m) top.items one) told.1
+        (called-alone (HoldsMeta m) top f) in
         record {
           properties = called.0;
-          held = called.1;
+          held = called.2;
+          marks = called.1;
+          means = called.3;
+          object =
+              subst (λ l. ItemMeans bundle top l) called.4
+              (item-tells (HoldsMeta m) top f told.0 told.1);
           alike =
               whole-called (HoldsMeta m) top stands (λ c e. absurd cc)
-              ∙ called.2
+              ∙ ap (symbols_whole top.items) told.1
+              ∙ called.5
               ∙ sym (spelled-same (symbols_answered called.0));
         };
   }

@@ -223,12 +223,12 @@ module _ (p : Program) (hooks : Hooks) (list : List ℕ) (context : Contexts)
       ((m : ℕ) → IsReached p m → context (TopOf m) ≡ local m) →
       HasModuleContexts local (joined items) table
   module-contexts local locals = record {
-    contexts = λ i m x c plain.
+    contexts = λ i m x c.
         let both = kind-context p list context
         (entry-kind p hooks list context answers plan items its (i, Of (IsDeclared m x))
         (entry-of (i, Of (IsDeclared m x)) c)) m x refl in
         both.1 ∙ locals m both.0;
-    declared = λ i m x c plain.
+    declared = λ i m x c.
         own-declared (i, Of (IsDeclared m x)) (entry-of (i, Of (IsDeclared m x)) c) m x refl;
   }
 

@@ -2,7 +2,8 @@
 use Rattle.std.proofs.Common.{◌≡◌, ℕ, List, Option, codes, eq-eqb}
 use Rattle.bundle_tree_piece.specs.Item.{Item}
 use Rattle.bundle_rules.specs.Declarations.{ByContext}
-use Rattle.bundle_rules.specs.Meaning.{Labelling}
+use Rattle.bundle_rules.specs.Linking.{Declared as IsDeclared}
+use Rattle.bundle_rules.specs.Meaning.{Of, Labelling}
 use Rattle.bundle_rules.specs.Program.{Program, IsReached}
 use Rattle.bundle_rules.specs.Kept.{local_context}
 use Rattle.bundle_rules.specs.Bundle.{Cause, AsModule, Hooks, IsLaidOut}
@@ -24,7 +25,7 @@ use Rattle.bundle_merge_whole.specs.together.Table.{HasNotes, HasOneEntries, tab
 use Rattle.bundle_merge_whole.proofs.together.Apart.{are-apart, all-named}
 use Rattle.bundle_merge_whole.proofs.together.Tables.{table-one, all-noted}
 use Rattle.bundle_merge_whole.proofs.together.Facts.{laid-again, all-forms, all-one, no-lone, all-fit, whole-items, noted-bundle, whole-resolved}
-use Rattle.bundle_merge_whole.proofs.together.Contexts.{module-contexts, binds-own}
+use Rattle.bundle_merge_whole.proofs.together.Contexts.{module-contexts, binds-own, called-labels}
 use Rattle.bundle_merge_whole.proofs.together.Called.{are-called}
 
 module _ (p : Program) (hooks : Hooks) (list : List ℕ) (context : Contexts)
@@ -86,6 +87,7 @@ module _ (p : Program) (hooks : Hooks) (list : List ℕ) (context : Contexts)
             has-contexts items whole named apart
             (whole-resolved p hooks list context answers plan items its notes) table local_context
             (module-contexts p hooks list context answers plan items its notes local_context locals)
-            plan;
+            (λ i m x c. called-labels p hooks list context answers plan items its notes i
+            (Of (IsDeclared m x)) c) plan;
         binds = binds-own p hooks list context answers plan items its notes;
       }

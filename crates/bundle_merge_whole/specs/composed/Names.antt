@@ -8,7 +8,6 @@ use Rattle.bundle_rules.specs.Places.{Spot, Occurrence, past, occurrences, occur
 use Rattle.bundle_rules.specs.Scopes.{Es}
 use Rattle.bundle_rules.specs.Declarations.{ByContext, Declared, declared, declaration_of}
 use Rattle.bundle_rules.specs.Denotes.{Denoted, denoted_of}
-use Rattle.bundle_rules.specs.Keywords.{is_keyword}
 use Rattle.bundle_rules.specs.Nodes.{Text}
 use Rattle.bundle_rules.specs.Idents.{Ident, ident_of}
 use Rattle.bundle_rules.specs.Rebuilds.{ident_eq}
@@ -66,16 +65,14 @@ ItemNoted items table item (AsFunction front names insides tolds) =
     AllZip (IsLabelled items table item) (occurrences_from first_spot front) names × StatementsNoted
     items table item (fold past first_spot front) insides tolds
 
--- the labels of declared names that are no keywords have the contexts of their modules, and stand
--- for identifiers that declare them
+-- the labels of declared names have the contexts of their modules, and stand for identifiers that
+-- declare them
 pub record HasModuleContexts (local : ℕ → ℕ) (tree : List Item) (table : Table) : Type 0 where
   pub contexts : (i : Ident) (m : ℕ) (x : Text) →
       Contains table (i, Of (IsDeclared m x)) →
-      is_keyword x ≡ false →
       i.1 ≡ local m
   pub declared : (i : Ident) (m : ℕ) (x : Text) →
       Contains table (i, Of (IsDeclared m x)) →
-      is_keyword x ≡ false →
       (o : Occurrence)
       × (d : Declared)
       × Contains (occurrences tree) o

@@ -23,9 +23,10 @@ use Rattle.bundle_rules.specs.Faults.{IsFaultless}
 use Rattle.bundle_tree_names.specs.FileName.{Name as FileName}
 use Rattle.bundle_rules.specs.Program.{Program, tree_of, is_external, IsReached, IsList}
 use Rattle.bundle_rules.specs.Linking.{IsCommonJs, Declared, Namespace, External, CommonJs}
-use Rattle.bundle_rules.specs.Meaning.{Label, Of, Load, Meta, Helper, Meant, Inside, Known, Unbound, HasKind, IsMeant, is_inside, plain, own_view}
+use Rattle.bundle_rules.specs.Injected.{meta_object}
+use Rattle.bundle_rules.specs.Meaning.{Label, Of, Load, Meta, Helper, Mark, Meant, Inside, Known, Unbound, HasKind, IsMeant, is_inside, plain, own_view}
 use Rattle.bundle_rules.specs.Symbols.{denoted_symbol, inner_symbols}
-use Rattle.bundle_rules.specs.Bundle.{Cause, Own, ImportsNames, ImportsWhole, Helps, Defines, Loads, HoldsMeta, HoldsNamespace, AsModule, Hooks, MayHold, MeansName, IsDue, properties_tree}
+use Rattle.bundle_rules.specs.Bundle.{Cause, Own, ImportsNames, ImportsWhole, Helps, Defines, Loads, HoldsMeta, HoldsNamespace, AsModule, Hooks, MayHold, MeansName, IsDue, PropertiesMean, properties_tree}
 use Rattle.bundle_scope_renamed.specs.fit.Sorts.{AnItem}
 use Rattle.bundle_scope_renamed.specs.fit.Fits.{IsFit}
 use Rattle.bundle_link_targets.specs.Meant.{AreModules}
@@ -258,9 +259,11 @@ CalledAlone p hooks (Defines c) item (AsFunction front names insides tolds) =
 CalledAlone p hooks (Defines c) item (AsWhole told) = ⊥
 CalledAlone p hooks Helps item noted =
     symbols_whole item noted ≡ codes "fn" ∷ codes "module" ∷ []
-CalledAlone p hooks (HoldsMeta m) item noted =
-    (properties : List Item) × MayHold p hooks m properties × (symbols_whole item noted
-    ≡ symbols_answered properties)
+CalledAlone p hooks (HoldsMeta m) item (AsWhole told) =
+    (properties : List Item) × (marks : List Mark) × MayHold p hooks m properties
+    × PropertiesMean properties marks × (told.1 ≡ meta_object m marks)
+    × (symbols_whole item (AsWhole told) ≡ symbols_answered properties)
+CalledAlone p hooks (HoldsMeta m) item (AsFunction front names insides tolds) = ⊥
 CalledAlone p hooks _ item noted = ⊤
 
 -- a name of an item by itself denotes a binding of an inner scope, and does so in the bundle: if it
