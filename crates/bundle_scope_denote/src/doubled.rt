@@ -18,8 +18,9 @@ ghost use Rattle.bundle_scope_denote.specs.Steps.{IsBlank};
 ghost use Rattle.bundle_scope_denote.specs.Barred.{Holds, IsToldOf, Reaches, TellsFirst, begins_wrapped, has_any, is_key_in, passed_at};
 ghost use Rattle.bundle_scope_denote.specs.Listed.{place_and_symbol, told_of};
 
-use crate::homes::{outer_at, scope_at, taker_of, takes_at};
+use crate::homes::{Keys, outer_at, scope_at, taker_of, takes_at};
 use crate::kinds::{is_var, is_wrapper, joins_outer};
+use crate::mixed::Mixed;
 use crate::salt::salt_of;
 use crate::table::{Doubled, ModuleKind, Reading, Scope, ScopeKind, Way};
 use crate::walk::{Declaration, Walk};
@@ -233,8 +234,8 @@ fn group_at(scopes: &[Scope], number: usize) -> usize
 // scopes in which no other declaration may have the name.
 #[derive(Drop)]
 struct Met {
-    taken: IndexSet<(usize, usize)>,
-    barred: IndexSet<(usize, usize)>,
+    taken: Keys,
+    barred: Keys,
 }
 
 impl Met {
@@ -243,8 +244,8 @@ impl Met {
         ensures barred { result.barred.keys ≡ [] }
     {
         Met {
-            taken: IndexSet::new(alloc),
-            barred: IndexSet::new(alloc),
+            taken: IndexSet::with_hasher(alloc, Mixed),
+            barred: IndexSet::with_hasher(alloc, Mixed),
         }
     }
 
@@ -301,7 +302,7 @@ impl Met {
 }
 
 // Whether one of these scopes takes a name that was met.
-fn is_taken(taken: &IndexSet<(usize, usize)>, name: usize, scopes: &[usize]) -> bool
+fn is_taken(taken: &Keys, name: usize, scopes: &[usize]) -> bool
     ensures { result ≡ has_any taken.now.keys name scopes.now }
 {
     for scope in scopes {
@@ -313,7 +314,7 @@ fn is_taken(taken: &IndexSet<(usize, usize)>, name: usize, scopes: &[usize]) -> 
 }
 
 // Adds a key.
-fn put_key(keys: &mut IndexSet<(usize, usize)>, key: (usize, usize)) -> Result<(), AllocError>
+fn put_key(keys: &mut Keys, key: (usize, usize)) -> Result<(), AllocError>
     ensures { OnOk result
         ((other : Key) →
         list_any (same_key other) keys.new.keys
@@ -324,11 +325,7 @@ fn put_key(keys: &mut IndexSet<(usize, usize)>, key: (usize, usize)) -> Result<(
 }
 
 // Adds a name in each of these scopes.
-fn put_keys(
-    keys: &mut IndexSet<(usize, usize)>,
-    name: usize,
-    scopes: &[usize],
-) -> Result<(), AllocError>
+fn put_keys(keys: &mut Keys, name: usize, scopes: &[usize]) -> Result<(), AllocError>
     ensures { OnOk result
         ((other : Key) →
         list_any (same_key other) keys.new.keys
