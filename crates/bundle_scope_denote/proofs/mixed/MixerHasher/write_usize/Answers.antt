@@ -1,5 +1,5 @@
 -- The eight bytes of a number are that number.
-use Rattle.std.proofs.Common.{◌≡◌, ap, sym, ◌∙◌, w64}
+use Rattle.std.proofs.Common.{ap, sym, ◌∙◌}
 use Rattle.std.proofs.lemmas.Nat.{from_le_bytes-to_le_bytes_8}
 use Rattle.std.specs.Hash.{le_bytes}
 use Rattle.bundle_scope_denote.specs.Mixed.{mix}
