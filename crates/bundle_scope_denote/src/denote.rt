@@ -55,10 +55,12 @@ pub(crate) fn table_of<'a>(walk: Walk<'a>, found: Found<'a>) -> Denotations<'a>
     ensures bindings { result.bindings.items ≡ found.entry.bindings.items }
     ensures occurrences { result.occurrences.items ≡ found.entry.occurrences.items }
 {
+    let salt = *walk.names.hasher();
     Denotations {
         scopes: walk.scopes,
         bindings: found.bindings,
         occurrences: found.occurrences,
+        salt,
     }
 }
 
@@ -143,7 +145,7 @@ impl<'a> Search<'a> {
             Searches (reading_as reading) walk.now of.now self.old self.new table.items
             walk.now.occurrences.items) }
     {
-        let mut occurrences = Vec::new(alloc);
+        let mut occurrences = Vec::with_capacity(alloc, walk.occurrences.len())?;
         for occurrence in &walk.occurrences {
             let binding = self.binding_of(walk, of, *occurrence, reading)?;
             occurrences.push(Denoted {

@@ -77,12 +77,13 @@ fn homes_by<'a>(alloc: Global, walk: &Walk<'a>, parameters: &Keys) -> Result<Hom
     requires { AreNamed walk.now }
     ensures { IfOk result (AreHomesOf walk.now parameters.now.keys walk.now.declarations.items) }
 {
+    let count = walk.declarations.len();
+    let keys = IndexSet::with_capacity_and_hasher(alloc, count, Mixed)?;
+    let items = Vec::with_capacity(alloc, count)?;
+    let of = Vec::with_capacity(alloc, count)?;
     let mut homes = Homes {
-        bindings: Bindings {
-            keys: IndexSet::with_hasher(alloc, Mixed),
-            items: Vec::new(alloc),
-        },
-        of: Vec::new(alloc),
+        bindings: Bindings { keys, items },
+        of,
     };
     for declaration in &walk.declarations {
         homes.add(walk, parameters, *declaration)?;
