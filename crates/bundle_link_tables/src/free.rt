@@ -81,7 +81,7 @@ fn some_free(pieces: &[Piece], denotations: &Denotations, name: &str) -> bool
 fn frees_name(pieces: &[Piece], occurrence: Denoted, name: &str) -> bool
     ensures { result ≡ Free.frees_name (map item_of pieces.now) name.now occurrence }
 {
-    is_called(pieces, occurrence.place, name) && occurrence.binding.is_none()
+    occurrence.binding.is_none() && is_called(pieces, occurrence.place, name)
 }
 
 // Whether an identifier of this name stands at a place.

@@ -1,16 +1,16 @@
 -- The walk before the first place of a module.
-use Rattle.std.proofs.Common.{◌≡◌, ℕ, List, [], ◌∷◌, ◌++◌, Some, None, reverse, refl, ap, sym as back, ◌∙◌, subst, ◌&&◌, ◌==◌}
+use Rattle.std.proofs.Common.{◌≡◌, ℕ, false, List, [], ◌∷◌, ◌++◌, Some, None, reverse, refl, ap, sym as back, ◌∙◌, subst, ◌&&◌, ◌==◌}
 use Rattle.std.specs.Prelude.{codes, map, length}
-use Rattle.bundle_tree_piece.specs.declared.piece.Node.TheVariants as n
-use Rattle.bundle_tree_piece.specs.Item.{Item, head_of}
+use Rattle.bundle_tree_piece.specs.Item.{Item}
 use Rattle.bundle_rules.specs.Scopes as s
 use Rattle.bundle_rules.specs.Declarations as d
+use Rattle.bundle_scope_denote.specs.declared.table.ScopeKind.TheVariants as k
 use Rattle.bundle_scope_denote.specs.declared.table.Way.TheVariants as w
 use Rattle.bundle_scope_denote.specs.declared.walk.Declaration.{Declaration}
 use Rattle.bundle_scope_denote.specs.declared.walk.Occurrence.{Occurrence}
 use Rattle.bundle_scope_denote.specs.declared.walk.Open.{Open}
 use Rattle.bundle_scope_denote.specs.declared.walk.Walk.{Walk}
-use Rattle.bundle_scope_denote.specs.Kinds.{kind_as, reading_as, leaves_first_out}
+use Rattle.bundle_scope_denote.specs.Kinds.{kind_as, reading_as, is_field}
 use Rattle.bundle_scope_denote.specs.Numbers.{Numbered, AreAround, Keeps, name_as, numbered}
 use Rattle.bundle_scope_denote.specs.Chains.{top_number}
 use Rattle.bundle_scope_denote.specs.Walked.{IsAt, IsAlone, IsDeclared, IsInnermost, StaysOnce, scope_within}
@@ -33,23 +33,26 @@ parameter names sym declaration known = record { place = known.stands; name = kn
 
 -- what is known outside all nodes of a module
 record IsOutermost (kind : s.ModuleKind) (inner : Open) : Type 0 where
-  node : inner.node ≡ n.Module
   way : inner.way ≡ None
   variable : inner.variable ≡ None
   around : inner.around ≡ top_number kind
   own : inner.own ≡ None
+  block : inner.block ≡ k.Block
+  default : inner.is_default ≡ false
+  head : inner.head ≡ None
+  left : inner.leaves_first_out ≡ false
 
 blank_inner : (walk : Walk) → IsBlank walk → IsOutermost (kind_as walk.kind) walk.inner
-blank_inner walk blank = record { node = blank.node; way = blank.way; variable = blank.variable; around = blank.around; own = blank.own }
+blank_inner walk blank = record { way = blank.way; variable = blank.variable; around = blank.around; own = blank.own; block = blank.block; default = blank.default; head = blank.head; left = blank.left }
 
 known_outside : (scopes : List Numbered) (kind : s.ModuleKind) (inner : Open) → AreAround scopes (Some (top_number kind)) (s.outermost kind) → IsOutermost kind inner → IsInnermost scopes kind inner []
 known_outside scopes kind inner around is = record {
   way = λ f. is.way;
   variable = λ f. is.variable;
-  defaults = λ f. ap (λ x. s.exports_default (head_of x)) is.node;
-  heads = λ f. ap (λ x. d.is_loop_head (head_of x) f) is.node;
-  block = λ f. ap (λ x. s.block_in (head_of x)) is.node;
-  scope = λ f. subst (λ k. AreAround scopes (Some k) (s.outermost kind)) (back (ap (λ x. scope_within x inner.around (leaves_first_out (head_of inner.node) && f == 0)) is.own ∙ is.around)) around;
+  defaults = λ f. is.default;
+  heads = λ f. ap (λ x. is_field x f) is.head;
+  block = λ f. is.block;
+  scope = λ f. subst (λ k. AreAround scopes (Some k) (s.outermost kind)) (back (ap (λ x. scope_within x inner.around (inner.leaves_first_out && f == 0)) is.own ∙ is.around)) around;
 }
 
 -- the top of an ECMAScript module

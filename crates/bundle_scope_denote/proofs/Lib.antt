@@ -17,6 +17,7 @@ pub mod InsertLemmas
 pub mod ImpliedLemmas
 pub mod FoundLemmas
 pub mod TidyLemmas
+pub mod TimesLemmas
 pub mod SearchLemmas
 pub mod NearestLemmas
 pub mod StartLemmas

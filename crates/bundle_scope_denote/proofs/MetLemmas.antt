@@ -16,7 +16,7 @@ use Rattle.bundle_scope_denote.specs.Chains.{scope_at, AreInOrder, IsOnce}
 use Rattle.bundle_scope_denote.specs.Bound.{Key, same_key}
 use Rattle.bundle_scope_denote.specs.Barred.{held_in, passed, barred_by, IsReachOf, has_any, is_key_in, is_taken_in, is_barred_in, HasMet}
 use Rattle.bundle_scope_denote.proofs.ZipLemmas.{list_any-zipped}
-use Rattle.bundle_scope_denote.proofs.KeyLemmas.{same_key-at, agree-plain}
+use Rattle.bundle_scope_denote.proofs.KeyLemmas.{same_key-at, exactly-Decides, agree-plain}
 use Rattle.bundle_scope_denote.proofs.ParameterLemmas.{list_any-or, list_any-same}
 use Rattle.bundle_scope_denote.proofs.OutwardLemmas.{IsScopeAt}
 use Rattle.bundle_scope_denote.proofs.OrderLemmas.{collide}
@@ -87,18 +87,18 @@ any-swap p q xs (y ∷ ys) = ap (λ t. list_any (λ x. p x && q x y) xs || t) (a
     spread false b c = refl
 
 -- a name in a scope excludes what was met exactly if they collide
-pub excluded-met : (scopes : List Numbered) (names : List d.Name) (before : List d.Declared) (met : Met) (reach : Reach) (x : d.Declared) (number : ℕ) → HasMet scopes names before met → IsReachOf scopes reach x → slice_get names number ≡ Some x.name → x.name.ctxt ≡ None → (list_any (same_key (reach.taker, number)) met.barred.keys || has_any met.taken.keys number reach.barred.items) ≡ list_any (λ a. collide a x) before
-excluded-met scopes names before met reach x number known reaches named plain =
+pub excluded-met : (scopes : List Numbered) (names : List d.Name) (often : ℕ → Bool) (before : List d.Declared) (met : Met) (reach : Reach) (x : d.Declared) (number : ℕ) → often number ≡ true → HasMet scopes names often before met → IsReachOf scopes reach x → slice_get names number ≡ Some x.name → x.name.ctxt ≡ None → (list_any (same_key (reach.taker, number)) met.barred.keys || has_any met.taken.keys number reach.barred.items) ≡ list_any (λ a. collide a x) before
+excluded-met scopes names often before met reach x number twice known reaches named plain =
     ap₂ (λ (a : Bool) (b : Bool). a || b) first second ∙ list_any-or (is_barred_in (o.taker x) x.name) (λ a. agrees a && list_any (s.same_scope (o.taker a)) (barred_by x)) before ∙ list_any-same (λ a. is_barred_in (o.taker x) x.name a || (agrees a && list_any (s.same_scope (o.taker a)) (barred_by x))) (λ a. collide a x) each before
   where
     agrees : d.Declared → Bool
     agrees a = d.names_agree a.name x.name
 
     first : list_any (same_key (reach.taker, number)) met.barred.keys ≡ list_any (is_barred_in (o.taker x) x.name) before
-    first = known.barred reach.taker number (o.taker x) x.name reaches.taker named plain
+    first = known.barred reach.taker number (o.taker x) x.name reaches.taker named plain twice
 
     second : has_any met.taken.keys number reach.barred.items ≡ list_any (λ a. agrees a && list_any (s.same_scope (o.taker a)) (barred_by x)) before
-    second = list_any-zipped (IsScopeAt scopes) (λ n. list_any (same_key (n, number)) met.taken.keys) (λ scope. list_any (is_taken_in scope x.name) before) (λ n scope at. known.taken n number scope x.name at named plain) reach.barred.items (barred_by x) reaches.barred ∙ any-swap agrees (λ a scope. s.same_scope (o.taker a) scope) before (barred_by x)
+    second = list_any-zipped (IsScopeAt scopes) (λ n. list_any (same_key (n, number)) met.taken.keys) (λ scope. list_any (is_taken_in scope x.name) before) (λ n scope at. known.taken n number scope x.name at named plain twice) reach.barred.items (barred_by x) reaches.barred ∙ any-swap agrees (λ a scope. s.same_scope (o.taker a) scope) before (barred_by x)
 
     spread : (a b c : Bool) → ((a && b) || (a && c)) ≡ (a && (b || c))
     spread true b c = refl
@@ -125,10 +125,10 @@ key-told : (scopes : List Numbered) (names : List d.Name) → AreInOrder scopes 
 key-told scopes names ordered once x own named plain n number scope name at_n at_number bare m other at_m = same_key-at scopes names ordered once n number scope name at_n at_number (m, own) other x.name at_m named ∙ ap (λ t. s.same_scope other scope && t) (sym (agree-plain x.name name plain bare))
 
 -- one more declaration was met
-pub met-more : (scopes : List Numbered) (names : List d.Name) → AreInOrder scopes → IsOnce names → (before : List d.Declared) (old new : Met) (reach : Reach) (x : d.Declared) (own : ℕ) → IsReachOf scopes reach x → slice_get names own ≡ Some x.name → x.name.ctxt ≡ None → ((key : Key) → list_any (same_key key) new.taken.keys ≡ (list_any (same_key key) old.taken.keys || same_key key (reach.taker, own))) → ((key : Key) → list_any (same_key key) new.barred.keys ≡ (list_any (same_key key) old.barred.keys || is_key_in key own reach.barred.items)) → HasMet scopes names before old → HasMet scopes names (before ++ x ∷ []) new
-met-more scopes names ordered once before old new reach x own reaches named plain takes bars known = record {
-  taken = λ n number scope name at_n at_number bare. takes (n, number) ∙ ap₂ (λ (a : Bool) (b : Bool). a || b) (known.taken n number scope name at_n at_number bare) (key-told scopes names ordered once x own named plain n number scope name at_n at_number bare reach.taker (o.taker x) reaches.taker ∙ turned (s.same_scope (o.taker x) scope) (d.names_agree x.name name)) ∙ sym (any-more (is_taken_in scope name) before x);
-  barred = λ n number scope name at_n at_number bare. bars (n, number) ∙ ap₂ (λ (a : Bool) (b : Bool). a || b) (known.barred n number scope name at_n at_number bare) (barred_at n number scope name at_n at_number bare) ∙ sym (any-more (is_barred_in scope name) before x);
+pub met-more : (scopes : List Numbered) (names : List d.Name) → AreInOrder scopes → IsOnce names → (often : ℕ → Bool) (before : List d.Declared) (old new : Met) (reach : Reach) (x : d.Declared) (own : ℕ) → IsReachOf scopes reach x → slice_get names own ≡ Some x.name → x.name.ctxt ≡ None → ((key : Key) → list_any (same_key key) new.taken.keys ≡ (list_any (same_key key) old.taken.keys || same_key key (reach.taker, own))) → ((key : Key) → list_any (same_key key) new.barred.keys ≡ (list_any (same_key key) old.barred.keys || is_key_in key own reach.barred.items)) → HasMet scopes names often before old → HasMet scopes names often (before ++ x ∷ []) new
+met-more scopes names ordered once often before old new reach x own reaches named plain takes bars known = record {
+  taken = λ n number scope name at_n at_number bare twice. takes (n, number) ∙ ap₂ (λ (a : Bool) (b : Bool). a || b) (known.taken n number scope name at_n at_number bare twice) (key-told scopes names ordered once x own named plain n number scope name at_n at_number bare reach.taker (o.taker x) reaches.taker ∙ turned (s.same_scope (o.taker x) scope) (d.names_agree x.name name)) ∙ sym (any-more (is_taken_in scope name) before x);
+  barred = λ n number scope name at_n at_number bare twice. bars (n, number) ∙ ap₂ (λ (a : Bool) (b : Bool). a || b) (known.barred n number scope name at_n at_number bare twice) (barred_at n number scope name at_n at_number bare) ∙ sym (any-more (is_barred_in scope name) before x);
 }
   where
     turned : (a b : Bool) → (a && b) ≡ (b && a)
@@ -141,11 +141,34 @@ met-more scopes names ordered once before old new reach x own reaches named plai
     barred_at n number scope name at_n at_number bare = list_any-zipped (IsScopeAt scopes) (λ m. same_key (n, number) (m, own)) (λ other. s.same_scope scope other && d.names_agree x.name name) (λ m other at_m. key-told scopes names ordered once x own named plain n number scope name at_n at_number bare m other at_m ∙ ap (λ t. t && d.names_agree x.name name) (same_scope-sym other scope)) reach.barred.items (barred_by x) reaches.barred ∙ any-and (s.same_scope scope) (d.names_agree x.name name) (barred_by x)
 
 -- nothing was met
-pub met-none : (scopes : List Numbered) (names : List d.Name) (met : Met) → met.taken.keys ≡ [] → met.barred.keys ≡ [] → HasMet scopes names [] met
-met-none scopes names met none_taken none_barred = record {
-  taken = λ n number scope name at_n at_number bare. ap (list_any (same_key (n, number))) none_taken;
-  barred = λ n number scope name at_n at_number bare. ap (list_any (same_key (n, number))) none_barred;
+pub met-none : (scopes : List Numbered) (names : List d.Name) (often : ℕ → Bool) (met : Met) → met.taken.keys ≡ [] → met.barred.keys ≡ [] → HasMet scopes names often [] met
+met-none scopes names often met none_taken none_barred = record {
+  taken = λ n number scope name at_n at_number bare twice. ap (list_any (same_key (n, number))) none_taken;
+  barred = λ n number scope name at_n at_number bare twice. ap (list_any (same_key (n, number))) none_barred;
 }
+
+-- a name with another number does not agree
+pub apart-names : (names : List d.Name) → IsOnce names → (own number : ℕ) (x name : d.Name) → slice_get names own ≡ Some x → slice_get names number ≡ Some name → x.ctxt ≡ None → name.ctxt ≡ None → (own ≡ number → ⊥) → d.names_agree x name ≡ false
+apart-names names once own number x name at_own at_number plain bare apart = by (d.names_agree x name) refl
+  where
+    by : (t : Bool) → d.names_agree x name ≡ t → d.names_agree x name ≡ false
+    by false is = is
+    by true is = absurd (apart (once own number name (at_own ∙ ap (λ y. Some y) ((exactly-Decides x name).0 (sym (agree-plain x name plain bare) ∙ is))) at_number))
+
+-- a declaration whose name is declared once is passed over
+pub met-past : (scopes : List Numbered) (names : List d.Name) → IsOnce names → (often : ℕ → Bool) (before : List d.Declared) (met : Met) (x : d.Declared) (own : ℕ) → often own ≡ false → slice_get names own ≡ Some x.name → x.name.ctxt ≡ None → HasMet scopes names often before met → HasMet scopes names often (before ++ x ∷ []) met
+met-past scopes names once often before met x own rare named plain known = record {
+  taken = λ n number scope name at_n at_number bare twice. known.taken n number scope name at_n at_number bare twice ∙ sym (none (list_any (is_taken_in scope name) before) (s.same_scope (o.taker x) scope) (d.names_agree x.name name) (other number name at_number bare twice)) ∙ sym (any-more (is_taken_in scope name) before x);
+  barred = λ n number scope name at_n at_number bare twice. known.barred n number scope name at_n at_number bare twice ∙ sym (none (list_any (is_barred_in scope name) before) (list_any (s.same_scope scope) (barred_by x)) (d.names_agree x.name name) (other number name at_number bare twice)) ∙ sym (any-more (is_barred_in scope name) before x);
+}
+  where
+    none : (a b t : Bool) → t ≡ false → (a || (t && b)) ≡ a
+    none true b t is = refl
+    none false b true is = absurd (false≢true (sym is))
+    none false b false is = refl
+
+    other : (number : ℕ) (name : d.Name) → slice_get names number ≡ Some name → name.ctxt ≡ None → often number ≡ true → d.names_agree x.name name ≡ false
+    other number name at bare twice = apart-names names once own number x.name name named at plain bare (λ same. false≢true (sym rare ∙ ap often same ∙ twice))
 
 -- the first element that passes
 pub find-first : {X : Type 0} (p : X → Bool) (xs : List X) (i : ℕ) (x : X) → slice_get xs i ≡ Some x → list_any p (take i xs) ≡ false → p x ≡ true → find p xs ≡ Some x

@@ -66,7 +66,7 @@ begun old new items place field head before at b =
     let made : Option Numbered = scope_made old.inner place field head in
     let grown : Keeps (scopes_of old) (scopes_of new) = subst (λ l. Keeps (scopes_of old) l) (sym b.scopes) (Keeps-append (scopes_of old) (option_to_list made)) in
     let inner_known = innermost (scopes_of old) kind old.inner (reverse old.outer.items) spot.path before.nodes in
-    let inner_new = innermost-new (scopes_of old) kind old.inner new.inner spot.path place field head inner_known b.node b.way b.variable b.around b.own in
+    let inner_new = innermost-new (scopes_of old) kind old.inner new.inner spot.path place field head inner_known b.way b.variable b.block b.defaults b.heads b.left b.around b.own in
     let outer_known : AreOpen (scopes_of new) kind (old.inner ∷ reverse old.outer.items) (p.in_field field spot.path) = AreOpen-keeps (scopes_of old) (scopes_of new) grown kind (old.inner ∷ reverse old.outer.items) (p.in_field field spot.path) (AreOpen-in_field (scopes_of old) kind (old.inner ∷ reverse old.outer.items) field spot.path before.nodes) in
     let pushed : reverse new.outer.items ≡ old.inner ∷ reverse old.outer.items = ap reverse b.outer ∙ reverse-append old.outer.items (old.inner ∷ []) in
     let nodes_there : AreOpen (scopes_of new) kind (new.inner ∷ old.inner ∷ reverse old.outer.items) (record { head = head; begins = place; field = 0 } ∷ p.in_field field spot.path) = (subst (λ l. IsInnermost l kind new.inner (record { head = head; begins = place; field = 0 } ∷ p.in_field field spot.path)) (sym b.scopes) inner_new, outer_known) in

@@ -4,7 +4,7 @@ use Rattle.std.specs.Prelude.{slice_get}
 use Rattle.std.specs.Option.{option_to_list}
 use Rattle.std.proofs.lemmas.Option.{none-some, same_Some, slice_get_within}
 use Rattle.bundle_tree_piece.specs.declared.piece.Role.{Role}
-use Rattle.bundle_tree_piece.specs.Item.{Item, Head, head_of}
+use Rattle.bundle_tree_piece.specs.Item.{Item, Head}
 use Rattle.bundle_rules.specs.Places as p
 use Rattle.bundle_rules.specs.Scopes as s
 use Rattle.bundle_rules.specs.Declarations as d
@@ -77,9 +77,9 @@ begun-tidy old new items place field head is_nameless at tidy b =
     let path : List p.Around = (p.spot_before items place).path in
     let known = innermost (scopes_of old) kind old.inner (reverse old.outer.items) path at.nodes in
     let outer : List p.Around = p.in_field field path in
-    let made : Option ScopeKind = kind_made head (kind_named (s.block_in (head_of old.inner.node))) (s.exports_default (head_of old.inner.node)) in
+    let made : Option ScopeKind = kind_made head old.inner.block old.inner.is_default in
     let no_first : (t : Bool) → cond (t && false) None made ≡ made = λ (t : Bool). never t made in
-    let found : option_map kind_named (s.kind_of_scope head 1 outer) ≡ made = kind_made-named head 1 outer ∙ ap (λ b. cond (leaves_first_out head && 1 == 0) None (kind_made head (kind_named b) (s.is_default outer))) (sym (known.block field)) ∙ ap (λ b. cond (leaves_first_out head && 1 == 0) None (kind_made head (kind_named (s.block_in (head_of old.inner.node))) b)) (sym (known.defaults field)) ∙ no_first (leaves_first_out head) in
+    let found : option_map kind_named (s.kind_of_scope head 1 outer) ≡ made = kind_made-named head 1 outer ∙ ap (λ b. cond (leaves_first_out head && 1 == 0) None (kind_made head b (s.is_default outer))) (sym (known.block field)) ∙ ap (λ b. cond (leaves_first_out head && 1 == 0) None (kind_made head old.inner.block b)) (sym (known.defaults field)) ∙ no_first (leaves_first_out head) in
     subst (λ l. IsTidy l (names_of new) (place + 1)) (sym b.scopes) (tidy-made (scopes_of old) (names_of old) (names_of new) place (scope_in old.inner field) made (s.kind_of_scope head 1 outer) tidy (b.once tidy.once) found (number-around (scopes_of old) (scope_in old.inner field) (s.scopes_around kind outer) (known.scope field)))
   where
     never : (t : Bool) (made : Option ScopeKind) → cond (t && false) None made ≡ made

@@ -5,7 +5,7 @@ use Rattle.std.specs.Option.{option_to_list}
 use Rattle.std.specs.List.{AllZip, cons_option}
 use Rattle.std.proofs.lemmas.Option.{none-some, same_Some}
 use Rattle.std.proofs.lemmas.Slice.Zip.{all_zipped_more}
-use Rattle.bundle_tree_piece.specs.Item.{Item, Head, head_of}
+use Rattle.bundle_tree_piece.specs.Item.{Item, Head}
 use Rattle.bundle_rules.specs.Places as p
 use Rattle.bundle_rules.proofs.PlacesLemmas.{spot_before-next}
 use Rattle.bundle_rules.specs.Scopes as s
@@ -15,7 +15,7 @@ use Rattle.bundle_scope_denote.specs.declared.table.Way.{Way}
 use Rattle.bundle_scope_denote.specs.declared.walk.Declaration.{Declaration}
 use Rattle.bundle_scope_denote.specs.declared.walk.Occurrence.{Occurrence}
 use Rattle.bundle_scope_denote.specs.declared.walk.Open.{Open}
-use Rattle.bundle_scope_denote.specs.Kinds.{scope_as, way_named, kind_named, kind_made, way_in, way_of_variable, leaves_first_out}
+use Rattle.bundle_scope_denote.specs.Kinds.{scope_as, way_named, kind_named, kind_made, is_field, way_in, way_of_variable, leaves_first_out}
 use Rattle.bundle_scope_denote.specs.Numbers.{Numbered, AreAround, Keeps, in_scope}
 use Rattle.bundle_scope_denote.specs.Walked.{scope_within, scope_in, IsInnermost, AreOpen, IsDeclared, IsSeen, AreDeclaredTo, AreSeenTo}
 use Rattle.bundle_scope_denote.proofs.ChainLemmas.{Keeps-append, slice_get-next, AreAround-keeps, AllZip-weaker}
@@ -42,7 +42,7 @@ IsInnermost-in_field scopes kind node field path known = record {
   variable = λ f. known.variable f ∙ ap (λ q. option_map way_named (d.way_of_declarator q)) (sym (same_field f field path));
   defaults = λ f. known.defaults f ∙ ap s.is_default (sym (same_field f field path));
   heads = λ f. known.heads f ∙ ap d.heads_loop (sym (same_field f field path));
-  block = λ f. known.block f ∙ ap s.block_kind (sym (same_field f field path));
+  block = λ f. known.block f ∙ ap (λ q. kind_named (s.block_kind q)) (sym (same_field f field path));
   scope = λ f. subst (λ q. AreAround scopes (Some (scope_in node f)) (s.scopes_around kind q)) (sym (same_field f field path)) (known.scope f);
 }
 
@@ -104,20 +104,20 @@ way_in_new true head path way variable is_default e1 e2 e3 = e1
 way_in_new false head path way variable is_default e1 e2 e3 = ap (λ x. way_in head x is_default) e2 ∙ ap (λ x. way_in head (option_map way_named (d.way_of_declarator path)) x) e3 ∙ way_in-named head path
 
 -- a node that begins is the innermost one
-pub innermost-new : (scopes : List Numbered) (kind : s.ModuleKind) (inner new : Open) (path : List p.Around) (place field : ℕ) (head : Head) → IsInnermost scopes kind inner path → head_of new.node ≡ head → new.way ≡ cond (d.is_pattern head) inner.way (way_in head inner.variable (s.exports_default (head_of inner.node))) → new.variable ≡ way_of_variable head (d.is_loop_head (head_of inner.node) field) → new.around ≡ scope_in inner field → new.own ≡ option_map (λ _. length scopes) (option_map (in_scope place (scope_in inner field)) (kind_made head (kind_named (s.block_in (head_of inner.node))) (s.exports_default (head_of inner.node)))) → IsInnermost (scopes ++ option_to_list (option_map (in_scope place (scope_in inner field)) (kind_made head (kind_named (s.block_in (head_of inner.node))) (s.exports_default (head_of inner.node))))) kind new (record { head = head; begins = place; field = 0 } ∷ p.in_field field path)
-innermost-new scopes kind inner new path place field head known is_node is_way is_variable is_around is_own =
+pub innermost-new : (scopes : List Numbered) (kind : s.ModuleKind) (inner new : Open) (path : List p.Around) (place field : ℕ) (head : Head) → IsInnermost scopes kind inner path → new.way ≡ cond (d.is_pattern head) inner.way (way_in head inner.variable inner.is_default) → new.variable ≡ way_of_variable head (is_field inner.head field) → new.block ≡ kind_named (s.block_in head) → new.is_default ≡ s.exports_default head → ((f : ℕ) → is_field new.head f ≡ d.is_loop_head head f) → new.leaves_first_out ≡ leaves_first_out head → new.around ≡ scope_in inner field → new.own ≡ option_map (λ _. length scopes) (option_map (in_scope place (scope_in inner field)) (kind_made head inner.block inner.is_default)) → IsInnermost (scopes ++ option_to_list (option_map (in_scope place (scope_in inner field)) (kind_made head inner.block inner.is_default))) kind new (record { head = head; begins = place; field = 0 } ∷ p.in_field field path)
+innermost-new scopes kind inner new path place field head known is_way is_variable is_block is_default is_heads is_left is_around is_own =
     let outer : List p.Around = p.in_field field path in
-    let made : Option ScopeKind = kind_made head (kind_named (s.block_in (head_of inner.node))) (s.exports_default (head_of inner.node)) in
+    let made : Option ScopeKind = kind_made head inner.block inner.is_default in
     let made_named : (f : ℕ) → option_map kind_named (s.kind_of_scope head f outer) ≡ cond (leaves_first_out head && f == 0) None made =
-    λ f. kind_made-named head f outer ∙ ap (λ b. cond (leaves_first_out head && f == 0) None (kind_made head (kind_named b) (s.is_default outer))) (sym (known.block field)) ∙ ap (λ b. cond (leaves_first_out head && f == 0) None (kind_made head (kind_named (s.block_in (head_of inner.node))) b)) (sym (known.defaults field)) in
+    λ f. kind_made-named head f outer ∙ ap (λ b. cond (leaves_first_out head && f == 0) None (kind_made head b (s.is_default outer))) (sym (known.block field)) ∙ ap (λ b. cond (leaves_first_out head && f == 0) None (kind_made head inner.block b)) (sym (known.defaults field)) in
     let within : (f : ℕ) → scope_in new f ≡ scope_within (option_map (λ _. length scopes) (option_map (in_scope place (scope_in inner field)) made)) (scope_in inner field) (leaves_first_out head && f == 0) =
-    λ f. ap (λ o. scope_within o new.around (leaves_first_out (head_of new.node) && f == 0)) is_own ∙ ap (λ a. scope_within (option_map (λ _. length scopes) (option_map (in_scope place (scope_in inner field)) made)) a (leaves_first_out (head_of new.node) && f == 0)) is_around ∙ ap (λ x. scope_within (option_map (λ _. length scopes) (option_map (in_scope place (scope_in inner field)) made)) (scope_in inner field) (leaves_first_out x && f == 0)) is_node in
+    λ f. ap (λ o. scope_within o new.around (new.leaves_first_out && f == 0)) is_own ∙ ap (λ a. scope_within (option_map (λ _. length scopes) (option_map (in_scope place (scope_in inner field)) made)) a (new.leaves_first_out && f == 0)) is_around ∙ ap (λ x. scope_within (option_map (λ _. length scopes) (option_map (in_scope place (scope_in inner field)) made)) (scope_in inner field) (x && f == 0)) is_left in
     record {
-      way = λ f. is_way ∙ way_in_new (d.is_pattern head) head outer inner.way inner.variable (s.exports_default (head_of inner.node)) (known.way field) (known.variable field) (known.defaults field);
+      way = λ f. is_way ∙ way_in_new (d.is_pattern head) head outer inner.way inner.variable inner.is_default (known.way field) (known.variable field) (known.defaults field);
       variable = λ f. is_variable ∙ ap (way_of_variable head) (known.heads field) ∙ way_of_variable-named head outer;
-      defaults = λ f. ap s.exports_default is_node;
-      heads = λ f. ap (λ x. d.is_loop_head x f) is_node;
-      block = λ f. ap s.block_in is_node;
+      defaults = λ f. is_default;
+      heads = is_heads;
+      block = λ f. is_block;
       scope = λ f. subst (λ n. AreAround (scopes ++ option_to_list (option_map (in_scope place (scope_in inner field)) made)) (Some n) (s.scope_at place (s.kind_of_scope head f outer) ++ s.scopes_around kind outer)) (sym (within f)) (scopes_within scopes place (scope_in inner field) (leaves_first_out head && f == 0) made (s.kind_of_scope head f outer) (s.scopes_around kind outer) (made_named f) (known.scope field));
     }
 

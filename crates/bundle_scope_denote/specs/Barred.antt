@@ -1,5 +1,5 @@
 -- Which declarations may not stand beside those that were met.
-use Rattle.std.specs.Prelude.{◌≡◌, ℕ, Bool as Truth, true, false, cond, not, ◌&&◌, List, [], ◌∷◌, Option, Some, None, length, option_map, unwrap_or, slice_get, take, take_while}
+use Rattle.std.specs.Prelude.{◌≡◌, ℕ, Bool as Truth, true, false, cond, not, ◌&&◌, ◌<◌, List, [], ◌∷◌, Option, Some, None, length, option_map, unwrap_or, slice_get, take, take_while}
 use Rattle.std.specs.List.{list_any}
 use Rattle.bundle_tree_piece.specs.Item.{Item}
 use Rattle.bundle_rules.specs.Scopes as s
@@ -11,6 +11,8 @@ use Rattle.bundle_scope_denote.specs.declared.table.Way.{Way}
 use Rattle.bundle_scope_denote.specs.declared.walk.Declaration.{Declaration}
 use Rattle.bundle_scope_denote.specs.declared.walk.Walk.{Walk}
 use Rattle.bundle_scope_denote.specs.declared.doubled.Met.{Met}
+use Rattle.bundle_scope_denote.specs.declared.doubled.Times.{Times}
+use Rattle.bundle_scope_denote.specs.declared.doubled.Times.TheVariants.{Never, Once, Often}
 use Rattle.bundle_scope_denote.specs.declared.doubled.Reach.{Reach}
 use Rattle.bundle_scope_denote.specs.Kinds.{way_named, takes_by}
 use Rattle.bundle_scope_denote.specs.Numbers.{Numbered, AreAround}
@@ -74,18 +76,42 @@ is_taken_in scope name a = d.names_agree a.name name && s.same_scope (o.taker a)
 abbrev pub is_barred_in : s.Scope → d.Name → d.Declared → Truth
 is_barred_in scope name a = d.names_agree a.name name && list_any (s.same_scope scope) (barred_by a)
 
--- the keys tell a test of scopes and names that have no context
-abbrev pub KeysTell : List Numbered → List d.Name → List Key → (s.Scope → d.Name → Truth) → Type 0
-KeysTell scopes names keys test = (n number : ℕ) (scope : s.Scope) (name : d.Name) → scope_at scopes n ≡ Some scope → slice_get names number ≡ Some name → name.ctxt ≡ None → list_any (same_key (n, number)) keys ≡ test scope name
+-- one time more
+abbrev pub once_more : Times → Times
+once_more Never = Once
+once_more Once = Often
+once_more Often = Often
+
+abbrev pub counted : Truth → Times → Times
+counted true times = once_more times
+counted false times = times
+
+-- whether a name is declared more than once, or it is not known how often
+abbrev pub is_often_by : Option Times → Truth
+is_often_by None = true
+is_often_by (Some Never) = false
+is_often_by (Some Once) = false
+is_often_by (Some Often) = true
+
+abbrev pub is_often : List Times → (name : ℕ) → Truth
+is_often times name = is_often_by (slice_get times name)
+
+-- the name of two declarations is declared more than once
+abbrev pub AreCounted : List Declaration → List Times → Type 0
+AreCounted declarations times = (i j : ℕ) (a b : Declaration) → i < j → slice_get declarations i ≡ Some a → slice_get declarations j ≡ Some b → a.name ≡ b.name → is_often times b.name ≡ true
+
+-- the keys tell a test of scopes and names that have no context and are declared more than once
+abbrev pub KeysTell : List Numbered → List d.Name → (often : ℕ → Truth) → List Key → (s.Scope → d.Name → Truth) → Type 0
+KeysTell scopes names often keys test = (n number : ℕ) (scope : s.Scope) (name : d.Name) → scope_at scopes n ≡ Some scope → slice_get names number ≡ Some name → name.ctxt ≡ None → often number ≡ true → list_any (same_key (n, number)) keys ≡ test scope name
 
 -- what was met is these declarations
-pub record HasMet (scopes : List Numbered) (names : List d.Name) (before : List d.Declared) (met : Met) : Type 0 where
-  pub taken : KeysTell scopes names met.taken.keys (λ scope name. list_any (is_taken_in scope name) before)
-  pub barred : KeysTell scopes names met.barred.keys (λ scope name. list_any (is_barred_in scope name) before)
+pub record HasMet (scopes : List Numbered) (names : List d.Name) (often : ℕ → Truth) (before : List d.Declared) (met : Met) : Type 0 where
+  pub taken : KeysTell scopes names often met.taken.keys (λ scope name. list_any (is_taken_in scope name) before)
+  pub barred : KeysTell scopes names often met.barred.keys (λ scope name. list_any (is_barred_in scope name) before)
 
 -- the first declarations were met, and none of them is doubled
-pub record HasMetFirst (walk : Walk) (all : List d.Declared) (number : ℕ) (met : Met) : Type 0 where
-  pub before : HasMet (scopes_of walk) (names_of walk) (take number all) met
+pub record HasMetFirst (walk : Walk) (often : ℕ → Truth) (all : List d.Declared) (number : ℕ) (met : Met) : Type 0 where
+  pub before : HasMet (scopes_of walk) (names_of walk) often (take number all) met
   pub undoubled : list_any (u.is_doubled all) (take number all) ≡ false
 
 -- what is told has the place and the symbol of a declaration that was met

@@ -1,6 +1,6 @@
 -- What the kinds of scopes and the ways of the code stand for, and what a node means for the names in it, by what the code
 -- knows of the nodes around it.
-use Rattle.std.specs.Prelude.{ℕ, Bool as Truth, true, false, cond, Option, Some, None}
+use Rattle.std.specs.Prelude.{ℕ, ◌==◌, Bool as Truth, true, false, cond, Option, Some, None}
 use Rattle.bundle_tree_leaf.specs.declared.kind.VarDeclKind.{VarDeclKind}
 use Rattle.bundle_tree_leaf.specs.declared.kind.VarDeclKind.TheVariants as v
 use Rattle.bundle_tree_piece.specs.Item as h
@@ -121,6 +121,11 @@ leaves_first_out h.GetterProp = true
 leaves_first_out h.SetterProp = true
 leaves_first_out h.SwitchStmt = true
 leaves_first_out _ = false
+
+-- whether a field is this one
+abbrev pub is_field : Option ℕ → ℕ → Truth
+is_field None field = false
+is_field (Some own) field = field == own
 
 -- whether a name that is declared in this way belongs to the scope, if it is the nearest such one
 abbrev pub takes_by : Way → s.Scope → Truth

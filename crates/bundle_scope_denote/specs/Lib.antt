@@ -10,4 +10,5 @@ pub mod Listed
 pub mod Barred
 pub mod Salted
 pub mod Hashed
+pub mod Mixed
 pub mod texts

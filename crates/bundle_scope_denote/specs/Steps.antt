@@ -1,18 +1,18 @@
 -- A step of the walk over a list, by what it changes.
-use Rattle.std.specs.Prelude.{◌≡◌, ℕ, ◌+◌, Bool as Truth, cond, List, [], ◌∷◌, ◌++◌, Option, Some, None, map, length, reverse, option_map, slice_get}
+use Rattle.std.specs.Prelude.{◌≡◌, ℕ, ◌+◌, Bool as Truth, false, cond, List, [], ◌∷◌, ◌++◌, Option, Some, None, map, length, reverse, option_map, slice_get}
 use Rattle.std.specs.List.{AllZip}
 use Rattle.std.specs.Option.{option_to_list}
-use Rattle.bundle_tree_piece.specs.declared.piece.Node.TheVariants as n
 use Rattle.bundle_tree_piece.specs.declared.piece.Role.{Role}
-use Rattle.bundle_tree_piece.specs.Item.{Item, Head, head_of}
+use Rattle.bundle_tree_piece.specs.Item.{Item, Head}
 use Rattle.bundle_rules.specs.Places as p
 use Rattle.bundle_rules.specs.Places.{is_binding}
 use Rattle.bundle_rules.specs.Scopes as s
 use Rattle.bundle_rules.specs.Declarations as d
+use Rattle.bundle_scope_denote.specs.declared.table.ScopeKind.TheVariants as k
 use Rattle.bundle_scope_denote.specs.declared.walk.Declaration.{Declaration}
 use Rattle.bundle_scope_denote.specs.declared.walk.Open.{Open}
 use Rattle.bundle_scope_denote.specs.declared.walk.Walk.{Walk}
-use Rattle.bundle_scope_denote.specs.Kinds.{kind_as, reading_as, kind_named, kind_made, way_in, way_of_variable}
+use Rattle.bundle_scope_denote.specs.Kinds.{kind_as, reading_as, kind_named, kind_made, is_field, leaves_first_out, way_in, way_of_variable}
 use Rattle.bundle_scope_denote.specs.Numbers.{Numbered, AreAround, numbered, in_scope, name_as, Keeps}
 use Rattle.bundle_scope_denote.specs.Chains.{AreInOrder, IsOnce, top_number}
 use Rattle.bundle_scope_denote.specs.Walked.{IsAt, IsDeclared, IsSeen, IsDefault, scope_in, declared_as, IsTidy, StaysOnce}
@@ -39,11 +39,14 @@ pub record IsBlank (walk : Walk) : Type 0 where
   pub declarations : walk.declarations.items ≡ []
   pub occurrences : walk.occurrences.items ≡ []
   pub outer : walk.outer.items ≡ []
-  pub node : walk.inner.node ≡ n.Module
   pub way : walk.inner.way ≡ None
   pub variable : walk.inner.variable ≡ None
   pub around : walk.inner.around ≡ top_number (kind_as walk.kind)
   pub own : walk.inner.own ≡ None
+  pub block : walk.inner.block ≡ k.Block
+  pub default : walk.inner.is_default ≡ false
+  pub head : walk.inner.head ≡ None
+  pub left : walk.inner.leaves_first_out ≡ false
   pub top : walk.top ≡ top_number (kind_as walk.kind)
 
 -- what no step changes
@@ -65,7 +68,7 @@ pub record Starts (old new : Walk) : Type 0 where
 
 -- the scope that a node makes
 abbrev pub scope_made : Open → (place field : ℕ) → Head → Option Numbered
-scope_made inner place field head = option_map (in_scope place (scope_in inner field)) (kind_made head (kind_named (s.block_in (head_of inner.node))) (s.exports_default (head_of inner.node)))
+scope_made inner place field head = option_map (in_scope place (scope_in inner field)) (kind_made head inner.block inner.is_default)
 
 -- a node begins at a place
 pub record Begins (old new : Walk) (place field : ℕ) (head : Head) (is_nameless : Truth) : Type 0 where
@@ -76,9 +79,12 @@ pub record Begins (old new : Walk) (place field : ℕ) (head : Head) (is_nameles
   pub keeps : Keeps (names_of old) (names_of new)
   pub once : StaysOnce (names_of old) (names_of new)
   pub scopes : scopes_of new ≡ scopes_of old ++ option_to_list (scope_made old.inner place field head)
-  pub node : head_of new.inner.node ≡ head
-  pub way : new.inner.way ≡ cond (d.is_pattern head) old.inner.way (way_in head old.inner.variable (s.exports_default (head_of old.inner.node)))
-  pub variable : new.inner.variable ≡ way_of_variable head (d.is_loop_head (head_of old.inner.node) field)
+  pub way : new.inner.way ≡ cond (d.is_pattern head) old.inner.way (way_in head old.inner.variable old.inner.is_default)
+  pub variable : new.inner.variable ≡ way_of_variable head (is_field old.inner.head field)
+  pub block : new.inner.block ≡ kind_named (s.block_in head)
+  pub defaults : new.inner.is_default ≡ s.exports_default head
+  pub heads : (place : ℕ) → is_field new.inner.head place ≡ d.is_loop_head head place
+  pub left : new.inner.leaves_first_out ≡ leaves_first_out head
   pub around : new.inner.around ≡ scope_in old.inner field
   pub own : new.inner.own ≡ option_map (λ _. length (scopes_of old)) (scope_made old.inner place field head)
   pub outer : new.outer.items ≡ old.outer.items ++ old.inner ∷ []

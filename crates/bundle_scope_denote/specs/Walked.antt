@@ -4,7 +4,7 @@ use Rattle.std.specs.List.{AllZip}
 use Rattle.bundle_tree_piece.specs.declared.piece.Role.{Role}
 use Rattle.bundle_tree_piece.specs.declared.piece.Role.TheVariants as o
 use Rattle.bundle_tree_piece.specs.Item as h
-use Rattle.bundle_tree_piece.specs.Item.{Item, head_of}
+use Rattle.bundle_tree_piece.specs.Item.{Item}
 use Rattle.bundle_rules.specs.Places as p
 use Rattle.bundle_rules.specs.Scopes as s
 use Rattle.bundle_rules.specs.Declarations as d
@@ -13,7 +13,7 @@ use Rattle.bundle_scope_denote.specs.declared.table.Way.TheVariants as w
 use Rattle.bundle_scope_denote.specs.declared.walk.Declaration.{Declaration}
 use Rattle.bundle_scope_denote.specs.declared.walk.Occurrence.{Occurrence}
 use Rattle.bundle_scope_denote.specs.declared.walk.Open.{Open}
-use Rattle.bundle_scope_denote.specs.Kinds.{way_named, leaves_first_out}
+use Rattle.bundle_scope_denote.specs.Kinds.{way_named, kind_named, is_field}
 use Rattle.bundle_scope_denote.specs.Numbers.{Numbered, AreAround}
 use Rattle.bundle_scope_denote.specs.Chains.{AreInOrder, IsOnce}
 
@@ -23,16 +23,16 @@ scope_within None around is_left_out = around
 scope_within (Some own) around is_left_out = cond is_left_out around own
 
 abbrev pub scope_in : Open → ℕ → ℕ
-scope_in inner field = scope_within inner.own inner.around (leaves_first_out (head_of inner.node) && field == 0)
+scope_in inner field = scope_within inner.own inner.around (inner.leaves_first_out && field == 0)
 
 -- what is known of the innermost node says what the path means for what stands in it
 pub record IsInnermost (scopes : List Numbered) (kind : s.ModuleKind) (inner : Open) (path : List p.Around) : Type 0 where
   pub way : (field : ℕ) → inner.way ≡ option_map way_named (d.way_of (p.in_field field path))
   pub variable : (field : ℕ) →
       inner.variable ≡ option_map way_named (d.way_of_declarator (p.in_field field path))
-  pub defaults : (field : ℕ) → s.exports_default (head_of inner.node) ≡ s.is_default (p.in_field field path)
-  pub heads : (field : ℕ) → d.is_loop_head (head_of inner.node) field ≡ d.heads_loop (p.in_field field path)
-  pub block : (field : ℕ) → s.block_in (head_of inner.node) ≡ s.block_kind (p.in_field field path)
+  pub defaults : (field : ℕ) → inner.is_default ≡ s.is_default (p.in_field field path)
+  pub heads : (field : ℕ) → is_field inner.head field ≡ d.heads_loop (p.in_field field path)
+  pub block : (field : ℕ) → inner.block ≡ kind_named (s.block_kind (p.in_field field path))
   pub scope : (field : ℕ) →
       AreAround scopes (Some (scope_in inner field)) (s.scopes_around kind (p.in_field field path))
 

@@ -17,8 +17,9 @@ ghost use Rattle.bundle_scope_denote.specs.Searched.{Denotes, DenotesSeen, Makes
 ghost use Rattle.bundle_scope_denote.specs.Listed.{IsTable};
 ghost use Rattle.bundle_scope_denote.specs.Steps.{IsBlank, IsWhole, Stays};
 
-use crate::homes::{Bindings, alone_of, homes_of, outer_at, scope_at};
+use crate::homes::{Bindings, Keys, alone_of, homes_of, outer_at, scope_at};
 use crate::kinds::is_function;
+use crate::mixed::Mixed;
 use crate::salt::{Salt, salt_of};
 use crate::table::{Binding, Denotations, Denoted, ModuleKind, Reading, Scope};
 use crate::walk::{Name, Occurrence, Walk, number_of};
@@ -54,10 +55,12 @@ pub(crate) fn table_of<'a>(walk: Walk<'a>, found: Found<'a>) -> Denotations<'a>
     ensures bindings { result.bindings.items ≡ found.entry.bindings.items }
     ensures occurrences { result.occurrences.items ≡ found.entry.occurrences.items }
 {
+    let salt = *walk.names.hasher();
     Denotations {
         scopes: walk.scopes,
         bindings: found.bindings,
         occurrences: found.occurrences,
+        salt,
     }
 }
 
@@ -125,7 +128,7 @@ pub(crate) fn searched<'a>(alloc: Global, walk: &Walk<'a>) -> Result<Found<'a>, 
 #[derive(Drop)]
 struct Search<'a> {
     bindings: Bindings<'a>,
-    implied: IndexSet<(usize, usize)>,
+    implied: Keys,
 }
 
 impl<'a> Search<'a> {
@@ -142,7 +145,7 @@ impl<'a> Search<'a> {
             Searches (reading_as reading) walk.now of.now self.old self.new table.items
             walk.now.occurrences.items) }
     {
-        let mut occurrences = Vec::new(alloc);
+        let mut occurrences = Vec::with_capacity(alloc, walk.occurrences.len())?;
         for occurrence in &walk.occurrences {
             let binding = self.binding_of(walk, of, *occurrence, reading)?;
             occurrences.push(Denoted {
@@ -265,12 +268,7 @@ fn number_at(numbers: &[usize], place: usize) -> Option<usize>
 }
 
 // The number of the key of a name in the nearest scope, from one on outwards, that has it among these keys.
-fn nearest_key(
-    scopes: &[Scope],
-    keys: &IndexSet<(usize, usize)>,
-    name: usize,
-    from: usize,
-) -> Option<usize>
+fn nearest_key(scopes: &[Scope], keys: &Keys, name: usize, from: usize) -> Option<usize>
     ensures { bound.NumberOf keys.now.keys name
         (nearest_at (map numbered scopes.now)
         (bound.binds_at (map numbered scopes.now) keys.now.keys false name) from)
@@ -292,13 +290,7 @@ fn nearest_key(
 
 // The number of the nearest scope, from one on outwards, that has the name with a number among these keys, or
 // is that of a function where `adds` says that functions bind the name.
-fn nearest(
-    scopes: &[Scope],
-    keys: &IndexSet<(usize, usize)>,
-    adds: bool,
-    name: usize,
-    from: usize,
-) -> Option<usize>
+fn nearest(scopes: &[Scope], keys: &Keys, adds: bool, name: usize, from: usize) -> Option<usize>
     ensures { result
         ≡ nearest_at (map numbered scopes.now)
         (bound.binds_at (map numbered scopes.now) keys.now.keys adds name) from }
@@ -317,13 +309,7 @@ fn nearest(
 }
 
 // Whether a scope has the name with a number among these keys, or is that of a function which binds it.
-fn binds_at(
-    scopes: &[Scope],
-    keys: &IndexSet<(usize, usize)>,
-    adds: bool,
-    name: usize,
-    scope: usize,
-) -> bool
+fn binds_at(scopes: &[Scope], keys: &Keys, adds: bool, name: usize, scope: usize) -> bool
     ensures { result ≡ bound.binds_at (map numbered scopes.now) keys.now.keys adds name scope }
 {
     if keys.contains(&(scope, name)) {
@@ -368,14 +354,14 @@ fn is_unresolved(ctxt: Option<u32>) -> bool
 fn implied_in<'a>(
     alloc: Global,
     names: &IndexSet<Name<'a>, Salt>,
-    keys: &IndexSet<(usize, usize)>,
+    keys: &Keys,
     reading: Reading,
-) -> Result<IndexSet<(usize, usize)>, AllocError>
+) -> Result<Keys, AllocError>
     ensures { IfOk result (λ implied.
         HoldsImplied (reading_as reading) (map name_as names.now.keys) keys.now.keys implied.keys) }
 {
     match reading {
-        Reading::BySymbol => Ok(IndexSet::new(alloc)),
+        Reading::BySymbol => Ok(IndexSet::with_hasher(alloc, Mixed)),
         Reading::ByContext => implied_by_context(alloc, names, keys),
     }
 }
@@ -384,12 +370,12 @@ fn implied_in<'a>(
 fn implied_by_context<'a>(
     alloc: Global,
     names: &IndexSet<Name<'a>, Salt>,
-    keys: &IndexSet<(usize, usize)>,
-) -> Result<IndexSet<(usize, usize)>, AllocError>
+    keys: &Keys,
+) -> Result<Keys, AllocError>
     ensures { IfOk result (λ implied.
         HoldsImplied ByContext (map name_as names.now.keys) keys.now.keys implied.keys) }
 {
-    let mut implied = IndexSet::new(alloc);
+    let mut implied = IndexSet::with_hasher(alloc, Mixed);
     for key in keys.as_slice() {
         put_implied(&mut implied, names, keys, *key)?;
     }
@@ -398,9 +384,9 @@ fn implied_by_context<'a>(
 
 // Adds a key, if it is that of a name that no identifier declares.
 fn put_implied<'a>(
-    implied: &mut IndexSet<(usize, usize)>,
+    implied: &mut Keys,
     names: &IndexSet<Name<'a>, Salt>,
-    keys: &IndexSet<(usize, usize)>,
+    keys: &Keys,
     key: (usize, usize),
 ) -> Result<(), AllocError>
     ensures { OnOk result
@@ -417,11 +403,7 @@ fn put_implied<'a>(
 }
 
 // Whether a key has no context, and no identifier declares its symbol in the scope.
-fn is_implied<'a>(
-    names: &IndexSet<Name<'a>, Salt>,
-    keys: &IndexSet<(usize, usize)>,
-    key: (usize, usize),
-) -> bool
+fn is_implied<'a>(names: &IndexSet<Name<'a>, Salt>, keys: &Keys, key: (usize, usize)) -> bool
     ensures { result ≡ is_implied_key (map name_as names.now.keys) keys.now.keys key }
 {
     let Some(name) = names.get_index(key.1) else {
@@ -434,12 +416,7 @@ fn is_implied<'a>(
 }
 
 // Whether a key of the scope is of an identifier's name with this symbol.
-fn is_written<'a>(
-    names: &IndexSet<Name<'a>, Salt>,
-    keys: &IndexSet<(usize, usize)>,
-    scope: usize,
-    sym: &str,
-) -> bool
+fn is_written<'a>(names: &IndexSet<Name<'a>, Salt>, keys: &Keys, scope: usize, sym: &str) -> bool
     ensures { result
         ≡ list_any (bound.is_written_key (map name_as names.now.keys) scope sym.now)
         keys.now.keys }

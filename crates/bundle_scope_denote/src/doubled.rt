@@ -1,6 +1,6 @@
 //! The first name that is declared where it may not be declared again.
 
-ghost use Rattle.std.specs.Prelude.{◌≡◌, ◌<◌, ◌||◌, [], IfOk, List, OnOk, Some, length, map, slice_get};
+ghost use Rattle.std.specs.Prelude.{◌≡◌, ◌<◌, ◌==◌, ◌||◌, ℕ, [], IfOk, List, OnOk, Some, length, map, slice_get};
 ghost use Rattle.std.specs.List.{list_any};
 ghost use Rattle.std.specs.Option.{option_map};
 ghost use Rattle.bundle_tree_piece.specs.Item.{item_of};
@@ -15,11 +15,13 @@ ghost use Rattle.bundle_scope_denote.specs.Chains as chains;
 ghost use Rattle.bundle_scope_denote.specs.Bound.{Key, same_key};
 ghost use Rattle.bundle_scope_denote.specs.Ready.{AreNamed};
 ghost use Rattle.bundle_scope_denote.specs.Steps.{IsBlank};
-ghost use Rattle.bundle_scope_denote.specs.Barred.{Holds, IsToldOf, Reaches, TellsFirst, begins_wrapped, has_any, is_key_in, passed_at};
+ghost use Rattle.bundle_scope_denote.specs.Barred as barred;
+ghost use Rattle.bundle_scope_denote.specs.Barred.{AreCounted, Holds, IsToldOf, Reaches, TellsFirst, begins_wrapped, counted, has_any, is_key_in, passed_at};
 ghost use Rattle.bundle_scope_denote.specs.Listed.{place_and_symbol, told_of};
 
-use crate::homes::{outer_at, scope_at, taker_of, takes_at};
+use crate::homes::{Keys, outer_at, scope_at, taker_of, takes_at};
 use crate::kinds::{is_var, is_wrapper, joins_outer};
+use crate::mixed::Mixed;
 use crate::salt::salt_of;
 use crate::table::{Doubled, ModuleKind, Reading, Scope, ScopeKind, Way};
 use crate::walk::{Declaration, Walk};
@@ -69,8 +71,60 @@ pub(crate) fn first_met<'a>(
     requires { AreNamed walk.now }
     ensures { IfOk result (TellsFirst walk.now) }
 {
+    let times = times_of(alloc, walk)?;
     let mut met = Met::new(alloc);
-    met.first_excluded(alloc, walk)
+    met.first_excluded(alloc, walk, &times)
+}
+
+// How often a name is declared.
+#[derive(Clone, Copy)]
+enum Times {
+    Never,
+    Once,
+    Often,
+}
+
+// For each name how often it is declared.
+fn times_of<'a>(alloc: Global, walk: &Walk<'a>) -> Result<Vec<Times>, AllocError>
+    ensures { IfOk result (λ times. AreCounted walk.now.declarations.items times.items) }
+{
+    let mut times = vec![in alloc; Times::Never; walk.names.len()]?;
+    for declared in &walk.declarations {
+        count(&mut times, declared.name);
+    }
+    Ok(times)
+}
+
+// A name is declared once more.
+fn count(times: &mut Vec<Times>, name: usize)
+    ensures { (number : ℕ) →
+        slice_get times.new.items number
+        ≡ option_map (counted (name == number)) (slice_get times.old.items number) }
+{
+    if let Some(its) = times.get_mut(name) {
+        *its = once_more(*its);
+    }
+}
+
+// One time more.
+fn once_more(times: Times) -> Times
+    ensures { result ≡ barred.once_more times }
+{
+    match times {
+        Times::Never => Times::Once,
+        _ => Times::Often,
+    }
+}
+
+// Whether a name is declared more than once.
+fn is_often(times: &[Times], name: usize) -> bool
+    ensures { result ≡ barred.is_often times.now name }
+{
+    match times.get(name) {
+        None => true,
+        Some(Times::Often) => true,
+        Some(_) => false,
+    }
 }
 
 // What is told of a declaration that is doubled.
@@ -233,8 +287,8 @@ fn group_at(scopes: &[Scope], number: usize) -> usize
 // scopes in which no other declaration may have the name.
 #[derive(Drop)]
 struct Met {
-    taken: IndexSet<(usize, usize)>,
-    barred: IndexSet<(usize, usize)>,
+    taken: Keys,
+    barred: Keys,
 }
 
 impl Met {
@@ -243,23 +297,29 @@ impl Met {
         ensures barred { result.barred.keys ≡ [] }
     {
         Met {
-            taken: IndexSet::new(alloc),
-            barred: IndexSet::new(alloc),
+            taken: IndexSet::with_hasher(alloc, Mixed),
+            barred: IndexSet::with_hasher(alloc, Mixed),
         }
     }
 
-    // The first declaration of a walk that may not stand beside those before it, which are added.
+    // The first declaration of a walk that may not stand beside those before it, which are added. What is declared
+    // once is passed over.
     fn first_excluded<'a>(
         &mut self,
         alloc: Global,
         walk: &Walk<'a>,
+        times: &[Times],
     ) -> Result<Option<Doubled<'a>>, AllocError>
         requires named { AreNamed walk.now }
+        requires counted { AreCounted walk.now.declarations.items times.now }
         requires taken { self.old.taken.keys ≡ [] }
         requires barred { self.old.barred.keys ≡ [] }
         ensures { IfOk result (TellsFirst walk.now) }
     {
         for declaration in &walk.declarations {
+            if !is_often(times, declaration.name) {
+                continue;
+            }
             let reach = reach_of(alloc, walk, *declaration)?;
             if self.excludes(declaration.name, &reach) {
                 return Ok(Some(doubled_at(walk, *declaration)));
@@ -301,7 +361,7 @@ impl Met {
 }
 
 // Whether one of these scopes takes a name that was met.
-fn is_taken(taken: &IndexSet<(usize, usize)>, name: usize, scopes: &[usize]) -> bool
+fn is_taken(taken: &Keys, name: usize, scopes: &[usize]) -> bool
     ensures { result ≡ has_any taken.now.keys name scopes.now }
 {
     for scope in scopes {
@@ -313,7 +373,7 @@ fn is_taken(taken: &IndexSet<(usize, usize)>, name: usize, scopes: &[usize]) -> 
 }
 
 // Adds a key.
-fn put_key(keys: &mut IndexSet<(usize, usize)>, key: (usize, usize)) -> Result<(), AllocError>
+fn put_key(keys: &mut Keys, key: (usize, usize)) -> Result<(), AllocError>
     ensures { OnOk result
         ((other : Key) →
         list_any (same_key other) keys.new.keys
@@ -324,11 +384,7 @@ fn put_key(keys: &mut IndexSet<(usize, usize)>, key: (usize, usize)) -> Result<(
 }
 
 // Adds a name in each of these scopes.
-fn put_keys(
-    keys: &mut IndexSet<(usize, usize)>,
-    name: usize,
-    scopes: &[usize],
-) -> Result<(), AllocError>
+fn put_keys(keys: &mut Keys, name: usize, scopes: &[usize]) -> Result<(), AllocError>
     ensures { OnOk result
         ((other : Key) →
         list_any (same_key other) keys.new.keys

@@ -13,16 +13,20 @@ ghost use Rattle.bundle_scope_denote.specs.Bound.{Key, home_from, is_parameter_k
 ghost use Rattle.bundle_scope_denote.specs.Ready.{AddsHome, AreHomes, AreHomesOf, AreNamed, FindsAlone, Matches, binding_name, has_parameter, taken_key};
 
 use crate::kinds::{has_parameters, holds_parameters, joins_parameter, takes};
+use crate::mixed::Mixed;
 use crate::salt::Salt;
 use crate::table::{Binding, Scope, Way};
 use crate::walk::{Declaration, Name, Walk};
 use indexmap::IndexSet;
 use std::alloc::{AllocError, Global};
 
+/// Numbers of scopes, each with that of a name.
+pub(crate) type Keys = IndexSet<(usize, usize), Mixed>;
+
 /// The bindings, with the number of the scope and that of the name of each.
 #[derive(Drop)]
 pub(crate) struct Bindings<'a> {
-    pub(crate) keys: IndexSet<(usize, usize)>,
+    pub(crate) keys: Keys,
     pub(crate) items: Vec<Binding<'a>>,
 }
 
@@ -69,20 +73,17 @@ pub(crate) fn homes_of<'a>(alloc: Global, walk: &Walk<'a>) -> Result<Homes<'a>, 
 }
 
 // The same by the names of the parameters.
-fn homes_by<'a>(
-    alloc: Global,
-    walk: &Walk<'a>,
-    parameters: &IndexSet<(usize, usize)>,
-) -> Result<Homes<'a>, AllocError>
+fn homes_by<'a>(alloc: Global, walk: &Walk<'a>, parameters: &Keys) -> Result<Homes<'a>, AllocError>
     requires { AreNamed walk.now }
     ensures { IfOk result (AreHomesOf walk.now parameters.now.keys walk.now.declarations.items) }
 {
+    let count = walk.declarations.len();
+    let keys = IndexSet::with_capacity_and_hasher(alloc, count, Mixed)?;
+    let items = Vec::with_capacity(alloc, count)?;
+    let of = Vec::with_capacity(alloc, count)?;
     let mut homes = Homes {
-        bindings: Bindings {
-            keys: IndexSet::new(alloc),
-            items: Vec::new(alloc),
-        },
-        of: Vec::new(alloc),
+        bindings: Bindings { keys, items },
+        of,
     };
     for declaration in &walk.declarations {
         homes.add(walk, parameters, *declaration)?;
@@ -95,7 +96,7 @@ impl<'a> Homes<'a> {
     fn add(
         &mut self,
         walk: &Walk<'a>,
-        parameters: &IndexSet<(usize, usize)>,
+        parameters: &Keys,
         declaration: Declaration,
     ) -> Result<(), AllocError>
         requires { declaration.name < length walk.now.names.keys }
@@ -139,7 +140,7 @@ fn without_context<'a>(names: &IndexSet<Name<'a>, Salt>, sym: &'a str) -> Option
 }
 
 // Each scope of parameters with the name of each parameter.
-fn parameters_of<'a>(alloc: Global, walk: &Walk<'a>) -> Result<IndexSet<(usize, usize)>, AllocError>
+fn parameters_of<'a>(alloc: Global, walk: &Walk<'a>) -> Result<Keys, AllocError>
     ensures { IfOk result (λ parameters.
         (key : Key) →
         list_any (same_key key) parameters.keys
@@ -147,7 +148,7 @@ fn parameters_of<'a>(alloc: Global, walk: &Walk<'a>) -> Result<IndexSet<(usize, 
         (map (taken_key (map numbered walk.now.scopes.items) walk.now.top)
         walk.now.declarations.items)) }
 {
-    let mut parameters = IndexSet::new(alloc);
+    let mut parameters = IndexSet::with_hasher(alloc, Mixed);
     for declaration in &walk.declarations {
         let taker = taker_of(&walk.scopes, declaration.way, declaration.scope).unwrap_or(walk.top);
         put_parameter(&mut parameters, &walk.scopes, (taker, declaration.name))?;
@@ -157,7 +158,7 @@ fn parameters_of<'a>(alloc: Global, walk: &Walk<'a>) -> Result<IndexSet<(usize, 
 
 // Adds a name to the parameters, if the scope is that of parameters.
 fn put_parameter(
-    parameters: &mut IndexSet<(usize, usize)>,
+    parameters: &mut Keys,
     scopes: &[Scope],
     key: (usize, usize),
 ) -> Result<(), AllocError>
@@ -177,7 +178,7 @@ fn put_parameter(
 // The scope to which a declared name belongs; `alone` is the number of its symbol without a context.
 fn home_of<'a>(
     walk: &Walk<'a>,
-    parameters: &IndexSet<(usize, usize)>,
+    parameters: &Keys,
     declaration: Declaration,
     alone: Option<usize>,
 ) -> usize
@@ -205,12 +206,7 @@ fn home_of<'a>(
 }
 
 // Whether a scope has a parameter of this name, or of its symbol without a context.
-fn is_parameter(
-    parameters: &IndexSet<(usize, usize)>,
-    scope: usize,
-    name: usize,
-    alone: Option<usize>,
-) -> bool
+fn is_parameter(parameters: &Keys, scope: usize, name: usize, alone: Option<usize>) -> bool
     ensures { result ≡ has_parameter parameters.now.keys name alone scope }
 {
     if parameters.contains(&(scope, name)) {

@@ -30,14 +30,25 @@ pub(crate) fn is_pattern(node: &Node) -> bool
     }
 }
 
-/// Whether this field of such a node is the head of a loop.
-pub(crate) fn is_loop_head(node: &Node, field: u8) -> bool
-    ensures { result ≡ declarations.is_loop_head (head_of node.now) field }
+/// The field of such a node that is the head of a loop.
+pub(crate) fn loop_head(node: &Node) -> Option<u8>
+    ensures { (field : ℕ) →
+        kinds.is_field result field ≡ declarations.is_loop_head (head_of node.now) field }
 {
     match node {
-        Node::ForStmt | Node::ForInStmt => field == 0,
-        Node::ForOfStmt { .. } => field == 1,
-        _ => false,
+        Node::ForStmt | Node::ForInStmt => Some(0),
+        Node::ForOfStmt { .. } => Some(1),
+        _ => None,
+    }
+}
+
+/// Whether a field is this one.
+pub(crate) fn is_field(own: Option<u8>, field: u8) -> bool
+    ensures { result ≡ kinds.is_field own field }
+{
+    match own {
+        None => false,
+        Some(own) => field == own,
     }
 }
 

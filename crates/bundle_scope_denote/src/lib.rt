@@ -7,6 +7,7 @@ pub mod denote;
 pub mod doubled;
 mod homes;
 mod kinds;
+pub mod mixed;
 pub mod named;
 pub mod salt;
 pub mod table;
@@ -15,6 +16,7 @@ mod walk;
 
 pub use denote::denotations;
 pub use doubled::first_doubled;
+pub use mixed::Mixed;
 pub use named::{Named, names_and_doubled};
 pub use salt::{Salt, salt_of};
 pub use table::{Binding, Denotations, Denoted, Doubled, ModuleKind, Reading, Scope, ScopeKind};

@@ -1,5 +1,7 @@
 //! The table of what each occurrence denotes.
 
+use crate::salt::Salt;
+
 /// What a list is read as: the code of an ECMAScript module, or that of
 /// `function (module, exports) { .. }`.
 #[derive(Clone, Copy, PartialEq, Eq, Debug)]
@@ -110,6 +112,8 @@ pub struct Denotations<'a> {
     pub bindings: Vec<Binding<'a>>,
     /// In the order of the list.
     pub occurrences: Vec<Denoted>,
+    /// What tables whose keys hold symbols of the list are made with.
+    pub salt: Salt,
 }
 
 /// A declaration of a name that may not be declared there again.

@@ -1,6 +1,6 @@
 //! One pass over a list: the scopes, the declarations and the occurrences, with names as numbers.
 
-ghost use Rattle.std.specs.Prelude.{◌≡◌, ◌+◌, ◌<◌, ◌++◌, ◌∷◌, [], IfOk, OnOk, cond, drop, map, length, slice_get};
+ghost use Rattle.std.specs.Prelude.{◌≡◌, ◌+◌, ◌<◌, ◌++◌, ◌∷◌, [], ℕ, false, IfOk, OnOk, cond, drop, map, length, slice_get};
 ghost use Rattle.std.specs.Option.{option_map, option_to_list};
 ghost use Rattle.bundle_tree_piece.specs.Item.{head_of, item_of};
 ghost use Rattle.bundle_rules.specs.Places.{is_binding};
@@ -17,7 +17,7 @@ ghost use Rattle.bundle_scope_denote.specs.Walked as walked;
 ghost use Rattle.bundle_scope_denote.specs.Walked.{IsAlone, IsDefault, StaysOnce, begins_node_by, begins_nameless, declared_as, is_identifier_by, is_nameless_by};
 
 use crate::kinds::{
-    block_in, is_default, is_loop_head, is_pattern, kind_of_scope, leaves_first_out, way_in,
+    block_in, is_default, is_field, is_pattern, kind_of_scope, leaves_first_out, loop_head, way_in,
     way_of_variable,
 };
 use crate::salt::Salt;
@@ -67,15 +67,20 @@ pub(crate) struct Occurrence {
     pub(crate) declaration: Option<usize>,
 }
 
-/// A node that is open: how it declares a name that stands in it, and the names of the declarators in it; the
-/// innermost scope around it, and the scope that it makes.
+/// What is asked of a node that is open: how it declares a name that stands in it, and the names of the declarators in
+/// it; the innermost scope around it, and the scope that it makes; which scope a block makes right inside it, whether
+/// it is a default declaration, which field of it is the head of a loop, and whether its scope leaves the first field
+/// out.
 #[derive(Clone, Copy)]
-pub(crate) struct Open<'a> {
-    pub(crate) node: Node<'a>,
+pub(crate) struct Open {
     pub(crate) way: Option<Way>,
     pub(crate) variable: Option<Way>,
     pub(crate) around: usize,
     pub(crate) own: Option<usize>,
+    pub(crate) block: ScopeKind,
+    pub(crate) is_default: bool,
+    pub(crate) head: Option<u8>,
+    pub(crate) leaves_first_out: bool,
 }
 
 /// What was met so far. `top` is the number of the scope of the module's top; `inner` is the innermost open node,
@@ -87,8 +92,8 @@ pub(crate) struct Walk<'a> {
     pub(crate) declarations: Vec<Declaration>,
     pub(crate) occurrences: Vec<Occurrence>,
     pub(crate) top: usize,
-    inner: Open<'a>,
-    outer: Vec<Open<'a>>,
+    inner: Open,
+    outer: Vec<Open>,
     pub(crate) kind: ModuleKind,
     pub(crate) reading: Reading,
 }
@@ -210,7 +215,7 @@ impl<'a> Walk<'a> {
         let made = made_by(&node, &self.inner, around, place);
         let own = push_scope(&mut self.scopes, made)?;
         self.outer.push(self.inner)?;
-        self.inner = opened(node, field, &self.inner, around, own);
+        self.inner = opened(&node, field, &self.inner, around, own);
         Ok(())
     }
 
@@ -260,62 +265,67 @@ fn top_of(kind: ModuleKind) -> usize
 }
 
 // What is known outside all nodes.
-fn outermost<'a>(top: usize) -> Open<'a>
-    ensures node { result.node ≡ Node.Module }
+fn outermost(top: usize) -> Open
     ensures way { result.way ≡ None }
     ensures variable { result.variable ≡ None }
     ensures around { result.around ≡ top }
     ensures own { result.own ≡ None }
+    ensures block { result.block ≡ ScopeKind.Block }
+    ensures default { result.is_default ≡ false }
+    ensures head { result.head ≡ None }
+    ensures left { result.leaves_first_out ≡ false }
 {
     Open {
-        node: Node::Module,
         way: None,
         variable: None,
         around: top,
         own: None,
+        block: ScopeKind::Block,
+        is_default: false,
+        head: None,
+        leaves_first_out: false,
     }
 }
 
 // A node as it begins in a field of the innermost one.
-fn opened<'a>(
-    node: Node<'a>,
-    field: u8,
-    inner: &Open<'a>,
-    around: usize,
-    own: Option<usize>,
-) -> Open<'a>
-    ensures node { result.node ≡ node.entry }
+fn opened<'a>(node: &Node<'a>, field: u8, inner: &Open, around: usize, own: Option<usize>) -> Open
     ensures way { result.way
-        ≡ cond (Declarations.is_pattern (head_of node.entry)) inner.now.way
-        (kinds.way_in (head_of node.entry) inner.now.variable
-        (exports_default (head_of inner.now.node))) }
+        ≡ cond (Declarations.is_pattern (head_of node.now)) inner.now.way
+        (kinds.way_in (head_of node.now) inner.now.variable inner.now.is_default) }
     ensures variable { result.variable
-        ≡ kinds.way_of_variable (head_of node.entry)
-        (Declarations.is_loop_head (head_of inner.now.node) field) }
+        ≡ kinds.way_of_variable (head_of node.now) (kinds.is_field inner.now.head field) }
     ensures around { result.around ≡ around }
     ensures own { result.own ≡ own }
+    ensures block { result.block ≡ kind_named (Scopes.block_in (head_of node.now)) }
+    ensures default { result.is_default ≡ exports_default (head_of node.now) }
+    ensures head { (place : ℕ) →
+        kinds.is_field result.head place ≡ Declarations.is_loop_head (head_of node.now) place }
+    ensures left { result.leaves_first_out ≡ kinds.leaves_first_out (head_of node.now) }
 {
-    let way = if is_pattern(&node) {
+    let way = if is_pattern(node) {
         inner.way
     } else {
-        way_in(&node, inner.variable, is_default(&inner.node))
+        way_in(node, inner.variable, inner.is_default)
     };
     Open {
-        node,
         way,
-        variable: way_of_variable(&node, is_loop_head(&inner.node, field)),
+        variable: way_of_variable(node, is_field(inner.head, field)),
         around,
         own,
+        block: block_in(node),
+        is_default: is_default(node),
+        head: loop_head(node),
+        leaves_first_out: leaves_first_out(node),
     }
 }
 
 // The number of the innermost scope around what stands in this field of an open node.
-fn scope_in<'a>(node: &Open<'a>, field: u8) -> usize
+fn scope_in(node: &Open, field: u8) -> usize
     ensures { result ≡ walked.scope_in node.now field }
 {
     match node.own {
         None => node.around,
-        Some(own) => if leaves_first_out(&node.node) && field == 0 {
+        Some(own) => if node.leaves_first_out && field == 0 {
             node.around
         } else {
             own
@@ -324,13 +334,12 @@ fn scope_in<'a>(node: &Open<'a>, field: u8) -> usize
 }
 
 // The scope that a node makes, where it makes one.
-fn made_by<'a>(node: &Node<'a>, inner: &Open<'a>, around: usize, place: usize) -> Option<Scope>
+fn made_by<'a>(node: &Node<'a>, inner: &Open, around: usize, place: usize) -> Option<Scope>
     ensures { option_map numbered result
         ≡ option_map (in_scope place around)
-        (kind_made (head_of node.now) (kind_named (Scopes.block_in (head_of inner.now.node)))
-        (exports_default (head_of inner.now.node))) }
+        (kind_made (head_of node.now) inner.now.block inner.now.is_default) }
 {
-    let kind = kind_of_scope(node, block_in(&inner.node), is_default(&inner.node))?;
+    let kind = kind_of_scope(node, inner.block, inner.is_default)?;
     Some(Scope {
         kind,
         outer: Some(around),
@@ -349,7 +358,7 @@ fn is_occurrence<'a>(piece: Piece<'a>) -> bool
 }
 
 // How an identifier declares its name, with this node around it.
-fn way_for<'a>(inner: &Open<'a>, role: Role) -> Option<Way>
+fn way_for(inner: &Open, role: Role) -> Option<Way>
     ensures { result ≡ cond (is_binding role) inner.now.way None }
 {
     if role == Role::Binding {

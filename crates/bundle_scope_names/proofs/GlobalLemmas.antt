@@ -1,19 +1,22 @@
 -- What is known before the first binding has its turn.
-use Rattle.std.proofs.Common.{◌≡◌, ℕ, suc, Bool, true, false, ◌||◌, ◌&&◌, cond, List, [], ◌∷◌, Option, Some, None, take, refl, ap, ap₂, sym, ◌∙◌, subst, arith, bytes_eq, string_bytes, unwrap_or}
+use Rattle.std.proofs.Common.{◌≡◌, ℕ, suc, ◌==◌, Bool, true, false, ◌||◌, ◌&&◌, cond, List, [], ◌∷◌, Option, Some, None, find, option_map, take, eqb-true, refl, ap, sym, ◌∙◌, subst, arith, bytes_eq, string_bytes, unwrap_or}
 use Rattle.std.specs.Borrow.{Bor}
 use Rattle.std.specs.Prelude.{slice_get}
 use Rattle.std.specs.List.{list_any}
 use Rattle.std.specs.Map.{lookup}
-use Rattle.std.proofs.lemmas.Bool.{false≢true}
+use Rattle.std.proofs.lemmas.Bool.{false≢true, or_left, or_right, and_from, and_parts}
+use Rattle.std.proofs.lemmas.Option.{none-some}
 use Rattle.bundle_tree_piece.specs.Item.{Item}
 use Rattle.bundle_rules.specs.Nodes.{Text}
 use Rattle.bundle_scope_denote.specs.declared.table.Denoted.{Denoted}
 use Rattle.bundle_scope_denote.specs.Numbers.{Numbered}
+use Rattle.bundle_scope_denote.proofs.InsertLemmas.{list_any-here}
 use Rattle.bundle_tree_places.proofs.ListLemmas.{take_at}
 use Rattle.bundle_scope_names.specs.declared.hygiene.Hygiene.{Hygiene}
-use Rattle.bundle_scope_names.specs.Turns.{Facts, symbol_by, symbol_of, is_around, needs_by, needs_in, is_symbol, is_global_by, is_called_by}
-use Rattle.bundle_scope_names.specs.Marks.{has, IsClosed, Marks, has_symbol, last_of, Adds, AddsGlobal, AddsSymbol, Knows}
-use Rattle.bundle_scope_names.proofs.TestLemmas.{or_false, any_more, any_same, bytes_comm, given-or}
+use Rattle.bundle_scope_names.specs.Turns.{Facts, symbol_by, symbol_of, is_around, needs_by, needs_in, is_symbol, is_global_by, is_called_by, is_called, is_before, is_number, declares, first_of}
+use Rattle.bundle_scope_names.specs.Marks.{Symbol, is_among, is_called_in, needed_by, has, IsClosed, Marks, has_symbol, last_of, symbol_called, Adds, AddsGlobal, Knows}
+use Rattle.bundle_scope_names.proofs.TestLemmas.{or_false, any_more, any_same, bytes_comm, same_bytes, given-or}
+use Rattle.bundle_scope_names.proofs.MarkLemmas.{has-nothing}
 
 -- how a set changes as a symbol is put, as the set tells it
 abbrev pub PutsSymbol : Text → (old new : List (Bor Text)) → Type 0
@@ -22,48 +25,76 @@ PutsSymbol text old new = (q : Bor Text) → list_any (λ (k : Bor Text). bytes_
 pub symbol-put : (text : Text) (old new : List (Bor Text)) → PutsSymbol text old new → (other : Text) → list_any (λ (k : Bor Text). bytes_eq other k.now) new ≡ (list_any (λ (k : Bor Text). bytes_eq other k.now) old || bytes_eq text other)
 symbol-put text old new puts other = puts (record { ref_ptr = (0, 0); now = other }) ∙ given-or (bytes_eq text other) (list_any (λ (k : Bor Text). bytes_eq other k.now) old)
 
--- whether an occurrence is a global of this symbol, or declares a binding of it
+-- whether an occurrence is a global of this symbol
 abbrev globals : List Item → Text → Denoted → Bool
 globals items text o = is_global_by text (symbol_by (slice_get items o.place)) o.binding
 
-abbrev called : List Item → List Text → Text → Denoted → Bool
-called items symbols text o = is_called_by symbols text (symbol_by (slice_get items o.place)) o.declares o.binding
+-- a symbol is added, if there is one
+pub among-more : (text : Text) (old new : List Symbol) (called : Option Text) (added : Text) → called ≡ Some added → PutsSymbol added old new → is_among text new ≡ (is_among text old || is_symbol text called)
+among-more text old new called added is puts = symbol-put added old new puts text ∙ ap (λ s. is_among text old || is_symbol text s) (sym is)
 
--- the symbols of these occurrences were added
-pub record HasGlobals (scopes : List Numbered) (items : List Item) (symbols : List Text) (seen : List Denoted) (hygiene : Hygiene) : Type 0 where
-  pub tells : (text : Text) → has_symbol hygiene text ≡ list_any (λ (o : Denoted). is_called_by symbols text (symbol_by (slice_get items o.place)) o.declares o.binding) seen
-  pub needed : (scope : ℕ) (text : Text) → has scope text hygiene.needed.keys ≡ list_any (λ (o : Denoted). is_around scopes o.scope scope && is_global_by text (symbol_by (slice_get items o.place)) o.binding) seen
-  pub closed : IsClosed scopes hygiene.needed.keys
+pub among-same : (text : Text) (old : List Symbol) (called : Option Text) → called ≡ None → is_among text old ≡ (is_among text old || is_symbol text called)
+among-same text old called none = sym (ap (λ s. is_among text old || is_symbol text s) none ∙ or_false (is_among text old))
+
+-- what an occurrence is called
+pub called-same : (items : List Item) (symbols : List Text) (text : Text) (o : Denoted) → is_symbol text (symbol_called symbols (symbol_by (slice_get items o.place)) o.declares o.binding) ≡ is_called_in items symbols text o
+called-same items symbols text o = by o.declares o.binding
+  where
+    by : (d : Bool) (b : Option ℕ) → is_symbol text (symbol_called symbols (symbol_by (slice_get items o.place)) d b) ≡ is_called_by symbols text (symbol_by (slice_get items o.place)) d b
+    by d None = refl
+    by true (Some x) = refl
+    by false (Some x) = refl
+
+-- one occurrence more was gone over
+pub called-more : (items : List Item) (symbols : List Text) (occurrences : List Denoted) (i : ℕ) (o : Denoted) (old new : List Symbol) → slice_get occurrences i ≡ Some o → ((text : Text) → is_among text new ≡ (is_among text old || is_called_in items symbols text o)) → ((text : Text) → is_among text old ≡ list_any (is_called_in items symbols text) (take i occurrences)) → (text : Text) → is_among text new ≡ list_any (is_called_in items symbols text) (take (suc i) occurrences)
+called-more items symbols occurrences i o old new at adds known text = adds text ∙ ap (λ b. b || is_called_in items symbols text o) (known text) ∙ sym (any_more (is_called_in items symbols text) (take i occurrences) o) ∙ ap (list_any (is_called_in items symbols text)) (sym (take_at occurrences i o at))
+
+-- the symbols before are there, and the globals among these occurrences were added
+pub record HasGlobals (scopes : List Numbered) (items : List Item) (symbols : List Text) (all seen : List Denoted) (hygiene : Hygiene) : Type 0 where
+  pub tells : (text : Text) → has_symbol hygiene text ≡ list_any (is_called_in items symbols text) all
+  pub needed : (scope : ℕ) (text : Text) → has scope text (needed_by hygiene) ≡ list_any (λ (o : Denoted). is_around scopes o.scope scope && is_global_by text (symbol_by (slice_get items o.place)) o.binding) seen
+  pub closed : IsClosed scopes (needed_by hygiene)
   pub kept : hygiene.kept.keys ≡ []
   pub given : hygiene.given.keys ≡ []
   pub last : hygiene.last.entries ≡ []
 
-pub globals-first : (scopes : List Numbered) (items : List Item) (symbols : List Text) (hygiene : Hygiene) → hygiene.symbols.keys ≡ [] → hygiene.needed.keys ≡ [] → hygiene.kept.keys ≡ [] → hygiene.given.keys ≡ [] → hygiene.last.entries ≡ [] → HasGlobals scopes items symbols [] hygiene
-globals-first scopes items symbols hygiene no_symbols needed kept given last = record {
-  tells = λ text. ap (list_any (λ key. bytes_eq text key.now)) no_symbols;
-  needed = λ scope text. ap (has scope text) needed;
-  closed = λ scope around text there is. absurd (false≢true (sym (ap (has scope text) needed) ∙ there));
+pub globals-first : (scopes : List Numbered) (items : List Item) (symbols : List Text) (all : List Denoted) (hygiene : Hygiene) → ((text : Text) → has_symbol hygiene text ≡ list_any (is_called_in items symbols text) all) → hygiene.needed.keys ≡ [] → hygiene.kept.keys ≡ [] → hygiene.given.keys ≡ [] → hygiene.last.entries ≡ [] → HasGlobals scopes items symbols all [] hygiene
+globals-first scopes items symbols all hygiene tells needed kept given last = record {
+  tells = tells;
+  needed = λ scope text. has-nothing hygiene.symbols.keys scope text hygiene.needed.keys needed;
+  closed = λ scope around text there is. absurd (false≢true (sym (has-nothing hygiene.symbols.keys scope text hygiene.needed.keys needed) ∙ there));
   kept = kept;
   given = given;
   last = last;
 }
 
-pub globals-more : (scopes : List Numbered) (items : List Item) (symbols : List Text) (occurrences : List Denoted) (i : ℕ) (o : Denoted) (old new : Hygiene) → slice_get occurrences i ≡ Some o → Adds scopes items symbols o old new → HasGlobals scopes items symbols (take i occurrences) old → HasGlobals scopes items symbols (take (suc i) occurrences) new
-globals-more scopes items symbols occurrences i o old new at adds known = subst (λ l. HasGlobals scopes items symbols l new) (sym (take_at occurrences i o at)) (record {
-  tells = λ text. adds.symbols text ∙ ap (λ b. b || called items symbols text o) (known.tells text) ∙ sym (any_more (called items symbols text) (take i occurrences) o);
-  needed = λ scope text. adds.needed known.closed scope text ∙ ap (λ b. b || (is_around scopes o.scope scope && globals items text o)) (known.needed scope text) ∙ sym (any_more (λ (x : Denoted). is_around scopes x.scope scope && globals items text x) (take i occurrences) o);
-  closed = adds.closed known.closed;
+-- a global's symbol is one of those before
+global-called : (items : List Item) (symbols : List Text) (text : Text) (o : Denoted) → globals items text o ≡ true → is_called_in items symbols text o ≡ true
+global-called items symbols text o = by (symbol_by (slice_get items o.place)) o.binding
+  where
+    by : (s : Option Text) (b : Option ℕ) → is_global_by text s b ≡ true → is_called_by symbols text s o.declares b ≡ true
+    by s None is = is
+    by s (Some x) is = absurd (false≢true is)
+
+pub globals-more : (scopes : List Numbered) (items : List Item) (symbols : List Text) (occurrences : List Denoted) (i : ℕ) (o : Denoted) (old new : Hygiene) → slice_get occurrences i ≡ Some o → Adds scopes items o old new → HasGlobals scopes items symbols occurrences (take i occurrences) old → HasGlobals scopes items symbols occurrences (take (suc i) occurrences) new
+globals-more scopes items symbols occurrences i o old new at adds known = subst (λ l. HasGlobals scopes items symbols occurrences l new) (sym (take_at occurrences i o at)) (record {
+  tells = λ text. ap (is_among text) adds.symbols ∙ known.tells text;
+  needed = λ scope text. adds.needed has_number known.closed scope text ∙ ap (λ b. b || (is_around scopes o.scope scope && globals items text o)) (known.needed scope text) ∙ sym (any_more (λ (x : Denoted). is_around scopes x.scope scope && globals items text x) (take i occurrences) o);
+  closed = adds.closed has_number known.closed;
   kept = adds.kept ∙ known.kept;
   given = adds.given ∙ known.given;
   last = adds.last ∙ known.last;
 })
+  where
+    has_number : (text : Text) → globals items text o ≡ true → has_symbol old text ≡ true
+    has_number text is = known.tells text ∙ list_any-here (is_called_in items symbols text) occurrences i o at (global-called items symbols text o is)
 
-pub knows-first : (facts : Facts) (hygiene : Hygiene) → HasGlobals facts.scopes facts.items facts.symbols facts.occurrences hygiene → Knows facts [] hygiene
+pub knows-first : (facts : Facts) (hygiene : Hygiene) → HasGlobals facts.scopes facts.items facts.symbols facts.occurrences facts.occurrences hygiene → Knows facts [] hygiene
 knows-first facts hygiene known = record {
   symbols = known.tells;
   needed = λ scope text. known.needed scope text ∙ any_same (λ (o : Denoted). is_around facts.scopes o.scope scope && globals facts.items text o) (needs_in facts [] scope text) (λ o. ap (λ b. is_around facts.scopes o.scope scope && b) (by text (symbol_by (slice_get facts.items o.place)) o.binding)) facts.occurrences;
   closed = known.closed;
-  kept = λ group text. ap (has group text) known.kept;
+  kept = λ group text. has-nothing hygiene.symbols.keys group text hygiene.kept.keys known.kept;
   given = λ text. ap (list_any (λ key. bytes_eq text (string_bytes key))) known.given;
   tried = λ text k pos le. absurd (let none : last_of hygiene text ≡ 0 = ap (λ es. unwrap_or (lookup (λ key. bytes_eq text key.now) es) 0) known.last in omega arith);
 }
@@ -82,28 +113,33 @@ no_more false true = refl
 no_more false false = refl
 
 -- no symbol
-pub adds-no_symbol : (symbol : Option Text) (hygiene : Hygiene) → symbol ≡ None → AddsSymbol symbol hygiene hygiene
-adds-no_symbol symbol hygiene none = record { symbols = λ text. sym (ap (λ s. has_symbol hygiene text || is_symbol text s) none ∙ or_false (has_symbol hygiene text)); needed = refl; kept = refl; given = refl; last = refl }
-
 pub adds-no_global : (scopes : List Numbered) (from : ℕ) (symbol : Option Text) (hygiene : Hygiene) → symbol ≡ None → AddsGlobal scopes from symbol hygiene hygiene
 adds-no_global scopes from symbol hygiene none = record {
-  symbols = λ text. sym (ap (λ s. has_symbol hygiene text || is_symbol text s) none ∙ or_false (has_symbol hygiene text));
-  closed = λ closed. closed;
-  needed = λ closed scope text. no_more (has scope text hygiene.needed.keys) (is_around scopes from scope) ∙ ap (λ s. has scope text hygiene.needed.keys || (is_around scopes from scope && is_symbol text s)) (sym none);
+  symbols = refl;
+  needed = λ has_number closed scope text. no_more (has scope text (needed_by hygiene)) (is_around scopes from scope) ∙ ap (λ s. has scope text (needed_by hygiene) || (is_around scopes from scope && is_symbol text s)) (sym none);
+  closed = λ has_number closed. closed;
+  kept = refl;
+  given = refl;
+  last = refl;
+}
+
+-- a symbol without a number is none of a global
+pub adds-no_number : (scopes : List Numbered) (from : ℕ) (symbol : Option Text) (text : Text) (hygiene : Hygiene) → symbol ≡ Some text → has_symbol hygiene text ≡ false → AddsGlobal scopes from symbol hygiene hygiene
+adds-no_number scopes from symbol text hygiene is none = record {
+  symbols = refl;
+  needed = λ has_number. absurd (false≢true (sym none ∙ has_number text (ap (is_symbol text) is ∙ same_bytes text text refl)));
+  closed = λ has_number closed. closed;
   kept = refl;
   given = refl;
   last = refl;
 }
 
 -- a symbol
-pub adds-symbol : (symbol : Option Text) (text : Text) (old new : Hygiene) → symbol ≡ Some text → PutsSymbol text old.symbols.keys new.symbols.keys → new.needed.keys ≡ old.needed.keys → new.kept.keys ≡ old.kept.keys → new.given.keys ≡ old.given.keys → new.last.entries ≡ old.last.entries → AddsSymbol symbol old new
-adds-symbol symbol text old new is puts needed kept given last = record { symbols = λ other. symbol-put text old.symbols.keys new.symbols.keys puts other ∙ ap (λ s. has_symbol old other || is_symbol other s) (sym is); needed = needed; kept = kept; given = given; last = last }
-
-pub adds-one : (scopes : List Numbered) (from : ℕ) (symbol : Option Text) (text : Text) (old new : Hygiene) → symbol ≡ Some text → PutsSymbol text old.symbols.keys new.symbols.keys → (IsClosed scopes old.needed.keys → Marks scopes (from ∷ []) text old.needed.keys new.needed.keys) → new.kept.keys ≡ old.kept.keys → new.given.keys ≡ old.given.keys → new.last.entries ≡ old.last.entries → AddsGlobal scopes from symbol old new
-adds-one scopes from symbol text old new is puts marks kept given last = record {
-  symbols = λ other. symbol-put text old.symbols.keys new.symbols.keys puts other ∙ ap (λ s. has_symbol old other || is_symbol other s) (sym is);
-  closed = λ closed. (marks closed).closed;
-  needed = λ closed scope other. (marks closed).marks scope other ∙ ap (λ b. has scope other old.needed.keys || b) (turn (bytes_eq other text) (is_around scopes from scope) ∙ ap (λ b. is_around scopes from scope && b) (bytes_comm other text) ∙ ap (λ s. is_around scopes from scope && is_symbol other s) (sym is));
+pub adds-one : (scopes : List Numbered) (from : ℕ) (symbol : Option Text) (text : Text) (old new : Hygiene) → symbol ≡ Some text → new.symbols.keys ≡ old.symbols.keys → (IsClosed scopes (needed_by old) → Marks scopes (from ∷ []) text (needed_by old) (needed_by new)) → new.kept.keys ≡ old.kept.keys → new.given.keys ≡ old.given.keys → new.last.entries ≡ old.last.entries → AddsGlobal scopes from symbol old new
+adds-one scopes from symbol text old new is symbols marks kept given last = record {
+  symbols = symbols;
+  needed = λ has_number closed scope other. (marks closed).marks scope other ∙ ap (λ b. has scope other (needed_by old) || b) (turn (bytes_eq other text) (is_around scopes from scope) ∙ ap (λ b. is_around scopes from scope && b) (bytes_comm other text) ∙ ap (λ s. is_around scopes from scope && is_symbol other s) (sym is));
+  closed = λ has_number closed. (marks closed).closed;
   kept = kept;
   given = given;
   last = last;
@@ -116,33 +152,47 @@ adds-one scopes from symbol text old new is puts marks kept given last = record 
     turn false false = refl
 
 -- an occurrence is a global
-pub adds-global : (scopes : List Numbered) (items : List Item) (symbols : List Text) (o : Denoted) (old new : Hygiene) → o.binding ≡ None → AddsGlobal scopes o.scope (symbol_by (slice_get items o.place)) old new → Adds scopes items symbols o old new
-adds-global scopes items symbols o old new is adds = record {
-  symbols = λ text. adds.symbols text ∙ ap (λ b. has_symbol old text || is_called_by symbols text (symbol_by (slice_get items o.place)) o.declares b) (sym is);
-  closed = adds.closed;
-  needed = λ closed scope text. adds.needed closed scope text ∙ ap (λ b. has scope text old.needed.keys || (is_around scopes o.scope scope && is_global_by text (symbol_by (slice_get items o.place)) b)) (sym is);
+pub adds-global : (scopes : List Numbered) (items : List Item) (o : Denoted) (old new : Hygiene) → o.binding ≡ None → AddsGlobal scopes o.scope (symbol_by (slice_get items o.place)) old new → Adds scopes items o old new
+adds-global scopes items o old new is adds = record {
+  symbols = adds.symbols;
+  needed = λ has_number closed scope text. adds.needed (λ other same. has_number other (ap (is_global_by other (symbol_by (slice_get items o.place))) is ∙ same)) closed scope text ∙ ap (λ b. has scope text (needed_by old) || (is_around scopes o.scope scope && is_global_by text (symbol_by (slice_get items o.place)) b)) (sym is);
+  closed = λ has_number closed. adds.closed (λ other same. has_number other (ap (is_global_by other (symbol_by (slice_get items o.place))) is ∙ same)) closed;
   kept = adds.kept;
   given = adds.given;
   last = adds.last;
 }
 
 -- or denotes a binding
-pub adds-binding : (scopes : List Numbered) (items : List Item) (symbols : List Text) (o : Denoted) (binding : ℕ) (old new : Hygiene) → o.binding ≡ Some binding → o.declares ≡ true → AddsSymbol (slice_get symbols binding) old new → Adds scopes items symbols o old new
-adds-binding scopes items symbols o binding old new is declares adds = record {
-  symbols = λ text. adds.symbols text ∙ ap₂ (λ (d : Bool) (b : Option ℕ). has_symbol old text || is_called_by symbols text (symbol_by (slice_get items o.place)) d b) (sym declares) (sym is);
-  closed = subst (IsClosed scopes) (sym adds.needed);
-  needed = λ closed scope text. ap (has scope text) adds.needed ∙ no_more (has scope text old.needed.keys) (is_around scopes o.scope scope) ∙ ap (λ b. has scope text old.needed.keys || (is_around scopes o.scope scope && is_global_by text (symbol_by (slice_get items o.place)) b)) (sym is);
-  kept = adds.kept;
-  given = adds.given;
-  last = adds.last;
-}
-
-pub adds-none : (scopes : List Numbered) (items : List Item) (symbols : List Text) (o : Denoted) (binding : ℕ) (hygiene : Hygiene) → o.binding ≡ Some binding → o.declares ≡ false → Adds scopes items symbols o hygiene hygiene
-adds-none scopes items symbols o binding hygiene is declares = record {
-  symbols = λ text. sym (or_false (has_symbol hygiene text)) ∙ ap₂ (λ (d : Bool) (b : Option ℕ). has_symbol hygiene text || is_called_by symbols text (symbol_by (slice_get items o.place)) d b) (sym declares) (sym is);
-  closed = λ closed. closed;
-  needed = λ closed scope text. no_more (has scope text hygiene.needed.keys) (is_around scopes o.scope scope) ∙ ap (λ b. has scope text hygiene.needed.keys || (is_around scopes o.scope scope && is_global_by text (symbol_by (slice_get items o.place)) b)) (sym is);
+pub adds-none : (scopes : List Numbered) (items : List Item) (o : Denoted) (binding : ℕ) (hygiene : Hygiene) → o.binding ≡ Some binding → Adds scopes items o hygiene hygiene
+adds-none scopes items o binding hygiene is = record {
+  symbols = refl;
+  needed = λ has_number closed scope text. no_more (has scope text (needed_by hygiene)) (is_around scopes o.scope scope) ∙ ap (λ b. has scope text (needed_by hygiene) || (is_around scopes o.scope scope && is_global_by text (symbol_by (slice_get items o.place)) b)) (sym is);
+  closed = λ has_number closed. closed;
   kept = refl;
   given = refl;
   last = refl;
 }
+
+-- a binding that an occurrence declares has one of the symbols before
+pub declared-before : (facts : Facts) (number first : ℕ) (text : Text) → first_of facts.occurrences number ≡ Some first → slice_get facts.symbols number ≡ Some text → is_before facts text ≡ true
+declared-before facts number first text is named = found facts.occurrences is
+  where
+    called : (o : Denoted) → declares number o ≡ true → is_called facts text o ≡ true
+    called o there = by o.binding o.declares there
+      where
+        by : (b : Option ℕ) (d : Bool) → (d && is_number number b) ≡ true → is_called_by facts.symbols text (symbol_by (slice_get facts.items o.place)) d b ≡ true
+        by None d e = absurd (false≢true (sym (and_false d) ∙ e))
+          where
+            and_false : (b : Bool) → (b && false) ≡ false
+            and_false true = refl
+            and_false false = refl
+        by (Some x) d e = let both = and_parts d (x == number) e in
+            and_from d (is_symbol text (slice_get facts.symbols x)) both.0 (ap (λ n. is_symbol text (slice_get facts.symbols n)) (eqb-true x number both.1) ∙ ap (is_symbol text) named ∙ same_bytes text text refl)
+
+    found : (occurrences : List Denoted) → first_of occurrences number ≡ Some first → list_any (is_called facts text) occurrences ≡ true
+    found [] e = absurd (none-some first e)
+    found (o ∷ rest) e = by (declares number o) refl e
+      where
+        by : (t : Bool) → declares number o ≡ t → option_map (λ (x : Denoted). x.place) (cond t (Some o) (find (declares number) rest)) ≡ Some first → (is_called facts text o || list_any (is_called facts text) rest) ≡ true
+        by true there is_ = or_left (is_called facts text o) (list_any (is_called facts text) rest) (called o there)
+        by false there is_ = or_right (is_called facts text o) (list_any (is_called facts text) rest) (found rest is_)

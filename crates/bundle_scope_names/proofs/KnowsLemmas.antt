@@ -10,7 +10,7 @@ use Rattle.bundle_scope_denote.specs.declared.table.Denoted.{Denoted}
 use Rattle.bundle_scope_denote.specs.Numbers.{Numbered}
 use Rattle.bundle_scope_names.specs.declared.hygiene.Hygiene.{Hygiene}
 use Rattle.bundle_scope_names.specs.Turns.{Facts, Turn, symbol_of, symbol_by, is_symbol, home_of, group_of, is_around, is_number, denotes, keeps, keeps_in, is_kept, keeps_own, needs_by, needs, needs_in, is_needed, may_keep, gets, is_taken, all_to, is_least, is_right}
-use Rattle.bundle_scope_names.specs.Marks.{has, IsClosed, Marks, has_symbol, has_given, has_taken, last_of, may_keep_by, Keeps, AreTried, Gives, Knows, uses_of}
+use Rattle.bundle_scope_names.specs.Marks.{needed_by, has, IsClosed, Marks, has_symbol, has_given, has_taken, last_of, may_keep_by, Keeps, AreTried, Gives, Knows, uses_of}
 use Rattle.bundle_scope_names.proofs.TestLemmas.{or_false, any_more, any_same, any_or, eq_comm, bytes_comm, bytes_same, same_bytes}
 
 -- The least number.
@@ -144,7 +144,7 @@ keeps-next facts done old new number known may kept = (
   },
 )
   where
-    marked : Marks facts.scopes (uses_of facts.occurrences number) (symbol_of facts number) old.needed.keys new.needed.keys
+    marked : Marks facts.scopes (uses_of facts.occurrences number) (symbol_of facts number) (needed_by old) (needed_by new)
     marked = kept.needed known.closed
 
     taken : (text : Text) → has_taken new text ≡ has_taken old text

@@ -1,6 +1,8 @@
 -- A symbol is marked from a scope on outwards.
-use Rattle.std.proofs.Common.{◌≡◌, ◌<◌, ◌⊎◌, inl, inr, ⊎_elim, ℕ, suc, ◌==◌, Bool, true, false, ◌||◌, ◌&&◌, cond, List, [], ◌∷◌, ◌++◌, Option, Some, None, length, refl, ap, sym, ◌∙◌, subst, arith, eqb-true, eq-eqb, bytes_eq, append_assoc}
+use Rattle.std.proofs.Common.{◌≡◌, ◌<◌, ◌⊎◌, inl, inr, ⊎_elim, ℕ, suc, ◌==◌, Bool, true, false, ◌||◌, ◌&&◌, cond, List, [], ◌∷◌, ◌++◌, Option, Some, None, get_or, length, refl, ap, sym, ◌∙◌, subst, arith, eqb-true, eq-eqb, bytes_eq, append_assoc}
 use Rattle.std.specs.List.{list_any}
+use Rattle.std.proofs.lemmas.Option.{none-some, same_Some}
+use Rattle.std.proofs.lemmas.List.Quantifiers.{position-Some}
 use Rattle.std.proofs.lemmas.Bool.{false≢true, or_cases, or_left, or_right, and_from, and_parts}
 use Rattle.std.proofs.lemmas.List.Folds.{list_any-append}
 use Rattle.bundle_rules.specs.Nodes.{Text}
@@ -8,37 +10,66 @@ use Rattle.bundle_scope_denote.specs.Numbers.{Numbered}
 use Rattle.bundle_scope_denote.specs.Chains.{outer_at, outwards, AreInOrder}
 use Rattle.bundle_scope_denote.proofs.OutwardLemmas.{outwards-none}
 use Rattle.bundle_scope_names.specs.Turns.{is_around}
-use Rattle.bundle_scope_names.specs.Marks.{Mark, has, IsClosed, Marks}
-use Rattle.bundle_scope_names.proofs.TestLemmas.{iff, or_false, any_more, bytes_comm, bytes_same}
+use Rattle.bundle_scope_names.specs.Marks.{Symbol, number_in, Key, Marked, marked, has_key, has, IsClosed, Marks}
+use Rattle.bundle_scope_names.proofs.TestLemmas.{iff, or_false, either, any_more, bytes_same, same_bytes}
 use Rattle.bundle_scope_names.proofs.AroundLemmas.{is_in, outer-below, around-enough, around-some, around-through}
 
--- how a set changes as a mark is put, as the set tells it
-abbrev pub Puts : (number : ℕ) → Text → (old new : List Mark) → Type 0
-Puts number text old new = (q : Mark) → list_any (λ (k : Mark). q.0 == k.0 && bytes_eq q.1.now k.1.now) new ≡ cond (number == q.0 && bytes_eq text q.1.now) true (list_any (λ (k : Mark). q.0 == k.0 && bytes_eq q.1.now k.1.now) old)
+-- how a set changes as a key is put, as the set tells it
+abbrev pub PutsKey : (number symbol : ℕ) → (old new : List Key) → Type 0
+PutsKey number symbol old new = (q : Key) → list_any (λ (k : Key). q.0 == k.0 && q.1 == k.1) new ≡ cond (number == q.0 && symbol == q.1) true (list_any (λ (k : Key). q.0 == k.0 && q.1 == k.1) old)
 
-mark_of : ℕ → Text → Mark
-mark_of number text = (number, record { ref_ptr = (0, 0); now = text })
+-- what is marked once a symbol is marked in one scope or group more
+abbrev pub Puts : (number : ℕ) → Text → (old new : Marked) → Type 0
+Puts number text old new = (scope : ℕ) (other : Text) → has scope other new ≡ (has scope other old || (number == scope && bytes_eq other text))
 
--- what is marked then
-pub has-put : (number : ℕ) (text : Text) (old new : List Mark) → Puts number text old new → (scope : ℕ) (other : Text) → has scope other new ≡ (has scope other old || (number == scope && bytes_eq other text))
-has-put number text old new puts scope other =
-    let q : Mark = (scope, record { ref_ptr = (0, 0); now = other }) in
-    puts q ∙ by (number == scope) (bytes_eq text other) (has scope other old) ∙ ap (λ b. has scope other old || (number == scope && b)) (bytes_comm text other)
+-- a number is that of one text alone
+same-number : (symbols : List Symbol) (a b : Text) (i : ℕ) → number_in symbols a ≡ Some i → number_in symbols b ≡ Some i → a ≡ b
+same-number symbols a b i is_a is_b =
+    let none : Symbol = record { ref_ptr = (0, 0); now = [] } in
+    bytes_same a (get_or symbols i none).now (position-Some (λ (key : Symbol). bytes_eq a key.now) symbols i none is_a).1
+    ∙ sym (bytes_same b (get_or symbols i none).now (position-Some (λ (key : Symbol). bytes_eq b key.now) symbols i none is_b).1)
+
+-- whose key is put is marked
+pub has-put : (symbols : List Symbol) (number symbol : ℕ) (text : Text) (old new : List Key) → number_in symbols text ≡ Some symbol → PutsKey number symbol old new → Puts number text (marked symbols old) (marked symbols new)
+has-put symbols number symbol text old new is puts scope other = by (number_in symbols other) refl
   where
-    by : (a b c : Bool) → cond (a && b) true c ≡ (c || (a && b))
-    by true true true = refl
-    by true true false = refl
-    by true false c = sym (or_false c)
-    by false b c = sym (or_false c)
+    none : (a b : Bool) → b ≡ false → false ≡ (a && b)
+    none true b e = sym e
+    none false b e = refl
+
+    turn : (a b c : Bool) → cond (a && b) true c ≡ (c || (a && b))
+    turn true true true = refl
+    turn true true false = refl
+    turn true false c = sym (or_false c)
+    turn false b c = sym (or_false c)
+
+    by : (o : Option ℕ) → number_in symbols other ≡ o → has_key scope o new ≡ (has_key scope o old || (number == scope && bytes_eq other text))
+    by None at = none (number == scope) (bytes_eq other text) (either (bytes_eq other text) (λ same. absurd (none-some symbol (sym at ∙ ap (number_in symbols) (bytes_same other text same) ∙ is))) (λ apart. apart))
+    by (Some i) at = puts (scope, i) ∙ turn (number == scope) (symbol == i) (list_any (λ (k : Key). scope == k.0 && i == k.1) old) ∙ ap (λ b. list_any (λ (k : Key). scope == k.0 && i == k.1) old || (number == scope && b)) same
+      where
+        same : (symbol == i) ≡ bytes_eq other text
+        same = iff (symbol == i) (bytes_eq other text) (λ e. same_bytes other text (same-number symbols other text i at (is ∙ ap (λ n. Some n) (eqb-true symbol i e)))) (λ e. eq-eqb symbol i (same_Some symbol i (sym is ∙ ap (number_in symbols) (sym (bytes_same other text e)) ∙ at)))
+
+-- and whose key is there
+pub has-there : (symbols : List Symbol) (number symbol : ℕ) (text : Text) (keys : List Key) → number_in symbols text ≡ Some symbol → has number text (marked symbols keys) ≡ list_any (λ (k : Key). number == k.0 && symbol == k.1) keys
+has-there symbols number symbol text keys is = ap (λ o. has_key number o keys) is
+
+-- where no key is, nothing is marked
+pub has-nothing : (symbols : List Symbol) (number : ℕ) (text : Text) (keys : List Key) → keys ≡ [] → has number text (marked symbols keys) ≡ false
+has-nothing symbols number text keys none = ap (has_key number (number_in symbols text)) none ∙ by (number_in symbols text)
+  where
+    by : (o : Option ℕ) → has_key number o [] ≡ false
+    by None = refl
+    by (Some i) = refl
 
 -- how far a symbol is marked
-pub record IsMarking (scopes : List Numbered) (from : ℕ) (text : Text) (old now : List Mark) (more : ℕ) (at : Option ℕ) : Type 0 where
+pub record IsMarking (scopes : List Numbered) (from : ℕ) (text : Text) (old now : Marked) (more : ℕ) (at : Option ℕ) : Type 0 where
   pub passed : List ℕ
   pub chain : outwards scopes (length scopes) (Some from) ≡ passed ++ outwards scopes more at
   pub marks : (scope : ℕ) (other : Text) → has scope other now ≡ (has scope other old || (bytes_eq other text && is_in scope passed))
   pub above : (n scope : ℕ) → at ≡ Some n → is_in scope passed ≡ true → n < scope
 
-pub marking-first : (scopes : List Numbered) (from : ℕ) (text : Text) (old : List Mark) (more : ℕ) → more ≡ length scopes → IsMarking scopes from text old old more (Some from)
+pub marking-first : (scopes : List Numbered) (from : ℕ) (text : Text) (old : Marked) (more : ℕ) → more ≡ length scopes → IsMarking scopes from text old old more (Some from)
 marking-first scopes from text old more e = record {
   passed = [];
   chain = ap (λ n. outwards scopes n (Some from)) (sym e);
@@ -51,11 +82,11 @@ marking-first scopes from text old more e = record {
     none false true = refl
     none false false = refl
 
-pub marking-next : (scopes : List Numbered) → AreInOrder scopes → (from : ℕ) (text : Text) (old now new : List Mark) (more rest number : ℕ) (next : Option ℕ) → more ≡ suc rest → next ≡ outer_at scopes number → Puts number text now new → IsMarking scopes from text old now more (Some number) → IsMarking scopes from text old new rest next
+pub marking-next : (scopes : List Numbered) → AreInOrder scopes → (from : ℕ) (text : Text) (old now new : Marked) (more rest number : ℕ) (next : Option ℕ) → more ≡ suc rest → next ≡ outer_at scopes number → Puts number text now new → IsMarking scopes from text old now more (Some number) → IsMarking scopes from text old new rest next
 marking-next scopes ordered from text old now new more rest number next one outer puts known = record {
   passed = known.passed ++ number ∷ [];
   chain = known.chain ∙ ap (λ n. known.passed ++ outwards scopes n (Some number)) one ∙ sym (append_assoc known.passed (number ∷ []) (outwards scopes rest (outer_at scopes number))) ∙ ap (λ o. (known.passed ++ number ∷ []) ++ outwards scopes rest o) (sym outer);
-  marks = λ scope other. has-put number text now new puts scope other ∙ ap (λ b. b || (number == scope && bytes_eq other text)) (known.marks scope other) ∙ join (has scope other old) (bytes_eq other text) (is_in scope known.passed) (number == scope) ∙ ap (λ b. has scope other old || (bytes_eq other text && b)) (sym (any_more (λ n. n == scope) known.passed number));
+  marks = λ scope other. puts scope other ∙ ap (λ b. b || (number == scope && bytes_eq other text)) (known.marks scope other) ∙ join (has scope other old) (bytes_eq other text) (is_in scope known.passed) (number == scope) ∙ ap (λ b. has scope other old || (bytes_eq other text && b)) (sym (any_more (λ n. n == scope) known.passed number));
   above = λ n scope at is. let below : n < number = outer-below scopes ordered number n (sym outer ∙ at) in
       ⊎_elim (λ earlier. let high : number < scope = known.above number scope refl earlier in (omega arith)) (λ here. let same : number ≡ scope = eqb-true number scope here in omega arith) (or_cases (is_in scope known.passed) (number == scope) (sym (any_more (λ n. n == scope) known.passed number) ∙ is));
 }
@@ -69,7 +100,7 @@ marking-next scopes ordered from text old now new more rest number next one oute
     join false false c false = refl
 
 -- once all is passed, the symbol is marked
-marks-whole : (scopes : List Numbered) → AreInOrder scopes → (from : ℕ) (text : Text) (old now : List Mark) → IsClosed scopes old → ((scope : ℕ) (other : Text) → has scope other now ≡ (has scope other old || (bytes_eq other text && is_around scopes from scope))) → Marks scopes (from ∷ []) text old now
+marks-whole : (scopes : List Numbered) → AreInOrder scopes → (from : ℕ) (text : Text) (old now : Marked) → IsClosed scopes old → ((scope : ℕ) (other : Text) → has scope other now ≡ (has scope other old || (bytes_eq other text && is_around scopes from scope))) → Marks scopes (from ∷ []) text old now
 marks-whole scopes ordered from text old now closed marks = record {
   closed = λ scope around other there is. sym (sym (closes scope around other there is) ∙ sym (marks around other));
   marks = λ scope other. marks scope other ∙ ap (λ b. has scope other old || (bytes_eq other text && b)) (sym (or_false (is_around scopes from scope)));
@@ -83,17 +114,17 @@ marks-whole scopes ordered from text old now closed marks = record {
         by (inr now_) = let both = and_parts (bytes_eq other text) (is_around scopes from scope) now_ in
             or_right (has around other old) (bytes_eq other text && is_around scopes from around) (and_from (bytes_eq other text) (is_around scopes from around) both.0 (around-through scopes ordered from scope around both.1 is))
 
-pub marking-last : (scopes : List Numbered) → AreInOrder scopes → (from : ℕ) (text : Text) (old now : List Mark) (more : ℕ) (at : Option ℕ) → outwards scopes more at ≡ [] → IsClosed scopes old → IsMarking scopes from text old now more at → Marks scopes (from ∷ []) text old now
+pub marking-last : (scopes : List Numbered) → AreInOrder scopes → (from : ℕ) (text : Text) (old now : Marked) (more : ℕ) (at : Option ℕ) → outwards scopes more at ≡ [] → IsClosed scopes old → IsMarking scopes from text old now more at → Marks scopes (from ∷ []) text old now
 marking-last scopes ordered from text old now more at none closed known = marks-whole scopes ordered from text old now closed (λ scope other. known.marks scope other ∙ ap (λ b. has scope other old || (bytes_eq other text && b)) (all scope))
   where
     all : (scope : ℕ) → is_in scope known.passed ≡ is_around scopes from scope
     all scope = sym (or_false (is_in scope known.passed)) ∙ sym (list_any-append (λ n. n == scope) known.passed []) ∙ ap (λ xs. is_in scope (known.passed ++ xs)) (sym none) ∙ ap (is_in scope) (sym known.chain)
 
-pub marking-outside : (scopes : List Numbered) → AreInOrder scopes → (from : ℕ) (text : Text) (old now : List Mark) (more : ℕ) (at : Option ℕ) → at ≡ None → IsClosed scopes old → IsMarking scopes from text old now more at → Marks scopes (from ∷ []) text old now
+pub marking-outside : (scopes : List Numbered) → AreInOrder scopes → (from : ℕ) (text : Text) (old now : Marked) (more : ℕ) (at : Option ℕ) → at ≡ None → IsClosed scopes old → IsMarking scopes from text old now more at → Marks scopes (from ∷ []) text old now
 marking-outside scopes ordered from text old now more at none = marking-last scopes ordered from text old now more at (ap (outwards scopes more) none ∙ outwards-none scopes more)
 
 -- where it was marked already it is marked further out too
-pub marking-met : (scopes : List Numbered) → AreInOrder scopes → (from : ℕ) (text : Text) (old now new : List Mark) (more rest number : ℕ) → more ≡ suc rest → list_any (λ (k : Mark). number == k.0 && bytes_eq text k.1.now) now ≡ true → new ≡ now → IsClosed scopes old → IsMarking scopes from text old now more (Some number) → Marks scopes (from ∷ []) text old new
+pub marking-met : (scopes : List Numbered) → AreInOrder scopes → (from : ℕ) (text : Text) (old now new : Marked) (more rest number : ℕ) → more ≡ suc rest → has number text now ≡ true → new ≡ now → IsClosed scopes old → IsMarking scopes from text old now more (Some number) → Marks scopes (from ∷ []) text old new
 marking-met scopes ordered from text old now new more rest number one met same closed known = subst (Marks scopes (from ∷ []) text old) (sym same) (marks-whole scopes ordered from text old now closed (λ scope other. known.marks scope other ∙ iff (has scope other old || (bytes_eq other text && is_in scope known.passed)) (has scope other old || (bytes_eq other text && is_around scopes from scope)) (wider scope other) (within scope other)))
   where
     split : (scope : ℕ) → is_around scopes from scope ≡ (is_in scope known.passed || is_in scope (outwards scopes more (Some number)))
@@ -116,7 +147,7 @@ marking-met scopes ordered from text old now new more rest number one met same c
     within scope other is = ⊎_elim (λ earlier. or_left (has scope other old) (bytes_eq other text && is_in scope known.passed) earlier) (λ here. let both = and_parts (bytes_eq other text) (is_around scopes from scope) here in ⊎_elim (λ passed. or_right (has scope other old) (bytes_eq other text && is_in scope known.passed) (and_from (bytes_eq other text) (is_in scope known.passed) both.0 passed)) (λ later. or_left (has scope other old) (bytes_eq other text && is_in scope known.passed) (beyond scope other both.0 later)) (or_cases (is_in scope known.passed) (is_in scope (outwards scopes more (Some number))) (sym (split scope) ∙ both.1))) (or_cases (has scope other old) (bytes_eq other text && is_around scopes from scope) is)
 
 -- marks in several scopes
-pub marks-none : (scopes : List Numbered) (text : Text) (old : List Mark) → IsClosed scopes old → Marks scopes [] text old old
+pub marks-none : (scopes : List Numbered) (text : Text) (old : Marked) → IsClosed scopes old → Marks scopes [] text old old
 marks-none scopes text old closed = record { closed = closed; marks = λ scope other. none (has scope other old) (bytes_eq other text) }
   where
     none : (a b : Bool) → a ≡ (a || (b && false))
@@ -124,7 +155,7 @@ marks-none scopes text old closed = record { closed = closed; marks = λ scope o
     none false true = refl
     none false false = refl
 
-pub marks-more : (scopes : List Numbered) (uses : List ℕ) (from : ℕ) (text : Text) (old now new : List Mark) → Marks scopes uses text old now → Marks scopes (from ∷ []) text now new → Marks scopes (uses ++ from ∷ []) text old new
+pub marks-more : (scopes : List Numbered) (uses : List ℕ) (from : ℕ) (text : Text) (old now new : Marked) → Marks scopes uses text old now → Marks scopes (from ∷ []) text now new → Marks scopes (uses ++ from ∷ []) text old new
 marks-more scopes uses from text old now new first second = record {
   closed = second.closed;
   marks = λ scope other. second.marks scope other ∙ ap (λ b. b || (bytes_eq other text && (is_around scopes from scope || false))) (first.marks scope other) ∙ join (has scope other old) (bytes_eq other text) (list_any (λ u. is_around scopes u scope) uses) (is_around scopes from scope || false) ∙ ap (λ b. has scope other old || (bytes_eq other text && b)) (sym (list_any-append (λ u. is_around scopes u scope) uses (from ∷ [])));

@@ -1,5 +1,5 @@
 -- Symbols that are marked in scopes, and what is known of the bindings that had their turn.
-use Rattle.std.specs.Prelude.{◌≡◌, ◌<◌, ◌≤◌, ℕ, ◌==◌, ◌&&◌, ◌||◌, not, cond, Bool, true, Option, List, bytes_eq, string_bytes, unwrap_or, map, filter, slice_get}
+use Rattle.std.specs.Prelude.{◌≡◌, ◌<◌, ◌≤◌, ℕ, ◌==◌, ◌&&◌, ◌||◌, not, cond, Bool, true, false, Option, Some, None, List, position, bytes_eq, string_bytes, unwrap_or, map, filter, slice_get}
 use Rattle.std.specs.List.{list_any}
 use Rattle.std.specs.HashMap.{get_by}
 use Rattle.bundle_tree_piece.specs.Item.{Item}
@@ -12,27 +12,58 @@ use Rattle.bundle_scope_names.specs.declared.hygiene.Hygiene.{Hygiene}
 use Rattle.bundle_scope_names.specs.Turns.{Facts, Turn, is_symbol, denotes, is_around, is_kept, is_needed, is_before, gets, is_least, is_called_by, is_global_by, symbol_by}
 use Rattle.std.specs.Borrow.{Bor}
 
--- a symbol in a scope or a group
-abbrev pub Mark : Type 0
-Mark = ℕ × Bor Text
+-- a symbol as it stands in a table
+abbrev pub Symbol : Type 0
+Symbol = Bor Text
+
+-- whether a text is among symbols, and the number of the first that it is
+abbrev pub is_among : Text → List Symbol → Bool
+is_among text symbols = list_any (λ key. bytes_eq text key.now) symbols
+
+abbrev pub number_in : List Symbol → Text → Option ℕ
+number_in symbols text = position (λ key. bytes_eq text key.now) symbols
+
+-- a scope or a group with a symbol, each by its number
+abbrev pub Key : Type 0
+Key = ℕ × ℕ
+
+-- what is marked, where symbols have these numbers
+pub record Marked : Type 0 where
+  pub symbols : List Symbol
+  pub keys : List Key
+
+abbrev pub marked : List Symbol → List Key → Marked
+marked symbols keys = record { symbols = symbols; keys = keys }
+
+-- whether the key of the scope or group with this number and of the symbol with that one is there
+abbrev pub has_key : ℕ → Option ℕ → List Key → Bool
+has_key number None keys = false
+has_key number (Some symbol) keys = list_any (λ key. number == key.0 && symbol == key.1) keys
 
 -- whether the symbol is marked in the scope or group with this number
-abbrev pub has : ℕ → Text → List Mark → Bool
-has number text marks = list_any (λ mark. number == mark.0 && bytes_eq text mark.1.now) marks
+abbrev pub has : ℕ → Text → Marked → Bool
+has number text marks = has_key number (number_in marks.symbols text) marks.keys
+
+-- what is needed, and what is kept
+abbrev pub needed_by : Hygiene → Marked
+needed_by hygiene = marked hygiene.symbols.keys hygiene.needed.keys
+
+abbrev pub kept_by : Hygiene → Marked
+kept_by hygiene = marked hygiene.symbols.keys hygiene.kept.keys
 
 -- what is marked in a scope is marked in those around it
-abbrev pub IsClosed : List Numbered → List Mark → Type 0
+abbrev pub IsClosed : List Numbered → Marked → Type 0
 IsClosed scopes marks = (scope around : ℕ) (text : Text) → has scope text marks ≡ true → is_around scopes scope around ≡ true → has around text marks ≡ true
 
 -- the symbol was marked in these scopes and in those around them
-pub record Marks (scopes : List Numbered) (uses : List ℕ) (text : Text) (old new : List Mark) : Type 0 where
+pub record Marks (scopes : List Numbered) (uses : List ℕ) (text : Text) (old new : Marked) : Type 0 where
   pub closed : IsClosed scopes new
   pub marks : (scope : ℕ) (other : Text) →
       has scope other new ≡ (has scope other old || (bytes_eq other text && list_any (λ from. is_around scopes from scope) uses))
 
 -- whether a text is a symbol, and whether it was given
 abbrev pub has_symbol : Hygiene → Text → Bool
-has_symbol hygiene text = list_any (λ key. bytes_eq text key.now) hygiene.symbols.keys
+has_symbol hygiene text = is_among text hygiene.symbols.keys
 
 abbrev pub has_given : Hygiene → Text → Bool
 has_given hygiene text = list_any (λ key. bytes_eq text (string_bytes key)) hygiene.given.keys
@@ -47,13 +78,13 @@ last_of hygiene text = unwrap_or (get_by (λ key. bytes_eq text key.now) hygiene
 
 -- whether a binding may keep its symbol, by what is marked
 abbrev pub may_keep_by : Hygiene → (home group : ℕ) → Text → Bool
-may_keep_by hygiene home group text = not (is_arguments text) && not (has group text hygiene.kept.keys) && not (has home text hygiene.needed.keys)
+may_keep_by hygiene home group text = not (is_arguments text) && not (has group text (kept_by hygiene)) && not (has home text (needed_by hygiene))
 
 -- a binding keeps its symbol
 pub record Keeps (scopes : List Numbered) (group : ℕ) (text : Text) (uses : List ℕ) (old new : Hygiene) : Type 0 where
   pub kept : (number : ℕ) (other : Text) →
-      has number other new.kept.keys ≡ (has number other old.kept.keys || (number == group && bytes_eq other text))
-  pub needed : IsClosed scopes old.needed.keys → Marks scopes uses text old.needed.keys new.needed.keys
+      has number other (kept_by new) ≡ (has number other (kept_by old) || (number == group && bytes_eq other text))
+  pub needed : IsClosed scopes (needed_by old) → Marks scopes uses text (needed_by old) (needed_by new)
   pub symbols : new.symbols.keys ≡ old.symbols.keys
   pub given : new.given.keys ≡ old.given.keys
   pub last : (other : Text) → last_of new other ≡ last_of old other
@@ -65,8 +96,8 @@ AreTried hygiene text = (number : ℕ) → 0 < number → number ≤ last_of hyg
 -- a binding gets a text
 pub record Gives (text : Text) (number : ℕ) (old new : Hygiene) : Type 0 where
   pub is_least : AreTried old text → is_least (λ other. has_taken old (numbered text other)) number ≡ true
-  pub kept : new.kept.keys ≡ old.kept.keys
-  pub needed : new.needed.keys ≡ old.needed.keys
+  pub kept : kept_by new ≡ kept_by old
+  pub needed : needed_by new ≡ needed_by old
   pub symbols : new.symbols.keys ≡ old.symbols.keys
   pub given : (other : Text) →
       has_given new other ≡ (has_given old other || bytes_eq other (numbered text number))
@@ -76,39 +107,43 @@ pub record Gives (text : Text) (number : ℕ) (old new : Hygiene) : Type 0 where
 pub record Knows (facts : Facts) (done : List Turn) (hygiene : Hygiene) : Type 0 where
   pub symbols : (text : Text) → has_symbol hygiene text ≡ is_before facts text
   pub needed : (scope : ℕ) (text : Text) →
-      has scope text hygiene.needed.keys ≡ is_needed facts done scope text
-  pub closed : IsClosed facts.scopes hygiene.needed.keys
-  pub kept : (group : ℕ) (text : Text) → has group text hygiene.kept.keys ≡ is_kept facts done group text
+      has scope text (needed_by hygiene) ≡ is_needed facts done scope text
+  pub closed : IsClosed facts.scopes (needed_by hygiene)
+  pub kept : (group : ℕ) (text : Text) → has group text (kept_by hygiene) ≡ is_kept facts done group text
   pub given : (text : Text) → has_given hygiene text ≡ list_any (gets facts text) done
   pub tried : (text : Text) → AreTried hygiene text
 
--- a symbol is added, if there is one
-pub record AddsSymbol (symbol : Option Text) (old new : Hygiene) : Type 0 where
-  pub symbols : (text : Text) → has_symbol new text ≡ (has_symbol old text || is_symbol text symbol)
-  pub needed : new.needed.keys ≡ old.needed.keys
-  pub kept : new.kept.keys ≡ old.kept.keys
-  pub given : new.given.keys ≡ old.given.keys
-  pub last : new.last.entries ≡ old.last.entries
+-- whether an occurrence is a global of this symbol, or declares a binding of it
+abbrev pub is_called_in : List Item → List Text → Text → Denoted → Bool
+is_called_in items texts text occurrence = is_called_by texts text (symbol_by (slice_get items occurrence.place)) occurrence.declares occurrence.binding
 
--- a symbol is added, if there is one, which is needed in a scope
+-- the symbol of an occurrence that is a global or declares a binding
+abbrev pub symbol_called : List Text → Option Text → (declares : Bool) → Option ℕ → Option Text
+symbol_called texts sym declares None = sym
+symbol_called texts sym declares (Some binding) = cond declares (slice_get texts binding) None
+
+-- a symbol that has a number is needed in a scope, if there is one
 pub record AddsGlobal (scopes : List Numbered) (from : ℕ) (symbol : Option Text) (old new : Hygiene) : Type 0 where
-  pub symbols : (text : Text) → has_symbol new text ≡ (has_symbol old text || is_symbol text symbol)
-  pub closed : IsClosed scopes old.needed.keys → IsClosed scopes new.needed.keys
-  pub needed : IsClosed scopes old.needed.keys →
+  pub symbols : new.symbols.keys ≡ old.symbols.keys
+  pub needed : ((text : Text) → is_symbol text symbol ≡ true → has_symbol old text ≡ true) →
+      IsClosed scopes (needed_by old) →
       (scope : ℕ) (text : Text) →
-      has scope text new.needed.keys ≡ (has scope text old.needed.keys || (is_around scopes from scope && is_symbol text symbol))
+      has scope text (needed_by new) ≡ (has scope text (needed_by old) || (is_around scopes from scope && is_symbol text symbol))
+  pub closed : ((text : Text) → is_symbol text symbol ≡ true → has_symbol old text ≡ true) →
+      IsClosed scopes (needed_by old) → IsClosed scopes (needed_by new)
   pub kept : new.kept.keys ≡ old.kept.keys
   pub given : new.given.keys ≡ old.given.keys
   pub last : new.last.entries ≡ old.last.entries
 
--- the symbol of an occurrence is added, if it is a global, which needs it, or declares a binding
-pub record Adds (scopes : List Numbered) (items : List Item) (texts : List Text) (occurrence : Denoted) (old new : Hygiene) : Type 0 where
-  pub symbols : (text : Text) →
-      has_symbol new text ≡ (has_symbol old text || is_called_by texts text (symbol_by (slice_get items occurrence.place)) occurrence.declares occurrence.binding)
-  pub closed : IsClosed scopes old.needed.keys → IsClosed scopes new.needed.keys
-  pub needed : IsClosed scopes old.needed.keys →
+-- the symbol of an occurrence is needed, if it is a global, whose symbol has a number
+pub record Adds (scopes : List Numbered) (items : List Item) (occurrence : Denoted) (old new : Hygiene) : Type 0 where
+  pub symbols : new.symbols.keys ≡ old.symbols.keys
+  pub needed : ((text : Text) → is_global_by text (symbol_by (slice_get items occurrence.place)) occurrence.binding ≡ true → has_symbol old text ≡ true) →
+      IsClosed scopes (needed_by old) →
       (scope : ℕ) (text : Text) →
-      has scope text new.needed.keys ≡ (has scope text old.needed.keys || (is_around scopes occurrence.scope scope && is_global_by text (symbol_by (slice_get items occurrence.place)) occurrence.binding))
+      has scope text (needed_by new) ≡ (has scope text (needed_by old) || (is_around scopes occurrence.scope scope && is_global_by text (symbol_by (slice_get items occurrence.place)) occurrence.binding))
+  pub closed : ((text : Text) → is_global_by text (symbol_by (slice_get items occurrence.place)) occurrence.binding ≡ true → has_symbol old text ≡ true) →
+      IsClosed scopes (needed_by old) → IsClosed scopes (needed_by new)
   pub kept : new.kept.keys ≡ old.kept.keys
   pub given : new.given.keys ≡ old.given.keys
   pub last : new.last.entries ≡ old.last.entries

@@ -2,7 +2,8 @@
 //! (ECMA-262, 9.1: an inner binding hides an outer one of its name), where no binding changes its symbol
 //! without need.
 
-ghost use Rattle.std.specs.Prelude.{◌≡◌, ◌<◌, ◌==◌, ◌++◌, ◌∷◌, [], ℕ, true, Some, List, IfOk, OnOk, length, map, string_bytes, slice_get, unwrap_or, if◌then◌else◌};
+ghost use Rattle.std.specs.Prelude.{◌≡◌, ◌<◌, ◌==◌, ◌||◌, ◌++◌, ◌∷◌, [], ℕ, true, cond, None, Some, List, IfOk, OnOk, length, map, string_bytes, slice_get, unwrap_or, if◌then◌else◌};
+ghost use Rattle.std.specs.List.{list_any};
 ghost use Rattle.std.specs.Option.{option_map};
 ghost use Rattle.bundle_tree_piece.specs.Item.{item_of};
 ghost use Rattle.bundle_rules.specs.Homes as homes;
@@ -15,28 +16,32 @@ ghost use Rattle.bundle_scope_denote.specs.Bound as bound;
 ghost use Rattle.bundle_scope_denote.specs.Kinds.{scope_as};
 ghost use Rattle.bundle_scope_names.specs.Called.{at};
 ghost use Rattle.bundle_scope_names.specs.Turns as turns;
-ghost use Rattle.bundle_scope_names.specs.Turns.{AreInTurn, AreNamed, Facts, first_after, first_of, given_to, group_of, home_of, is_right, symbol_by, symbol_of, symbols_from};
+ghost use Rattle.bundle_scope_names.specs.Turns.{AreInTurn, AreNamed, Facts, first_after, first_of, given_to, group_of, home_of, is_before, is_right, symbol_by, symbol_of, symbols_from};
 ghost use Rattle.bundle_scope_names.specs.Marks as the_marks;
-ghost use Rattle.bundle_scope_names.specs.Marks.{Adds, AddsGlobal, AddsSymbol, AreTried, Gives, IsClosed, Keeps, Knows, Marks, has, has_given, has_symbol, has_taken, may_keep_by};
+ghost use Rattle.bundle_scope_names.specs.Marks.{Adds, AddsGlobal, AreTried, Gives, IsClosed, Keeps, Knows, Marks, Symbol, has, has_given, has_symbol, has_taken, is_among, is_called_in, marked, may_keep_by, number_in};
 
 use crate::names::Names;
-use bundle_scope_denote::{Binding, Denotations, Denoted, Salt, Scope, ScopeKind, salt_of};
+use bundle_scope_denote::{Binding, Denotations, Denoted, Mixed, Salt, Scope, ScopeKind};
 use bundle_tree_piece::Piece;
+use indexmap::IndexSet;
 use std::alloc::{AllocError, Global};
 use std::collections::{HashMap, HashSet};
 
 // A binding by its scope, its first place and its number.
 type Place = (usize, usize, usize);
 
+// Numbers of scopes, each with that of a symbol.
+type Keys = HashSet<(usize, usize), Mixed>;
+
 // What is known of the bindings before one.
 #[derive(Drop)]
 struct Hygiene<'s> {
-    // The symbols of the bindings and of the globals.
-    symbols: HashSet<&'s str, Salt>,
+    // The symbols of the bindings and of the globals, which have their places as numbers.
+    symbols: IndexSet<&'s str, Salt>,
     // The scopes in which, or in a scope inside which, a symbol denotes a global or a binding that keeps it.
-    needed: HashSet<(usize, &'s str), Salt>,
+    needed: Keys,
     // The groups of scopes in which a binding keeps a symbol.
-    kept: HashSet<(usize, &'s str), Salt>,
+    kept: Keys,
     // The texts that were given.
     given: HashSet<String, Salt>,
     // For each symbol that was numbered the last number that was tried.
@@ -287,24 +292,92 @@ fn joins_outer(kind: ScopeKind) -> bool
     }
 }
 
-// Marks a symbol in a scope and in those around it.
-fn mark<'s>(
-    marks: &mut HashSet<(usize, &'s str), Salt>,
-    scopes: &[Scope],
-    from: usize,
-    sym: &'s str,
+// The symbols before: those of the globals and of the bindings that are declared.
+fn symbols_before<'s, 'a: 's>(
+    alloc: Global,
+    pieces: &[Piece<'a>],
+    denotations: &Denotations<'a>,
+    symbols: &[&'s str],
+    salt: Salt,
+) -> Result<IndexSet<&'s str, Salt>, AllocError>
+    ensures { IfOk result (λ before.
+        (text : Text) →
+        is_among text before.keys
+        ≡ list_any (is_called_in (map item_of pieces.now) (map (λ sym. sym.now) symbols.now) text)
+        denotations.now.occurrences.items) }
+{
+    let mut before = IndexSet::with_hasher(alloc, salt);
+    for occurrence in &denotations.occurrences {
+        add_symbol(&mut before, pieces, symbols, *occurrence)?;
+    }
+    Ok(before)
+}
+
+// Adds the symbol of an occurrence, if it is a global or declares a binding.
+fn add_symbol<'s, 'a: 's>(
+    before: &mut IndexSet<&'s str, Salt>,
+    pieces: &[Piece<'a>],
+    symbols: &[&'s str],
+    occurrence: Denoted,
 ) -> Result<(), AllocError>
+    ensures { OnOk result
+        ((text : Text) →
+        is_among text before.new.keys
+        ≡ (is_among text before.old.keys
+        || is_called_in (map item_of pieces.now) (map (λ sym. sym.now) symbols.now) text occurrence)) }
+{
+    let Some(sym) = symbol_called(pieces, symbols, occurrence) else {
+        return Ok(());
+    };
+    before.insert(sym)?;
+    Ok(())
+}
+
+// The symbol of an occurrence that is a global or declares a binding.
+fn symbol_called<'s, 'a: 's>(
+    pieces: &[Piece<'a>],
+    symbols: &[&'s str],
+    occurrence: Denoted,
+) -> Option<&'s str>
+    ensures { option_map (λ sym. sym.now) result
+        ≡ the_marks.symbol_called (map (λ sym. sym.now) symbols.now)
+        (symbol_by (slice_get (map item_of pieces.now) occurrence.place)) occurrence.declares
+        occurrence.binding }
+{
+    match occurrence.binding {
+        None => symbol_in(pieces, occurrence.place),
+        Some(binding) => symbol_declared(symbols, binding, occurrence.declares),
+    }
+}
+
+// The symbol of a binding, where an occurrence declares it.
+fn symbol_declared<'s>(symbols: &[&'s str], binding: usize, declares: bool) -> Option<&'s str>
+    ensures { option_map (λ sym. sym.now) result
+        ≡ cond declares (slice_get (map (λ sym. sym.now) symbols.now) binding) None }
+{
+    if declares {
+        symbol_if(symbols, binding)
+    } else {
+        None
+    }
+}
+
+// Marks the symbol with a number in a scope and in those around it.
+fn mark(marks: &mut Keys, scopes: &[Scope], from: usize, symbol: usize) -> Result<(), AllocError>
     requires { AreInOrder (map numbered scopes.now) }
     ensures { OnOk result
-        (IsClosed (map numbered scopes.now) marks.old.keys →
-        Marks (map numbered scopes.now) (from ∷ []) sym.now marks.old.keys marks.new.keys) }
+        ((symbols : List Symbol) (text : Text) →
+        number_in symbols text ≡ Some symbol →
+        IsClosed (map numbered scopes.now) (marked symbols marks.old.keys) →
+        Marks (map numbered scopes.now) (from ∷ []) text (marked symbols marks.old.keys)
+        (marked symbols marks.new.keys)) }
 {
     let mut at = Some(from);
     for _ in 0..scopes.len() {
         let Some(number) = at else {
             return Ok(());
         };
-        if !marks.insert((number, sym))? {
+        if !marks.insert((number, symbol))? {
             return Ok(());
         }
         at = outer_at(scopes, number);
@@ -312,20 +385,23 @@ fn mark<'s>(
     Ok(())
 }
 
-// Marks a symbol in scopes and in those around them.
-fn mark_all<'s>(
-    marks: &mut HashSet<(usize, &'s str), Salt>,
+// Marks it in scopes and in those around them.
+fn mark_all(
+    marks: &mut Keys,
     scopes: &[Scope],
     uses: &[usize],
-    sym: &'s str,
+    symbol: usize,
 ) -> Result<(), AllocError>
     requires { AreInOrder (map numbered scopes.now) }
     ensures { OnOk result
-        (IsClosed (map numbered scopes.now) marks.old.keys →
-        Marks (map numbered scopes.now) uses.now sym.now marks.old.keys marks.new.keys) }
+        ((symbols : List Symbol) (text : Text) →
+        number_in symbols text ≡ Some symbol →
+        IsClosed (map numbered scopes.now) (marked symbols marks.old.keys) →
+        Marks (map numbered scopes.now) uses.now text (marked symbols marks.old.keys)
+        (marked symbols marks.new.keys)) }
 {
     for from in uses {
-        mark(marks, scopes, *from, sym)?;
+        mark(marks, scopes, *from, symbol)?;
     }
     Ok(())
 }
@@ -347,59 +423,39 @@ impl<'s> Hygiene<'s> {
             facts.items ≡ map item_of pieces.now →
             Knows facts [] hygiene) }
     {
-        let salt = salt_of(pieces);
+        let salt = denotations.salt;
         let mut hygiene = Hygiene {
-            symbols: HashSet::with_hasher(alloc, salt),
-            needed: HashSet::with_hasher(alloc, salt),
-            kept: HashSet::with_hasher(alloc, salt),
+            symbols: symbols_before(alloc, pieces, denotations, symbols, salt)?,
+            needed: HashSet::with_hasher(alloc, Mixed),
+            kept: HashSet::with_hasher(alloc, Mixed),
             given: HashSet::with_hasher(alloc, salt),
             last: HashMap::with_hasher(alloc, salt),
         };
         for occurrence in &denotations.occurrences {
-            hygiene.add(pieces, &denotations.scopes, symbols, *occurrence)?;
+            hygiene.add(pieces, &denotations.scopes, *occurrence)?;
         }
         Ok(hygiene)
     }
 
-    // Adds the symbol of an occurrence, if it is a global or declares a binding.
-    fn add<'a: 's>(
+    // Adds what an occurrence needs: its symbol, if it is a global.
+    fn add<'a>(
         &mut self,
         pieces: &[Piece<'a>],
         scopes: &[Scope],
-        symbols: &[&'s str],
         occurrence: Denoted,
     ) -> Result<(), AllocError>
         requires { AreInOrder (map numbered scopes.now) }
         ensures { OnOk result
-            (Adds (map numbered scopes.now) (map item_of pieces.now)
-            (map (λ sym. sym.now) symbols.now) occurrence self.old self.new) }
+            (Adds (map numbered scopes.now) (map item_of pieces.now) occurrence self.old self.new) }
     {
         match occurrence.binding {
             None => self.add_global(pieces, scopes, occurrence),
-            Some(binding) => {
-                if occurrence.declares {
-                    self.add_binding(symbols, binding)
-                } else {
-                    Ok(())
-                }
-            }
+            Some(_) => Ok(()),
         }
     }
 
-    // Adds the symbol of a binding that is declared.
-    fn add_binding(&mut self, symbols: &[&'s str], binding: usize) -> Result<(), AllocError>
-        ensures { OnOk result
-            (AddsSymbol (slice_get (map (λ sym. sym.now) symbols.now) binding) self.old self.new) }
-    {
-        let Some(sym) = symbol_if(symbols, binding) else {
-            return Ok(());
-        };
-        self.symbols.insert(sym)?;
-        Ok(())
-    }
-
-    // Adds the symbol of a global, which is needed where it stands.
-    fn add_global<'a: 's>(
+    // The symbol of a global, which has a number, is needed where it stands.
+    fn add_global<'a>(
         &mut self,
         pieces: &[Piece<'a>],
         scopes: &[Scope],
@@ -413,13 +469,15 @@ impl<'s> Hygiene<'s> {
         let Some(sym) = symbol_in(pieces, occurrence.place) else {
             return Ok(());
         };
-        self.symbols.insert(sym)?;
-        mark(&mut self.needed, scopes, occurrence.scope, sym)?;
+        let Some(symbol) = self.symbols.get_index_of(&sym) else {
+            return Ok(());
+        };
+        mark(&mut self.needed, scopes, occurrence.scope, symbol)?;
         Ok(())
     }
 
-    // The new text of the next binding, or `None` where it keeps its symbol: it belongs to a scope, and its
-    // occurrences stand in these scopes.
+    // The new text of the next binding, or `None` where it keeps its symbol, which has a number: it belongs to a
+    // scope, and its occurrences stand in these scopes.
     fn settle(
         &mut self,
         alloc: Global,
@@ -434,6 +492,7 @@ impl<'s> Hygiene<'s> {
             facts.scopes ≡ map numbered scopes.now →
             home_of facts number ≡ home →
             symbol_of facts number ≡ sym.now →
+            is_before facts (symbol_of facts number) ≡ true →
             uses.now ≡ the_marks.uses_of facts.occurrences number →
             Knows facts done self.old →
             (turn : turns.Turn)
@@ -443,41 +502,47 @@ impl<'s> Hygiene<'s> {
             × (option_map string_bytes text ≡ given_to facts turn)) }
     {
         let group = group_at(scopes, home);
-        if self.may_keep(home, group, sym) {
-            self.keep(scopes, group, sym, uses)?;
+        let Some(symbol) = self.symbols.get_index_of(&sym) else {
+            return Ok(None);
+        };
+        if self.may_keep(home, group, sym, symbol) {
+            self.keep(scopes, group, symbol, uses)?;
             return Ok(None);
         }
         let text = self.free_text(alloc, sym)?;
         Ok(Some(text))
     }
 
-    // Whether a binding that belongs to this scope and group may keep its symbol.
-    fn may_keep(&self, home: usize, group: usize, sym: &'s str) -> bool
-        ensures { result ≡ may_keep_by self.now home group sym.now }
+    // Whether a binding that belongs to this scope and group may keep its symbol, which has a number.
+    fn may_keep(&self, home: usize, group: usize, sym: &'s str, symbol: usize) -> bool
+        ensures { number_in self.now.symbols.keys sym.now ≡ Some symbol →
+            result ≡ may_keep_by self.now home group sym.now }
     {
         if is_arguments(sym) {
             return false;
         }
-        if self.kept.contains(&(group, sym)) {
+        if self.kept.contains(&(group, symbol)) {
             return false;
         }
-        !self.needed.contains(&(home, sym))
+        !self.needed.contains(&(home, symbol))
     }
 
-    // A binding in this group of scopes keeps its symbol, which is needed at its occurrences.
+    // A binding in this group of scopes keeps the symbol with a number, which is needed at its occurrences.
     fn keep(
         &mut self,
         scopes: &[Scope],
         group: usize,
-        sym: &'s str,
+        symbol: usize,
         uses: &[usize],
     ) -> Result<(), AllocError>
         requires { AreInOrder (map numbered scopes.now) }
         ensures { OnOk result
-            (Keeps (map numbered scopes.now) group sym.now uses.now self.old self.new) }
+            ((text : Text) →
+            number_in self.old.symbols.keys text ≡ Some symbol →
+            Keeps (map numbered scopes.now) group text uses.now self.old self.new) }
     {
-        self.kept.insert((group, sym))?;
-        mark_all(&mut self.needed, scopes, uses, sym)?;
+        self.kept.insert((group, symbol))?;
+        mark_all(&mut self.needed, scopes, uses, symbol)?;
         Ok(())
     }
 

@@ -8,7 +8,7 @@ use Rattle.bundle_scope_denote.proofs.LoopLemmas.{homes-first, homes-step, take-
 use Rattle.bundle_scope_denote.proofs.homes.homes_by.Goals as goal
 
 pub loop-declaration-init : goal.loop-declaration-init
-loop-declaration-init c = homes-first _ _ _ c.new.ensures.empty c.new-2.ensures.items c.new-3.ensures.items
+loop-declaration-init c = homes-first _ _ _ c.in_ok-keys.ensures.empty c.in_ok-items.ensures.items c.in_ok-of.ensures.items
 
 pub add-requires : goal.add-requires
 add-requires c =

@@ -1,12 +1,12 @@
 -- Each binding has its turn.
-use Rattle.std.proofs.Common.{◌≡◌, ◌<◌, ◌+◌, [], ℕ, suc, Option, Some, List, map, length, get_or, unwrap_or, string_bytes, refl, ap, sym, ◌∙◌, subst, arith}
+use Rattle.std.proofs.Common.{◌≡◌, ◌<◌, ◌+◌, [], ◌∷◌, true, ℕ, suc, Option, Some, List, map, length, get_or, unwrap_or, string_bytes, refl, ap, sym, ◌∙◌, subst, arith}
 use Rattle.std.specs.Borrow.{Bor}
 use Rattle.std.specs.Prelude.{slice_get, Vec}
 use Rattle.std.specs.Option.{option_map}
 use Rattle.std.specs.declared.alloc.Global.{Global}
 use Rattle.std.specs.declared.string.String.{String}
 use Rattle.std.proofs.lemmas.List.{length-map}
-use Rattle.std.proofs.lemmas.Option.{slice_get-get_or, slice_get_within}
+use Rattle.std.proofs.lemmas.Option.{slice_get-get_or, slice_get_within, unwrap_or-slice_get}
 use Rattle.bundle_tree_piece.specs.Item.{item_of}
 use Rattle.bundle_rules.specs.Nodes.{Text}
 use Rattle.bundle_scope_denote.specs.declared.table.Binding.{Binding}
@@ -15,8 +15,9 @@ use Rattle.bundle_scope_denote.specs.Numbers.{numbered}
 use Rattle.bundle_scope_denote.proofs.LoopLemmas.{take-whole}
 use Rattle.bundle_scope_names.specs.declared.names.Names.{Names}
 use Rattle.bundle_scope_names.specs.Called.{at}
-use Rattle.bundle_scope_names.specs.Turns.{Facts, Place, AreInTurn, facts_of, homes_of, symbols_from, symbol_of, home_of}
+use Rattle.bundle_scope_names.specs.Turns.{Facts, Place, AreInTurn, facts_of, homes_of, symbols_from, symbol_of, home_of, is_before}
 use Rattle.bundle_scope_names.specs.Marks.{uses_of}
+use Rattle.bundle_scope_names.proofs.GlobalLemmas.{declared-before}
 use Rattle.bundle_scope_names.proofs.NamedLemmas.{IsNamedTo, Renames, renames-none, named-first, named-next}
 use Rattle.bundle_scope_names.proofs.hygiene.hygienic_names.Goals as goal
 use Rattle.bundle_scope_names.proofs.hygiene.hygienic_names.Goals.{in-Some, in_default}
@@ -29,6 +30,13 @@ symbols-same names b1 b2 s1 s2 e_b e_s is = ap (symbols_from names 0) (sym e_b) 
 
 uses-same : (all read : List (Vec ℕ Global)) (number : ℕ) (o1 o2 : List Denoted) (uses : List ℕ) → read ≡ all → o1 ≡ o2 → uses ≡ unwrap_or (option_map (λ (its : Vec ℕ Global). its.items) (slice_get read number)) [] → option_map (λ (its : Vec ℕ Global). its.items) (slice_get all number) ≡ Some (uses_of o1 number) → uses ≡ uses_of o2 number
 uses-same all read number o1 o2 uses e_read e_o is known = is ∙ ap (λ (l : List (Vec ℕ Global)). unwrap_or (option_map (λ (its : Vec ℕ Global). its.items) (slice_get l number)) []) e_read ∙ ap (λ (o : Option (List ℕ)). unwrap_or o []) known ∙ ap (λ o. uses_of o number) e_o
+
+symbols-long : (names : Names) (number : ℕ) (bindings : List Binding) → length (homes_of bindings) ≡ length (symbols_from names number bindings)
+symbols-long names number [] = refl
+symbols-long names number (x ∷ rest) = ap suc (symbols-long names (number + 1) rest)
+
+slice_get-unwrap_or : (texts : List Text) (i : ℕ) → i < length texts → slice_get texts i ≡ Some (unwrap_or (slice_get texts i) [])
+slice_get-unwrap_or texts i lt = slice_get-get_or texts i [] lt ∙ ap (λ t. Some t) (sym (unwrap_or-slice_get texts i []))
 
 pub loop-place-init : goal.loop-place-init
 loop-place-init c =
@@ -57,7 +65,9 @@ loop-place-preserved c =
     let e_symbol : symbol_of facts place.2 ≡ c.symbol_at-sym.result.now = ap (λ (l : List Text). unwrap_or (slice_get l place.2) []) e_symbols ∙ sym c.symbol_at-sym.ensures in
     let e_uses : c.uses_at.result.now ≡ uses_of facts.occurrences place.2 =
     uses-same c.in_ok-uses.uses.items c.deref-in-loop-place-3.result.now place.2 c.deref-2.result.now c.args.denotations.now.occurrences.items c.uses_at.result.now c.deref-in-loop-place-3.ensures.value c.deref-2.ensures.value c.uses_at.ensures (c.in_ok-uses.ensures place.2 (let same = length-map c.args.denotations.now.bindings.items (λ (b : Binding). b.scope) in omega (arith, same, c.len.ensures, c.args.denotations.now.bindings.ok.0, lt))) in
-    let settled = c.in_ok-text.ensures facts known.turns place.2 (ap (map numbered) (sym c.deref-in-loop-place-2.ensures.value)) e_home e_symbol e_uses known.knows in
+    let within : place.2 < length facts.symbols = subst (λ n. place.2 < n) (symbols-long c.args.keywords.now 0 c.args.denotations.now.bindings.items) lt in
+    let before : is_before facts (symbol_of facts place.2) ≡ true = declared-before facts place.2 place.1 (symbol_of facts place.2) (known.in_turn.first n place is_at) (slice_get-unwrap_or facts.symbols place.2 within) in
+    let settled = c.in_ok-text.ensures facts known.turns place.2 (ap (map numbered) (sym c.deref-in-loop-place-2.ensures.value)) e_home e_symbol before e_uses known.knows in
     subst (λ k. IsNamedTo facts c.args.keywords.now c.deref-place-items.result.now k c.settle.new.self c.match-text.names) one
     (named-next facts c.args.keywords.now c.deref-place-items.result.now n place c.loop-place.hygiene c.settle.new.self c.loop-place.names c.match-text.names (option_map string_bytes c.in_ok-text.text) known is_at
     (elim c.match-text.branch [

@@ -16,7 +16,7 @@ binding_of-requires c =
     c.requires c.loop-occurrence.occurrence-index _ (ap (λ l. slice_get l c.loop-occurrence.occurrence-index) (sym same) ∙ slice_get-get_or _ _ _ c.loop-occurrence-test.true)
 
 pub loop-occurrence-init : goal.loop-occurrence-init
-loop-occurrence-init c = searches-first (reading_as c.args.reading) c.args.walk.now c.args.of.now c.args.self.now _ c.new-occurrences.ensures.items
+loop-occurrence-init c = searches-first (reading_as c.args.reading) c.args.walk.now c.args.of.now c.args.self.now _ c.in_ok-occurrences.ensures.items
 
 pub loop-occurrence-preserved : goal.loop-occurrence-preserved
 loop-occurrence-preserved c =

@@ -6,7 +6,7 @@ use Rattle.std.specs.HashMap.{get_by}
 use Rattle.bundle_rules.specs.Nodes.{Text}
 use Rattle.bundle_rules.specs.Renaming.{numbered}
 use Rattle.bundle_scope_names.specs.declared.hygiene.Hygiene.{Hygiene}
-use Rattle.bundle_scope_names.specs.Marks.{has_taken, has_given, last_of}
+use Rattle.bundle_scope_names.specs.Marks.{needed_by, kept_by, has_taken, has_given, last_of}
 use Rattle.bundle_scope_names.proofs.TestLemmas.{given-or, last-cond, bytes_comm}
 use Rattle.bundle_scope_names.proofs.KnowsLemmas.{least-from, numbered-some}
 use Rattle.bundle_scope_names.proofs.hygiene.Hygiene.free_text.Goals as goal
@@ -32,8 +32,8 @@ returns-then-not-is_taken c =
       is_text,
       record {
         is_least = λ tried. least-from (λ other. has_taken c.args.self.now (numbered c.args.sym.now other)) (last_of c.args.self.now c.args.sym.now) n lt tried (λ k over below. let le : k ≤ c.loop-tried.tried = omega arith in c.loop-tried.invariant.1 k (subst (λ m. m < k) (sym c.last_of-first.ensures) over) le) free;
-        kept = ap (λ (h : Hygiene). h.kept.keys) same;
-        needed = ap (λ (h : Hygiene). h.needed.keys) same;
+        kept = ap kept_by same;
+        needed = ap needed_by same;
         symbols = ap (λ (h : Hygiene). h.symbols.keys) same;
         given = λ other. hash_set_updates_text (string_bytes c.in_ok-clone.field-0) c.loop-tried.self.given c.insert-then-not-is_taken.new.self true c.in_ok-insert-2.ensures.updates other ∙ given-or (bytes_eq (string_bytes c.in_ok-clone.field-0) other) (has_given c.loop-tried.self other) ∙ ap₂ (λ (a : Bool) (b : Bool). a || b) (ap (λ (h : Hygiene). has_given h other) same) (bytes_comm (string_bytes c.in_ok-clone.field-0) other ∙ ap (bytes_eq other) (cloned ∙ is_text));
         last = λ other. ap (λ o. unwrap_or o 0) (hash_map_updates_str c.args.sym.now c.loop-tried.self.last c.insert.new.self (Some n) c.in_ok-insert.ensures.updates other) ∙ last-cond (bytes_eq c.args.sym.now other) n (get_by (λ key. bytes_eq other key.now) c.loop-tried.self.last) ∙ ap (cond (bytes_eq c.args.sym.now other) n) (ap (λ (h : Hygiene). last_of h other) same);
