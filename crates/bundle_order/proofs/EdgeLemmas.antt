@@ -8,7 +8,7 @@ use Rattle.bundle_order_graph.specs.declared.sort.Required.{Required}
 use Rattle.bundle_order_graph.specs.declared.sort.Required.TheVariants.{Always, Maybe}
 use Rattle.bundle_order_sort.specs.declared.Dependency.{Dependency}
 use Rattle.bundle_order_sort.specs.declared.SortItem.{SortItem}
-use Rattle.bundle_order_sort.specs.Items.{Names, Depends}
+use Rattle.bundle_order_sort.specs.Listed.{Names, Depends}
 use Rattle.bundle_order_sort.proofs.ItemLemmas.{Depends-within}
 use Rattle.bundle_order.specs.Items.{AreNodes, AreOnce, AreBetween, IsAlways, how_required, IsGraphOf, AreApart, Lists, Gains, Grows}
 use Rattle.bundle_order.proofs.NodeLemmas.{edge_once}
