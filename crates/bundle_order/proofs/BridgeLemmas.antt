@@ -62,11 +62,11 @@ module _ (g : Group) (items : List SharedItem) (lists : List (List ℕ)) (found 
 
       by : IsStrong g s t ⊎ (IsStrong g s t → ⊥) → i.Needs items lists s t
       by (inl strong) = record { is_weak = false; named = IsStrong-back g items lists found s t strong; apart = apart; strong = λ e path. absurd (false≢true e) }
-      by (inr no) = let d = Depends-back g items lists found s t n.depends in record {
+      by (inr missing) = let d = Depends-back g items lists found s t n.depends in record {
         is_weak = d.0;
         named = d.1;
         apart = apart;
-        strong = λ e path. n.holds (record { depends = n.depends; not_strong = no }) (Path-mono {E = i.Depends items lists} {F = o.Depends g} (Depends-forth g items lists found) path);
+        strong = λ e path. n.holds (record { depends = n.depends; not_strong = missing }) (Path-mono {E = i.Depends items lists} {F = o.Depends g} (Depends-forth g items lists found) path);
       }
 
   Step-forth : (s t : ℕ) → i.Step items lists s t → o.Step g s t

@@ -34,7 +34,7 @@ listed-or-not lists t (r ∷ rest) = step r.is_weak refl (number-or-not (get_or 
     step : (w : Bool) → r.is_weak ≡ w → Leads lists r.list t ⊎ (Leads lists r.list t → ⊥) → Strongly lists t rest ⊎ (Strongly lists t rest → ⊥) → Strongly lists t (r ∷ rest) ⊎ (Strongly lists t (r ∷ rest) → ⊥)
     step w e here (inl h) = inl (h.0, (Contains-cons r rest (record { list = h.0; is_weak = false })).1 (inr h.1), h.2)
     step false e (inl l) (inr none) = inl (r.list, (Contains-cons r rest (record { list = r.list; is_weak = false })).1 (inl (ap (λ w. let x : Reference = record { list = r.list; is_weak = w } in x) e)), l)
-    step false e (inr no) (inr none) = inr (λ h. elim ((Contains-cons r rest (record { list = h.0; is_weak = false })).0 h.1) [ inl f ↦ no (subst (λ i. Leads lists i t) (sym (ap (λ (x : Reference). x.list) f)) h.2) | inr d ↦ none (h.0, d, h.2) ])
+    step false e (inr missing) (inr none) = inr (λ h. elim ((Contains-cons r rest (record { list = h.0; is_weak = false })).0 h.1) [ inl f ↦ missing (subst (λ i. Leads lists i t) (sym (ap (λ (x : Reference). x.list) f)) h.2) | inr d ↦ none (h.0, d, h.2) ])
     step true e here (inr none) = inr (λ h. elim ((Contains-cons r rest (record { list = h.0; is_weak = false })).0 h.1) [ inl f ↦ true≢false (sym e ∙ ap (λ (x : Reference). x.is_weak) f) | inr d ↦ none (h.0, d, h.2) ])
 
 module _ (g : Group) (items : List SharedItem) (lists : List (List ℕ)) (found : AreReferences g (map references_of items) lists) where
@@ -69,6 +69,6 @@ module _ (g : Group) (items : List SharedItem) (lists : List (List ℕ)) (found 
     | inl e ↦ inr (λ i. i.depends.other (sym e))
     | inr ne ↦ elim (listed-or-not lists t (get_or (map references_of items) s [])) [
       | inl h ↦ inl ((found.strong s t).0 (ne, h))
-      | inr no ↦ inr (λ i. no ((found.strong s t).1 i).1)
+      | inr missing ↦ inr (λ i. missing ((found.strong s t).1 i).1)
     ]
   ]

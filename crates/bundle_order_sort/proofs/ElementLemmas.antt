@@ -65,7 +65,7 @@ Contains-filter {X} p (y ∷ xs) x = step (p y) refl (Contains-filter p xs x)
 -- ---- numbers that are added to others, if they are needed
 module _ (Needed : ℕ → Type 0) (list : List ℕ) (i : ℕ) (h : i < length list) (old new : List ℕ) (so_far : (t : ℕ) → Contains new t ↔ (Contains old t ⊎ (Contains (take i list) t × Needed t))) where
   pub Adds-takes : Needed (get_or list i 0) → (new' : List ℕ) → new' ≡ new ++ get_or list i 0 ∷ [] → (t : ℕ) → Contains new' t ↔ (Contains old t ⊎ (Contains (take (i + 1) list) t × Needed t))
-  Adds-takes yes new' is t = (λ c. forth (Contains-push_cases new (get_or list i 0) t (subst (λ (l : List ℕ). Contains l t) is c)), λ o. subst (λ (l : List ℕ). Contains l t) (sym is) (back o))
+  Adds-takes here new' is t = (λ c. forth (Contains-push_cases new (get_or list i 0) t (subst (λ (l : List ℕ). Contains l t) is c)), λ o. subst (λ (l : List ℕ). Contains l t) (sym is) (back o))
     where
       more : Contains old t ⊎ (Contains (take i list) t × Needed t) → Contains old t ⊎ (Contains (take (i + 1) list) t × Needed t)
       more (inl o) = inl o
@@ -73,7 +73,7 @@ module _ (Needed : ℕ → Type 0) (list : List ℕ) (i : ℕ) (h : i < length l
 
       forth : Contains new t ⊎ (get_or list i 0 ≡ t) → Contains old t ⊎ (Contains (take (i + 1) list) t × Needed t)
       forth (inl c) = more ((so_far t).0 c)
-      forth (inr e) = inr ((Contains-more list i 0 t h).1 (inr e), subst Needed e yes)
+      forth (inr e) = inr ((Contains-more list i 0 t h).1 (inr e), subst Needed e here)
 
       by : Needed t → Contains (take i list) t ⊎ (get_or list i 0 ≡ t) → Contains (new ++ get_or list i 0 ∷ []) t
       by n (inl c) = Contains-append_left new (get_or list i 0 ∷ []) t ((so_far t).1 (inr (c, n)))
@@ -84,7 +84,7 @@ module _ (Needed : ℕ → Type 0) (list : List ℕ) (i : ℕ) (h : i < length l
       back (inr p) = by p.1 ((Contains-more list i 0 t h).0 p.0)
 
   pub Adds-leaves : (Needed (get_or list i 0) → ⊥) → (t : ℕ) → Contains new t ↔ (Contains old t ⊎ (Contains (take (i + 1) list) t × Needed t))
-  Adds-leaves no t = (λ c. more ((so_far t).0 c), λ o. back o)
+  Adds-leaves out t = (λ c. more ((so_far t).0 c), λ o. back o)
     where
       more : Contains old t ⊎ (Contains (take i list) t × Needed t) → Contains old t ⊎ (Contains (take (i + 1) list) t × Needed t)
       more (inl o) = inl o
@@ -92,7 +92,7 @@ module _ (Needed : ℕ → Type 0) (list : List ℕ) (i : ℕ) (h : i < length l
 
       by : Needed t → Contains (take i list) t ⊎ (get_or list i 0 ≡ t) → Contains new t
       by n (inl c) = (so_far t).1 (inr (c, n))
-      by n (inr e) = absurd (no (subst Needed (sym e) n))
+      by n (inr e) = absurd (out (subst Needed (sym e) n))
 
       back : Contains old t ⊎ (Contains (take (i + 1) list) t × Needed t) → Contains new t
       back (inl o) = (so_far t).1 (inl o)

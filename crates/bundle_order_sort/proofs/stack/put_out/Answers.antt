@@ -151,6 +151,32 @@ loop-top-preserved-then-shorter c =
       needs_len = c.loop-top.invariant.needs_len;
     }
 
+pub needs_left-requires-clause-item_in : goal.needs_left-requires-clause-item_in
+needs_left-requires-clause-item_in c =
+    let items = c.args.items.now in
+    let whole : List (List ℕ) = map (λ v. v.items) c.args.lists.now in
+    let N : ℕ → ℕ → Type 0 = NeedsByRank items whole c.args.ranks.now in
+    let count = length items in
+    let ranks = c.args.ranks.now in
+    let firsts = c.args.firsts.now in
+    let inside : (s t : ℕ) → N s t → t < count = λ s t n. n.needed.within in
+    let stack = c.loop-top.stack.items in
+    let s = c.in-Some.top.now in
+    let ps = c.loop-top.progress.items in
+    let order = c.loop-top.order.items in
+    let w : Sorting N count ranks firsts stack ps order = c.loop-top.invariant.sorting in
+    let some : 0 < length stack = subst (λ (l : List ℕ). 0 < length l) c.deref.ensures.value c.in-Some.ensures.item.3.0 in
+    let top : s ≡ get_or stack (length stack - 1) s = subst (λ (l : List ℕ). s ≡ get_or l (length l - 1) s) c.deref.ensures.value c.in-Some.ensures.item.1 in
+    let known = c.index-known.result.now in
+    let read : known ≡ get_or ps s known = c.index-known.ensures in
+    stack-in N count ranks firsts inside stack s ps order w some top
+
+pub needs_left-requires-clause-soles : goal.needs_left-requires-clause-soles
+needs_left-requires-clause-soles c =
+    let whole : List (List ℕ) = map (λ v. v.items) c.args.lists.now in
+    let left : List (List ℕ) = map (λ v. v.items) c.loop-top.lists in
+    AreSoles-left c.args.items.now c.loop-top.progress.items whole left c.args.soles.now (length-map c.loop-top.lists (λ v. v.items) ∙ (c.loop-top.invariant.lists_len ∙ sym (length-map c.args.lists.now (λ v. v.items)))) c.loop-top.invariant.left c.requires.soles
+
 pub loop-top-smaller-then-not-known : goal.loop-top-smaller-then-not-known
 loop-top-smaller-then-not-known c =
     let items = c.args.items.now in
