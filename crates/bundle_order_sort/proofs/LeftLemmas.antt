@@ -104,18 +104,18 @@ module _ (items : List SharedItem) (lists : List (List ℕ)) (ranks : List ℕ) 
   pub IsLeftOf-none : (needed : List ℕ) → needed ≡ [] → (t : ℕ) → Contains needed t ↔ IsLeftOf [] t
   IsLeftOf-none needed e t = (λ c. absurd (Contains-none t (subst (λ (l : List ℕ). Contains l t) e c)), λ h. absurd (Contains-none h.0 h.1))
 
-  pub IsLeftOf-more : (references : List Reference) (i : ℕ) (r : Reference) → i < length references → get_or references i r ≡ r → (lists' : List (List ℕ)) → KeepsLeft ps lists lists' → (needed needed' : List ℕ) → ((t : ℕ) → Contains needed t ↔ IsLeftOf (take i references) t) → ((t : ℕ) → Contains needed' t ↔ (Contains needed t ⊎ IsLeft items lists' ranks ps s r t)) → (t : ℕ) → Contains needed' t ↔ IsLeftOf (take (i + 1) references) t
-  IsLeftOf-more references i r h is lists' keeps needed needed' so_far adds t = (λ c. forth ((adds t).0 c), λ p. (adds t).1 (back p.0 p.2 ((Contains-more references i r p.0 h).0 p.1)))
+  pub IsLeftOf-more : (references : List Reference) (i : ℕ) (d : Reference) → i < length references → (lists' : List (List ℕ)) → KeepsLeft ps lists lists' → (needed needed' : List ℕ) → ((t : ℕ) → Contains needed t ↔ IsLeftOf (take i references) t) → ((t : ℕ) → Contains needed' t ↔ (Contains needed t ⊎ IsLeft items lists' ranks ps s (get_or references i d) t)) → (t : ℕ) → Contains needed' t ↔ IsLeftOf (take (i + 1) references) t
+  IsLeftOf-more references i d h lists' keeps needed needed' so_far adds t = (λ c. forth ((adds t).0 c), λ p. (adds t).1 (back p.0 p.2 ((Contains-more references i d p.0 h).0 p.1)))
     where
-      forth : Contains needed t ⊎ IsLeft items lists' ranks ps s r t → IsLeftOf (take (i + 1) references) t
-      forth (inl c) = let g = (so_far t).0 c in (g.0, (Contains-more references i r g.0 h).1 (inl g.1), g.2)
-      forth (inr g) = (r, (Contains-more references i r r h).1 (inr is), record { left = g.left; listed = keeps.from r.list t g.listed; needed = g.needed })
+      forth : Contains needed t ⊎ IsLeft items lists' ranks ps s (get_or references i d) t → IsLeftOf (take (i + 1) references) t
+      forth (inl c) = let g = (so_far t).0 c in (g.0, (Contains-more references i d g.0 h).1 (inl g.1), g.2)
+      forth (inr g) = (get_or references i d, (Contains-more references i d (get_or references i d) h).1 (inr refl), record { left = g.left; listed = keeps.from (get_or references i d).list t g.listed; needed = g.needed })
 
-      back : (q : Reference) → IsLeft items lists ranks ps s q t → Contains (take i references) q ⊎ (get_or references i r ≡ q) → Contains needed t ⊎ IsLeft items lists' ranks ps s r t
+      back : (q : Reference) → IsLeft items lists ranks ps s q t → Contains (take i references) q ⊎ (get_or references i d ≡ q) → Contains needed t ⊎ IsLeft items lists' ranks ps s (get_or references i d) t
       back q g (inl c) = inl ((so_far t).1 (q, c, g))
       back q g (inr e) =
-          let g' : IsLeft items lists ranks ps s r t = subst (λ (x : Reference). IsLeft items lists ranks ps s x t) (sym e ∙ is) g in
-          inr (record { left = g'.left; listed = keeps.kept r.list t g'.listed g'.left; needed = g'.needed })
+          let g' : IsLeft items lists ranks ps s (get_or references i d) t = subst (λ (x : Reference). IsLeft items lists ranks ps s x t) (sym e) g in
+          inr (record { left = g'.left; listed = keeps.kept (get_or references i d).list t g'.listed g'.left; needed = g'.needed })
 
 -- by all of its references an item needs what it needs by the ranks
 pub IsLeftOf-all : (items : List SharedItem) (lists : List (List ℕ)) (ranks : List ℕ) (ps : List Progress) (s : ℕ) (item : SharedItem) → slice_get items s ≡ Some item → (t : ℕ) → IsLeftOf items lists ranks ps s item.references.items t ↔ ((IsOut ps t → ⊥) × NeedsByRank items lists ranks s t)

@@ -36,7 +36,7 @@ returns-clause-added c =
     let lists : List (List ℕ) = map (λ v. v.items) c.args.lists.now in
     let r = c.args.reference in
     let ps = c.args.progress.now in
-    let row : get_or lists r.list [] ≡ c.deref.result.now = get_or-map (λ v. v.items) c.args.lists.now r.list c.index-lists-list.result [] (omega (arith, c.if-list-lists.false)) ∙ (ap (λ v. v.items) (sym c.index-lists-list.is) ∙ sym c.deref.ensures.value) in
+    let row : get_or lists r.list [] ≡ c.deref.result.now = get_or-map (λ v. v.items) c.args.lists.now r.list c.index-lists-list.result [] (omega (arith, c.if-list-lists.false)) ∙ sym c.deref.ensures.value in
     let left : c.in_ok-left.left.items ≡ filter (is_left ps) (get_or lists r.list []) = c.in_ok-left.ensures ∙ ap (λ (l : List ℕ). filter (is_left ps) l) (sym row) in
     let adds : AddsNeeds (λ t. IsNeeded items c.args.ranks.now c.args.item t r.is_weak) c.in_ok-left.left.items c.args.needed.now.items c.add_needs.new.needed.items = subst (λ (l : List ℕ). AddsNeeds (λ t. IsNeeded items c.args.ranks.now c.args.item t r.is_weak) l c.args.needed.now.items c.add_needs.new.needed.items) c.deref-2.ensures.value c.in_ok-add_needs.ensures in
     adds-left items lists c.args.ranks.now ps c.args.item r c.in_ok-left.left.items left c.args.needed.now.items c.add_needs.new.needed.items adds
@@ -47,6 +47,6 @@ returns-clause-left c =
     let r = c.args.reference in
     let ps = c.args.progress.now in
     let inside = c.if-list-lists.false in
-    let row : get_or lists r.list [] ≡ c.deref.result.now = get_or-map (λ v. v.items) c.args.lists.now r.list c.index-lists-list.result [] (omega (arith, inside)) ∙ (ap (λ v. v.items) (sym c.index-lists-list.is) ∙ sym c.deref.ensures.value) in
+    let row : get_or lists r.list [] ≡ c.deref.result.now = get_or-map (λ v. v.items) c.args.lists.now r.list c.index-lists-list.result [] (omega (arith, inside)) ∙ sym c.deref.ensures.value in
     let left : c.in_ok-left.left.items ≡ filter (is_left ps) (get_or lists r.list []) = c.in_ok-left.ensures ∙ ap (λ (l : List ℕ). filter (is_left ps) l) (sym row) in
     subst (λ (l : List (List ℕ)). KeepsLeft ps lists l) (sym (map-set (λ v. v.items) c.args.lists.now r.list c.in_ok-left.left)) (KeepsLeft-one ps lists r.list (omega (arith, inside, length-map c.args.lists.now (λ v. v.items))) c.in_ok-left.left.items left)

@@ -1,7 +1,8 @@
-use Rattle.std.proofs.Common.{◌≡◌, ℕ, ◌+◌, ◌↔◌, List, Contains, map, length, take, refl, sym, ◌∙◌, subst, arith}
+use Rattle.std.proofs.Common.{◌≡◌, ℕ, ◌+◌, ◌↔◌, List, Contains, map, length, get_or, take, refl, sym, ◌∙◌, subst, arith}
 use Rattle.std.proofs.lemmas.Option.{slice_get_read}
 use Rattle.std.proofs.lemmas.List.{length-map, take_all}
 use Rattle.bundle_order_sort.specs.declared.Reference.{Reference}
+use Rattle.bundle_order_sort.specs.declared.SharedItem.{SharedItem}
 use Rattle.bundle_order_sort.proofs.LeftLemmas.{AreSoles-left, IsLeftOf, IsLeftOf-none, IsLeftOf-more, IsLeftOf-all, KeepsLeft-same, KeepsLeft-trans}
 use Rattle.bundle_order_sort.proofs.stack.needs_left.Goals as goal
 
@@ -31,7 +32,7 @@ loop-reference-preserved c =
     record {
       len = c.add_left.ensures.len ∙ inv.len;
       keeps = KeepsLeft-trans ps whole left after inv.keeps c.in_ok-add_left.ensures.left;
-      each = IsLeftOf-more c.args.items.now whole c.args.ranks.now ps c.args.item references c.loop-reference.reference-index c.reference-item.result c.loop-reference-test.true (sym c.reference-item.is) left inv.keeps c.loop-reference.needed.items c.add_left.new.needed.items inv.each c.in_ok-add_left.ensures.added;
+      each = IsLeftOf-more c.args.items.now whole c.args.ranks.now ps c.args.item references c.loop-reference.reference-index (record { list = 0; is_weak = false }) c.loop-reference-test.true left inv.keeps c.loop-reference.needed.items c.add_left.new.needed.items inv.each c.in_ok-add_left.ensures.added;
     }
 
 pub returns-clause-each : goal.returns-clause-each
@@ -46,7 +47,8 @@ returns-clause-each c = λ t.
     let needed = c.loop-reference.needed.items in
     let references = c.as_slice-references.result.now in
     let all : Contains needed t ↔ IsLeftOf items whole ranks ps s references t = subst (λ (l : List Reference). Contains needed t ↔ IsLeftOf items whole ranks ps s l t) (take_all c.loop-reference.reference-index references (omega (arith, c.loop-reference-test.false))) (c.loop-reference.invariant.each t) in
-    let its : Contains needed t ↔ IsLeftOf items whole ranks ps s item.references.items t = subst (λ (l : List Reference). Contains needed t ↔ IsLeftOf items whole ranks ps s l t) c.as_slice-references.ensures.value all in
+    let read : Contains needed t ↔ IsLeftOf items whole ranks ps s (get_or items s item).references.items t = subst (λ (l : List Reference). Contains needed t ↔ IsLeftOf items whole ranks ps s l t) c.as_slice-references.ensures.value all in
+    let its : Contains needed t ↔ IsLeftOf items whole ranks ps s item.references.items t = subst (λ (i : SharedItem). Contains needed t ↔ IsLeftOf items whole ranks ps s i.references.items t) (sym c.index-items-item.is) read in
     let both = IsLeftOf-all items whole ranks ps s item at t in
     let same = c.once.ensures.same t in
     (λ h. both.0 (its.0 (same.0 h)), λ p. same.1 (its.1 (both.1 p)))

@@ -1,6 +1,6 @@
 use Rattle.std.proofs.Common.{refl, sym, ap, ◌∙◌, subst, arith, ◌≡◌, ℕ, ◌+◌, ◌-◌, ◌<◌, ◌≤◌, ◌++◌, ◌↔◌, IsTrue, List, [], true, false, Contains, map, length, reverse, get_or, set}
 use Rattle.std.proofs.lemmas.List.{length-map, length-set, map-set, nil_from_length, get_or_default}
-use Rattle.std.proofs.lemmas.Bool.{not-true}
+use Rattle.std.proofs.lemmas.Bool.{not-true, not-false}
 use Rattle.bundle_order_sort.specs.declared.stack.Progress.{Progress}
 use Rattle.bundle_order_sort.specs.Numbers.{fresh, IsOut, is_awaited, progress_of, AreSkips}
 use Rattle.bundle_order_sort.specs.Chains.{WaitsForNone, AddsChain, AreChains}
@@ -380,7 +380,7 @@ loop-top-smaller-then-left-item c =
     let adds : AddsChain needs ranks ps s stack next = subst (λ (l : List ℕ). AddsChain needs ranks ps s l next) same (subst (λ (l : List Progress). AddsChain needs ranks l s c.shorten.new.stack.items next) c.deref-in-Some-2.ensures.value c.in_ok-awaited.ensures.added) in
     let any : IsTrue c.in_ok-awaited.awaited ↔ (length stack < length next) = subst (λ (l : List ℕ). IsTrue c.in_ok-awaited.awaited ↔ (length l < length next)) same c.in_ok-awaited.ensures.any in
     let stays : next ≡ stack = same_stack N count ranks firsts inside stack s ps order w some top known read c.if-known.false needs needs_len c.loop-top.invariant.known.sound next adds c.in_ok-awaited.awaited any c.if-awaited.false in
-    let begun : (progress_of ps s).begun ≡ true = is_known N count ranks firsts inside stack s ps order w some top known read ∙ c.if-not-known.false in
+    let begun : (progress_of ps s).begun ≡ true = is_known N count ranks firsts inside stack s ps order w some top known read ∙ not-false known.begun c.if-not-known.false in
     let none : (t : ℕ) → N s t → is_awaited ranks ps s t ≡ false = none-awaited N ps needs c.loop-top.invariant.known ranks s begun (subst (λ (l : List Progress). WaitsForNone needs ranks l s) c.deref-in-Some-2.ensures.value (c.in_ok-awaited.ensures.none c.if-awaited.false)) in
     let e = c.first_left-left.result in
     let skipped : (t : ℕ) → known.next ≤ t → t < e → IsOut ps t = subst (λ (l : List Progress). (t : ℕ) → known.next ≤ t → t < e → IsOut l t) c.deref-in-Some-3.ensures.value c.first_left-left.ensures.out in
@@ -414,7 +414,7 @@ loop-top-preserved-then-left-item c =
     let any : IsTrue c.in_ok-awaited.awaited ↔ (length stack < length next) = subst (λ (l : List ℕ). IsTrue c.in_ok-awaited.awaited ↔ (length l < length next)) same c.in_ok-awaited.ensures.any in
     let noted : AreChains needs ranks ps c.push_chain.new.ends c.push_chain.new.cursors = subst (λ (l : List Progress). AreChains needs ranks l c.push_chain.new.ends c.push_chain.new.cursors) c.deref-in-Some-2.ensures.value c.in_ok-awaited.ensures.chains in
     let stays : next ≡ stack = same_stack N count ranks firsts inside stack s ps order w some top known read c.if-known.false needs needs_len c.loop-top.invariant.known.sound next adds c.in_ok-awaited.awaited any c.if-awaited.false in
-    let begun : (progress_of ps s).begun ≡ true = is_known N count ranks firsts inside stack s ps order w some top known read ∙ c.if-not-known.false in
+    let begun : (progress_of ps s).begun ≡ true = is_known N count ranks firsts inside stack s ps order w some top known read ∙ not-false known.begun c.if-not-known.false in
     let none : (t : ℕ) → N s t → is_awaited ranks ps s t ≡ false = none-awaited N ps needs c.loop-top.invariant.known ranks s begun (subst (λ (l : List Progress). WaitsForNone needs ranks l s) c.deref-in-Some-2.ensures.value (c.in_ok-awaited.ensures.none c.if-awaited.false)) in
     let e = c.first_left-left.result in
     let skipped : (t : ℕ) → known.next ≤ t → t < e → IsOut ps t = subst (λ (l : List Progress). (t : ℕ) → known.next ≤ t → t < e → IsOut l t) c.deref-in-Some-3.ensures.value c.first_left-left.ensures.out in
@@ -459,7 +459,7 @@ loop-top-smaller c =
     let adds : AddsChain needs ranks ps s stack next = subst (λ (l : List ℕ). AddsChain needs ranks ps s l next) same (subst (λ (l : List Progress). AddsChain needs ranks l s c.shorten.new.stack.items next) c.deref-in-Some-2.ensures.value c.in_ok-awaited.ensures.added) in
     let any : IsTrue c.in_ok-awaited.awaited ↔ (length stack < length next) = subst (λ (l : List ℕ). IsTrue c.in_ok-awaited.awaited ↔ (length l < length next)) same c.in_ok-awaited.ensures.any in
     let stays : next ≡ stack = same_stack N count ranks firsts inside stack s ps order w some top known read c.if-known.false needs needs_len c.loop-top.invariant.known.sound next adds c.in_ok-awaited.awaited any c.if-awaited.false in
-    let begun : (progress_of ps s).begun ≡ true = is_known N count ranks firsts inside stack s ps order w some top known read ∙ c.if-not-known.false in
+    let begun : (progress_of ps s).begun ≡ true = is_known N count ranks firsts inside stack s ps order w some top known read ∙ not-false known.begun c.if-not-known.false in
     let none : (t : ℕ) → N s t → is_awaited ranks ps s t ≡ false = none-awaited N ps needs c.loop-top.invariant.known ranks s begun (subst (λ (l : List Progress). WaitsForNone needs ranks l s) c.deref-in-Some-2.ensures.value (c.in_ok-awaited.ensures.none c.if-awaited.false)) in
     let e = c.first_left-left.result in
     let skipped : (t : ℕ) → known.next ≤ t → t < e → IsOut ps t = subst (λ (l : List Progress). (t : ℕ) → known.next ≤ t → t < e → IsOut l t) c.deref-in-Some-3.ensures.value c.first_left-left.ensures.out in
@@ -494,7 +494,7 @@ loop-top-preserved c =
     let any : IsTrue c.in_ok-awaited.awaited ↔ (length stack < length next) = subst (λ (l : List ℕ). IsTrue c.in_ok-awaited.awaited ↔ (length l < length next)) same c.in_ok-awaited.ensures.any in
     let noted : AreChains needs ranks ps c.push_chain.new.ends c.push_chain.new.cursors = subst (λ (l : List Progress). AreChains needs ranks l c.push_chain.new.ends c.push_chain.new.cursors) c.deref-in-Some-2.ensures.value c.in_ok-awaited.ensures.chains in
     let stays : next ≡ stack = same_stack N count ranks firsts inside stack s ps order w some top known read c.if-known.false needs needs_len c.loop-top.invariant.known.sound next adds c.in_ok-awaited.awaited any c.if-awaited.false in
-    let begun : (progress_of ps s).begun ≡ true = is_known N count ranks firsts inside stack s ps order w some top known read ∙ c.if-not-known.false in
+    let begun : (progress_of ps s).begun ≡ true = is_known N count ranks firsts inside stack s ps order w some top known read ∙ not-false known.begun c.if-not-known.false in
     let none : (t : ℕ) → N s t → is_awaited ranks ps s t ≡ false = none-awaited N ps needs c.loop-top.invariant.known ranks s begun (subst (λ (l : List Progress). WaitsForNone needs ranks l s) c.deref-in-Some-2.ensures.value (c.in_ok-awaited.ensures.none c.if-awaited.false)) in
     let e = c.first_left-left.result in
     let skipped : (t : ℕ) → known.next ≤ t → t < e → IsOut ps t = subst (λ (l : List Progress). (t : ℕ) → known.next ≤ t → t < e → IsOut l t) c.deref-in-Some-3.ensures.value c.first_left-left.ensures.out in
