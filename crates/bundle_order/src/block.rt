@@ -1,6 +1,6 @@
 //! The order of the items of one block, told by their places.
 
-ghost use Rattle.std.specs.Prelude.{◌≡◌, ℕ, IfOk, List, length, map};
+ghost use Rattle.std.specs.Prelude.{◌≡◌, IfOk, List, length, map};
 ghost use Rattle.std.specs.List.{flat_map};
 ghost use Rattle.bundle_tree_ast.specs.declared.module.ModuleItem.{ModuleItem};
 ghost use Rattle.bundle_tree_piece.specs.Item.{Item, item_of};

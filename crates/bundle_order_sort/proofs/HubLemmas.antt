@@ -1,5 +1,5 @@
 -- The edges from items to the lists on which they depend, and from there to items, rank items as their dependencies do.
-use Rattle.std.proofs.Common.{◌≡◌, ◌≢◌, Bool, true, ℕ, ◌+◌, ◌<◌, ◌≤◌, ◌⊎◌, ◌↔◌, Some, None, Option, List, [], ◌∷◌, ◌++◌, length, get_or, map, take, slice_get, Contains, refl, sym, ap, ◌∙◌, subst, inl, inr, arith}
+use Rattle.std.proofs.Common.{◌≡◌, ◌≢◌, ℕ, ◌+◌, ◌<◌, ◌≤◌, ◌↔◌, Some, List, [], length, get_or, map, take, slice_get, Contains, refl, sym, ap, ◌∙◌, subst, inl, inr, arith}
 use Rattle.std.specs.List.{filter}
 use Rattle.std.proofs.lemmas.Bool.{cases_eq, lt-ltb, ltb-true}
 use Rattle.std.proofs.lemmas.Option.{same_Some, slice_get_within}
@@ -8,7 +8,7 @@ use Rattle.bundle_order_graph.specs.Walks.{Reaches, itself, along, Path}
 use Rattle.bundle_order_graph.proofs.WalkLemmas.{Path-trans}
 use Rattle.bundle_order_sort.specs.declared.Reference.{Reference}
 use Rattle.bundle_order_sort.specs.declared.SharedItem.{SharedItem}
-use Rattle.bundle_order_sort.specs.Classes.{Leads, AreRanks, AreWithin}
+use Rattle.bundle_order_sort.specs.Classes.{Leads, AreRanks}
 use Rattle.bundle_order_sort.specs.Items.{Refers, Depends, IsEdge, to_list, to_item, is_within, number_behind, refers_within}
 use Rattle.bundle_order_sort.proofs.ElementLemmas.{Contains-map_filter, Contains-filter}
 use Rattle.bundle_order_sort.proofs.RowLemmas.{Leads-within}

@@ -1,11 +1,11 @@
 -- The needs of an item are known once it is begun.
-use Rattle.std.proofs.Common.{◌≡◌, Bool, true, false, not, ◌&&◌, ◌||◌, nat_lt, ℕ, ◌+◌, ◌<◌, ◌≤◌, ◌⊎◌, ◌↔◌, List, [], length, get_or, set, Contains, refl, sym, ap, ◌∙◌, subst, inl, inr, arith}
+use Rattle.std.proofs.Common.{◌≡◌, true, false, not, ◌&&◌, ◌||◌, nat_lt, ℕ, ◌<◌, ◌⊎◌, ◌↔◌, List, [], length, get_or, set, Contains, sym, ap, ◌∙◌, subst, inl, inr, arith}
 use Rattle.std.proofs.lemmas.Bool.{cases_eq, cases_Bool, false≢true}
 use Rattle.std.proofs.lemmas.List.{get_or-set_same, get_or-set_other, length-set}
 use Rattle.bundle_order_graph.proofs.WalkLemmas.{Path-mono}
 use Rattle.bundle_order_sort.specs.declared.SharedItem.{SharedItem}
 use Rattle.bundle_order_sort.specs.declared.stack.Progress.{Progress}
-use Rattle.bundle_order_sort.specs.Chains.{Falls, WaitsForNone, AreChains}
+use Rattle.bundle_order_sort.specs.Chains.{WaitsForNone, AreChains}
 use Rattle.bundle_order_sort.specs.Items.{NeedsByRank}
 use Rattle.bundle_order_sort.specs.Left.{KeepsLeft}
 use Rattle.bundle_order_sort.specs.Numbers.{Needs, IsOut, is_awaited, progress_of}

@@ -1,5 +1,5 @@
 -- The promise over numbers alone: which item needs which, a rank for each item, and the first item of each item's module.
-use Rattle.std.specs.Prelude.{◌≡◌, ℕ, ◌<◌, ◌≤◌, ◌&&◌, ◌||◌, ◌↔◌, Bool, true, false, not, nat_eq, nat_lt, List, [], length, slice_get, slice_index, slice_index_or, Some, Contains}
+use Rattle.std.specs.Prelude.{◌≡◌, ℕ, ◌<◌, ◌≤◌, ◌&&◌, ◌||◌, ◌↔◌, Bool, true, false, not, nat_eq, nat_lt, List, [], slice_get, slice_index, slice_index_or, Some, Contains}
 use Rattle.std.specs.List.{IsDistinct}
 use Rattle.bundle_order_graph.specs.Walks.{Path}
 use Rattle.bundle_order_sort.specs.declared.stack.Progress.{Progress}

@@ -1,6 +1,6 @@
 //! What the items need, by the lists that they share.
 
-ghost use Rattle.std.specs.Prelude.{◌≡◌, ℕ, ◌+◌, ◌<◌, ◌≤◌, ◌↔◌, nat_lt, IsTrue, IfOk, IfSome, Contains, map, length};
+ghost use Rattle.std.specs.Prelude.{◌≡◌, ℕ, ◌+◌, ◌<◌, ◌↔◌, IsTrue, IfOk, IfSome, Contains, map, length};
 ghost use Rattle.std.specs.List.{filter};
 ghost use Rattle.bundle_order_sort.specs.Classes.{Leads};
 ghost use Rattle.bundle_order_sort.specs.Items.{AreSoles, Follows, IsEarlier, IsEdge, IsNeeded, IsOf, IsOwn, ShareModule, is_within, number_behind, refers_within};

@@ -14,7 +14,7 @@
 //! Nothing below an entry is looked at before its item is out. So only the topmost entry of an item
 //! counts, and where the stack grows long the others are taken away.
 
-ghost use Rattle.std.specs.Prelude.{◌≡◌, ℕ, ◌+◌, ◌-◌, ◌<◌, ◌≤◌, ◌++◌, ◌↔◌, ◌⊎◌, nat_eq, IsTrue, true, false, IfOk, OnOk, IfSome, IfNone, Contains, map, length, reverse, slice_index, slice_index_or};
+ghost use Rattle.std.specs.Prelude.{◌≡◌, ℕ, ◌+◌, ◌-◌, ◌<◌, ◌≤◌, ◌++◌, ◌↔◌, ◌⊎◌, IsTrue, true, false, IfOk, OnOk, IfSome, IfNone, Contains, map, length, reverse, slice_index};
 ghost use Rattle.std.specs.List.{filter};
 ghost use Rattle.std.specs.List.Sorted.{IsStrictlyIncreasing};
 ghost use Rattle.bundle_order_sort.specs.Items.{AddsNeeds, AreSoles, IsNeeded, NeedsByRank};

@@ -1,5 +1,5 @@
-use Rattle.std.proofs.Common.{◌≡◌, ℕ, ◌+◌, ◌<◌, ◌≤◌, ◌↔◌, List, Option, IfOk, map, length, take, sym, ap, ◌∙◌, subst, arith}
-use Rattle.std.proofs.lemmas.List.{length-map, length-take}
+use Rattle.std.proofs.Common.{◌≡◌, ℕ, ◌≤◌, ◌↔◌, List, Option, IfOk, map, length, take, sym, ap, ◌∙◌, subst, arith}
+use Rattle.std.proofs.lemmas.List.{length-map, length-take-le}
 use Rattle.std.proofs.lemmas.Result.{IfOk-weaker}
 use Rattle.bundle_order_sort.specs.Classes.{Leads, AreRanks, AreWithin}
 use Rattle.bundle_order_sort.specs.Items.{AreSoles, IsEdge, IsGoodOrder, NeedsByRank}
@@ -15,6 +15,22 @@ ranks_of-requires c =
     let within : AreWithin (map (λ v. v.items) edges) = λ s t l. omega (arith, IsEdge-to c.args.items.now lists s t ((c.in_ok-edges.ensures.each s t).0 l), c.in_ok-edges.ensures.len, length-map edges (λ v. v.items), length-map c.deref.result.now (λ v. v.items)) in
     record { within = subst (λ l. AreWithin (map (λ v. v.items) l)) (sym c.deref-2.ensures.value) within }
 
+pub sort_numbers-requires-clause-ranks_len : goal.sort_numbers-requires-clause-ranks_len
+sort_numbers-requires-clause-ranks_len c =
+    let items = c.args.items.now in
+    let edges = c.in_ok-edges.edges.items in
+    let all = c.in_ok-ranks.ranks.items in
+    let ranked : AreRanks (map (λ v. v.items) edges) all = subst (λ l. AreRanks (map (λ v. v.items) l) all) c.deref-2.ensures.value c.in_ok-ranks.ensures in
+    let long : length items ≤ length all = omega (arith, ranked.len, length-map edges (λ v. v.items), c.in_ok-edges.ensures.len) in
+    ap length c.deref-5.ensures.value ∙ (ap length c.truncate.ensures.items ∙ length-take-le (length items) all long)
+
+pub sort_numbers-requires-clause-soles : goal.sort_numbers-requires-clause-soles
+sort_numbers-requires-clause-soles c =
+    let items = c.args.items.now in
+    let soles = c.in_ok-soles.soles.items in
+    let here = subst (λ l. AreSoles items (map (λ v. v.items) l) soles) (c.deref-3.ensures.value ∙ sym c.deref_mut.ensures.value) c.in_ok-soles.ensures in
+    subst (λ (l : List (Option ℕ)). AreSoles items (map (λ v. v.items) c.deref_mut.result.now) l) (sym c.deref-4.ensures.value) here
+
 pub returns : goal.returns
 returns c =
     let items = c.args.items.now in
@@ -27,5 +43,5 @@ returns c =
     let ranked : AreRanks edges all = subst (λ l. AreRanks (map (λ v. v.items) l) all) c.deref-2.ensures.value c.in_ok-ranks.ensures in
     let own : ranks ≡ take (length items) all = c.truncate.ensures.items in
     let good : (order : List ℕ) → numbers.IsInOrder (NeedsByRank items lists ranks) (length items) ranks firsts order → IsGoodOrder items lists order = IsGoodOrder-from_numbers items lists ranks (falls items lists edges each all ranked ranks own) (back items lists edges each all ranked ranks own) firsts c.in_ok-firsts.ensures.each in
-    let given : IfOk c.sort_numbers.result (λ order. numbers.IsInOrder (NeedsByRank items lists ranks) (length items) ranks firsts order.items) = c.sort_numbers.ensures in
+    let given : IfOk c.sort_numbers.result (λ order. numbers.IsInOrder (NeedsByRank items lists ranks) (length items) ranks firsts order.items) = subst (λ (f : List ℕ). IfOk c.sort_numbers.result (λ order. numbers.IsInOrder (NeedsByRank items lists ranks) (length items) ranks f order.items)) c.deref-6.ensures.value (subst (λ (r : List ℕ). IfOk c.sort_numbers.result (λ order. numbers.IsInOrder (NeedsByRank items lists r) (length items) r c.deref-6.result.now order.items)) c.deref-5.ensures.value (subst (λ l. IfOk c.sort_numbers.result (λ order. numbers.IsInOrder (NeedsByRank items (map (λ v. v.items) l) c.deref-5.result.now) (length items) c.deref-5.result.now c.deref-6.result.now order.items)) c.deref_mut.ensures.value c.sort_numbers.ensures)) in
     IfOk-weaker c.sort_numbers.result (λ order. numbers.IsInOrder (NeedsByRank items lists ranks) (length items) ranks firsts order.items) (λ order. IsGoodOrder items lists order.items) (λ order g. good order.items g) given

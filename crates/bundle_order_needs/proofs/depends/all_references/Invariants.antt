@@ -1,4 +1,4 @@
-use Rattle.std.proofs.Common.{◌≡◌, ℕ, ◌<◌, map, length}
+use Rattle.std.proofs.Common.{◌≡◌, map, length}
 use Rattle.bundle_order_needs.specs.Found.{AreReferred}
 use Rattle.bundle_order_needs.proofs.depends.all_references.Given as goal
 

@@ -1,4 +1,4 @@
-use Rattle.std.proofs.Common.{◌≡◌, ℕ, ◌↔◌, false, List, All, Contains, map, sym, ◌∙◌, subst}
+use Rattle.std.proofs.Common.{◌≡◌, ℕ, ◌↔◌, false, List, All, Contains, ◌∙◌, subst}
 use Rattle.bundle_order_sort.specs.declared.Reference.{Reference}
 use Rattle.bundle_order_needs.proofs.DependLemmas.{IsReferred-made}
 use Rattle.bundle_order_needs.proofs.depends.references_of.Goals as goal

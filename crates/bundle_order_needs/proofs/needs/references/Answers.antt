@@ -1,13 +1,13 @@
 use Rattle.std.proofs.Common.{◌≡◌, ◌<◌, All, List, length, map, refl, sym, ap, ◌∙◌, subst, arith}
 use Rattle.std.proofs.lemmas.List.{length-map}
-use Rattle.bundle_tree_piece.specs.Item.{Item, item_of}
+use Rattle.bundle_tree_piece.specs.Item.{item_of}
 use Rattle.bundle_rules.specs.Scopes.{Top}
 use Rattle.bundle_rules.specs.Declarations.{ByContext}
 use Rattle.bundle_rules.specs.Order.{group_of}
 use Rattle.bundle_order_sort.specs.declared.Reference.{Reference}
 use Rattle.bundle_order_needs.specs.Found.{AreReferences}
 use Rattle.bundle_order_needs.specs.declared.seen.Seen.{Seen}
-use Rattle.bundle_order_needs.specs.Cut.{cut_item, cut_items, references_of}
+use Rattle.bundle_order_needs.specs.Cut.{cut_item, cut_items}
 use Rattle.bundle_order_needs.specs.Numbered.{numbered_row, numbered_group}
 use Rattle.bundle_order_needs.specs.Owners.{module_of}
 use Rattle.bundle_order_needs.specs.Told.{told_at}

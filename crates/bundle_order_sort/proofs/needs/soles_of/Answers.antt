@@ -1,4 +1,4 @@
-use Rattle.std.proofs.Common.{◌≡◌, ℕ, ◌+◌, List, [], Option, IfSome, Contains, map, length, get_or, sym, ap, ◌∙◌, subst, arith}
+use Rattle.std.proofs.Common.{◌≡◌, ℕ, ◌+◌, List, [], IfSome, Contains, map, length, get_or, sym, ap, ◌∙◌, subst, arith}
 use Rattle.std.proofs.lemmas.List.{length-map, length_push, get_or-map}
 use Rattle.bundle_order_sort.specs.Classes.{Leads}
 use Rattle.bundle_order_sort.specs.Items.{IsOf}

@@ -1,4 +1,4 @@
-use Rattle.std.proofs.Common.{◌≡◌, ℕ, ◌+◌, List, length, ap, ◌∙◌, arith}
+use Rattle.std.proofs.Common.{◌+◌, length, ap, ◌∙◌}
 use Rattle.std.proofs.lemmas.List.{length_push}
 use Rattle.bundle_order_sort.proofs.RowLemmas.{none-push}
 use Rattle.bundle_order_sort.proofs.stack.empty_lists.Goals as goal

@@ -1,4 +1,4 @@
-use Rattle.std.proofs.Common.{◌≡◌, ℕ, ◌↔◌, map, length, take, get_or, Contains}
+use Rattle.std.proofs.Common.{◌≡◌, ℕ, ◌↔◌, map, length, take, Contains}
 use Rattle.bundle_order_sort.specs.Left.{KeepsLeft}
 use Rattle.bundle_order_sort.proofs.LeftLemmas.{IsLeftOf}
 use Rattle.bundle_order_sort.proofs.stack.needs_left.Given as goal
