@@ -1,7 +1,7 @@
 -- What is made of modules that are handed in to be linked.
 use Rattle.std.specs.Prelude.{◌≡◌, ℕ, suc, ◌==◌, ◌&&◌, ◌||◌, not, Bool, List, [], ◌∷◌, Option, Some, None, filter_map, nat_eq, slice_get, if◌then◌else◌}
 use Rattle.std.specs.List.{flat_map, list_any}
-use Rattle.indexmap.specs.IndexMap.{get_by_text}
+use Rattle.std.specs.BTreeMap.{get_by_text}
 use Rattle.indexmap.specs.IndexSet.{IndexSet, contains}
 use Rattle.bundle_rules.specs.Nodes.{Text}
 use Rattle.bundle_link_tables.specs.declared.table.RequireCall.{RequireCall}

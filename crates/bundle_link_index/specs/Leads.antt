@@ -1,6 +1,6 @@
 -- Where specifiers lead, by the modules that are to be linked.
 use Rattle.std.specs.Prelude.{ℕ, Bool, false, List, Option, Some, None, bytes_eq, slice_get, unwrap_or, if◌then◌else◌}
-use Rattle.indexmap.specs.IndexMap.{get_by_text}
+use Rattle.std.specs.BTreeMap.{get_by_text}
 use Rattle.indexmap.specs.IndexSet.{contains_by}
 use Rattle.bundle_rules.specs.Nodes.{Text}
 use Rattle.bundle_link_index.specs.Said.{Lead, Outside, ToModule, ToCommonJs, Nowhere}

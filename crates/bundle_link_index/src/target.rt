@@ -1,7 +1,7 @@
 //! What names stand for, and modules to link. Modules are named by their numbers.
 
 use bundle_link_tables::{Tables, Taken};
-use indexmap::IndexMap;
+use std::collections::BTreeMap;
 
 /// What a name can stand for.
 #[derive(Clone, Copy, PartialEq, Eq, Hash, PartialOrd, Ord)]
@@ -32,7 +32,7 @@ pub enum Target<'a> {
 #[derive(Clone, Copy)]
 pub struct LinkModule<'t, 'a> {
     pub tables: &'t Tables<'a>,
-    pub leads: &'t IndexMap<String, usize>,
+    pub leads: &'t BTreeMap<String, usize>,
 }
 
 /// How a bundle is linked: whether literal calls of `require` are, and whether it is one function's call.

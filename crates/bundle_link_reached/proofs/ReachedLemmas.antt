@@ -10,7 +10,7 @@ use Rattle.std.proofs.lemmas.List.{length-map}
 use Rattle.std.proofs.lemmas.Option.{none-some, same_Some, slice_get-get_or, slice_get-map, slice_get_within, get_or_from_slice_get}
 use Rattle.std.proofs.lemmas.Slice.Eq.{bytes_eq-Decides}
 use Rattle.std.proofs.lemmas.Slice.Zip.{AllZip-long}
-use Rattle.indexmap.specs.IndexMap.{IndexMap, get_by_text}
+use Rattle.std.specs.BTreeMap.{BTreeMap, get_by_text}
 use Rattle.bundle_order_graph.specs.Modules.{Modules, Requests as Notes, deps as noted}
 use Rattle.bundle_order_graph.specs.Order.{Lists, IsOrder}
 use Rattle.bundle_order_graph.specs.Walks.{Reaches, itself, along}
@@ -175,20 +175,20 @@ module _ (p : Program) (files : Files) (w : AreNotedOf p files) where
         longer [] x = refl
         longer (y ∷ xs) x = ap suc (longer xs x)
 
-    module _ {S : Type 0} (found : List ℕ) (leads : List (IndexMap (String Global) ℕ S)) (their : List ℕ) (found_are : found ≡ filter_map (place_in ids) list) (their_are : their ≡ numbers_once list) (all : AllZip (LeadsBy files.deps.now their) found leads) where
+    module _ (found : List ℕ) (leads : List (BTreeMap (String Global) ℕ)) (their : List ℕ) (found_are : found ≡ filter_map (place_in ids) list) (their_are : their ≡ numbers_once list) (all : AllZip (LeadsBy files.deps.now their) found leads) where
       they_are : their ≡ list
       they_are = their_are ∙ once-same list once
 
       pub long : length leads ≡ length list
       long = AllZip-long (LeadsBy files.deps.now their) found leads all ∙ sym (length-map found (slice_get ids)) ∙ ap length (places found found_are) ∙ length-map list (λ m. Some m)
 
-      pub within : (i d : ℕ) (its : IndexMap (String Global) ℕ S) (s : Text) → slice_get leads i ≡ Some its → get_by_text its s ≡ Some d → d < length list
+      pub within : (i d : ℕ) (its : BTreeMap (String Global) ℕ) (s : Text) → slice_get leads i ≡ Some its → get_by_text its s ≡ Some d → d < length list
       within i d its s at is =
           let z = zip_right (LeadsBy files.deps.now their) found leads all i its at in
           let n = told_back (place_in their) (deps_at (slice_get files.deps.now z.0)) s d (sym (z.2 s) ∙ is) in
           subst (λ (l : List ℕ). d < length l) they_are (slice_get_within their d n.0 (at-place their n.0 d n.1))
 
-      pub leads_on : (i m : ℕ) (its : IndexMap (String Global) ℕ S) (s : Text) → slice_get list i ≡ Some m → slice_get leads i ≡ Some its → Contains (requests_in p.settings (tree_of p m)) s → get_by_text its s ≡ option_and_then (place_in list) (p.leads m s)
+      pub leads_on : (i m : ℕ) (its : BTreeMap (String Global) ℕ) (s : Text) → slice_get list i ≡ Some m → slice_get leads i ≡ Some its → Contains (requests_in p.settings (tree_of p m)) s → get_by_text its s ≡ option_and_then (place_in list) (p.leads m s)
       leads_on i m its s at_list at_leads asked =
           let z = zip_right (LeadsBy files.deps.now their) found leads all i its at_leads in
           let listed = held list m i at_list in

@@ -3,17 +3,17 @@ use Rattle.std.specs.Prelude.{◌≡◌, ℕ, ◌<◌, List, [], Option, Some, S
 use Rattle.std.specs.Borrow.{Bor}
 use Rattle.std.specs.Option.{option_and_then}
 use Rattle.std.specs.declared.alloc.Global.{Global}
-use Rattle.indexmap.specs.IndexMap.{IndexMap, get_by_text}
+use Rattle.std.specs.BTreeMap.{BTreeMap, get_by_text}
 use Rattle.bundle_order_graph.specs.Modules.{Modules, deps}
 use Rattle.bundle_rules.specs.Nodes.{Text, numbers_once}
 use Rattle.bundle_link_index.specs.declared.target.LinkModule.{LinkModule}
 
 -- the module to which a text leads by places among these numbers
-abbrev pub asked_for : {S : Type 0} → List ℕ → IndexMap (String Global) ℕ S → Text → Option ℕ
+abbrev pub asked_for : List ℕ → BTreeMap (String Global) ℕ → Text → Option ℕ
 asked_for ids leads s = option_and_then (slice_get ids) (get_by_text leads s)
 
 -- the modules to which these texts lead, in their order
-abbrev pub asked : {S : Type 0} → List ℕ → IndexMap (String Global) ℕ S → List (Bor Text) → List ℕ
+abbrev pub asked : List ℕ → BTreeMap (String Global) ℕ → List (Bor Text) → List ℕ
 asked ids leads texts = filter_map (λ text. asked_for ids leads text.now) texts
 
 -- of the first n modules just the requests are noted that lead to these numbers

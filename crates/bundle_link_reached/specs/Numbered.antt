@@ -1,7 +1,7 @@
 -- When modules that are handed in by their numbers are those of a program.
 use Rattle.std.specs.Prelude.{◌≡◌, ℕ, Bool, List, [], Some, String, Contains, map, slice_get}
 use Rattle.std.specs.declared.alloc.Global.{Global}
-use Rattle.indexmap.specs.IndexMap.{IndexMap, get_by_text}
+use Rattle.std.specs.BTreeMap.{BTreeMap, get_by_text}
 use Rattle.bundle_rules.specs.Nodes.{Text}
 use Rattle.bundle_rules.specs.Bound.{is_free}
 use Rattle.bundle_rules.specs.Entries.{requests_of}
@@ -17,7 +17,7 @@ abbrev pub numbers : List NumberedModule → List ℕ
 numbers modules = map (λ its. its.id) modules
 
 -- at these places the texts of a module lead to the modules of these numbers
-abbrev pub IsPlacedBy : {S : Type 0} → List ℕ → NumberedModule → IndexMap (String Global) ℕ S → Type 0
+abbrev pub IsPlacedBy : List ℕ → NumberedModule → BTreeMap (String Global) ℕ → Type 0
 IsPlacedBy ids its leads = (s : Text) → get_by_text leads s ≡ told (place_in ids) its.deps.now s
 
 -- the table of a module is that of its tree, its requests too, and its texts lead where they lead in the program

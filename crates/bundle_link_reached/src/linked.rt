@@ -21,8 +21,9 @@ use crate::module::{NumberedModule, ids_of, leads_of_all};
 use bundle_link_targets::{Fault, LinkModule, Linking, Resolution, Setting};
 use bundle_order_graph::graph::{ModuleGraph, order};
 use bundle_tree_names::ModuleId;
-use indexmap::{IndexMap, IndexSet};
+use indexmap::IndexSet;
 use std::alloc::{AllocError, Global};
+use std::collections::BTreeMap;
 
 /// The modules of the bundle of an entry, linked.
 #[derive(Drop)]
@@ -158,7 +159,7 @@ fn add_requests(
     ids: &IndexSet<ModuleId>,
     id: ModuleId,
     requests: &[&str],
-    leads: &IndexMap<String, usize>,
+    leads: &BTreeMap<String, usize>,
 ) -> Result<(), AllocError>
     ensures own { OnOk result (deps graph.old id ≡ [] →
         deps graph.new id ≡ numbers_once (asked ids.now.keys leads.now requests.now)) }
@@ -177,7 +178,7 @@ fn add_requests(
 fn requested_by(
     ids: &IndexSet<ModuleId>,
     request: &str,
-    leads: &IndexMap<String, usize>,
+    leads: &BTreeMap<String, usize>,
 ) -> Option<ModuleId>
     ensures { result ≡ asked_for ids.now.keys leads.now request.now }
 {
@@ -188,7 +189,7 @@ fn requested_by(
 fn link_modules<'l, 't: 'l, 'a>(
     alloc: Global,
     modules: &'l [NumberedModule<'t, 'a>],
-    leads: &'l [IndexMap<String, usize>],
+    leads: &'l [BTreeMap<String, usize>],
 ) -> Result<Vec<LinkModule<'l, 'a>>, AllocError>
     ensures tables { length leads.now ≡ length modules.now → IfOk result (λ linked.
         map (λ it. it.tables.now) linked.items ≡ map (λ its. its.tables.now) modules.now) }

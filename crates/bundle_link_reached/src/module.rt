@@ -2,15 +2,16 @@
 
 ghost use Rattle.std.specs.Prelude.{◌≡◌, IfOk, map};
 ghost use Rattle.std.specs.List.{AllZip};
-ghost use Rattle.indexmap.specs.IndexMap.{get_by_text};
+ghost use Rattle.std.specs.BTreeMap.{get_by_text};
 ghost use Rattle.bundle_rules.specs.Nodes.{Text, numbers_once};
 ghost use Rattle.bundle_link_reached.specs.Leads.{place_in, told};
 ghost use Rattle.bundle_link_reached.specs.Numbered.{IsPlacedBy, numbers};
 
 use bundle_link_tables::Tables;
 use bundle_tree_names::ModuleId;
-use indexmap::{IndexMap, IndexSet};
+use indexmap::IndexSet;
 use std::alloc::{AllocError, Global};
+use std::collections::BTreeMap;
 
 /// A module that is to be linked: its number, its tables, and the number of the module to which each of its requests
 /// leads.
@@ -26,11 +27,11 @@ pub fn leads_of(
     alloc: Global,
     deps: &[(String, ModuleId)],
     ids: &IndexSet<ModuleId>,
-) -> Result<IndexMap<String, usize>, AllocError>
+) -> Result<BTreeMap<String, usize>, AllocError>
     ensures { IfOk result (λ leads. (s : Text) →
         get_by_text leads s ≡ told (place_in ids.now.keys) deps.now s) }
 {
-    let mut leads = IndexMap::new(alloc);
+    let mut leads = BTreeMap::new(alloc);
     for (specifier, id) in deps {
         if let Some(place) = ids.get_index_of(id) {
             leads.insert(specifier.clone()?, place)?;
@@ -58,7 +59,7 @@ pub(crate) fn leads_of_all<'t, 'a>(
     alloc: Global,
     modules: &[NumberedModule<'t, 'a>],
     ids: &IndexSet<ModuleId>,
-) -> Result<Vec<IndexMap<String, usize>>, AllocError>
+) -> Result<Vec<BTreeMap<String, usize>>, AllocError>
     ensures { IfOk result (λ leads. AllZip (IsPlacedBy ids.now.keys) modules.now leads.items) }
 {
     let mut leads = Vec::new(alloc);

@@ -2,7 +2,7 @@
 
 ghost use Rattle.std.specs.Prelude.{◌≡◌, Contains, IfOk, slice_get, option_map, unwrap_or, []};
 ghost use Rattle.std.specs.List.{AllZip};
-ghost use Rattle.indexmap.specs.IndexMap.{get_by_text};
+ghost use Rattle.std.specs.BTreeMap.{get_by_text};
 ghost use Rattle.bundle_rules.specs.Nodes.{Text, numbers_once};
 ghost use Rattle.bundle_rules.specs.Program.{Program};
 ghost use Rattle.bundle_link_reached.specs.Leads.{place_in, told};
@@ -14,8 +14,9 @@ use crate::linked::places_of;
 use crate::module::leads_of;
 use bundle_order_graph::graph::order;
 use bundle_tree_names::ModuleId;
-use indexmap::{IndexMap, IndexSet};
+use indexmap::IndexSet;
 use std::alloc::{AllocError, Global};
+use std::collections::BTreeMap;
 
 /// The modules that an entry reaches, in post-order of their requests, the entry last: their numbers, their places among
 /// the files, and the places in this list to which the requests of each lead.
@@ -23,7 +24,7 @@ use std::alloc::{AllocError, Global};
 pub struct Reached {
     pub list: Vec<ModuleId>,
     pub places: Vec<usize>,
-    pub leads: Vec<IndexMap<String, usize>>,
+    pub leads: Vec<BTreeMap<String, usize>>,
 }
 
 /// The modules that an entry reaches.
@@ -63,7 +64,7 @@ fn leads_at(
     files: &Files,
     places: &[usize],
     ids: &IndexSet<ModuleId>,
-) -> Result<Vec<IndexMap<String, usize>>, AllocError>
+) -> Result<Vec<BTreeMap<String, usize>>, AllocError>
     ensures { IfOk result (λ leads.
         AllZip (LeadsBy files.now.deps.now ids.now.keys) places.now leads.items) }
 {
@@ -80,11 +81,11 @@ fn leads_from(
     files: &Files,
     place: usize,
     ids: &IndexSet<ModuleId>,
-) -> Result<IndexMap<String, usize>, AllocError>
+) -> Result<BTreeMap<String, usize>, AllocError>
     ensures { IfOk result (LeadsBy files.now.deps.now ids.now.keys place) }
 {
     match files.deps.get(place) {
         Some(deps) => leads_of(alloc, deps, ids),
-        None => Ok(IndexMap::new(alloc)),
+        None => Ok(BTreeMap::new(alloc)),
     }
 }

@@ -4,7 +4,7 @@ use Rattle.std.proofs.Common.{◌≡◌, ◌↔◌, ℕ, zero, suc, ◌-◌, ◌
 use Rattle.std.specs.Prelude.{option_map, slice_get, unwrap_or}
 use Rattle.std.specs.Option.{option_and_then}
 use Rattle.std.proofs.lemmas.Option.{none-some, same_Some, slice_get_within}
-use Rattle.indexmap.specs.IndexMap.{get_by_text}
+use Rattle.std.specs.BTreeMap.{get_by_text}
 use Rattle.bundle_tree_names.specs.FileName.{Name as FileName}
 use Rattle.bundle_tree_piece.specs.Item.{Item, item_of}
 use Rattle.bundle_order_sort.proofs.OnceLemmas.{IsOnce as IsOnceBehind}

@@ -30,8 +30,9 @@ use bundle_tree_names::{Error, ModuleId};
 use bundle_tree_piece::{Node, Piece, Role};
 use bundle_tree_places::Name;
 use bundle_tree_places::nodes::has_import_meta;
-use indexmap::{IndexMap, IndexSet};
+use indexmap::IndexSet;
 use std::alloc::{AllocError, Global};
+use std::collections::BTreeMap;
 
 /// A module as it was read: its own items, what they say, where its requests lead, and the context of the names of its
 /// top.
@@ -41,7 +42,7 @@ pub(crate) struct Read<'x> {
     /// What the names in the list denote by their symbols, where the module is read as what it is in the bundle.
     names: Denotations<'x>,
     tables: Tables<'x>,
-    leads: IndexMap<String, usize>,
+    leads: BTreeMap<String, usize>,
     local: u32,
 }
 

@@ -5,7 +5,7 @@ use Rattle.std.specs.List.{AllZip}
 use Rattle.std.proofs.lemmas.Bool.{false≢true}
 use Rattle.std.proofs.lemmas.Option.{none-some, same_Some, slice_get-map}
 use Rattle.std.proofs.lemmas.Slice.Zip.{all_zipped_more}
-use Rattle.indexmap.specs.IndexMap.{get_by_text}
+use Rattle.std.specs.BTreeMap.{get_by_text}
 use Rattle.bundle_tree_piece.specs.Item.{Item, item_of}
 use Rattle.bundle_rules.specs.Entries as e
 use Rattle.bundle_rules.specs.Idents.{Ident}

@@ -1,7 +1,7 @@
 -- When what a bundle is made of is that of a program, and its names are right.
 use Rattle.std.specs.Prelude.{◌≡◌, ◌≢◌, ℕ, zero, suc, ◌<◌, ◌↔◌, List, [], ◌∷◌, Option, Some, None, Contains, drop, is_some, length, map, option_map, slice_get, take, unwrap_or, codes, if◌then◌else◌}
 use Rattle.std.specs.List.{flat_map}
-use Rattle.indexmap.specs.IndexMap.{get_by_text}
+use Rattle.std.specs.BTreeMap.{get_by_text}
 use Rattle.bundle_order_sort.specs.declared.plan.Block.{Block}
 use Rattle.bundle_tree_leaf.specs.declared.kind.ExportMetadata.{ExportMetadata}
 use Rattle.bundle_tree_places.specs.Marks.{ident_of}

@@ -2,7 +2,7 @@
 //! the static reads or the literal call of `require` around it, and `import.meta` gets one too.
 
 ghost use Rattle.std.specs.Prelude.{◌≡◌, ◌==◌, ℕ, suc, List, Some, None, IfOk, map, option_map, slice_get, if◌then◌else◌};
-ghost use Rattle.indexmap.specs.IndexMap.{get_by_text};
+ghost use Rattle.std.specs.BTreeMap.{get_by_text};
 ghost use Rattle.bundle_tree_piece.specs.Item.{item_of};
 ghost use Rattle.bundle_tree_places.specs.Marks.{ident_of};
 ghost use Rattle.bundle_tree_rebuild.specs.declared.rewrite.Whole.TheVariants as wholes;

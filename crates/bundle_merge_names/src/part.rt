@@ -13,7 +13,7 @@ use bundle_scope_denote::Denotations;
 use bundle_tree_ast::{KeyValueProp, ModuleItem};
 use bundle_tree_piece::Piece;
 use bundle_tree_places::Name;
-use indexmap::IndexMap;
+use std::collections::BTreeMap;
 
 /// A module of a bundle, as it was read. The modules of a bundle are numbered by their places in its list, the entry
 /// last.
@@ -26,7 +26,7 @@ pub struct Part<'t, 'a> {
     pub denotations: &'t Denotations<'a>,
     pub tables: &'t Tables<'a>,
     /// The modules to which its requests lead, by their texts.
-    pub leads: &'t IndexMap<String, usize>,
+    pub leads: &'t BTreeMap<String, usize>,
     /// The context of the names of its top.
     pub local: u32,
     /// The name that the first of its items declares, where that is a statement which holds its `import.meta` already

@@ -81,5 +81,15 @@ pub(crate) fn is_keyword(sym: &str) -> bool
 fn is_one_of(words: &[&str], text: &str) -> bool
     ensures { result ≡ list_any (λ word. bytes_eq text.now word.now) words.now }
 {
-    words.iter().any(|word| text == *word)
+    words.iter().any(|word| is_word(text, word))
+}
+
+// Whether a text is this word. That it is of another length is told without a look at it.
+fn is_word(text: &str, word: &str) -> bool
+    ensures { result ≡ bytes_eq text.now word.now }
+{
+    if text.len() != word.len() {
+        return false;
+    }
+    text == word
 }

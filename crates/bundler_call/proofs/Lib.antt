@@ -1,7 +1,6 @@
 pub mod Finding
 pub mod Growing
 pub mod Listing
-pub mod Listing
 pub mod Loading
 pub mod Numbered
 pub mod Judging

@@ -74,7 +74,7 @@ module _ (p : Program) (entry : ℕ) (call : Call) (w : IsCallOf p entry call) (
       let same : its.0 ≡ place.0 = same_Some its.0 place.0 (sym its.1 ∙ place.1) in
       let files = call.program.now.files.files.now in
       same_Some file.1 m
-      (sym (slice_get-map number_of files.entries its.0 ∙ ap (option_map number_of) its.2)
+      (sym (slice_get-map number_of files its.0 ∙ ap (option_map number_of) its.2)
       ∙ ap (slice_get (numbers_of files)) same
       ∙ ap (λ (numbers : List ℕ). slice_get numbers place.0) (sym w.program.files.ids)
       ∙ place.2)

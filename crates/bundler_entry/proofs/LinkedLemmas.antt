@@ -6,7 +6,7 @@ use Rattle.std.specs.declared.alloc.Global.{Global}
 use Rattle.std.specs.declared.string.String.{String}
 use Rattle.std.proofs.lemmas.List.{length-map}
 use Rattle.std.proofs.lemmas.Option.{none-some, same_Some, slice_get-map, slice_get_within}
-use Rattle.indexmap.specs.IndexMap.{IndexMap, get_by_text}
+use Rattle.std.specs.BTreeMap.{BTreeMap, get_by_text}
 use Rattle.bundle_tree_piece.specs.Item.{Item, item_of}
 use Rattle.bundle_tree_piece.specs.declared.piece.Piece.{Piece}
 use Rattle.bundle_tree_names.specs.FileName.{name_of}
@@ -276,12 +276,12 @@ module _ (p : Program) (entry : ℕ) (call : Call) (w : IsCallOf p entry call) (
             (w.program.sources.each number.0 m.0 source number.2 its)
 
     -- texts lead as it is noted
-    leads_at : (k : ℕ) (its : IndexMap (String Global) ℕ _) (s : Text) →
+    leads_at : (k : ℕ) (its : BTreeMap (String Global) ℕ) (s : Text) →
         slice_get reached.leads.items k ≡ Some its → q.leads k s ≡ get_by_text its s
     leads_at k its s at =
         let part = there_is parts k (let within = slice_get_within reached.leads.items k its at in omega (arith, within, r.long, long_parts)) in
         let same = same_Some part.0.leads.now its (sym (are.each k part.0 part.1).leads ∙ at) in
-        ap (λ o. by_lead o s) part.1 ∙ ap (λ (l : IndexMap (String Global) ℕ _). get_by_text l s) same
+        ap (λ o. by_lead o s) part.1 ∙ ap (λ (l : BTreeMap (String Global) ℕ). get_by_text l s) same
 
     by_places : AreByPlaces p q call reached
     by_places = record {

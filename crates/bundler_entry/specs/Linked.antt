@@ -3,7 +3,7 @@ use Rattle.std.specs.Prelude.{◌≡◌, ℕ, ◌<◌, ◌≤◌, List, Option, 
 use Rattle.std.specs.Option.{option_and_then}
 use Rattle.std.specs.declared.alloc.Global.{Global}
 use Rattle.std.specs.declared.string.String.{String}
-use Rattle.indexmap.specs.IndexMap.{IndexMap, get_by_text}
+use Rattle.std.specs.BTreeMap.{BTreeMap, get_by_text}
 use Rattle.bundle_tree_names.specs.FileName.{name_of}
 use Rattle.bundle_tree_names.specs.declared.file_name.FileName.{FileName}
 use Rattle.bundle_rules.specs.Nodes.{Text}
@@ -64,7 +64,7 @@ pub record AreByPlaces (p q : Program) (call : Call) (reached : Reached) : Type 
   pub sources : (k : ℕ) (source : Source) →
       source_in call reached k ≡ Some source →
       IsSourceOf q k source
-  pub leads : (k : ℕ) (its : IndexMap (String Global) ℕ _) (s : Text) →
+  pub leads : (k : ℕ) (its : BTreeMap (String Global) ℕ) (s : Text) →
       slice_get reached.leads.items k ≡ Some its →
       q.leads k s ≡ get_by_text its s
 

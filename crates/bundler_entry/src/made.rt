@@ -30,8 +30,8 @@ use bundle_merge_items::{
 use bundle_scope_denote::{Denotations, ModuleKind, Reading, denotations};
 use bundle_tree_ast::Module;
 use bundle_tree_names::file_name::FileName;
-use indexmap::IndexMap;
 use std::alloc::{AllocError, Global};
+use std::collections::BTreeMap;
 
 // What the names of each CommonJS module denote, read as the body of a function.
 fn bodies_of<'p, 'x>(
@@ -175,7 +175,7 @@ fn part_of<'t, 'p: 't, 'x>(
     call: &Call<'p, 'x>,
     reached: &Reached,
     module: usize,
-    leads: &'t IndexMap<String, usize>,
+    leads: &'t BTreeMap<String, usize>,
     bodies: &'t [Option<Denotations<'x>>],
 ) -> Option<Part<'t, 'x>>
     ensures part { IfSome result (λ part.

@@ -46,7 +46,7 @@ module _ (p : Program) (files : Files) (w : AreNotedOf p files) where
       let at : slice_get (numbers_of files.files.now) k.0 ≡ Some m =
       ap (λ (l : List ℕ). slice_get l k.0) (sym w.ids) ∙ k.1 in
       let within = slice_get_within (numbers_of files.files.now) k.0 m at in
-      let long = length-map files.files.now.entries (λ e. e.1) in
+      let long = length-map files.files.now (λ e. e.1) in
       let its = there_is files.deps.now k.0 (omega (arith, within, long, w.files.long)) in (
         k.0,
         its.0,

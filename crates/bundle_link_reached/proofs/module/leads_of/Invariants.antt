@@ -1,5 +1,5 @@
 use Rattle.std.proofs.Common.{◌≡◌, take}
-use Rattle.indexmap.specs.IndexMap.{get_by_text}
+use Rattle.std.specs.BTreeMap.{get_by_text}
 use Rattle.bundle_rules.specs.Nodes.{Text}
 use Rattle.bundle_link_reached.specs.Leads.{place_in}
 use Rattle.bundle_link_reached.specs.Leads.{told}
