@@ -232,8 +232,7 @@ module _ (all strong wanted strong_ones : List ℕ) (found : List Reference) (sa
   pub IsReferred-made : IsReferred all strong found
   IsReferred-made = record {
     sound = λ b w c.
-        let flag = All-contains (λ (one : Reference). (one.is_weak ≡ false) ↔ Contains strong_ones one.list) found (record { list = b; is_weak = w }) flags c in
-        (
+        let flag = All-contains (λ (one : Reference). (one.is_weak ≡ false) ↔ Contains strong_ones one.list) found (record { list = b; is_weak = w }) flags c in (
           (same b).0 (subst (λ (l : List ℕ). Contains l b) lists ((Contains-map (λ (one : Reference). one.list) found b).1 (record { list = b; is_weak = w }, c, refl))),
           (λ e. (strongly b).0 (flag.0 e), λ s. flag.1 ((strongly b).1 s)),
         );
