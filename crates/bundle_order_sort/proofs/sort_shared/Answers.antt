@@ -1,8 +1,8 @@
-use Rattle.std.proofs.Common.{◌≡◌, ℕ, ◌≤◌, ◌↔◌, List, Option, IfOk, map, length, take, sym, ap, ◌∙◌, subst, arith}
-use Rattle.std.proofs.lemmas.List.{length-map, length-take-le}
+use Rattle.std.proofs.Common.{◌≡◌, ℕ, ◌↔◌, List, IfOk, map, length, take, sym, subst, arith}
+use Rattle.std.proofs.lemmas.List.{length-map}
 use Rattle.std.proofs.lemmas.Result.{IfOk-weaker}
 use Rattle.bundle_order_sort.specs.Classes.{Leads, AreRanks, AreWithin}
-use Rattle.bundle_order_sort.specs.Items.{AreSoles, IsEdge, IsGoodOrder, NeedsByRank}
+use Rattle.bundle_order_sort.specs.Items.{IsEdge, IsGoodOrder, NeedsByRank}
 use Rattle.bundle_order_sort.specs.Numbers as numbers
 use Rattle.bundle_order_sort.proofs.HubLemmas.{IsEdge-to, falls, back}
 use Rattle.bundle_order_sort.proofs.ItemLemmas.{IsGoodOrder-from_numbers}
@@ -14,22 +14,6 @@ ranks_of-requires c =
     let edges = c.in_ok-edges.edges.items in
     let within : AreWithin (map (λ v. v.items) edges) = λ s t l. omega (arith, IsEdge-to c.args.items.now lists s t ((c.in_ok-edges.ensures.each s t).0 l), c.in_ok-edges.ensures.len, length-map edges (λ v. v.items), length-map c.deref.result.now (λ v. v.items)) in
     record { within = subst (λ l. AreWithin (map (λ v. v.items) l)) (sym c.deref-2.ensures.value) within }
-
-pub sort_numbers-requires-clause-ranks_len : goal.sort_numbers-requires-clause-ranks_len
-sort_numbers-requires-clause-ranks_len c =
-    let items = c.args.items.now in
-    let edges = c.in_ok-edges.edges.items in
-    let all = c.in_ok-ranks.ranks.items in
-    let ranked : AreRanks (map (λ v. v.items) edges) all = subst (λ l. AreRanks (map (λ v. v.items) l) all) c.deref-2.ensures.value c.in_ok-ranks.ensures in
-    let long : length items ≤ length all = omega (arith, ranked.len, length-map edges (λ v. v.items), c.in_ok-edges.ensures.len) in
-    ap length c.deref-5.ensures.value ∙ (ap length c.truncate.ensures.items ∙ length-take-le (length items) all long)
-
-pub sort_numbers-requires-clause-soles : goal.sort_numbers-requires-clause-soles
-sort_numbers-requires-clause-soles c =
-    let items = c.args.items.now in
-    let soles = c.in_ok-soles.soles.items in
-    let here = subst (λ l. AreSoles items (map (λ v. v.items) l) soles) (c.deref-3.ensures.value ∙ sym c.deref_mut.ensures.value) c.in_ok-soles.ensures in
-    subst (λ (l : List (Option ℕ)). AreSoles items (map (λ v. v.items) c.deref_mut.result.now) l) (sym c.deref-4.ensures.value) here
 
 pub returns : goal.returns
 returns c =

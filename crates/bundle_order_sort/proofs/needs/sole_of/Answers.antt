@@ -1,4 +1,4 @@
-use Rattle.std.proofs.Common.{ℕ, List, Contains, sym, subst, arith}
+use Rattle.std.proofs.Common.{ℕ, List, Contains, sym, subst, inl, inr, arith}
 use Rattle.std.proofs.lemmas.List.{take_all}
 use Rattle.bundle_order_sort.specs.Items.{IsOf}
 use Rattle.bundle_order_sort.proofs.ElementLemmas.{Contains-more}

@@ -1,4 +1,4 @@
-use Rattle.std.proofs.Common.{ℕ, ◌↔◌, List, Contains, map, length, get_or, refl, sym, ◌∙◌, subst, arith}
+use Rattle.std.proofs.Common.{ℕ, ◌↔◌, false, List, Contains, map, length, get_or, refl, sym, ◌∙◌, subst, arith}
 use Rattle.std.proofs.lemmas.Option.{slice_get_read}
 use Rattle.std.proofs.lemmas.List.{length-map, take_all}
 use Rattle.bundle_order_sort.specs.declared.Reference.{Reference}

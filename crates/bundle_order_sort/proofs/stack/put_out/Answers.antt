@@ -379,14 +379,14 @@ loop-top-smaller-then-left-item c =
     let needs_len : length needs ≡ count = length-map c.loop-top.needs (λ v. v.items) ∙ c.loop-top.invariant.needs_len in
     let adds : AddsChain needs ranks ps s stack next = subst (λ (l : List ℕ). AddsChain needs ranks ps s l next) same (subst (λ (l : List Progress). AddsChain needs ranks l s c.shorten.new.stack.items next) c.deref-in-Some-2.ensures.value c.in_ok-awaited.ensures.added) in
     let any : IsTrue c.in_ok-awaited.awaited ↔ (length stack < length next) = subst (λ (l : List ℕ). IsTrue c.in_ok-awaited.awaited ↔ (length l < length next)) same c.in_ok-awaited.ensures.any in
-    let stays : next ≡ stack = same_stack N count ranks firsts inside stack s ps order w some top known read c.if-known.false needs needs_len c.loop-top.invariant.known.sound next adds c.in_ok-awaited.awaited any c.if-awaited.false in
+    let unmoved : next ≡ stack = same_stack N count ranks firsts inside stack s ps order w some top known read c.if-known.false needs needs_len c.loop-top.invariant.known.sound next adds c.in_ok-awaited.awaited any c.if-awaited.false in
     let begun : (progress_of ps s).begun ≡ true = is_known N count ranks firsts inside stack s ps order w some top known read ∙ not-false known.begun c.if-not-known.false in
     let none : (t : ℕ) → N s t → is_awaited ranks ps s t ≡ false = none-awaited N ps needs c.loop-top.invariant.known ranks s begun (subst (λ (l : List Progress). WaitsForNone needs ranks l s) c.deref-in-Some-2.ensures.value (c.in_ok-awaited.ensures.none c.if-awaited.false)) in
     let e = c.first_left-left.result in
     let skipped : (t : ℕ) → known.next ≤ t → t < e → IsOut ps t = subst (λ (l : List Progress). (t : ℕ) → known.next ≤ t → t < e → IsOut l t) c.deref-in-Some-3.ensures.value c.first_left-left.ensures.out in
     let high : known.next ≤ e = c.first_left-left.ensures.at in
     let p : Progress = record { out = known.out; begun = known.begun; next = e + 1 } in
-    pulls-work N count ranks firsts inside stack s ps order w some top known read c.if-known.false next stays none e skipped high c.if-left-item.true p refl c.push.new.self.items c.in_ok-push.ensures.items
+    pulls-work N count ranks firsts inside stack s ps order w some top known read c.if-known.false next unmoved none e skipped high c.if-left-item.true p refl c.push.new.self.items c.in_ok-push.ensures.items
 
 pub loop-top-preserved-then-left-item : goal.loop-top-preserved-then-left-item
 loop-top-preserved-then-left-item c =
@@ -413,7 +413,7 @@ loop-top-preserved-then-left-item c =
     let adds : AddsChain needs ranks ps s stack next = subst (λ (l : List ℕ). AddsChain needs ranks ps s l next) same (subst (λ (l : List Progress). AddsChain needs ranks l s c.shorten.new.stack.items next) c.deref-in-Some-2.ensures.value c.in_ok-awaited.ensures.added) in
     let any : IsTrue c.in_ok-awaited.awaited ↔ (length stack < length next) = subst (λ (l : List ℕ). IsTrue c.in_ok-awaited.awaited ↔ (length l < length next)) same c.in_ok-awaited.ensures.any in
     let noted : AreChains needs ranks ps c.push_chain.new.ends c.push_chain.new.cursors = subst (λ (l : List Progress). AreChains needs ranks l c.push_chain.new.ends c.push_chain.new.cursors) c.deref-in-Some-2.ensures.value c.in_ok-awaited.ensures.chains in
-    let stays : next ≡ stack = same_stack N count ranks firsts inside stack s ps order w some top known read c.if-known.false needs needs_len c.loop-top.invariant.known.sound next adds c.in_ok-awaited.awaited any c.if-awaited.false in
+    let unmoved : next ≡ stack = same_stack N count ranks firsts inside stack s ps order w some top known read c.if-known.false needs needs_len c.loop-top.invariant.known.sound next adds c.in_ok-awaited.awaited any c.if-awaited.false in
     let begun : (progress_of ps s).begun ≡ true = is_known N count ranks firsts inside stack s ps order w some top known read ∙ not-false known.begun c.if-not-known.false in
     let none : (t : ℕ) → N s t → is_awaited ranks ps s t ≡ false = none-awaited N ps needs c.loop-top.invariant.known ranks s begun (subst (λ (l : List Progress). WaitsForNone needs ranks l s) c.deref-in-Some-2.ensures.value (c.in_ok-awaited.ensures.none c.if-awaited.false)) in
     let e = c.first_left-left.result in
@@ -424,7 +424,7 @@ loop-top-preserved-then-left-item c =
     let skips_len' : length new_skips ≡ length ps = c.first_left-left.ensures.len ∙ c.loop-top.invariant.skips_len in
     let p : Progress = record { out = known.out; begun = known.begun; next = e + 1 } in
     record {
-      sorting = pulls N count ranks firsts inside stack s ps order w some top known read c.if-known.false next stays none e skipped high c.if-left-item.true p refl c.push.new.self.items c.in_ok-push.ensures.items;
+      sorting = pulls N count ranks firsts inside stack s ps order w some top known read c.if-known.false next unmoved none e skipped high c.if-left-item.true p refl c.push.new.self.items c.in_ok-push.ensures.items;
       skips = keeps_skips N count ranks firsts inside stack s ps order w some top known read p (λ o. o) new_skips skips';
       skips_len = skips_len' ∙ sym (length-set ps s p);
       chains = keeps_chains N count ranks firsts inside stack s ps order w some top known read needs p (λ o. o) (λ o. o) c.push_chain.new.ends c.push_chain.new.cursors noted;
@@ -458,15 +458,15 @@ loop-top-smaller c =
     let needs_len : length needs ≡ count = length-map c.loop-top.needs (λ v. v.items) ∙ c.loop-top.invariant.needs_len in
     let adds : AddsChain needs ranks ps s stack next = subst (λ (l : List ℕ). AddsChain needs ranks ps s l next) same (subst (λ (l : List Progress). AddsChain needs ranks l s c.shorten.new.stack.items next) c.deref-in-Some-2.ensures.value c.in_ok-awaited.ensures.added) in
     let any : IsTrue c.in_ok-awaited.awaited ↔ (length stack < length next) = subst (λ (l : List ℕ). IsTrue c.in_ok-awaited.awaited ↔ (length l < length next)) same c.in_ok-awaited.ensures.any in
-    let stays : next ≡ stack = same_stack N count ranks firsts inside stack s ps order w some top known read c.if-known.false needs needs_len c.loop-top.invariant.known.sound next adds c.in_ok-awaited.awaited any c.if-awaited.false in
+    let unmoved : next ≡ stack = same_stack N count ranks firsts inside stack s ps order w some top known read c.if-known.false needs needs_len c.loop-top.invariant.known.sound next adds c.in_ok-awaited.awaited any c.if-awaited.false in
     let begun : (progress_of ps s).begun ≡ true = is_known N count ranks firsts inside stack s ps order w some top known read ∙ not-false known.begun c.if-not-known.false in
     let none : (t : ℕ) → N s t → is_awaited ranks ps s t ≡ false = none-awaited N ps needs c.loop-top.invariant.known ranks s begun (subst (λ (l : List Progress). WaitsForNone needs ranks l s) c.deref-in-Some-2.ensures.value (c.in_ok-awaited.ensures.none c.if-awaited.false)) in
     let e = c.first_left-left.result in
     let skipped : (t : ℕ) → known.next ≤ t → t < e → IsOut ps t = subst (λ (l : List Progress). (t : ℕ) → known.next ≤ t → t < e → IsOut l t) c.deref-in-Some-3.ensures.value c.first_left-left.ensures.out in
     let high : known.next ≤ e = c.first_left-left.ensures.at in
     let p : Progress = record { out = true; begun = known.begun; next = known.next } in
-    let rest : c.pop-in-Some.new.self.items ≡ without_top stack = popped next c.pop-in-Some.new.self.items _ (omega (arith, c.push_chain.new.stack.ok.0)) c.pop-in-Some.ensures.rest ∙ ap without_top stays in
-    subst (λ (l : List ℕ). work count ranks (set ps s p) l < work count ranks ps stack) (sym rest) (outs-work N count ranks firsts inside stack s ps order w some top known read c.if-known.false next stays none e skipped high p refl)
+    let rest : c.pop-in-Some.new.self.items ≡ without_top stack = popped next c.pop-in-Some.new.self.items _ (omega (arith, c.push_chain.new.stack.ok.0)) c.pop-in-Some.ensures.rest ∙ ap without_top unmoved in
+    subst (λ (l : List ℕ). work count ranks (set ps s p) l < work count ranks ps stack) (sym rest) (outs-work N count ranks firsts inside stack s ps order w some top known read c.if-known.false next unmoved none e skipped high p refl)
 
 pub loop-top-preserved : goal.loop-top-preserved
 loop-top-preserved c =
@@ -493,7 +493,7 @@ loop-top-preserved c =
     let adds : AddsChain needs ranks ps s stack next = subst (λ (l : List ℕ). AddsChain needs ranks ps s l next) same (subst (λ (l : List Progress). AddsChain needs ranks l s c.shorten.new.stack.items next) c.deref-in-Some-2.ensures.value c.in_ok-awaited.ensures.added) in
     let any : IsTrue c.in_ok-awaited.awaited ↔ (length stack < length next) = subst (λ (l : List ℕ). IsTrue c.in_ok-awaited.awaited ↔ (length l < length next)) same c.in_ok-awaited.ensures.any in
     let noted : AreChains needs ranks ps c.push_chain.new.ends c.push_chain.new.cursors = subst (λ (l : List Progress). AreChains needs ranks l c.push_chain.new.ends c.push_chain.new.cursors) c.deref-in-Some-2.ensures.value c.in_ok-awaited.ensures.chains in
-    let stays : next ≡ stack = same_stack N count ranks firsts inside stack s ps order w some top known read c.if-known.false needs needs_len c.loop-top.invariant.known.sound next adds c.in_ok-awaited.awaited any c.if-awaited.false in
+    let unmoved : next ≡ stack = same_stack N count ranks firsts inside stack s ps order w some top known read c.if-known.false needs needs_len c.loop-top.invariant.known.sound next adds c.in_ok-awaited.awaited any c.if-awaited.false in
     let begun : (progress_of ps s).begun ≡ true = is_known N count ranks firsts inside stack s ps order w some top known read ∙ not-false known.begun c.if-not-known.false in
     let none : (t : ℕ) → N s t → is_awaited ranks ps s t ≡ false = none-awaited N ps needs c.loop-top.invariant.known ranks s begun (subst (λ (l : List Progress). WaitsForNone needs ranks l s) c.deref-in-Some-2.ensures.value (c.in_ok-awaited.ensures.none c.if-awaited.false)) in
     let e = c.first_left-left.result in
@@ -503,9 +503,9 @@ loop-top-preserved c =
     let skips' : AreSkips ps new_skips = subst (λ (l : List Progress). AreSkips l new_skips) c.deref-in-Some-3.ensures.value c.first_left-left.ensures.skips in
     let skips_len' : length new_skips ≡ length ps = c.first_left-left.ensures.len ∙ c.loop-top.invariant.skips_len in
     let p : Progress = record { out = true; begun = known.begun; next = known.next } in
-    let rest : c.pop-in-Some.new.self.items ≡ without_top stack = popped next c.pop-in-Some.new.self.items _ (omega (arith, c.push_chain.new.stack.ok.0)) c.pop-in-Some.ensures.rest ∙ ap without_top stays in
+    let rest : c.pop-in-Some.new.self.items ≡ without_top stack = popped next c.pop-in-Some.new.self.items _ (omega (arith, c.push_chain.new.stack.ok.0)) c.pop-in-Some.ensures.rest ∙ ap without_top unmoved in
     record {
-      sorting = subst (λ (l : List ℕ). Sorting N count ranks firsts l (set ps s p) c.push-in-Some.new.self.items) (sym rest) (outs N count ranks firsts inside stack s ps order w some top known read c.if-known.false next stays none e skipped high c.if-left-item.false p refl c.push-in-Some.new.self.items c.in_ok-push-2.ensures.items);
+      sorting = subst (λ (l : List ℕ). Sorting N count ranks firsts l (set ps s p) c.push-in-Some.new.self.items) (sym rest) (outs N count ranks firsts inside stack s ps order w some top known read c.if-known.false next unmoved none e skipped high c.if-left-item.false p refl c.push-in-Some.new.self.items c.in_ok-push-2.ensures.items);
       skips = keeps_skips N count ranks firsts inside stack s ps order w some top known read p (λ o. refl) new_skips skips';
       skips_len = skips_len' ∙ sym (length-set ps s p);
       chains = keeps_chains N count ranks firsts inside stack s ps order w some top known read needs p (λ o. refl) (λ o. o) c.push_chain.new.ends c.push_chain.new.cursors noted;
