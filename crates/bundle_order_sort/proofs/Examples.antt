@@ -16,7 +16,7 @@ only_one : (x y : Reference) → Contains (x ∷ []) y → x ≡ y
 only_one x y c = let P : ℕ → Type 0 = λ i. get_or (x ∷ []) i y ≡ y in subst P (let first : c.0 ≡ 0 = omega (arith, c.1) in first) c.2
 
 -- the first list has the second item, the second list the first
-lists : List (List ℕ)
+abbrev pub lists : List (List ℕ)
 lists = (1 ∷ []) ∷ (0 ∷ []) ∷ []
 
 -- two items of two modules, neither of them free
