@@ -16,7 +16,7 @@ for source in "$copy"/crates/bench_graph/src/*.rt.txt; do
     mv "$source" "${source%.txt}"
 done
 cp "$top/HANDLES" "$copy/"
-grep -E '^bundle_(id|graph)( |:)' "$top/crates.txt" > "$copy/crates.txt"
+grep -E '^bundle_(tree_names|order_graph)( |:)' "$top/crates.txt" > "$copy/crates.txt"
 echo 'bench_graph: bundle_tree_names bundle_order_graph' >> "$copy/crates.txt"
 
 cd "$copy/crates/bench_graph"

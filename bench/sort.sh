@@ -14,7 +14,7 @@ for source in "$copy"/crates/bench_sort/src/*.rt.txt; do
     mv "$source" "${source%.txt}"
 done
 cp "$top/HANDLES" "$copy/"
-grep -E '^bundle_(id|graph|sort)( |:)' "$top/crates.txt" > "$copy/crates.txt"
+grep -E '^bundle_(tree_names|order_graph|order_sort)( |:)' "$top/crates.txt" > "$copy/crates.txt"
 echo 'bench_sort: bundle_order_graph bundle_order_sort' >> "$copy/crates.txt"
 
 cd "$copy/crates/bench_sort"

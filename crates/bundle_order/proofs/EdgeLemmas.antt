@@ -1,15 +1,14 @@
 -- The edges of a graph of items, to which some are added.
 use Rattle.std.proofs.Common.{◌≡◌, ◌≢◌, Bool, true, false, ◌&&◌, cond, nat_eq, eqb-true, eq-eqb, ℕ, ◌+◌, ◌<◌, ◌≤◌, ◌⊎◌, ◌↔◌, List, [], ◌∷◌, ◌++◌, length, slice_get, Contains, Option, Some, None, IsSome, is_some, refl, sym, ap, ◌∙◌, subst, inl, inr, arith}
 use Rattle.std.proofs.lemmas.Bool.{cases_lt, false≢true, and_parts, and_from}
-use Rattle.std.proofs.lemmas.Option.{same_Some}
+use Rattle.std.proofs.lemmas.Option.{same_Some, slice_get_within}
 use Rattle.std.proofs.lemmas.List.Elements.{Contains-append_left, Contains-append_right, Contains-append_cases, Contains-push, Contains-push_cases}
 use Rattle.bundle_order_graph.specs.Statements.{Statements, weight, strongest, IsDependency, AddsDependency}
 use Rattle.bundle_order_graph.specs.declared.sort.Required.{Required}
 use Rattle.bundle_order_graph.specs.declared.sort.Required.TheVariants.{Always, Maybe}
 use Rattle.bundle_order_sort.specs.declared.Dependency.{Dependency}
 use Rattle.bundle_order_sort.specs.declared.SortItem.{SortItem}
-use Rattle.bundle_order_sort.specs.Items.{Names, Depends}
-use Rattle.bundle_order_sort.proofs.ItemLemmas.{Depends-within}
+use Rattle.bundle_order_sort.specs.Listed.{Names, Depends}
 use Rattle.bundle_order.specs.Items.{AreNodes, AreOnce, AreBetween, IsAlways, how_required, IsGraphOf, AreApart, Lists, Gains, Grows}
 use Rattle.bundle_order.proofs.NodeLemmas.{edge_once}
 
@@ -193,6 +192,9 @@ module _ (old new : Statements) (items : List SortItem) (n : ℕ) (item : SortIt
       ]),
     );
   }
+
+Depends-within : (items : List SortItem) (s t : ℕ) → Depends items s t → s < length items
+Depends-within items s t d = slice_get_within items s d.1.item d.1.at
 
 pub IsGraphOf-all : (graph : Statements) (items : List SortItem) (n : ℕ) → length items ≤ n → IsGraphTo graph items n → IsGraphOf graph items
 IsGraphOf-all graph items n all to = record {

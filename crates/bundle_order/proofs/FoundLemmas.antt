@@ -6,7 +6,7 @@ use Rattle.std.proofs.lemmas.Option.{none-some, same_Some, slice_get_within}
 use Rattle.std.proofs.lemmas.List.{length-map}
 use Rattle.bundle_order_sort.specs.declared.Dependency.{Dependency}
 use Rattle.bundle_order_sort.specs.declared.SortItem.{SortItem}
-use Rattle.bundle_order_sort.specs.Items.{Names, Depends}
+use Rattle.bundle_order_sort.specs.Listed.{Names, Depends}
 use Rattle.bundle_rules.specs.Order as o
 use Rattle.bundle_rules.specs.Order.{Group, Mention, mention_at, by_member, by_prototype, by_value, SetsUpBy}
 use Rattle.bundle_order_needs.specs.Found.{AreFound, HasFound}
@@ -14,15 +14,16 @@ use Rattle.bundle_order_needs.proofs.ListLemmas.{Contains-none, Contains-cons}
 use Rattle.bundle_order_needs.specs.Cut.{dependencies_of}
 
 -- ---- what an item depends on, by its number
-row-at : (items : List SortItem) (s : ℕ) (d : Dependency) → Contains (get_or (map dependencies_of items) s []) d → (item : SortItem) × (slice_get items s ≡ Some item) × Contains item.dependencies.items d
-row-at [] s d c = absurd (Contains-none d c)
-row-at (x ∷ items) zero d c = (x, refl, c)
-row-at (x ∷ items) (suc s) d c = row-at items s d c
+module _ {X Y : Type 0} (rows : X → List Y) where
+  pub row-at : (items : List X) (s : ℕ) (d : Y) → Contains (get_or (map rows items) s []) d → (item : X) × (slice_get items s ≡ Some item) × Contains (rows item) d
+  row-at [] s d c = absurd (Contains-none d c)
+  row-at (x ∷ items) zero d c = (x, refl, c)
+  row-at (x ∷ items) (suc s) d c = row-at items s d c
 
-row-of : (items : List SortItem) (s : ℕ) (item : SortItem) → slice_get items s ≡ Some item → get_or (map dependencies_of items) s [] ≡ item.dependencies.items
-row-of [] s item e = absurd (none-some item e)
-row-of (x ∷ items) zero item e = ap dependencies_of (same_Some x item e)
-row-of (x ∷ items) (suc s) item e = row-of items s item e
+  pub row-of : (items : List X) (s : ℕ) (item : X) → slice_get items s ≡ Some item → get_or (map rows items) s [] ≡ rows item
+  row-of [] s item e = absurd (none-some item e)
+  row-of (x ∷ items) zero item e = ap rows (same_Some x item e)
+  row-of (x ∷ items) (suc s) item e = row-of items s item e
 
 -- ---- an item that provides a binding is one of the group
 mention-within : (g : Group) (t at : ℕ) (by : Mention) → mention_at g t at ≡ Some by → t < length g.items
@@ -37,7 +38,7 @@ sets_up-within g m d t b (by_member by refers at_once chain) = mention-within g 
 sets_up-within g m d t b (by_prototype by refers at_once prototype) = mention-within g t refers.at by refers.there
 sets_up-within g m d t b (by_value without fills first) = mention-within g t fills.refers.at fills.by fills.refers.there
 
-provides-within : (g : Group) (t b : ℕ) → o.Provides g t b → t < length g.items
+pub provides-within : (g : Group) (t b : ℕ) → o.Provides g t b → t < length g.items
 provides-within g t b (inl declares) = mention-within g t declares.0 declares.1 declares.2.there
 provides-within g t b (inr sets_up) = sets_up-within g sets_up.«module» sets_up.first t b sets_up.by
 
@@ -61,11 +62,11 @@ strong-listed (x ∷ ds) t = step (strong-or-not t x) (strong-listed ds t)
 module _ (g : Group) (items : List SortItem) (found : AreFound g (map dependencies_of items)) where
   pub names : (s t : ℕ) (w : Bool) → HasFound (map dependencies_of items) s t w → o.Depends g s t → Names items s t w
   names s t w has depends =
-      let row = row-at items s (record { item = t; is_weak = w }) has in
+      let row = row-at dependencies_of items s (record { item = t; is_weak = w }) has in
       record { item = row.0; at = row.1; listed = row.2; within = (let l = provides-within g t depends.binding depends.provides in let n = found.len in let m = length-map items dependencies_of in omega (arith, l, n, m)); other = λ e. depends.other (sym e) }
 
   pub has : (s t : ℕ) (w : Bool) → Names items s t w → HasFound (map dependencies_of items) s t w
-  has s t w n = subst (λ (l : List Dependency). Contains l (record { item = t; is_weak = w })) (sym (row-of items s n.item n.at)) n.listed
+  has s t w n = subst (λ (l : List Dependency). Contains l (record { item = t; is_weak = w })) (sym (row-of dependencies_of items s n.item n.at)) n.listed
 
   pub Depends-forth : (s t : ℕ) → Depends items s t → o.Depends g s t
   Depends-forth s t d = by d.0 d.1

@@ -7,6 +7,7 @@ pub mod JoinLemmas
 pub mod NodeLemmas
 pub mod BridgeLemmas
 pub mod FoundLemmas
+pub mod ReferenceLemmas
 pub mod NumberingLemmas
 pub mod TogetherLemmas
 pub mod SortedLemmas

@@ -9,15 +9,15 @@ use Rattle.bundle_tree_piece.specs.Item.{Item}
 use Rattle.bundle_tree_listed.specs.Tree.{module_item_items}
 use Rattle.bundle_rules.specs.Declarations.{ByContext}
 use Rattle.bundle_rules.specs.Scopes.{Top}
-use Rattle.bundle_order_sort.specs.declared.SortItem.{SortItem}
+use Rattle.bundle_order_sort.specs.declared.SharedItem.{SharedItem}
 use Rattle.bundle_order_sort.specs.Items as i
 use Rattle.bundle_rules.specs.Order.{Group, IsGoodOrder, group_of}
 use Rattle.bundle_rules.specs.Parts.{tree_of_items}
 use Rattle.bundle_rules.specs.Sorting.{IsSorted, Numbered, flat, group_of_items, numbered_items}
 use Rattle.bundle_rules.specs.Statements.{placed}
-use Rattle.bundle_order_needs.specs.Found.{AreFound}
+use Rattle.bundle_order_needs.specs.Found.{AreReferences}
 use Rattle.bundle_order_needs.proofs.ListLemmas.{Contains-cons}
-use Rattle.bundle_order_needs.specs.Cut.{dependencies_of}
+use Rattle.bundle_order_needs.specs.Cut.{references_of}
 use Rattle.bundle_order.specs.declared.number.Place.{Place}
 use Rattle.bundle_order_sort.specs.Arranged.{AreArranged, IsArrangement}
 use Rattle.bundle_order.specs.Grouped.{group_placed}
@@ -54,16 +54,16 @@ group-same : (lists : List (List Item)) (owners : List (Option ℕ)) (xs : List 
 group-same lists owners xs e = subst (λ (l : List (List Item)). group_placed l owners ≡ group_of_items (flat l) owners) e (ap (λ (l : List (List Item)). group_of ByContext Top (tree_of_items (flat (map list_of xs))) (placed 1 l) owners) (sym (whole xs)))
 
 -- ---- items with their modules, in a good order of what they need
-pub IsGoodOrder-items : (items : List ModuleItem) (owners : List (Option ℕ)) (needs : List SortItem)
+pub IsGoodOrder-items : (items : List ModuleItem) (owners : List (Option ℕ)) (needs : List SharedItem) (lists : List (List ℕ))
     (numbers : List ℕ) →
-    AreFound (group_placed (map (module_item_items 0) items) owners) (map dependencies_of needs) →
+    AreReferences (group_placed (map (module_item_items 0) items) owners) (map references_of needs) lists →
     map owner_of needs ≡ owners →
     AreTogether owners →
-    i.IsGoodOrder needs numbers →
+    i.IsGoodOrder needs lists numbers →
     IsGoodOrder (group_of_items (flat (map (module_item_items 0) items)) owners) numbers
-IsGoodOrder-items items owners needs numbers found owned together good =
+IsGoodOrder-items items owners needs lists numbers found owned together good =
     subst (λ (g : Group). IsGoodOrder g numbers) (group-same (map list_of items) owners items refl)
-    (IsGoodOrder-of_group (group_placed (map list_of items) owners) needs found owned together numbers good)
+    (IsGoodOrder-of_group (group_placed (map list_of items) owners) needs lists found owned together numbers good)
 
 -- ---- what stands at a place
 point : (lists : List (List Item)) (places : List Place) (n : ℕ) → n < length places → ((p : ℕ) → Contains (map at_of places) p → p < length lists) → option_map first_of (slice_get (map (numbered_at lists) places) n) ≡ slice_get lists (get_or (map at_of places) n 0)
@@ -75,7 +75,7 @@ each-of : (numbered : List Numbered) (lists : List (List Item)) (places : List �
 each-of numbered lists places [] at = tt
 each-of numbered lists places (n ∷ numbers) at = (at n ((Contains-cons n numbers n).1 (inl refl)), each-of numbered lists places numbers (λ k c. at k ((Contains-cons n numbers k).1 (inr c))))
 
-module _ (modules : List (List (List Item))) (items : List ModuleItem) (owners : List ℕ) (places : List Place) (needs : List SortItem) (numbers order : List ℕ) (joined : map list_of items ≡ flat_map (λ items. items) modules) (owned : owners ≡ owners_of 0 modules) (placed_so : places ≡ all_places (map list_of items) owners) (found : AreFound (group_placed (map first_of (map (numbered_at (map list_of items)) places)) (map second_of (map (numbered_at (map list_of items)) places))) (map dependencies_of needs)) (of : map owner_of needs ≡ map second_of (map (numbered_at (map list_of items)) places)) (good : i.IsGoodOrder needs numbers) (ordered : order ≡ map (λ n. get_or (map at_of places) n 0) numbers) where
+module _ (modules : List (List (List Item))) (items : List ModuleItem) (owners : List ℕ) (places : List Place) (needs : List SharedItem) (lists : List (List ℕ)) (numbers order : List ℕ) (joined : map list_of items ≡ flat_map (λ items. items) modules) (owned : owners ≡ owners_of 0 modules) (placed_so : places ≡ all_places (map list_of items) owners) (found : AreReferences (group_placed (map first_of (map (numbered_at (map list_of items)) places)) (map second_of (map (numbered_at (map list_of items)) places))) (map references_of needs) lists) (of : map owner_of needs ≡ map second_of (map (numbered_at (map list_of items)) places)) (good : i.IsGoodOrder needs lists numbers) (ordered : order ≡ map (λ n. get_or (map at_of places) n 0) numbers) where
   numbered : map (numbered_at (map list_of items)) places ≡ numbered_items modules
   numbered =
       ap (λ (l : List Place). map (numbered_at (map list_of items)) l) placed_so
@@ -104,7 +104,7 @@ module _ (modules : List (List (List Item))) (items : List ModuleItem) (owners :
   good-group =
       subst (λ (l : List Numbered). IsGoodOrder (group_of_items (flat (map first_of l)) (map second_of l)) numbers) numbered
       (subst (λ (g : Group). IsGoodOrder g numbers) same
-      (IsGoodOrder-of_group (group_placed (map first_of (map (numbered_at (map list_of items)) places)) (map second_of (map (numbered_at (map list_of items)) places))) needs found of together numbers good))
+      (IsGoodOrder-of_group (group_placed (map first_of (map (numbered_at (map list_of items)) places)) (map second_of (map (numbered_at (map list_of items)) places))) needs lists found of together numbers good))
 
   count : length needs ≡ length (map at_of places)
   count =

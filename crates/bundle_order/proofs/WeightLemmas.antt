@@ -5,7 +5,7 @@ use Rattle.bundle_order_graph.specs.Statements.{Statements, weight}
 use Rattle.bundle_order_graph.specs.declared.sort.Required.{Required}
 use Rattle.bundle_order_graph.specs.declared.sort.Required.TheVariants.{Always, Maybe}
 use Rattle.bundle_order_sort.specs.declared.SortItem.{SortItem}
-use Rattle.bundle_order_sort.specs.Items.{Names}
+use Rattle.bundle_order_sort.specs.Listed.{Names}
 use Rattle.bundle_rules.specs.Order.{Group, IsWeak}
 use Rattle.bundle_rules.specs.Sorting.{IsDependency}
 use Rattle.bundle_order_needs.specs.Found.{AreFound}

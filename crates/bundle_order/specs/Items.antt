@@ -5,7 +5,7 @@ use Rattle.bundle_order_graph.specs.declared.sort.Required.{Required}
 use Rattle.bundle_order_graph.specs.declared.sort.Required.TheVariants.{Always, Maybe}
 use Rattle.bundle_order_sort.specs.declared.Dependency.{Dependency}
 use Rattle.bundle_order_sort.specs.declared.SortItem.{SortItem}
-use Rattle.bundle_order_sort.specs.Items.{Names, Depends}
+use Rattle.bundle_order_sort.specs.Listed.{Names, Depends}
 
 -- the nodes are the numbers of so many items
 abbrev pub AreNodes : Statements → ℕ → Type 0

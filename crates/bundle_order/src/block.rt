@@ -1,6 +1,6 @@
 //! The order of the items of one block, told by their places.
 
-ghost use Rattle.std.specs.Prelude.{◌≡◌, ℕ, IfOk, List, length, map};
+ghost use Rattle.std.specs.Prelude.{◌≡◌, IfOk, List, length, map};
 ghost use Rattle.std.specs.List.{flat_map};
 ghost use Rattle.bundle_tree_ast.specs.declared.module.ModuleItem.{ModuleItem};
 ghost use Rattle.bundle_tree_piece.specs.Item.{Item, item_of};
@@ -12,7 +12,7 @@ ghost use Rattle.bundle_order.specs.Owned.{AreTogether};
 
 use crate::group::{group_at, group_of, lists_of};
 use crate::number::{ats_of, places_by, places_of};
-use bundle_order_sort::sort_items;
+use bundle_order_sort::sort_shared;
 use bundle_tree_ast::ModuleItem;
 use bundle_tree_piece::Piece;
 use std::alloc::{AllocError, Global};
@@ -34,8 +34,9 @@ pub fn sorted_places<'a>(
 {
     let places = places_of(alloc, lists, owners)?;
     let group = group_at(alloc, lists, &places)?;
-    let needs = group.dependencies(alloc)?;
-    let numbers = sort_items(alloc, &needs)?;
+    let found = group.references(alloc)?;
+    let (needs, bindings) = found;
+    let numbers = sort_shared(alloc, &needs, bindings)?;
     let order = places_by(alloc, &places, &numbers)?;
     Ok(order)
 }
@@ -55,8 +56,9 @@ pub fn sorted_numbers(
 {
     let lists = lists_of(alloc, items)?;
     let group = group_of(alloc, &lists, owners)?;
-    let needs = group.dependencies(alloc)?;
-    let order = sort_items(alloc, &needs)?;
+    let found = group.references(alloc)?;
+    let (needs, bindings) = found;
+    let order = sort_shared(alloc, &needs, bindings)?;
     Ok(order)
 }
 

@@ -3,15 +3,15 @@
 ghost use Rattle.std.specs.Prelude.{◌≡◌, ℕ, ◌+◌, ◌<◌, ◌++◌, ◌∷◌, [], All, IfOk, List, OnOk, Option, length, map, slice_get, slice_range, unwrap_or};
 ghost use Rattle.bundle_tree_piece.specs.Item.{Item, item_of};
 ghost use Rattle.bundle_tree_listed.specs.Tree.{module_item_items};
-ghost use Rattle.bundle_order_needs.specs.Found.{AreFound};
-ghost use Rattle.bundle_order_needs.specs.Cut.{dependencies_of};
+ghost use Rattle.bundle_order_needs.specs.Found.{AreFound, AreReferences};
+ghost use Rattle.bundle_order_needs.specs.Cut.{dependencies_of, references_of};
 ghost use Rattle.bundle_order.specs.Grouped.{IsGroup, group_placed};
 ghost use Rattle.bundle_order.specs.Numbering.{numbered_at};
 ghost use Rattle.bundle_order.specs.Owned.{owner_of};
 
 use crate::number::Place;
-use bundle_order_needs::{ItemRange, dependencies};
-use bundle_order_sort::SortItem;
+use bundle_order_needs::{ItemRange, dependencies, references};
+use bundle_order_sort::{SharedItem, SortItem};
 use bundle_scope_denote::{ModuleKind, Reading, denotations};
 use bundle_tree_ast::ModuleItem;
 use bundle_tree_list::pieces;
@@ -66,9 +66,6 @@ impl<'a> Group<'a> {
     pub(crate) fn dependencies(mut self, alloc: Global) -> Result<Vec<SortItem>, AllocError>
         ensures len { IfOk result (λ items.
             length items.items ≡ length self.entry.ranges.items) }
-        ensures owned { IfOk result (λ items.
-            (lists : List (List Item)) (owners : List (Option ℕ)) →
-            IsGroup self.entry lists owners → map owner_of items.items ≡ owners) }
         ensures found { IfOk result (λ items.
             (lists : List (List Item)) (owners : List (Option ℕ)) →
             IsGroup self.entry lists owners →
@@ -78,6 +75,26 @@ impl<'a> Group<'a> {
         let table = denotations(alloc, &self.list, ModuleKind::Es, Reading::ByContext)?;
         let sorted = dependencies(alloc, &self.list, &table, 0, &self.ranges)?;
         Ok(sorted)
+    }
+
+    /// The items with the bindings to which they refer, and for each binding the items that declare it or set it up.
+    pub(crate) fn references(
+        mut self,
+        alloc: Global,
+    ) -> Result<(Vec<SharedItem>, Vec<Vec<usize>>), AllocError>
+        ensures owned { IfOk result (λ shared.
+            (lists : List (List Item)) (owners : List (Option ℕ)) →
+            IsGroup self.entry lists owners → map owner_of shared.0.items ≡ owners) }
+        ensures found { IfOk result (λ shared.
+            (lists : List (List Item)) (owners : List (Option ℕ)) →
+            IsGroup self.entry lists owners →
+            AreReferences (group_placed lists owners) (map references_of shared.0.items)
+            (map (λ v. v.items) shared.1.items)) }
+    {
+        self.list.push(Piece::Close)?;
+        let table = denotations(alloc, &self.list, ModuleKind::Es, Reading::ByContext)?;
+        let shared = references(alloc, &self.list, &table, 0, &self.ranges)?;
+        Ok(shared)
     }
 }
 

@@ -8,12 +8,13 @@ use Rattle.std.proofs.lemmas.Option.{none-some, slice_get-get_or, slice_get_with
 use Rattle.std.proofs.lemmas.List.{get_or_past, get_or_push, get_or_append_left, length-map, map_push}
 use Rattle.std.proofs.lemmas.List.Elements.{All-contains}
 use Rattle.bundle_order_sort.specs.declared.Dependency.{Dependency}
+use Rattle.bundle_order_sort.specs.declared.Reference.{Reference}
 use Rattle.bundle_order_sort.specs.Classes.{Leads}
 use Rattle.bundle_rules.specs.Order.{Mention, Group, IsFree, Refers, Provides, Depends, DependsAtOnce, IsStrong}
 use Rattle.bundle_order_needs.specs.declared.seen.Seen.{Seen}
 use Rattle.bundle_order_needs.specs.Seen.{seen_of, seen_from}
 use Rattle.bundle_order_needs.specs.Providing.{item_and_binding, refers, refers_strongly, is_free}
-use Rattle.bundle_order_needs.specs.Found.{AreFound, IsEnd, IsFound, IsFoundAt}
+use Rattle.bundle_order_needs.specs.Found.{AreFound, AreReferences, AreReferred, HasReference, IsEnd, IsFound, IsFoundAt, IsReferred}
 use Rattle.bundle_order_needs.proofs.ListLemmas.{Contains-none, Contains-map, Contains-map_filter}
 use Rattle.bundle_order_needs.proofs.EventLemmas.{Stands-contained}
 use Rattle.bundle_order_needs.proofs.ProvideLemmas.{Is-from, Is-refers, contained}
@@ -58,6 +59,13 @@ module _ (providers : List (List ℕ)) (all strong ends strong_ends : List ℕ) 
 before_or_at : (a b : ℕ) → a < b + 1 → (a < b) ⊎ (a ≡ b)
 before_or_at a b h = elim (cases_lt a b) [ inl l ↦ inl l | inr g ↦ inr (omega (arith, g, h)) ]
 
+pub references-push : (P : ℕ → List Reference → Type 0) {V : Type 0} (items : V → List Reference) (found found' : List V) (v : V) (n : ℕ) → found' ≡ found ++ v ∷ [] → length found ≡ n → ((s : ℕ) → s < n → P s (get_or (map items found) s [])) → P n (items v) → (s : ℕ) → s < n + 1 → P s (get_or (map items found') s [])
+references-push P items found found' v n is len each here s h = subst (λ (l : List (List Reference)). P s (get_or l s [])) (sym (ap (λ l. map items l) is ∙ map_push items found v)) (by (before_or_at s n h))
+  where
+    by : (s < n) ⊎ (s ≡ n) → P s (get_or (map items found ++ items v ∷ []) s [])
+    by (inl l) = subst (λ (r : List Reference). P s r) (sym (get_or_append_left (map items found) (items v ∷ []) [] s (omega (arith, l, len, length-map found items)))) (each s l)
+    by (inr e) = subst (λ (r : List Reference). P s r) (sym (get_or_push (map items found) (items v) [] s (length-map found items ∙ (len ∙ sym e)))) (subst (λ k. P k (items v)) (sym e) here)
+
 pub found-push : (P : ℕ → List Dependency → Type 0) {V : Type 0} (items : V → List Dependency) (found found' : List V) (v : V) (n : ℕ) → found' ≡ found ++ v ∷ [] → length found ≡ n → ((s : ℕ) → s < n → P s (get_or (map items found) s [])) → P n (items v) → (s : ℕ) → s < n + 1 → P s (get_or (map items found') s [])
 found-push P items found found' v n is len each here s h = subst (λ (l : List (List Dependency)). P s (get_or l s [])) (sym (ap (λ l. map items l) is ∙ map_push items found v)) (by (before_or_at s n h))
   where
@@ -70,7 +78,7 @@ free-of : (o : Option ℕ) → is_free o ≡ true → o ≡ None
 free-of None e = refl
 free-of (Some m) e = absurd (false≢true e)
 
-module _ (g : Group) (providers all strong : List (List ℕ)) (found : List (List Dependency)) (same_len : length g.items ≡ length g.owners) (len : length found ≡ length g.owners) (provides : (b t : ℕ) → Leads providers b t ↔ Provides g t b) (referred : (s b : ℕ) → Leads all s b ↔ ((s < length g.owners) × Contains (map item_and_binding (filter refers (seen_from 0 g.items))) (s, b))) (strongly : (s b : ℕ) → Leads strong s b ↔ ((s < length g.owners) × Contains (map item_and_binding (filter (refers_strongly g.owners) (seen_from 0 g.items))) (s, b))) (each : (s : ℕ) → s < length g.owners → IsFoundAt providers all strong s found) where
+module _ (g : Group) (providers all strong : List (List ℕ)) (same_len : length g.items ≡ length g.owners) (provides : (b t : ℕ) → Leads providers b t ↔ Provides g t b) (referred : (s b : ℕ) → Leads all s b ↔ ((s < length g.owners) × Contains (map item_and_binding (filter refers (seen_from 0 g.items))) (s, b))) (strongly : (s b : ℕ) → Leads strong s b ↔ ((s < length g.owners) × Contains (map item_and_binding (filter (refers_strongly g.owners) (seen_from 0 g.items))) (s, b))) where
   within : (s b : ℕ) (by : Mention) → Refers g s b by → s < length g.owners
   within s b by r = by_item (slice_get g.items s) refl r.there
     where
@@ -154,25 +162,81 @@ module _ (g : Group) (providers all strong : List (List ℕ)) (found : List (Lis
       by (inl f) = (i.depends.binding, Strongly-from s i.depends.binding i.depends.by i.depends.refers (inr f), (provides i.depends.binding t).1 i.depends.provides)
       by (inr o) = (o.binding, Strongly-from s o.binding o.by o.refers (inl o.at_once), (provides o.binding t).1 o.provides)
 
-  inside : (s : ℕ) (x : Dependency) → Contains (get_or found s []) x → s < length g.owners
-  inside s x c = elim (cases_lt s (length g.owners)) [
-    | inl l ↦ l
-    | inr past ↦ absurd (Contains-none x (subst (λ (l : List Dependency). Contains l x) (get_or_past found s [] (omega (arith, past, len))) c))
-  ]
+  -- what is referred to strongly is referred to
+  all-from_strong : (s b : ℕ) → Leads strong s b → Leads all s b
+  all-from_strong s b l = let r = Strongly-of s b l in Refers-from s b r.by r.refers_to
 
-  pub found-exact : AreFound g found
-  found-exact = record {
-    len = len ∙ sym same_len;
-    strong = λ s t. (
-      λ c. let e = ((each s (inside s (record { item = t; is_weak = false }) c)).strong_ones t).0 c in strong-of s t e.0 e.1,
-      λ i. ((each s (within s i.depends.binding i.depends.by i.depends.refers)).strong_ones t).1 (ends-from s t i.depends, strong-from s t i),
-    );
-    weak = λ s t. (
-      λ c. let e = ((each s (inside s (record { item = t; is_weak = true }) c)).weak_ones t).0 c in record { depends = ends-of s t e.0; not_strong = λ i. e.1 (strong-from s t i) },
-      λ w. ((each s (within s w.depends.binding w.depends.by w.depends.refers)).weak_ones t).1 (ends-from s t w.depends, λ e. w.not_strong (strong-of s t (ends-from s t w.depends) e)),
-    );
-    ascending = λ s. elim (cases_lt s (length g.owners)) [
-      | inl l ↦ (each s l).ascending
-      | inr past ↦ subst (λ (l : List Dependency). IsStrictlyIncreasing (map (λ one. one.item) l)) (sym (get_or_past found s [] (omega (arith, past, len)))) (λ k h. absurd (omega (arith, h)))
-    ];
+  -- ---- the dependencies of all items, each listed
+  module _ (found : List (List Dependency)) (len : length found ≡ length g.owners) (each : (s : ℕ) → s < length g.owners → IsFoundAt providers all strong s found) where
+    inside : (s : ℕ) (x : Dependency) → Contains (get_or found s []) x → s < length g.owners
+    inside s x c = elim (cases_lt s (length g.owners)) [
+      | inl l ↦ l
+      | inr past ↦ absurd (Contains-none x (subst (λ (l : List Dependency). Contains l x) (get_or_past found s [] (omega (arith, past, len))) c))
+    ]
+
+    pub found-exact : AreFound g found
+    found-exact = record {
+      len = len ∙ sym same_len;
+      strong = λ s t. (
+        λ c. let e = ((each s (inside s (record { item = t; is_weak = false }) c)).strong_ones t).0 c in strong-of s t e.0 e.1,
+        λ i. ((each s (within s i.depends.binding i.depends.by i.depends.refers)).strong_ones t).1 (ends-from s t i.depends, strong-from s t i),
+      );
+      weak = λ s t. (
+        λ c. let e = ((each s (inside s (record { item = t; is_weak = true }) c)).weak_ones t).0 c in record { depends = ends-of s t e.0; not_strong = λ i. e.1 (strong-from s t i) },
+        λ w. ((each s (within s w.depends.binding w.depends.by w.depends.refers)).weak_ones t).1 (ends-from s t w.depends, λ e. w.not_strong (strong-of s t (ends-from s t w.depends) e)),
+      );
+      ascending = λ s. elim (cases_lt s (length g.owners)) [
+        | inl l ↦ (each s l).ascending
+        | inr past ↦ subst (λ (l : List Dependency). IsStrictlyIncreasing (map (λ one. one.item) l)) (sym (get_or_past found s [] (omega (arith, past, len)))) (λ k h. absurd (omega (arith, h)))
+      ];
+    }
+
+  -- ---- the references of all items
+  module _ (found : List (List Reference)) (len : length found ≡ length g.owners) (each : AreReferred (length g.owners) all strong found) where
+    from : (s : ℕ) (x : Reference) → Contains (get_or found s []) x → s < length g.owners
+    from s x c = elim (cases_lt s (length g.owners)) [
+      | inl l ↦ l
+      | inr past ↦ absurd (Contains-none x (subst (λ (l : List Reference). Contains l x) (get_or_past found s [] (omega (arith, past, len))) c))
+    ]
+
+    end-of : (s t : ℕ) (w : Bool) → HasReference found providers s t w → IsEnd providers (get_or all s []) s t
+    end-of s t w h = (h.0, (h.1.0, ((each s (from s (record { list = h.1.0; is_weak = w }) h.1.1)).sound h.1.0 w h.1.1).0, h.1.2))
+
+    strong-end-of : (s t : ℕ) → HasReference found providers s t false → IsEnd providers (get_or strong s []) s t
+    strong-end-of s t h = (h.0, (h.1.0, ((each s (from s (record { list = h.1.0; is_weak = false }) h.1.1)).sound h.1.0 false h.1.1).1.0 refl, h.1.2))
+
+    reference-from : (s t : ℕ) → s < length g.owners → IsEnd providers (get_or all s []) s t → (w : Bool) × HasReference found providers s t w
+    reference-from s t l e = let r = (each s l).complete e.1.0 e.1.1 in (r.0, (e.0, (e.1.0, r.1, e.1.2)))
+
+    strong-reference : (s t : ℕ) → s < length g.owners → IsEnd providers (get_or strong s []) s t → HasReference found providers s t false
+    strong-reference s t l e =
+        let r = (each s l).complete e.1.0 (all-from_strong s e.1.0 e.1.1) in
+        let is : r.0 ≡ false = ((each s l).sound e.1.0 r.0 r.1).1.1 e.1.1 in
+        (e.0, (e.1.0, subst (λ w. Contains (get_or found s []) (record { list = e.1.0; is_weak = w })) is r.1, e.1.2))
+
+    pub references-exact : AreReferences g found providers
+    references-exact = record {
+      len = len ∙ sym same_len;
+      strong = λ s t. (
+        λ h. strong-of s t (end-of s t false h) (strong-end-of s t h),
+        λ i. strong-reference s t (within s i.depends.binding i.depends.by i.depends.refers) (strong-from s t i),
+      );
+      depends = λ s t. (
+        λ h. ends-of s t (end-of s t h.0 h.1),
+        λ d. reference-from s t (within s d.binding d.by d.refers) (ends-from s t d),
+      );
+    }
+
+-- ---- one list of references
+module _ (all strong wanted strong_ones : List ℕ) (found : List Reference) (same : (b : ℕ) → Contains wanted b ↔ Contains all b) (strongly : (b : ℕ) → Contains strong_ones b ↔ Contains strong b) (lists : map (λ (one : Reference). one.list) found ≡ wanted) (flags : All (λ (one : Reference). (one.is_weak ≡ false) ↔ Contains strong_ones one.list) found) where
+  pub IsReferred-made : IsReferred all strong found
+  IsReferred-made = record {
+    sound = λ b w c.
+        let flag = All-contains (λ (one : Reference). (one.is_weak ≡ false) ↔ Contains strong_ones one.list) found (record { list = b; is_weak = w }) flags c in (
+          (same b).0 (subst (λ (l : List ℕ). Contains l b) lists ((Contains-map (λ (one : Reference). one.list) found b).1 (record { list = b; is_weak = w }, c, refl))),
+          (λ e. (strongly b).0 (flag.0 e), λ s. flag.1 ((strongly b).1 s)),
+        );
+    complete = λ b c.
+        let g = (Contains-map (λ (one : Reference). one.list) found b).0 (subst (λ (l : List ℕ). Contains l b) (sym lists) ((same b).1 c)) in
+        (g.0.is_weak, subst (λ i. Contains found (record { list = i; is_weak = g.0.is_weak })) g.2 g.1);
   }

@@ -5,8 +5,9 @@ use Rattle.std.specs.Option.{option_and_then}
 use Rattle.std.proofs.lemmas.Option.{none-some, same_Some}
 use Rattle.std.proofs.lemmas.List.Elements.{length_all_zip}
 use Rattle.bundle_order_sort.specs.declared.Dependency.{Dependency}
+use Rattle.bundle_order_sort.specs.declared.Reference.{Reference}
 use Rattle.bundle_rules.specs.Order.{Mention, Group, IsOf, mention_at, Refers, DeclaresAt, Declares, DeclaresFirst, IsWithoutValue, Fills, SetsUpBy, by_member, by_prototype, by_value, Provides, Depends, DependsAtOnce, IsStrong}
-use Rattle.bundle_order_needs.specs.Found.{AreFound}
+use Rattle.bundle_order_needs.specs.Found.{AreFound, AreReferences}
 use Rattle.bundle_order_needs.specs.Renumbered.{IsSameButTop, IsRenumbered}
 
 -- ---- numbers that stand for each other
@@ -222,4 +223,11 @@ module _ (g h : Group) (re : IsRenumbered g h) where
       λ w. (f.weak s t).1 (record { depends = depends_there s t w.depends; not_strong = λ i. w.not_strong (strong_here s t i) }),
     );
     ascending = f.ascending;
+  }
+
+  pub AreReferences-renumbered : (references : List (List Reference)) (lists : List (List ℕ)) → AreReferences h references lists → AreReferences g references lists
+  AreReferences-renumbered references lists f = record {
+    len = f.len ∙ sym (length_all_zip (AllZip IsSameButTop) g.items h.items re.items);
+    strong = λ s t. ((λ c. strong_here s t ((f.strong s t).0 c)), λ i. (f.strong s t).1 (strong_there s t i));
+    depends = λ s t. ((λ c. depends_here s t ((f.depends s t).0 c)), λ d. (f.depends s t).1 (depends_there s t d));
   }

@@ -8,6 +8,8 @@ use Rattle.bundle_rules.specs.Statements.{TopItem}
 use Rattle.bundle_order_needs.specs.declared.seen.Seen.{Seen}
 use Rattle.bundle_order_needs.specs.Seen.{seen_as}
 use Rattle.bundle_order_sort.specs.declared.Dependency.{Dependency}
+use Rattle.bundle_order_sort.specs.declared.Reference.{Reference}
+use Rattle.bundle_order_sort.specs.declared.SharedItem.{SharedItem}
 use Rattle.bundle_order_sort.specs.declared.SortItem.{SortItem}
 use Rattle.bundle_order_needs.specs.declared.needs.ItemRange.{ItemRange}
 use Rattle.bundle_order_needs.specs.declared.told.Told.{Told}
@@ -24,6 +26,10 @@ cut_items tree ranges = map (cut_item tree) ranges
 -- what an item to sort depends on
 abbrev pub dependencies_of : SortItem → List Dependency
 dependencies_of item = item.dependencies.items
+
+-- the lists on which an item to sort depends
+abbrev pub references_of : SharedItem → List Reference
+references_of item = item.references.items
 
 -- the binding of the top that an identifier denotes, where this is told of its place; a plain word denotes none
 abbrev pub top_in : Role → Told → Option ℕ

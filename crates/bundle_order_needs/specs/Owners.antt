@@ -1,6 +1,7 @@
 -- To which module items belong.
 use Rattle.std.specs.Prelude.{ℕ, Bool, Option, Some, None, cond}
 use Rattle.bundle_order_needs.specs.declared.needs.ItemRange.{ItemRange}
+use Rattle.bundle_order_sort.specs.declared.SharedItem.{SharedItem}
 use Rattle.bundle_order_sort.specs.declared.SortItem.{SortItem}
 
 -- the module of an item, and whether the item is free
@@ -10,6 +11,10 @@ owner_of item = (item.«module», item.is_free)
 -- the same of an item to sort
 abbrev pub sorted_owner_of : SortItem → ℕ × Bool
 sorted_owner_of item = (item.«module», item.is_free)
+
+-- the same of an item that shares the lists of what it depends on
+abbrev pub shared_owner_of : SharedItem → ℕ × Bool
+shared_owner_of item = (item.«module», item.is_free)
 
 -- the module of an item, or none where it is free
 abbrev pub module_of : ItemRange → Option ℕ

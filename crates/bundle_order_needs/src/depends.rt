@@ -5,14 +5,14 @@ ghost use Rattle.std.specs.List.Sorted.{IsStrictlyIncreasing};
 ghost use Rattle.bundle_rules.specs.Order.{Group};
 ghost use Rattle.bundle_order_needs.specs.Seen.{seen_from};
 ghost use Rattle.bundle_order_needs.specs.Renumbered.{IsRenumbered};
-ghost use Rattle.bundle_order_needs.specs.Found.{AddsEnds, AreFound, IsEnd, IsFound, IsFoundAt};
+ghost use Rattle.bundle_order_needs.specs.Found.{AddsEnds, AreFound, AreReferences, AreReferred, IsEnd, IsFound, IsFoundAt, IsReferred};
 ghost use Rattle.bundle_order_needs.specs.Providing as providing;
 ghost use Rattle.bundle_order_needs.specs.Providing.{item_and_binding};
 
 use crate::numbers::{is_among, once, rows_of};
 use crate::providers::{owner_of, providers_of};
 use crate::seen::Seen;
-use bundle_order_sort::Dependency;
+use bundle_order_sort::{Dependency, Reference};
 use std::alloc::{AllocError, Global};
 
 /// For each item what it depends on, ascending and each once, where these are the identifiers of all items that
@@ -202,6 +202,94 @@ fn dependencies_in(
         found.push(Dependency {
             item: *item,
             is_weak: !is_strong,
+        })?;
+    }
+    Ok(found)
+}
+
+/// For each item the bindings to which it refers, and for each of so many bindings the items that declare it or set
+/// it up, where these are the identifiers of all items that denote a binding of the top, in their order, and each
+/// item's module or none. How bindings are numbered changes nothing.
+///
+/// An item depends on another where it refers to a binding that the other declares or sets up. The dependency is
+/// weak where the item is of a module and every such reference runs later. Refused only where memory runs out.
+pub fn references_among(
+    alloc: Global,
+    seen: &[Seen],
+    owners: &[Option<usize>],
+    count: usize,
+) -> Result<(Vec<Vec<Reference>>, Vec<Vec<usize>>), AllocError>
+    ensures len { IfOk result (λ found. length found.0.items ≡ length owners.now) }
+    ensures exact { IfOk result (λ found.
+        (g h : Group) →
+        IsRenumbered g h →
+        seen.now ≡ seen_from 0 h.items →
+        owners.now ≡ h.owners →
+        length h.items ≡ length h.owners →
+        All (λ one. one.binding < count) seen.now →
+        AreReferences g (map (λ v. v.items) found.0.items) (map (λ v. v.items) found.1.items)) }
+{
+    let providers = providers_of(alloc, seen, owners, count)?;
+    let references = referred(alloc, seen)?;
+    let all = rows_of(alloc, owners.len(), &references)?;
+    let strong_references = referred_strongly(alloc, seen, owners)?;
+    let strong = rows_of(alloc, owners.len(), &strong_references)?;
+    let found = all_references(alloc, &all, &strong)?;
+    Ok((found, providers))
+}
+
+// For each item the bindings to which it refers, where these are all of them and those to which it refers strongly.
+fn all_references(
+    alloc: Global,
+    all: &[Vec<usize>],
+    strong: &[Vec<usize>],
+) -> Result<Vec<Vec<Reference>>, AllocError>
+    requires { length strong.now ≡ length all.now }
+    ensures len { IfOk result (λ found. length found.items ≡ length all.now) }
+    ensures each { IfOk result (λ found.
+        AreReferred (length all.now) (map (λ v. v.items) all.now) (map (λ v. v.items) strong.now)
+        (map (λ v. v.items) found.items)) }
+{
+    let mut found = Vec::new(alloc);
+    for number in 0..all.len() {
+        let row = references_of(alloc, &all[number], &strong[number])?;
+        found.push(row)?;
+    }
+    Ok(found)
+}
+
+// The bindings to which an item refers, where these are all of them and those to which it refers strongly.
+fn references_of(
+    alloc: Global,
+    all: &[usize],
+    strong: &[usize],
+) -> Result<Vec<Reference>, AllocError>
+    ensures { IfOk result (λ found. IsReferred all.now strong.now found.items) }
+{
+    let wanted = once(Vec::from_slice(alloc, all)?);
+    let strong_ones = once(Vec::from_slice(alloc, strong)?);
+    let found = references_in(alloc, &wanted, &strong_ones)?;
+    Ok(found)
+}
+
+// These bindings as references, which are weak but for the strong ones.
+fn references_in(
+    alloc: Global,
+    all: &[usize],
+    strong: &[usize],
+) -> Result<Vec<Reference>, AllocError>
+    requires { IsStrictlyIncreasing strong.now }
+    ensures lists { IfOk result (λ found. map (λ one. one.list) found.items ≡ all.now) }
+    ensures strong { IfOk result (λ found.
+        All (λ one. (one.is_weak ≡ false) ↔ Contains strong.now one.list) found.items) }
+{
+    let mut found = Vec::new(alloc);
+    for list in all {
+        let is_strong = is_among(strong, *list);
+        let is_weak = !is_strong;
+        found.push(Reference {
+            list: *list,
+            is_weak,
         })?;
     }
     Ok(found)

@@ -13,6 +13,6 @@ pub(crate) mod spot;
 pub(crate) mod told;
 pub(crate) mod walk;
 
-pub use depends::dependencies_among;
-pub use needs::{ItemRange, dependencies};
+pub use depends::{dependencies_among, references_among};
+pub use needs::{ItemRange, dependencies, references};
 pub use seen::Seen;

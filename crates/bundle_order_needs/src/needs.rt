@@ -9,14 +9,15 @@ ghost use Rattle.bundle_rules.specs.Parts.{tree_of_items};
 ghost use Rattle.bundle_rules.specs.Sorting.{group_of_items};
 ghost use Rattle.bundle_rules.specs.Statements.{top_items};
 ghost use Rattle.bundle_scope_denote.specs.Listed.{IsOnlyTop, IsTable};
-ghost use Rattle.bundle_order_needs.specs.Found.{AreFound};
-ghost use Rattle.bundle_order_needs.specs.Cut.{cut_items, dependencies_of};
+ghost use Rattle.bundle_order_needs.specs.Found.{AreFound, AreReferences};
+ghost use Rattle.bundle_order_needs.specs.Cut.{cut_items, dependencies_of, references_of};
 ghost use Rattle.bundle_order_needs.specs.Owners as Owners;
-ghost use Rattle.bundle_order_needs.specs.Owners.{owner_of, sorted_owner_of};
+ghost use Rattle.bundle_order_needs.specs.Owners.{owner_of, shared_owner_of, sorted_owner_of};
 
 use crate::dependencies_among;
+use crate::depends::references_among;
 use crate::walk::seen_in;
-use bundle_order_sort::{Dependency, SortItem};
+use bundle_order_sort::{Dependency, Reference, SharedItem, SortItem};
 use bundle_scope_denote::Denotations;
 use bundle_tree_piece::Piece;
 use std::alloc::{AllocError, Global};
@@ -111,4 +112,59 @@ fn sort_items(
         })?;
     }
     Ok(sorted)
+}
+
+/// The items with the bindings to which they refer, and for each binding the items that declare it or set it up. The
+/// items do not overlap, and `top` is the number of the scope of the top bindings in the denotations of this list,
+/// read by symbol and context.
+///
+/// An item depends on another where it has a reference to a top binding that the other declares or sets up. The
+/// dependency is weak where the item is not free and every such reference lies in a function, its parameters
+/// included, or in what a field of an instance starts with. Refused only where memory runs out.
+pub fn references<'a>(
+    alloc: Global,
+    pieces: &[Piece<'a>],
+    denotations: &Denotations<'a>,
+    top: usize,
+    items: &[ItemRange],
+) -> Result<(Vec<SharedItem>, Vec<Vec<usize>>), AllocError>
+    ensures owners { IfOk result (λ shared.
+        map shared_owner_of shared.0.items ≡ map owner_of items.now) }
+    ensures found { IfOk result (λ shared.
+        IsTable ByContext Es (map item_of pieces.now) denotations.now →
+        IsOnlyTop denotations.now top →
+        AreReferences
+        (group_of ByContext Top (map item_of pieces.now)
+        (cut_items (map item_of pieces.now) items.now) (map Owners.module_of items.now))
+        (map references_of shared.0.items) (map (λ v. v.items) shared.1.items)) }
+{
+    let seen = seen_in(alloc, pieces, denotations, top, items)?;
+    let owners = owners_of(alloc, items)?;
+    let found = references_among(alloc, &seen, &owners, denotations.bindings.len())?;
+    let (references, lists) = found;
+    let shared = shared_items(alloc, items, &references)?;
+    Ok((shared, lists))
+}
+
+// The items with these references.
+fn shared_items(
+    alloc: Global,
+    items: &[ItemRange],
+    found: &[Vec<Reference>],
+) -> Result<Vec<SharedItem>, AllocError>
+    requires { length found.now ≡ length items.now }
+    ensures owners { IfOk result (λ shared.
+        map shared_owner_of shared.items ≡ map owner_of items.now) }
+    ensures found { IfOk result (λ shared.
+        map references_of shared.items ≡ map (λ v. v.items) found.now) }
+{
+    let mut shared = Vec::new(alloc);
+    for (number, item) in items.iter().enumerate() {
+        shared.push(SharedItem {
+            module: item.module,
+            is_free: item.is_free,
+            references: Vec::from_slice(alloc, &found[number])?,
+        })?;
+    }
+    Ok(shared)
 }

@@ -20,7 +20,7 @@ stands_at xs i x e = (slice_get_within xs i x e, get_or_from_slice_get xs i x 0 
 one_place : (xs : List ℕ) (i j : ℕ) → IsDistinct nat_eq xs → i < j → j < length xs → get_or xs i 0 ≢ get_or xs j 0
 one_place xs i j d h l e = false≢true (sym (apart_from_distinct nat_eq xs i j 0 d h l) ∙ eq-eqb (get_or xs i 0) (get_or xs j 0) e)
 
-module _ (needs : List (List ℕ)) (ranks firsts : List ℕ) where
+module _ (N : ℕ → ℕ → Type 0) (count : ℕ) (ranks firsts : List ℕ) where
   fresh_at : (t : ℕ) → t < length firsts → progress_of (map fresh firsts) t ≡ fresh (get_or firsts t 0)
   fresh_at t h = get_or-map fresh firsts t 0 unknown h
 
@@ -30,13 +30,13 @@ module _ (needs : List (List ℕ)) (ranks firsts : List ℕ) where
   out_never : (t : ℕ) → (progress_of (map fresh firsts) t).out ≡ false
   out_never t = elim (not_out t) [ inl e ↦ ap (λ q. q.out) e | inr e ↦ ap (λ q. q.out) e ]
 
-  begun_never : (t : ℕ) → (progress_of (map fresh firsts) t).begun ≡ false
+  pub begun_never : (t : ℕ) → (progress_of (map fresh firsts) t).begun ≡ false
   begun_never t = elim (not_out t) [ inl e ↦ ap (λ q. q.begun) e | inr e ↦ ap (λ q. q.begun) e ]
 
   next_first : (t : ℕ) → (progress_of (map fresh firsts) t).next ≤ get_or firsts t 0
   next_first t = elim (not_out t) [ inl e ↦ subst (λ q. q.next ≤ get_or firsts t 0) (sym e) (omega arith) | inr e ↦ subst (λ q. q.next ≤ get_or firsts t 0) (sym e) (omega arith) ]
 
-  pub Sorting-starts : length firsts ≡ length needs → (stack : List ℕ) → ((k : ℕ) → k < length stack → get_or stack k 0 < length needs) → ((t : ℕ) → t < length needs → Contains stack t) → Sorting needs ranks firsts stack (map fresh firsts) []
+  pub Sorting-starts : length firsts ≡ count → (stack : List ℕ) → ((k : ℕ) → k < length stack → get_or stack k 0 < count) → ((t : ℕ) → t < count → Contains stack t) → Sorting N count ranks firsts stack (map fresh firsts) []
   Sorting-starts len stack within all = record {
     len = length-map firsts fresh ∙ len;
     within = within;
@@ -49,20 +49,20 @@ module _ (needs : List (List ℕ)) (ranks firsts : List ℕ) where
     good = λ i h t n. absurd (omega (arith, h));
   }
 
-  module _ (ps : List Progress) (order : List ℕ) (w : Sorting needs ranks firsts [] ps order) where
-    all_out : (t : ℕ) → t < length needs → IsOut ps t
+  module _ (ps : List Progress) (order : List ℕ) (w : Sorting N count ranks firsts [] ps order) where
+    all_out : (t : ℕ) → t < count → IsOut ps t
     all_out t h = elim (cases_Bool (progress_of ps t).out) [ inl o ↦ o | inr e ↦ absurd (nothing_in t (w.left t h (λ o. false≢true (sym e ∙ o)))) ]
 
-    out_in : (t : ℕ) → IsOut ps t → t < length needs
+    out_in : (t : ℕ) → IsOut ps t → t < count
     out_in t o = elim (cases_lt t (length ps)) [ inl l ↦ omega (arith, l, w.len) | inr g ↦ absurd (false≢true (sym (ap (λ q. q.out) (get_or_past ps t unknown g)) ∙ o)) ]
 
-    promised : (s t : ℕ) → StandsBefore order s t → Promise needs ranks firsts s t
+    promised : (s t : ℕ) → StandsBefore order s t → Promise N count ranks firsts s t
     promised s t b =
         let first = stands_at order b.i s b.first in
         let second = stands_at order b.j t b.second in
-        subst (λ x. Promise needs ranks firsts x t) first.1 (w.good b.i first.0 t (λ k h e. one_place order k b.j w.once (omega (arith, h, b.before)) second.0 (e ∙ sym second.1)))
+        subst (λ x. Promise N count ranks firsts x t) first.1 (w.good b.i first.0 t (λ k h e. one_place order k b.j w.once (omega (arith, h, b.before)) second.0 (e ∙ sym second.1)))
 
-    pub IsInOrder-from_sorting : IsInOrder needs ranks firsts order
+    pub IsInOrder-from_sorting : IsInOrder N count ranks firsts order
     IsInOrder-from_sorting = record {
       all = λ s. (λ h. (w.done s).0 (all_out s h), λ c. out_in s ((w.done s).1 c));
       once = w.once;

@@ -1,7 +1,11 @@
 pub mod ChainLemmas
+pub mod ElementLemmas
 pub mod EndLemmas
 pub mod Examples
+pub mod HubLemmas
 pub mod ItemLemmas
+pub mod KnownLemmas
+pub mod LeftLemmas
 pub mod RankingLemmas
 pub mod RowLemmas
 pub mod SiftLemmas

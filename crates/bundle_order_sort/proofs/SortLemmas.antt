@@ -10,7 +10,7 @@ use Rattle.bundle_order_graph.specs.Walks.{Path}
 use Rattle.bundle_order_sort.specs.Topmost.{IsTopmost}
 use Rattle.bundle_order_sort.proofs.TopmostLemmas.{Under-topmost, Hangs-topmost}
 use Rattle.bundle_order_sort.specs.declared.stack.Progress.{Progress}
-use Rattle.bundle_order_sort.specs.Numbers.{Needs, IsEarlier, Step, by_need, by_own_order, unknown, progress_of, IsOut, is_awaited}
+use Rattle.bundle_order_sort.specs.Numbers.{IsEarlier, Step, by_need, by_own_order, unknown, progress_of, IsOut, is_awaited}
 use Rattle.bundle_order_sort.proofs.StackLemmas.{Path-one, before_or_at, Under, Hangs, Under-pop, Hangs-pop, Under-top, Hangs-top, Under-push, Hangs-push, Hangs-begun, Under-new}
 
 abbrev pub IsBegun : List Progress → ℕ → Type 0
@@ -60,14 +60,14 @@ found (x ∷ xs) y h = by (λ t. found xs y t) (nat_eq y x) refl
 absent : (xs : List ℕ) (y : ℕ) → (Contains xs y → ⊥) → list_any (nat_eq y) xs ≡ false
 absent xs y void = elim (cases_Bool (list_any (nat_eq y) xs)) [ inl e ↦ absurd (void (found xs y e)) | inr e ↦ e ]
 
-module _ (needs : List (List ℕ)) (ranks firsts : List ℕ) where
+module _ (N : ℕ → ℕ → Type 0) (count : ℕ) (ranks firsts : List ℕ) where
   abbrev pub Along : ℕ → ℕ → Type 0
-  Along = Step needs firsts
+  Along = Step N firsts
 
   -- what holds where item s stands before t
   pub record Promise (s t : ℕ) : Type 0 where
     pub own : IsEarlier firsts s t → Path Along t s
-    pub needed : Needs needs s t → (get_or ranks s 0 ≤ get_or ranks t 0) × Path Along s s
+    pub needed : N s t → (get_or ranks s 0 ≤ get_or ranks t 0) × Path Along s s
 
   or_itself : {A B C : Type 0} → (A → B) → A ⊎ C → B ⊎ C
   or_itself f (inl a) = inl (f a)
@@ -75,29 +75,29 @@ module _ (needs : List (List ℕ)) (ranks firsts : List ℕ) where
 
   -- the sort has come this far
   pub record Sorting (stack : List ℕ) (ps : List Progress) (order : List ℕ) : Type 0 where
-    pub len : length ps ≡ length needs
-    pub within : (k : ℕ) → k < length stack → get_or stack k 0 < length needs
+    pub len : length ps ≡ count
+    pub within : (k : ℕ) → k < length stack → get_or stack k 0 < count
     -- the items that are out
     pub done : (t : ℕ) → IsOut ps t ↔ Contains order t
     pub once : IsDistinct nat_eq order
     -- the others are on the stack
-    pub left : (t : ℕ) → t < length needs → (IsOut ps t → ⊥) → Contains stack t
-    pub from : (s : ℕ) → s < length needs → get_or firsts s 0 ≤ (progress_of ps s).next
+    pub left : (t : ℕ) → t < count → (IsOut ps t → ⊥) → Contains stack t
+    pub from : (s : ℕ) → s < count → get_or firsts s 0 ≤ (progress_of ps s).next
     -- what a begun item needs is out, or above a copy of it from which a path of steps leads to all that is above it; or a path leads from it to itself
-    pub hangs : (s t : ℕ) → IsBegun ps s → Needs needs s t → (IsOut ps t → ⊥) → Hangs Along stack s t ⊎ Path Along s s
+    pub hangs : (s t : ℕ) → IsBegun ps s → N s t → (IsOut ps t → ⊥) → Hangs Along stack s t ⊎ Path Along s s
     -- an earlier item that was put above an item once is out, or a path of steps leads from it to all above it
     pub under : (s t : ℕ) → get_or firsts s 0 ≤ t → t < (progress_of ps s).next → (IsOut ps t → ⊥) → Under Along stack t
     pub good : (i : ℕ) → i < length order → (t : ℕ) → ((k : ℕ) → k ≤ i → get_or order k 0 ≢ t) → Promise (get_or order i 0) t
 
-  module _ (inside : (s t : ℕ) → Needs needs s t → t < length needs) (rest : List ℕ) (s : ℕ) (ps : List Progress) (order : List ℕ) (w : Sorting (rest ++ s ∷ []) ps order) where
-    top_in : s < length needs
-    top_in = subst (λ x. x < length needs) (get_or_push rest s 0 (length rest) refl) (w.within (length rest) (omega (arith, length_push rest s)))
+  module _ (inside : (s t : ℕ) → N s t → t < count) (rest : List ℕ) (s : ℕ) (ps : List Progress) (order : List ℕ) (w : Sorting (rest ++ s ∷ []) ps order) where
+    top_in : s < count
+    top_in = subst (λ x. x < count) (get_or_push rest s 0 (length rest) refl) (w.within (length rest) (omega (arith, length_push rest s)))
 
     top_known : s < length ps
     top_known = omega (arith, top_in, w.len)
 
-    rest_within : (k : ℕ) → k < length rest → get_or rest k 0 < length needs
-    rest_within k h = subst (λ x. x < length needs) (get_or_append_left rest (s ∷ []) 0 k h) (w.within k (omega (arith, h, length_push rest s)))
+    rest_within : (k : ℕ) → k < length rest → get_or rest k 0 < count
+    rest_within k h = subst (λ x. x < count) (get_or_append_left rest (s ∷ []) 0 k h) (w.within k (omega (arith, h, length_push rest s)))
 
     below : (t : ℕ) → t ≢ s → Contains (rest ++ s ∷ []) t → Contains rest t
     below t ne c = elim (Contains-push_cases rest s t c) [ inl b ↦ b | inr e ↦ absurd (ne (sym e)) ]
@@ -119,19 +119,19 @@ module _ (needs : List (List ℕ)) (ranks firsts : List ℕ) where
         other : (t : ℕ) → (IsOut ps t → ⊥) → t ≢ s
         other t void e = void (subst (λ x. IsOut ps x) (sym e) out)
 
-    module _ (ys : List ℕ) (sound : (k : ℕ) → k < length ys → Path Along s (get_or ys k 0)) (into : (k : ℕ) → k < length ys → get_or ys k 0 < length needs) where
-      pushed_within : (k : ℕ) → k < length ((rest ++ s ∷ []) ++ ys) → get_or ((rest ++ s ∷ []) ++ ys) k 0 < length needs
+    module _ (ys : List ℕ) (sound : (k : ℕ) → k < length ys → Path Along s (get_or ys k 0)) (into : (k : ℕ) → k < length ys → get_or ys k 0 < count) where
+      pushed_within : (k : ℕ) → k < length ((rest ++ s ∷ []) ++ ys) → get_or ((rest ++ s ∷ []) ++ ys) k 0 < count
       pushed_within k h = by (cases_lt k (length (rest ++ s ∷ [])))
         where
-          at : (n : ℕ) → k ≡ length (rest ++ s ∷ []) + n → get_or ((rest ++ s ∷ []) ++ ys) k 0 < length needs
-          at n e = subst (λ x. x < length needs) (sym (ap (λ m. get_or ((rest ++ s ∷ []) ++ ys) m 0) e ∙ get_or-append-add (rest ++ s ∷ []) ys n 0)) (into n (omega (arith, e, h, length-append (rest ++ s ∷ []) ys)))
+          at : (n : ℕ) → k ≡ length (rest ++ s ∷ []) + n → get_or ((rest ++ s ∷ []) ++ ys) k 0 < count
+          at n e = subst (λ x. x < count) (sym (ap (λ m. get_or ((rest ++ s ∷ []) ++ ys) m 0) e ∙ get_or-append-add (rest ++ s ∷ []) ys n 0)) (into n (omega (arith, e, h, length-append (rest ++ s ∷ []) ys)))
 
-          by : (k < length (rest ++ s ∷ [])) ⊎ (length (rest ++ s ∷ []) ≤ k) → get_or ((rest ++ s ∷ []) ++ ys) k 0 < length needs
-          by (inl l) = subst (λ x. x < length needs) (sym (get_or_append_left (rest ++ s ∷ []) ys 0 k l)) (w.within k l)
+          by : (k < length (rest ++ s ∷ [])) ⊎ (length (rest ++ s ∷ []) ≤ k) → get_or ((rest ++ s ∷ []) ++ ys) k 0 < count
+          by (inl l) = subst (λ x. x < count) (sym (get_or_append_left (rest ++ s ∷ []) ys 0 k l)) (w.within k l)
           by (inr g) = at (k - length (rest ++ s ∷ [])) (omega (arith, g))
 
     -- what the item waits for is put above it
-    module _ (ys : List ℕ) (sound : (k : ℕ) → k < length ys → Needs needs s (get_or ys k 0)) (complete : (t : ℕ) → Needs needs s t → is_awaited ranks ps s t ≡ true → Contains ys t) (p : Progress) (same_out : p.out ≡ (progress_of ps s).out) (begun : p.begun ≡ true) (same_next : p.next ≡ (progress_of ps s).next) where
+    module _ (ys : List ℕ) (sound : (k : ℕ) → k < length ys → N s (get_or ys k 0)) (complete : (t : ℕ) → N s t → is_awaited ranks ps s t ≡ true → Contains ys t) (p : Progress) (same_out : p.out ≡ (progress_of ps s).out) (begun : p.begun ≡ true) (same_next : p.next ≡ (progress_of ps s).next) where
       steps : (k : ℕ) → k < length ys → Path Along s (get_or ys k 0)
       steps k h = Path-one Along s (get_or ys k 0) (by_need (sound k h))
 
@@ -157,16 +157,16 @@ module _ (needs : List (List ℕ)) (ranks firsts : List ℕ) where
         good = w.good;
       }
         where
-          hang : (u t : ℕ) → IsBegun (set ps s p) u → Needs needs u t → (IsOut ps t → ⊥) → (u ≡ s) ⊎ (u ≡ s → ⊥) → (IsBegun ps u) ⊎ ((progress_of ps u).begun ≡ false) → Hangs Along ((rest ++ s ∷ []) ++ ys) u t ⊎ Path Along u u
+          hang : (u t : ℕ) → IsBegun (set ps s p) u → N u t → (IsOut ps t → ⊥) → (u ≡ s) ⊎ (u ≡ s → ⊥) → (IsBegun ps u) ⊎ ((progress_of ps u).begun ≡ false) → Hangs Along ((rest ++ s ∷ []) ++ ys) u t ⊎ Path Along u u
           hang u t b n void _ (inl was) = or_itself (Hangs-push Along rest s ys steps u t) (w.hangs u t was n void)
           hang u t b n void (inl e) (inr new) =
-              let n' : Needs needs s t = subst (λ x. Needs needs x t) e n in
+              let n' : N s t = subst (λ x. N x t) e n in
               let new' : (progress_of ps s).begun ≡ false = subst (λ x. (progress_of ps x).begun ≡ false) e new in
               inl (subst (λ x. Hangs Along ((rest ++ s ∷ []) ++ ys) x t) (sym e) (Hangs-begun Along rest s ys steps t (complete t n' (is_awaited-yes (progress_of ps t).out (nat_lt (get_or ranks t 0) (get_or ranks s 0)) (progress_of ps s).begun void new'))))
           hang u t b n void (inr ne) (inr new) = absurd (false≢true (sym new ∙ (sym (ap (λ q. q.begun) (kept ps s p top_known u ne)) ∙ b)))
 
     -- a chain of what the item waits for is put above it: no item's progress changes
-    pub Sorting-chains : (ys : List ℕ) (steps : (k : ℕ) → k < length ys → Path Along s (get_or ys k 0)) → ((k : ℕ) → k < length ys → get_or ys k 0 < length needs) → Sorting ((rest ++ s ∷ []) ++ ys) ps order
+    pub Sorting-chains : (ys : List ℕ) (steps : (k : ℕ) → k < length ys → Path Along s (get_or ys k 0)) → ((k : ℕ) → k < length ys → get_or ys k 0 < count) → Sorting ((rest ++ s ∷ []) ++ ys) ps order
     Sorting-chains ys steps into = record {
       len = w.len;
       within = pushed_within ys steps into;
@@ -206,7 +206,7 @@ module _ (needs : List (List ℕ)) (ranks firsts : List ℕ) where
       pub Sorting-pulls : Sorting ((rest ++ s ∷ []) ++ e ∷ []) (set ps s p) order
       Sorting-pulls = record {
         len = length-set ps s p ∙ w.len;
-        within = pushed_within (e ∷ []) own_steps (λ k h. subst (λ x. x < length needs) (sym (only k h)) (omega (arith, low, top_in)));
+        within = pushed_within (e ∷ []) own_steps (λ k h. subst (λ x. x < count) (sym (only k h)) (omega (arith, low, top_in)));
         done = λ t. (λ o. (w.done t).0 (was_out' t o), λ c. is_out' t ((w.done t).1 c));
         once = w.once;
         left = λ t h void. Contains-append_left (rest ++ s ∷ []) (e ∷ []) t (w.left t h (λ o. void (is_out' t o)));
@@ -216,7 +216,7 @@ module _ (needs : List (List ℕ)) (ranks firsts : List ℕ) where
         good = w.good;
       }
         where
-          starts : (u : ℕ) → u < length needs → (u ≡ s) ⊎ (u ≡ s → ⊥) → get_or firsts u 0 ≤ (progress_of (set ps s p) u).next
+          starts : (u : ℕ) → u < count → (u ≡ s) ⊎ (u ≡ s → ⊥) → get_or firsts u 0 ≤ (progress_of (set ps s p) u).next
           starts u h (inl same) = subst (λ x. get_or firsts x 0 ≤ (progress_of (set ps s p) x).next) (sym same) (subst (λ q. get_or firsts s 0 ≤ q.next) (sym (written ps s p top_known)) (omega (arith, next, earlier.0)))
           starts u h (inr ne) = subst (λ q. get_or firsts u 0 ≤ q.next) (sym (kept ps s p top_known u ne)) (w.from u h)
 
@@ -234,7 +234,7 @@ module _ (needs : List (List ℕ)) (ranks firsts : List ℕ) where
           lies u t f h void (inr ne) = Under-push Along rest s (e ∷ []) own_steps t (w.under u t f (subst (λ q. t < q.next) (kept ps s p top_known u ne) h) void)
 
     -- the item is out
-    module _ (none : (t : ℕ) → Needs needs s t → is_awaited ranks ps s t ≡ false) (past : (u : ℕ) → (progress_of ps s).next ≤ u → u < s → IsOut ps u) (void : IsOut ps s → ⊥) (p : Progress) (out : p.out ≡ true) (same_begun : p.begun ≡ (progress_of ps s).begun) (same_next : p.next ≡ (progress_of ps s).next) where
+    module _ (none : (t : ℕ) → N s t → is_awaited ranks ps s t ≡ false) (past : (u : ℕ) → (progress_of ps s).next ≤ u → u < s → IsOut ps u) (void : IsOut ps s → ⊥) (p : Progress) (out : p.out ≡ true) (same_begun : p.begun ≡ (progress_of ps s).begun) (same_next : p.next ≡ (progress_of ps s).next) where
       now : List Progress
       now = set ps s p
 
@@ -302,7 +302,7 @@ module _ (needs : List (List ℕ)) (ranks firsts : List ℕ) where
     pub Sorting-topmost : Sorting kept ps order
     Sorting-topmost = record {
       len = w.len;
-      within = λ k h. subst (λ x. x < length needs) (sym (top.same k h)) (w.within (top.place k) (top.within k h));
+      within = λ k h. subst (λ x. x < count) (sym (top.same k h)) (w.within (top.place k) (top.within k h));
       done = w.done;
       once = w.once;
       left = λ t h void. still t void (w.left t h void);
@@ -319,7 +319,7 @@ module _ (needs : List (List ℕ)) (ranks firsts : List ℕ) where
             (at.0, at.1, get_or_default kept at.0 t 0 at.1 ∙ (at.3 ∙ is))
 
         -- an item that is out stands in the order, and has its promise
-        hang : (s t : ℕ) → IsBegun ps s → Needs needs s t → (IsOut ps t → ⊥) → ((progress_of ps s).out ≡ true) ⊎ ((progress_of ps s).out ≡ false) → Hangs Along kept s t ⊎ Path Along s s
+        hang : (s t : ℕ) → IsBegun ps s → N s t → (IsOut ps t → ⊥) → ((progress_of ps s).out ≡ true) ⊎ ((progress_of ps s).out ≡ false) → Hangs Along kept s t ⊎ Path Along s s
         hang s t b n void (inr not_yet) = elim (w.hangs s t b n void) [
           | inl h ↦ Hangs-topmost Along (λ x. IsOut ps x → ⊥) stack kept top s t (λ o. false≢true (sym not_yet ∙ o)) void h
           | inr p ↦ inr p

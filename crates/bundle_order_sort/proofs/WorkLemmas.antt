@@ -15,27 +15,24 @@ one_unless b = cond b 0 1
 abbrev pub chances : ℕ → Progress → ℕ
 chances n p = one_unless p.out + one_unless p.begun + (n - p.next)
 
-module _ (needs : List (List ℕ)) (ranks : List ℕ) where
+module _ (count : ℕ) (ranks : List ℕ) where
   -- more than an item ranks
   abbrev pub highest : ℕ
   highest = sum ranks + 1
 
   -- more than are put on the stack in one step
   abbrev pub most : ℕ
-  most = sum_by length needs + highest + 3
+  most = count + highest + 3
 
   -- how high the top of the stack stands; highest, if it is out
   abbrev pub height : List Progress → List ℕ → ℕ
   height ps stack = cond (progress_of ps (get_or stack (length stack - 1) 0)).out highest (get_or ranks (get_or stack (length stack - 1) 0) 0)
 
   abbrev pub work : List Progress → List ℕ → ℕ
-  work ps stack = (most * (highest + 1)) * sum_by (chances (length needs)) ps + (length stack + most * height ps stack)
+  work ps stack = (most * (highest + 1)) * sum_by (chances (count)) ps + (length stack + most * height ps stack)
 
   pub rank-le : (x : ℕ) → get_or ranks x 0 < highest
   rank-le x = elim (cases_lt x (length ranks)) [ inl l ↦ omega (arith, get_or-le-sum_by (λ y. y) ranks x 0 l) | inr g ↦ omega (arith, get_or_past ranks x 0 g) ]
-
-  needs-short : (s : ℕ) → length (get_or needs s []) + 2 ≤ most
-  needs-short s = elim (cases_lt s (length needs)) [ inl l ↦ omega (arith, get_or-le-sum_by length needs s [] l) | inr g ↦ omega (arith, ap length (get_or_past needs s [] g)) ]
 
   height-by : (b : Bool) (x : ℕ) → cond b highest (get_or ranks x 0) ≤ highest
   height-by true x = omega arith
@@ -58,17 +55,17 @@ module _ (needs : List (List ℕ)) (ranks : List ℕ) where
   work-drops ps rest x o = omega (arith, length_push rest x, mul-le-mul_left most (height-le ps rest), ap (λ h. most * h) (height-out ps rest x o))
 
   -- a chance is used, and few are put on the stack
-  pub work-uses : (ps ps' : List Progress) (stack stack' : List ℕ) → sum_by (chances (length needs)) ps' < sum_by (chances (length needs)) ps → length stack' + 2 ≤ length stack + most → work ps' stack' < work ps stack
+  pub work-uses : (ps ps' : List Progress) (stack stack' : List ℕ) → sum_by (chances (count)) ps' < sum_by (chances (count)) ps → length stack' + 2 ≤ length stack + most → work ps' stack' < work ps stack
   work-uses ps ps' stack stack' h l = omega (arith, l, fewer, mul-le-mul_left most (height-le ps' stack'), split)
     where
-      fewer : (most * (highest + 1)) * (sum_by (chances (length needs)) ps' + 1) ≤ (most * (highest + 1)) * sum_by (chances (length needs)) ps
+      fewer : (most * (highest + 1)) * (sum_by (chances (count)) ps' + 1) ≤ (most * (highest + 1)) * sum_by (chances (count)) ps
       fewer = mul-le-mul_left (most * (highest + 1)) (omega (arith, h))
 
       split : most * (highest + 1) ≡ most * highest + most
       split = omega arith
 
   -- the top stands lower than before, and few are put on the stack
-  pub work-sinks : (ps ps' : List Progress) (stack stack' : List ℕ) → sum_by (chances (length needs)) ps' ≡ sum_by (chances (length needs)) ps → height ps' stack' < height ps stack → length stack' + 2 ≤ length stack + most → work ps' stack' < work ps stack
+  pub work-sinks : (ps ps' : List Progress) (stack stack' : List ℕ) → sum_by (chances (count)) ps' ≡ sum_by (chances (count)) ps → height ps' stack' < height ps stack → length stack' + 2 ≤ length stack + most → work ps' stack' < work ps stack
   work-sinks ps ps' stack stack' same h l = omega (arith, l, ap (λ a. (most * (highest + 1)) * a) same, lower, split)
     where
       lower : most * (height ps' stack' + 1) ≤ most * height ps stack
@@ -79,8 +76,8 @@ module _ (needs : List (List ℕ)) (ranks : List ℕ) where
 
   module _ (rest : List ℕ) (s : ℕ) (ps : List Progress) (known : s < length ps) (p : Progress) where
     -- the chances of one item are fewer
-    chance : chances (length needs) p < chances (length needs) (progress_of ps s) → sum_by (chances (length needs)) (set ps s p) < sum_by (chances (length needs)) ps
-    chance h = omega (arith, h, sum_by-set (chances (length needs)) ps s p unknown known)
+    chance : chances (count) p < chances (count) (progress_of ps s) → sum_by (chances (count)) (set ps s p) < sum_by (chances (count)) ps
+    chance h = omega (arith, h, sum_by-set (chances (count)) ps s p unknown known)
 
     module _ (left : (progress_of ps s).out ≡ false) where
       -- the item is out
@@ -88,12 +85,12 @@ module _ (needs : List (List ℕ)) (ranks : List ℕ) where
       work-outs a b c = work-uses ps (set ps s p) (rest ++ s ∷ []) rest (chance (omega (arith, ap one_unless a, ap one_unless b, c, ap one_unless left))) (omega (arith, length_push rest s))
 
       -- an earlier item is put above it
-      pub work-pulls : (e : ℕ) → (progress_of ps s).next ≤ e → e < length needs → p.out ≡ (progress_of ps s).out → p.begun ≡ (progress_of ps s).begun → p.next ≡ e + 1 → work (set ps s p) ((rest ++ s ∷ []) ++ e ∷ []) < work ps (rest ++ s ∷ [])
+      pub work-pulls : (e : ℕ) → (progress_of ps s).next ≤ e → e < count → p.out ≡ (progress_of ps s).out → p.begun ≡ (progress_of ps s).begun → p.next ≡ e + 1 → work (set ps s p) ((rest ++ s ∷ []) ++ e ∷ []) < work ps (rest ++ s ∷ [])
       work-pulls e high within a b c = work-uses ps (set ps s p) (rest ++ s ∷ []) ((rest ++ s ∷ []) ++ e ∷ []) (chance (omega (arith, ap one_unless a, ap one_unless b, c, high, within))) (omega (arith, length_push (rest ++ s ∷ []) e))
 
       -- the item is begun, and what it needs is put above it
-      pub work-begins : (ys : List ℕ) → length ys ≤ length (get_or needs s []) → (progress_of ps s).begun ≡ false → p.out ≡ (progress_of ps s).out → p.begun ≡ true → p.next ≡ (progress_of ps s).next → work (set ps s p) ((rest ++ s ∷ []) ++ ys) < work ps (rest ++ s ∷ [])
-      work-begins ys short new a b c = work-uses ps (set ps s p) (rest ++ s ∷ []) ((rest ++ s ∷ []) ++ ys) (chance (omega (arith, ap one_unless a, ap one_unless b, c, ap one_unless new))) (omega (arith, length-append (rest ++ s ∷ []) ys, short, needs-short s))
+      pub work-begins : (ys : List ℕ) → length ys ≤ count → (progress_of ps s).begun ≡ false → p.out ≡ (progress_of ps s).out → p.begun ≡ true → p.next ≡ (progress_of ps s).next → work (set ps s p) ((rest ++ s ∷ []) ++ ys) < work ps (rest ++ s ∷ [])
+      work-begins ys short new a b c = work-uses ps (set ps s p) (rest ++ s ∷ []) ((rest ++ s ∷ []) ++ ys) (chance (omega (arith, ap one_unless a, ap one_unless b, c, ap one_unless new))) (omega (arith, length-append (rest ++ s ∷ []) ys, short))
 
   -- a chain is put above the top: it falls in rank
   pub work-chains : (ps : List Progress) (rest : List ℕ) (s : ℕ) (ys : List ℕ) → (progress_of ps s).out ≡ false → 0 < length ys → length ys ≤ highest → (progress_of ps (get_or ys (length ys - 1) 0)).out ≡ false → get_or ranks (get_or ys (length ys - 1) 0) 0 < get_or ranks s 0 → work ps ((rest ++ s ∷ []) ++ ys) < work ps (rest ++ s ∷ [])

@@ -1,6 +1,8 @@
 pub mod Chains
 pub mod Classes
 pub mod Items
+pub mod Left
+pub mod Listed
 pub mod Numbers
 pub mod Topmost
 pub mod Merged

@@ -1,10 +1,10 @@
--- The promise over numbers alone: lists of needs, a rank for each item, and the first item of each item's module.
-use Rattle.std.specs.Prelude.{◌≡◌, ℕ, ◌<◌, ◌≤◌, ◌&&◌, ◌||◌, ◌↔◌, Bool, true, false, not, nat_eq, nat_lt, List, [], length, slice_get, slice_index, slice_index_or, Some, Contains}
+-- The promise over numbers alone: which item needs which, a rank for each item, and the first item of each item's module.
+use Rattle.std.specs.Prelude.{◌≡◌, ℕ, ◌<◌, ◌≤◌, ◌&&◌, ◌||◌, ◌↔◌, Bool, true, false, not, nat_eq, nat_lt, List, [], slice_get, slice_index, slice_index_or, Some, Contains}
 use Rattle.std.specs.List.{IsDistinct}
 use Rattle.bundle_order_graph.specs.Walks.{Path}
 use Rattle.bundle_order_sort.specs.declared.stack.Progress.{Progress}
 
--- item s needs item t
+-- the list of item s has item t
 abbrev pub Needs : List (List ℕ) → ℕ → ℕ → Type 0
 Needs needs s t = Contains (slice_index_or needs s []) t
 
@@ -13,9 +13,9 @@ abbrev pub IsEarlier : List ℕ → ℕ → ℕ → Type 0
 IsEarlier firsts s t = (slice_index firsts s ≤ t) × (t < s)
 
 -- a step leads from an item to one that it needs, or to an earlier one of its module
-pub data Step (needs : List (List ℕ)) (firsts : List ℕ) (s t : ℕ) : Type 0 where
-  by_need : Needs needs s t → Step needs firsts s t
-  by_own_order : IsEarlier firsts s t → Step needs firsts s t
+pub data Step (N : ℕ → ℕ → Type 0) (firsts : List ℕ) (s t : ℕ) : Type 0 where
+  by_need : N s t → Step N firsts s t
+  by_own_order : IsEarlier firsts s t → Step N firsts s t
 
 -- a stands before b
 pub record StandsBefore (order : List ℕ) (a b : ℕ) : Type 0 where
@@ -25,15 +25,15 @@ pub record StandsBefore (order : List ℕ) (a b : ℕ) : Type 0 where
   pub first : slice_get order i ≡ Some a
   pub second : slice_get order j ≡ Some b
 
--- the order that is promised. Own order: an item stands before an earlier one of its module only where a path of steps leads from that one back to it. Needs: an item stands before one that it needs only where that one does not rank below it, and a path of steps leads from it to itself
-pub record IsInOrder (needs : List (List ℕ)) (ranks firsts order : List ℕ) : Type 0 where
-  pub all : (s : ℕ) → (s < length needs) ↔ Contains order s
+-- the order of so many items that is promised, where N tells what an item needs. Own order: an item stands before an earlier one of its module only where a path of steps leads from that one back to it. Needs: an item stands before one that it needs only where that one does not rank below it, and a path of steps leads from it to itself
+pub record IsInOrder (N : ℕ → ℕ → Type 0) (count : ℕ) (ranks firsts order : List ℕ) : Type 0 where
+  pub all : (s : ℕ) → (s < count) ↔ Contains order s
   pub once : IsDistinct nat_eq order
-  pub own : (s t : ℕ) → IsEarlier firsts s t → StandsBefore order s t → Path (Step needs firsts) t s
+  pub own : (s t : ℕ) → IsEarlier firsts s t → StandsBefore order s t → Path (Step N firsts) t s
   pub needed : (s t : ℕ) →
-      Needs needs s t →
+      N s t →
       StandsBefore order s t →
-      (slice_index ranks s ≤ slice_index ranks t) × Path (Step needs firsts) s s
+      (slice_index ranks s ≤ slice_index ranks t) × Path (Step N firsts) s s
 
 -- How far the sort has come.
 

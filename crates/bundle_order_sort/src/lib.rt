@@ -9,7 +9,7 @@ mod plan;
 pub(crate) mod stack;
 mod table;
 
-ghost use Rattle.std.specs.Prelude.{IfOk};
+ghost use Rattle.std.specs.Prelude.{IfOk, map};
 ghost use Rattle.bundle_order_sort.specs.Items.{IsGoodOrder};
 
 use std::alloc::{AllocError, Global};
@@ -23,8 +23,7 @@ pub struct Dependency {
     pub is_weak: bool,
 }
 
-/// One item to sort. Items are numbered as they stand: those of the modules in order, those of one
-/// module together, and then the free ones.
+/// One item with what it depends on.
 #[derive(Drop)]
 pub struct SortItem {
     /// The number of its module.
@@ -35,7 +34,30 @@ pub struct SortItem {
     pub dependencies: Vec<Dependency>,
 }
 
-/// The numbers of the items in the order in which they are put out, each once.
+/// That an item depends on all others of a list.
+#[derive(Clone, Copy)]
+pub struct Reference {
+    /// The number of the list.
+    pub list: usize,
+    /// They are needed only once a function runs, and not where the item itself stands.
+    pub is_weak: bool,
+}
+
+/// One item to sort. Items are numbered as they stand: those of the modules in order, those of one
+/// module together, and then the free ones.
+#[derive(Drop)]
+pub struct SharedItem {
+    /// The number of its module.
+    pub module: usize,
+    /// Its module's order does not bind it.
+    pub is_free: bool,
+    /// The lists on which it depends. A number that is no list's counts as none.
+    pub references: Vec<Reference>,
+}
+
+/// The numbers of the items in the order in which they are put out, each once, where items share
+/// the lists of what they depend on. In a list a number that is no item's counts as none, and so
+/// does the number of the item itself that depends on the list.
 ///
 /// An item needs what it depends on, unless both are of one module and neither is free, or the
 /// dependency is weak and a path of dependencies leads back. It stands after what it needs, and
@@ -51,14 +73,21 @@ pub struct SortItem {
 ///
 /// Where the items of a module do not stand together, an earlier one of the module counts only if
 /// all between are of it too.
-pub fn sort_items(alloc: Global, items: &[SortItem]) -> Result<Vec<usize>, AllocError>
-    ensures { IfOk result (λ order. IsGoodOrder items.now order.items) }
+pub fn sort_shared(
+    alloc: Global,
+    items: &[SharedItem],
+    lists: Vec<Vec<usize>>,
+) -> Result<Vec<usize>, AllocError>
+    ensures { IfOk result (λ order.
+        IsGoodOrder items.now (map (λ v. v.items) lists.items) order.items) }
 {
-    let edges = needs::edges_of(alloc, items)?;
-    let ranks = classes::ranks_of(alloc, &edges)?;
-    let needed = needs::needs_of(alloc, items, &ranks)?;
+    let mut left = lists;
+    let edges = needs::edges_of(alloc, items, &left)?;
+    let mut ranks = classes::ranks_of(alloc, &edges)?;
+    ranks.truncate(items.len());
+    let soles = needs::soles_of(alloc, items, &left)?;
     let firsts = needs::firsts_of(alloc, items)?;
-    stack::sort_numbers(alloc, &needed, &ranks, &firsts)
+    stack::sort_numbers(alloc, items, &mut left, &soles, &ranks, &firsts)
 }
 
 pub use arranging::{Shuffle, arrange};

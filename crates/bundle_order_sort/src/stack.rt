@@ -14,12 +14,17 @@
 //! Nothing below an entry is looked at before its item is out. So only the topmost entry of an item
 //! counts, and where the stack grows long the others are taken away.
 
-ghost use Rattle.std.specs.Prelude.{◌≡◌, ℕ, ◌+◌, ◌-◌, ◌<◌, ◌≤◌, ◌++◌, ◌↔◌, ◌⊎◌, nat_eq, IsTrue, true, false, IfOk, OnOk, IfSome, IfNone, Contains, map, length, reverse, slice_index, slice_index_or};
+ghost use Rattle.std.specs.Prelude.{◌≡◌, ℕ, ◌+◌, ◌-◌, ◌<◌, ◌≤◌, ◌++◌, ◌↔◌, ◌⊎◌, IsTrue, true, false, IfOk, OnOk, IfSome, IfNone, Contains, map, length, reverse, slice_index};
 ghost use Rattle.std.specs.List.{filter};
+ghost use Rattle.std.specs.List.Sorted.{IsStrictlyIncreasing};
+ghost use Rattle.bundle_order_sort.specs.Items.{AddsNeeds, AreSoles, IsNeeded, NeedsByRank};
+ghost use Rattle.bundle_order_sort.specs.Left.{IsLeft, KeepsLeft, is_left};
 ghost use Rattle.bundle_order_sort.specs.Numbers.{fresh, progress_of, Needs, IsInOrder, IsOut, is_awaited, AreSkips};
 ghost use Rattle.bundle_order_sort.specs.Chains.{Falls, WaitsForNone, AddsChain, AreChains};
 ghost use Rattle.bundle_order_sort.specs.Topmost.{IsTopmost};
 
+use crate::needs::{is_need, is_own};
+use crate::{Reference, SharedItem};
 use std::alloc::{AllocError, Global};
 
 /// What is known of an item.
@@ -33,65 +38,78 @@ struct Progress {
     next: usize,
 }
 
-/// The items in the order in which they are put out. `needs` has for each item those that it needs,
-/// ascending; a path leads back from one of them exactly where it does not rank below the item.
-/// `firsts` has the first item of each item's module, and for a free item that item itself.
+/// The items in the order in which they are put out. They share the lists of what they depend on; a
+/// path leads back from what an item needs exactly where that does not rank below the item. `soles`
+/// has for each list the module of all of its items, if they are of one, and `firsts` the first item
+/// of each item's module, and for a free item that item itself. What is out is taken off the lists.
 ///
 /// The top of the stack is dropped if it is out. What it waits for of its needs goes above it, the
 /// lowest on top, or the chain that this comes to; else the first earlier item of its module that
 /// is not out, if that one was not above it before; else it is out next.
 pub(crate) fn sort_numbers(
     alloc: Global,
-    needs: &[Vec<usize>],
+    items: &[SharedItem],
+    lists: &mut [Vec<usize>],
+    soles: &[Option<usize>],
     ranks: &[usize],
     firsts: &[usize],
 ) -> Result<Vec<usize>, AllocError>
-    requires ranks_len { length ranks.now ≡ length needs.now }
-    requires firsts_len { length firsts.now ≡ length needs.now }
-    requires within { (s t : ℕ) →
-        Needs (map (λ v. v.items) needs.now) s t → t < length needs.now }
+    requires ranks_len { length ranks.now ≡ length items.now }
+    requires firsts_len { length firsts.now ≡ length items.now }
+    requires soles { AreSoles items.now (map (λ v. v.items) lists.old) soles.now }
     ensures { IfOk result (λ order.
-        IsInOrder (map (λ v. v.items) needs.now) ranks.now firsts.now order.items) }
+        let needs = NeedsByRank items.now (map (λ v. v.items) lists.old) ranks.now in
+        IsInOrder needs (length items.now) ranks.now firsts.now order.items) }
 {
-    let mut skips = vec![in alloc; 0; needs.len()]?;
-    let mut cursors = vec![in alloc; 0; needs.len()]?;
-    let mut ends = numbers_below(alloc, needs.len())?;
+    let mut skips = vec![in alloc; 0; items.len()]?;
+    let mut cursors = vec![in alloc; 0; items.len()]?;
+    let mut ends = numbers_below(alloc, items.len())?;
+    let mut needs = empty_lists(alloc, items.len())?;
     put_out(
         alloc,
-        needs,
+        items,
+        lists,
+        soles,
         ranks,
         firsts,
+        &mut needs,
         &mut skips,
         &mut cursors,
         &mut ends,
     )
 }
 
-/// The items in the order in which they are put out. No item is to be passed over yet (`skips`), no
-/// need is known to be awaited no more (`cursors`), and each chain ends where it begins (`ends`).
+/// The items in the order in which they are put out. What an item needs is not known before it is
+/// begun (`needs`), no item is to be passed over yet (`skips`), no need is known to be awaited no
+/// more (`cursors`), and each chain ends where it begins (`ends`).
 fn put_out(
     alloc: Global,
-    needs: &[Vec<usize>],
+    items: &[SharedItem],
+    lists: &mut [Vec<usize>],
+    soles: &[Option<usize>],
     ranks: &[usize],
     firsts: &[usize],
+    needs: &mut [Vec<usize>],
     skips: &mut [usize],
     cursors: &mut [usize],
     ends: &mut [usize],
 ) -> Result<Vec<usize>, AllocError>
-    requires ranks_len { length ranks.now ≡ length needs.now }
-    requires firsts_len { length firsts.now ≡ length needs.now }
-    requires within { (s t : ℕ) →
-        Needs (map (λ v. v.items) needs.now) s t → t < length needs.now }
-    requires skips_len { length skips.old ≡ length needs.now }
+    requires ranks_len { length ranks.now ≡ length items.now }
+    requires firsts_len { length firsts.now ≡ length items.now }
+    requires soles { AreSoles items.now (map (λ v. v.items) lists.old) soles.now }
+    requires needs_len { length needs.old ≡ length items.now }
+    requires needs { (s t : ℕ) → Needs (map (λ v. v.items) needs.old) s t → ⊥ }
+    requires skips_len { length skips.old ≡ length items.now }
     requires skips { (t : ℕ) → slice_index skips.old t ≡ 0 }
-    requires cursors_len { length cursors.old ≡ length needs.now }
+    requires cursors_len { length cursors.old ≡ length items.now }
     requires cursors { (t : ℕ) → slice_index cursors.old t ≡ 0 }
-    requires ends_len { length ends.old ≡ length needs.now }
-    requires ends { (t : ℕ) → t < length needs.now → slice_index ends.old t ≡ t }
+    requires ends_len { length ends.old ≡ length items.now }
+    requires ends { (t : ℕ) → t < length items.now → slice_index ends.old t ≡ t }
     ensures { IfOk result (λ order.
-        IsInOrder (map (λ v. v.items) needs.now) ranks.now firsts.now order.items) }
+        let needs = NeedsByRank items.now (map (λ v. v.items) lists.old) ranks.now in
+        IsInOrder needs (length items.now) ranks.now firsts.now order.items) }
 {
-    let mut stack = all_items(alloc, needs.len())?;
+    let mut stack = all_items(alloc, items.len())?;
     let mut progress = begin(alloc, firsts)?;
     let mut order = Vec::new(alloc);
     while let Some(top) = stack.last() {
@@ -106,7 +124,10 @@ fn put_out(
             continue;
         }
         if !known.begun {
-            push_needs(&mut stack, &needs[item], ranks, &progress, item)?;
+            let needed = needs_left(alloc, items, lists, soles, ranks, &progress, item)?;
+            push_needs(&mut stack, &needed)?;
+            needs[item] = needed;
+            cursors[item] = 0;
             progress[item] = Progress {
                 begun: true,
                 ..known
@@ -131,6 +152,156 @@ fn put_out(
         stack.pop();
     }
     Ok(order)
+}
+
+/// So many empty lists.
+fn empty_lists(alloc: Global, count: usize) -> Result<Vec<Vec<usize>>, AllocError>
+    ensures len { IfOk result (λ lists. length lists.items ≡ count) }
+    ensures none { IfOk result (λ lists.
+        (s t : ℕ) → Needs (map (λ v. v.items) lists.items) s t → ⊥) }
+{
+    let mut lists: Vec<Vec<usize>> = Vec::new(alloc);
+    for _ in 0..count {
+        lists.push(Vec::new(alloc))?;
+    }
+    Ok(lists)
+}
+
+/// What an item needs and is not out, ascending. What is out is taken off the lists on which the
+/// item depends.
+fn needs_left(
+    alloc: Global,
+    items: &[SharedItem],
+    lists: &mut [Vec<usize>],
+    soles: &[Option<usize>],
+    ranks: &[usize],
+    progress: &[Progress],
+    item: usize,
+) -> Result<Vec<usize>, AllocError>
+    requires item_in { item < length items.now }
+    requires ranks_len { length ranks.now ≡ length items.now }
+    requires soles { AreSoles items.now (map (λ v. v.items) lists.old) soles.now }
+    ensures len { length lists.new ≡ length lists.old }
+    ensures ascending { IfOk result (λ needed. IsStrictlyIncreasing needed.items) }
+    ensures each { IfOk result (λ needed.
+        (t : ℕ) →
+        Contains needed.items t
+        ↔ ((IsOut progress.now t → ⊥)
+        × NeedsByRank items.now (map (λ v. v.items) lists.old) ranks.now item t)) }
+    ensures left { OnOk result
+        (KeepsLeft progress.now (map (λ v. v.items) lists.old) (map (λ v. v.items) lists.new)) }
+{
+    let mut needed = Vec::new(alloc);
+    let references = items[item].references.as_slice();
+    for reference in references {
+        add_left(
+            alloc,
+            items,
+            lists,
+            soles,
+            ranks,
+            progress,
+            item,
+            *reference,
+            &mut needed,
+        )?;
+    }
+    Ok(once(needed))
+}
+
+/// Adds what an item needs of one list and is not out. What is out is taken off the list.
+fn add_left(
+    alloc: Global,
+    items: &[SharedItem],
+    lists: &mut [Vec<usize>],
+    soles: &[Option<usize>],
+    ranks: &[usize],
+    progress: &[Progress],
+    item: usize,
+    reference: Reference,
+    needed: &mut Vec<usize>,
+) -> Result<(), AllocError>
+    requires item_in { item < length items.now }
+    requires ranks_len { length ranks.now ≡ length items.now }
+    requires soles { AreSoles items.now (map (λ v. v.items) lists.old) soles.now }
+    ensures len { length lists.new ≡ length lists.old }
+    ensures added { OnOk result
+        ((t : ℕ) →
+        Contains needed.new.items t
+        ↔ (Contains needed.old.items t
+        ⊎ IsLeft items.now (map (λ v. v.items) lists.old) ranks.now progress.now item reference t)) }
+    ensures left { OnOk result
+        (KeepsLeft progress.now (map (λ v. v.items) lists.old) (map (λ v. v.items) lists.new)) }
+{
+    let list = reference.list;
+    if list >= lists.len() {
+        return Ok(());
+    }
+    if is_own(items, soles[list], item) {
+        return Ok(());
+    }
+    let left = left_of(alloc, &lists[list], progress)?;
+    add_needs(needed, &left, items, ranks, item, reference.is_weak)?;
+    lists[list] = left;
+    Ok(())
+}
+
+/// Those that are not out.
+fn left_of(alloc: Global, list: &[usize], progress: &[Progress]) -> Result<Vec<usize>, AllocError>
+    ensures { IfOk result (λ left. left.items ≡ filter (is_left progress.now) list.now) }
+{
+    let mut left = Vec::new(alloc);
+    for item in list {
+        if !is_out(progress, *item) {
+            left.push(*item)?;
+        }
+    }
+    Ok(left)
+}
+
+/// Whether an item is out.
+fn is_out(progress: &[Progress], item: usize) -> bool
+    ensures { result ≡ (progress_of progress.now item).out }
+{
+    if item < progress.len() {
+        progress[item].out
+    } else {
+        false
+    }
+}
+
+/// Adds those of a list that an item needs, which depends on the list.
+fn add_needs(
+    needed: &mut Vec<usize>,
+    list: &[usize],
+    items: &[SharedItem],
+    ranks: &[usize],
+    item: usize,
+    is_weak: bool,
+) -> Result<(), AllocError>
+    requires item_in { item < length items.now }
+    requires ranks_len { length ranks.now ≡ length items.now }
+    ensures { OnOk result
+        (AddsNeeds (λ t. IsNeeded items.now ranks.now item t is_weak) list.now needed.old.items
+        needed.new.items) }
+{
+    for end in list {
+        if is_need(items, ranks, item, *end, is_weak) {
+            needed.push(*end)?;
+        }
+    }
+    Ok(())
+}
+
+/// These numbers, ascending and each once.
+fn once(numbers: Vec<usize>) -> Vec<usize>
+    ensures ascending { IsStrictlyIncreasing result.items }
+    ensures same { (t : ℕ) → Contains result.items t ↔ Contains numbers.items t }
+{
+    let mut numbers = numbers;
+    numbers.sort_unstable();
+    numbers.dedup();
+    numbers
 }
 
 /// The numbers below `count`, the lowest last.
@@ -217,28 +388,12 @@ fn topmost(alloc: Global, stack: &[usize], progress: &[Progress]) -> Result<Vec<
     Ok(kept)
 }
 
-/// Puts on the stack what an item waits for of all that it needs, the first on top.
-fn push_needs(
-    stack: &mut Vec<usize>,
-    needs: &[usize],
-    ranks: &[usize],
-    progress: &[Progress],
-    item: usize,
-) -> Result<(), AllocError>
-    requires item_in { item < length ranks.now }
-    requires len { length progress.now ≡ length ranks.now }
-    requires within { (t : ℕ) → Contains needs.now t → t < length ranks.now }
-    ensures { OnOk result
-        (stack.new.items
-        ≡ stack.old.items
-        ++ filter (is_awaited ranks.now progress.now item) (reverse needs.now)) }
+/// Puts on the stack what an item needs, the first on top.
+fn push_needs(stack: &mut Vec<usize>, needed: &[usize]) -> Result<(), AllocError>
+    ensures { OnOk result (stack.new.items ≡ stack.old.items ++ reverse needed.now) }
 {
-    for done in 0..needs.len() {
-        let need = needs[needs.len() - 1 - done];
-        let awaited = awaits(ranks, progress, item, need);
-        if awaited {
-            stack.push(need)?;
-        }
+    for done in 0..needed.len() {
+        stack.push(needed[needed.len() - 1 - done])?;
     }
     Ok(())
 }

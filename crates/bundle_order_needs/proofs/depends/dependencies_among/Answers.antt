@@ -21,10 +21,11 @@ returns-clause-exact c = λ before g re seen_is owners_is same_len bound.
     ∙ (ap (λ (os : List (Option ℕ)). map item_and_binding (filter (refers_strongly os) c.args.seen.now)) owners_is
     ∙ ap (λ (l : List Seen). map item_and_binding (filter (refers_strongly g.owners) l)) seen_is)) in
     let len : length found ≡ length g.owners = length-map c.in_ok-found.found.items (λ v. v.items) ∙ (c.in_ok-found.ensures.len ∙ (ap length c.deref-4.ensures.value ∙ (c.in_ok-all.ensures.len ∙ count))) in
-    AreFound-renumbered before g re found (found-exact g providers all strong found same_len len
+    AreFound-renumbered before g re found (found-exact g providers all strong same_len
     (c.in_ok-providers.ensures g seen_is owners_is bound)
     (λ s b. subst (λ (l : List (ℕ × ℕ)). Leads all s b ↔ ((s < length g.owners) × Contains l (s, b))) referred (subst (λ n. Leads all s b ↔ ((s < n) × Contains c.deref.result.now (s, b))) count (c.in_ok-all.ensures.each s b)))
     (λ s b. subst (λ (l : List (ℕ × ℕ)). Leads strong s b ↔ ((s < length g.owners) × Contains l (s, b))) strongly (subst (λ n. Leads strong s b ↔ ((s < n) × Contains c.deref-2.result.now (s, b))) count (c.in_ok-strong.ensures.each s b)))
+    found len
     (λ s l.
     subst (λ p. IsFoundAt (map (λ v. v.items) p) all strong s found) c.deref-3.ensures.value
     (subst (λ a. IsFoundAt (map (λ v. v.items) c.deref-3.result.now) (map (λ v. v.items) a) strong s found) c.deref-4.ensures.value

@@ -1,5 +1,5 @@
 -- What is found in the closed list is that of the items.
-use Rattle.std.proofs.Common.{◌≡◌, ℕ, Bool, Option, List, [], ◌∷◌, ◌++◌, map, refl, sym, ap, ◌∙◌, subst}
+use Rattle.std.proofs.Common.{◌≡◌, ℕ, Option, List, [], ◌∷◌, ◌++◌, map, sym, ap, ◌∙◌, subst}
 use Rattle.std.proofs.lemmas.List.{map-append}
 use Rattle.bundle_tree_piece.specs.declared.piece.Piece.{Piece}
 use Rattle.bundle_tree_piece.specs.declared.piece.Piece.TheVariants as p
@@ -15,21 +15,8 @@ use Rattle.bundle_scope_denote.specs.Listed.{IsTable}
 use Rattle.bundle_order_needs.specs.Found.{AreFound}
 use Rattle.bundle_order_needs.specs.declared.needs.ItemRange.{ItemRange}
 use Rattle.bundle_order_needs.specs.Cut.{cut_items, dependencies_of}
-use Rattle.bundle_order_needs.specs.Owners.{module_of, sorted_owner_of, owner_of as range_owner}
-use Rattle.bundle_order.specs.Owned.{owner_by}
+use Rattle.bundle_order_needs.specs.Owners.{module_of}
 use Rattle.bundle_order.proofs.group.Group.dependencies.Goals as goal
-
-twice : {A B C : Type 0} (g : B → C) (f : A → B) (xs : List A) → map g (map f xs) ≡ map (λ x. g (f x)) xs
-twice g f [] = refl
-twice {A} {B} {C} g f (x ∷ xs) = ap (λ (l : List C). g (f x) ∷ l) (twice g f xs)
-
-pub returns-clause-owned : goal.returns-clause-owned
-returns-clause-owned c = λ lists owners g.
-    let items = c.in_ok-sorted.sorted.items in
-    let ranges = c.args.self.ranges.items in
-    sym (twice owner_by sorted_owner_of items)
-    ∙ (ap (λ (l : List (ℕ × Bool)). map owner_by l) (c.in_ok-sorted.ensures.owners ∙ ap (λ (l : List ItemRange). map range_owner l) c.deref-3.ensures.value)
-    ∙ (twice owner_by range_owner ranges ∙ g.owned))
 
 pub returns-clause-found : goal.returns-clause-found
 returns-clause-found c = λ lists owners g.
