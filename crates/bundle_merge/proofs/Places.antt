@@ -46,6 +46,7 @@ use Rattle.bundle_merge_whole.specs.sound.Known.{AreKnown, IsByPlaces}
 use Rattle.bundle_merge_whole.proofs.moved.Owed.{AreMoved}
 use Rattle.bundle_merge_whole.proofs.moved.Places.{placed-moved}
 use Rattle.bundle_merge_whole.proofs.planned.RequestLemmas.{list-once, list-reached}
+use Rattle.bundle_merge_names.specs.Bundle.{list_of_part}
 use Rattle.bundle_merge_names.specs.declared.part.Part.{Part}
 use Rattle.bundle_merge.specs.Placed.{AreRight, ArePlaced}
 use Rattle.bundle_merge.proofs.Faultless.{faultless-program}
@@ -227,7 +228,7 @@ module _ (p : Program) (list : List ℕ) (right : AreRight p list) (links : List
       (λ j m at x a b in_a in_b.
       (let part = part-at j m at in
       let its = are.each j m part.0 at part.1 in
-      cleared-once its.faultless.0 (map item_of part.0.pieces.now) its.faultless.1 x a b
+      cleared-once its.faultless.0 (list_of_part part.0) its.faultless.1 x a b
       (subst (λ (t : List Item). Contains (exports_of t) a) its.tree in_a)
       (subst (λ (t : List Item). Contains (exports_of t) b) its.tree in_b)))
       k
@@ -296,7 +297,7 @@ module _ (p : Program) (list : List ℕ) (right : AreRight p list) (links : List
       let its = are.each k.0 m part.0 k.1 part.1 in (
         its.faultless.0,
         subst (IsFaultless its.faultless.0) (sym its.tree)
-            (faults.faultless its.faultless.0 (map item_of part.0.pieces.now) its.faultless.1),
+            (faults.faultless its.faultless.0 (list_of_part part.0) its.faultless.1),
       )
 
   pub are-known : AreModules q → AreKnown p q list

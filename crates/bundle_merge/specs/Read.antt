@@ -59,12 +59,11 @@ abbrev pub own_list : List ModuleItem → List Item
 own_list items = node 0 h.Module (list_of (own_part items))
 
 -- a part is what was read of the prepared items of a module of a linker, where the modules on its list have these
--- places: the items, the name of the statement in front, and of the module's own items the list, what the names in it
+-- places: the items, the name of the statement in front, and of the module's own items what the names in their list
 -- denote, its tables, and where its requests lead
 pub record IsReadOf (linker : Linker) (known : TransformedModule) (ids : List ℕ) (items : List ModuleItem) (part : Part) : Type 0 where
   pub its_items : part.items.now ≡ items
   pub written : option_map ident_of part.written ≡ held_by items
-  pub list : map item_of part.pieces.now ≡ own_list items
   pub names : (p : Program) (kind : ModuleKind) →
       IsLinkerOf p linker →
       HasKind p known.id kind →
