@@ -199,9 +199,9 @@ module _ (p : Program) (entry : ℕ) (call : Call) (w : IsCallOf p entry call) (
     part-is k part below its =
         let source = l.links.by_places.sources k its.source its.there in
         let list : list_of_part part ≡ list_of_source its.source =
-            ap (λ b. node 0 h.Module (flat_map (module_item_items 0) (drop (if b then 1 else 0) part.items.now)))
-            (ap is_some its.written)
-            ∙ ap (λ items. node 0 h.Module (flat_map (module_item_items 0) items)) its.items in
+        ap (λ b. node 0 h.Module (flat_map (module_item_items 0) (drop (if b then 1 else 0) part.items.now)))
+        (ap is_some its.written)
+        ∙ ap (λ items. node 0 h.Module (flat_map (module_item_items 0) items)) its.items in
         let body = are-bodies.each k (found_at bodies k)
         (found-there bodies k (omega (arith, below, are-bodies.long))) its.source in
         record {
