@@ -1,6 +1,6 @@
 //! What the modules of a call say: of each file what its names denote, what it declares twice, and its tables.
 
-ghost use Rattle.std.specs.Prelude.{◌≡◌, ℕ, ◌<◌, ◌≤◌, Contains, Some, IfOk, IsTrue, map};
+ghost use Rattle.std.specs.Prelude.{◌≡◌, ◌&&◌, ℕ, ◌<◌, ◌≤◌, Contains, Some, IfOk, IsTrue, map};
 ghost use Rattle.std.specs.Option.{option_map};
 ghost use Rattle.bundle_scope_denote.specs.Listed.{IsTable, place_and_symbol, told_of};
 ghost use Rattle.bundle_tree_names.specs.FileName.{Name};
@@ -67,8 +67,8 @@ pub fn source_of<'x>(
     let pieces = pieces_of_module(alloc, &loaded.module)?;
     let named = names_and_doubled(alloc, pieces.as_slice(), ModuleKind::Es)?;
     let tables = tables_in(alloc, pieces.as_slice(), &named.names, config)?;
-    let may_be_common_js = config.require && tables.is_script;
-    let common_js = doubled_in_function(alloc, pieces.as_slice(), may_be_common_js)?;
+    let is_asked = may_be_common_js(config, &tables);
+    let common_js = doubled_in_function(alloc, pieces.as_slice(), is_asked)?;
     Ok(Source {
         given: &loaded.file_name,
         module: &loaded.module,
@@ -79,6 +79,13 @@ pub fn source_of<'x>(
         },
         tables,
     })
+}
+
+// Whether a file may be a CommonJS module of a bundle, where these are its tables.
+fn may_be_common_js(config: &Config, tables: &Tables) -> bool
+    ensures { result ≡ (config.now.require && tables.now.is_script) }
+{
+    config.require && tables.is_script
 }
 
 // The first name that a list declares twice as the body of a function, if that is asked for.

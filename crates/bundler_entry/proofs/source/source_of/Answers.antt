@@ -27,7 +27,7 @@ returns c = λ p m links there.
     read_as p m c.args.config.now c.requires.0 c.args.loaded.now _ links there refl refl
     (subst (λ xs. IsTable BySymbol Es xs c.in_ok-named.named.names) first c.in_ok-named.ensures.names)
     (c.in_ok-named.ensures.doubled ∙ ap (λ xs. option_map place_and_symbol (first_doubled Es xs)) first)
-    (λ asked. c.in_ok-common_js.ensures (sym c.may_be_common_js-is ∙ asked)
+    (λ asked. c.in_ok-common_js.ensures (c.may_be_common_js-is_asked.ensures ∙ asked)
     ∙ ap (λ xs. option_map place_and_symbol (first_doubled Cjs xs)) last)
     (subst (λ tree. AreTablesOf c.args.config.now c.requires.0 tree c.in_ok-tables.tables) list (c.in_ok-tables.ensures.given c.requires.0))
     (c.in_ok-tables.ensures.meta ∙ ap has_import_meta list)
