@@ -101,7 +101,7 @@ fn doubled_in<'a>(linking: &Linking<'a>, notes: &[Noted<'a>]) -> Option<Told<'a>
         TellsDoubled q (length notes.now) result }
 {
     for (module, noted) in notes.iter().enumerate() {
-        if let Some(doubled) = doubled_as(*noted, kind_of(linking, module)) {
+        if let Some(doubled) = doubled_as(noted, kind_of(linking, module)) {
             return Some(Told::Doubled(module, doubled));
         }
     }
@@ -109,8 +109,8 @@ fn doubled_in<'a>(linking: &Linking<'a>, notes: &[Noted<'a>]) -> Option<Told<'a>
 }
 
 // The first name that a module declares twice, as a module of this kind.
-fn doubled_as<'a>(noted: Noted<'a>, kind: ModuleKind) -> Option<Doubled<'a>>
-    ensures { result ≡ noted_as (kind_as kind) noted.entry }
+fn doubled_as<'a>(noted: &Noted<'a>, kind: ModuleKind) -> Option<Doubled<'a>>
+    ensures { result ≡ noted_as (kind_as kind) noted.now }
 {
     match kind {
         ModuleKind::Es => noted.es,

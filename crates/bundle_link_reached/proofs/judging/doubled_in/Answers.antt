@@ -12,8 +12,8 @@ returns-in-Some c = λ q are w.
     let notes = c.args.notes.now in
     let m = c.loop-module.module in
     let kind = kind_as c.kind_of.result in
-    let noted = c.index-notes-module.result in
-    let at = slice_get-get_or notes m noted c.loop-module-test.true ∙ ap (λ y. Some y) (sym c.index-notes-module.is) in
+    let noted = c.noted-item.result in
+    let at = slice_get-get_or notes m noted c.loop-module-test.true ∙ ap (λ y. Some y) (sym c.noted-item.is) in
     let has = c.kind_of.ensures q w in
     first_in q (length notes) m kind c.doubled_as.result c.in-Some.doubled
     (ap (option_map told_of) c.doubled_as.ensures ∙ are m noted at kind has)
@@ -24,8 +24,8 @@ loop-module-preserved c = λ q are w.
     let notes = c.args.notes.now in
     let m = c.loop-module.module in
     let kind = kind_as c.kind_of.result in
-    let noted = c.index-notes-module.result in
-    let at = slice_get-get_or notes m noted c.loop-module-test.true ∙ ap (λ y. Some y) (sym c.index-notes-module.is) in
+    let noted = c.noted-item.result in
+    let at = slice_get-get_or notes m noted c.loop-module-test.true ∙ ap (λ y. Some y) (sym c.noted-item.is) in
     let has = c.kind_of.ensures q w in
     none_more q m kind (c.loop-module.invariant q are w) has
     (none_in q m kind c.doubled_as.result (ap (option_map told_of) c.doubled_as.ensures ∙ are m noted at kind has) c.in_default.is)
