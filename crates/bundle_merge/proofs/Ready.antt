@@ -12,7 +12,7 @@ use Rattle.bundle_tree_names.specs.FileName.{name_of, Name as FileName}
 use Rattle.bundle_tree_piece.specs.declared.piece.Role.{Role}
 use Rattle.bundle_tree_piece.specs.declared.piece.Role.TheVariants as r
 use Rattle.bundle_tree_piece.specs.Item as h
-use Rattle.bundle_tree_piece.specs.Item.{Head, Item, item_of}
+use Rattle.bundle_tree_piece.specs.Item.{Head, Item}
 use Rattle.bundle_tree_listed.specs.Tree.{module_item_items, module_items, node}
 use Rattle.bundle_tree_places.specs.Marks.{ident_of}
 use Rattle.bundle_tree_places.specs.declared.mark.Name.{Name}

@@ -1,5 +1,5 @@
 -- What was read of the modules of a program, by their places on its list.
-use Rattle.std.specs.Prelude.{◌≡◌, ℕ, ◌<◌, true, false, List, [], ◌∷◌, Option, Some, None, Contains, length, map, slice_get}
+use Rattle.std.specs.Prelude.{◌≡◌, ℕ, ◌<◌, true, false, List, [], ◌∷◌, Option, Some, None, Contains, length, slice_get}
 use Rattle.std.specs.Option.{option_and_then}
 use Rattle.std.specs.BTreeMap.{get_by_text}
 use Rattle.bundle_tree_leaf.specs.declared.kind.ExportMetadata.{ExportMetadata}

@@ -1,5 +1,5 @@
 -- The own statements of a module of a bundle become what its items state in turn.
-use Rattle.std.proofs.Common.{◌≡◌, ℕ, List, Option, Some, None, length, map, option_map, unwrap_or, refl, sym, subst, ap, ◌∙◌}
+use Rattle.std.proofs.Common.{◌≡◌, ℕ, List, Option, Some, None, length, option_map, unwrap_or, refl, sym, subst, ap, ◌∙◌}
 use Rattle.std.specs.Prelude.{codes, slice_get}
 use Rattle.std.proofs.lemmas.Option.{slice_get_within}
 use Rattle.bundle_tree_piece.specs.Item.{Item}

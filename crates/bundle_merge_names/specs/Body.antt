@@ -1,5 +1,5 @@
 -- What is told of a module whose names get their steps.
-use Rattle.std.specs.Prelude.{◌≡◌, ℕ, suc, ◌==◌, Bool, true, false, List, Option, Some, None, Contains, map, slice_get, if◌then◌else◌}
+use Rattle.std.specs.Prelude.{◌≡◌, ℕ, suc, ◌==◌, Bool, true, false, List, Option, Some, None, Contains, slice_get, if◌then◌else◌}
 use Rattle.std.specs.List.{AllZip}
 use Rattle.std.specs.BTreeMap.{get_by_text}
 use Rattle.bundle_tree_piece.specs.Item.{Item}

@@ -1,8 +1,7 @@
 -- What is read of the list is that of the module.
 use Rattle.std.proofs.Common.{ap, refl, sym, ◌∙◌, subst, map}
-use Rattle.std.specs.Prelude.{IsTrue}
 use Rattle.std.specs.Option.{option_map}
-use Rattle.bundle_scope_denote.specs.Listed.{IsTable, place_and_symbol, told_of}
+use Rattle.bundle_scope_denote.specs.Listed.{IsTable, place_and_symbol}
 use Rattle.bundle_tree_piece.specs.Item.{item_of}
 use Rattle.bundle_rules.specs.Declarations.{BySymbol}
 use Rattle.bundle_rules.specs.Scopes.{Cjs, Es}
