@@ -1,4 +1,4 @@
--- The first fault of modules, from what linking and their lists tell.
+-- The first fault of modules, from what linking tells and what is noted of them.
 use Rattle.std.proofs.Common.{◌≡◌, ℕ, zero, suc, ◌+◌, ◌<◌, ◌⊎◌, inl, inr, Bool, true, false, List, [], ◌∷◌, ◌++◌, Option, Some, None, Contains, length, map, refl, sym, ap, ◌∙◌, subst, arith}
 use Rattle.std.specs.Prelude.{IsTrue, slice_get, option_map}
 use Rattle.std.proofs.lemmas.Bool.{cases_lt, false≢true}
@@ -139,27 +139,27 @@ kind_true q m b tells is = is_common_js (tells.0 is)
 pub kind_false : (q : Program) (m : ℕ) (b : Bool) → TellsCommonJs q m b → b ≡ false → HasKind q m Es
 kind_false q m b tells is = is_es (λ common. false≢true (sym is ∙ tells.1 common))
 
--- a name that is told of the list of a module is the first that the module declares twice
-pub first_in : (q : Program) (n m : ℕ) (kind : ModuleKind) (found : Option Doubled) (doubled : Doubled) (in_list : Option Declared) → option_map told_of found ≡ option_map place_and_symbol in_list → in_list ≡ first_doubled kind (tree_of q m) → found ≡ Some doubled → m < n → HasKind q m kind → HasNoDoubled q m → IsFirstDoubled q n m doubled
-first_in q n m kind found doubled in_list told same is within its_kind before = by in_list refl
+-- a name that is told of a module is the first that it declares twice
+pub first_in : (q : Program) (n m : ℕ) (kind : ModuleKind) (found : Option Doubled) (doubled : Doubled) → option_map told_of found ≡ option_map place_and_symbol (first_doubled kind (tree_of q m)) → found ≡ Some doubled → m < n → HasKind q m kind → HasNoDoubled q m → IsFirstDoubled q n m doubled
+first_in q n m kind found doubled told is within its_kind before = by (first_doubled kind (tree_of q m)) refl
   where
-    by : (o : Option Declared) → in_list ≡ o → IsFirstDoubled q n m doubled
+    by : (o : Option Declared) → first_doubled kind (tree_of q m) ≡ o → IsFirstDoubled q n m doubled
     by None e = absurd (none-some (told_of doubled) (sym (told ∙ ap (option_map place_and_symbol) e) ∙ ap (option_map told_of) is))
     by (Some declared) e = record {
       within = within;
       kind = kind;
       its_kind = its_kind;
       declared = declared;
-      there = sym same ∙ e;
+      there = e;
       name = let pair : told_of doubled ≡ place_and_symbol declared = same_Some (told_of doubled) (place_and_symbol declared) (sym (ap (option_map told_of) is) ∙ told ∙ ap (option_map place_and_symbol) e) in ap (λ x. x.1) pair;
       none_before = before;
     }
 
--- where none is told of the list, the module declares none twice
-pub none_in : (q : Program) (m : ℕ) (kind : ModuleKind) (found : Option Doubled) (in_list : Option Declared) → option_map told_of found ≡ option_map place_and_symbol in_list → in_list ≡ first_doubled kind (tree_of q m) → found ≡ None → first_doubled kind (tree_of q m) ≡ None
-none_in q m kind found in_list told same is = sym same ∙ by in_list refl
+-- where none is told of a module, it declares none twice
+pub none_in : (q : Program) (m : ℕ) (kind : ModuleKind) (found : Option Doubled) → option_map told_of found ≡ option_map place_and_symbol (first_doubled kind (tree_of q m)) → found ≡ None → first_doubled kind (tree_of q m) ≡ None
+none_in q m kind found told is = by (first_doubled kind (tree_of q m)) refl
   where
-    by : (o : Option Declared) → in_list ≡ o → in_list ≡ None
+    by : (o : Option Declared) → first_doubled kind (tree_of q m) ≡ o → first_doubled kind (tree_of q m) ≡ None
     by None e = e
     by (Some declared) e = absurd (none-some (place_and_symbol declared) (sym (ap (option_map told_of) is) ∙ told ∙ ap (option_map place_and_symbol) e))
 

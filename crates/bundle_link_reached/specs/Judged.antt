@@ -1,9 +1,8 @@
 -- When what is read of modules is that of a program, and what is told of them is its first fault.
-use Rattle.std.specs.Prelude.{◌≡◌, ℕ, zero, suc, ◌<◌, ◌-◌, List, [], ◌∷◌, ◌++◌, Option, Some, None, Result, Ok, Err, length, map, slice_get}
+use Rattle.std.specs.Prelude.{◌≡◌, ℕ, zero, suc, ◌<◌, ◌-◌, List, [], ◌∷◌, ◌++◌, Option, Some, None, Result, Ok, Err, length, slice_get}
 use Rattle.std.specs.Option.{option_map}
-use Rattle.bundle_tree_piece.specs.Item.{Item, item_of}
 use Rattle.bundle_tree_names.specs.FileName.{Name}
-use Rattle.bundle_rules.specs.Scopes.{Es, ModuleKind}
+use Rattle.bundle_rules.specs.Scopes.{Cjs, Es, ModuleKind}
 use Rattle.bundle_rules.specs.Declarations.{Declared}
 use Rattle.bundle_rules.specs.Doubled.{first_doubled}
 use Rattle.bundle_scope_denote.specs.Listed.{place_and_symbol, told_of}
@@ -20,7 +19,7 @@ use Rattle.bundle_link_targets.specs.Meant.{AreModules, IsModuleTree}
 use Rattle.bundle_link_targets.specs.declared.linking.Linking.{Linking}
 use Rattle.bundle_link_reached.specs.Default.{DeclaresDefaultAlone}
 use Rattle.bundle_link_reached.specs.First.{IsFirstOf, HasNoFault}
-use Rattle.bundle_link_reached.specs.declared.judging.Listed.{Listed}
+use Rattle.bundle_link_reached.specs.declared.judging.Noted.{Noted}
 use Rattle.bundle_link_reached.specs.declared.judging.Told.{Told}
 use Rattle.bundle_link_reached.specs.declared.judging.Told.TheVariants as t
 
@@ -35,29 +34,29 @@ pub record IsReadable (q : Program) (n : ℕ) : Type 0 where
   pub default : (m : ℕ) → DeclaresDefaultAlone (tree_of q m)
   pub others : (m : ℕ) → (m < n → ⊥) → tree_of q m ≡ []
 
--- the first name is noted that the list declares twice as an ES module, and none where it declares none twice
-abbrev pub IsNoted : Listed → Type 0
-IsNoted list =
-    option_map told_of list.doubled
-    ≡ option_map place_and_symbol (first_doubled Es (map item_of list.pieces.now))
+-- what is noted of a module as one of this kind
+abbrev pub noted_as : ModuleKind → Noted → Option Doubled
+noted_as Es noted = noted.es
+noted_as Cjs noted = noted.common_js
 
--- in the list of a module just the names are declared twice that are so in its tree, and the first is noted
-pub record IsListOf (q : Program) (m : ℕ) (list : Listed) : Type 0 where
-  pub same : (kind : ModuleKind) →
-      first_doubled kind (map item_of list.pieces.now) ≡ first_doubled kind (tree_of q m)
-  pub noted : IsNoted list
+-- the first name is noted that a module of a program declares twice as what it is, and none where it declares none twice
+abbrev pub IsNotedOf : Program → ℕ → Noted → Type 0
+IsNotedOf q m noted = (kind : ModuleKind) → HasKind q m kind →
+    option_map told_of (noted_as kind noted)
+    ≡ option_map place_and_symbol (first_doubled kind (tree_of q m))
 
--- these are the lists of the modules in turn
-abbrev pub AreListsOf : Program → List Listed → Type 0
-AreListsOf q lists = (m : ℕ) (list : Listed) → slice_get lists m ≡ Some list → IsListOf q m list
+-- the same of the modules in turn
+abbrev pub AreNotesOf : Program → List Noted → Type 0
+AreNotesOf q notes =
+    (m : ℕ) (noted : Noted) → slice_get notes m ≡ Some noted → IsNotedOf q m noted
 
--- the modules and the lists are those of a program, the last of them that of the entry
-pub record AreReadOf (q : Program) (modules : List LinkModule) (lists : List Listed) (setting : Setting) : Type 0 where
+-- the modules and what is noted of them are those of a program, the last of them that of the entry
+pub record AreReadOf (q : Program) (modules : List LinkModule) (notes : List Noted) (setting : Setting) : Type 0 where
   pub program : IsProgramOf q modules (numbers_below (length modules)) (length modules - 1) setting.require
   pub iife : q.settings.iife ≡ setting.iife
   pub readable : IsReadable q (length modules)
-  pub long : length lists ≡ length modules
-  pub same : AreListsOf q lists
+  pub long : length notes ≡ length modules
+  pub noted : AreNotesOf q notes
 
 -- the place of the module of a fault
 abbrev pub module_of : Told → ℕ

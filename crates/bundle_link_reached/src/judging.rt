@@ -1,26 +1,21 @@
 //! The first fault of modules that are to be linked.
 
-ghost use Rattle.std.specs.Prelude.{◌≡◌, IfOk, length, map};
-ghost use Rattle.std.specs.Option.{option_map};
+ghost use Rattle.std.specs.Prelude.{◌≡◌, IfOk, length};
 ghost use Rattle.bundle_scope_denote.specs.Kinds.{kind_as};
-ghost use Rattle.bundle_scope_denote.specs.Listed.{place_and_symbol, told_of};
-ghost use Rattle.bundle_tree_piece.specs.Item.{item_of};
 ghost use Rattle.bundle_link_targets.specs.Linked.{IsJudgedBy, IsLinkingOf};
-ghost use Rattle.bundle_rules.specs.Doubled as doubled;
 ghost use Rattle.bundle_rules.specs.Meaning.{HasKind};
 ghost use Rattle.bundle_rules.specs.Program.{Program};
-ghost use Rattle.bundle_link_reached.specs.Judged.{AreListsOf, AreReadOf, IsJudgedAs, IsNoted, IsReadable, TellsDoubled, TellsFirst, module_of, numbers_below};
+ghost use Rattle.bundle_link_reached.specs.Judged.{AreNotesOf, AreReadOf, IsJudgedAs, IsReadable, TellsDoubled, TellsFirst, module_of, noted_as, numbers_below};
 
 use bundle_link_targets::{Fault, LinkModule, Linking, Setting};
-use bundle_scope_denote::{Doubled, ModuleKind, first_doubled};
-use bundle_tree_piece::Piece;
+use bundle_scope_denote::{Doubled, ModuleKind};
 use std::alloc::{AllocError, Global};
 
-/// The list of a module, and the first name that it declares twice as an ES module.
+/// What is noted of a module: the first name that it declares twice as an ES module, and as a CommonJS module.
 #[derive(Clone, Copy)]
-pub struct Listed<'l, 'a> {
-    pub pieces: &'l [Piece<'a>],
-    pub doubled: Option<Doubled<'a>>,
+pub struct Noted<'a> {
+    pub es: Option<Doubled<'a>>,
+    pub common_js: Option<Doubled<'a>>,
 }
 
 /// A fault of modules, which stand at places.
@@ -44,22 +39,22 @@ impl<'a> Told<'a> {
     }
 }
 
-/// What the names of modules are linked to, where these are their lists in turn and the last is the entry's; or their
+/// What the names of modules are linked to, where this is noted of them in turn and the last is the entry's; or their
 /// first fault: of all modules a literal call of `require` that is not allowed, a name that is declared twice
 /// (ECMA-262, 16.2.1.1), and what linking finds, in this order.
 pub fn judged<'l, 'a>(
     alloc: Global,
     modules: &[LinkModule<'l, 'a>],
-    lists: &[Listed<'l, 'a>],
+    notes: &[Noted<'a>],
     setting: Setting,
 ) -> Result<Result<Linking<'a>, Told<'a>>, AllocError>
-    ensures { IfOk result (λ found. (q : Program) → AreReadOf q modules.now lists.now setting →
+    ensures { IfOk result (λ found. (q : Program) → AreReadOf q modules.now notes.now setting →
         IsJudgedAs q (length modules.now) found) }
 {
     let list = numbers_to(alloc, modules.len())?;
     let entry = modules.len().saturating_sub(1);
     let linking = Linking::new(alloc, modules, &list, entry, setting)?;
-    let fault = first_fault(alloc, &linking, lists)?;
+    let fault = first_fault(&linking, notes);
     Ok(match fault {
         Some(told) => Err(told),
         None => Ok(linking),
@@ -77,70 +72,49 @@ fn numbers_to(alloc: Global, end: usize) -> Result<Vec<usize>, AllocError>
     Ok(numbers)
 }
 
-// The first fault of linked modules, where these are their lists in turn.
-fn first_fault<'l, 'a>(
-    alloc: Global,
-    linking: &Linking<'a>,
-    lists: &[Listed<'l, 'a>],
-) -> Result<Option<Told<'a>>, AllocError>
-    ensures { IfOk result (λ found.
-        (q : Program) →
-        IsReadable q (length lists.now) →
-        AreListsOf q lists.now →
+// The first fault of linked modules, where this is noted of them in turn.
+fn first_fault<'a>(linking: &Linking<'a>, notes: &[Noted<'a>]) -> Option<Told<'a>>
+    ensures { (q : Program) →
+        IsReadable q (length notes.now) →
+        AreNotesOf q notes.now →
         IsLinkingOf q linking.now →
-        IsJudgedBy q (numbers_below (length lists.now)) linking.now →
-        TellsFirst q (length lists.now) found) }
+        IsJudgedBy q (numbers_below (length notes.now)) linking.now →
+        TellsFirst q (length notes.now) result }
 {
     if let Some(fault) = linking.call_fault() {
-        return Ok(Some(Told::Link(fault)));
+        return Some(Told::Link(fault));
     }
-    if let Some(told) = doubled_in(alloc, linking, lists)? {
-        return Ok(Some(told));
+    if let Some(told) = doubled_in(linking, notes) {
+        return Some(told);
     }
     match linking.link_fault() {
-        Some(fault) => Ok(Some(Told::Link(fault))),
-        None => Ok(None),
+        Some(fault) => Some(Told::Link(fault)),
+        None => None,
     }
 }
 
 // The first name that a module declares twice.
-fn doubled_in<'l, 'a>(
-    alloc: Global,
-    linking: &Linking<'a>,
-    lists: &[Listed<'l, 'a>],
-) -> Result<Option<Told<'a>>, AllocError>
-    ensures { IfOk result (λ found.
-        (q : Program) →
-        AreListsOf q lists.now →
+fn doubled_in<'a>(linking: &Linking<'a>, notes: &[Noted<'a>]) -> Option<Told<'a>>
+    ensures { (q : Program) →
+        AreNotesOf q notes.now →
         IsLinkingOf q linking.now →
-        TellsDoubled q (length lists.now) found) }
+        TellsDoubled q (length notes.now) result }
 {
-    for (module, list) in lists.iter().enumerate() {
-        if let Some(doubled) = doubled_of(alloc, *list, kind_of(linking, module))? {
-            return Ok(Some(Told::Doubled(module, doubled)));
+    for (module, noted) in notes.iter().enumerate() {
+        if let Some(doubled) = doubled_as(noted, kind_of(linking, module)) {
+            return Some(Told::Doubled(module, doubled));
         }
     }
-    Ok(None)
+    None
 }
 
-// The first name that a list declares twice, which is noted of one that is an ES module's.
-fn doubled_of<'l, 'a>(
-    alloc: Global,
-    list: Listed<'l, 'a>,
-    kind: ModuleKind,
-) -> Result<Option<Doubled<'a>>, AllocError>
-    ensures { IfOk result (λ found.
-        IsNoted list.entry →
-        option_map told_of found
-        ≡ option_map place_and_symbol
-        (doubled.first_doubled (kind_as kind) (map item_of list.entry.pieces.now))) }
+// The first name that a module declares twice, as a module of this kind.
+fn doubled_as<'a>(noted: &Noted<'a>, kind: ModuleKind) -> Option<Doubled<'a>>
+    ensures { result ≡ noted_as (kind_as kind) noted.now }
 {
     match kind {
-        ModuleKind::Es => Ok(list.doubled),
-        ModuleKind::Cjs => {
-            let found = first_doubled(alloc, list.pieces, ModuleKind::Cjs)?;
-            Ok(found)
-        }
+        ModuleKind::Es => noted.es,
+        ModuleKind::Cjs => noted.common_js,
     }
 }
 

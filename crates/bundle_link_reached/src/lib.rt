@@ -9,7 +9,7 @@ pub mod module;
 pub mod reached;
 
 pub use files::Files;
-pub use judging::{Listed, Told, judged};
+pub use judging::{Noted, Told, judged};
 pub use linked::LinkedModules;
 pub use module::{NumberedModule, leads_of};
 pub use reached::{Reached, reached_from};

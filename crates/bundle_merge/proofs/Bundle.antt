@@ -237,7 +237,6 @@ module _ (p : Program) (list : List ℕ) (right : AreRight p list) (links : List
         let tree = places.tree-at p list right links parts are k m.0 m.1 in
         record {
           tree = sym tree ∙ its.tree;
-          listed = its.listed;
           table = λ kind has. its.names kind (kind-back k m.0 kind m.1 has);
           tables = places.table-at-place p list right links parts are k part there;
           meta = its.meta ∙ ap has_import_meta tree;

@@ -1,12 +1,12 @@
 -- What was read of the modules of a program by their places on its list is that of a program of which these are the
 -- numbers, and is linked and merged as that.
-use Rattle.std.proofs.Common.{◌≡◌, ◌↔◌, ℕ, zero, suc, ◌-◌, ◌<◌, Bool, true, List, [], ◌∷◌, ◌++◌, Option, Some, None, Contains, length, map, refl, sym, ap, ◌∙◌, subst, arith}
+use Rattle.std.proofs.Common.{◌≡◌, ◌↔◌, ℕ, zero, suc, ◌-◌, ◌<◌, Bool, true, List, [], ◌∷◌, ◌++◌, Option, Some, None, Contains, length, refl, sym, ap, ◌∙◌, subst, arith}
 use Rattle.std.specs.Prelude.{option_map, slice_get, unwrap_or}
 use Rattle.std.specs.Option.{option_and_then}
 use Rattle.std.proofs.lemmas.Option.{none-some, same_Some, slice_get_within}
 use Rattle.std.specs.BTreeMap.{get_by_text}
 use Rattle.bundle_tree_names.specs.FileName.{Name as FileName}
-use Rattle.bundle_tree_piece.specs.Item.{Item, item_of}
+use Rattle.bundle_tree_piece.specs.Item.{Item}
 use Rattle.bundle_order_sort.proofs.OnceLemmas.{IsOnce as IsOnceBehind}
 use Rattle.bundle_order_graph.specs.Modules.{Modules, deps}
 use Rattle.bundle_order_graph.specs.Walks.{along, itself}
@@ -46,6 +46,7 @@ use Rattle.bundle_merge_whole.specs.sound.Known.{AreKnown, IsByPlaces}
 use Rattle.bundle_merge_whole.proofs.moved.Owed.{AreMoved}
 use Rattle.bundle_merge_whole.proofs.moved.Places.{placed-moved}
 use Rattle.bundle_merge_whole.proofs.planned.RequestLemmas.{list-once, list-reached}
+use Rattle.bundle_merge_names.specs.Bundle.{list_of_part}
 use Rattle.bundle_merge_names.specs.declared.part.Part.{Part}
 use Rattle.bundle_merge.specs.Placed.{AreRight, ArePlaced}
 use Rattle.bundle_merge.proofs.Faultless.{faultless-program}
@@ -227,7 +228,7 @@ module _ (p : Program) (list : List ℕ) (right : AreRight p list) (links : List
       (λ j m at x a b in_a in_b.
       (let part = part-at j m at in
       let its = are.each j m part.0 at part.1 in
-      cleared-once its.faultless.0 (map item_of part.0.pieces.now) its.faultless.1 x a b
+      cleared-once its.faultless.0 (list_of_part part.0) its.faultless.1 x a b
       (subst (λ (t : List Item). Contains (exports_of t) a) its.tree in_a)
       (subst (λ (t : List Item). Contains (exports_of t) b) its.tree in_b)))
       k
@@ -296,7 +297,7 @@ module _ (p : Program) (list : List ℕ) (right : AreRight p list) (links : List
       let its = are.each k.0 m part.0 k.1 part.1 in (
         its.faultless.0,
         subst (IsFaultless its.faultless.0) (sym its.tree)
-            (faults.faultless its.faultless.0 (map item_of part.0.pieces.now) its.faultless.1),
+            (faults.faultless its.faultless.0 (list_of_part part.0) its.faultless.1),
       )
 
   pub are-known : AreModules q → AreKnown p q list

@@ -12,7 +12,7 @@ use Rattle.bundle_tree_names.specs.FileName.{name_of, Name as FileName}
 use Rattle.bundle_tree_piece.specs.declared.piece.Role.{Role}
 use Rattle.bundle_tree_piece.specs.declared.piece.Role.TheVariants as r
 use Rattle.bundle_tree_piece.specs.Item as h
-use Rattle.bundle_tree_piece.specs.Item.{Head, Item, item_of}
+use Rattle.bundle_tree_piece.specs.Item.{Head, Item}
 use Rattle.bundle_tree_listed.specs.Tree.{module_item_items, module_items, node}
 use Rattle.bundle_tree_places.specs.Marks.{ident_of}
 use Rattle.bundle_tree_places.specs.declared.mark.Name.{Name}
@@ -66,6 +66,7 @@ use Rattle.bundle_merge_whole.proofs.answered.Resolving.{resolved-cleared}
 use Rattle.bundle_merge_whole.proofs.cleared.Cleared.{checked-cleared, leads-cleared, list-cleared, meta-cleared, meta-item-cleared, of-cleared-kind, of-cleared-reached, to-cleared-reached, tree-of-cleared, undoubled-cleared}
 use Rattle.bundle_merge_whole.proofs.grown.Trees.{kept_fit}
 use Rattle.bundle_merge_whole.proofs.planned.RequestLemmas.{list-once}
+use Rattle.bundle_merge_names.specs.Bundle.{list_of_part}
 use Rattle.bundle_merge_names.specs.declared.part.Part.{Part}
 use Rattle.bundle_merge.specs.Handed.{AreObjectsApart, StandsInObject, its_inside, its_name}
 use Rattle.bundle_merge.specs.Placed.{AreRight, HasFront, IsRead, nothing, object}
@@ -492,8 +493,12 @@ module _ (p : Program) (hooks : Hooks) (contexts : ℕ → Contexts) (next : ℕ
       was : IsReadOf linker read.known list items part
       was = subst (λ its. IsReadOf linker read.known list its part) body read.is
 
-      pieces-are : map item_of part.pieces.now ≡ own_list items
-      pieces-are = was.list
+      list-is : list_of_part part ≡ own_list items
+      list-is =
+          ap (λ l. node 0 h.Module (list_of l))
+          (ap (drop (if is_some part.written then 1 else 0)) was.its_items
+          ∙ own-behind part.written items)
+          ∙ ap (λ name. node 0 h.Module (list_of (without_front name items))) was.written
 
       -- its requests lead to listed modules
       leads-listed : (s : Text) → Contains (requests_in q.settings (tree_of q m)) s → (c : ℕ) →
@@ -510,15 +515,9 @@ module _ (p : Program) (hooks : Hooks) (contexts : ℕ → Contexts) (next : ℕ
 
       pub is-read : IsRead q list m part
       is-read = record {
-        tree = own-cleared ∙ ap cleared (sym pieces-are);
-        listed =
-            pieces-are
-            ∙ ap (λ name. node 0 h.Module (list_of (without_front name items))) (sym was.written)
-            ∙ ap (λ l. node 0 h.Module (list_of l))
-            (sym (own-behind part.written items)
-            ∙ ap (drop (if is_some part.written then 1 else 0)) (sym was.its_items));
+        tree = own-cleared ∙ ap cleared (sym list-is);
         names = λ kind has.
-            subst (λ l. IsTable BySymbol kind l part.denotations.now) (sym pieces-are)
+            subst (λ l. IsTable BySymbol kind l part.denotations.now) (sym list-is)
             (was.names p kind w.of
             (subst (λ n. HasKind p n kind) (sym number) (of-cleared-kind p m kind has)));
         table =
@@ -535,7 +534,7 @@ module _ (p : Program) (hooks : Hooks) (contexts : ℕ → Contexts) (next : ℕ
             slice_get_within list d c.0 (at-place list c.0 d c.1));
         faultless = (
           name_of read.known.file_name,
-          subst (IsFaultless (name_of read.known.file_name)) (sym pieces-are) was.tables.faultless,
+          subst (IsFaultless (name_of read.known.file_name)) (sym list-is) was.tables.faultless,
         );
       }
 

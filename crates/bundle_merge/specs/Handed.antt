@@ -38,13 +38,12 @@ pub record IsLinkRead (read : Read) (its : LinkModule) : Type 0 where
 
 -- and as one that is merged
 pub record IsPartRead (read : Read) (part : Part) : Type 0 where
-  pub items : part.items.now ≡ read.own.items.now
-  pub pieces : part.pieces.now ≡ read.own.pieces.items
+  pub items : part.items.now ≡ read.items.now
   pub denotations : part.denotations.now ≡ read.names
   pub tables : part.tables.now ≡ read.tables
   pub leads : part.leads.now ≡ read.leads
   pub local : part.local ≡ read.local
-  pub written : part.written ≡ read.own.written
+  pub written : part.written ≡ read.written
 
 -- what was read of the modules on the linker's list from these items, in turn
 pub record AreReadFrom (linker : Linker) (ids : List ℕ) (list : List ℕ) (copies : List Module) (n : ℕ) (reads : List Read) : Type 0 where

@@ -1,13 +1,10 @@
 -- What was read of the modules of a program, by their places on its list.
-use Rattle.std.specs.Prelude.{◌≡◌, ℕ, ◌<◌, true, false, List, [], ◌∷◌, Option, Some, None, Contains, length, map, slice_get}
-use Rattle.std.specs.List.{flat_map}
+use Rattle.std.specs.Prelude.{◌≡◌, ℕ, ◌<◌, true, false, List, [], ◌∷◌, Option, Some, None, Contains, length, slice_get}
 use Rattle.std.specs.Option.{option_and_then}
 use Rattle.std.specs.BTreeMap.{get_by_text}
 use Rattle.bundle_tree_leaf.specs.declared.kind.ExportMetadata.{ExportMetadata}
 use Rattle.bundle_tree_names.specs.FileName.{Name}
-use Rattle.bundle_tree_piece.specs.Item as h
-use Rattle.bundle_tree_piece.specs.Item.{Item, item_of}
-use Rattle.bundle_tree_listed.specs.Tree.{module_item_items, node}
+use Rattle.bundle_tree_piece.specs.Item.{Item}
 use Rattle.bundle_rules.specs.Bundle.{Hooks}
 use Rattle.bundle_rules.specs.Cleared.{cleared}
 use Rattle.bundle_rules.specs.Declarations.{BySymbol}
@@ -31,7 +28,7 @@ use Rattle.bundle_link_reached.specs.Leads.{place_in}
 use Rattle.bundle_link_targets.specs.Meant.{IsModuleTree}
 use Rattle.bundle_merge_whole.specs.made.Given.{Answer, Written}
 use Rattle.bundle_merge_whole.specs.sound.Known.{LeadsAll}
-use Rattle.bundle_merge_names.specs.Bundle.{IsWrittenIn, own_items}
+use Rattle.bundle_merge_names.specs.Bundle.{IsWrittenIn, list_of_part}
 use Rattle.bundle_merge_names.specs.declared.part.Part.{Part}
 
 -- what is so of the modules that the entry of a program reaches, which stand on this list: a check of linking finds
@@ -48,21 +45,20 @@ pub record AreRight (p : Program) (list : List ℕ) : Type 0 where
   pub fit : (m : ℕ) → IsReached p m → IsFit AModule 0 (tree_of p m)
   pub leads : LeadsAll p
 
--- a part is what was read of module m: its list, which is the module's tree but for contexts and notes, what the names
--- in it denote, its table, and where its requests lead among the places of the list
+-- a part is what was read of module m: its own items, whose list is the module's tree but for contexts and notes, what
+-- the names in it denote, its table, and where its requests lead among the places of the list
 pub record IsRead (p : Program) (list : List ℕ) (m : ℕ) (part : Part) : Type 0 where
-  pub tree : tree_of p m ≡ cleared (map item_of part.pieces.now)
-  pub listed : map item_of part.pieces.now ≡ node 0 h.Module (flat_map (module_item_items 0) (own_items part))
+  pub tree : tree_of p m ≡ cleared (list_of_part part)
   pub names : (kind : ModuleKind) →
       HasKind p m kind →
-      IsTable BySymbol kind (map item_of part.pieces.now) part.denotations.now
+      IsTable BySymbol kind (list_of_part part) part.denotations.now
   pub table : IsTableOf p m part.tables.now
   pub meta : part.tables.now.has_import_meta ≡ has_import_meta (tree_of p m)
   pub leads : (s : Text) →
       Contains (requests_in p.settings (tree_of p m)) s →
       get_by_text part.leads.now s ≡ option_and_then (place_in list) (p.leads m s)
   pub within : (d : ℕ) (s : Text) → get_by_text part.leads.now s ≡ Some d → d < length list
-  pub faultless : (file : Name) × IsFaultless file (map item_of part.pieces.now)
+  pub faultless : (file : Name) × IsFaultless file (list_of_part part)
 
 -- what stands in front of the own items of a part: where module m has an `import.meta`, the object that holds it, as it
 -- is written already; else nothing

@@ -1,6 +1,6 @@
 -- What is read of the prepared items of a module: its own items, and the name of the statement in front of them that
 -- holds its `import.meta`.
-use Rattle.std.specs.Prelude.{◌≡◌, ℕ, List, [], ◌∷◌, Option, Some, None, Contains, drop, map, nat_eq, option_map, slice_get, take, if◌then◌else◌}
+use Rattle.std.specs.Prelude.{◌≡◌, ℕ, List, [], ◌∷◌, Option, Some, None, Contains, drop, nat_eq, option_map, slice_get, take, if◌then◌else◌}
 use Rattle.std.specs.List.{flat_map}
 use Rattle.std.specs.BTreeMap.{get_by_text}
 use Rattle.indexmap.specs.IndexSet.{index_of_by}
@@ -9,7 +9,7 @@ use Rattle.bundle_tree_ast.specs.declared.module.ModuleItem.{ModuleItem}
 use Rattle.bundle_tree_names.specs.FileName.{name_of}
 use Rattle.bundle_tree_piece.specs.declared.piece.Role.TheVariants.{Binding}
 use Rattle.bundle_tree_piece.specs.Item as h
-use Rattle.bundle_tree_piece.specs.Item.{Item, item_of}
+use Rattle.bundle_tree_piece.specs.Item.{Item}
 use Rattle.bundle_tree_listed.specs.Tree.{module_item_items, node}
 use Rattle.bundle_tree_places.specs.Marks.{ident_of}
 use Rattle.bundle_rules.specs.Declarations.{BySymbol}
@@ -59,12 +59,11 @@ abbrev pub own_list : List ModuleItem → List Item
 own_list items = node 0 h.Module (list_of (own_part items))
 
 -- a part is what was read of the prepared items of a module of a linker, where the modules on its list have these
--- places: the items, the name of the statement in front, and of the module's own items the list, what the names in it
+-- places: the items, the name of the statement in front, and of the module's own items what the names in their list
 -- denote, its tables, and where its requests lead
 pub record IsReadOf (linker : Linker) (known : TransformedModule) (ids : List ℕ) (items : List ModuleItem) (part : Part) : Type 0 where
   pub its_items : part.items.now ≡ items
   pub written : option_map ident_of part.written ≡ held_by items
-  pub list : map item_of part.pieces.now ≡ own_list items
   pub names : (p : Program) (kind : ModuleKind) →
       IsLinkerOf p linker →
       HasKind p known.id kind →

@@ -34,24 +34,25 @@ use indexmap::IndexSet;
 use std::alloc::{AllocError, Global};
 use std::collections::BTreeMap;
 
-/// A module as it was read: its own items, what they say, where its requests lead, and the context of the names of its
+/// A module as it was read: its items, what they say, where its requests lead, and the context of the names of its
 /// top.
 #[derive(Drop)]
 pub(crate) struct Read<'x> {
-    own: Own<'x>,
-    /// What the names in the list denote by their symbols, where the module is read as what it is in the bundle.
+    items: &'x [ModuleItem],
+    /// The name that the first of the items declares, where it is the statement that holds its `import.meta`.
+    written: Option<Name<'x>>,
+    /// What the names in the list of the others denote by their symbols, where the module is read as what it is in the bundle.
     names: Denotations<'x>,
     tables: Tables<'x>,
     leads: BTreeMap<String, usize>,
     local: u32,
 }
 
-/// The items of a module, and the name that the first of them declares, where it is the statement that holds its
-/// `import.meta`; and the list of a module of the others.
+/// The name that the first of a module's items declares, where it is the statement that holds its `import.meta`; and the
+/// list of a module of the others.
 #[derive(Drop)]
 struct Own<'x> {
     written: Option<Name<'x>>,
-    items: &'x [ModuleItem],
     pieces: Vec<Piece<'x>>,
 }
 
@@ -71,13 +72,12 @@ impl<'x> Read<'x> {
         ensures { IsPartRead self.now result }
     {
         Part {
-            items: self.own.items,
-            pieces: &self.own.pieces,
+            items: self.items,
             denotations: &self.names,
             tables: &self.tables,
             leads: &self.leads,
             local: self.local,
-            written: self.own.written,
+            written: self.written,
         }
     }
 }
@@ -101,7 +101,8 @@ pub(crate) fn read_module<'a, 'x>(
     let names = denotations(alloc, &own.pieces, kind, Reading::BySymbol)?;
     let leads = leads_of(alloc, &known.deps, places)?;
     Ok(Read {
-        own,
+        items: module.body.as_slice(),
+        written: own.written,
         names,
         tables,
         leads,
@@ -123,7 +124,6 @@ fn kind_of<'a>(linker: &Linker<'a>, id: ModuleId) -> ModuleKind
 
 // What a module's prepared items are. Where `import.meta` stands in them the first is the statement that holds it.
 fn own_of<'x>(alloc: Global, items: &'x [ModuleItem]) -> Result<Own<'x>, AllocError>
-    ensures items { IfOk result (λ own. own.items.now ≡ items.now) }
     ensures written { IfOk result (λ own. option_map ident_of own.written ≡ held_by items.now) }
     ensures list { IfOk result (λ own. map item_of own.pieces.items ≡ own_list items.now) }
 {
@@ -132,11 +132,7 @@ fn own_of<'x>(alloc: Global, items: &'x [ModuleItem]) -> Result<Own<'x>, AllocEr
     let written = name_in(&front);
     let own = if written.is_some() { front.len() } else { 0 };
     let pieces = module_list(alloc, behind(all.as_slice(), own))?;
-    Ok(Own {
-        written,
-        items,
-        pieces,
-    })
+    Ok(Own { written, pieces })
 }
 
 // The first of a module's items, where `import.meta` stands in them, and this is their list.

@@ -1,8 +1,8 @@
 -- The own statements of a module of a bundle become what its items state in turn.
-use Rattle.std.proofs.Common.{◌≡◌, ℕ, List, Option, Some, None, length, map, option_map, unwrap_or, sym, subst, ap, ◌∙◌}
+use Rattle.std.proofs.Common.{◌≡◌, ℕ, List, Option, Some, None, length, option_map, unwrap_or, refl, sym, subst, ap, ◌∙◌}
 use Rattle.std.specs.Prelude.{codes, slice_get}
 use Rattle.std.proofs.lemmas.Option.{slice_get_within}
-use Rattle.bundle_tree_piece.specs.Item.{Item, item_of}
+use Rattle.bundle_tree_piece.specs.Item.{Item}
 use Rattle.bundle_tree_ast.specs.declared.module.ModuleItem.{ModuleItem}
 use Rattle.bundle_tree_rebuild.specs.declared.rewrite.Rewrite.{Rewrite}
 use Rattle.bundle_rules.specs.Idents.{Ident}
@@ -13,7 +13,7 @@ use Rattle.bundle_rules.specs.Scopes.{ModuleKind}
 use Rattle.bundle_merge_whole.specs.made.Given.{Answer, Contexts, default_ident}
 use Rattle.bundle_merge_whole.specs.made.Steps.{meta_ident}
 use Rattle.bundle_merge_names.specs.Body.{AreSteps, IsReadAs}
-use Rattle.bundle_merge_names.specs.Bundle.{IsPartOf, own_items}
+use Rattle.bundle_merge_names.specs.Bundle.{IsPartOf, list_of_part, own_items}
 use Rattle.bundle_merge_names.specs.declared.names.Names.{Names}
 use Rattle.bundle_merge_names.specs.declared.part.BundleParts.{BundleParts}
 use Rattle.bundle_merge_names.specs.declared.part.Part.{Part}
@@ -47,12 +47,12 @@ pub statements-owned : (q : Program) (list : List ℕ) (answers : ℕ → Option
     (meta : Option Ident) → TakesMeta m bundle names part meta →
     (default : Ident) → default ≡ local_ident names m (codes "default") →
     (items : List ModuleItem) → items ≡ own_items part →
-    (nodes : List (List Item)) → nodes ≡ parts_of (map item_of part.pieces.now) →
+    (nodes : List (List Item)) → nodes ≡ parts_of (list_of_part part) →
     (made : List (List Item)) → StateInTurn meta default items nodes rewrites made →
     AreStatedAs q list context m kind made
 statements-owned q list answers context bundle names m part kind named at has rewrites steps meta metas default defaults items owned nodes noded made its =
-    own-stated q list context m kind (own_items part) (map item_of part.pieces.now) nodes rewrites made
-    of.tree of.listed noded (steps q list context kind read)
+    own-stated q list context m kind (own_items part) (list_of_part part) nodes rewrites made
+    of.tree refl noded (steps q list context kind read)
     (subst (λ o. StateInTurn o (default_ident context m) (own_items part) nodes rewrites made)
     (metas q list context kind read)
     (subst (λ i. StateInTurn meta i (own_items part) nodes rewrites made) default-is

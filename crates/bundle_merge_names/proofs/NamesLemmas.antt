@@ -39,7 +39,7 @@ use Rattle.bundle_merge_names.specs.declared.part.Answered.{Answered}
 use Rattle.bundle_merge_names.specs.declared.part.BundleParts.{BundleParts}
 use Rattle.bundle_merge_names.specs.declared.part.Part.{Part}
 use Rattle.bundle_merge_names.specs.Added.{AddsNames}
-use Rattle.bundle_merge_names.specs.Bundle.{AreAnswers, AreBundleParts, AreNamesOf, IsAnswerOf, StandsWritten, its_inside, its_name, answered_items, holder_symbol}
+use Rattle.bundle_merge_names.specs.Bundle.{AreAnswers, AreBundleParts, AreNamesOf, IsAnswerOf, StandsWritten, answered_items, holder_symbol, its_inside, its_name, list_of_part}
 use Rattle.bundle_merge_whole.specs.made.Given.{Answer, Fresh, Written, stands_written, Contexts, Holder, TopOf, InsideOf, AnsweredOf, WrittenIn, NameOf, HelperParameter, HelperVariable, in_order, numbers_answered, numbers_in}
 use Rattle.bundle_merge_names.specs.Held.{AreHeld}
 use Rattle.bundle_merge_whole.specs.made.Alone.{AddsLabel, IsHolder, added, answered_of, defines, helps, holds_meta, holds_namespace, imports_name, imports_whole, inside_of, loads, parameter, top_of, variable, written_in}
@@ -222,8 +222,8 @@ module _ (p : Program) (list : List ℕ) (answers : ℕ → Option Answer) (bund
   behind label ident at = let w = held-from.within label ident at in w.0
 
   -- the list of a module, and that of what the hook answered for it, in the words of the program
-  denoted-in : (j : ℕ) (part : Part) (kind : ModuleKind) (i : ℕ) (its : ScopeKind) (b : ℕ) (name : Name) → slice_get bundle.parts.now j ≡ Some part → denoted_as BySymbol kind (tree_of p j) i ≡ Some (Bound (Inner its b) name) → denoted_as BySymbol kind (map item_of part.pieces.now) i ≡ Some (Bound (Inner its b) name)
-  denoted-in j part kind i its b name at denoted = ap (λ ds. slice_get ds i) (sym (ap (denotations BySymbol kind) (parts.parts j part at).tree ∙ denotations-cleared kind (map item_of part.pieces.now))) ∙ denoted
+  denoted-in : (j : ℕ) (part : Part) (kind : ModuleKind) (i : ℕ) (its : ScopeKind) (b : ℕ) (name : Name) → slice_get bundle.parts.now j ≡ Some part → denoted_as BySymbol kind (tree_of p j) i ≡ Some (Bound (Inner its b) name) → denoted_as BySymbol kind (list_of_part part) i ≡ Some (Bound (Inner its b) name)
+  denoted-in j part kind i its b name at denoted = ap (λ ds. slice_get ds i) (sym (ap (denotations BySymbol kind) (parts.parts j part at).tree ∙ denotations-cleared kind (list_of_part part))) ∙ denoted
 
   answer-is : (j : ℕ) (part : Part) (properties : List Item) → slice_get bundle.parts.now j ≡ Some part → answers j ≡ Some (Fresh properties) → (its : Answered) × (answer_of bundle j ≡ Some its) × IsAnswerOf properties its
   answer-is j part properties at told = by (answer_of bundle j) refl (subst (λ o. AreAnswers o part (answer_of bundle j)) told (parts.answered j part at))
@@ -285,7 +285,7 @@ module _ (p : Program) (list : List ℕ) (answers : ℕ → Option Answer) (bund
   stands _ (inside_of {m = j} {begins = b} kind its name i reached has_kind denoted) =
       let part = part-there j reached in
       let range = scoped j part.0 part.1 in
-      let one = inside-has kind (map item_of part.0.pieces.now) part.0.denotations.now ((parts.parts j part.0 part.1).table kind has_kind) part.0.local range.from range.to (scopes_in names j) range.has i b its name (denoted-in j part.0 kind i its b name part.1 denoted) in
+      let one = inside-has kind (list_of_part part.0) part.0.denotations.now ((parts.parts j part.0 part.1).table kind has_kind) part.0.local range.from range.to (scopes_in names j) range.has i b its name (denoted-in j part.0 kind i its b name part.1 denoted) in
       in-list false j b one.0 one.1 part.0.denotations.now.scopes.items (list-scopes j part.0 part.1) one.2 one.3 one.4 refl
   stands _ (answered_of {m = j} {begins = b} properties its name i reached told denoted) =
       let part = part-there j reached in
@@ -400,7 +400,7 @@ module _ (p : Program) (list : List ℕ) (answers : ℕ → Option Answer) (bund
     below = λ a holder. below a (stands a holder);
     locals = λ j less. let part = there-below bundle.parts.now j less in local j part.0 part.1 ∙ ap (λ c. Some c) (sym (local-top j part.0 part.1));
     tops = local-top;
-    scopes = λ j part kind at has_kind. let range = scoped j part at in numbers-are kind (map item_of part.pieces.now) part.denotations.now ((parts.parts j part at).table kind has_kind) part.local range.from range.to (scopes_in names j) range.has (numbers_in context j)
+    scopes = λ j part kind at has_kind. let range = scoped j part at in numbers-are kind (list_of_part part) part.denotations.now ((parts.parts j part at).table kind has_kind) part.local range.from range.to (scopes_in names j) range.has (numbers_in context j)
         (λ order x less. top-order (context (TopOf j)) (λ b. context (InsideOf j b)) order less ∙ local-top j part at)
         (λ begins x. inner-order (context (TopOf j)) (λ b. context (InsideOf j b)) begins ∙ ap (λ l. context_at l (scopes_in names j) begins) (list-scopes j part at));
     answered = λ j its less at.

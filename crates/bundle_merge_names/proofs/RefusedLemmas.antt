@@ -35,7 +35,7 @@ use Rattle.bundle_merge_names.specs.declared.part.BundleParts.{BundleParts}
 use Rattle.bundle_merge_names.specs.declared.part.Part.{Part}
 use Rattle.bundle_merge_whole.specs.planned.Counted.{sum_of}
 use Rattle.bundle_merge_whole.specs.planned.Decided.{numbers_from}
-use Rattle.bundle_merge_names.specs.Bundle.{AreAnswers, AreBundleParts, IsAnswerOf, answered_items}
+use Rattle.bundle_merge_names.specs.Bundle.{AreAnswers, AreBundleParts, IsAnswerOf, answered_items, list_of_part}
 use Rattle.bundle_merge_whole.specs.made.Alone.{answered_of, inside_of}
 use Rattle.bundle_merge_whole.specs.made.Given.{Answer, Fresh, Written}
 use Rattle.bundle_merge_names.specs.Inside as n
@@ -183,8 +183,8 @@ module _ (p : Program) (list : List ℕ) (answers : ℕ → Option Answer) (bund
         let part = there-below bundle.parts.now m within in
         let its = has m ((parts.reached m).1 within) in
         let is = parts.parts m part.0 part.1 in
-        let few = taken-few its.kind (map item_of part.0.pieces.now) part.0.denotations.now (is.table its.kind its.has_kind) from taken.middle (subst (λ o. AreTakenBy o from taken.middle) (list-table m part.0 part.1) taken.list) in
-        let count : binding_count its.kind (tree_of p m) ≡ binding_count its.kind (map item_of part.0.pieces.now) = ap (binding_count its.kind) is.tree ∙ binding_count-cleared its.kind (map item_of part.0.pieces.now) in
+        let few = taken-few its.kind (list_of_part part.0) part.0.denotations.now (is.table its.kind its.has_kind) from taken.middle (subst (λ o. AreTakenBy o from taken.middle) (list-table m part.0 part.1) taken.list) in
+        let count : binding_count its.kind (tree_of p m) ≡ binding_count its.kind (list_of_part part.0) = ap (binding_count its.kind) is.tree ∙ binding_count-cleared its.kind (list_of_part part.0) in
         let answered = answer-few m taken.middle to within taken.answer in
         let all = its.few in
         omega (arith, few, count, answered, all)
@@ -214,8 +214,8 @@ module _ (p : Program) (list : List ℕ) (answers : ℕ → Option Answer) (bund
       let kind = kind-of m in
       let is = parts.parts m part.0 part.1 in
       let same : table ≡ part.0.denotations.now = same_Some table part.0.denotations.now (sym at ∙ list-table m part.0 part.1) in
-      let inner = inner-needs kind.0 (map item_of part.0.pieces.now) part.0.denotations.now (is.table kind.0 kind.1) n (subst (λ t. NeedsContext t n) same needs) in
-      let denoted = ap (λ ds. slice_get ds inner.3) (ap (denotations BySymbol kind.0) is.tree ∙ denotations-cleared kind.0 (map item_of part.0.pieces.now)) ∙ inner.4 in
+      let inner = inner-needs kind.0 (list_of_part part.0) part.0.denotations.now (is.table kind.0 kind.1) n (subst (λ t. NeedsContext t n) same needs) in
+      let denoted = ap (λ ds. slice_get ds inner.3) (ap (denotations BySymbol kind.0) is.tree ∙ denotations-cleared kind.0 (list_of_part part.0)) ∙ inner.4 in
       for_module m inner.0 (inside_of kind.0 inner.1 inner.2 inner.3 ((parts.reached m).1 within) kind.1 denoted) lacking
   module-refused true m n table within at needs lacking = by (answer_of bundle m) refl at
     where

@@ -6,7 +6,7 @@ use Rattle.std.proofs.lemmas.Bool.{false≢true}
 use Rattle.std.proofs.lemmas.Option.{none-some, same_Some, slice_get-map}
 use Rattle.std.proofs.lemmas.Slice.Zip.{all_zipped_more}
 use Rattle.std.specs.BTreeMap.{get_by_text}
-use Rattle.bundle_tree_piece.specs.Item.{Item, item_of}
+use Rattle.bundle_tree_piece.specs.Item.{Item}
 use Rattle.bundle_rules.specs.Entries as e
 use Rattle.bundle_rules.specs.Idents.{Ident}
 use Rattle.bundle_rules.specs.Places.{start, Occurrence, occurrence_at, occurrences}
@@ -44,6 +44,7 @@ use Rattle.bundle_tree_rebuild.specs.Work.{rewrite_step}
 use Rattle.bundle_merge_names.specs.declared.names.Names.{Names}
 use Rattle.bundle_merge_names.specs.declared.part.Part.{Part}
 use Rattle.bundle_merge_names.specs.Body as b
+use Rattle.bundle_merge_names.specs.Bundle.{list_of_part}
 use Rattle.bundle_merge_names.specs.Body.{IsReadAs, IsRewritten, MeansNothing, IsFound, AreSteps, called_by, is_use_at, is_call_at, past_by}
 use Rattle.bundle_merge_whole.specs.made.Given.{Contexts, numbers_in}
 use Rattle.bundle_merge_names.specs.Named.{scopes_in}
@@ -71,7 +72,7 @@ module _ (p : Program) (list : List ℕ) (context : Contexts) (k : ℕ) (kind : 
   tree = tree_of p k
 
   abbrev items : List Item
-  items = map item_of part.pieces.now
+  items = list_of_part part
 
   abbrev os : List Occurrence
   os = occurrences tree
@@ -266,7 +267,7 @@ walked-first part k linking names rewrites none = record {
 -- one name more
 pub walked-next : (part : Part) (k : ℕ) (linking : Linking) (names : Names) (rewrites more : List Rewrite) (uses calls uses_after calls_after i after : ℕ) (entry : Denoted) (own rewrite : Rewrite)
     → slice_get part.denotations.now.occurrences.items i ≡ Some entry
-    → told own ≡ own_told (map item_of part.pieces.now) part.denotations.now (scopes_in names k) entry
+    → told own ≡ own_told (list_of_part part) part.denotations.now (scopes_in names k) entry
     → IsRewritten part k linking names uses calls entry.place own rewrite
     → more ≡ rewrites ++ rewrite ∷ []
     → uses_after ≡ past_by (is_use_at entry.place (slice_get part.tables.now.uses.items uses)) uses
@@ -280,7 +281,7 @@ walked-next part k linking names rewrites more uses calls uses_after calls_after
   where
     at : (p : Program) (list : List ℕ) (context : Contexts) (kind : ModuleKind) → IsReadAs p list context k kind part linking names → IsAt p list context k kind rewrites uses calls i → IsAt p list context k kind more uses_after calls_after after
     at p list context kind read is =
-        let z = zip-there _ part.denotations.now.occurrences.items (occurrences (map item_of part.pieces.now)) i entry read.table.occurrences there in
+        let z = zip-there _ part.denotations.now.occurrences.items (occurrences (list_of_part part)) i entry read.table.occurrences there in
         let here = os-there p list context k kind part linking names read i z.0 z.1 in
         let o : Occurrence = cleared_occurrence z.0 in
         let place : entry.place ≡ o.place = same-place p list context k kind part linking names read i o entry here there in
@@ -295,6 +296,6 @@ pub walked-all : (part : Part) (k : ℕ) (linking : Linking) (names : Names) (re
     → (p : Program) (list : List ℕ) (context : Contexts) (kind : ModuleKind) → IsReadAs p list context k kind part linking names → AreSteps p list context k kind rewrites
 walked-all part k linking names rewrites uses calls i past walked p list context kind read =
     let is = walked.told_of p list context kind read in
-    let long = zip-long _ part.denotations.now.occurrences.items (occurrences (map item_of part.pieces.now)) read.table.occurrences in
-    let all = ap length (os-cleared p list context k kind part linking names read) ∙ map-long cleared_occurrence (occurrences (map item_of part.pieces.now)) in
+    let long = zip-long _ part.denotations.now.occurrences.items (occurrences (list_of_part part)) read.table.occurrences in
+    let all = ap length (os-cleared p list context k kind part linking names read) ∙ map-long cleared_occurrence (occurrences (list_of_part part)) in
     subst (λ l. AllZip (λ o rewrite. IsStep p list context k kind o (rewrite_step rewrite)) l rewrites) (take-whole (occurrences (tree_of p k)) i (omega (arith, past, long, all))) is.steps

@@ -1,8 +1,8 @@
 -- What is told of a module whose names get their steps.
-use Rattle.std.specs.Prelude.{◌≡◌, ℕ, suc, ◌==◌, Bool, true, false, List, Option, Some, None, Contains, map, slice_get, if◌then◌else◌}
+use Rattle.std.specs.Prelude.{◌≡◌, ℕ, suc, ◌==◌, Bool, true, false, List, Option, Some, None, Contains, slice_get, if◌then◌else◌}
 use Rattle.std.specs.List.{AllZip}
 use Rattle.std.specs.BTreeMap.{get_by_text}
-use Rattle.bundle_tree_piece.specs.Item.{Item, item_of}
+use Rattle.bundle_tree_piece.specs.Item.{Item}
 use Rattle.bundle_rules.specs.Cleared.{cleared}
 use Rattle.bundle_rules.specs.Entries as e
 use Rattle.bundle_rules.specs.Entries.{has_import_meta}
@@ -35,6 +35,7 @@ use Rattle.bundle_merge_names.specs.declared.part.Part.{Part}
 use Rattle.bundle_merge_whole.specs.made.Given.{Contexts, ident_of_label, numbers_in}
 use Rattle.bundle_merge_names.specs.Named.{scopes_in}
 use Rattle.bundle_merge_names.specs.Idents.{label_ident, object_ident, target_ident}
+use Rattle.bundle_merge_names.specs.Bundle.{list_of_part}
 use Rattle.bundle_merge_names.specs.Numbers.{AreNumbersOf}
 use Rattle.bundle_merge_names.specs.Own.{told}
 use Rattle.bundle_merge_whole.specs.made.Steps.{IsStep, IsStepTo, whole_of}
@@ -95,12 +96,12 @@ pub record IsReadAs (p : Program) (list : List ℕ) (context : Contexts) (k : �
   pub reached : IsReached p k
   pub modules : AreModules p
   pub linked : IsLinkingOf p linking
-  pub tree : tree_of p k ≡ cleared (map item_of part.pieces.now)
-  pub table : IsTable BySymbol kind (map item_of part.pieces.now) part.denotations.now
+  pub tree : tree_of p k ≡ cleared (list_of_part part)
+  pub table : IsTable BySymbol kind (list_of_part part) part.denotations.now
   pub tables : IsTableOf p k part.tables.now
   pub meta : part.tables.now.has_import_meta ≡ has_import_meta (tree_of p k)
   pub leads : (s : Text) → p.leads k s ≡ get_by_text part.leads.now s
-  pub numbers : AreNumbersOf kind (map item_of part.pieces.now) part.denotations.now (numbers_in context k) (scopes_in names k)
+  pub numbers : AreNumbersOf kind (list_of_part part) part.denotations.now (numbers_in context k) (scopes_in names k)
   pub targets : (t : Target) →
       m.IsMeant p (m.Of (target_of t)) →
       target_ident names t ≡ ident_of_label p list context (m.Of (target_of t))

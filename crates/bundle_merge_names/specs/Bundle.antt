@@ -42,13 +42,16 @@ own_items part = drop (if is_some part.written then 1 else 0) part.items.now
 abbrev pub written_items : Part → List ModuleItem
 written_items part = take (if is_some part.written then 1 else 0) part.items.now
 
--- a part is that of a module: its list, its items, its tables, and where its requests lead
+-- the list of a module of the items that are its own
+abbrev pub list_of_part : Part → List Item
+list_of_part part = node 0 h.Module (flat_map (module_item_items 0) (own_items part))
+
+-- a part is that of a module: its items, what the names in their list denote, its tables, and where its requests lead
 pub record IsPartOf (p : Program) (m : ℕ) (part : Part) : Type 0 where
-  pub tree : tree_of p m ≡ cleared (map item_of part.pieces.now)
-  pub listed : map item_of part.pieces.now ≡ node 0 h.Module (flat_map (module_item_items 0) (own_items part))
+  pub tree : tree_of p m ≡ cleared (list_of_part part)
   pub table : (kind : ModuleKind) →
       HasKind p m kind →
-      IsTable BySymbol kind (map item_of part.pieces.now) part.denotations.now
+      IsTable BySymbol kind (list_of_part part) part.denotations.now
   pub tables : IsTableOf p m part.tables.now
   pub meta : part.tables.now.has_import_meta ≡ has_import_meta (tree_of p m)
   pub leads : (s : Text) → p.leads m s ≡ get_by_text part.leads.now s
@@ -157,7 +160,7 @@ pub record AreNamesOf (p : Program) (list : List ℕ) (answers : ℕ → Option 
   pub scopes : (m : ℕ) (part : Part) (kind : ModuleKind) →
       slice_get bundle.parts.now m ≡ Some part →
       HasKind p m kind →
-      AreNumbersOf kind (map item_of part.pieces.now) part.denotations.now (numbers_in context m) (scopes_in names m)
+      AreNumbersOf kind (list_of_part part) part.denotations.now (numbers_in context m) (scopes_in names m)
   pub answered : (m : ℕ) (its : Answered) →
       m < length bundle.parts.now →
       slice_get bundle.answers.now m ≡ Some (Some its) →

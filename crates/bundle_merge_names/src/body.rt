@@ -13,6 +13,7 @@ ghost use Rattle.bundle_scope_denote.specs.Listed.{IsTable};
 ghost use Rattle.bundle_scope_names.proofs.Numbering.{Numbering};
 ghost use Rattle.bundle_merge_names.specs.declared.names.Label.TheVariants as kinds;
 ghost use Rattle.bundle_merge_whole.specs.made.Given as given;
+ghost use Rattle.bundle_merge_names.specs.Bundle.{list_of_part};
 ghost use Rattle.bundle_merge_names.specs.Body.{IsReadAs, IsRewritten, AreOwnSteps, AreSteps, called_by, is_call_at, is_use_at, past_by};
 ghost use Rattle.bundle_merge_names.specs.Idents.{label_ident, object_ident, target_ident};
 ghost use Rattle.bundle_merge_names.specs.Numbers.{AreNumbersOf};
@@ -38,14 +39,16 @@ pub struct Body<'a> {
     pub meta: Option<Name<'a>>,
 }
 
-/// What becomes of a module.
+/// What becomes of a module, where this is the list of its own items.
 pub fn body_of<'a>(
     alloc: Global,
     part: &Part<'_, 'a>,
+    pieces: &[Piece<'a>],
     module: usize,
     linking: &Linking<'a>,
     names: &Names<'a>,
 ) -> Result<Body<'a>, AllocError>
+    requires { map item_of pieces.now ≡ list_of_part part.now }
     ensures rewrites { IfOk result (λ body.
         (p : Program) (list : List ℕ) (context : given.Contexts) (kind : ModuleKind) →
         IsReadAs p list context «module» kind part.now linking.now names.now →
@@ -55,7 +58,7 @@ pub fn body_of<'a>(
         IsReadAs p list context «module» kind part.now linking.now names.now →
         option_map ident_of body.meta ≡ meta_ident p list context «module») }
 {
-    let rewrites = rewrites_of(alloc, part, module, linking, names)?;
+    let rewrites = rewrites_of(alloc, part, pieces, module, linking, names)?;
     let meta = meta_of(part, module, names);
     Ok(Body { rewrites, meta })
 }
@@ -64,10 +67,12 @@ pub fn body_of<'a>(
 fn rewrites_of<'a>(
     alloc: Global,
     part: &Part<'_, 'a>,
+    pieces: &[Piece<'a>],
     module: usize,
     linking: &Linking<'a>,
     names: &Names<'a>,
 ) -> Result<Vec<Rewrite<'a>>, AllocError>
+    requires { map item_of pieces.now ≡ list_of_part part.now }
     ensures { IfOk result (λ rewrites.
         (p : Program) (list : List ℕ) (context : given.Contexts) (kind : ModuleKind) →
         IsReadAs p list context «module» kind part.now linking.now names.now →
@@ -79,7 +84,7 @@ fn rewrites_of<'a>(
     let mut calls = 0;
     for occurrence in &part.denotations.occurrences {
         let place = occurrence.place;
-        let own = own_of(part.pieces, part.denotations, scopes, occurrence);
+        let own = own_of(pieces, part.denotations, scopes, occurrence);
         rewrites.push(rewrite_of(part, module, linking, names, uses, calls, place, own))?;
         uses = uses_past(&part.tables.uses, uses, place);
         calls = calls_past(&part.tables.calls, calls, place);

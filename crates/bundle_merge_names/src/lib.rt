@@ -1,5 +1,5 @@
 //! The names of a bundle: a context for each scope of its modules that binds something, an identifier for each label,
-//! and what becomes of each name of a module. What comes in is each module with its list and its tables, and what the
+//! and what becomes of each name of a module. What comes in is each module with its items and its tables, and what the
 //! names of the modules are linked to (`BundleParts`).
 #![tactic(auto)]
 

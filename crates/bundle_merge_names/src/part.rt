@@ -21,8 +21,7 @@ use std::collections::BTreeMap;
 pub struct Part<'t, 'a> {
     /// Its items; in front of its own may be the statement that holds its `import.meta`.
     pub items: &'a [ModuleItem],
-    /// Its list, and what each occurrence in it denotes by its symbol, read as the kind of module that it is.
-    pub pieces: &'t [Piece<'a>],
+    /// What each occurrence in the list of its own items denotes by its symbol, read as the kind of module that it is.
     pub denotations: &'t Denotations<'a>,
     pub tables: &'t Tables<'a>,
     /// The modules to which its requests lead, by their texts.

@@ -1,5 +1,5 @@
 -- What was read of the modules that an entry reaches is that of a program by places, which is alike.
-use Rattle.std.proofs.Common.{◌≡◌, ◌↔◌, ℕ, ◌-◌, ◌<◌, true, List, [], Option, Some, None, Contains, length, map, refl, sym, ap, ◌∙◌, subst, arith}
+use Rattle.std.proofs.Common.{◌≡◌, ◌↔◌, ℕ, ◌-◌, ◌<◌, true, List, [], Option, Some, None, Contains, length, refl, sym, ap, ◌∙◌, subst, arith}
 use Rattle.std.specs.Prelude.{IfSome, option_map, slice_get, unwrap_or}
 use Rattle.std.specs.Option.{option_and_then}
 use Rattle.std.specs.declared.alloc.Global.{Global}
@@ -7,19 +7,14 @@ use Rattle.std.specs.declared.string.String.{String}
 use Rattle.std.proofs.lemmas.List.{length-map}
 use Rattle.std.proofs.lemmas.Option.{none-some, same_Some, slice_get-map, slice_get_within}
 use Rattle.std.specs.BTreeMap.{BTreeMap, get_by_text}
-use Rattle.bundle_tree_piece.specs.Item.{Item, item_of}
-use Rattle.bundle_tree_piece.specs.declared.piece.Piece.{Piece}
+use Rattle.bundle_tree_piece.specs.Item.{Item}
 use Rattle.bundle_tree_names.specs.FileName.{name_of}
 use Rattle.bundle_tree_names.specs.declared.file_name.FileName.{FileName}
-use Rattle.bundle_rules.specs.Doubled.{first_doubled}
-use Rattle.bundle_rules.specs.Scopes.{Es}
-use Rattle.bundle_scope_denote.specs.Listed.{place_and_symbol, told_of}
 use Rattle.bundle_rules.specs.Nodes.{Text}
 use Rattle.bundle_rules.specs.Judging.{requests_in}
 use Rattle.bundle_rules.specs.Entries.{ExportEntry, exports_of, is_named}
 use Rattle.bundle_rules.specs.Program.{Loaded, Program, file_of, tree_of, IsReached}
 use Rattle.bundle_rules.specs.Faults.{IsFirstProgramFault, IsFaultlessProgram, fault_of}
-use Rattle.bundle_rules.proofs.DenotesLemmas.{first_doubled-cleared}
 use Rattle.bundle_link_index.specs.Leads.{leads_from as by_lead, required_of}
 use Rattle.bundle_order_graph.specs.Walks.{along, itself}
 use Rattle.bundle_order_graph.proofs.WalkLemmas.{Reaches-trans}
@@ -44,17 +39,17 @@ use Rattle.bundle_link_reached.proofs.RequestLemmas.{requests_to}
 use Rattle.bundle_link_reached.proofs.NumbersLemmas.{there_is}
 use Rattle.bundle_link_reached.proofs.ToldLemmas.{all_below, only_below}
 use Rattle.bundle_link_reached.specs.Files.{numbers_of}
-use Rattle.bundle_link_reached.specs.Judged.{AreLinkedAs, AreReadOf, IsReadable, numbers_below, module_of, says}
-use Rattle.bundle_link_reached.specs.declared.judging.Listed.{Listed}
+use Rattle.bundle_link_reached.specs.Judged.{AreLinkedAs, AreReadOf, IsNotedOf, IsReadable, numbers_below, module_of, says}
+use Rattle.bundle_link_reached.specs.declared.judging.Noted.{Noted}
 use Rattle.bundle_link_reached.specs.declared.judging.Told.{Told}
 use Rattle.bundle_link_reached.specs.declared.reached.Reached.{Reached}
 use Rattle.bundler_entry.specs.Source.{IsSourceOf}
-use Rattle.bundler_entry.specs.Linked.{AreByPlaces, AreLinkedIn, AreLists, AreParts, HasPlaces, IsCallOf, IsFileAt, IsReachedIn, TellsFileAt, ids_of, source_in}
+use Rattle.bundler_entry.specs.Linked.{AreByPlaces, AreLinkedIn, AreNotes, AreParts, HasPlaces, IsCallOf, IsFileAt, IsReachedIn, TellsFileAt, ids_of, source_in}
 use Rattle.bundler_entry.specs.Unlinked.{error_of}
 use Rattle.bundler_entry.specs.declared.call.Call.{Call}
 use Rattle.bundler_entry.specs.declared.source.Source.{Source}
 use Rattle.bundler_entry.specs.declared.unlinked.Unlinked.{Unlinked}
-use Rattle.bundler_entry.proofs.SourceLemmas.{read_at}
+use Rattle.bundler_entry.proofs.SourceLemmas.{noted_there, read_at}
 
 module _ (p : Program) (entry : ℕ) (call : Call) (w : IsCallOf p entry call) (reached : Reached) (r : IsReachedIn p call reached) where
   abbrev ids : List ℕ
@@ -214,8 +209,8 @@ module _ (p : Program) (entry : ℕ) (call : Call) (w : IsCallOf p entry call) (
         past_list m (Some x) at past = let within = slice_get_within list m x at in absurd (past (omega (arith, within, long_parts)))
 
     -- what was read of the modules is that of the program by places
-    pub is_read : (setting : Setting) (lists : List Listed) → AreLists sources reached n lists → setting.require ≡ p.settings.require → p.settings.iife ≡ setting.iife → AreReadOf q parts lists setting
-    is_read setting lists are_lists require iife = record {
+    pub is_read : (setting : Setting) (notes : List Noted) → AreNotes sources reached n notes → setting.require ≡ p.settings.require → p.settings.iife ≡ setting.iife → AreReadOf q parts notes setting
+    is_read setting notes are_notes require iife = record {
       program = record {
         tables = part_table;
         others = λ m none. no_tree_at m (past m none);
@@ -228,25 +223,17 @@ module _ (p : Program) (entry : ℕ) (call : Call) (w : IsCallOf p entry call) (
       };
       iife = iife;
       readable = readable;
-      long = are_lists.long ∙ sym are.long;
-      same = λ k l at.
-          let its = are_lists.each k l at in
-          let m = there_is list k (let within = slice_get_within lists k l at in omega (arith, within, are_lists.long, is, long_places)) in
+      long = are_notes.long ∙ sym are.long;
+      noted = λ k noted at.
+          let its = are_notes.each k noted at in
+          let m = there_is list k (let within = slice_get_within notes k noted at in omega (arith, within, are_notes.long, is, long_places)) in
           let place = place_of k m.0 m.1 in
           let source = source_of place.0 m.0 place.2 in
           let same_place_is : its.place ≡ place.0 = same_Some its.place place.0 (sym its.its_place ∙ place.1) in
           let same_source : its.source ≡ source.0 = same_Some its.source source.0 (sym its.its_source ∙ ap (slice_get sources) same_place_is ∙ source.1) in
-          let same_list : l.pieces.now ≡ source.0.pieces.items = its.same ∙ ap (λ (s : Source). s.pieces.items) same_source in
-          record {
-            same = λ kind.
-                ap (λ (l : List Piece). first_doubled kind (map item_of l)) same_list
-                ∙ sym (first_doubled-cleared kind (map item_of source.0.pieces.items))
-                ∙ ap (first_doubled kind) (sym source.2.list ∙ tree_at k m.0 m.1);
-            noted =
-                ap (option_map told_of) (its.doubled ∙ ap (λ (s : Source). s.doubled) same_source)
-                ∙ source.2.doubled
-                ∙ ap (λ (l : List Piece). option_map place_and_symbol (first_doubled Es (map item_of l))) (sym same_list);
-          };
+          let same : noted ≡ source.0.noted = its.same ∙ ap (λ (s : Source). s.noted) same_source in
+          subst (IsNotedOf q k) (sym same)
+          (noted_there q k source.0 (read_at p q m.0 k source.0 refl (ap (option_and_then p.modules) (sym m.1)) source.2));
     }
       where
         past : (m : ℕ) → slice_get parts m ≡ None → slice_get list m ≡ None

@@ -3,9 +3,9 @@ use Rattle.std.proofs.Common.{◌≡◌, ℕ, zero, suc, ◌+◌, ◌⊎◌, inl
 use Rattle.std.specs.Prelude.{slice_get}
 use Rattle.std.proofs.lemmas.Option.{none-some, same_Some}
 use Rattle.bundle_link_index.specs.declared.target.LinkModule.{LinkModule}
-use Rattle.bundle_link_reached.specs.declared.judging.Listed.{Listed}
+use Rattle.bundle_link_reached.specs.declared.judging.Noted.{Noted}
 use Rattle.bundle_link_reached.specs.declared.reached.Reached.{Reached}
-use Rattle.bundler_entry.specs.Linked.{AreLists, AreParts, IsListAt, IsPartAt}
+use Rattle.bundler_entry.specs.Linked.{AreNotes, AreParts, IsNotedAt, IsPartAt}
 use Rattle.bundler_entry.specs.declared.source.Source.{Source}
 
 -- an element of a list with one more is one of the list, or the last
@@ -32,8 +32,8 @@ parts_more sources reached n parts more part is its are = subst (AreParts source
   each = each_push (IsPartAt sources reached) parts part n are.long are.each its;
 })
 
-pub lists_more : (sources : List Source) (reached : Reached) (n : ℕ) (lists more : List Listed) (list : Listed) → more ≡ lists ++ list ∷ [] → IsListAt sources reached n list → AreLists sources reached n lists → AreLists sources reached (n + 1) more
-lists_more sources reached n lists more list is its are = subst (AreLists sources reached (n + 1)) (sym is) (record {
-  long = let long = long_push lists list in omega (arith, long, are.long);
-  each = each_push (IsListAt sources reached) lists list n are.long are.each its;
+pub notes_more : (sources : List Source) (reached : Reached) (n : ℕ) (notes more : List Noted) (noted : Noted) → more ≡ notes ++ noted ∷ [] → IsNotedAt sources reached n noted → AreNotes sources reached n notes → AreNotes sources reached (n + 1) more
+notes_more sources reached n notes more noted is its are = subst (AreNotes sources reached (n + 1)) (sym is) (record {
+  long = let long = long_push notes noted in omega (arith, long, are.long);
+  each = each_push (IsNotedAt sources reached) notes noted n are.long are.each its;
 })

@@ -35,7 +35,7 @@ use Rattle.bundle_merge_whole.proofs.sound.Sound.{places-list, sound}
 use Rattle.bundle_merge_whole.specs.made.Given.{Fresh, all_fresh}
 use Rattle.bundle_merge_whole.proofs.answered.Meta.{are-fresh}
 use Rattle.bundle_merge_names.proofs.WrittenLemmas.{fresh-apart}
-use Rattle.bundle_merge_names.specs.Bundle.{AreAnswers, AreBundleParts, IsPartOf}
+use Rattle.bundle_merge_names.specs.Bundle.{AreAnswers, AreBundleParts, IsPartOf, list_of_part}
 use Rattle.bundle_merge_names.specs.declared.part.Answered.{Answered}
 use Rattle.bundle_merge_names.specs.declared.part.BundleParts.{BundleParts}
 use Rattle.bundle_merge_names.specs.declared.part.Part.{Part}
@@ -45,6 +45,7 @@ use Rattle.bundler_entry.specs.Hook.{AreRead, IsRead}
 use Rattle.bundler_entry.specs.Linked.{HasFiles, HasPlaces, IsCallOf, IsLinkedEntry, ids_of}
 use Rattle.bundler_entry.specs.Made.{answers_in, kept_properties}
 use Rattle.bundler_entry.specs.Parts.{AreBodies, AreEntryParts, IsAnswerRead, IsEntryPart, IsReadAsBody, found_at, names_by}
+use Rattle.bundler_entry.specs.Source.{list_of_source}
 use Rattle.bundler_entry.specs.declared.call.Call.{Call}
 use Rattle.bundler_entry.specs.declared.linked.Linked.{Linked}
 use Rattle.bundler_entry.specs.declared.meta.ReadMeta.{ReadMeta}
@@ -61,11 +62,11 @@ found-there (x ∷ list) (suc k) below = found-there list k (omega (arith, below
 
 -- a module's names, read as the kind of module that it is
 names-of : (kind : ModuleKind) (source : Source) (found : Option Denotations) →
-    IsTable BySymbol Es (map item_of source.pieces.items) source.names →
+    IsTable BySymbol Es (list_of_source source) source.names →
     IsReadAsBody kind source found →
-    IsTable BySymbol kind (map item_of source.pieces.items) (names_by source found)
+    IsTable BySymbol kind (list_of_source source) (names_by source found)
 names-of Es source found es read =
-    subst (λ o. IsTable BySymbol Es (map item_of source.pieces.items) (names_by source o)) (sym read)
+    subst (λ o. IsTable BySymbol Es (list_of_source source) (names_by source o)) (sym read)
     es
 names-of Cjs source None es read = absurd read
 names-of Cjs source (Some names) es read = read
@@ -197,18 +198,16 @@ module _ (p : Program) (entry : ℕ) (call : Call) (w : IsCallOf p entry call) (
         IsEntryPart call linked.reached bodies k part → IsPartOf q k part
     part-is k part below its =
         let source = l.links.by_places.sources k its.source its.there in
-        let list : map item_of part.pieces.now ≡ map item_of its.source.pieces.items =
-        ap (map item_of) its.pieces in
+        let list : list_of_part part ≡ list_of_source its.source =
+        ap (λ b. node 0 h.Module (flat_map (module_item_items 0) (drop (if b then 1 else 0) part.items.now)))
+        (ap is_some its.written)
+        ∙ ap (λ items. node 0 h.Module (flat_map (module_item_items 0) items)) its.items in
         let body = are-bodies.each k (found_at bodies k)
         (found-there bodies k (omega (arith, below, are-bodies.long))) its.source in
         record {
           tree = source.list ∙ ap cleared (sym list);
-          listed = list ∙ source.listed
-              ∙ ap (λ items. node 0 h.Module (flat_map (module_item_items 0) items)) (sym its.items)
-              ∙ ap (λ b. node 0 h.Module (flat_map (module_item_items 0) (drop (if b then 1 else 0) part.items.now)))
-              (ap is_some (sym its.written));
           table = λ kind has. subst (λ items. IsTable BySymbol kind items part.denotations.now)
-              (sym list) (subst (IsTable BySymbol kind (map item_of its.source.pieces.items))
+              (sym list) (subst (IsTable BySymbol kind (list_of_source its.source))
               (sym its.denotations)
               (names-of kind its.source (found_at bodies k) source.names (body kind its.there has)));
           tables = subst (IsTableOf q k) (sym its.tables) source.table;

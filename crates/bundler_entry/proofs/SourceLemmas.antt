@@ -1,23 +1,23 @@
 -- What was read of a module as it was handed in is that of the module as it is kept.
-use Rattle.std.proofs.Common.{◌≡◌, ℕ, true, Contains, Option, Some, List, [], map, sym, ap, ◌∙◌, subst}
-use Rattle.std.specs.Prelude.{option_map, unwrap_or}
-use Rattle.std.specs.List.{flat_map}
+use Rattle.std.proofs.Common.{◌≡◌, ◌&&◌, ℕ, Bool, true, Contains, Option, Some, List, [], sym, ap, ◌∙◌, subst}
+use Rattle.std.specs.Prelude.{IsTrue, option_map, unwrap_or}
 use Rattle.bundle_tree_names.specs.FileName.{Name, name_of}
 use Rattle.bundle_tree_names.specs.declared.config.Config.{Config}
-use Rattle.bundle_tree_piece.specs.Item.{Item, item_of}
-use Rattle.bundle_tree_piece.specs.Item as h
-use Rattle.bundle_tree_ast.specs.declared.module.ModuleItem.{ModuleItem}
-use Rattle.bundle_tree_listed.specs.Tree.{module_item_items, module_items, node}
+use Rattle.bundle_tree_piece.specs.Item.{Item}
+use Rattle.bundle_tree_ast.specs.declared.module.Module.{Module}
+use Rattle.bundle_tree_listed.specs.Tree.{module_items}
 use Rattle.bundle_tree.specs.declared.load.ModuleData.{ModuleData}
 use Rattle.bundle_rules.specs.Nodes.{Text}
 use Rattle.bundle_rules.specs.Cleared.{cleared}
 use Rattle.bundle_rules.specs.Declarations.{BySymbol}
 use Rattle.bundle_rules.specs.Doubled.{first_doubled}
-use Rattle.bundle_rules.specs.Entries.{ExportEntry, exports_of, has_import_meta, is_named}
+use Rattle.bundle_rules.specs.Entries.{ExportEntry, Settings, exports_of, has_import_meta, is_named, is_script}
 use Rattle.bundle_rules.specs.Faults.{IsFaultless}
 use Rattle.bundle_rules.specs.Program.{Loaded, Program, module_of, tree_of}
-use Rattle.bundle_rules.specs.Scopes.{Es}
-use Rattle.bundle_rules.proofs.CallLemmas.{has_import_meta-cleared}
+use Rattle.bundle_rules.specs.Meaning.{is_common_js}
+use Rattle.bundle_rules.specs.Scopes.{Cjs, Es, ModuleKind}
+use Rattle.bundle_rules.proofs.CallLemmas.{has_import_meta-cleared, is_script-cleared}
+use Rattle.bundle_rules.proofs.DenotesLemmas.{first_doubled-cleared}
 use Rattle.bundle_rules.proofs.FaultLemmas as faults
 use Rattle.bundle_scope_denote.specs.Listed.{IsTable, place_and_symbol, told_of}
 use Rattle.bundle_scope_renamed.specs.fit.Fits.{IsFit}
@@ -31,24 +31,32 @@ use Rattle.bundle_link.specs.Read.{AreTablesOf}
 use Rattle.bundle_link.specs.Refusals.{Links}
 use Rattle.bundle_link.proofs.ClearedTables.{cleared-once, cleared-table}
 use Rattle.bundle_link_reached.specs.Default.{DeclaresDefaultAlone}
-use Rattle.bundler_entry.specs.Source.{IsSourceOf, kept_as}
+use Rattle.bundle_link_reached.specs.Judged.{IsNotedOf}
+use Rattle.bundler_entry.specs.Source.{IsSourceOf, kept_as, list_of_source}
 use Rattle.bundler_entry.specs.declared.source.Source.{Source}
 
+-- two flags that are set are both set
+both : (a b : Bool) → IsTrue a → IsTrue b → IsTrue (a && b)
+both a b left right = ap (λ x. x && b) left ∙ right
+
 pub read_as : (p : Program) (m : ℕ) (config : Config) (file : Name) (given : ModuleData) (source : Source) → Links config p.settings → module_of p m ≡ Some (kept_as given) → name_of source.given.now ≡ name_of given.file_name
-    → map item_of source.pieces.items ≡ module_items 0 given.«module» → source.items.now ≡ given.«module».body.items → IsTable BySymbol Es (map item_of source.pieces.items) source.names
-    → option_map told_of source.doubled ≡ option_map place_and_symbol (first_doubled Es (map item_of source.pieces.items))
+    → source.«module».now ≡ given.«module» → IsTable BySymbol Es (list_of_source source) source.names
+    → option_map told_of source.noted.es ≡ option_map place_and_symbol (first_doubled Es (list_of_source source))
+    → (IsTrue (config.require && source.tables.is_script) → option_map told_of source.noted.common_js ≡ option_map place_and_symbol (first_doubled Cjs (list_of_source source)))
     → AreTablesOf config file (module_items 0 given.«module») source.tables → source.tables.has_import_meta ≡ has_import_meta (module_items 0 given.«module») → IsSourceOf p m source
-read_as p m config file given source links there named list items names doubled tables meta =
+read_as p m config file given source links there named same names doubled doubled_common_js tables meta =
     let tree : List Item = module_items 0 given.«module» in
     let is : tree_of p m ≡ cleared tree = ap (λ (o : Option Loaded). unwrap_or (option_map (λ (loaded : Loaded). loaded.items) o) []) there in
     record {
       loaded = kept_as given;
       there = there;
       given = named;
-      list = is ∙ ap cleared (sym list);
-      listed = list ∙ ap (λ (its : List ModuleItem). node 0 h.Module (flat_map (module_item_items 0) its)) (sym items);
+      list = is ∙ ap (λ (its : Module). cleared (module_items 0 its)) (sym same);
       names = names;
       doubled = doubled;
+      doubled_common_js = λ require script.
+          doubled_common_js (both config.require source.tables.is_script (sym links.0 ∙ require)
+          (tables.script ∙ sym (is_script-cleared tree) ∙ ap is_script (sym is) ∙ script));
       table = cleared-table p m config file tree source.tables links is tables;
       meta = meta ∙ sym (has_import_meta-cleared tree) ∙ ap has_import_meta (sym is);
       tree = subst IsModuleTree (sym is) (cleared-module-tree given.«module»);
@@ -58,6 +66,21 @@ read_as p m config file given source links there named list items names doubled 
       once = λ x a b in_a in_b named_a named_b.
           cleared-once file tree tables.faultless x a b (subst (λ (t : List Item). Contains (exports_of t) a) is in_a) (subst (λ (t : List Item). Contains (exports_of t) b) is in_b) named_a named_b;
     }
+
+-- in the list that was read just the names are declared twice that are so in the tree
+tree-doubled : (p : Program) (m : ℕ) (source : Source) → IsSourceOf p m source → (kind : ModuleKind) →
+    first_doubled kind (list_of_source source) ≡ first_doubled kind (tree_of p m)
+tree-doubled p m source its kind =
+    sym (first_doubled-cleared kind (list_of_source source)) ∙ ap (first_doubled kind) (sym its.list)
+
+-- what is noted of a module is so as what it is in the program
+pub noted_there : (p : Program) (m : ℕ) (source : Source) → IsSourceOf p m source →
+    IsNotedOf p m source.noted
+noted_there p m source its Es has =
+    its.doubled ∙ ap (option_map place_and_symbol) (tree-doubled p m source its Es)
+noted_there p m source its Cjs (is_common_js common) =
+    its.doubled_common_js common.linked common.script
+    ∙ ap (option_map place_and_symbol) (tree-doubled p m source its Cjs)
 
 -- what was read of a module is that of the same module under another number
 pub read_at : (p q : Program) (m k : ℕ) (source : Source) → p.settings ≡ q.settings →
@@ -70,9 +93,10 @@ read_at p q m k source settings same its =
       there = sym same ∙ its.there;
       given = its.given;
       list = sym is ∙ its.list;
-      listed = its.listed;
       names = its.names;
       doubled = its.doubled;
+      doubled_common_js = λ require script.
+          its.doubled_common_js (ap (λ (s : Settings). s.require) settings ∙ require) (ap is_script is ∙ script);
       table = table_at p q m k source.tables settings is its.table;
       meta = its.meta ∙ ap has_import_meta is;
       tree = subst IsModuleTree is its.tree;

@@ -18,7 +18,7 @@ use Rattle.bundle_link_targets.specs.declared.linking.Linking.{Linking}
 use Rattle.bundle_link_reached.specs.Alike.{IsAlike, IsAt}
 use Rattle.bundle_link_reached.specs.Judged.{module_of as module_of_fault, numbers_below, says}
 use Rattle.bundle_link_reached.specs.Reached.{IsReachedOf}
-use Rattle.bundle_link_reached.specs.declared.judging.Listed.{Listed}
+use Rattle.bundle_link_reached.specs.declared.judging.Noted.{Noted}
 use Rattle.bundle_link_reached.specs.declared.judging.Told.{Told}
 use Rattle.bundle_link_reached.specs.declared.reached.Reached.{Reached}
 use Rattle.bundle_order_sort.specs.Plan.{IsPlanOf}
@@ -110,21 +110,20 @@ pub record AreParts (sources : List Source) (reached : Reached) (n : ℕ) (parts
   pub long : length parts ≡ n
   pub each : (k : ℕ) (part : LinkModule) → slice_get parts k ≡ Some part → IsPartAt sources reached k part
 
--- it is the list of module k, with what is noted of it
-pub record IsListAt (sources : List Source) (reached : Reached) (k : ℕ) (list : Listed) : Type 0 where
+-- it is what is noted of module k
+pub record IsNotedAt (sources : List Source) (reached : Reached) (k : ℕ) (noted : Noted) : Type 0 where
   pub place : ℕ
   pub source : Source
   pub its_place : slice_get reached.places.items k ≡ Some place
   pub its_source : slice_get sources place ≡ Some source
-  pub same : list.pieces.now ≡ source.pieces.items
-  pub doubled : list.doubled ≡ source.doubled
+  pub same : noted ≡ source.noted
 
--- these are the lists of the first n modules
-pub record AreLists (sources : List Source) (reached : Reached) (n : ℕ) (lists : List Listed) : Type 0 where
-  pub long : length lists ≡ n
-  pub each : (k : ℕ) (list : Listed) →
-      slice_get lists k ≡ Some list →
-      IsListAt sources reached k list
+-- this is what is noted of the first n modules
+pub record AreNotes (sources : List Source) (reached : Reached) (n : ℕ) (notes : List Noted) : Type 0 where
+  pub long : length notes ≡ n
+  pub each : (k : ℕ) (noted : Noted) →
+      slice_get notes k ≡ Some noted →
+      IsNotedAt sources reached k noted
 
 -- the file of a call at a place
 abbrev pub IsFileAt : Call → Reached → ℕ → FileName × ℕ → Type 0

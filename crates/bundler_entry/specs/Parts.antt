@@ -1,6 +1,5 @@
 -- What the modules of an entry are as they are merged, and what the hook answered for them.
-use Rattle.std.specs.Prelude.{◌≡◌, ◌≤◌, ◌+◌, ◌*◌, ℕ, List, Option, Some, None, length, map, slice_get, unwrap_or}
-use Rattle.bundle_tree_piece.specs.Item.{item_of}
+use Rattle.std.specs.Prelude.{◌≡◌, ◌≤◌, ◌+◌, ◌*◌, ℕ, List, Option, Some, None, length, slice_get, unwrap_or}
 use Rattle.bundle_tree_names.specs.declared.file_name.FileName.{FileName}
 use Rattle.bundle_rules.specs.Declarations.{BySymbol}
 use Rattle.bundle_rules.specs.Kept.{local_context}
@@ -13,6 +12,7 @@ use Rattle.bundle_link_reached.specs.declared.reached.Reached.{Reached}
 use Rattle.bundle_merge_names.specs.declared.part.Answered.{Answered}
 use Rattle.bundle_merge_names.specs.declared.part.Part.{Part}
 use Rattle.bundler_entry.specs.Linked.{IsFileAt, source_in}
+use Rattle.bundler_entry.specs.Source.{list_of_source}
 use Rattle.bundler_entry.specs.declared.call.Call.{Call}
 use Rattle.bundler_entry.specs.declared.meta.ReadMeta.{ReadMeta}
 use Rattle.bundler_entry.specs.declared.source.Source.{Source}
@@ -25,7 +25,7 @@ found_at list k = unwrap_or (slice_get list k) None
 abbrev pub IsReadAsBody : ModuleKind → Source → Option Denotations → Type 0
 IsReadAsBody Cjs source None = ⊥
 IsReadAsBody Cjs source (Some names) =
-    IsTable BySymbol Cjs (map item_of source.pieces.items) names
+    IsTable BySymbol Cjs (list_of_source source) names
 IsReadAsBody Es source found = found ≡ None
 
 -- the same of module k of a program
@@ -52,8 +52,7 @@ pub record IsEntryPart (call : Call) (reached : Reached) (bodies : List (Option 
   pub there : source_in call reached k ≡ Some source
   pub file : FileName × ℕ
   pub its_file : IsFileAt call reached k file
-  pub items : part.items.now ≡ source.items.now
-  pub pieces : part.pieces.now ≡ source.pieces.items
+  pub items : part.items.now ≡ source.«module».now.body.items
   pub denotations : part.denotations.now ≡ names_by source (found_at bodies k)
   pub tables : part.tables.now ≡ source.tables
   pub leads : slice_get reached.leads.items k ≡ Some part.leads.now

@@ -1,21 +1,19 @@
 -- What is read of the files of a call, as what is kept of them says it.
-use Rattle.std.specs.Prelude.{◌≡◌, ℕ, ◌<◌, ◌≤◌, List, Some, true, Contains, length, map, slice_get}
-use Rattle.std.specs.List.{flat_map}
+use Rattle.std.specs.Prelude.{◌≡◌, ℕ, ◌<◌, ◌≤◌, List, Some, true, Contains, IsTrue, length, slice_get}
 use Rattle.std.specs.Option.{option_map}
 use Rattle.bundle_tree_names.specs.FileName.{Name, name_of}
-use Rattle.bundle_tree_piece.specs.Item as h
-use Rattle.bundle_tree_piece.specs.Item.{item_of}
-use Rattle.bundle_tree_listed.specs.Tree.{module_item_items, module_items, node}
+use Rattle.bundle_tree_piece.specs.Item.{Item}
+use Rattle.bundle_tree_listed.specs.Tree.{module_items}
 use Rattle.bundle_tree.specs.declared.load.ModuleData.{ModuleData}
 use Rattle.bundle_rules.specs.Nodes.{Text}
 use Rattle.bundle_rules.specs.Cleared.{cleared}
 use Rattle.bundle_rules.specs.Declarations.{BySymbol}
 use Rattle.bundle_rules.specs.Doubled.{first_doubled}
-use Rattle.bundle_rules.specs.Entries.{ExportEntry, has_import_meta, is_named}
+use Rattle.bundle_rules.specs.Entries.{ExportEntry, has_import_meta, is_named, is_script}
 use Rattle.bundle_rules.specs.Faults.{IsFaultless}
 use Rattle.bundle_rules.specs.Linking.{exports}
 use Rattle.bundle_rules.specs.Program.{Loaded, Program, module_of, tree_of}
-use Rattle.bundle_rules.specs.Scopes.{Es}
+use Rattle.bundle_rules.specs.Scopes.{Cjs, Es}
 use Rattle.bundle_scope_denote.specs.Listed.{IsTable, place_and_symbol, told_of}
 use Rattle.bundle_scope_renamed.specs.fit.Fits.{IsFit}
 use Rattle.bundle_scope_renamed.specs.fit.Sorts.{AModule}
@@ -30,16 +28,23 @@ use Rattle.bundler_entry.specs.declared.source.Source.{Source}
 abbrev pub kept_as : ModuleData → Loaded
 kept_as given = record { file_name = name_of given.file_name; items = cleared (module_items 0 given.«module») }
 
--- what was read is module m of a program, with the name that its loader gave, its list, its items, what its names denote in an ES module, the first of them that is declared twice there, its table, and whether it has `import.meta`; it is the tree of a module, has no fault by itself, and one entry of each name
+-- the list of the tree that was read
+abbrev pub list_of_source : Source → List Item
+list_of_source source = module_items 0 source.«module».now
+
+-- what was read is module m of a program, with the name that its loader gave, its tree, what its names denote in an ES module, the first of them that is declared twice there and, where it may be one, in a CommonJS module, its table, and whether it has `import.meta`; it is the tree of a module, has no fault by itself, and one entry of each name
 pub record IsSourceOf (p : Program) (m : ℕ) (source : Source) : Type 0 where
   pub loaded : Loaded
   pub there : module_of p m ≡ Some loaded
   pub given : name_of source.given.now ≡ loaded.file_name
-  pub list : tree_of p m ≡ cleared (map item_of source.pieces.items)
-  pub listed : map item_of source.pieces.items ≡ node 0 h.Module (flat_map (module_item_items 0) source.items.now)
-  pub names : IsTable BySymbol Es (map item_of source.pieces.items) source.names
-  pub doubled : option_map told_of source.doubled
-      ≡ option_map place_and_symbol (first_doubled Es (map item_of source.pieces.items))
+  pub list : tree_of p m ≡ cleared (list_of_source source)
+  pub names : IsTable BySymbol Es (list_of_source source) source.names
+  pub doubled : option_map told_of source.noted.es
+      ≡ option_map place_and_symbol (first_doubled Es (list_of_source source))
+  pub doubled_common_js : IsTrue p.settings.require →
+      IsTrue (is_script (tree_of p m)) →
+      option_map told_of source.noted.common_js
+      ≡ option_map place_and_symbol (first_doubled Cjs (list_of_source source))
   pub table : IsTableOf p m source.tables
   pub meta : source.tables.has_import_meta ≡ has_import_meta (tree_of p m)
   pub tree : IsModuleTree (tree_of p m)

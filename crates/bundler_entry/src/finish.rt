@@ -16,11 +16,11 @@ ghost use Rattle.bundle_tree_listed.specs.Tree.{module_items};
 ghost use Rattle.bundle_merge_whole.specs.finished.Ended.{AreEndNames, IsNamedAtOnce};
 ghost use Rattle.bundler_entry.specs.Finished.{IsFinished, NamesInTurn, is_renaming};
 
-use crate::source::list_of;
 use bundle_merge_forms::wrap_with_iife;
 use bundle_scope_denote::{Denotations, ModuleKind, Reading, denotations};
 use bundle_scope_names::{Contexts, Names, changes_of, hygienic_names, keyword_names};
 use bundle_tree_ast::Module;
+use bundle_tree_list::pieces_of_module;
 use bundle_tree_names::config::{Config, ModuleType};
 use bundle_tree_piece::Piece;
 use bundle_tree_rebuild::Rebuild;
@@ -62,6 +62,15 @@ fn named(alloc: Global, merged: &Module, config: &Config) -> Result<Module, Allo
     let list = list_of(alloc, merged)?;
     let denoted = denotations(alloc, &list, ModuleKind::Es, Reading::ByContext)?;
     renamed(alloc, merged, list, denoted, config)
+}
+
+// The list of a module, without room for more.
+fn list_of<'x>(alloc: Global, module: &'x Module) -> Result<Vec<Piece<'x>>, AllocError>
+    ensures { IfOk result (λ list. map item_of list.items ≡ module_items 0 «module».now) }
+{
+    let mut list = pieces_of_module(alloc, module)?;
+    list.shrink_to_fit();
+    Ok(list)
 }
 
 // The same, where this is its list, and this is what its names denote, which are let go of before the tree is made.

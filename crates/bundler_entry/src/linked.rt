@@ -5,7 +5,7 @@ ghost use Rattle.bundle_tree_names.specs.FileName.{name_of};
 ghost use Rattle.bundle_rules.specs.Faults.{IsFirstProgramFault, fault_of};
 ghost use Rattle.bundle_rules.specs.Program as program;
 ghost use Rattle.bundle_link_reached.specs.Judged.{says};
-ghost use Rattle.bundler_entry.specs.Linked.{AreLinkedIn, AreLists, AreParts, HasPlaces, IsCallOf, IsLinkedEntry, IsPartAt, IsReachedIn, TellsFileAt, ids_of};
+ghost use Rattle.bundler_entry.specs.Linked.{AreLinkedIn, AreNotes, AreParts, HasPlaces, IsCallOf, IsLinkedEntry, IsPartAt, IsReachedIn, TellsFileAt, ids_of};
 ghost use Rattle.bundler_entry.specs.Unlinked.{error_of};
 
 use crate::call::{Call, file_at};
@@ -13,7 +13,7 @@ use crate::fault::{doubled_refusal, link_refusal};
 use crate::source::Source;
 use crate::unlinked::Unlinked;
 use bundle_link::link::setting_of;
-use bundle_link_reached::{Listed, Reached, Told, judged, reached_from};
+use bundle_link_reached::{Noted, Reached, Told, judged, reached_from};
 use bundle_link_targets::{LinkModule, Linking};
 use bundle_order_sort::{Plan, plan_of};
 use bundle_tree_names::ModuleId;
@@ -82,8 +82,8 @@ fn linking_of<'p, 'x>(
 {
     let sources = call.program.sources.as_slice();
     let modules = modules_of(alloc, sources, reached)?;
-    let lists = lists_of(alloc, sources, reached)?;
-    let found = judged(alloc, &modules, &lists, setting_of(call.config))?;
+    let notes = notes_of(alloc, sources, reached)?;
+    let found = judged(alloc, &modules, &notes, setting_of(call.config))?;
     match found {
         Ok(linking) => Ok(linking),
         Err(told) => Err(refusal_of(alloc, call, reached, told)?),
@@ -126,26 +126,23 @@ fn part_at<'t, 'x>(
     Some(LinkModule { tables, leads })
 }
 
-// The lists of the modules, and what each declares twice.
-fn lists_of<'t, 'x>(
+// What is noted of each of the modules.
+fn notes_of<'x>(
     alloc: Global,
-    sources: &'t [Source<'x>],
+    sources: &[Source<'x>],
     reached: &Reached,
-) -> Result<Vec<Listed<'t, 'x>>, AllocError>
-    ensures { IfOk result (λ lists.
-        HasPlaces sources.entry.now reached.now (length reached.now.places.items) →
-        AreLists sources.entry.now reached.now (length reached.now.places.items) lists.items) }
+) -> Result<Vec<Noted<'x>>, AllocError>
+    ensures { IfOk result (λ notes.
+        HasPlaces sources.now reached.now (length reached.now.places.items) →
+        AreNotes sources.now reached.now (length reached.now.places.items) notes.items) }
 {
-    let mut lists = Vec::new(alloc);
+    let mut notes = Vec::new(alloc);
     for place in &reached.places {
         if let Some(source) = sources.get(*place) {
-            lists.push(Listed {
-                pieces: source.pieces.as_slice(),
-                doubled: source.doubled,
-            })?;
+            notes.push(source.noted)?;
         }
     }
-    Ok(lists)
+    Ok(notes)
 }
 
 // The refusal for a fault of modules.

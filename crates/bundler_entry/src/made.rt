@@ -1,9 +1,9 @@
 //! The module that the modules of an entry make.
 
-ghost use Rattle.std.specs.Prelude.{◌≡◌, ℕ, IfErr, IfOk, IfSome, IsSome, List, None, Some, length, map, option_copied, slice_get, unwrap_or};
+ghost use Rattle.std.specs.Prelude.{◌≡◌, ℕ, IfErr, IfOk, IfSome, IsSome, List, None, Some, length, option_copied, slice_get, unwrap_or};
 ghost use Rattle.std.specs.List.{AllZip};
 ghost use Rattle.bundle_tree_names.specs.declared.file_name.FileName as names;
-ghost use Rattle.bundle_tree_piece.specs.Item.{item_of};
+ghost use Rattle.bundle_tree_listed.specs.Tree.{module_items};
 ghost use Rattle.bundle_rules.specs.Declarations.{BySymbol};
 ghost use Rattle.bundle_rules.specs.Program as program;
 ghost use Rattle.bundle_rules.specs.Scopes.{Cjs};
@@ -29,6 +29,7 @@ use bundle_merge_items::{
 };
 use bundle_scope_denote::{Denotations, ModuleKind, Reading, denotations};
 use bundle_tree_ast::Module;
+use bundle_tree_list::pieces_of_module;
 use bundle_tree_names::file_name::FileName;
 use std::alloc::{AllocError, Global};
 use std::collections::BTreeMap;
@@ -72,14 +73,10 @@ fn body_at<'p, 'x>(
 
 // What the names of a module denote, read as the body of a function.
 fn body_of<'x>(alloc: Global, source: &Source<'x>) -> Result<Denotations<'x>, AllocError>
-    ensures { IfOk result (IsTable BySymbol Cjs (map item_of source.now.pieces.items)) }
+    ensures { IfOk result (IsTable BySymbol Cjs (module_items 0 source.now.«module».now)) }
 {
-    denotations(
-        alloc,
-        source.pieces.as_slice(),
-        ModuleKind::Cjs,
-        Reading::BySymbol,
-    )
+    let list = pieces_of_module(alloc, source.module)?;
+    denotations(alloc, list.as_slice(), ModuleKind::Cjs, Reading::BySymbol)
 }
 
 /// The module that all modules make, before it is finished, where this is what the hook answered, by their numbers.
@@ -190,8 +187,7 @@ fn part_of<'t, 'p: 't, 'x>(
     let body = body_in(bodies, module);
     let denotations = names_of(&source.names, body);
     Some(Part {
-        items: source.items,
-        pieces: source.pieces.as_slice(),
+        items: source.module.body.as_slice(),
         denotations,
         tables: &source.tables,
         leads,

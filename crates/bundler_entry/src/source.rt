@@ -1,12 +1,14 @@
-//! What the modules of a call say: of each file its list, what its names denote, and its tables.
+//! What the modules of a call say: of each file what its names denote, what it declares twice, and its tables.
 
-ghost use Rattle.std.specs.Prelude.{◌≡◌, ℕ, ◌<◌, ◌≤◌, Contains, Some, IfOk, map};
-ghost use Rattle.bundle_scope_denote.specs.Listed.{IsTable};
+ghost use Rattle.std.specs.Prelude.{◌≡◌, ◌&&◌, ℕ, ◌<◌, ◌≤◌, Contains, Some, IfOk, IsTrue, map};
+ghost use Rattle.std.specs.Option.{option_map};
+ghost use Rattle.bundle_scope_denote.specs.Listed.{IsTable, place_and_symbol, told_of};
 ghost use Rattle.bundle_tree_names.specs.FileName.{Name};
 ghost use Rattle.bundle_tree_piece.specs.Item.{item_of};
 ghost use Rattle.bundle_tree_listed.specs.Tree.{module_items};
 ghost use Rattle.bundle_rules.specs.Declarations.{BySymbol};
-ghost use Rattle.bundle_rules.specs.Scopes.{Es};
+ghost use Rattle.bundle_rules.specs.Doubled as doubled;
+ghost use Rattle.bundle_rules.specs.Scopes.{Cjs, Es};
 ghost use Rattle.bundle_rules.specs.Entries.{has_import_meta};
 ghost use Rattle.bundle_rules.specs.Faults.{IsFaultless};
 ghost use Rattle.bundle_rules.specs.Program as the_program;
@@ -16,11 +18,11 @@ ghost use Rattle.bundle_link.specs.Refusals.{Links};
 ghost use Rattle.bundle_link_reached.specs.Files.{AreFilesOf, numbers_of};
 ghost use Rattle.bundler_entry.specs.Source.{AreSourcesOf, IsProgramOf, IsSourceOf, kept_as};
 
-use bundle_link_reached::Files;
+use bundle_link_reached::{Files, Noted};
 use bundle_link_tables::{Tables, tables_of};
-use bundle_scope_denote::{Denotations, Doubled, ModuleKind, names_and_doubled};
+use bundle_scope_denote::{Denotations, Doubled, ModuleKind, first_doubled, names_and_doubled};
 use bundle_tree::load::ModuleData;
-use bundle_tree_ast::{Module, ModuleItem};
+use bundle_tree_ast::Module;
 use bundle_tree_list::pieces_of_module;
 use bundle_tree_names::ModuleId;
 use bundle_tree_names::config::Config;
@@ -28,15 +30,15 @@ use bundle_tree_names::file_name::FileName;
 use bundle_tree_piece::Piece;
 use std::alloc::{AllocError, Global};
 
-/// A file as it was read: the name that its loader gave it, its items, its list, what its names denote in an ES module,
-/// the first of them that it declares twice there, and its tables.
+/// A file as it was read: the name that its loader gave it, its tree, what its names denote in an ES module, the first of
+/// them that it declares twice there and, where it may be one, in a CommonJS module, and its tables. Its list is not kept:
+/// it is longer than the tree, and is soon made again.
 #[derive(Drop)]
 pub struct Source<'x> {
     pub given: &'x FileName,
-    pub items: &'x [ModuleItem],
-    pub pieces: Vec<Piece<'x>>,
+    pub module: &'x Module,
     pub names: Denotations<'x>,
-    pub doubled: Option<Doubled<'x>>,
+    pub noted: Noted<'x>,
     pub tables: Tables<'x>,
 }
 
@@ -62,27 +64,43 @@ pub fn source_of<'x>(
         module_of p m ≡ Some (kept_as loaded.now) →
         IsSourceOf p m source) }
 {
-    let pieces = list_of(alloc, &loaded.module)?;
+    let pieces = pieces_of_module(alloc, &loaded.module)?;
     let named = names_and_doubled(alloc, pieces.as_slice(), ModuleKind::Es)?;
     let tables = tables_in(alloc, pieces.as_slice(), &named.names, config)?;
-    let items = loaded.module.body.as_slice();
+    let is_asked = may_be_common_js(config, &tables);
+    let common_js = doubled_in_function(alloc, pieces.as_slice(), is_asked)?;
     Ok(Source {
         given: &loaded.file_name,
-        items,
-        pieces,
+        module: &loaded.module,
         names: named.names,
-        doubled: named.doubled,
+        noted: Noted {
+            es: named.doubled,
+            common_js,
+        },
         tables,
     })
 }
 
-/// The list of a module, without room for more.
-pub fn list_of<'x>(alloc: Global, module: &'x Module) -> Result<Vec<Piece<'x>>, AllocError>
-    ensures { IfOk result (λ list. map item_of list.items ≡ module_items 0 «module».now) }
+// Whether a file may be a CommonJS module of a bundle, where these are its tables.
+fn may_be_common_js(config: &Config, tables: &Tables) -> bool
+    ensures { result ≡ (config.now.require && tables.now.is_script) }
 {
-    let mut list = pieces_of_module(alloc, module)?;
-    list.shrink_to_fit();
-    Ok(list)
+    config.require && tables.is_script
+}
+
+// The first name that a list declares twice as the body of a function, if that is asked for.
+fn doubled_in_function<'x>(
+    alloc: Global,
+    pieces: &[Piece<'x>],
+    is_asked: bool,
+) -> Result<Option<Doubled<'x>>, AllocError>
+    ensures { IsTrue is_asked → IfOk result (λ found. option_map told_of found
+        ≡ option_map place_and_symbol (doubled.first_doubled Cjs (map item_of pieces.now))) }
+{
+    match is_asked {
+        true => first_doubled(alloc, pieces, ModuleKind::Cjs),
+        false => Ok(None),
+    }
 }
 
 // The tables of a list that has no fault, where these are its names.

@@ -20,9 +20,9 @@ returns c = λ q w.
     let handed = subst (λ (list : List ℕ). IsProgramOf q modules list c.saturating_sub-entry.result require) (sym list_is) at_entry in
     let linked = c.in_ok-linking.ensures.linked q handed in
     let by_list = subst (λ (list : List ℕ). IsJudgedBy q list linking) list_is (c.in_ok-linking.ensures.judged q handed w.iife) in
-    let by_lists = subst (λ (k : ℕ). IsJudgedBy q (numbers_below k) linking) (sym w.long) by_list in
-    let first = c.in_ok-fault.ensures q (subst (IsReadable q) (sym w.long) w.readable) w.same linked by_lists in
-    let told : TellsFirst q n c.in_ok-fault.fault = subst (λ (k : ℕ). TellsFirst q k c.in_ok-fault.fault) w.long first in
+    let by_notes = subst (λ (k : ℕ). IsJudgedBy q (numbers_below k) linking) (sym w.long) by_list in
+    let first = c.first_fault-fault.ensures q (subst (IsReadable q) (sym w.long) w.readable) w.noted linked by_notes in
+    let told : TellsFirst q n c.first_fault-fault.result = subst (λ (k : ℕ). TellsFirst q k c.first_fault-fault.result) w.long first in
     let over = subst (λ (list : List ℕ). HandsOver q list linking) list_is (c.in_ok-linking.ensures.handed q handed) in
     elim c.match-fault.branch [
       | in-Some b ↦ subst (λ (r : Result Linking Told). IsJudgedAs q n r) (sym b.result-is) (subst (λ (o : Option Told). TellsFirst q n o) b.in-Some.is told)

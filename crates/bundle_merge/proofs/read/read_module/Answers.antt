@@ -48,9 +48,8 @@ returns-clause-read c = λ part its.
     let named : map item_of c.deref-3.result.now ≡ own_list items =
     ap (map item_of) c.deref-3.ensures.value ∙ list in
     record {
-      its_items = its.items ∙ c.in_ok-own.ensures.items ∙ body;
+      its_items = its.items ∙ c.as_slice.ensures.value;
       written = ap (option_map ident_of) its.written ∙ c.in_ok-own.ensures.written ∙ ap held_by body;
-      list = ap (map item_of) its.pieces ∙ list;
       names = λ p kind w has.
           subst (λ (d : Denotations). IsTable BySymbol kind (own_list items) d) (sym its.denotations)
           (subst (λ (l : List Item). IsTable BySymbol kind l names) named

@@ -22,8 +22,7 @@ returns-clause-part c = λ leads.
       file = file;
       its_file = file-there call reached k file
           (sym (ap (option_map deref_pair) c.in_ok-id.was) ∙ c.file_at.ensures);
-      items = refl;
-      pieces = c.as_slice.ensures.value;
+      items = c.as_slice.ensures.value;
       denotations = c.names_of-denotations.ensures
           ∙ ap (λ (o : Option (Option Denotations)). names_by source (unwrap_or o None))
           c.body_in-body.ensures;

@@ -1,10 +1,10 @@
--- The list is that of the module.
+-- What is read of the list is that of the module.
 use Rattle.std.proofs.Common.{ap, refl, sym, ◌∙◌, subst, map}
 use Rattle.std.specs.Option.{option_map}
 use Rattle.bundle_scope_denote.specs.Listed.{IsTable, place_and_symbol}
 use Rattle.bundle_tree_piece.specs.Item.{item_of}
 use Rattle.bundle_rules.specs.Declarations.{BySymbol}
-use Rattle.bundle_rules.specs.Scopes.{Es}
+use Rattle.bundle_rules.specs.Scopes.{Cjs, Es}
 use Rattle.bundle_rules.specs.Doubled.{first_doubled}
 use Rattle.bundle_rules.specs.Entries.{has_import_meta}
 use Rattle.bundle_rules.specs.Faults.{IsFaultless}
@@ -20,10 +20,13 @@ tables_in-requires c = record {
 
 pub returns : goal.returns
 returns c = λ p m links there.
+    let first = ap (map item_of) c.as_slice.ensures.value ∙ c.in_ok-pieces.ensures in
     let list = ap (map item_of) c.as_slice-2.ensures.value ∙ c.in_ok-pieces.ensures in
-    read_as p m c.args.config.now c.requires.0 c.args.loaded.now _ links there refl c.in_ok-pieces.ensures
-    c.as_slice-items.ensures.value
-    (subst (λ xs. IsTable BySymbol Es (map item_of xs) c.in_ok-named.named.names) c.as_slice.ensures.value c.in_ok-named.ensures.names)
-    (c.in_ok-named.ensures.doubled ∙ ap (λ xs. option_map place_and_symbol (first_doubled Es (map item_of xs))) c.as_slice.ensures.value)
+    let last = ap (map item_of) c.as_slice-3.ensures.value ∙ c.in_ok-pieces.ensures in
+    read_as p m c.args.config.now c.requires.0 c.args.loaded.now _ links there refl refl
+    (subst (λ xs. IsTable BySymbol Es xs c.in_ok-named.named.names) first c.in_ok-named.ensures.names)
+    (c.in_ok-named.ensures.doubled ∙ ap (λ xs. option_map place_and_symbol (first_doubled Es xs)) first)
+    (λ asked. c.in_ok-common_js.ensures (c.may_be_common_js-is_asked.ensures ∙ asked)
+    ∙ ap (λ xs. option_map place_and_symbol (first_doubled Cjs xs)) last)
     (subst (λ tree. AreTablesOf c.args.config.now c.requires.0 tree c.in_ok-tables.tables) list (c.in_ok-tables.ensures.given c.requires.0))
     (c.in_ok-tables.ensures.meta ∙ ap has_import_meta list)

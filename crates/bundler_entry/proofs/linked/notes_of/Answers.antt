@@ -1,11 +1,10 @@
--- Each list is there, and goes last.
+-- What is noted of each is there, and goes last.
 use Rattle.std.proofs.Common.{◌≡◌, ◌<◌, ℕ, List, Some, get_or, length, refl, ap, sym, ◌∙◌, subst, arith}
 use Rattle.std.specs.Prelude.{slice_get}
 use Rattle.std.proofs.lemmas.Option.{same_Some, slice_get-get_or, slice_get_read, slice_get_within}
-use Rattle.bundle_link_reached.specs.declared.judging.Listed.{Listed}
-use Rattle.bundler_entry.proofs.PartLemmas.{lists_more}
-use Rattle.bundler_entry.proofs.linked.lists_of.Goals as goal
-use Rattle.bundler_entry.proofs.linked.lists_of.Goals.{in-Some+in_ok-push, in_default}
+use Rattle.bundler_entry.proofs.PartLemmas.{notes_more}
+use Rattle.bundler_entry.proofs.linked.notes_of.Goals as goal
+use Rattle.bundler_entry.proofs.linked.notes_of.Goals.{in-Some+in_ok-push, in_default}
 
 pub loop-place-preserved : goal.loop-place-preserved
 loop-place-preserved c = λ there.
@@ -20,9 +19,8 @@ loop-place-preserved c = λ there.
       | in-Some+in_ok-push w ↦
           let found = rw w.in-Some.is at c.get.ensures.lookup.3 in
           let source = w.in-Some.source.now in
-          let list : Listed = record { pieces = w.as_slice.result; doubled = source.doubled } in
-          lists_more sources reached i c.loop-place.lists.items c.match-get.lists.items list (ap (λ v. v.items) w.lists-is ∙ w.in_ok-push.ensures.items)
-          (record { place = place; source = source; its_place = at; its_source = slice_get_read sources (length sources) place source refl found.0 (found.1 source); same = w.as_slice.ensures.value; doubled = refl })
+          notes_more sources reached i c.loop-place.notes.items c.match-get.notes.items source.noted (ap (λ v. v.items) w.notes-is ∙ w.in_ok-push.ensures.items)
+          (record { place = place; source = source; its_place = at; its_source = slice_get_read sources (length sources) place source refl found.0 (found.1 source); same = refl })
           (c.loop-place.invariant there)
       | in_default w ↦ (
           let past = rw w.in_default.is at c.get.ensures.lookup.3 in
