@@ -1,6 +1,6 @@
 -- An item of a bundle means one thing.
 use Rattle.std.proofs.Common.{◌≡◌, ℕ, zero, suc, ◌+◌, List, [], ◌∷◌, ◌++◌, Option, Some, None, length, append_assoc, refl, ap, sym, ◌∙◌, subst, arith}
-use Rattle.std.specs.Prelude.{fold, option_and_then, option_map, position, slice_get}
+use Rattle.std.specs.Prelude.{filter_map, fold, option_and_then, option_map, position, slice_get}
 use Rattle.std.proofs.lemmas.Option.{none-some, same_Some}
 use Rattle.bundle_tree_piece.specs.declared.piece.Role.{Role}
 use Rattle.bundle_tree_piece.specs.declared.piece.Role.TheVariants.{Word as IsWord}
@@ -168,7 +168,8 @@ pub means-one : (reading : Reading) (labels : Labelling) (items : List (List Ite
 means-one reading labels items plan one single i top there k l first second =
     let b : Labelled = labelled (joined items) reading (pairing_of labels items plan) in
     one-means b one (inner_bindings (sense_of b).view top.start (elements_of top))
-    (λ x. outside_position top.start (Global x) _ refl) first second
+    (λ x. outside_position top.start (Global x)
+    (filter_map (denoted (sense_of b).view) (elements_of top)) refl) first second
     (tops-taken (past start (h.Open 0 h.Module)) items (h.Close ∷ [])
     (at-past (h.Open 0 h.Module) (flat items ++ h.Close ∷ []) (at-first (joined items))) i top
     (ap (λ l. slice_get l i) (sym (top_items-joined items single)) ∙ there))
