@@ -1,5 +1,6 @@
 -- Contexts that are taken in turn.
-use Rattle.std.proofs.Common.{◌≡◌, ◌<◌, ◌≤◌, ◌+◌, ◌⊎◌, inl, inr, ⊎_elim, ℕ, zero, suc, ◌==◌, Bool, true, false, ◌||◌, List, [], ◌∷◌, ◌++◌, Option, Some, None, map, take, length, refl, ap, sym, ◌∙◌, subst, arith}
+use Rattle.std.proofs.Common.{◌≡◌, ◌<◌, ◌≤◌, ◌+◌, ◌⊎◌, inl, inr, ⊎_elim, ℕ, zero, suc, ◌==◌, Bool, true, false, ◌||◌, ◌&&◌, cond, bytes_eq, List, [], ◌∷◌, ◌++◌, Option, Some, None, map, take, length, refl, ap, sym, ◌∙◌, subst, arith}
+use Rattle.std.specs.Borrow.{Bor}
 use Rattle.std.specs.Prelude.{slice_get, option_and_then, MatchBool, is_some}
 use Rattle.std.specs.Option.{option_map}
 use Rattle.std.specs.List.{list_any}
@@ -12,9 +13,24 @@ use Rattle.bundle_scope_denote.specs.declared.table.Binding.{Binding}
 use Rattle.bundle_tree_places.proofs.ListLemmas.{take_at}
 use Rattle.bundle_scope_names.specs.declared.keywords.Taken.{Taken}
 use Rattle.bundle_scope_names.specs.Called.{at}
-use Rattle.bundle_scope_names.specs.Marks.{has}
-use Rattle.bundle_scope_names.specs.Fresh.{has_context, has_name, collides, IsFresh, IsContextFor, ctxt_of, AreContexts, KnowsNames, AddsNames, Answers}
-use Rattle.bundle_scope_names.proofs.TestLemmas.{any_more}
+use Rattle.bundle_scope_names.specs.Fresh.{has, has_context, has_name, collides, IsFresh, IsContextFor, ctxt_of, AreContexts, KnowsNames, AddsNames, Answers}
+use Rattle.bundle_scope_names.proofs.TestLemmas.{or_false, any_more, bytes_comm}
+
+-- how a set changes as a symbol with a context is put, as the set tells it
+abbrev pub PutsName : (ctxt : ℕ) → Text → (old new : List (ℕ × Bor Text)) → Type 0
+PutsName ctxt text old new = (q : ℕ × Bor Text) → list_any (λ (k : ℕ × Bor Text). q.0 == k.0 && bytes_eq q.1.now k.1.now) new ≡ cond (ctxt == q.0 && bytes_eq text q.1.now) true (list_any (λ (k : ℕ × Bor Text). q.0 == k.0 && bytes_eq q.1.now k.1.now) old)
+
+-- what stands there then
+pub name-put : (ctxt : ℕ) (text : Text) (old new : List (ℕ × Bor Text)) → PutsName ctxt text old new → (its : ℕ) (other : Text) → has its other new ≡ (has its other old || (ctxt == its && bytes_eq other text))
+name-put ctxt text old new puts its other =
+    let q : ℕ × Bor Text = (its, record { ref_ptr = (0, 0); now = other }) in
+    puts q ∙ by (ctxt == its) (bytes_eq text other) (has its other old) ∙ ap (λ b. has its other old || (ctxt == its && b)) (bytes_comm text other)
+  where
+    by : (a b c : Bool) → cond (a && b) true c ≡ (c || (a && b))
+    by true true true = refl
+    by true true false = refl
+    by true false c = sym (or_false c)
+    by false b c = sym (or_false c)
 
 pub names-first : (taken : Taken) → taken.names.keys ≡ [] → taken.contexts.keys ≡ [] → KnowsNames [] taken
 names-first taken no_names no_contexts = record { names = λ ctxt text. ap (has ctxt text) no_names; contexts = λ ctxt. ap (list_any (λ other. ctxt == other)) no_contexts }

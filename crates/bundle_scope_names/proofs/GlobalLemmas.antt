@@ -191,8 +191,8 @@ declared-before facts number first text is named = found facts.occurrences is
 
     found : (occurrences : List Denoted) → first_of occurrences number ≡ Some first → list_any (is_called facts text) occurrences ≡ true
     found [] e = absurd (none-some first e)
-    found (o ∷ rest) e = by (declares number o) refl e
+    found (o ∷ rest) e = by (declares number o) refl e (λ further. found rest further)
       where
-        by : (t : Bool) → declares number o ≡ t → option_map (λ (x : Denoted). x.place) (cond t (Some o) (find (declares number) rest)) ≡ Some first → (is_called facts text o || list_any (is_called facts text) rest) ≡ true
-        by true there is_ = or_left (is_called facts text o) (list_any (is_called facts text) rest) (called o there)
-        by false there is_ = or_right (is_called facts text o) (list_any (is_called facts text) rest) (found rest is_)
+        by : (t : Bool) → declares number o ≡ t → option_map (λ (x : Denoted). x.place) (cond t (Some o) (find (declares number) rest)) ≡ Some first → (first_of rest number ≡ Some first → list_any (is_called facts text) rest ≡ true) → (is_called facts text o || list_any (is_called facts text) rest) ≡ true
+        by true there place later = or_left (is_called facts text o) (list_any (is_called facts text) rest) (called o there)
+        by false there place later = or_right (is_called facts text o) (list_any (is_called facts text) rest) (later place)

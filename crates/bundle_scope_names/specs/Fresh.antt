@@ -1,5 +1,6 @@
 -- Contexts for bindings that get another symbol.
 use Rattle.std.specs.Prelude.{◌≡◌, ◌<◌, ◌≤◌, ℕ, ◌==◌, ◌&&◌, ◌||◌, Bool, true, false, List, Option, Some, None, bytes_eq, length, slice_get, option_and_then, MatchBool}
+use Rattle.std.specs.Borrow.{Bor}
 use Rattle.std.specs.List.{list_any}
 use Rattle.bundle_tree_piece.specs.declared.piece.Role.{Role}
 use Rattle.bundle_tree_piece.specs.declared.piece.Role.TheVariants as o
@@ -9,7 +10,6 @@ use Rattle.bundle_rules.specs.Nodes.{Text}
 use Rattle.bundle_scope_denote.specs.declared.table.Binding.{Binding}
 use Rattle.bundle_scope_names.specs.declared.keywords.Taken.{Taken}
 use Rattle.bundle_scope_names.specs.Called.{at}
-use Rattle.bundle_scope_names.specs.Marks.{has}
 
 -- whether an identifier binds or refers
 abbrev pub occurs : Role → Bool
@@ -51,6 +51,10 @@ pub record AreContexts (items : List Item) (bindings : List Binding) (texts : Li
       number < length texts →
       IsContextFor items (at texts number) (ctxt_of bindings number) (at contexts number)
   pub apart : (i j ctxt : ℕ) → at contexts i ≡ Some ctxt → at contexts j ≡ Some ctxt → i ≡ j
+
+-- whether a symbol stands with a context in a table
+abbrev pub has : ℕ → Text → List (ℕ × Bor Text) → Bool
+has ctxt text names = list_any (λ name. ctxt == name.0 && bytes_eq text name.1.now) names
 
 -- which names and which contexts a list has
 pub record KnowsNames (items : List Item) (taken : Taken) : Type 0 where

@@ -6,9 +6,8 @@ ghost use Rattle.std.specs.Option.{option_map};
 ghost use Rattle.bundle_tree_piece.specs.Item.{Item, item_of};
 ghost use Rattle.bundle_rules.specs.Nodes.{Text};
 ghost use Rattle.bundle_scope_names.specs.Called.{at, keyword_text};
-ghost use Rattle.bundle_scope_names.specs.Marks.{has};
 ghost use Rattle.bundle_scope_names.specs.Fresh as fresh;
-ghost use Rattle.bundle_scope_names.specs.Fresh.{AddsNames, Answers as AnswersFor, AreContexts, KnowsNames, TakesNext, ctxt_of};
+ghost use Rattle.bundle_scope_names.specs.Fresh.{AddsNames, Answers as AnswersFor, AreContexts, KnowsNames, TakesNext, ctxt_of, has};
 
 use crate::names::Names;
 use crate::words::is_keyword;

@@ -13,7 +13,7 @@ use Rattle.bundle_scope_names.proofs.GlobalLemmas.{called-more}
 use Rattle.bundle_scope_names.proofs.hygiene.symbols_before.Goals as goal
 
 pub loop-occurrence-init : goal.loop-occurrence-init
-loop-occurrence-init c = λ text. ap (is_among text) c.with_hasher.ensures.empty
+loop-occurrence-init c = λ text. ap (is_among text) c.with_hasher-before.ensures.empty
 
 pub loop-occurrence-preserved : goal.loop-occurrence-preserved
 loop-occurrence-preserved c =
