@@ -24,7 +24,7 @@ returns-in-Ok-clause-linked c = λ p entry w r.
     let q = by_place p entry call w reached r n refl parts are in
     let setting = c.setting_of.result in
     let read = is_read p entry call w reached r n refl parts are setting notes are_notes (c.setting_of.ensures.require ∙ sym w.links.0) (w.iife ∙ sym c.setting_of.ensures.iife) in
-    let handed = subst (λ (ms : List LinkModule). AreReadOf q ms lists setting) (sym c.deref.ensures.value) read in
+    let handed = subst (λ (ms : List LinkModule). AreReadOf q ms notes setting) (sym c.deref.ensures.value) read in
     let found = c.in_ok-found.ensures q (subst (λ (ns : List Noted). AreReadOf q c.deref.result.now ns setting) (sym c.deref-2.ensures.value) handed) in
     let told = subst (λ (ms : List LinkModule). IsJudgedAs q (length ms) c.in_ok-found.found) c.deref.ensures.value found in
     linked_in p entry call w reached r n refl parts are c.in-Ok.linking
@@ -44,7 +44,7 @@ returns-clause-refused c = λ p entry w r.
     let q = by_place p entry call w reached r n refl parts are in
     let setting = c.setting_of.result in
     let read = is_read p entry call w reached r n refl parts are setting notes are_notes (c.setting_of.ensures.require ∙ sym w.links.0) (w.iife ∙ sym c.setting_of.ensures.iife) in
-    let handed = subst (λ (ms : List LinkModule). AreReadOf q ms lists setting) (sym c.deref.ensures.value) read in
+    let handed = subst (λ (ms : List LinkModule). AreReadOf q ms notes setting) (sym c.deref.ensures.value) read in
     let found = c.in_ok-found.ensures q (subst (λ (ns : List Noted). AreReadOf q c.deref.result.now ns setting) (sym c.deref-2.ensures.value) handed) in
     let told = subst (λ (ms : List LinkModule). IsJudgedAs q (length ms) c.in_ok-found.found) c.deref.ensures.value found in
     first_told p entry call w reached r n refl parts are c.in-Err.told c.in_ok-refusal_of-in-Err.field-0
