@@ -55,7 +55,7 @@ use Rattle.bundle_merge_whole.proofs.sound.Found.{below-from, entry-at, from-the
 use Rattle.bundle_merge_whole.proofs.sound.Sound.{places-list, sound}
 use Rattle.bundle_merge_names.specs.Bundle as written
 use Rattle.bundle_merge_names.specs.Bundle.{AreAnswers, AreBundleParts, AreWrittenApart, IsPartOf, StandsWritten}
-use Rattle.bundle_merge_names.specs.Refused.{RefusesNames, TakesFew}
+use Rattle.bundle_merge_names.specs.Refused.{LacksForLabels, RefusesNames, TakesFew}
 use Rattle.bundle_merge_names.specs.declared.error.MergeError.TheVariants as e
 use Rattle.bundle_merge_names.specs.declared.part.Answered.{Answered}
 use Rattle.bundle_merge_names.specs.Numbers.{position}
@@ -514,21 +514,23 @@ module _ (p : Program) (list : List ℕ) (right : AreRight p list) (links : List
 
     -- the modules by their places do, where what is decided of them says so
     places-need : (next : ℕ) →
-        ((its : Decided) → AreDecided q (form_of q.settings) its → NeedsTooManyContexts q hooks next) →
+        ((its : Decided) → its.list ≡ numbers_from zero n →
+        AreDecided q (form_of q.settings) its → NeedsTooManyContexts q hooks next) →
         NeedsTooManyContexts q hooks next
     places-need next lacks = by q.settings.iife refl
       where
         by : (t : Bool) → q.settings.iife ≡ t → NeedsTooManyContexts q hooks next
         by false so =
-            lacks d
+            lacks d refl
             (subst (λ t. AreDecided q (if t then AsCall else AsModule) d) (sym so) are-decided)
         by true so =
-            lacks (record d { exports = true })
+            lacks (record d { exports = true }) refl
             (subst (λ t. AreDecided q (if t then AsCall else AsModule) (record d { exports = true }))
             (sym so) (for-call q AsModule d are-decided))
 
     -- and so do those of the program
-    program-lacks : ((its : Decided) → AreDecided q (form_of q.settings) its →
+    program-lacks : ((its : Decided) → its.list ≡ numbers_from zero n →
+        AreDecided q (form_of q.settings) its →
         NeedsTooManyContexts q hooks (position bundle.contexts)) →
         NeedsTooManyContexts p hooks (position bundle.contexts)
     program-lacks lacks =
@@ -542,8 +544,11 @@ module _ (p : Program) (list : List ℕ) (right : AreRight p list) (links : List
         NeedsTooManyContexts p hooks (position bundle.contexts)
     program-needs its refuses =
         program-lacks
-        (λ its-decided are. refused-lacks q hooks its-decided are answers are-counted
-        (position bundle.contexts) its refuses)
+        (λ its-decided same are. refused-lacks q hooks its-decided are answers are-counted
+        (position bundle.contexts) its
+        (subst
+        (λ places. RefusesNames q places answers (position bundle.contexts) (e.ContextsUsedUp its))
+        (sym same) refuses))
 
     -- also where they get names, and all contexts are taken for them
     pub all-taken : (merged : Merged) →
@@ -553,9 +558,10 @@ module _ (p : Program) (list : List ℕ) (right : AreRight p list) (links : List
         NeedsTooManyContexts p hooks (position bundle.contexts)
     all-taken merged few full =
         program-lacks
-        (λ its are. labels-lack q hooks its are answers are-counted (position bundle.contexts)
+        (λ its same are. labels-lack q hooks its are answers are-counted (position bundle.contexts)
+        (subst (λ places. LacksForLabels q places answers (position bundle.contexts)) (sym same)
         (record {
           holders = few.holders;
           are = few.are;
           above = λ most has. (let its = few.few most has in omega (arith, its, full));
-        }))
+        })))
