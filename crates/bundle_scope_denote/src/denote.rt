@@ -361,7 +361,7 @@ fn implied_in<'a>(
         HoldsImplied (reading_as reading) (map name_as names.now.keys) keys.now.keys implied.keys) }
 {
     match reading {
-        Reading::BySymbol => Ok(IndexSet::with_hasher(alloc, Mixed)),
+        Reading::BySymbol => Ok(IndexSet::with_hasher(alloc, Mixed::of(names.hasher()))),
         Reading::ByContext => implied_by_context(alloc, names, keys),
     }
 }
@@ -375,7 +375,7 @@ fn implied_by_context<'a>(
     ensures { IfOk result (λ implied.
         HoldsImplied ByContext (map name_as names.now.keys) keys.now.keys implied.keys) }
 {
-    let mut implied = IndexSet::with_hasher(alloc, Mixed);
+    let mut implied = IndexSet::with_hasher(alloc, Mixed::of(names.hasher()));
     for key in keys.as_slice() {
         put_implied(&mut implied, names, keys, *key)?;
     }

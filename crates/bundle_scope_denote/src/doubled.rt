@@ -72,7 +72,7 @@ pub(crate) fn first_met<'a>(
     ensures { IfOk result (TellsFirst walk.now) }
 {
     let times = times_of(alloc, walk)?;
-    let mut met = Met::new(alloc);
+    let mut met = Met::new(alloc, Mixed::of(walk.names.hasher()));
     met.first_excluded(alloc, walk, &times)
 }
 
@@ -292,13 +292,13 @@ struct Met {
 }
 
 impl Met {
-    fn new(alloc: Global) -> Met
+    fn new(alloc: Global, mixed: Mixed) -> Met
         ensures taken { result.taken.keys ≡ [] }
         ensures barred { result.barred.keys ≡ [] }
     {
         Met {
-            taken: IndexSet::with_hasher(alloc, Mixed),
-            barred: IndexSet::with_hasher(alloc, Mixed),
+            taken: IndexSet::with_hasher(alloc, mixed),
+            barred: IndexSet::with_hasher(alloc, mixed),
         }
     }
 

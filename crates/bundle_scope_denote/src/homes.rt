@@ -78,7 +78,7 @@ fn homes_by<'a>(alloc: Global, walk: &Walk<'a>, parameters: &Keys) -> Result<Hom
     ensures { IfOk result (AreHomesOf walk.now parameters.now.keys walk.now.declarations.items) }
 {
     let count = walk.declarations.len();
-    let keys = IndexSet::with_capacity_and_hasher(alloc, count, Mixed)?;
+    let keys = IndexSet::with_capacity_and_hasher(alloc, count, Mixed::of(walk.names.hasher()))?;
     let items = Vec::with_capacity(alloc, count)?;
     let of = Vec::with_capacity(alloc, count)?;
     let mut homes = Homes {
@@ -148,7 +148,7 @@ fn parameters_of<'a>(alloc: Global, walk: &Walk<'a>) -> Result<Keys, AllocError>
         (map (taken_key (map numbered walk.now.scopes.items) walk.now.top)
         walk.now.declarations.items)) }
 {
-    let mut parameters = IndexSet::with_hasher(alloc, Mixed);
+    let mut parameters = IndexSet::with_hasher(alloc, Mixed::of(walk.names.hasher()));
     for declaration in &walk.declarations {
         let taker = taker_of(&walk.scopes, declaration.way, declaration.scope).unwrap_or(walk.top);
         put_parameter(&mut parameters, &walk.scopes, (taker, declaration.name))?;

@@ -1,25 +1,40 @@
 //! A hash of keys that are made of a few numbers.
 
 ghost use Rattle.std.specs.Prelude.{◌≡◌};
-ghost use Rattle.bundle_scope_denote.specs.Mixed.{begun, folded, mix, mix_bytes};
+ghost use Rattle.bundle_scope_denote.specs.Mixed.{folded, mix, mix_bytes, mixed_by};
 
+use crate::salt::Salt;
 use std::hash::{BuildHasher, Hasher};
 
-/// Makes hashers for tables whose keys are numbers that this program gives, as those of scopes and names. They fold
-/// each number in by one product, as the kit's own hasher for such tables does, but take a number as it is and
-/// not byte by byte.
+/// Makes hashers for tables whose keys are numbers that this program gives, as those of the scopes and names of a list.
+/// They begin with the list's salt, since of all pairs of such numbers a stranger can choose those that meet in one
+/// place, and fold each number in by one product, as the kit's own hasher for such tables does, but take a number as
+/// it is and not byte by byte.
 #[derive(Clone, Copy)]
-pub struct Mixed;
+pub struct Mixed {
+    begun: Mixer,
+}
+
+impl Mixed {
+    /// That of the tables over a list with this salt.
+    pub fn of(salt: &Salt) -> Mixed
+        ensures { result ≡ mixed_by salt.now }
+    {
+        Mixed {
+            begun: Mixer {
+                state: salt.build_hasher().finish(),
+            },
+        }
+    }
+}
 
 impl BuildHasher for Mixed {
     type Hasher = Mixer;
 
-    ghost build_hasher = { λ _. begun };
+    ghost build_hasher = { λ mixed. mixed.begun };
 
     fn build_hasher(&self) -> Mixer {
-        Mixer {
-            state: 0x243f_6a88_85a3_08d3,
-        }
+        self.begun
     }
 }
 

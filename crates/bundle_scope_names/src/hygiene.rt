@@ -424,10 +424,11 @@ impl<'s> Hygiene<'s> {
             Knows facts [] hygiene) }
     {
         let salt = denotations.salt;
+        let mixed = Mixed::of(&salt);
         let mut hygiene = Hygiene {
             symbols: symbols_before(alloc, pieces, denotations, symbols, salt)?,
-            needed: HashSet::with_hasher(alloc, Mixed),
-            kept: HashSet::with_hasher(alloc, Mixed),
+            needed: HashSet::with_hasher(alloc, mixed),
+            kept: HashSet::with_hasher(alloc, mixed),
             given: HashSet::with_hasher(alloc, salt),
             last: HashMap::with_hasher(alloc, salt),
         };
