@@ -1,5 +1,5 @@
 -- How a call ends.
-use Rattle.std.proofs.Common.{◌≡◌, ◌⊎◌, ℕ, suc, ◌<◌, Bool, false, eqb, List, [], ◌∷◌, Option, Some, None, Result, Ok, Err, length, map, refl, sym, ap, subst, ◌∙◌, inl, inr, arith, true≢false}
+use Rattle.std.proofs.Common.{◌≡◌, ◌⊎◌, ℕ, suc, ◌<◌, Bool, false, eqb, List, [], ◌∷◌, Result, Ok, Err, length, map, refl, sym, ap, subst, ◌∙◌, inl, inr, arith, true≢false}
 use Rattle.std.specs.List.{AllZip}
 use Rattle.std.specs.Prelude.{IfErr, IfSome}
 use Rattle.std.specs.Result.{IsErrAnd}
@@ -16,10 +16,10 @@ use Rattle.bundle_tree_names.specs.declared.file_name.FileName.{FileName}
 use Rattle.bundle_tree.specs.declared.load.ModuleData.{ModuleData}
 use Rattle.bundle_rules.specs.Entries.{Settings}
 use Rattle.bundle_rules.specs.Kept.{Kept}
-use Rattle.bundle_rules.specs.Faults.{Fault, Parties, fault_of}
-use Rattle.bundle_rules.specs.Headline.{Answer, Bundles, AnswersNothing, IsBundleOf, IsContextsFault, IsHeadline, IsRight}
+use Rattle.bundle_rules.specs.Faults.{Parties, fault_of}
+use Rattle.bundle_rules.specs.Headline.{Answer, Bundles, AnswersNothing, IsBundleOf, IsHeadline, IsRight}
 use Rattle.bundle_rules.specs.Judging as j
-use Rattle.bundle_rules.specs.Judging.{Entry, Outcome, GoesOn, Refused, Stopped, Grows, NumbersEach, LoadsAll, Refuses, RefusesEntries, Stops, Completes, IsDoubledEntry}
+use Rattle.bundle_rules.specs.Judging.{Entry, Outcome, GoesOn, Stopped, Grows, NumbersEach, LoadsAll, Refuses, RefusesEntries, Stops, Completes, IsDoubledEntry}
 use Rattle.bundle_rules.proofs.KeptLemmas.{stays}
 use Rattle.bundler_call.specs.Answer.{answer_of, bundled_of, refusal_of}
 use Rattle.bundler_call.specs.Bundler.{files_of}

@@ -11,7 +11,7 @@ use Rattle.bundle_rules.specs.Kept.{Kept, kept_module}
 use Rattle.bundle_rules.specs.Program.{Loaded}
 use Rattle.bundle_rules.specs.Faults.{Fault, Parties, IsFaultless, IsFirstTreeFault, fault_of}
 use Rattle.bundle_rules.specs.Judging as j
-use Rattle.bundle_rules.specs.Judging.{Outcome, GoesOn, Refused, Stopped, Loads, Asks, LoadsAll, requests_in}
+use Rattle.bundle_rules.specs.Judging.{Outcome, GoesOn, Stopped, Loads, Asks, LoadsAll, requests_in}
 use Rattle.bundler_call.specs.Kept.{AreRequested, IsKept}
 use Rattle.bundler_call.specs.Judged.{LeadsOn, refused_by}
 use Rattle.bundler_call.specs.Loading.{Begins, IsSound}
