@@ -11,7 +11,7 @@ use Rattle.bundle_rules.specs.Kept.{Kept, Answers, nothing_kept, number_in, kept
 use Rattle.bundle_rules.specs.Bundle as b
 use Rattle.bundle_rules.specs.Bundle.{Form, Cause, IsDue, is_with}
 use Rattle.bundle_rules.specs.Faults.{Fault, Parties, ListedName, IsFaultless, doubled_export, undeclared_export, with_statement, NumbersUsedUp, GetsContexts, by_tree, by_function, by_answer, has_own_name, IsNamedForContexts, gets, own}
-use Rattle.bundle_rules.specs.Judging.{Entry, requests_in, AreDistinct, Grows, same, met, Completes}
+use Rattle.bundle_rules.specs.Judging.{Entry, Outcome, GoesOn, Stopped, requests_in, AreDistinct, Grows, same, met, NumbersEach, LoadsAll, Completes, Stops, at_once}
 use Rattle.bundle_rules.specs.Judging as j
 use Rattle.bundle_rules.specs.Forms.{wrapped}
 use Rattle.bundle_rules.specs.Headline.{Bundles, IsContextsFault, IsHeadline}
@@ -157,3 +157,28 @@ nothing_more how answers old new is (j.Grows.loaded file answer there none room 
 nothing_more how answers old new is (j.Grows.resolved asked asking file its_tree its requested none may grows) =
     let its_call : loaded main_js call ≡ asking = only_call (name_eq asked.file main_js) asking (subst (λ k. kept_module k asked.file ≡ Some asking) is its_tree) in
     absurd (no_element asked.specifier (subst (λ (l : Loaded). Contains (requests_in (settings how) l.items) asked.specifier) (sym its_call) requested))
+
+-- Where a growth is refused nothing is kept but what was kept on the way. A call for no entry keeps nothing, whatever it
+-- says, though a file that was met earlier might be loaded by all that `Grows` says.
+
+no_numbers : (old new : Kept) (outcome : Outcome) → NumbersEach old [] outcome new → new ≡ old
+no_numbers old new outcome j.NumbersEach.over = refl
+no_numbers old new outcome j.NumbersEach.stopped = refl
+
+no_loading : (parties : Parties) (its : Settings) (old new : Kept) (outcome : Outcome) → LoadsAll parties its [] 0 old outcome new → new ≡ old
+no_loading parties its old new outcome j.LoadsAll.over = refl
+no_loading parties its old new outcome (j.LoadsAll.not_loaded at refused) = absurd (not_there _ at)
+no_loading parties its old new outcome (j.LoadsAll.faulty at loads tree fault) = absurd (not_there _ at)
+no_loading parties its old new outcome (j.LoadsAll.not_resolved at loads tree sound asks) = absurd (not_there _ at)
+no_loading parties its old new outcome (j.LoadsAll.goes_on at loads tree sound asks more) = absurd (not_there _ at)
+no_loading parties its old new outcome j.LoadsAll.stopped = refl
+no_loading parties its old new outcome (j.LoadsAll.stopped_loaded at loads) = absurd (not_there _ at)
+no_loading parties its old new outcome (j.LoadsAll.stopped_asking at loads tree sound asks) = absurd (not_there _ at)
+
+stops_with_nothing : (parties : Parties) (its : Settings) (old new : Kept) → Stops parties its [] old new → new ≡ old
+stops_with_nothing parties its old new at_once = refl
+stops_with_nothing parties its old new (j.Stops.by_number apart numbers) = no_numbers old new Stopped numbers
+stops_with_nothing parties its old new (j.Stops.by_loading {next = next} apart numbers loads) = no_loading parties its next new Stopped loads ∙ no_numbers old next GoesOn numbers
+
+grows_alone : (how : Setup) (parties : Parties) → MayLoad parties → Grows parties.answers (settings how) [] met_main kept
+grows_alone how parties may = j.Grows.loaded main_js (loaded main_js call) (0, lit< tt, refl) refl (lit< tt) may same

@@ -15,7 +15,7 @@ use Rattle.bundle_rules.specs.Program.{Program, file_of, IsReached, IsList, Requ
 use Rattle.bundle_rules.specs.Kept.{Kept, Stays}
 use Rattle.bundle_rules.specs.Bundle.{Form, AsModule, AsCall, form_of, IsBundle, Cause, Helps, HoldsNamespace, Stars, Exports, IsDue, Chosen, import_causes, externals, module_causes, Pairing, IsLaidOut}
 use Rattle.bundle_rules.specs.Faults.{Fault, ContextsUsedUp, Parties, IsFaultlessProgram, NeedsTooManyContexts, IsNamedForContexts, first_context}
-use Rattle.bundle_rules.specs.Judging.{Entry, files_of, Grows, IsProgramOf, AcceptsProgram, Completes, Refuses}
+use Rattle.bundle_rules.specs.Judging.{Entry, files_of, Grows, IsProgramOf, AcceptsProgram, Completes, Refuses, Stops}
 use Rattle.bundle_rules.specs.Forms.{wrapped}
 use Rattle.bundle_rules.specs.Callable.{CanBeCalled, StatesNoExports}
 use Rattle.bundle_rules.specs.Merged.{HasRightNames}
@@ -79,11 +79,11 @@ pub record IsContextsFault (parties : Parties) (settings : Settings) (entries : 
   pub is : fault ≡ ContextsUsedUp file
   pub too_many : NeedsTooManyContexts p parties.hooks (first_context p)
 
--- what an answer says: bundles come one for each entry, in their order, and each is right; a refusal tells of the first fault, or of contexts that do not suffice; of a refused growth nothing is said
+-- what an answer says: bundles come one for each entry, in their order, and each is right; a refusal tells of the first fault, or of contexts that do not suffice; where a growth is refused, what is kept is what was kept on the way there
 abbrev pub IsRight : Parties → Settings → List Entry → Kept → Answer → Kept → Type 0
 IsRight parties settings entries old (Bundles bundles) new = Completes parties settings entries old new × AllZip (IsBundleOf parties settings new) bundles entries
 IsRight parties settings entries old (Refusal fault) new = Refuses parties settings entries old fault new ⊎ IsContextsFault parties settings entries old new fault
-IsRight parties settings entries old NoMemory new = Unit {0}
+IsRight parties settings entries old NoMemory new = Stops parties settings entries old new
 
 -- THE HEADLINE: for each list of entries, settings and parties, what a call answers is right, and what is kept only grows, by answers of the parties to requests of what was met, none of them answered before
 pub record IsHeadline (parties : Parties) (settings : Settings) (entries : List Entry) (old : Kept) (answer : Answer) (new : Kept) : Type 0 where

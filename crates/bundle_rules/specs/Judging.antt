@@ -16,10 +16,11 @@ pub record Entry : Type 0 where
   pub name : Text
   pub file : Name
 
--- how a part of the judging ends
+-- how a part of the judging ends: it goes on; it is refused by a fault; or a growth is refused on the way, and nothing more is judged
 pub data Outcome : Type 0 where
   GoesOn : Outcome
   Refused : Fault → Outcome
+  Stopped : Outcome
 
 -- The list of entries.
 
@@ -54,7 +55,7 @@ pub data Numbers (old : Kept) (file : Name) : Outcome → Kept → Type 0 where
       Numbers old file GoesOn (record old { names = old.names ++ file ∷ [] })
   none : number_in old file ≡ None → NumbersUsedUp old → Numbers old file (Refused (ContextsUsedUp file)) old
 
--- the same of each file in turn, up to a refusal
+-- the same of each file in turn, up to a refusal, or until a growth is refused
 pub data NumbersEach : Kept → List Name → Outcome → Kept → Type 0 where
   over : {kept : Kept} → NumbersEach kept [] GoesOn kept
   next : {old new last : Kept} {file : Name} {rest : List Name} {outcome : Outcome} →
@@ -64,6 +65,7 @@ pub data NumbersEach : Kept → List Name → Outcome → Kept → Type 0 where
   refused : {old new : Kept} {file : Name} {rest : List Name} {fault : Fault} →
       Numbers old file (Refused fault) new →
       NumbersEach old (file ∷ rest) (Refused fault) new
+  stopped : {kept : Kept} {files : List Name} → NumbersEach kept files Stopped kept
 
 -- Loading: the list of files to load begins with those of the entries, and each file's requests are put at its end.
 
@@ -114,6 +116,16 @@ pub data Asks (parties : Parties) (file : Name) : List Text → Kept → List Na
       (Contains list found → ⊥) →
       Numbers new found (Refused fault) next →
       Asks parties file (s ∷ rest) old list (Refused fault) next list
+  -- a growth is refused: before the next request is resolved, before its file gets a number, or before that goes on the list
+  stopped : {kept : Kept} {specifiers : List Text} {list : List Name} → Asks parties file specifiers kept list Stopped kept list
+  stopped_resolved : {s : Text} {rest : List Text} {old new : Kept} {list : List Name} {found : Name} →
+      Resolves parties old (record { file = file; specifier = s }) (Some found) new →
+      Asks parties file (s ∷ rest) old list Stopped new list
+  stopped_numbered : {s : Text} {rest : List Text} {old new next : Kept} {list : List Name} {found : Name} →
+      Resolves parties old (record { file = file; specifier = s }) (Some found) new →
+      (Contains list found → ⊥) →
+      Numbers new found GoesOn next →
+      Asks parties file (s ∷ rest) old list Stopped next list
 
 -- the requests of a kept file
 abbrev pub requests_in : Settings → List Item → List Text
@@ -176,6 +188,19 @@ pub data LoadsAll (parties : Parties) (settings : Settings) : List Name → ℕ 
       Asks parties file (requests_in settings loaded.items) new list GoesOn next all →
       LoadsAll parties settings all (suc i) next outcome last →
       LoadsAll parties settings list i old outcome last
+  -- a growth is refused: before the next file is loaded, or all are; before its requests are resolved; or among them
+  stopped : {list : List Name} {i : ℕ} {kept : Kept} → LoadsAll parties settings list i kept Stopped kept
+  stopped_loaded : {list : List Name} {i : ℕ} {file : Name} {old new : Kept} →
+      slice_get list i ≡ Some file →
+      Loads parties settings old file GoesOn new →
+      LoadsAll parties settings list i old Stopped new
+  stopped_asking : {list all : List Name} {i : ℕ} {file : Name} {old new last : Kept} {loaded : Loaded} →
+      slice_get list i ≡ Some file →
+      Loads parties settings old file GoesOn new →
+      kept_module new file ≡ Some loaded →
+      IsFaultless file loaded.items →
+      Asks parties file (requests_in settings loaded.items) new list Stopped last all →
+      LoadsAll parties settings list i old Stopped last
 
 -- The entries, one after the other, over what is kept then.
 
@@ -249,6 +274,19 @@ pub data Refuses (parties : Parties) (settings : Settings) (entries : List Entry
       LoadsAll parties settings (files_of entries) 0 next GoesOn new →
       RefusesEntries new settings parties entries fault →
       Refuses parties settings entries old fault new
+
+-- `Stops parties settings entries old new`: so much is kept where a growth is refused, which can come anywhere: at once; when some of the entries' files have numbers; or when some of what they reach is loaded
+pub data Stops (parties : Parties) (settings : Settings) (entries : List Entry) (old : Kept) : Kept → Type 0 where
+  at_once : Stops parties settings entries old old
+  by_number : {new : Kept} →
+      AreDistinct entries →
+      NumbersEach old (files_of entries) Stopped new →
+      Stops parties settings entries old new
+  by_loading : {next new : Kept} →
+      AreDistinct entries →
+      NumbersEach old (files_of entries) GoesOn next →
+      LoadsAll parties settings (files_of entries) 0 next Stopped new →
+      Stops parties settings entries old new
 
 -- `Completes parties settings entries old new`: all that the entries reach is kept afterwards
 pub record Completes (parties : Parties) (settings : Settings) (entries : List Entry) (old new : Kept) : Type 0 where

@@ -25,11 +25,11 @@ use Rattle.bundler_kept.specs.declared.kept.Request.{Request}
 use Rattle.bundler_kept.specs.Kept.{asked_of}
 use Rattle.bundler_kept.proofs.Keeping.{absent_nowhere, kept_or_added}
 use Rattle.bundler_call.specs.Kept.{handed_in, kept_as, parties_of, IsKept}
-use Rattle.bundler_call.specs.Judged.{Ends}
+use Rattle.bundler_call.specs.Judged.{Tells}
 use Rattle.bundler_call.specs.Refusal.{load_refusal, resolve_refusal}
 use Rattle.bundler_call.proofs.Growing.{found, holds, kept_same, no_err, numbers_left, refused_owes, with_names, with_resolved, with_trees}
 use Rattle.bundler_call.proofs.Finding.{asked_eq-refl}
-use Rattle.bundler_call.proofs.Judging.{ends_err, ends_ok}
+use Rattle.bundler_call.proofs.Judging.{tells_err, tells_ok}
 
 -- Numbers.
 
@@ -37,7 +37,7 @@ use Rattle.bundler_call.proofs.Judging.{ends_err, ends_ok}
 pub id_judged : (c d : Kept) (file : Name) (result : Result ℕ Error)
     → IfOk result (λ n. number_in d file ≡ Some n) → (Contains c.names file → d.names ≡ c.names) → OnOk result ((Contains c.names file → ⊥) → d.names ≡ c.names ++ file ∷ []) → OnErr result (d.names ≡ c.names)
     → d.trees ≡ c.trees → d.resolved ≡ c.resolved → length d.names ≤ 2147483647 → IfErr result (IsRefusal d.names file) → OnErr result (Contains d.names file → ⊥)
-    → Ends result (λ outcome. Numbers c file outcome d)
+    → Tells result (λ outcome. Numbers c file outcome d)
 id_judged c d file (Ok n) number known added unchanged trees resolved bounded refused absent =
     elim (kept_or_added c.names d.names file known added) [
       | inl same ↦ (let is : d ≡ c = kept_same c d same trees resolved in subst (λ x. Numbers c file GoesOn x) (sym is) (j.known (subst (λ x. number_in x file ≡ Some n) is number)))
@@ -92,17 +92,17 @@ module _ (may_load : Name → ModuleData → Type 0) (may_fail_load : Name → T
         → kept_module c n ≡ None → length c.trees < settings.most_modules → name_of file ≡ n → r ≡ c → IfOk loaded (λ tree. may_load n tree) → (loaded ≡ Err LoadFailed → may_fail_load n)
         → IfOk loaded (λ tree. IsOk result × (d ≡ with_trees r (r.trees ++ (name_of file, kept_as tree) ∷ [])))
         → IfErr loaded (λ e. (result ≡ Err (load_refusal file e)) × (d ≡ r))
-        → Ends result (λ outcome. Loads parties settings c n outcome d)
+        → Tells result (λ outcome. Loads parties settings c n outcome d)
     load_judged c r d n file (Ok tree) result none room named same may fails given refused =
         let now : Kept = with_trees c (c.trees ++ (n, kept_as tree) ∷ []) in
         let is : d ≡ now = given.1 ∙ ap (λ (x : Kept). with_trees x (x.trees ++ (name_of file, kept_as tree) ∷ [])) same ∙ ap (λ (m : Name). with_trees c (c.trees ++ (m, kept_as tree) ∷ [])) named in
-        ends_ok result _ given.0 (subst (λ x. Loads parties settings c n GoesOn x) (sym is) (j.loaded (handed_in tree) none room (record { given = tree; may = may; is = refl })))
+        tells_ok result _ given.0 (subst (λ x. Loads parties settings c n GoesOn x) (sym is) (j.loaded (handed_in tree) none room (record { given = tree; may = may; is = refl })))
     load_judged c r d n file (Err LoadFailed) result none room named same may fails given refused =
         let is : d ≡ c = refused.1 ∙ same in
-        ends_err result (load_refusal file LoadFailed) (λ outcome. Loads parties settings c n outcome d) refused.0
+        tells_err result (load_refusal file LoadFailed) (λ outcome. Loads parties settings c n outcome d) refused.0
         (subst (λ x. Loads parties settings c n (Refused (LoadFails (name_of file))) x) (sym is)
         (subst (λ (m : Name). Loads parties settings c n (Refused (LoadFails m)) c) (sym named) (j.fails none room (fails refl))))
-    load_judged c r d n file (Err LoadNoMemory) result none room named same may fails given refused = ends_err result e.OutOfMemory _ refused.0 tt
+    load_judged c r d n file (Err LoadNoMemory) result none room named same may fails given refused = tells_err result e.OutOfMemory _ refused.0 tt
 
   -- Resolving.
 

@@ -11,7 +11,7 @@ use Rattle.bundle_tree_names.specs.declared.file_name.FileName.{FileName}
 use Rattle.bundle_rules.specs.Kept.{Kept}
 use Rattle.bundle_rules.specs.Faults.{Fault}
 use Rattle.bundle_rules.specs.Judging as j
-use Rattle.bundle_rules.specs.Judging.{Entry, Outcome, GoesOn, Refused, Numbers, NumbersEach}
+use Rattle.bundle_rules.specs.Judging.{Entry, Outcome, GoesOn, Refused, Stopped, Numbers, NumbersEach}
 use Rattle.bundler_call.specs.Bundler.{files_of}
 use Rattle.bundler_call.specs.Judged.{AreApart}
 use Rattle.bundler_call.specs.Kept.{entry_of}
@@ -31,6 +31,11 @@ numbers_next files rest left file old now new is on its = λ outcome last more.
 pub numbers_stop : (files rest left : List Name) (file : Name) (old now new : Kept) (f : Fault) → rest ≡ file ∷ left → NumbersOn files rest old now → Numbers now file (Refused f) new → NumbersEach old files (Refused f) new
 numbers_stop files rest left file old now new f is on its =
     on (Refused f) new (subst (λ x. NumbersEach now x (Refused f) new) (sym is) (j.refused its))
+
+-- a growth is refused, and nothing is another
+pub numbers_stopped : (files rest : List Name) (old now new : Kept) → NumbersOn files rest old now → new ≡ now → NumbersEach old files Stopped new
+numbers_stopped files rest old now new on same =
+    on Stopped new (subst (λ x. NumbersEach now rest Stopped x) (sym same) j.NumbersEach.stopped)
 
 -- the end
 pub numbers_end : (files : List Name) (i : ℕ) (old now : Kept) → length files ≤ i → NumbersOn files (drop i files) old now → NumbersEach old files GoesOn now

@@ -1,5 +1,5 @@
 -- How a call ends.
-use Rattle.std.proofs.Common.{◌≡◌, ◌⊎◌, ℕ, suc, ◌<◌, Bool, false, eqb, List, [], ◌∷◌, Option, Some, None, Result, Ok, Err, length, map, refl, sym, ap, subst, ◌∙◌, inl, inr, arith, true≢false}
+use Rattle.std.proofs.Common.{◌≡◌, ◌⊎◌, ℕ, suc, ◌<◌, Bool, false, eqb, List, [], ◌∷◌, Result, Ok, Err, length, map, refl, sym, ap, subst, ◌∙◌, inl, inr, arith, true≢false}
 use Rattle.std.specs.List.{AllZip}
 use Rattle.std.specs.Prelude.{IfErr, IfSome}
 use Rattle.std.specs.Result.{IsErrAnd}
@@ -16,26 +16,26 @@ use Rattle.bundle_tree_names.specs.declared.file_name.FileName.{FileName}
 use Rattle.bundle_tree.specs.declared.load.ModuleData.{ModuleData}
 use Rattle.bundle_rules.specs.Entries.{Settings}
 use Rattle.bundle_rules.specs.Kept.{Kept}
-use Rattle.bundle_rules.specs.Faults.{Fault, Parties, fault_of}
-use Rattle.bundle_rules.specs.Headline.{Answer, Bundles, AnswersNothing, IsBundleOf, IsContextsFault, IsHeadline, IsRight}
+use Rattle.bundle_rules.specs.Faults.{Parties, fault_of}
+use Rattle.bundle_rules.specs.Headline.{Answer, Bundles, AnswersNothing, IsBundleOf, IsHeadline, IsRight}
 use Rattle.bundle_rules.specs.Judging as j
-use Rattle.bundle_rules.specs.Judging.{Entry, Outcome, GoesOn, Refused, Grows, NumbersEach, LoadsAll, Refuses, Completes, IsDoubledEntry}
+use Rattle.bundle_rules.specs.Judging.{Entry, Outcome, GoesOn, Stopped, Grows, NumbersEach, LoadsAll, Refuses, RefusesEntries, Stops, Completes, IsDoubledEntry}
 use Rattle.bundle_rules.proofs.KeptLemmas.{stays}
 use Rattle.bundler_call.specs.Answer.{answer_of, bundled_of, refusal_of}
 use Rattle.bundler_call.specs.Bundler.{files_of}
-use Rattle.bundler_call.specs.Judged.{asked_by, AreApart, IsBundledFor, IsFaultOfList, IsToldOf}
+use Rattle.bundler_call.specs.Judged.{asked_by, refused_by, AreApart, IsBundledFor, IsFaultOfList, IsTold, IsToldOf}
 use Rattle.bundler_call.specs.Kept.{entry_of, parties_of}
-use Rattle.bundler_call.specs.Linking.{IsRefusalOfEntries}
+use Rattle.bundler_call.specs.Linking.{IsRefusalOfEntries, LacksContexts}
 use Rattle.bundler_call.specs.declared.bundle.Bundle.{Bundle}
 use Rattle.bundler_call.proofs.Counting.{same_files}
 use Rattle.bundler_call.proofs.Doubling.{apart_distinct}
 use Rattle.bundler_call.proofs.Finding.{handed_on}
-use Rattle.bundler_call.proofs.Judging.{as_before, loads_all_as, told_as}
+use Rattle.bundler_call.proofs.Judging.{as_before, loads_all_as, told_by, told_or}
 
--- why there is no bundle: the first fault in the order of judging, or want of memory; or contexts do not suffice
+-- why there is no bundle: the first fault in the order of judging, or that contexts do not suffice; or want of memory, where so much is kept as was kept on the way
 abbrev pub IsRefusedBy : Parties → Settings → List Entry → (old new : Kept) → Error → Type 0
 IsRefusedBy parties settings entries old new refusal =
-    IfSome (fault_of refusal) (λ fault. Refuses parties settings entries old fault new ⊎ IsContextsFault parties settings entries old new fault)
+    IsRight parties settings entries old (refusal_of (fault_of refusal)) new
 
 -- what is loaded without regard to a hook, by a loader and a resolver as they were
 module _ {L R : Type 0} (may_load : L → Name → ModuleData → Type 0) (may_fail_load : L → Name → Type 0) (may_resolve : R → Name → List ℕ → Name → Type 0) (may_fail_resolve : R → Name → List ℕ → Type 0) (may_give : Name → Bool → List (KeyValueProp Expr) → Type 0) (may_fail_hook : Name → Bool → Type 0) (settings : Settings) where
@@ -46,6 +46,21 @@ module _ {L R : Type 0} (may_load : L → Name → ModuleData → Type 0) (may_f
       (as_before (λ x y. LoadsAll (asked_by may_load may_fail_load may_resolve may_fail_resolve x y) settings list i old o new) l l1 r r1 loader resolver loads)
 
 module _ (parties : Parties) (settings : Settings) where
+  -- where all is loaded, a growth may be refused yet
+  loads_stopped : (list : List Name) (i : ℕ) (old new : Kept) (o : Outcome) → LoadsAll parties settings list i old o new → o ≡ GoesOn → LoadsAll parties settings list i old Stopped new
+  loads_stopped list i old new o j.LoadsAll.over is = j.LoadsAll.stopped
+  loads_stopped list i old new o (j.not_loaded there its) is = cc
+  loads_stopped list i old new o (j.faulty there its kept first) is = cc
+  loads_stopped list i old new o (j.not_resolved there its kept none asks) is = cc
+  loads_stopped list i old new o (j.goes_on there its kept none asks more) is = j.goes_on there its kept none asks (loads_stopped _ _ _ new o more is)
+  loads_stopped list i old new o j.LoadsAll.stopped is = cc
+  loads_stopped list i old new o (j.stopped_loaded there its) is = cc
+  loads_stopped list i old new o (j.stopped_asking there its kept none asks) is = cc
+
+  pub completed_stops : (entries : List Entry) (old new : Kept) → Completes parties settings entries old new → Stops parties settings entries old new
+  completed_stops entries old new done =
+      j.Stops.by_loading done.distinct done.numbered (loads_stopped (j.files_of entries) 0 done.next new GoesOn done.loaded refl)
+
   -- no entry
   pub completes_none : (kept : Kept) (entries : List (String Global × FileName)) → entries ≡ [] → Completes parties settings (map entry_of entries) kept kept
   completes_none kept entries none =
@@ -67,26 +82,34 @@ module _ (parties : Parties) (settings : Settings) where
 
     module _ {T : Type 0} (result : Result T Error) (e : Error) (is : IsErrAnd result (λ x. x ≡ e)) where
       -- a file gets no number
-      pub refused_number : IfSome (fault_of e) (λ f. NumbersEach old (files_of entries) (Refused f) new) → IfErr result (IsToldOf parties settings (map entry_of entries) old new)
+      pub refused_number : NumbersEach old (files_of entries) (refused_by (fault_of e)) new → IfErr result (IsToldOf parties settings (map entry_of entries) old new)
       refused_number told =
           handed_on result e (IsToldOf parties settings (map entry_of entries) old new) is
-          (told_as (fault_of e) _ _ (λ f numbers. j.by_number (apart_distinct (map entry_of entries) apart) (subst (λ files. NumbersEach old files (Refused f) new) (sym (same_files entries)) numbers)) told)
+          (told_by (fault_of e) (λ o. NumbersEach old (j.files_of (map entry_of entries)) o new) (IsTold parties settings (map entry_of entries) old new)
+          (λ f numbers. j.Refuses.by_number (apart_distinct (map entry_of entries) apart) numbers)
+          (λ numbers. j.Stops.by_number (apart_distinct (map entry_of entries) apart) numbers)
+          (subst (λ files. NumbersEach old files (refused_by (fault_of e)) new) (sym (same_files entries)) told))
 
       -- a file is not loaded, is at fault by itself, or one of its requests is refused
-      pub refused_loading : (P : Fault → Type 0) (list : List Name) → NumbersEach old (files_of entries) GoesOn next → list ≡ files_of entries → ((f : Fault) → P f → LoadsAll parties settings list 0 next (Refused f) new) → IfSome (fault_of e) P → IfErr result (IsToldOf parties settings (map entry_of entries) old new)
-      refused_loading P list numbered same loads told =
+      pub refused_loading : (list : List Name) → NumbersEach old (files_of entries) GoesOn next → list ≡ files_of entries → LoadsAll parties settings list 0 next (refused_by (fault_of e)) new → IfErr result (IsToldOf parties settings (map entry_of entries) old new)
+      refused_loading list numbers same told =
+          let numbered : NumbersEach old (j.files_of (map entry_of entries)) GoesOn next = subst (λ files. NumbersEach old files GoesOn next) (sym (same_files entries)) numbers in
           handed_on result e (IsToldOf parties settings (map entry_of entries) old new) is
-          (told_as (fault_of e) P _ (λ f its. j.by_loading (apart_distinct (map entry_of entries) apart) (subst (λ files. NumbersEach old files GoesOn next) (sym (same_files entries)) numbered) (subst (λ files. LoadsAll parties settings files 0 next (Refused f) new) (same ∙ sym (same_files entries)) (loads f its))) told)
+          (told_by (fault_of e) (λ o. LoadsAll parties settings (j.files_of (map entry_of entries)) 0 next o new) (IsTold parties settings (map entry_of entries) old new)
+          (λ f loads. j.Refuses.by_loading (apart_distinct (map entry_of entries) apart) numbered loads)
+          (λ loads. j.Stops.by_loading (apart_distinct (map entry_of entries) apart) numbered loads)
+          (subst (λ files. LoadsAll parties settings files 0 next (refused_by (fault_of e)) new) (same ∙ sym (same_files entries)) told))
 
   -- an entry doubles another
   pub refused_list : {T : Type 0} (result : Result T Error) (e : Error) (entries : List (String Global × FileName)) (old : Kept) → IsErrAnd result (λ x. x ≡ e) → IfSome (fault_of e) (IsFaultOfList (map entry_of entries)) → IfErr result (IsToldOf parties settings (map entry_of entries) old old)
   refused_list result e entries old is told =
-      handed_on result e (IsToldOf parties settings (map entry_of entries) old old) is (told_as (fault_of e) (IsFaultOfList (map entry_of entries)) _ (λ f (later, doubled, same). subst (λ x. Refuses parties settings (map entry_of entries) old x old) (sym same) (j.by_list later doubled)) told)
+      handed_on result e (IsToldOf parties settings (map entry_of entries) old old) is
+      (told_or (fault_of e) (IsFaultOfList (map entry_of entries)) (IsTold parties settings (map entry_of entries) old old) (λ f (later, doubled, same). subst (λ x. Refuses parties settings (map entry_of entries) old x old) (sym same) (j.by_list later doubled)) j.at_once told)
 
   -- an entry is refused, or contexts do not suffice
   linking : (entries : List Entry) (old new : Kept) → Completes parties settings entries old new → (unlinked : Unlinked) → IsRefusalOfEntries parties settings new entries unlinked → IsRefusedBy parties settings entries old new (error_of unlinked)
   linking entries old new done unlinked told =
-      told_as (fault_of (error_of unlinked)) _ _ (λ fault why. elim why [
+      told_or (fault_of (error_of unlinked)) (λ fault. RefusesEntries new settings parties entries fault ⊎ LacksContexts new settings parties entries fault) (λ told. IsRight parties settings entries old (refusal_of told) new) (λ fault why. elim why [
         | inl refuses ↦ inl (j.by_entry done.distinct done.numbered done.loaded refuses)
         | inr lacks ↦ inr (record {
           completes = done;
@@ -104,7 +127,7 @@ module _ (parties : Parties) (settings : Settings) where
           is = lacks.contexts.is;
           too_many = lacks.contexts.too_many;
         })
-      ]) told
+      ]) (completed_stops entries old new done) told
 
   pub refused_linking : {T : Type 0} (result : Result T Error) (entries : List Entry) (old new : Kept) (unlinked : Unlinked) → IsErrAnd result (λ x. x ≡ error_of unlinked) → Completes parties settings entries old new → IsRefusalOfEntries parties settings new entries unlinked → IfErr result (IsRefusedBy parties settings entries old new)
   refused_linking result entries old new unlinked is done told =
@@ -137,14 +160,10 @@ module _ (parties : Parties) (settings : Settings) where
     pub bundled_headline : (bundles : List Bundle) → Grows parties.answers settings (files_of entries) old new → Completes parties settings (map entry_of entries) old new → AllZip (IsBundledFor parties settings new) entries bundles → IsHeadline parties settings (map entry_of entries) old (Bundles (map bundled_of bundles)) new
     bundled_headline bundles grows done all = right_headline (Bundles (map bundled_of bundles)) grows (done, all_bundled new entries bundles all)
 
-    told_right : (told : Option Fault) → IfSome told (λ fault. Refuses parties settings (map entry_of entries) old fault new ⊎ IsContextsFault parties settings (map entry_of entries) old new fault) → IsRight parties settings (map entry_of entries) old (refusal_of told) new
-    told_right None why = tt
-    told_right (Some fault) why = why
-
     -- a refusal
     pub refused_headline : (result : Result (Vec Bundle Global) Error) (e : Error) → IsErrAnd result (λ x. x ≡ e) → Grows parties.answers settings (files_of entries) old new → IfErr result (IsRefusedBy parties settings (map entry_of entries) old new) → IsHeadline parties settings (map entry_of entries) old (answer_of result) new
     refused_headline (Ok bundles) e is grows why = absurd is
-    refused_headline (Err refusal) e is grows why = right_headline (refusal_of (fault_of refusal)) grows (told_right (fault_of refusal) why)
+    refused_headline (Err refusal) e is grows why = right_headline (refusal_of (fault_of refusal)) grows why
 
   -- no entry
   pub empty_headline : (entries : List (String Global × FileName)) (bundles : List Bundle) (kept : Kept) → entries ≡ [] → bundles ≡ [] → IsHeadline parties settings (map entry_of entries) kept (Bundles (map bundled_of bundles)) kept

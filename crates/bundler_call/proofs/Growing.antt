@@ -227,6 +227,10 @@ pub no_err : {T E : Type 0} (r : Result T E) (P : E → Type 0) → IsOk r → I
 no_err (Ok x) P is = tt
 no_err (Err e) P is = absurd (true≢false (sym is))
 
+pub no_err_owes : {T E : Type 0} (r : Result T E) (P : Type 0) → IsOk r → OnErr r P
+no_err_owes (Ok x) P is = tt
+no_err_owes (Err e) P is = absurd (true≢false (sym is))
+
 -- of what is refused, nothing is owed
 pub refused_owes : {T E : Type 0} (r : Result T E) (e : E) (P : Type 0) → r ≡ Err e → OnOk r P
 refused_owes r e P is = subst (λ x. OnOk x P) (sym is) tt
@@ -253,6 +257,29 @@ pub id_stays : {E : Type 0} (c d : Kept) (file : Name) (result : Result ℕ E)
 id_stays c d file (Err e) known added unchanged trees resolved = same_stays c d (kept_same c d unchanged trees resolved)
 id_stays c d file (Ok n) known added unchanged trees resolved =
     elim (kept_or_added c.names d.names file known added) [ inl same ↦ same_stays c d (kept_same c d same trees resolved) | inr more ↦ with_one_name c d file more.1 trees resolved ]
+
+-- of what a step refuses nothing is kept
+pub id_unchanged : {E : Type 0} (c d : Kept) (result : Result ℕ E) → OnErr result (d.names ≡ c.names) → d.trees ≡ c.trees → d.resolved ≡ c.resolved → OnErr result (d ≡ c)
+id_unchanged c d (Ok n) unchanged trees resolved = tt
+id_unchanged c d (Err e) unchanged trees resolved = kept_same c d unchanged trees resolved
+
+pub holds_refused : {T E : Type 0} (r : Result T E) (P : Type 0) → P → OnErr r P
+holds_refused (Ok x) P p = tt
+holds_refused (Err e) P p = p
+
+pub load_unchanged : {T : Type 0} (c r d : Kept) (file : FileName) (loaded : Result ModuleData LoadError) (result : Result T Error) → r ≡ c
+    → IfOk loaded (λ tree. IsOk result × (d ≡ with_trees r (r.trees ++ (name_of file, kept_as tree) ∷ [])))
+    → IfErr loaded (λ e. (result ≡ Err (load_refusal file e)) × (d ≡ r))
+    → OnErr result (d ≡ c)
+load_unchanged c r d file (Ok tree) result same given refused = no_err_owes result _ given.0
+load_unchanged c r d file (Err e) result same given refused = holds_refused result _ (refused.1 ∙ same)
+
+pub resolve_unchanged : {T : Type 0} (c r d : Kept) (request : Request) (answer : Result FileName ResolveError) (result : Result T Error) → r ≡ c
+    → IfOk answer (λ file. IsOk result × (d ≡ with_resolved r (r.resolved ++ (asked_of request, name_of file) ∷ [])))
+    → IfErr answer (λ e. (result ≡ Err (resolve_refusal request e)) × (d ≡ r))
+    → OnErr result (d ≡ c)
+resolve_unchanged c r d request (Ok file) result same given refused = no_err_owes result _ given.0
+resolve_unchanged c r d request (Err e) result same given refused = holds_refused result _ (refused.1 ∙ same)
 
 -- a pair is resolved, or not
 pub resolve_stays : {T : Type 0} (c r d : Kept) (request : Request) (answer : Result FileName ResolveError) (result : Result T Error) → r ≡ c

@@ -6,7 +6,7 @@ use Rattle.bundle_rules.specs.Entries.{Settings}
 use Rattle.bundle_rules.specs.Faults.{Fault, Parties}
 use Rattle.bundle_rules.specs.Headline.{Answer, Bundled, Bundles, Refusal, NoMemory, AnswersNothing, IsBundleOf, IsHeadline, IsRight}
 use Rattle.bundle_rules.specs.Judging as j
-use Rattle.bundle_rules.specs.Judging.{Completes, Entry, GoesOn, IsDoubledEntry, LoadsAll, NumbersEach, Outcome, Refuses}
+use Rattle.bundle_rules.specs.Judging.{Completes, Entry, GoesOn, IsDoubledEntry, LoadsAll, NumbersEach, Outcome, Refused, Refuses}
 use Rattle.bundle_rules.specs.Kept.{Kept, Stays, number_in}
 use Rattle.bundle_rules.specs.Program.{Program}
 use Rattle.bundler_call.proofs.Growing.{stays_trans, still_numbered}
@@ -21,22 +21,27 @@ nothing_at : (i : ℕ) (file : Name) (files : List Name) → files ≡ [] →
 nothing_at i file files none at =
     let there : slice_get [] i ≡ Some file = subst (λ (l : List Name). slice_get l i ≡ Some file) none at in cc
 
--- no file is numbered, and none loaded
+-- no file is numbered, and none loaded, and no fault is told
 numbers_none : (files : List Name) (old new : Kept) (outcome : Outcome) →
-    NumbersEach old files outcome new → files ≡ [] → (new ≡ old) × (outcome ≡ GoesOn)
-numbers_none files old new outcome j.NumbersEach.over none = (refl, refl)
+    NumbersEach old files outcome new → files ≡ [] →
+    (new ≡ old) × ((fault : Fault) → outcome ≡ Refused fault → ⊥)
+numbers_none files old new outcome j.NumbersEach.over none = (refl, λ fault is. cc)
 numbers_none files old new outcome (j.NumbersEach.next its rest) none = cc
 numbers_none files old new outcome (j.NumbersEach.refused its) none = cc
+numbers_none files old new outcome j.NumbersEach.stopped none = (refl, λ fault is. cc)
 
 module _ (parties : Parties) (settings : Settings) where
   loads_none : (files : List Name) (i : ℕ) (old new : Kept) (outcome : Outcome) →
       LoadsAll parties settings files i old outcome new → files ≡ [] →
-      (new ≡ old) × (outcome ≡ GoesOn)
-  loads_none files i old new outcome j.LoadsAll.over none = (refl, refl)
+      (new ≡ old) × ((fault : Fault) → outcome ≡ Refused fault → ⊥)
+  loads_none files i old new outcome j.LoadsAll.over none = (refl, λ fault is. cc)
   loads_none files i old new outcome (j.LoadsAll.not_loaded {file = file} there its) none = absurd (nothing_at i file files none there)
   loads_none files i old new outcome (j.LoadsAll.faulty {file = file} there its kept first) none = absurd (nothing_at i file files none there)
   loads_none files i old new outcome (j.LoadsAll.not_resolved {file = file} there its kept faultless asks) none = absurd (nothing_at i file files none there)
   loads_none files i old new outcome (j.LoadsAll.goes_on {file = file} there its kept faultless asks rest) none = absurd (nothing_at i file files none there)
+  loads_none files i old new outcome j.LoadsAll.stopped none = (refl, λ fault is. cc)
+  loads_none files i old new outcome (j.LoadsAll.stopped_loaded {file = file} there its) none = absurd (nothing_at i file files none there)
+  loads_none files i old new outcome (j.LoadsAll.stopped_asking {file = file} there its kept faultless asks) none = absurd (nothing_at i file files none there)
 
   completes_nothing : (old new : Kept) → Completes parties settings [] old new → new ≡ old
   completes_nothing old new its =
@@ -44,8 +49,8 @@ module _ (parties : Parties) (settings : Settings) where
 
   refuses_nothing : (old new : Kept) (fault : Fault) → Refuses parties settings [] old fault new → ⊥
   refuses_nothing old new fault (j.Refuses.by_list later doubled) = nothing_doubled later doubled
-  refuses_nothing old new fault (j.Refuses.by_number distinct numbers) = let no = (numbers_none [] old new _ numbers refl).1 in cc
-  refuses_nothing old new fault (j.Refuses.by_loading distinct numbers loads) = let no = (loads_none [] 0 _ new _ loads refl).1 in cc
+  refuses_nothing old new fault (j.Refuses.by_number distinct numbers) = (numbers_none [] old new _ numbers refl).1 fault refl
+  refuses_nothing old new fault (j.Refuses.by_loading distinct numbers loads) = (loads_none [] 0 _ new _ loads refl).1 fault refl
   refuses_nothing old new fault (j.Refuses.by_entry distinct numbers loads refused) = let at = refused.there in cc
 
   -- an empty list of entries is answered by no bundle, unless a growth is refused, and nothing is asked

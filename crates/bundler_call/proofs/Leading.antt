@@ -108,12 +108,17 @@ listed kept es file n numbered is any =
     let same : name_of its.1.0 ≡ file = same_file kept (name_of its.1.0) file n (numbered its.0 its.1 its.2 ∙ ap Some its.3) is in
     subst (Contains (names_of_entries es)) same (held_at (names_of_entries es) its.0 (name_of its.1.0) (read_at (λ (e : FileName × ℕ). name_of e.0) es its.0 its.1 its.2))
 
--- and one whose number does not goes last
+-- one whose number does not stand on the list does not
+pub not_listed : (kept : Kept) (es : List (FileName × ℕ)) (file : Name) (n : ℕ) → AreNumberedIn kept es → number_in kept file ≡ Some n → list_any (nat_eq n) (ids_of_entries es) ≡ false → Contains (names_of_entries es) file → ⊥
+not_listed kept es file n numbered is none there =
+    true≢false (sym (list_any-from_Contains nat_eq_equiv n (ids_of_entries es) (number_listed kept es file n numbered there is)) ∙ none)
+
+-- and goes last
 pub placed_last : (kept : Kept) (es new : List (FileName × ℕ)) (k : FileName) (n : ℕ) (file : Name) → AreNumberedIn kept es → number_in kept file ≡ Some n → list_any (nat_eq n) (ids_of_entries es) ≡ false → name_of k ≡ file
     → new ≡ es ++ (k, n) ∷ [] → IsPlaced (names_of_entries es) file (names_of_entries new)
 placed_last kept es new k n file numbered is none named more =
     inr (
-      λ there. true≢false (sym (list_any-from_Contains nat_eq_equiv n (ids_of_entries es) (number_listed kept es file n numbered there is)) ∙ none),
+      not_listed kept es file n numbered is none,
       ap names_of_entries more ∙ map_push (λ (e : FileName × ℕ). name_of e.0) es (k, n) ∙ ap (λ f. names_of_entries es ++ f ∷ []) named,
     )
 

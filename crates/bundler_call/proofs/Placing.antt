@@ -11,7 +11,7 @@ use Rattle.bundle_rules.specs.Entries.{Settings}
 use Rattle.bundle_rules.specs.Kept.{Asked, Kept, Stays}
 use Rattle.bundle_rules.specs.Faults.{Fault, ResolveFails, Parties}
 use Rattle.bundle_rules.specs.Judging as j
-use Rattle.bundle_rules.specs.Judging.{Outcome, GoesOn, Refused, Numbers, Resolves, Asks}
+use Rattle.bundle_rules.specs.Judging.{Outcome, GoesOn, Refused, Stopped, Numbers, Resolves, Asks}
 use Rattle.bundler_call.specs.Kept.{AreRequested, IsMet, IsRequested}
 use Rattle.bundler_call.specs.Loading.{AreMet, IsPlaced}
 use Rattle.bundler_call.proofs.Finding.{ask, asked_same}
@@ -31,6 +31,20 @@ module _ (parties : Parties) (file : Name) (text : Text) (request : Request) (of
   ask_failed old new list f (is, its) =
       let fails : Asks parties file (text ∷ []) old list (Refused (ResolveFails file text)) new list = j.fails (subst (λ a. Resolves parties old a None new) same_pair its) in
       subst (λ x. Asks parties file (text ∷ []) old list (Refused x) new list) (sym (is ∙ ap (λ (a : Asked). ResolveFails a.file a.specifier) same_pair)) fails
+
+  -- a growth is refused, and nothing is another
+  pub ask_stopped : (old new : Kept) (list : List Name) → new ≡ old → Asks parties file (text ∷ []) old list Stopped new list
+  ask_stopped old new list same = subst (λ x. Asks parties file (text ∷ []) old list Stopped x list) (sym same) j.Asks.stopped
+
+  -- a growth is refused once the pair is kept
+  pub ask_resolved : (old mid new : Kept) (list : List Name) (found : Name) → Resolves parties old (asked_of request) (Some found) mid → new ≡ mid → Asks parties file (text ∷ []) old list Stopped new list
+  ask_resolved old mid new list found its same =
+      subst (λ x. Asks parties file (text ∷ []) old list Stopped x list) (sym same) (j.stopped_resolved (subst (λ a. Resolves parties old a (Some found) mid) same_pair its))
+
+  -- a growth is refused once the file has its number, before it has a place on the list
+  pub ask_unplaced : (old mid new : Kept) (list longer : List Name) (found : Name) → Resolves parties old (asked_of request) (Some found) mid → (Contains list found → ⊥) → Numbers mid found GoesOn new → longer ≡ list → Asks parties file (text ∷ []) old list Stopped new longer
+  ask_unplaced old mid new list longer found its fresh number same =
+      subst (λ l. Asks parties file (text ∷ []) old list Stopped new l) (sym same) (j.stopped_numbered (subst (λ a. Resolves parties old a (Some found) mid) same_pair its) fresh number)
 
   -- no number is left for the file
   pub ask_used_up : (old mid new : Kept) (list : List Name) (found : Name) (f : Fault) → Resolves parties old (asked_of request) (Some found) mid → AreMet mid list → (IsMet mid found → ⊥) → Numbers mid found (Refused f) new → Asks parties file (text ∷ []) old list (Refused f) new list
@@ -65,9 +79,9 @@ module _ (parties : Parties) (file : Name) where
       on outcome last all (subst (λ x. Asks parties file x now longer outcome last all) (sym is) (asks_then parties file (text ∷ []) left now new last longer more all GoesOn outcome step refl asks))
 
   -- a refusal
-  pub asks_stop : (texts rest left : List Text) (text : Text) (old now new : Kept) (list longer more : List Name) (f : Fault) → rest ≡ text ∷ left → AsksOn parties file texts rest old now list longer → Asks parties file (text ∷ []) now longer (Refused f) new more → Asks parties file texts old list (Refused f) new more
-  asks_stop texts rest left text old now new list longer more f is on step =
-      on (Refused f) new more (subst (λ x. Asks parties file x now longer (Refused f) new more) (sym is) (asks_refused parties file (text ∷ []) left now new longer more (Refused f) f step refl))
+  pub asks_stop : (texts rest left : List Text) (text : Text) (old now new : Kept) (list longer more : List Name) (o : Outcome) → (o ≡ GoesOn → ⊥) → rest ≡ text ∷ left → AsksOn parties file texts rest old now list longer → Asks parties file (text ∷ []) now longer o new more → Asks parties file texts old list o new more
+  asks_stop texts rest left text old now new list longer more o ends is on step =
+      on o new more (subst (λ x. Asks parties file x now longer o new more) (sym is) (asks_refused parties file (text ∷ []) left now new longer more o step ends))
 
   -- the end
   pub asks_end : (texts rest : List Text) (old now : Kept) (list longer : List Name) → rest ≡ [] → AsksOn parties file texts rest old now list longer → Asks parties file texts old list GoesOn now longer

@@ -1,5 +1,5 @@
 -- The files of the load list, one after the other.
-use Rattle.std.proofs.Common.{◌≡◌, ℕ, suc, zero, ◌+◌, ◌<◌, ◌≤◌, List, [], ◌∷◌, length, slice_get, Contains, None, Some, Result, ap, subst, ◌∙◌, arith, length-append}
+use Rattle.std.proofs.Common.{◌≡◌, ℕ, suc, zero, ◌+◌, ◌<◌, ◌≤◌, List, [], ◌∷◌, length, slice_get, Contains, Option, None, Some, Result, ap, sym, subst, ◌∙◌, arith, length-append}
 use Rattle.std.specs.Prelude.{IfSome}
 use Rattle.std.specs.Result.{IsErrAnd}
 use Rattle.std.proofs.lemmas.Option.{slice_get_within}
@@ -11,29 +11,36 @@ use Rattle.bundle_rules.specs.Kept.{Kept, kept_module}
 use Rattle.bundle_rules.specs.Program.{Loaded}
 use Rattle.bundle_rules.specs.Faults.{Fault, Parties, IsFaultless, IsFirstTreeFault, fault_of}
 use Rattle.bundle_rules.specs.Judging as j
-use Rattle.bundle_rules.specs.Judging.{Outcome, GoesOn, Refused, Loads, Asks, LoadsAll, requests_in}
+use Rattle.bundle_rules.specs.Judging.{Outcome, GoesOn, Stopped, Loads, Asks, LoadsAll, requests_in}
 use Rattle.bundler_call.specs.Kept.{AreRequested, IsKept}
-use Rattle.bundler_call.specs.Judged.{LeadsOn}
+use Rattle.bundler_call.specs.Judged.{LeadsOn, refused_by}
 use Rattle.bundler_call.specs.Loading.{Begins, IsSound}
 use Rattle.bundler_call.proofs.Growing.{found}
-use Rattle.bundler_call.proofs.Judging.{leads_handed}
+use Rattle.bundler_call.proofs.Judging.{leads_told, told_by}
+
+-- a growth is refused before a file is loaded, and nothing is another
+pub work_unloaded : (parties : Parties) (settings : Settings) (list : List Name) (place : ℕ) (old new : Kept) → new ≡ old → LoadsAll parties settings list place old Stopped new
+work_unloaded parties settings list place old new same =
+    subst (λ x. LoadsAll parties settings list place old Stopped x) (sym same) j.LoadsAll.stopped
 
 -- A file that was loaded.
 module _ (parties : Parties) (settings : Settings) (list : List Name) (place : ℕ) (file : Name) (there : slice_get list place ≡ Some file) (old mid : Kept) (its : Loads parties settings old file GoesOn mid) (kept : IsKept mid file) where
   loaded : (x : Loaded) × (kept_module mid file ≡ Some x)
   loaded = found (kept_module mid file) kept
 
-  -- it is at fault by itself
+  -- it is at fault by itself, or a growth is refused
   pub work_faulty : {T : Type 0} (result : Result T Error) (e : Error) (rest : Outcome → Kept → Type 0) → IsErrAnd result (λ x. x ≡ e) → ((x : Loaded) → kept_module mid file ≡ Some x → IfSome (fault_of e) (IsFirstTreeFault file x.items)) → LeadsOn result (LoadsAll parties settings list place old) rest mid
   work_faulty result e rest is first =
-      leads_handed result e (IsFirstTreeFault file loaded.0.items) _ rest mid is (λ f its_first. j.faulty there its loaded.1 its_first) (first loaded.0 loaded.1)
+      leads_told result e (IsFirstTreeFault file loaded.0.items) _ rest mid is (λ f its_first. j.faulty there its loaded.1 its_first) (j.stopped_loaded there its) (first loaded.0 loaded.1)
 
   module _ (texts : List Text) (faultless : (x : Loaded) → kept_module mid file ≡ Some x → IsFaultless file x.items × (texts ≡ requests_in settings x.items)) where
-    -- one of its requests is refused
-    pub work_stopped : (new : Kept) (all : List Name) (f : Fault) → Asks parties file texts mid list (Refused f) new all → LoadsAll parties settings list place old (Refused f) new
-    work_stopped new all f asks =
+    -- one of its requests is refused, or a growth is among them
+    pub work_stopped : (new : Kept) (all : List Name) (o : Option Fault) → Asks parties file texts mid list (refused_by o) new all → LoadsAll parties settings list place old (refused_by o) new
+    work_stopped new all o asks =
         let facts = faultless loaded.0 loaded.1 in
-        j.not_resolved there its loaded.1 facts.0 (subst (λ x. Asks parties file x mid list (Refused f) new all) facts.1 asks)
+        told_by o (λ x. Asks parties file (requests_in settings loaded.0.items) mid list x new all) (λ x. LoadsAll parties settings list place old (refused_by x) new)
+        (λ f its_asks. j.not_resolved there its loaded.1 facts.0 its_asks) (λ its_asks. j.stopped_asking there its loaded.1 facts.0 its_asks)
+        (subst (λ x. Asks parties file x mid list (refused_by o) new all) facts.1 asks)
 
     -- all of them are resolved
     pub work_done : (next : Kept) (all longer : List Name) → Asks parties file texts mid list GoesOn next all → longer ≡ all → (outcome : Outcome) (last : Kept) → LoadsAll parties settings longer (suc place) next outcome last → LoadsAll parties settings list place old outcome last

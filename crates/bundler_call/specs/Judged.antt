@@ -1,5 +1,5 @@
 -- How a call ends, in the order of judging, and what a bundle of an entry is.
-use Rattle.std.specs.Prelude.{◌≡◌, ◌⊎◌, ℕ, ◌<◌, slice_get, Some, IfSome, List, Result, Ok, Err}
+use Rattle.std.specs.Prelude.{◌≡◌, ◌⊎◌, ℕ, ◌<◌, slice_get, Option, Some, None, IfSome, List, Result, Ok, Err}
 use Rattle.std.specs.declared.alloc.Global.{Global}
 use Rattle.std.specs.declared.string.String.{String}
 use Rattle.bundle_tree_listed.specs.Tree.{module_items}
@@ -12,21 +12,31 @@ use Rattle.bundle_rules.specs.Entries.{Settings}
 use Rattle.bundle_rules.specs.Kept.{Kept}
 use Rattle.bundle_rules.specs.Faults.{Fault, DoubledEntry, Parties, fault_of}
 use Rattle.bundle_rules.specs.Headline.{IsBundleOf}
-use Rattle.bundle_rules.specs.Judging.{Entry, Outcome, GoesOn, Refused, Refuses, IsDoubledEntry}
+use Rattle.bundle_rules.specs.Judging.{Entry, Outcome, GoesOn, Refused, Stopped, Refuses, Stops, IsDoubledEntry}
 use Rattle.bundler_entry.specs.Finished.{IsFinished}
 use Rattle.bundler_call.specs.Answer.{bundled_of}
 use Rattle.bundler_call.specs.Kept.{entry_of, parties_of, settings_of}
 use Rattle.bundler_call.specs.declared.bundle.Bundle.{Bundle}
 
--- a part of the judging ends as the result says: it goes on, or is refused by the fault that is told; want of memory tells of none
+-- one step of the judging is what the result says: it was made, or is refused by the fault that is told; want of memory tells of none
+abbrev pub Tells : {T : Type 0} → Result T Error → (Outcome → Type 0) → Type 0
+Tells (Ok x) step = step GoesOn
+Tells (Err refusal) step = IfSome (fault_of refusal) (λ fault. step (Refused fault))
+
+-- how a part of the judging is refused: by the fault that is told, or, where none is, since a growth was refused
+abbrev pub refused_by : Option Fault → Outcome
+refused_by (Some fault) = Refused fault
+refused_by None = Stopped
+
+-- a part of the judging ends as the result says: it goes on, is refused by the fault that is told, or stops for want of memory
 abbrev pub Ends : {T : Type 0} → Result T Error → (Outcome → Type 0) → Type 0
 Ends (Ok x) part = part GoesOn
-Ends (Err refusal) part = IfSome (fault_of refusal) (λ fault. part (Refused fault))
+Ends (Err refusal) part = part (refused_by (fault_of refusal))
 
--- as far as a part of the judging goes on, what is judged after it is judged of the whole; where it is refused, the whole is
+-- as far as a part of the judging goes on, what is judged after it is judged of the whole; where it is refused or stops, the whole does
 abbrev pub LeadsOn : {T : Type 0} → Result T Error → (whole rest : Outcome → Kept → Type 0) → Kept → Type 0
 LeadsOn (Ok x) whole rest new = (outcome : Outcome) (last : Kept) → rest outcome last → whole outcome last
-LeadsOn (Err refusal) whole rest new = IfSome (fault_of refusal) (λ fault. whole (Refused fault) new)
+LeadsOn (Err refusal) whole rest new = whole (refused_by (fault_of refusal)) new
 
 -- what this loader and this resolver may answer, and where they may fail; no hook is asked
 abbrev pub asked_by : {L R : Type 0} → (L → Name → ModuleData → Type 0) → (L → Name → Type 0) → (R → Name → List ℕ → Name → Type 0) → (R → Name → List ℕ → Type 0) → L → R → Parties
@@ -41,10 +51,16 @@ AreApart entries = (i j : ℕ) (a b : Entry) → i < j → slice_get entries i �
 abbrev pub IsFaultOfList : List Entry → Fault → Type 0
 IsFaultOfList entries fault = (later : Entry) × IsDoubledEntry entries later × (fault ≡ DoubledEntry later.file later.name)
 
--- the fault that a refusal tells of is the first in the order of judging; want of memory tells of none
+-- the fault that is told is the first in the order of judging; where none is, so much is kept as was kept on the way
+abbrev pub IsTold : Parties → Settings → List Entry → (old new : Kept) → Option Fault → Type 0
+IsTold parties settings entries old new (Some fault) =
+    Refuses parties settings entries old fault new
+IsTold parties settings entries old new None = Stops parties settings entries old new
+
+-- a refusal tells of the first fault in the order of judging, or of want of memory on the way
 abbrev pub IsToldOf : Parties → Settings → List Entry → (old new : Kept) → Error → Type 0
 IsToldOf parties settings entries old new refusal =
-    IfSome (fault_of refusal) (λ fault. Refuses parties settings entries old fault new)
+    IsTold parties settings entries old new (fault_of refusal)
 
 -- a bundle is that of an entry, over what is kept
 abbrev pub IsBundledFor : Parties → Settings → Kept → String Global × FileName → Bundle → Type 0

@@ -11,7 +11,7 @@ ghost use Rattle.bundle_rules.specs.Judging.{Loads, Numbers, Resolves};
 ghost use Rattle.bundle_rules.specs.Kept.{asked_eq, kept_file, kept_module, nothing_kept, number_in};
 ghost use Rattle.bundler_kept.specs.Kept.{asked_of, names_in, resolved_in, tree_room, trees_in, HasRoomFor, LoadedAreMet};
 ghost use Rattle.bundler_call.specs.Kept.{kept_as, kept_of, settings_of, IsBounded, IsKept, IsMet, IsRequested, MayBeMet};
-ghost use Rattle.bundler_call.specs.Judged.{Ends, asked_by};
+ghost use Rattle.bundler_call.specs.Judged.{Tells, asked_by};
 ghost use Rattle.bundler_call.specs.Library.{Keeps, MovesOn};
 ghost use Rattle.bundler_call.specs.Refusal.{load_refusal, resolve_refusal};
 
@@ -56,8 +56,9 @@ impl<L: Load + Drop, R: Resolve + Drop> Library<L, R> {
         ensures grows { (settings : Settings) (entries : List Name) →
             MayBeMet (kept_of self.old.kept) (name_of file.now) entries →
             MovesOn L.may_load R.may_resolve settings entries self.old self.new }
-        ensures judged { Ends result (λ outcome.
+        ensures judged { Tells result (λ outcome.
             Numbers (kept_of self.old.kept) (name_of file.now) outcome (kept_of self.new.kept)) }
+        ensures unchanged { OnErr result (kept_of self.new.kept ≡ kept_of self.old.kept) }
         ensures known { IsMet (kept_of self.old.kept) (name_of file.now) →
             kept_of self.new.kept ≡ kept_of self.old.kept }
         ensures absent { OnErr result (¬ IsMet (kept_of self.old.kept) (name_of file.now)) }
@@ -109,12 +110,13 @@ impl<L: Load + Drop, R: Resolve + Drop> Library<L, R> {
         ensures there { OnOk result (IsKept (kept_of self.new.kept) (name_of file.now)) }
         ensures grows { (entries : List Name) →
             MovesOn L.may_load R.may_resolve (settings_of config.now) entries self.old self.new }
-        ensures judged { Ends result (λ outcome.
+        ensures judged { Tells result (λ outcome.
             Loads
             (asked_by L.may_load L.may_fail_load R.may_resolve R.may_fail_resolve self.old.loader
             self.old.resolver)
             (settings_of config.now) (kept_of self.old.kept) (name_of file.now) outcome
             (kept_of self.new.kept)) }
+        ensures unchanged { OnErr result (kept_of self.new.kept ≡ kept_of self.old.kept) }
     {
         if self.has(file) {
             return Ok(());
@@ -171,6 +173,7 @@ impl<L: Load + Drop, R: Resolve + Drop> Library<L, R> {
             (asked_by L.may_load L.may_fail_load R.may_resolve R.may_fail_resolve self.old.loader
             self.old.resolver)
             (kept_of self.old.kept) (asked_of request.now) None (kept_of self.new.kept))) }
+        ensures unchanged { OnErr result (kept_of self.new.kept ≡ kept_of self.old.kept) }
     {
         if self.leads(request) {
             return Ok(());

@@ -1,6 +1,6 @@
 //! Files with their numbers.
 
-ghost use Rattle.std.specs.Prelude.{◌≡◌, ◌<◌, ◌^◌, ◌++◌, ◌∷◌, [], false, length, nat_eq, OnOk};
+ghost use Rattle.std.specs.Prelude.{◌≡◌, ◌<◌, ◌^◌, ◌++◌, ◌∷◌, [], false, length, nat_eq, OnOk, OnErr};
 ghost use Rattle.std.specs.List.{list_any};
 ghost use Rattle.bundle_link_index.specs.Numbered.{IsOnce};
 ghost use Rattle.bundle_link_reached.specs.Files.{numbers_of};
@@ -69,7 +69,8 @@ impl Listed {
     /// Puts a file last, whose number no other has.
     pub(crate) fn push(&mut self, file: FileName, id: ModuleId) -> Result<(), AllocError>
         requires { list_any (nat_eq id) (numbers_of self.old) ≡ false }
-        ensures { OnOk result (self.new ≡ self.old ++ (file, id) ∷ []) }
+        ensures added { OnOk result (self.new ≡ self.old ++ (file, id) ∷ []) }
+        ensures unchanged { OnErr result (self.new ≡ self.old) }
     {
         self.files.reserve(1)?;
         self.ids.insert(id)?;

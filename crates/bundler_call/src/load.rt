@@ -1,6 +1,6 @@
 //! The load list: the files that an entry needs, in the order in which they are met.
 
-ghost use Rattle.std.specs.Prelude.{◌≡◌, ◌++◌, ◌∷◌, ℕ, suc, length, map, slice_get, string_bytes, [], List, Some, IsSome, IfOk, IfErr, IfSome, OnOk};
+ghost use Rattle.std.specs.Prelude.{◌≡◌, ◌++◌, ◌∷◌, ℕ, suc, length, map, slice_get, string_bytes, [], List, Some, Contains, IsSome, IfOk, IfErr, IfSome, OnOk, OnErr};
 ghost use Rattle.std.specs.Option.{option_map};
 ghost use Rattle.bundle_tree_names.specs.FileName.{Name, name_of};
 ghost use Rattle.bundle_tree_names.specs.ModuleIdGenerator.{IsDistinct};
@@ -57,6 +57,8 @@ impl LoadList {
             number_in kept (name_of file.now) ≡ Some id →
             AreNumbered kept self.old →
             OnOk result (AreNumbered kept self.new) }
+        ensures unchanged { OnErr result (files_on self.new ≡ files_on self.old) }
+        ensures absent { OnErr result (¬ Contains (files_on self.old) (name_of file.now)) }
         ensures deps { self.new.deps ≡ self.old.deps }
     {
         if self.files.has(id) {

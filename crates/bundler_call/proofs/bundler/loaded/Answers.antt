@@ -1,7 +1,8 @@
 -- The files of the entries get their numbers, and then all that they need is loaded, or the first fault on that way is told.
-use Rattle.bundle_rules.specs.Judging.{GoesOn, LoadsAll, Refused}
+use Rattle.bundle_rules.specs.Faults.{fault_of}
+use Rattle.bundle_rules.specs.Judging.{GoesOn, LoadsAll}
 use Rattle.bundler_call.specs.Bundler.{files_of}
-use Rattle.bundler_call.specs.Judged.{asked_by}
+use Rattle.bundler_call.specs.Judged.{asked_by, refused_by}
 use Rattle.bundler_call.specs.Kept.{kept_of, settings_of}
 use Rattle.bundler_call.specs.Loading.{files_on}
 use Rattle.bundler_call.proofs.Bundling.{all_on}
@@ -48,10 +49,9 @@ returns-in_err-list-2-clause-refused g c =
     let first = c.in_ok-list.ensures.grows settings in
     let apart = c.in_ok-refuse_doubled_entry.ensures.apart in
     refused_loading (asked_by g.L.Load.may_load g.L.Load.may_fail_load g.R.Resolve.may_resolve g.R.Resolve.may_fail_resolve c.args.library.now.loader c.args.library.now.resolver)
-    settings c.args.entries.now apart old mid new _ _ c.from_residual-in_err-list-2.ensures.1 _ (files_on c.in_ok-list.list) c.in_ok-list.ensures.judged (c.in_ok-list.ensures.all apart)
-    (λ f its. as_before (λ l r. LoadsAll (asked_by g.L.Load.may_load g.L.Load.may_fail_load g.R.Resolve.may_resolve g.R.Resolve.may_fail_resolve l r) settings (files_on c.in_ok-list.list) 0 mid (Refused f) new)
-    _ _ _ _ first.loader first.resolver its)
-    c.in_err-list-2.ensures.judged
+    settings c.args.entries.now apart old mid new _ c.in_err-list-2.field-0.0 c.from_residual-in_err-list-2.ensures.1 (files_on c.in_ok-list.list) c.in_ok-list.ensures.judged (c.in_ok-list.ensures.all apart)
+    (as_before (λ l r. LoadsAll (asked_by g.L.Load.may_load g.L.Load.may_fail_load g.R.Resolve.may_resolve g.R.Resolve.may_fail_resolve l r) settings (files_on c.in_ok-list.list) 0 mid (refused_by (fault_of c.in_err-list-2.field-0.0)) new)
+    _ _ _ _ first.loader first.resolver c.in_err-list-2.ensures.judged)
 
 -- All is loaded.
 

@@ -1,12 +1,15 @@
 -- What is kept grows by the number of each file, the files before it keep theirs, and those on the list were met.
 use Rattle.std.proofs.Common.{[], ap, arith, inl, subst, sym, ◌∙◌}
 use Rattle.std.specs.List.{AllZip}
+use Rattle.bundle_tree_names.specs.declared.error.Error.TheVariants.{OutOfMemory}
+use Rattle.bundle_rules.specs.Judging as j
+use Rattle.bundle_rules.specs.Judging.{Stopped}
 use Rattle.bundler_call.specs.Bundler.{files_of, HasNumber}
 use Rattle.bundler_call.specs.Kept.{kept_of}
 use Rattle.bundler_call.specs.Loading.{files_on}
-use Rattle.bundler_call.proofs.Counting.{as_many_files, files_from, listed_all, listed_more, numbers_end, numbers_next, numbers_stop}
+use Rattle.bundler_call.proofs.Counting.{as_many_files, files_from, listed_all, listed_more, numbers_end, numbers_next, numbers_stop, numbers_stopped}
 use Rattle.bundler_call.proofs.Growing.{advances_refl, advances_trans}
-use Rattle.bundler_call.proofs.Judging.{ends_handed}
+use Rattle.bundler_call.proofs.Judging.{ends_handed, ends_told}
 use Rattle.bundler_call.proofs.Leading.{none_numbered, still_all_numbered}
 use Rattle.bundler_call.proofs.Loading.{all_met_placed, none_met_of, still_all_met}
 use Rattle.bundler_call.proofs.Numbered.{entry_listed, numbered_more}
@@ -49,9 +52,20 @@ returns-clause-bounded g c = λ some. c.loop-file.invariant.7 (omega (arith, som
 
 pub returns-in_err-id-clause-judged : goal.returns-in_err-id-clause-judged
 returns-in_err-id-clause-judged g c =
-    ends_handed _ _ _ _ c.from_residual.ensures.1
+    ends_told _ _ _ _ c.from_residual.ensures.1
     (λ f its. numbers_stop (files_of c.args.entries.now) _ _ _ (kept_of c.args.library.now.kept) (kept_of c.loop-file.library.kept) (kept_of c.id.new.self.kept) f (files_from c.args.entries.now c.loop-file.file-index _ c.loop-file-test.true (sym c.loop-file-item.is)) c.loop-file.invariant.3 its)
+    (numbers_stopped (files_of c.args.entries.now) _ (kept_of c.args.library.now.kept) (kept_of c.loop-file.library.kept) (kept_of c.id.new.self.kept) c.loop-file.invariant.3 c.in_err-id.ensures.unchanged)
     c.in_err-id.ensures.judged
+
+pub returns-in_err-place-clause-judged : goal.returns-in_err-place-clause-judged
+returns-in_err-place-clause-judged g c =
+    ends_handed _ OutOfMemory _ c.from_residual-in_err-place.ensures.1
+    (numbers_next (files_of c.args.entries.now) _ _ _ (kept_of c.args.library.now.kept) (kept_of c.loop-file.library.kept) (kept_of c.id.new.self.kept) (files_from c.args.entries.now c.loop-file.file-index _ c.loop-file-test.true (sym c.loop-file-item.is)) c.loop-file.invariant.3 c.in_ok-id.ensures.judged Stopped (kept_of c.id.new.self.kept) j.NumbersEach.stopped)
+
+pub returns-in_err-push-clause-judged : goal.returns-in_err-push-clause-judged
+returns-in_err-push-clause-judged g c =
+    ends_handed _ OutOfMemory _ c.from_residual-in_err-push.ensures.1
+    (numbers_next (files_of c.args.entries.now) _ _ _ (kept_of c.args.library.now.kept) (kept_of c.loop-file.library.kept) (kept_of c.id.new.self.kept) (files_from c.args.entries.now c.loop-file.file-index _ c.loop-file-test.true (sym c.loop-file-item.is)) c.loop-file.invariant.3 c.in_ok-id.ensures.judged Stopped (kept_of c.id.new.self.kept) j.NumbersEach.stopped)
 
 pub returns-clause-judged : goal.returns-clause-judged
 returns-clause-judged g c =

@@ -3,12 +3,15 @@ use Rattle.std.proofs.Common.{◌≡◌, [], ◌∷◌, ◌++◌, ap, map, refl,
 use Rattle.std.specs.String.{string_bytes}
 use Rattle.std.proofs.lemmas.List.{nil_from_length}
 use Rattle.bundle_tree_names.specs.FileName.{name_of}
-use Rattle.bundle_rules.specs.Judging.{Asks, GoesOn, Refused}
-use Rattle.bundler_call.specs.Judged.{asked_by}
+use Rattle.bundle_tree_names.specs.declared.error.Error.TheVariants.{OutOfMemory}
+use Rattle.bundle_rules.specs.Faults.{fault_of}
+use Rattle.bundle_rules.specs.Judging as j
+use Rattle.bundle_rules.specs.Judging.{Asks, GoesOn, Stopped}
+use Rattle.bundler_call.specs.Judged.{asked_by, refused_by}
 use Rattle.bundler_call.specs.Kept.{kept_of}
 use Rattle.bundler_call.specs.Loading.{files_on, ids_on}
 use Rattle.bundler_call.proofs.Growing.{advances_refl, advances_trans, remains_refl, remains_trans, still_kept}
-use Rattle.bundler_call.proofs.Judging.{as_before, ends_handed}
+use Rattle.bundler_call.proofs.Judging.{as_before, ends_handed, goes_not_on}
 use Rattle.bundler_call.proofs.Leading.{all_lead_more, all_lead_none, texts_all, texts_more, texts_of}
 use Rattle.bundler_call.proofs.Loading.{begins_refl, begins_trans}
 use Rattle.bundler_call.proofs.Placing.{asks_end, asks_from_start, asks_next, asks_stop, requested_along, requested_first, requested_rest}
@@ -38,10 +41,17 @@ returns-in_err-id-clause-keeps g c = remains_trans _ _ _ _ _ _ _ _ _ c.loop-spec
 
 pub returns-in_err-id-clause-judged : goal.returns-in_err-id-clause-judged
 returns-in_err-id-clause-judged g c =
-    ends_handed _ _ _ _ c.from_residual.ensures.1
-    (λ f its. asks_stop (asked_by g.L.Load.may_load g.L.Load.may_fail_load g.R.Resolve.may_resolve g.R.Resolve.may_fail_resolve c.args.library.now.loader c.args.library.now.resolver) (name_of c.args.file.now) (map string_bytes c.args.specifiers.items) (map string_bytes c.loop-specifier.specifier-iterator.rest.items) (map string_bytes c.next.new.self.rest.items) (string_bytes c.in-Some.specifier) (kept_of c.args.library.now.kept) (kept_of c.loop-specifier.library.kept) (kept_of c.id_of.new.library.kept) (files_on c.args.list.now) (files_on c.loop-specifier.list) (files_on c.id_of.new.list) f (ap (map string_bytes) c.in-Some.ensures.steps.0) c.loop-specifier.invariant.4
-    (as_before (λ l r. Asks (asked_by g.L.Load.may_load g.L.Load.may_fail_load g.R.Resolve.may_resolve g.R.Resolve.may_fail_resolve l r) (name_of c.args.file.now) (string_bytes c.in-Some.specifier ∷ []) (kept_of c.loop-specifier.library.kept) (files_on c.loop-specifier.list) (Refused f) (kept_of c.id_of.new.library.kept) (files_on c.id_of.new.list)) _ _ _ _ c.loop-specifier.invariant.0.loader c.loop-specifier.invariant.0.resolver its))
-    c.in_err-id.ensures.judged
+    let outcome = refused_by (fault_of c.in_err-id.field-0.0) in
+    ends_handed _ c.in_err-id.field-0.0 _ c.from_residual.ensures.1
+    (asks_stop (asked_by g.L.Load.may_load g.L.Load.may_fail_load g.R.Resolve.may_resolve g.R.Resolve.may_fail_resolve c.args.library.now.loader c.args.library.now.resolver) (name_of c.args.file.now) (map string_bytes c.args.specifiers.items) (map string_bytes c.loop-specifier.specifier-iterator.rest.items) (map string_bytes c.next.new.self.rest.items) (string_bytes c.in-Some.specifier) (kept_of c.args.library.now.kept) (kept_of c.loop-specifier.library.kept) (kept_of c.id_of.new.library.kept) (files_on c.args.list.now) (files_on c.loop-specifier.list) (files_on c.id_of.new.list) outcome (goes_not_on (fault_of c.in_err-id.field-0.0)) (ap (map string_bytes) c.in-Some.ensures.steps.0) c.loop-specifier.invariant.4
+    (as_before (λ l r. Asks (asked_by g.L.Load.may_load g.L.Load.may_fail_load g.R.Resolve.may_resolve g.R.Resolve.may_fail_resolve l r) (name_of c.args.file.now) (string_bytes c.in-Some.specifier ∷ []) (kept_of c.loop-specifier.library.kept) (files_on c.loop-specifier.list) outcome (kept_of c.id_of.new.library.kept) (files_on c.id_of.new.list)) _ _ _ _ c.loop-specifier.invariant.0.loader c.loop-specifier.invariant.0.resolver c.in_err-id.ensures.judged))
+
+pub returns-in_err-push-clause-judged : goal.returns-in_err-push-clause-judged
+returns-in_err-push-clause-judged g c =
+    ends_handed _ OutOfMemory _ c.from_residual-in_err-push.ensures.1
+    (asks_next (asked_by g.L.Load.may_load g.L.Load.may_fail_load g.R.Resolve.may_resolve g.R.Resolve.may_fail_resolve c.args.library.now.loader c.args.library.now.resolver) (name_of c.args.file.now) (map string_bytes c.args.specifiers.items) (map string_bytes c.loop-specifier.specifier-iterator.rest.items) (map string_bytes c.next.new.self.rest.items) (string_bytes c.in-Some.specifier) (kept_of c.args.library.now.kept) (kept_of c.loop-specifier.library.kept) (kept_of c.id_of.new.library.kept) (files_on c.args.list.now) (files_on c.loop-specifier.list) (files_on c.id_of.new.list) (ap (map string_bytes) c.in-Some.ensures.steps.0) c.loop-specifier.invariant.4
+    (as_before (λ l r. Asks (asked_by g.L.Load.may_load g.L.Load.may_fail_load g.R.Resolve.may_resolve g.R.Resolve.may_fail_resolve l r) (name_of c.args.file.now) (string_bytes c.in-Some.specifier ∷ []) (kept_of c.loop-specifier.library.kept) (files_on c.loop-specifier.list) GoesOn (kept_of c.id_of.new.library.kept) (files_on c.id_of.new.list)) _ _ _ _ c.loop-specifier.invariant.0.loader c.loop-specifier.invariant.0.resolver c.in_ok-id.ensures.judged)
+    Stopped (kept_of c.id_of.new.library.kept) (files_on c.id_of.new.list) j.Asks.stopped)
 
 pub id_of-requires-clause-numbered : goal.id_of-requires-clause-numbered
 id_of-requires-clause-numbered g c = (c.loop-specifier.invariant.5 c.requires.numbered).0

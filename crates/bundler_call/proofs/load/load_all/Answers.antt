@@ -2,9 +2,12 @@
 use Rattle.std.proofs.Common.{[], suc, sym, ap, ◌∙◌}
 use Rattle.std.specs.Option.{option_map}
 use Rattle.bundle_tree_names.specs.FileName.{name_of}
-use Rattle.bundle_rules.specs.Judging.{LoadsAll, Outcome, Refused}
+use Rattle.bundle_tree_names.specs.declared.error.Error.TheVariants.{OutOfMemory}
+use Rattle.bundle_rules.specs.Faults.{fault_of}
+use Rattle.bundle_rules.specs.Judging as j
+use Rattle.bundle_rules.specs.Judging.{LoadsAll, Outcome, Stopped}
 use Rattle.bundle_rules.specs.Kept.{Kept}
-use Rattle.bundler_call.specs.Judged.{asked_by}
+use Rattle.bundler_call.specs.Judged.{asked_by, refused_by}
 use Rattle.bundler_call.specs.Kept.{kept_of, settings_of}
 use Rattle.bundler_call.specs.Loading.{files_on}
 use Rattle.bundler_call.proofs.Growing.{advances_refl, advances_stays, advances_trans}
@@ -49,11 +52,16 @@ pub returns-clause-loaded : goal.returns-clause-loaded
 returns-clause-loaded g c =
     all_kept_within (kept_of c.loop-place.library.kept) (files_on c.loop-place.list) c.loop-place.place (short_enough c.loop-place.list.files c.len-count.result c.loop-place.place c.len-count.ensures.len c.len-count.ensures.small c.loop-place-test.false) c.loop-place.invariant.2
 
+pub returns-in_err-file-clause-judged : goal.returns-in_err-file-clause-judged
+returns-in_err-file-clause-judged g c =
+    ends_handed _ OutOfMemory _ c.from_residual.ensures.1 (c.loop-place.invariant.4 Stopped (kept_of c.loop-place.library.kept) j.LoadsAll.stopped)
+
 pub returns-in_err-work_on-clause-judged : goal.returns-in_err-work_on-clause-judged
 returns-in_err-work_on-clause-judged g c =
-    ends_handed _ _ _ _ c.from_residual-in_err-work_on.ensures.1
-    (λ f its. c.loop-place.invariant.4 (Refused f) (kept_of c.work_on.new.library.kept) (as_before (λ l r. LoadsAll (asked_by g.L.Load.may_load g.L.Load.may_fail_load g.R.Resolve.may_resolve g.R.Resolve.may_fail_resolve l r) (settings_of c.args.config.now) (files_on c.loop-place.list) c.loop-place.place (kept_of c.loop-place.library.kept) (Refused f) (kept_of c.work_on.new.library.kept)) _ _ _ _ (c.loop-place.invariant.0 []).loader (c.loop-place.invariant.0 []).resolver its))
-    (c.in_err-work_on.ensures.judged c.loop-place.place (sym c.in_ok-file.ensures.file ∙ ap (option_map name_of) c.in-Some.is))
+    let outcome = refused_by (fault_of c.in_err-work_on.field-0.0) in
+    ends_handed _ c.in_err-work_on.field-0.0 _ c.from_residual-in_err-work_on.ensures.1
+    (c.loop-place.invariant.4 outcome (kept_of c.work_on.new.library.kept) (as_before (λ l r. LoadsAll (asked_by g.L.Load.may_load g.L.Load.may_fail_load g.R.Resolve.may_resolve g.R.Resolve.may_fail_resolve l r) (settings_of c.args.config.now) (files_on c.loop-place.list) c.loop-place.place (kept_of c.loop-place.library.kept) outcome (kept_of c.work_on.new.library.kept)) _ _ _ _ (c.loop-place.invariant.0 []).loader (c.loop-place.invariant.0 []).resolver
+    (c.in_err-work_on.ensures.judged c.loop-place.place (sym c.in_ok-file.ensures.file ∙ ap (option_map name_of) c.in-Some.is))))
 
 pub returns-in_default-clause-judged : goal.returns-in_default-clause-judged
 returns-in_default-clause-judged g c =

@@ -2,23 +2,28 @@
 use Rattle.std.proofs.Common.{[], ap, map, subst, sym}
 use Rattle.std.specs.String.{string_bytes}
 use Rattle.bundle_tree_names.specs.FileName.{name_of}
+use Rattle.bundle_tree_names.specs.declared.error.Error.TheVariants.{OutOfMemory}
+use Rattle.bundle_rules.specs.Faults.{fault_of}
 use Rattle.bundle_rules.specs.Judging as j
-use Rattle.bundle_rules.specs.Judging.{Asks, GoesOn, Refused}
-use Rattle.bundler_call.specs.Judged.{asked_by}
+use Rattle.bundle_rules.specs.Judging.{Asks, GoesOn, Stopped}
+use Rattle.bundler_call.specs.Judged.{asked_by, refused_by}
 use Rattle.bundler_call.specs.Kept.{kept_of, settings_of}
 use Rattle.bundler_call.specs.Loading.{files_on, ids_on}
 use Rattle.bundler_call.proofs.Growing.{advances_stays, advances_trans, still_sound}
-use Rattle.bundler_call.proofs.Judging.{as_before, leads_handed}
+use Rattle.bundler_call.proofs.Judging.{as_before, leads_handed, leads_told}
 use Rattle.bundler_call.proofs.Leading.{all_asked, noted_last, still_all_numbered, AreNumberedIn}
 use Rattle.bundler_call.proofs.Loading.{begins_along, names_of_entries, still_all_met}
-use Rattle.bundler_call.proofs.Working.{requested, sound, work_done, work_faulty, work_stopped}
+use Rattle.bundler_call.proofs.Working.{requested, sound, work_done, work_faulty, work_stopped, work_unloaded}
 use Rattle.bundler_call.proofs.load.work_on.Goals as goal
 
 pub ask_each-requires : goal.ask_each-requires
 ask_each-requires g c = record { met = still_all_met _ (kept_of c.load.new.self.kept) (advances_stays _ _ (settings_of c.args.config.now) [] _ _ _ _ _ _ (c.in_ok-load.ensures.grows [])) _ c.requires.met; numbered = still_all_numbered (kept_of c.args.library.now.kept) (kept_of c.load.new.self.kept) (advances_stays _ _ (settings_of c.args.config.now) [] _ _ _ _ _ _ (c.in_ok-load.ensures.grows [])) c.args.list.now.files c.requires.numbered; loaded = c.in_ok-load.ensures.there }
 
 pub returns-in_err-load-clause-judged : goal.returns-in_err-load-clause-judged
-returns-in_err-load-clause-judged g c = λ place there. leads_handed _ _ _ _ _ _ c.from_residual.ensures.1 (λ f its. j.not_loaded there its) c.in_err-load.ensures.judged
+returns-in_err-load-clause-judged g c = λ place there.
+    leads_told _ _ _ _ _ _ c.from_residual.ensures.1 (λ f its. j.not_loaded there its)
+    (work_unloaded (asked_by g.L.Load.may_load g.L.Load.may_fail_load g.R.Resolve.may_resolve g.R.Resolve.may_fail_resolve c.args.library.now.loader c.args.library.now.resolver) (settings_of c.args.config.now) (files_on c.args.list.now) place (kept_of c.args.library.now.kept) (kept_of c.load.new.self.kept) c.in_err-load.ensures.unchanged)
+    c.in_err-load.ensures.judged
 
 pub returns-in_err-specifiers-clause-judged : goal.returns-in_err-specifiers-clause-judged
 returns-in_err-specifiers-clause-judged g c = λ place there. work_faulty (asked_by g.L.Load.may_load g.L.Load.may_fail_load g.R.Resolve.may_resolve g.R.Resolve.may_fail_resolve c.args.library.now.loader c.args.library.now.resolver) (settings_of c.args.config.now) (files_on c.args.list.now) place (name_of c.args.file.now) there (kept_of c.args.library.now.kept) (kept_of c.load.new.self.kept) c.in_ok-load.ensures.judged c.in_ok-load.ensures.there _ _ _ c.from_residual-in_err-specifiers.ensures.1 c.in_err-specifiers.ensures.faulty
@@ -29,10 +34,17 @@ returns-in_err-deps-clause-grows g c = λ entries.
 
 pub returns-in_err-deps-clause-judged : goal.returns-in_err-deps-clause-judged
 returns-in_err-deps-clause-judged g c = λ place there.
-    leads_handed _ _ _ _ _ _ c.from_residual-in_err-deps.ensures.1
-    (λ f asks. work_stopped (asked_by g.L.Load.may_load g.L.Load.may_fail_load g.R.Resolve.may_resolve g.R.Resolve.may_fail_resolve c.args.library.now.loader c.args.library.now.resolver) (settings_of c.args.config.now) (files_on c.args.list.now) place (name_of c.args.file.now) there (kept_of c.args.library.now.kept) (kept_of c.load.new.self.kept) c.in_ok-load.ensures.judged c.in_ok-load.ensures.there (map string_bytes c.in_ok-specifiers.specifiers.items) c.in_ok-specifiers.ensures.faultless (kept_of c.ask_each.new.library.kept) (files_on c.ask_each.new.list) f
-    (as_before (λ l r. Asks (asked_by g.L.Load.may_load g.L.Load.may_fail_load g.R.Resolve.may_resolve g.R.Resolve.may_fail_resolve l r) (name_of c.args.file.now) (map string_bytes c.in_ok-specifiers.specifiers.items) (kept_of c.load.new.self.kept) (files_on c.args.list.now) (Refused f) (kept_of c.ask_each.new.library.kept) (files_on c.ask_each.new.list)) _ _ _ _ (c.in_ok-load.ensures.grows []).loader (c.in_ok-load.ensures.grows []).resolver asks))
-    c.in_err-deps.ensures.judged
+    let told = fault_of c.in_err-deps.field-0.0 in
+    leads_handed _ c.in_err-deps.field-0.0 _ _ _ c.from_residual-in_err-deps.ensures.1
+    (work_stopped (asked_by g.L.Load.may_load g.L.Load.may_fail_load g.R.Resolve.may_resolve g.R.Resolve.may_fail_resolve c.args.library.now.loader c.args.library.now.resolver) (settings_of c.args.config.now) (files_on c.args.list.now) place (name_of c.args.file.now) there (kept_of c.args.library.now.kept) (kept_of c.load.new.self.kept) c.in_ok-load.ensures.judged c.in_ok-load.ensures.there (map string_bytes c.in_ok-specifiers.specifiers.items) c.in_ok-specifiers.ensures.faultless (kept_of c.ask_each.new.library.kept) (files_on c.ask_each.new.list) told
+    (as_before (λ l r. Asks (asked_by g.L.Load.may_load g.L.Load.may_fail_load g.R.Resolve.may_resolve g.R.Resolve.may_fail_resolve l r) (name_of c.args.file.now) (map string_bytes c.in_ok-specifiers.specifiers.items) (kept_of c.load.new.self.kept) (files_on c.args.list.now) (refused_by told) (kept_of c.ask_each.new.library.kept) (files_on c.ask_each.new.list)) _ _ _ _ (c.in_ok-load.ensures.grows []).loader (c.in_ok-load.ensures.grows []).resolver c.in_err-deps.ensures.judged))
+
+pub returns-in_err-add_deps-clause-judged : goal.returns-in_err-add_deps-clause-judged
+returns-in_err-add_deps-clause-judged g c = λ place there.
+    leads_handed _ OutOfMemory _ _ _ c.from_residual-in_err-add_deps.ensures.1
+    (work_done (asked_by g.L.Load.may_load g.L.Load.may_fail_load g.R.Resolve.may_resolve g.R.Resolve.may_fail_resolve c.args.library.now.loader c.args.library.now.resolver) (settings_of c.args.config.now) (files_on c.args.list.now) place (name_of c.args.file.now) there (kept_of c.args.library.now.kept) (kept_of c.load.new.self.kept) c.in_ok-load.ensures.judged c.in_ok-load.ensures.there (map string_bytes c.in_ok-specifiers.specifiers.items) c.in_ok-specifiers.ensures.faultless (kept_of c.ask_each.new.library.kept) (files_on c.ask_each.new.list) (files_on c.add_deps.new.self)
+    (as_before (λ l r. Asks (asked_by g.L.Load.may_load g.L.Load.may_fail_load g.R.Resolve.may_resolve g.R.Resolve.may_fail_resolve l r) (name_of c.args.file.now) (map string_bytes c.in_ok-specifiers.specifiers.items) (kept_of c.load.new.self.kept) (files_on c.args.list.now) GoesOn (kept_of c.ask_each.new.library.kept) (files_on c.ask_each.new.list)) _ _ _ _ (c.in_ok-load.ensures.grows []).loader (c.in_ok-load.ensures.grows []).resolver c.in_ok-deps.ensures.judged)
+    (ap names_of_entries c.in_err-add_deps.ensures.files) Stopped (kept_of c.ask_each.new.library.kept) j.LoadsAll.stopped)
 
 pub returns-in_err-add_deps-clause-grows : goal.returns-in_err-add_deps-clause-grows
 returns-in_err-add_deps-clause-grows g c = λ entries.

@@ -10,7 +10,7 @@ use Rattle.bundler_call.specs.Kept.{entry_of, kept_of, parties_of, settings_of}
 use Rattle.bundler_call.specs.Linking.{IsLoaded, IsNumberedOn, IsRefusalOfEntries}
 use Rattle.bundler_call.specs.Loading.{files_on, AreSound}
 use Rattle.bundler_call.proofs.Bundling.{all_finished, along}
-use Rattle.bundler_call.proofs.Ending.{answers_none, bundled_headline, empty_headline, refused_headline, refused_linking, some_entry, IsRefusedBy}
+use Rattle.bundler_call.proofs.Ending.{answers_none, bundled_headline, completed_stops, empty_headline, refused_headline, refused_linking, some_entry, IsRefusedBy}
 use Rattle.bundler_call.proofs.Finding.{handed_on}
 use Rattle.bundler_call.proofs.Linking.{all_bundled_as, refusal_as}
 use Rattle.bundler_call.proofs.Numbered.{advances_for}
@@ -83,7 +83,10 @@ returns-in_err-finished_bundles-clause-headline g c =
       new,
       refused_headline _ settings c.args.entries.items old new c.from_residual-in_err-finished_bundles.result OutOfMemory c.from_residual-in_err-finished_bundles.ensures.1
           (advances_for _ _ settings c.as_slice.result.now c.args.entries.items _ _ _ _ old new c.as_slice.ensures.value c.in_ok-list.ensures.grows).grows
-          (handed_on c.from_residual-in_err-finished_bundles.result OutOfMemory (IsRefusedBy _ settings (map entry_of c.args.entries.items) old new) c.from_residual-in_err-finished_bundles.ensures.1 tt),
+          (handed_on c.from_residual-in_err-finished_bundles.result OutOfMemory (IsRefusedBy _ settings (map entry_of c.args.entries.items) old new) c.from_residual-in_err-finished_bundles.ensures.1
+          (completed_stops _ settings (map entry_of c.args.entries.items) old new
+          (completes_beside g.L.Load.may_load g.L.Load.may_fail_load g.R.Resolve.may_resolve g.R.Resolve.may_fail_resolve _ _ settings c.args.self.library.loader c.args.self.library.resolver (map entry_of c.args.entries.items) old new
+          (subst (λ xs. Completes (asked_by g.L.Load.may_load g.L.Load.may_fail_load g.R.Resolve.may_resolve g.R.Resolve.may_fail_resolve c.args.self.library.loader c.args.self.library.resolver) settings (map entry_of xs) old new) c.as_slice.ensures.value c.in_ok-list.ensures.completes)))),
     )
 
 -- Bundles.

@@ -3,7 +3,7 @@ use Rattle.std.proofs.Common.{refl, ap}
 use Rattle.bundle_tree_names.specs.FileName.{name_of}
 use Rattle.bundler_call.specs.Kept.{kept_of}
 use Rattle.bundler_call.proofs.Asking.{id_judged}
-use Rattle.bundler_call.proofs.Growing.{id_grows, id_stays, kept_same, numbered_is_met, read_trees, unmet}
+use Rattle.bundler_call.proofs.Growing.{id_grows, id_stays, id_unchanged, kept_same, numbered_is_met, read_trees, unmet}
 use Rattle.bundler_call.proofs.library.Library.id.Goals as goal
 
 pub returns-clause-met : goal.returns-clause-met
@@ -35,3 +35,6 @@ returns-clause-known g c = λ met. kept_same (kept_of c.args.self.now.kept) (kep
 
 pub returns-clause-absent : goal.returns-clause-absent
 returns-clause-absent g c = unmet (kept_of c.args.self.now.kept) (kept_of c.id.new.self) (name_of c.args.file.now) c.id.result c.id.ensures.unchanged c.id.ensures.absent
+
+pub returns-clause-unchanged : goal.returns-clause-unchanged
+returns-clause-unchanged g c = id_unchanged (kept_of c.args.self.now.kept) (kept_of c.id.new.self) c.id.result c.id.ensures.unchanged (ap read_trees c.id.ensures.trees) c.id.ensures.resolved

@@ -5,7 +5,7 @@ use Rattle.bundler_kept.specs.Kept.{names_in, trees_in}
 use Rattle.bundler_call.specs.Kept.{kept_of, settings_of}
 use Rattle.bundler_call.proofs.Asking.{load_full, load_judged, load_kept}
 use Rattle.bundler_call.proofs.Finding.{tree_found}
-use Rattle.bundler_call.proofs.Growing.{advances_along, advances_refl, has_room, is_full, load_grows}
+use Rattle.bundler_call.proofs.Growing.{advances_along, advances_refl, has_room, holds_refused, is_full, load_grows, load_unchanged}
 use Rattle.bundler_call.proofs.library.Library.load.Goals as goal
 
 pub keep_loaded-requires-clause-met : goal.keep_loaded-requires-clause-met
@@ -48,3 +48,9 @@ pub returns-then-count-config-clause-judged : goal.returns-then-count-config-cla
 returns-then-count-config-clause-judged g c =
     load_full (g.L.Load.may_load c.args.self.now.loader) (g.L.Load.may_fail_load c.args.self.now.loader) (g.R.Resolve.may_resolve c.args.self.now.resolver) (g.R.Resolve.may_fail_resolve c.args.self.now.resolver) _ _ (settings_of c.args.config.now) (kept_of c.args.self.now.kept) (name_of c.args.file.now) c.in_ok-name.name (c.has.ensures.none c.if-has.false)
     (is_full (trees_in c.args.self.now.kept) _ _ c.count.ensures c.if-count-config.true) c.in_ok-name.ensures.cases
+
+pub returns-in_err-reserve_tree-clause-unchanged : goal.returns-in_err-reserve_tree-clause-unchanged
+returns-in_err-reserve_tree-clause-unchanged g c = holds_refused _ _ c.in_err-reserve_tree.ensures.same
+
+pub returns-clause-unchanged : goal.returns-clause-unchanged
+returns-clause-unchanged g c = load_unchanged (kept_of c.args.self.now.kept) _ _ _ _ _ c.in_ok-reserve_tree.ensures.same c.keep_loaded.ensures.given c.keep_loaded.ensures.refused

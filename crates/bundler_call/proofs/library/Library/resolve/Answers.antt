@@ -5,7 +5,7 @@ use Rattle.bundler_kept.specs.Kept.{asked_of, trees_in, HasRoomFor}
 use Rattle.bundler_call.specs.Kept.{kept_of}
 use Rattle.bundler_call.proofs.Asking.{resolve_failed, resolve_judged, resolve_kept}
 use Rattle.bundler_call.proofs.Finding.{asked_same, handed, target_found}
-use Rattle.bundler_call.proofs.Growing.{advances_along, advances_refl, remains_along, remains_refl, resolve_grows, resolve_stays}
+use Rattle.bundler_call.proofs.Growing.{advances_along, advances_refl, holds_refused, remains_along, remains_refl, resolve_grows, resolve_stays, resolve_unchanged}
 use Rattle.bundler_call.proofs.library.Library.resolve.Goals as goal
 
 pub reserve_target-requires : goal.reserve_target-requires
@@ -70,3 +70,9 @@ returns-clause-failed g c =
 pub returns-then-leads-clause-resolved : goal.returns-then-leads-clause-resolved
 returns-then-leads-clause-resolved g c = λ found is.
     resolve_kept (g.L.Load.may_load c.args.self.now.loader) (g.L.Load.may_fail_load c.args.self.now.loader) (g.R.Resolve.may_resolve c.args.self.now.resolver) (g.R.Resolve.may_fail_resolve c.args.self.now.resolver) _ _ (kept_of c.args.self.now.kept) (asked_of c.args.request.now) found is
+
+pub returns-in_err-reserve_target-clause-unchanged : goal.returns-in_err-reserve_target-clause-unchanged
+returns-in_err-reserve_target-clause-unchanged g c = holds_refused _ _ c.in_err-reserve_target.ensures.same
+
+pub returns-clause-unchanged : goal.returns-clause-unchanged
+returns-clause-unchanged g c = resolve_unchanged (kept_of c.args.self.now.kept) _ _ _ _ _ c.in_ok-reserve_target.ensures.same c.keep_resolved.ensures.given c.keep_resolved.ensures.refused
