@@ -10,4 +10,5 @@ mod Parts
 mod Refusals
 mod Results
 mod Turns
+mod Wanting
 mod Whole
