@@ -1,4 +1,5 @@
 mod Fronts
+mod Handed
 mod Kept
 mod laid
 mod Lists

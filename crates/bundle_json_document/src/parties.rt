@@ -15,7 +15,8 @@ use bundle_tree_rewrite::TryClone;
 use std::alloc::{AllocError, Global};
 use std::collections::BTreeMap;
 
-/// Gives the module of each file of a document, another tree with the same list each time.
+/// Gives the module of each file of a document, another tree with the same list each time, or the document's own where
+/// it is not asked for that file again.
 #[derive(Drop)]
 pub(crate) struct DocumentLoader {
     pub(crate) files: BTreeMap<String, Module>,
@@ -40,6 +41,17 @@ impl Load for DocumentLoader {
             Ok(loaded) => Ok(loaded),
             Err(_) => Err(LoadError::OutOfMemory),
         }
+    }
+
+    fn hand_over(&mut self, _alloc: Global, file: &FileName) -> Result<ModuleData, LoadError> {
+        let FileName::Real(name) = file else {
+            return Err(LoadError::Failed);
+        };
+        let Some((name, module)) = self.files.remove_entry(name.as_str()) else {
+            return Err(LoadError::Failed);
+        };
+        let file_name = FileName::Real(name);
+        Ok(ModuleData { file_name, module })
     }
 }
 

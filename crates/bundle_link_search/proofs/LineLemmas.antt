@@ -27,6 +27,15 @@ module _ (g : Graph) where
       by {v = v} (led {next = other} f more) e = let same : other ≡ next = cc in subst (λ x. Given g x v) same more
       by (starred none other star more) e = absurd (none-some (Leads next) (sym none ∙ e))
 
+  -- the value that its own entry gives is the answer for a name
+  pub own-answer : (at : Spot) (v : ℕ) → own_of g at ≡ Some (Gives v) → IsAnswer g at (One v)
+  own-answer at v e = record { kept = itself e; all = λ w given. by given e }
+    where
+      by : {at : Spot} {w : ℕ} → Given g at w → own_of g at ≡ Some (Gives v) → w ≡ v
+      by (itself f) e = cc
+      by (led f more) e = cc
+      by (starred none other star more) e = absurd (none-some (Gives v) (sym none ∙ e))
+
   pub none_by_entry : (at : Spot) → own_of g at ≡ Some Empty → (v : ℕ) → Given g at v → ⊥
   none_by_entry at e v (itself f) = cc
   none_by_entry at e v (led f more) = cc

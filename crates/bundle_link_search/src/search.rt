@@ -1,6 +1,6 @@
 //! The search for what is given for a name.
 
-ghost use Rattle.std.specs.Prelude.{◌≡◌, IfOk};
+ghost use Rattle.std.specs.Prelude.{◌≡◌, IfOk, IfSome};
 ghost use Rattle.bundle_link_search.specs.Graph.{graph_of};
 ghost use Rattle.bundle_link_search.specs.Given.{AreAnswers, IsAnswer, Notes};
 ghost use Rattle.bundle_link_search.specs.Reached.{IsNoted, IsReach};
@@ -8,7 +8,7 @@ ghost use Rattle.bundle_link_search.specs.Reached.{IsNoted, IsReach};
 use crate::answer::Answer;
 use crate::index::Index;
 use crate::line::answer_in_line;
-use crate::links::Links;
+use crate::links::{Links, Own};
 use indexmap::{IndexMap, IndexSet};
 use std::alloc::{AllocError, Global};
 use std::marker::Model;
@@ -49,16 +49,23 @@ impl Search {
     pub fn found(&self, alloc: Global, at: (usize, usize)) -> Result<Answer, AllocError>
         ensures { IfOk result (λ answer. IsAnswer self.now at answer) }
     {
+        if let Some(answer) = own_answer(&self.index, at) {
+            return Ok(answer);
+        }
         let mut reach = IndexSet::new(alloc);
         let mut line = IndexSet::new(alloc);
         answer_in_line(alloc, &self.index, &self.answers, &mut reach, at, &mut line)
     }
 
-    /// The answer for a name of a module, which is noted for it and for the names to which it leads alone.
+    /// The answer for a name of a module, which is noted for it and for the names to which it leads alone. Where its own
+    /// entry gives a value, that is the answer, and nothing is noted.
     pub fn answer(&mut self, alloc: Global, at: (usize, usize)) -> Result<Answer, AllocError>
         ensures right { IfOk result (λ answer. IsAnswer self.old at answer) }
         ensures same { self.new ≡ self.old }
     {
+        if let Some(answer) = own_answer(&self.index, at) {
+            return Ok(answer);
+        }
         if let Some(answer) = self.answers.get(&at).copied() {
             return Ok(answer);
         }
@@ -70,6 +77,16 @@ impl Search {
         ensures { IfOk result (λ reach. IsReach self.now start reach.keys) }
     {
         self.index.reach(alloc, start)
+    }
+}
+
+// The answer for a name whose own entry gives a value.
+fn own_answer(index: &Index, at: (usize, usize)) -> Option<Answer>
+    ensures { IfSome result (IsAnswer index.now at) }
+{
+    match index.own(at) {
+        Some(Own::Gives(value)) => Some(Answer::One(value)),
+        Some(Own::Leads(_)) | Some(Own::Nothing) | None => None,
     }
 }
 

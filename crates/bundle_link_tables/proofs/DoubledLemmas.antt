@@ -1,5 +1,5 @@
 -- Doubled names, export by export.
-use Rattle.std.proofs.Common.{◌≡◌, ℕ, ◌+◌, ◌<◌, Bool, true, false, List, [], ◌∷◌, ◌++◌, Option, Some, None, length, map, drop, get_or, refl, ap, sym, ◌∙◌}
+use Rattle.std.proofs.Common.{◌≡◌, ℕ, ◌+◌, ◌<◌, Bool, true, false, List, [], ◌∷◌, ◌++◌, Option, Some, None, length, map, drop, get_or, refl, ap, sym, ◌∙◌, arith}
 use Rattle.std.specs.Prelude.{if◌then◌else◌}
 use Rattle.std.proofs.lemmas.List.{drop_more}
 use Rattle.std.proofs.lemmas.Option.{none-some}
@@ -36,3 +36,9 @@ undoubled_next met exports i d inside none = by (has_text name met) refl (sym (d
     by : (b : Bool) → has_text name met ≡ b → (if b then Some name else later) ≡ None → (has_text name met ≡ false) × (later ≡ None)
     by true is one = absurd (none-some name (sym one))
     by false is one = (is, one)
+
+-- of one export, or none, no name is doubled
+pub few_undoubled : (exports : List Export) → length exports < 2 → None ≡ doubled_name [] (map export_entry_of exports)
+few_undoubled [] few = refl
+few_undoubled (export ∷ []) few = sym (doubled_step [] export [])
+few_undoubled (export ∷ other ∷ more) few = absurd (omega (arith, few))

@@ -9,10 +9,12 @@ pub mod ListedLemmas
 pub mod LocalLemmas
 pub mod MarkLemmas
 pub mod NamelessLemmas
+pub mod NamesLemmas
 pub mod OnceLemmas
 pub mod RequestLemmas
 pub mod SourceLemmas
 pub mod ToldLemmas
 pub mod TopLemmas
 pub mod UseLemmas
+pub mod WithinLemmas
 pub mod WordLemmas

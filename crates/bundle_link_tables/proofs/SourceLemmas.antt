@@ -1,8 +1,9 @@
 -- What is asked for and is not external.
-use Rattle.std.proofs.Common.{◌≡◌, Bool, true, false, List, [], ◌∷◌, ◌++◌, refl, ap, ◌∙◌, map}
+use Rattle.std.proofs.Common.{◌≡◌, ◌<◌, Bool, true, false, List, [], ◌∷◌, ◌++◌, length, ◌==◌, eqb-true, refl, ap, ◌∙◌, map, arith}
 use Rattle.std.specs.Prelude.{filter, not, if◌then◌else◌}
-use Rattle.bundle_rules.specs.Nodes.{Text, has_text}
+use Rattle.bundle_rules.specs.Nodes.{Text, each_once, has_text}
 use Rattle.bundle_link_tables.specs.Sources.{asked, told_external, unexternal, unexternal_one}
+use Rattle.bundle_link_tables.specs.declared.table.RequireCall.{RequireCall}
 use Rattle.bundle_link_tables.specs.declared.table.Source.{Source}
 
 pub asked_here : (source : Source) → source.is_external ≡ false → unexternal_one source ≡ source.specifier.now ∷ []
@@ -26,3 +27,14 @@ unexternal_filter external (source ∷ sources) (x ∷ texts) are =
     step : (b : Bool) → (if b then [] else x ∷ []) ++ filter (λ s. not (has_text s external)) texts ≡ (if not b then x ∷ filter (λ s. not (has_text s external)) texts else filter (λ s. not (has_text s external)) texts)
     step true = refl
     step false = refl
+
+-- what one source asks for, or none, stands once, where nothing is called
+pub few_once : (sources : List Source) (calls : List RequireCall) → length sources < 2 → (length calls == 0) ≡ true → unexternal sources ≡ each_once (unexternal sources ++ map (λ call. call.specifier.now) calls)
+few_once [] [] few none = refl
+few_once (source ∷ []) [] few none = of_one source.specifier.now source.is_external
+  where
+    of_one : (x : Text) (b : Bool) → (if b then [] else x ∷ []) ++ [] ≡ each_once (((if b then [] else x ∷ []) ++ []) ++ [])
+    of_one x true = refl
+    of_one x false = refl
+few_once (source ∷ other ∷ more) [] few none = absurd (omega (arith, few))
+few_once sources (call ∷ calls) few none = absurd (omega (arith, eqb-true (length (call ∷ calls)) 0 none))

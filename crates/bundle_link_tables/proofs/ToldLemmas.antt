@@ -1,9 +1,9 @@
 -- Doubled and undeclared names, export by export; and the fault that is told of them.
-use Rattle.std.proofs.Common.{◌≡◌, ℕ, ◌+◌, ◌<◌, ◌≤◌, Bool, true, false, not, ◌||◌, cond, List, [], ◌∷◌, ◌++◌, Option, Some, None, find, length, map, drop, get_or, bytes_eq, subst, refl, ap, sym, ◌∙◌}
+use Rattle.std.proofs.Common.{◌≡◌, ℕ, ◌+◌, ◌<◌, ◌≤◌, Bool, true, false, not, cond, List, [], ◌∷◌, ◌++◌, Option, Some, None, find, length, map, drop, get_or, bytes_eq, subst, ap, sym, ◌∙◌}
 use Rattle.std.specs.Prelude.{if◌then◌else◌, option_map, filter, MatchOption}
 use Rattle.std.specs.List.{list_any}
 use Rattle.std.specs.Borrow.{Bor}
-use Rattle.std.proofs.lemmas.List.{drop_more, drop_all, map-append}
+use Rattle.std.proofs.lemmas.List.{drop_more, drop_all}
 use Rattle.bundle_tree_names.specs.FileName.{Name}
 use Rattle.bundle_tree_piece.specs.Item.{Item}
 use Rattle.bundle_rules.specs.Declarations.{BySymbol}
@@ -25,6 +25,7 @@ use Rattle.bundle_link_tables.specs.Listed.{listed_as}
 use Rattle.bundle_link_tables.specs.TablesOf.{export_entry_of, fault_in}
 use Rattle.bundle_link_tables.proofs.DoubledLemmas.{doubled_split}
 use Rattle.bundle_link_tables.proofs.FaultLemmas.{doubled_filter, judged, undeclared_alike}
+use Rattle.bundle_link_tables.proofs.NamesLemmas.{doubled_alike}
 use Rattle.bundle_link_tables.proofs.OnceLemmas.{has_key, map_put}
 use Rattle.bundle_link_tables.proofs.TopLemmas.{top_told}
 use Rattle.indexmap.specs.IndexSet.{insert_key}
@@ -98,15 +99,16 @@ told_none file doubled undeclared has_with none declared is =
     ap (λ d. first_fault file d None false) none ∙ ap (λ u. first_fault file doubled u false) declared ∙ ap (first_fault file doubled undeclared) (sym is)
 
 -- what is told by the tables is told by the tree
-pub told_by_tree : (file : Name) (tree : List Item) (table : Denotations) (exports : List ExportEntry) (listed : List ListedName) → IsTable BySymbol Es tree table → exports ≡ filter (λ entry. not (is_star entry)) (exports_of tree) → listed ≡ listed_names tree → first_fault file (doubled_name [] exports) (undeclared_name (λ x. has_text x (told_top_names table tree)) listed) (has_head is_with tree) ≡ first_fault file (doubled_name [] (exports_of tree)) (undeclared_name (is_top_name tree) (listed_names tree)) (has_head is_with tree)
-told_by_tree file tree table exports listed is are names =
-    ap (λ d. first_fault file d (undeclared_name (λ x. has_text x (told_top_names table tree)) listed) (has_head is_with tree)) (ap (doubled_name []) are ∙ doubled_filter [] (exports_of tree))
+pub told_by_tree : (file : Name) (tree : List Item) (table : Denotations) (exports : List ExportEntry) (listed : List ListedName) (with : Bool) → IsTable BySymbol Es tree table → map entry_name exports ≡ map entry_name (filter (λ entry. not (is_star entry)) (exports_of tree)) → listed ≡ listed_names tree → with ≡ has_head is_with tree → first_fault file (doubled_name [] exports) (undeclared_name (λ x. has_text x (told_top_names table tree)) listed) with ≡ first_fault file (doubled_name [] (exports_of tree)) (undeclared_name (is_top_name tree) (listed_names tree)) (has_head is_with tree)
+told_by_tree file tree table exports listed with is are names same =
+    ap (first_fault file (doubled_name [] exports) (undeclared_name (λ x. has_text x (told_top_names table tree)) listed)) same
+    ∙ ap (λ d. first_fault file d (undeclared_name (λ x. has_text x (told_top_names table tree)) listed) (has_head is_with tree)) (doubled_alike [] exports (filter (λ entry. not (is_star entry)) (exports_of tree)) are ∙ doubled_filter [] (exports_of tree))
     ∙ ap (λ u. first_fault file (doubled_name [] (exports_of tree)) u (has_head is_with tree)) (undeclared_alike (λ x. has_text x (told_top_names table tree)) (is_top_name tree) (top_told tree table is) listed ∙ ap (undeclared_name (is_top_name tree)) names)
 
 -- the same where no list of exports without `from` stands in the tree
-pub told_unlisted : (file : Name) (tree : List Item) (exports : List ExportEntry) → exports ≡ filter (λ entry. not (is_star entry)) (exports_of tree) → listed_names tree ≡ [] → first_fault file (doubled_name [] exports) None (has_head is_with tree) ≡ first_fault file (doubled_name [] (exports_of tree)) (undeclared_name (is_top_name tree) (listed_names tree)) (has_head is_with tree)
+pub told_unlisted : (file : Name) (tree : List Item) (exports : List ExportEntry) → map entry_name exports ≡ map entry_name (filter (λ entry. not (is_star entry)) (exports_of tree)) → listed_names tree ≡ [] → first_fault file (doubled_name [] exports) None (has_head is_with tree) ≡ first_fault file (doubled_name [] (exports_of tree)) (undeclared_name (is_top_name tree) (listed_names tree)) (has_head is_with tree)
 told_unlisted file tree exports are none =
-    ap (λ d. first_fault file d None (has_head is_with tree)) (ap (doubled_name []) are ∙ doubled_filter [] (exports_of tree))
+    ap (λ d. first_fault file d None (has_head is_with tree)) (doubled_alike [] exports (filter (λ entry. not (is_star entry)) (exports_of tree)) are ∙ doubled_filter [] (exports_of tree))
     ∙ ap (λ l. first_fault file (doubled_name [] (exports_of tree)) (undeclared_name (is_top_name tree) l) (has_head is_with tree)) (sym none)
 
 module _ (file : Name) (tree : List Item) where

@@ -1,9 +1,12 @@
 -- What the entries of a table of denotations use is what the occurrences of the list use.
-use Rattle.std.proofs.Common.{◌≡◌, ℕ, suc, ◌+◌, ◌<◌, Bool, true, false, ◌&&◌, List, [], ◌∷◌, ◌++◌, Option, Some, None, length, map, slice_get, refl, sym, ap, ◌∙◌, bytes_eq, arith}
+use Rattle.std.proofs.Common.{◌≡◌, ℕ, suc, ◌+◌, ◌<◌, Bool, true, false, ◌&&◌, List, [], ◌∷◌, ◌++◌, Option, Some, None, All, length, map, take, get_or, slice_get, refl, sym, ap, ◌∙◌, subst, bytes_eq, arith}
 use Rattle.std.specs.Prelude.{filter, is_some, if◌then◌else◌}
 use Rattle.std.specs.List.{AllZip, flat_map}
 use Rattle.std.specs.Option.{option_map, option_and_then}
 use Rattle.std.specs.Borrow.{Bor}
+use Rattle.std.proofs.lemmas.List.{get_or-map, length-map}
+use Rattle.std.proofs.lemmas.List.Elements.{All-append, All-cons}
+use Rattle.std.proofs.lemmas.List.Concat.{flat_map-append}
 use Rattle.std.proofs.lemmas.Option.{none-some, same_Some, slice_get-map, slice_get_within}
 use Rattle.bundle_tree_piece.specs.declared.piece.Role.TheVariants as r
 use Rattle.bundle_tree_piece.specs.Item as h
@@ -21,19 +24,21 @@ use Rattle.bundle_scope_denote.specs.declared.table.ScopeKind.TheVariants as k
 use Rattle.bundle_scope_denote.specs.Kinds.{scope_as}
 use Rattle.bundle_scope_denote.specs.Numbers.{Numbered, numbered}
 use Rattle.bundle_scope_denote.specs.Listed.{IsDenoted, IsEntry, IsTable}
-use Rattle.bundle_rules.specs.Nodes.{Text, field_of}
+use Rattle.bundle_rules.specs.Nodes.{Text}
 use Rattle.bundle_rules.specs.Entries.{import_of, imports_of}
-use Rattle.bundle_rules.specs.Reads.{read_word}
 use Rattle.bundle_tree_places.specs.declared.places.Told.{Told}
 use Rattle.bundle_link_tables.specs.declared.table.Import.{Import}
 use Rattle.bundle_link_tables.specs.Exported.{Finds}
-use Rattle.bundle_tree_places.specs.Placed.{AreTold, stated_told, word_told}
 use Rattle.bundle_link_tables.specs.TablesOf.{import_entry_of}
 use Rattle.bundle_tree_places.specs.Stated.{is_in_statement}
 use Rattle.bundle_link_tables.specs.Used.{UseEntry, is_bound_at_top, is_use, use_of, uses_of, words_around}
-use Rattle.bundle_link_tables.specs.Walked.{has_import, is_own_binding, is_own_kind, is_own_number, is_own_scope, named_use, symbol_if, uses_by, words_before}
+use Rattle.bundle_link_tables.specs.declared.table.Use.{Use}
+use Rattle.bundle_link_tables.specs.declared.walk.Named.{Named}
+use Rattle.bundle_link_tables.specs.Walked.{IsRead, Says, has_import, is_own_binding, is_own_kind, is_own_number, is_own_scope, named_at, named_use, names_by, pairs_at, symbol_if, uses_of_name}
+use Rattle.bundle_link_tables.specs.Within.{IsStated}
 use Rattle.bundle_link_tables.proofs.FreeLemmas.{Paired, meaning, paired}
-use Rattle.bundle_link_tables.proofs.WordLemmas.{words_alike, words_told}
+use Rattle.bundle_link_tables.proofs.MarkLemmas.{flat_next_of}
+use Rattle.bundle_link_tables.proofs.WordLemmas.{words_told}
 use Rattle.indexmap.specs.IndexMap.{IndexMap, get_by}
 
 -- whether a scope is the top, by its kind
@@ -54,65 +59,120 @@ own_told table None (e.Bound scope name) t = absurd t
 own_told table (Some n) (e.Global x) t = absurd t
 own_told table (Some n) (e.Bound scope name) t = ap (is_own_binding table.scopes.items) t.at ∙ own_scope_told table.scopes.items t.binding.scope scope t.in_scope
 
--- An occurrence stands in a field, as a symbol.
+-- An occurrence stands as a symbol.
 
--- what is known of the element that an occurrence is
-record IsNamed (item : Option Item) (o : Occurrence) : Type 0 where
-  field : ℕ
-  lies : option_and_then field_of item ≡ Some field
-  named : (test : Text → Bool) → symbol_if test item ≡ (if test o.sym then o.sym ∷ [] else [])
+symbol_of : (test : Text → Bool) (s : Spot) (item : Item) (o : Occurrence) → occurrence_of s item ≡ Some o → symbol_if test (Some item) ≡ (if test o.sym then o.sym ∷ [] else [])
+symbol_of test s (h.Open field head) o at = absurd (none-some o at)
+symbol_of test s (h.Ident field symbol ctxt r.Binding) o at = ap (λ (x : Occurrence). if test x.sym then x.sym ∷ [] else []) (same_Some _ o at)
+symbol_of test s (h.Ident field symbol ctxt r.Reference) o at = ap (λ (x : Occurrence). if test x.sym then x.sym ∷ [] else []) (same_Some _ o at)
+symbol_of test s (h.Ident field symbol ctxt r.Word) o at = absurd (none-some o at)
+symbol_of test s (h.Hole field) o at = absurd (none-some o at)
+symbol_of test s h.Close o at = absurd (none-some o at)
 
-is_named : (s : Spot) (item : Item) (o : Occurrence) → occurrence_of s item ≡ Some o → IsNamed (Some item) o
-is_named s (h.Open field head) o at = absurd (none-some o at)
-is_named s (h.Ident field symbol ctxt r.Binding) o at = let same = same_Some _ o at in record { field = field; lies = refl; named = λ test. ap (λ (x : Occurrence). if test x.sym then x.sym ∷ [] else []) same }
-is_named s (h.Ident field symbol ctxt r.Reference) o at = let same = same_Some _ o at in record { field = field; lies = refl; named = λ test. ap (λ (x : Occurrence). if test x.sym then x.sym ∷ [] else []) same }
-is_named s (h.Ident field symbol ctxt r.Word) o at = absurd (none-some o at)
-is_named s (h.Hole field) o at = absurd (none-some o at)
-is_named s h.Close o at = absurd (none-some o at)
-
-named_at : (tree : List Item) (p : ℕ) (o : Occurrence) → occurrence_at tree p ≡ Some o → IsNamed (slice_get tree p) o
-named_at tree p o at = by (slice_get tree p) at
+symbol_at : (test : Text → Bool) (tree : List Item) (p : ℕ) (o : Occurrence) → occurrence_at tree p ≡ Some o → symbol_if test (slice_get tree p) ≡ (if test o.sym then o.sym ∷ [] else [])
+symbol_at test tree p o at = by (slice_get tree p) at
   where
-    by : (x : Option Item) → option_and_then (occurrence_of (spot_before tree p)) x ≡ Some o → IsNamed x o
+    by : (x : Option Item) → option_and_then (occurrence_of (spot_before tree p)) x ≡ Some o → symbol_if test x ≡ (if test o.sym then o.sym ∷ [] else [])
     by None is = absurd (none-some o is)
-    by (Some item) is = is_named (spot_before tree p) item o is
+    by (Some item) is = symbol_of test (spot_before tree p) item o is
 
-within : (tree : List Item) (p field : ℕ) → option_and_then field_of (slice_get tree p) ≡ Some field → p < length tree
-within tree p field lies = by (slice_get tree p) refl lies
+-- Names, one by one.
+
+module _ (tree : List Item) where
+  -- the use that a name is at its place, if it is one
+  abbrev pub use_at : ℕ × Text → List UseEntry
+  use_at pair =
+      if is_in_statement (path_at tree pair.0)
+      then record { place = pair.0; local = pair.1; words = words_around tree pair.0 (path_at tree pair.0) } ∷ []
+      else []
+
+  one_name : (stated : List Bool) (told : List Told) (name : Named) → name.place < length tree → IsStated tree stated name.place → IsRead tree told name.place → uses_of_name stated told name ≡ use_at (named_at name)
+  one_name stated told name inside states reads =
+      let p : ℕ = name.place in
+      ap (λ b. if b then named_use told p name.local.now ∷ [] else []) (states inside)
+      ∙ ap (λ (l : List Text). if is_in_statement (path_at tree p) then (let u : UseEntry = record { place = p; local = name.local.now; words = l } in u) ∷ [] else []) (reads inside ∙ sym (words_told tree p))
+
+  -- all of them
+  pub names_used : (stated : List Bool) (told : List Told) (names : List Named) → All (λ (name : Named). name.place < length tree) names → All (λ (name : Named). IsStated tree stated name.place) names → All (λ (name : Named). IsRead tree told name.place) names → flat_map (uses_of_name stated told) names ≡ flat_map use_at (map named_at names)
+  names_used stated told [] inside states reads = refl
+  names_used stated told (name ∷ rest) inside states reads =
+      ap (λ (l : List UseEntry). l ++ flat_map (uses_of_name stated told) rest) (one_name stated told name (inside 0 name (omega arith)) (states 0 name (omega arith)) (reads 0 name (omega arith)))
+      ∙ ap (λ (l : List UseEntry). use_at (named_at name) ++ l) (names_used stated told rest (λ k d l. inside (suc k) d (omega (arith, l))) (λ k d l. states (suc k) d (omega (arith, l))) (λ k d l. reads (suc k) d (omega (arith, l))))
+
+-- a name more was passed
+pub says_next : (stated stated_lent : List Bool) (told told_lent : List Told) (names : List Named) (i : ℕ) (d : Named) (words : List Text) (uses : List Use) → stated_lent ≡ stated → told_lent ≡ told → i < length names → Says words uses (flat_map (uses_of_name stated told) (take i names) ++ uses_of_name stated_lent told_lent (get_or names i d)) → Says words uses (flat_map (uses_of_name stated told) (take (i + 1) names))
+says_next stated stated_lent told told_lent names i d words uses same_stated same_told inside said =
+    let before : List UseEntry = flat_map (uses_of_name stated told) (take i names) in
+    subst (λ (entries : List UseEntry). Says words uses entries)
+    (ap (λ (l : List Bool). before ++ uses_of_name l told_lent (get_or names i d)) same_stated
+    ∙ ap (λ (l : List Told). before ++ uses_of_name stated l (get_or names i d)) same_told
+    ∙ flat_next_of (uses_of_name stated told) names names i d refl inside)
+    said
+
+-- a text with a place lies within the list
+abbrev Lies : List Item → ℕ × Text → Type 0
+Lies tree pair = pair.0 < length tree
+
+-- of none it is all true
+none : {A : Type 0} (P : A → Type 0) → All P []
+none P k d l = absurd (omega (arith, l))
+
+-- a symbol stands within the list
+symbols_within : (tree : List Item) (test : Text → Bool) (p : ℕ) → All (Lies tree) (pairs_at p (symbol_if test (slice_get tree p)))
+symbols_within tree test p = by (slice_get tree p) refl
   where
-    by : (x : Option Item) → slice_get tree p ≡ x → option_and_then field_of x ≡ Some field → p < length tree
-    by None at is = absurd (none-some field is)
-    by (Some item) at is = slice_get_within tree p item at
+    kept : (b : Bool) (x : Text) → p < length tree → All (Lies tree) (pairs_at p (if b then x ∷ [] else []))
+    kept true x inside = All-cons (Lies tree) (p, x) [] inside (none (Lies tree))
+    kept false x inside = none (Lies tree)
+
+    by : (x : Option Item) → slice_get tree p ≡ x → All (Lies tree) (pairs_at p (symbol_if test x))
+    by None at = none (Lies tree)
+    by (Some (h.Open field head)) at = none (Lies tree)
+    by (Some (h.Ident field symbol ctxt role)) at = kept (test symbol) symbol (slice_get_within tree p (h.Ident field symbol ctxt role) at)
+    by (Some (h.Hole field)) at = none (Lies tree)
+    by (Some h.Close) at = none (Lies tree)
+
+-- so does each name of an entry
+names_within : (table : Denotations) (is_import : Text → Bool) (tree : List Item) (entries : List Denoted) → All (Lies tree) (flat_map (names_by table is_import tree) entries)
+names_within table is_import tree [] = none (Lies tree)
+names_within table is_import tree (entry ∷ rest) =
+    All-append (Lies tree) (names_by table is_import tree entry) (flat_map (names_by table is_import tree) rest) (by (is_own_number table entry.binding)) (names_within table is_import tree rest)
+  where
+    by : (b : Bool) → All (Lies tree) (pairs_at entry.place (if b then symbol_if is_import (slice_get tree entry.place) else []))
+    by true = symbols_within tree is_import entry.place
+    by false = none (Lies tree)
+
+pub named_within : (table : Denotations) (is_import : Text → Bool) (tree : List Item) (names : List Named) → map named_at names ≡ flat_map (names_by table is_import tree) table.occurrences.items → All (λ (name : Named). name.place < length tree) names
+named_within table is_import tree names are k d l =
+    let all : All (Lies tree) (map named_at names) = subst (λ (l : List (ℕ × Text)). All (Lies tree) l) (sym are) (names_within table is_import tree table.occurrences.items) in
+    subst (λ (pair : ℕ × Text). Lies tree pair) (get_or-map named_at names k d (named_at d) l) (all k (named_at d) (omega (arith, l, length-map names named_at)))
 
 -- One entry.
 
-all_three : (f : Text → UseEntry) (x : Text) (u : UseEntry) (b s i : Bool) → f x ≡ u → map f (if b && s then (if i then x ∷ [] else []) else []) ≡ (if b && (i && s) then u ∷ [] else [])
-all_three f x u true true true is = ap (λ (u : UseEntry). u ∷ []) is
-all_three f x u true true false is = refl
-all_three f x u true false true is = refl
-all_three f x u true false false is = refl
-all_three f x u false s i is = refl
+all_three : (g : ℕ × Text → List UseEntry) (p : ℕ) (x : Text) (u : UseEntry) (b s i : Bool) → g (p, x) ≡ (if s then u ∷ [] else []) → flat_map g (pairs_at p (if b then (if i then x ∷ [] else []) else [])) ≡ (if b && (i && s) then u ∷ [] else [])
+all_three g p x u true true true is = ap (λ (l : List UseEntry). l ++ []) is
+all_three g p x u true false true is = ap (λ (l : List UseEntry). l ++ []) is
+all_three g p x u true s false is = refl
+all_three g p x u false s i is = refl
 
-module _ (tree : List Item) (table : Denotations) (is : IsTable BySymbol Es tree table) (told : List Told) (tells : AreTold tree told) (is_import : Text → Bool) (finds : (x : Text) → is_import x ≡ is_some (import_of (imports_of tree) x)) where
+module _ (tree : List Item) (table : Denotations) (is : IsTable BySymbol Es tree table) (is_import : Text → Bool) (finds : (x : Text) → is_import x ≡ is_some (import_of (imports_of tree) x)) where
   -- the use that an occurrence is, if it is one
   abbrev use_if : Occurrence → List UseEntry
   use_if o = if is_use tree o then use_of tree o ∷ [] else []
 
-  one_use : (i : ℕ) (entry : Denoted) (o : Occurrence) → Paired tree table is i entry o → uses_by table is_import told tree entry ≡ use_if o
+  -- the uses that an entry is
+  abbrev uses_by : Denoted → List UseEntry
+  uses_by entry = flat_map (use_at tree) (names_by table is_import tree entry)
+
+  one_use : (i : ℕ) (entry : Denoted) (o : Occurrence) → Paired tree table is i entry o → uses_by entry ≡ use_if o
   one_use i entry o its =
       let p : ℕ = o.place in
-      let at : IsNamed (slice_get tree p) o = named_at tree p o its.stands in
-      let inside : p < length tree = within tree p at.field at.lies in
       let own : is_own_number table entry.binding ≡ is_bound_at_top (e.denoted_at BySymbol Es tree p) = own_told table entry.binding (meaning tree table is o) its.tells ∙ ap (λ (x : Option Occurrence). is_bound_at_top (option_map (meaning tree table is) x)) (sym its.stands) in
-      let stated : stated_told told p ≡ is_in_statement (path_at tree p) = (tells p inside).stated at.field at.lies in
-      let words : words_before (word_told told) p ≡ words_around tree p (path_at tree p) = words_alike (word_told told) (read_word tree) p (λ q l. (tells q (omega (arith, l, inside))).word) ∙ sym (words_told tree p) in
-      let same : named_use told p o.sym ≡ use_of tree o = ap (λ (l : List Text). let u : UseEntry = record { place = p; local = o.sym; words = l } in u) words in
-      ap (λ n. map (named_use told n) (if is_own_number table entry.binding && stated_told told n then symbol_if is_import (slice_get tree n) else [])) its.place
-      ∙ ap (λ (l : List Text). map (named_use told p) (if is_own_number table entry.binding && stated_told told p then l else [])) (at.named is_import)
-      ∙ ap (λ b. map (named_use told p) (if b && stated_told told p then (if is_import o.sym then o.sym ∷ [] else []) else [])) own
-      ∙ ap (λ b. map (named_use told p) (if is_bound_at_top (e.denoted_at BySymbol Es tree p) && b then (if is_import o.sym then o.sym ∷ [] else []) else [])) stated
-      ∙ ap (λ b. map (named_use told p) (if is_bound_at_top (e.denoted_at BySymbol Es tree p) && is_in_statement (path_at tree p) then (if b then o.sym ∷ [] else []) else [])) (finds o.sym)
-      ∙ all_three (named_use told p) o.sym (use_of tree o) (is_bound_at_top (e.denoted_at BySymbol Es tree p)) (is_in_statement (path_at tree p)) (is_some (import_of (imports_of tree) o.sym)) same
+      ap (λ n. flat_map (use_at tree) (pairs_at n (if is_own_number table entry.binding then symbol_if is_import (slice_get tree n) else []))) its.place
+      ∙ ap (λ (l : List Text). flat_map (use_at tree) (pairs_at p (if is_own_number table entry.binding then l else []))) (symbol_at is_import tree p o its.stands)
+      ∙ ap (λ b. flat_map (use_at tree) (pairs_at p (if b then (if is_import o.sym then o.sym ∷ [] else []) else []))) own
+      ∙ ap (λ b. flat_map (use_at tree) (pairs_at p (if is_bound_at_top (e.denoted_at BySymbol Es tree p) then (if b then o.sym ∷ [] else []) else []))) (finds o.sym)
+      ∙ all_three (use_at tree) p o.sym (use_of tree o) (is_bound_at_top (e.denoted_at BySymbol Es tree p)) (is_in_statement (path_at tree p)) (is_some (import_of (imports_of tree) o.sym)) refl
 
   filtered : (os : List Occurrence) → map (use_of tree) (filter (is_use tree) os) ≡ flat_map use_if os
   filtered [] = refl
@@ -123,15 +183,16 @@ module _ (tree : List Item) (table : Denotations) (is : IsTable BySymbol Es tree
       step false same = same
 
   -- what is used, entry by entry
-  pub uses_told : flat_map (uses_by table is_import told tree) table.occurrences.items ≡ uses_of tree
+  pub uses_told : flat_map (use_at tree) (flat_map (names_by table is_import tree) table.occurrences.items) ≡ uses_of tree
   uses_told = zipped table.occurrences.items (occurrences tree) is.occurrences (λ i entry o at there place. one_use i entry o (paired tree table is i entry o at there place)) ∙ sym (filtered (occurrences tree))
     where
-      zipped : (entries : List Denoted) (os : List Occurrence) → AllZip (IsEntry (map numbered table.scopes.items) BySymbol Es) entries os → ((i : ℕ) (entry : Denoted) (o : Occurrence) → slice_get entries i ≡ Some entry → slice_get os i ≡ Some o → entry.place ≡ o.place → uses_by table is_import told tree entry ≡ use_if o) → flat_map (uses_by table is_import told tree) entries ≡ flat_map use_if os
+      zipped : (entries : List Denoted) (os : List Occurrence) → AllZip (IsEntry (map numbered table.scopes.items) BySymbol Es) entries os → ((i : ℕ) (entry : Denoted) (o : Occurrence) → slice_get entries i ≡ Some entry → slice_get os i ≡ Some o → entry.place ≡ o.place → uses_by entry ≡ use_if o) → flat_map (use_at tree) (flat_map (names_by table is_import tree) entries) ≡ flat_map use_if os
       zipped [] [] all each = refl
       zipped [] (o ∷ os) all each = absurd all
       zipped (entry ∷ entries) [] all each = absurd all
       zipped (entry ∷ entries) (o ∷ os) all each =
-          ap (λ (l : List UseEntry). l ++ flat_map (uses_by table is_import told tree) entries) (each 0 entry o refl refl all.0.place)
+          flat_map-append (use_at tree) (names_by table is_import tree entry) (flat_map (names_by table is_import tree) entries)
+          ∙ ap (λ (l : List UseEntry). l ++ flat_map (use_at tree) (flat_map (names_by table is_import tree) entries)) (each 0 entry o refl refl all.0.place)
           ∙ ap (λ (l : List UseEntry). use_if o ++ l) (zipped entries os all.1 (λ i x y at there. each (suc i) x y at there))
 
 -- a table of imports tells whether an import binds a name

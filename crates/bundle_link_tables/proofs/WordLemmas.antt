@@ -1,5 +1,6 @@
 -- The words of the reads around a place are those of the reads that begin right before it.
-use Rattle.std.proofs.Common.{◌≡◌, ℕ, zero, suc, ◌+◌, ◌-◌, ◌<◌, ◌||◌, Bool, true, false, List, [], ◌∷◌, ◌++◌, Option, Some, None, take, drop, map, length, slice_get, refl, sym, ap, ◌∙◌, eqb, append_assoc, append-nil, arith}
+use Rattle.std.proofs.Common.{◌≡◌, ℕ, zero, suc, ◌+◌, ◌-◌, ◌<◌, ◌||◌, Bool, true, false, cond, List, [], ◌∷◌, ◌++◌, Option, Some, None, All, take, drop, get_or, map, length, slice_get, refl, sym, ap, ◌∙◌, eqb, true≢false, append_assoc, append-nil, arith}
+use Rattle.std.specs.List.{list_any}
 use Rattle.std.specs.Prelude.{if◌then◌else◌}
 use Rattle.std.proofs.lemmas.Bool.{eq-eqb, eqb-true}
 use Rattle.std.proofs.lemmas.List.{map-append}
@@ -13,26 +14,22 @@ use Rattle.bundle_rules.specs.Reads.{is_optional_base, is_written_to, property_o
 use Rattle.bundle_link_tables.specs.declared.table.Read.{Read}
 use Rattle.bundle_link_tables.specs.declared.table.Use.{Use}
 use Rattle.bundle_link_tables.specs.Used.{UseEntry, begin_in_turn, name_read, place_read, places_before, places_by, use_by, words_around}
-use Rattle.bundle_link_tables.specs.Walked.{Begin, Says, word_before, words_before}
+use Rattle.bundle_link_tables.specs.declared.walk.Named.{Named}
+use Rattle.bundle_link_tables.specs.Walked.{Begin, IsRead, Says, begins_member, is_behind_member, word_before, words_before}
 use Rattle.bundle_link_tables.proofs.FreeLemmas.{fold_past-place}
 use Rattle.bundle_tree_places.proofs.PlaceLemmas.{none_read}
+use Rattle.bundle_tree_places.specs.declared.places.Told.{Told}
+use Rattle.bundle_tree_places.specs.Placed.{AreTold, word_told}
+use Rattle.bundle_tree_places.specs.Seconds.{second_of, word_at}
 use Rattle.bundle_tree_places.proofs.SecondLemmas.{property_by, property_is}
 
--- whether a node begins at a place
-abbrev is_begun : Option Item → Bool
-is_begun (Some (h.Open field head)) = true
-is_begun _ = false
-
 module _ (tree : List Item) where
-  no_property : (p : ℕ) (x : Option Item) → is_begun x ≡ false → property_by tree x p ≡ None
+  no_property : (p : ℕ) (x : Option Item) → begins_member x ≡ false → property_by tree x p ≡ None
   no_property p None unbegun = refl
-  no_property p (Some (h.Open field head)) unbegun = cc
-  no_property p (Some (h.Ident field symbol ctxt role)) unbegun = refl
-  no_property p (Some (h.Hole field)) unbegun = refl
-  no_property p (Some h.Close) unbegun = refl
+  no_property p (Some item) unbegun = ap (λ b. cond b (word_at tree (second_of tree p)) None) unbegun
 
-  -- nothing is read where no node begins
-  no_read : (p : ℕ) (x : Option Item) → slice_get tree p ≡ x → is_begun x ≡ false → read_word tree p ≡ None
+  -- nothing is read where no member begins
+  no_read : (p : ℕ) (x : Option Item) → slice_get tree p ≡ x → begins_member x ≡ false → read_word tree p ≡ None
   no_read p x at unbegun = none_read (is_written_to (path_at tree p) || is_optional_base (path_at tree p)) (property_of (node_at tree p)) (property_is tree p x at ∙ no_property p x unbegun)
 
   -- what reads there are right before a place
@@ -97,7 +94,7 @@ module _ (tree : List Item) where
   words_told zero = ap (words_around tree zero) (no_path (slice_get tree zero))
   words_told (suc p) = by (slice_get tree p) refl (words_told p)
     where
-      none : (x : Option Item) → slice_get tree p ≡ x → is_begun x ≡ false → words_around tree (suc p) (path_at tree (suc p)) ≡ words_before (read_word tree) (suc p)
+      none : (x : Option Item) → slice_get tree p ≡ x → begins_member x ≡ false → words_around tree (suc p) (path_at tree (suc p)) ≡ words_before (read_word tree) (suc p)
       none x at unbegun =
           let nothing : read_word tree p ≡ None = no_read p x at unbegun in
           around_none p (path_at tree (suc p)) nothing ∙ sym (ap (λ (word : Option Text). elim word [ None ↦ [] | Some x ↦ x ∷ words_before (read_word tree) p ]) nothing)
@@ -115,6 +112,41 @@ words_alike one other zero same = refl
 words_alike one other (suc place) same =
     ap (λ (words : List Text). elim (one place) [ None ↦ [] | Some x ↦ x ∷ words ]) (words_alike one other place (λ p l. same p (omega (arith, l))))
     ∙ ap (λ (word : Option Text). elim word [ None ↦ [] | Some x ↦ x ∷ words_before other place ]) (same place (omega arith))
+
+-- no words are told before a place that no member begins right before
+pub words_unread : (tree : List Item) (place : ℕ) → is_behind_member tree place ≡ false → words_before (read_word tree) place ≡ []
+words_unread tree zero unbegun = refl
+words_unread tree (suc place) unbegun = ap (λ (word : Option Text). elim word [ None ↦ [] | Some x ↦ x ∷ words_before (read_word tree) place ]) (no_read tree place (slice_get tree place) refl unbegun)
+
+-- nor where nothing is told of any place
+words_untold : (place : ℕ) → words_before (word_told []) place ≡ []
+words_untold zero = refl
+words_untold (suc place) = refl
+
+-- names that are not read of have no words around them
+pub unread_all : (tree : List Item) (told : List Told) (names : List Named) → told ≡ [] → list_any (λ (name : Named). is_behind_member tree name.place) names ≡ false → All (λ (name : Named). IsRead tree told name.place) names
+unread_all tree told names none unread k d inside within =
+    let here : is_behind_member tree (get_or names k d).place ≡ false = any_none (λ (name : Named). is_behind_member tree name.place) names k d inside unread in
+    ap (λ (l : List Told). words_before (word_told l) (get_or names k d).place) none
+    ∙ words_untold (get_or names k d).place
+    ∙ sym (words_unread tree (get_or names k d).place here)
+  where
+    any_none : (test : Named → Bool) (list : List Named) (k : ℕ) (d : Named) → k < length list → list_any test list ≡ false → test (get_or list k d) ≡ false
+    any_none test [] k d inside none = absurd (omega (arith, inside))
+    any_none test (x ∷ rest) zero d inside none = both (test x) (list_any test rest) none
+      where
+        both : (b c : Bool) → (b || c) ≡ false → b ≡ false
+        both true c is = is
+        both false c is = refl
+    any_none test (x ∷ rest) (suc k) d inside none = any_none test rest k d (omega (arith, inside)) (both (test x) (list_any test rest) none)
+      where
+        both : (b c : Bool) → (b || c) ≡ false → c ≡ false
+        both true c is = absurd (true≢false is)
+        both false c is = is
+
+-- all are told where each place is
+pub read_all : (tree : List Item) (told : List Told) (names : List Named) → AreTold tree told → All (λ (name : Named). IsRead tree told name.place) names
+read_all tree told names tells k d inside within = words_alike (word_told told) (read_word tree) (get_or names k d).place (λ q l. (tells q (omega (arith, l, within))).word)
 
 -- the word right before a place, and those before it
 pub words_more : (word : ℕ → Option Text) (place inner : ℕ) (x : Text) → word_before word place ≡ Some x → inner + 1 ≡ place → words_before word place ≡ x ∷ words_before word inner

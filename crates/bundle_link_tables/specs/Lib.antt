@@ -7,3 +7,4 @@ pub mod Sources
 pub mod TablesOf
 pub mod Used
 pub mod Walked
+pub mod Within

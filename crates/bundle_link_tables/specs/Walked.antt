@@ -1,5 +1,5 @@
 -- What an entry of the table of denotations uses, by what is told of places.
-use Rattle.std.specs.Prelude.{◌≡◌, ℕ, zero, suc, Bool, true, false, ◌&&◌, is_some, List, [], ◌∷◌, ◌++◌, Option, Some, None, bytes_eq, map, slice_get, if◌then◌else◌}
+use Rattle.std.specs.Prelude.{◌≡◌, ℕ, zero, suc, ◌<◌, Bool, true, false, is_some, List, [], ◌∷◌, ◌++◌, Option, Some, None, bytes_eq, length, map, slice_get, if◌then◌else◌}
 use Rattle.std.specs.Borrow.{Bor}
 use Rattle.bundle_tree_piece.specs.Item as h
 use Rattle.bundle_tree_piece.specs.Item.{Item}
@@ -13,7 +13,11 @@ use Rattle.bundle_rules.specs.Nodes.{Text}
 use Rattle.bundle_tree_places.specs.declared.places.Told.{Told}
 use Rattle.bundle_link_tables.specs.declared.table.Import.{Import}
 use Rattle.bundle_link_tables.specs.declared.table.Use.{Use}
-use Rattle.bundle_tree_places.specs.Placed.{stated_told, word_told}
+use Rattle.bundle_link_tables.specs.declared.walk.Named.{Named}
+use Rattle.bundle_tree_places.specs.Placed.{word_told}
+use Rattle.bundle_tree_places.specs.Seconds.{is_member_item}
+use Rattle.bundle_rules.specs.Reads.{read_word}
+use Rattle.bundle_link_tables.specs.Free.{is_marked}
 use Rattle.bundle_link_tables.specs.Used.{UseEntry, begin_in_turn, places_by, use_by}
 use Rattle.indexmap.specs.IndexMap.{IndexMap, get_by}
 
@@ -55,20 +59,47 @@ abbrev pub symbol_if : (Text → Bool) → Option Item → List Text
 symbol_if test (Some (h.Ident field sym ctxt role)) = if test sym then sym ∷ [] else []
 symbol_if test _ = []
 
--- the imported name that an entry uses, if it uses one
-abbrev pub name_used : Denotations → (Text → Bool) → List Told → List Item → Denoted → List Text
-name_used table is_import told tree entry =
-    if is_own_number table entry.binding && stated_told told entry.place
+-- the imported name that an entry is of, if it is of one
+abbrev pub name_of : Denotations → (Text → Bool) → List Item → Denoted → List Text
+name_of table is_import tree entry =
+    if is_own_number table entry.binding
     then symbol_if is_import (slice_get tree entry.place)
     else []
+
+-- texts with a place
+abbrev pub pairs_at : ℕ → List Text → List (ℕ × Text)
+pairs_at place texts = map (λ (x : Text). (place, x)) texts
+
+-- the same, with its place
+abbrev pub names_by : Denotations → (Text → Bool) → List Item → Denoted → List (ℕ × Text)
+names_by table is_import tree entry = pairs_at entry.place (name_of table is_import tree entry)
+
+-- a name as its place and its text
+abbrev pub named_at : Named → ℕ × Text
+named_at name = (name.place, name.local.now)
+
+-- whether a member begins with an element, if there is one
+abbrev pub begins_member : Option Item → Bool
+begins_member None = false
+begins_member (Some x) = is_member_item x
+
+-- whether a member begins right before a place
+abbrev pub is_behind_member : List Item → ℕ → Bool
+is_behind_member tree zero = false
+is_behind_member tree (suc place) = begins_member (slice_get tree place)
+
+-- the words that are told around a place are those of the reads there
+abbrev pub IsRead : List Item → List Told → ℕ → Type 0
+IsRead tree told place = place < length tree → words_before (word_told told) place ≡ words_before (read_word tree) place
 
 -- the use of a name at a place
 abbrev pub named_use : List Told → ℕ → Text → UseEntry
 named_use told place x = record { place = place; local = x; words = words_before (word_told told) place }
 
--- the use that an entry is, if it is one
-abbrev pub uses_by : Denotations → (Text → Bool) → List Told → List Item → Denoted → List UseEntry
-uses_by table is_import told tree entry = map (named_use told entry.place) (name_used table is_import told tree entry)
+-- the use that a name is, if it is one
+abbrev pub uses_of_name : List Bool → List Told → Named → List UseEntry
+uses_of_name stated told name =
+    if is_marked stated name.place then named_use told name.place name.local.now ∷ [] else []
 
 -- uses, with the names of all reads, stand for these, whatever reads follow
 abbrev pub Says : List Text → List Use → List UseEntry → Type 0

@@ -1,10 +1,10 @@
 //! The names that imports and indirect exports ask of other modules.
 
 ghost use Rattle.std.specs.Prelude.{◌≡◌, ◌++◌, map, IfOk, OnOk};
-ghost use Rattle.std.specs.List.{flat_map};
+ghost use Rattle.std.specs.List.{flat_map, list_any};
 ghost use Rattle.bundle_rules.specs.Entries.{imports_of_item};
 ghost use Rattle.bundle_rules.specs.Faults.{asked_by_export, asked_by_import};
-ghost use Rattle.bundle_link_tables.specs.Asked.{asked_in};
+ghost use Rattle.bundle_link_tables.specs.Asked.{asked_in, is_given_on};
 ghost use Rattle.bundle_link_tables.specs.Exported.{import_by, named_by};
 ghost use Rattle.bundle_tree_places.specs.Parted.{part_items};
 ghost use Rattle.bundle_link_tables.specs.TablesOf.{asked_name_of, export_entry_of, import_entry_of};
@@ -16,9 +16,51 @@ use bundle_scope_denote::texts::TextMap;
 use bundle_tree_places::parts::Part;
 use std::alloc::{AllocError, Global};
 
-/// The names that a module's top items ask of other modules, in the order of the source. `locals` holds the first import of
-/// each name that imports bind.
-pub fn asked_of<'a>(
+/// The names that a module's top items ask of other modules, in the order of the source, where these are their imports and
+/// their exports. `locals` holds the first import of each name that imports bind. Where nothing is given on, the imports
+/// alone ask.
+pub(crate) fn asked_by<'a>(
+    alloc: Global,
+    tops: &[Part<'_, 'a>],
+    imports: &[Import<'a>],
+    exports: &[Export<'a>],
+    locals: &TextMap<&'a str, Import<'a>>,
+) -> Result<Vec<AskedName<'a>>, AllocError>
+    requires imports { map import_entry_of imports.now
+        ≡ flat_map imports_of_item (map part_items tops.now) }
+    requires exports { map export_entry_of exports.now
+        ≡ flat_map (named_by (import_by locals.now)) (map part_items tops.now) }
+    ensures { IfOk result (λ asked.
+        map asked_name_of asked.items
+        ≡ flat_map (asked_in (import_by locals.now)) (map part_items tops.now)) }
+{
+    if give_on(exports) {
+        return asked_of(alloc, tops, locals);
+    }
+    let mut asked = Vec::new(alloc);
+    add_all(&mut asked, imports)?;
+    Ok(asked)
+}
+
+// Whether one of these exports is given on from another module.
+fn give_on(exports: &[Export]) -> bool
+    ensures { result ≡ list_any (λ export. is_given_on (export_entry_of export)) exports.now }
+{
+    exports.iter().any(|export| is_indirect(*export))
+}
+
+// Whether an export is given on from another module.
+fn is_indirect(export: Export) -> bool
+    ensures { result ≡ is_given_on (export_entry_of export.entry) }
+{
+    match export.origin {
+        Origin::Local { .. } => false,
+        Origin::Indirect { .. } => true,
+    }
+}
+
+// The names that top items ask of other modules, item by item.
+fn asked_of<'a>(
     alloc: Global,
     tops: &[Part<'_, 'a>],
     locals: &TextMap<&'a str, Import<'a>>,
@@ -63,7 +105,17 @@ fn add_imported<'a>(
 {
     let mut imports = Vec::new(alloc);
     add_imports(alloc, &mut imports, item)?;
-    for import in &imports {
+    add_all(asked, &imports)
+}
+
+// Adds what imports ask for.
+fn add_all<'a>(asked: &mut Vec<AskedName<'a>>, imports: &[Import<'a>]) -> Result<(), AllocError>
+    ensures { OnOk result
+        (map asked_name_of asked.new.items
+        ≡ map asked_name_of asked.old.items
+        ++ flat_map asked_by_import (map import_entry_of imports.now)) }
+{
+    for import in imports {
         add_by_import(asked, *import)?;
     }
     Ok(())

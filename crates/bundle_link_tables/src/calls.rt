@@ -14,7 +14,7 @@ ghost use Rattle.bundle_link_tables.specs.Sources.{HasTexts};
 ghost use Rattle.bundle_link_tables.specs.TablesOf.{call_entry_of};
 ghost use Rattle.indexmap.specs.IndexSet.{contains_by};
 
-use crate::free::free_places;
+use crate::free::{free_places, is_marked};
 use crate::table::RequireCall;
 use bundle_scope_denote::Denotations;
 use bundle_scope_denote::texts::TextSet;
@@ -101,21 +101,11 @@ fn add_call<'a>(
         ++ call_at (is_marked free.now) place (required_at (map item_of pieces.now))) }
 {
     if let Some(specifier) = required_text(pieces) {
-        if is_free(free, place + 1) {
+        if is_marked(free, place + 1) {
             calls.push(RequireCall { place, specifier })?;
         }
     }
     Ok(())
-}
-
-// Whether a name stands free at a place.
-fn is_free(free: &[bool], place: usize) -> bool
-    ensures { result ≡ is_marked free.now place }
-{
-    match free.get(place) {
-        Some(is) => *is,
-        None => false,
-    }
 }
 
 // The text, where a list begins with `require('text')`.

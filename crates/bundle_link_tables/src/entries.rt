@@ -16,7 +16,7 @@ ghost use Rattle.bundle_link_tables.specs.Sources.{asked, has_external, star_in}
 ghost use Rattle.bundle_link_tables.specs.TablesOf as tables_of;
 ghost use Rattle.bundle_link_tables.specs.TablesOf.{asked_name_of, export_entry_of, import_entry_of};
 
-use crate::asked::asked_of;
+use crate::asked::asked_by;
 use crate::exports::exports_of;
 use crate::imports::{has_declaration, imports_of};
 use crate::listed::{Listed, listed_of};
@@ -114,7 +114,7 @@ fn entries_in<'a>(
 {
     let imports = imports_of(alloc, tops)?;
     let locals = locals_of(alloc, &imports)?;
-    let given = given_in(alloc, tops, &locals, external)?;
+    let given = given_in(alloc, tops, &imports, &locals, external)?;
     Ok(Entries {
         imports,
         locals,
@@ -123,13 +123,17 @@ fn entries_in<'a>(
     })
 }
 
-// What the top items of a module give and ask for. `locals` are the imports of the names that imports bind.
+// What the top items of a module give and ask for. `imports` are their imports, and `locals` those of the names that imports
+// bind.
 fn given_in<'a>(
     alloc: Global,
     tops: &[Part<'_, 'a>],
+    imports: &[Import<'a>],
     locals: &TextMap<&'a str, Import<'a>>,
     external: &TextSet<&str>,
 ) -> Result<Given<'a>, AllocError>
+    requires { map import_entry_of imports.now
+        ≡ flat_map imports_of_item (map part_items tops.now) }
     ensures exports { IfOk result (λ given.
         map export_entry_of given.exports.items
         ≡ flat_map (named_by (import_by locals.now)) (map part_items tops.now)) }
@@ -146,7 +150,7 @@ fn given_in<'a>(
         map listed_as given.listed.items ≡ flat_map names_listed (map part_items tops.now)) }
 {
     let exports = exports_of(alloc, tops, locals)?;
-    let asked = asked_of(alloc, tops, locals)?;
+    let asked = asked_by(alloc, tops, imports, &exports, locals)?;
     let stars = stars_of(alloc, tops)?;
     let sources = sources_of(alloc, tops, external)?;
     let listed = listed_of(alloc, tops)?;

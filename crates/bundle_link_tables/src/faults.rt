@@ -11,7 +11,6 @@ ghost use Rattle.bundle_link_tables.specs.Listed.{listed_as};
 ghost use Rattle.bundle_link_tables.specs.TablesOf.{export_entry_of, fault_in};
 ghost use Rattle.indexmap.specs.IndexSet.{contains_by};
 
-use crate::entries::Given;
 use crate::free::top_names;
 use crate::listed::Listed;
 use crate::table::{Export, TreeFault};
@@ -22,31 +21,33 @@ use bundle_tree_places::nodes::has_with;
 use std::alloc::{AllocError, Global};
 
 /// The first fault of a module by itself: a name that is exported twice, one in an export list without `from` that
-/// the top does not bind, or a `with` statement.
+/// the top does not bind, or a `with` statement, if one stands in it.
 #[tactic(auto, using(std::proofs::lemmas::Grind::common_steps, crate::proofs::ToldLemmas::told_doubled, crate::proofs::ToldLemmas::told_undeclared, crate::proofs::ToldLemmas::told_with, crate::proofs::ToldLemmas::told_none))]
 pub fn first_fault<'a>(
     alloc: Global,
     pieces: &[Piece<'a>],
     denotations: &Denotations<'a>,
-    given: &Given<'a>,
+    exports: &[Export<'a>],
+    listed: &[Listed<'a>],
+    has_with: bool,
 ) -> Result<Option<TreeFault<'a>>, AllocError>
     ensures { (file : Name) →
         IfOk result (λ fault.
         option_map (fault_in file) fault
         ≡ judged.first_fault file
-        (judged.doubled_name [] (map export_entry_of given.now.exports.items))
+        (judged.doubled_name [] (map export_entry_of exports.now))
         (judged.undeclared_name
         (λ x. has_text x (told_top_names denotations.now (map item_of pieces.now)))
-        (map listed_as given.now.listed.items))
-        (has_head is_with (map item_of pieces.now))) }
+        (map listed_as listed.now))
+        has_with) }
 {
-    if let Some(name) = doubled_name(alloc, &given.exports)? {
+    if let Some(name) = doubled_name(alloc, exports)? {
         return Ok(Some(TreeFault::DoubledExport { name }));
     }
-    if let Some(name) = unbound_name(alloc, pieces, denotations, &given.listed)? {
+    if let Some(name) = unbound_name(alloc, pieces, denotations, listed)? {
         return Ok(Some(TreeFault::UndeclaredExport { name }));
     }
-    if has_with(pieces) {
+    if has_with {
         return Ok(Some(TreeFault::With));
     }
     Ok(None)
@@ -57,16 +58,16 @@ pub fn first_fault<'a>(
 pub fn first_unlisted_fault<'a>(
     alloc: Global,
     pieces: &[Piece<'a>],
-    given: &Given<'a>,
+    exports: &[Export<'a>],
 ) -> Result<Option<TreeFault<'a>>, AllocError>
     ensures { (file : Name) →
         IfOk result (λ fault.
         option_map (fault_in file) fault
         ≡ judged.first_fault file
-        (judged.doubled_name [] (map export_entry_of given.now.exports.items)) None
+        (judged.doubled_name [] (map export_entry_of exports.now)) None
         (has_head is_with (map item_of pieces.now))) }
 {
-    if let Some(name) = doubled_name(alloc, &given.exports)? {
+    if let Some(name) = doubled_name(alloc, exports)? {
         return Ok(Some(TreeFault::DoubledExport { name }));
     }
     if has_with(pieces) {
@@ -76,11 +77,15 @@ pub fn first_unlisted_fault<'a>(
 }
 
 // The first name that an earlier export has.
+#[tactic(auto, using(std::proofs::lemmas::Grind::common_steps, crate::proofs::DoubledLemmas::few_undoubled))]
 fn doubled_name<'a>(alloc: Global, exports: &[Export<'a>]) -> Result<Option<&'a str>, AllocError>
     ensures { IfOk result (λ found.
         option_map (λ name. name.now) found
         ≡ judged.doubled_name [] (map export_entry_of exports.now)) }
 {
+    if exports.len() < 2 {
+        return Ok(None);
+    }
     let mut met = TextSet::new(alloc);
     for export in exports {
         if (&met).contains(&export.name) {

@@ -39,6 +39,16 @@ pub fn free_places(
     Ok(free)
 }
 
+/// Whether a place is marked.
+pub fn is_marked(marks: &[bool], place: usize) -> bool
+    ensures { result ≡ Free.is_marked marks.now place }
+{
+    match marks.get(place) {
+        Some(is) => *is,
+        None => false,
+    }
+}
+
 // Marks the place of an entry that denotes a global.
 #[tactic(auto, using(std::proofs::lemmas::Grind::common_steps, crate::proofs::MarkLemmas::marked_one, crate::proofs::MarkLemmas::marked_none, crate::proofs::MarkLemmas::marked_past))]
 fn mark_free(free: &mut Vec<bool>, occurrence: Denoted)

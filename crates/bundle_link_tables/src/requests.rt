@@ -7,7 +7,7 @@ ghost use Rattle.bundle_rules.specs.Bound.{is_free};
 ghost use Rattle.bundle_rules.specs.Declarations.{BySymbol};
 ghost use Rattle.bundle_rules.specs.Entries as the_entries;
 ghost use Rattle.bundle_rules.specs.Entries.{Settings, requests_of};
-ghost use Rattle.bundle_rules.specs.Faults.{listed_names, IsFaultless, IsFirstTreeFault};
+ghost use Rattle.bundle_rules.specs.Faults.{entry_name, listed_names, IsFaultless, IsFirstTreeFault};
 ghost use Rattle.bundle_rules.specs.Scopes.{Es};
 ghost use Rattle.bundle_rules.specs.Tables.{is_star};
 ghost use Rattle.bundle_scope_denote.specs.Listed.{IsTable};
@@ -16,13 +16,14 @@ ghost use Rattle.bundle_link_tables.specs.Sources.{HasTexts};
 ghost use Rattle.bundle_link_tables.specs.TablesOf.{call_entry_of, export_entry_of, fault_in};
 
 use crate::calls::linked_calls;
-use crate::entries::{Given, entries_of};
 use crate::faults::{first_fault, first_unlisted_fault};
+use crate::outline::{Outline, outline_of};
 use crate::table::{RequireCall, TreeFault};
 use crate::tables::{requests, texts};
 use bundle_scope_denote::texts::TextSet;
 use bundle_scope_denote::{Denotations, ModuleKind, Reading, denotations};
 use bundle_tree_piece::Piece;
+use bundle_tree_places::nodes::has_with;
 use std::alloc::{AllocError, Global};
 
 /// What a module asks to be loaded, each text once, or the first fault of the module by itself: what its tables tell
@@ -47,25 +48,27 @@ pub fn requests_in<'a>(
         (λ fault. IsFirstTreeFault file (map item_of pieces.now) (fault_in file fault))) }
 {
     let external = texts(alloc, external)?;
-    let entries = entries_of(alloc, pieces, &external)?;
-    let judged = calls_in(alloc, pieces, require, &external, &entries.given)?;
+    let outline = outline_of(alloc, pieces, &external)?;
+    let judged = calls_in(alloc, pieces, require, &external, &outline)?;
     match judged {
-        Ok(calls) => Ok(Ok(requests(alloc, &entries.given, &calls)?)),
+        Ok(calls) => Ok(Ok(requests(alloc, &outline.sources, &calls)?)),
         Err(fault) => Ok(Err(fault)),
     }
 }
 
-// The literal calls of `require` that are linked, or the first fault, where this is what the module gives.
+// The literal calls of `require` that are linked, or the first fault, where this is what the module gives and asks for.
 fn calls_in<'a>(
     alloc: Global,
     pieces: &[Piece<'a>],
     require: bool,
     external: &TextSet<&str>,
-    given: &Given<'a>,
+    outline: &Outline<'a>,
 ) -> Result<Result<Vec<RequireCall<'a>>, TreeFault<'a>>, AllocError>
-    requires exports { map export_entry_of given.now.exports.items
-        ≡ filter (λ entry. not (is_star entry)) (the_entries.exports_of (map item_of pieces.now)) }
-    requires listed { map listed_as given.now.listed.items ≡ listed_names (map item_of pieces.now) }
+    requires names { map entry_name (map export_entry_of outline.now.exports.items)
+        ≡ map entry_name
+        (filter (λ entry. not (is_star entry)) (the_entries.exports_of (map item_of pieces.now))) }
+    requires listed { map listed_as outline.now.listed.items
+        ≡ listed_names (map item_of pieces.now) }
     ensures calls { IfOk result (λ answer.
         IfOk answer (λ calls.
         (settings : Settings) →
@@ -79,21 +82,22 @@ fn calls_in<'a>(
         MatchResult answer (λ calls. IsFaultless file (map item_of pieces.now))
         (λ fault. IsFirstTreeFault file (map item_of pieces.now) (fault_in file fault))) }
 {
-    if given.listed.is_empty() && !require {
-        return no_calls(alloc, pieces, given);
+    if outline.listed.is_empty() && !require {
+        return no_calls(alloc, pieces, outline);
     }
     let names = denotations(alloc, pieces, ModuleKind::Es, Reading::BySymbol)?;
-    calls_by(alloc, pieces, &names, require, external, given)
+    calls_by(alloc, pieces, &names, require, external, outline)
 }
 
 // No calls, or the first fault, where no list of exports without `from` stands in the module.
 fn no_calls<'a>(
     alloc: Global,
     pieces: &[Piece<'a>],
-    given: &Given<'a>,
+    outline: &Outline<'a>,
 ) -> Result<Result<Vec<RequireCall<'a>>, TreeFault<'a>>, AllocError>
-    requires exports { map export_entry_of given.now.exports.items
-        ≡ filter (λ entry. not (is_star entry)) (the_entries.exports_of (map item_of pieces.now)) }
+    requires names { map entry_name (map export_entry_of outline.now.exports.items)
+        ≡ map entry_name
+        (filter (λ entry. not (is_star entry)) (the_entries.exports_of (map item_of pieces.now))) }
     requires unlisted { listed_names (map item_of pieces.now) ≡ [] }
     ensures calls { IfOk result (λ answer. IfOk answer (λ calls. calls.items ≡ [])) }
     ensures judged { IfOk result (λ answer.
@@ -101,7 +105,7 @@ fn no_calls<'a>(
         MatchResult answer (λ calls. IsFaultless file (map item_of pieces.now))
         (λ fault. IsFirstTreeFault file (map item_of pieces.now) (fault_in file fault))) }
 {
-    let first = first_unlisted_fault(alloc, pieces, given)?;
+    let first = first_unlisted_fault(alloc, pieces, &outline.exports)?;
     match first {
         Some(fault) => Ok(Err(fault)),
         None => Ok(Ok(Vec::new(alloc))),
@@ -115,12 +119,14 @@ fn calls_by<'a>(
     names: &Denotations<'a>,
     require: bool,
     external: &TextSet<&str>,
-    given: &Given<'a>,
+    outline: &Outline<'a>,
 ) -> Result<Result<Vec<RequireCall<'a>>, TreeFault<'a>>, AllocError>
     requires table { IsTable BySymbol Es (map item_of pieces.now) names.now }
-    requires exports { map export_entry_of given.now.exports.items
-        ≡ filter (λ entry. not (is_star entry)) (the_entries.exports_of (map item_of pieces.now)) }
-    requires listed { map listed_as given.now.listed.items ≡ listed_names (map item_of pieces.now) }
+    requires names { map entry_name (map export_entry_of outline.now.exports.items)
+        ≡ map entry_name
+        (filter (λ entry. not (is_star entry)) (the_entries.exports_of (map item_of pieces.now))) }
+    requires listed { map listed_as outline.now.listed.items
+        ≡ listed_names (map item_of pieces.now) }
     ensures calls { IfOk result (λ answer.
         IfOk answer (λ calls.
         (settings : Settings) →
@@ -134,7 +140,14 @@ fn calls_by<'a>(
         MatchResult answer (λ calls. IsFaultless file (map item_of pieces.now))
         (λ fault. IsFirstTreeFault file (map item_of pieces.now) (fault_in file fault))) }
 {
-    let first = first_fault(alloc, pieces, names, given)?;
+    let first = first_fault(
+        alloc,
+        pieces,
+        names,
+        &outline.exports,
+        &outline.listed,
+        has_with(pieces),
+    )?;
     match first {
         Some(fault) => Ok(Err(fault)),
         None => Ok(Ok(linked_calls(alloc, pieces, names, require, external)?)),

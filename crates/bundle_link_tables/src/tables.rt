@@ -21,7 +21,7 @@ ghost use Rattle.bundle_link_tables.specs.Used.{begin_in_turn, read_places, use_
 ghost use Rattle.bundle_link_tables.specs.TablesOf.{asked_name_of, call_entry_of, export_entry_of, fault_in, import_entry_of, uses_common_js};
 
 use crate::calls::linked_calls;
-use crate::entries::{Entries, Given, entries_of};
+use crate::entries::{Entries, entries_of};
 use crate::faults::first_fault;
 use crate::free::{has_free, names_common_js};
 use crate::table::{RequireCall, Source, Tables, TreeFault};
@@ -29,8 +29,7 @@ use crate::walk::{Found, found_in};
 use bundle_scope_denote::Denotations;
 use bundle_scope_denote::texts::TextSet;
 use bundle_tree_piece::Piece;
-use bundle_tree_places::awaits_outside;
-use bundle_tree_places::nodes::has_import_meta;
+use bundle_tree_places::rare::{Rare, rare_in};
 use std::alloc::{AllocError, Global};
 
 /// The tables of a module, or the first fault of the module by itself: exports that are doubled are judged before
@@ -114,12 +113,21 @@ pub fn tables_of<'a>(
 {
     let external = texts(alloc, external)?;
     let entries = entries_of(alloc, pieces, &external)?;
-    let first = first_fault(alloc, pieces, denotations, &entries.given)?;
+    let rare = rare_in(alloc, pieces)?;
+    let given = &entries.given;
+    let first = first_fault(
+        alloc,
+        pieces,
+        denotations,
+        &given.exports,
+        &given.listed,
+        rare.with,
+    )?;
     if let Some(fault) = first {
         return Ok(Err(fault));
     }
     let made = made_of(alloc, pieces, denotations, require, &external, &entries)?;
-    Ok(Ok(put_together(pieces, denotations, entries, made)))
+    Ok(Ok(put_together(pieces, denotations, entries, made, rare)))
 }
 
 /// The texts, each once.
@@ -140,7 +148,6 @@ struct Made<'a> {
     requests: Vec<&'a str>,
     stars: Vec<&'a str>,
     found: Found<'a>,
-    awaits: bool,
 }
 
 // What the tables of a module have beside what it imports and gives.
@@ -166,8 +173,6 @@ fn made_of<'a>(
         (unexternal entries.now.given.sources.items
         ++ map (λ call. call.specifier.now) made.calls.items)) }
     ensures stars { IfOk result (λ made. made.stars.items ≡ entries.now.given.stars.keys) }
-    ensures awaits { IfOk result (λ made.
-        made.awaits ≡ Awaits.awaits_outside (map item_of pieces.now)) }
     ensures reads { IfOk result (λ made.
         map (read_places made.found.reads.items) made.found.uses.items
         ≡ map begin_in_turn made.found.uses.items) }
@@ -177,9 +182,8 @@ fn made_of<'a>(
         map (use_entry_of made.found.reads.items) made.found.uses.items
         ≡ uses_of (map item_of pieces.now)) }
 {
-    let awaits = awaits_outside(alloc, pieces)?;
     let calls = linked_calls(alloc, pieces, denotations, require, external)?;
-    let requests = requests(alloc, &entries.given, &calls)?;
+    let requests = requests(alloc, &entries.given.sources, &calls)?;
     let stars = entries
         .given
         .stars
@@ -193,7 +197,6 @@ fn made_of<'a>(
         requests,
         stars,
         found,
-        awaits,
     })
 }
 
@@ -203,8 +206,9 @@ fn put_together<'a>(
     denotations: &Denotations<'a>,
     entries: Entries<'a>,
     made: Made<'a>,
+    rare: Rare,
 ) -> Tables<'a>
-    ensures meta { result.has_import_meta ≡ the_entries.has_import_meta (map item_of pieces.now) }
+    ensures meta { result.has_import_meta ≡ rare.import_meta }
     ensures imports { result.imports.items ≡ entries.entry.imports.items }
     ensures exports { result.exports.items ≡ entries.entry.given.exports.items }
     ensures asked { result.asked.items ≡ entries.entry.given.asked.items }
@@ -213,9 +217,8 @@ fn put_together<'a>(
     ensures sources { result.sources.items ≡ entries.entry.given.sources.items }
     ensures stars { result.stars.items ≡ made.entry.stars.items }
     ensures script { result.is_script
-        ≡ (not entries.entry.is_declared_module
-        && not (the_entries.has_import_meta (map item_of pieces.now))) }
-    ensures awaits { result.awaits ≡ made.entry.awaits }
+        ≡ (not entries.entry.is_declared_module && not rare.import_meta) }
+    ensures awaits { result.awaits ≡ rare.awaits }
     ensures reads { result.reads.items ≡ made.entry.found.reads.items }
     ensures uses { result.uses.items ≡ made.entry.found.uses.items }
     ensures common_js { IsTable BySymbol Es (map item_of pieces.now) denotations.now →
@@ -223,7 +226,6 @@ fn put_together<'a>(
     ensures arguments { IsTable BySymbol Es (map item_of pieces.now) denotations.now →
         result.has_free_arguments ≡ bound.has_free (map item_of pieces.now) (codes "arguments") }
 {
-    let has_import_meta = has_import_meta(pieces);
     let Entries {
         imports,
         given,
@@ -241,10 +243,10 @@ fn put_together<'a>(
         calls: made.calls,
         uses,
         reads,
-        is_script: !is_declared_module && !has_import_meta,
-        has_import_meta,
+        is_script: !is_declared_module && !rare.import_meta,
+        has_import_meta: rare.import_meta,
         names_common_js: names_common_js(pieces, denotations),
-        awaits: made.awaits,
+        awaits: rare.awaits,
         has_free_arguments: has_free(pieces, denotations, "arguments"),
     }
 }
@@ -252,16 +254,19 @@ fn put_together<'a>(
 /// What a module asks to be loaded: what is not external, and the literal calls that are linked, each text once.
 pub(crate) fn requests<'a>(
     alloc: Global,
-    given: &Given<'a>,
+    sources: &[Source<'a>],
     calls: &[RequireCall<'a>],
 ) -> Result<Vec<&'a str>, AllocError>
     ensures { IfOk result (λ requests.
         map (λ request. request.now) requests.items
         ≡ each_once
-        (unexternal given.now.sources.items ++ map (λ call. call.specifier.now) calls.now)) }
+        (unexternal sources.now ++ map (λ call. call.specifier.now) calls.now)) }
 {
+    if calls.is_empty() && sources.len() < 2 {
+        return only_request(alloc, sources);
+    }
     let mut texts = TextSet::new(alloc);
-    for source in &given.sources {
+    for source in sources {
         add_request(&mut texts, *source)?;
     }
     for call in calls {
@@ -270,7 +275,32 @@ pub(crate) fn requests<'a>(
     texts.as_slice().iter().copied().collect(alloc)
 }
 
+// What one import or export asks for, or none, unless it is external.
+fn only_request<'a>(alloc: Global, sources: &[Source<'a>]) -> Result<Vec<&'a str>, AllocError>
+    ensures { IfOk result (λ requests.
+        map (λ request. request.now) requests.items ≡ unexternal sources.now) }
+{
+    let mut requests = Vec::new(alloc);
+    for source in sources {
+        add_unexternal(&mut requests, *source)?;
+    }
+    Ok(requests)
+}
+
 // Adds what an import or an export asks for, unless it is external.
+#[tactic(auto, using(std::proofs::lemmas::Grind::common_steps, crate::proofs::SourceLemmas::asked_here, crate::proofs::SourceLemmas::asked_outside))]
+fn add_unexternal<'a>(requests: &mut Vec<&'a str>, source: Source<'a>) -> Result<(), AllocError>
+    ensures { OnOk result
+        (map (λ request. request.now) requests.new.items
+        ≡ map (λ request. request.now) requests.old.items ++ unexternal_one source.entry) }
+{
+    if !source.is_external {
+        requests.push(source.specifier)?;
+    }
+    Ok(())
+}
+
+// Adds what an import or an export asks for to texts of which each stands once, unless it is external.
 fn add_request<'a>(texts: &mut TextSet<&'a str>, source: Source<'a>) -> Result<(), AllocError>
     ensures { (seen : List Text) →
         map (λ key. key.now) texts.old.keys ≡ each_once seen →

@@ -1,6 +1,7 @@
 //! What the statements of a module use: imported names with the reads around them.
 
 ghost use Rattle.std.specs.Prelude.{◌≡◌, ◌<◌, ◌++◌, [], ◌∷◌, List, IfOk, IfSome, OnOk, length, map, slice_get};
+ghost use Rattle.std.specs.List.{All, flat_map, list_any};
 ghost use Rattle.bundle_tree_piece.specs.Item.{item_of};
 ghost use Rattle.bundle_rules.specs.Declarations.{BySymbol};
 ghost use Rattle.bundle_rules.specs.Scopes.{Es};
@@ -11,12 +12,15 @@ ghost use Rattle.bundle_tree_places.specs.Placed as placed;
 ghost use Rattle.bundle_tree_places.specs.Seconds.{text_of};
 ghost use Rattle.bundle_link_tables.specs.Used.{UseEntry, begin_in_turn, name_read, place_read, places_before, read_places, use_entry_of, uses_of};
 ghost use Rattle.bundle_link_tables.specs.Walked as walked;
-ghost use Rattle.bundle_link_tables.specs.Walked.{Begin, Says, has_import, is_own_binding, named_use, symbol_if, words_before};
+ghost use Rattle.bundle_link_tables.specs.Walked.{Begin, IsRead, Says, has_import, is_behind_member, is_own_binding, named_at, named_use, names_by, pairs_at, symbol_if, uses_of_name, words_before};
+ghost use Rattle.bundle_link_tables.specs.Within.{IsStated};
 
+use crate::free::is_marked;
+use crate::stated::stated_places;
 use crate::table::{Import, Read, Use};
 use bundle_scope_denote::texts::TextMap;
 use bundle_scope_denote::{Denotations, Denoted, Scope, ScopeKind};
-use bundle_tree_piece::Piece;
+use bundle_tree_piece::{Node, Piece};
 use bundle_tree_places::places::{Told, told_places};
 use std::alloc::{AllocError, Global};
 
@@ -25,6 +29,13 @@ use std::alloc::{AllocError, Global};
 pub struct Found<'a> {
     pub uses: Vec<Use<'a>>,
     pub reads: Vec<Read<'a>>,
+}
+
+/// A name that an import binds, and the place where it stands.
+#[derive(Clone, Copy)]
+pub struct Named<'a> {
+    place: usize,
+    local: &'a str,
 }
 
 /// What the statements of a module use. `imports` are the names that its imports bind.
@@ -43,31 +54,129 @@ pub fn found_in<'a>(
         map (use_entry_of found.reads.items) found.uses.items
         ≡ uses_of (map item_of pieces.now)) }
 {
-    let told = told_places(alloc, pieces)?;
+    let names = names_in(alloc, pieces, denotations, imports)?;
+    let stated = stated_for(alloc, pieces, &names)?;
+    let told = told_for(alloc, pieces, &names)?;
     let mut found = Found {
         uses: Vec::new(alloc),
         reads: Vec::new(alloc),
     };
-    for entry in &denotations.occurrences {
-        let name = name_used(pieces, denotations, imports, &told, *entry);
-        add_named(&mut found, &told, entry.place, name)?;
+    for name in &names {
+        add_named(&mut found, &stated, &told, *name)?;
     }
     Ok(found)
 }
 
-// The imported name that an entry uses, if it uses one.
-fn name_used<'a>(
+// The names that imports bind, wherever they stand, in the order of the source.
+fn names_in<'a>(
+    alloc: Global,
     pieces: &[Piece<'a>],
     denotations: &Denotations<'a>,
     imports: &TextMap<&'a str, Import<'a>>,
-    told: &[Told<'a>],
+) -> Result<Vec<Named<'a>>, AllocError>
+    ensures { IfOk result (λ names.
+        map named_at names.items
+        ≡ flat_map (names_by denotations.now (has_import imports.now) (map item_of pieces.now))
+        denotations.now.occurrences.items) }
+{
+    let mut names = Vec::new(alloc);
+    for entry in &denotations.occurrences {
+        let name = name_of(pieces, denotations, imports, *entry);
+        add_name(&mut names, entry.place, name)?;
+    }
+    Ok(names)
+}
+
+// Adds a name at a place, if there is one.
+fn add_name<'a>(
+    names: &mut Vec<Named<'a>>,
+    place: usize,
+    name: Option<&'a str>,
+) -> Result<(), AllocError>
+    ensures { OnOk result
+        (map named_at names.new.items
+        ≡ map named_at names.old.items ++ pairs_at place (text_list name.entry)) }
+{
+    if let Some(local) = name {
+        names.push(Named { place, local })?;
+    }
+    Ok(())
+}
+
+// Of the places of these names, whether they lie in a top item that states something.
+fn stated_for<'a>(
+    alloc: Global,
+    pieces: &[Piece<'a>],
+    names: &[Named<'a>],
+) -> Result<Vec<bool>, AllocError>
+    ensures { IfOk result (λ stated.
+        All (λ name. IsStated (map item_of pieces.now) stated.items name.place) names.now) }
+{
+    if names.is_empty() {
+        return Ok(Vec::new(alloc));
+    }
+    let stated = stated_places(alloc, pieces)?;
+    Ok(stated)
+}
+
+// What is told of the places around these names; where none of them is read of, nothing has to be.
+fn told_for<'a>(
+    alloc: Global,
+    pieces: &[Piece<'a>],
+    names: &[Named<'a>],
+) -> Result<Vec<Told<'a>>, AllocError>
+    ensures { IfOk result (λ told.
+        All (λ name. IsRead (map item_of pieces.now) told.items name.place) names.now) }
+{
+    if are_read(pieces, names) {
+        let told = told_places(alloc, pieces)?;
+        return Ok(told);
+    }
+    Ok(Vec::new(alloc))
+}
+
+// Whether one of these names stands right behind where a member begins.
+fn are_read(pieces: &[Piece], names: &[Named]) -> bool
+    ensures { result
+        ≡ list_any (λ name. is_behind_member (map item_of pieces.now) name.place) names.now }
+{
+    names.iter().any(|name| is_read(pieces, name.place))
+}
+
+// Whether a member begins right before a place.
+fn is_read(pieces: &[Piece], place: usize) -> bool
+    ensures { result ≡ is_behind_member (map item_of pieces.now) place }
+{
+    place > 0 && begins_member(pieces, place - 1)
+}
+
+// Whether a member begins at a place.
+#[tactic(auto, using(std::proofs::lemmas::Grind::common_steps, std::proofs::lemmas::Option::gets, crate::proofs::MarkLemmas::get_mapped))]
+fn begins_member(pieces: &[Piece], place: usize) -> bool
+    ensures { result ≡ walked.begins_member (slice_get (map item_of pieces.now) place) }
+{
+    match pieces.get(place) {
+        Some(
+            Piece::Open {
+                node: Node::MemberExpr,
+                ..
+            },
+        ) => true,
+        _ => false,
+    }
+}
+
+// The imported name that an entry is of, if it is of one.
+fn name_of<'a>(
+    pieces: &[Piece<'a>],
+    denotations: &Denotations<'a>,
+    imports: &TextMap<&'a str, Import<'a>>,
     entry: Denoted,
 ) -> Option<&'a str>
     ensures { text_list result
-        ≡ walked.name_used denotations.now (has_import imports.now) told.now
-        (map item_of pieces.now) entry }
+        ≡ walked.name_of denotations.now (has_import imports.now) (map item_of pieces.now) entry }
 {
-    if is_own_number(denotations, entry.binding) && stated_told(told, entry.place) {
+    if is_own_number(denotations, entry.binding) {
         imported_at(pieces, imports, entry.place)
     } else {
         None
@@ -132,17 +241,6 @@ fn is_own_scope(scopes: &[Scope], number: usize) -> bool
     }
 }
 
-// Whether a place lies in a top item that states something, as it is told.
-fn stated_told<'a>(told: &[Told<'a>], place: usize) -> bool
-    ensures { result ≡ placed.stated_told told.now place }
-{
-    if place < told.len() {
-        told[place].is_stated
-    } else {
-        false
-    }
-}
-
 // The word that is told of a place.
 fn word_told<'a>(told: &[Told<'a>], place: usize) -> Option<&'a str>
     ensures { text_of result ≡ placed.word_told told.now place }
@@ -154,12 +252,12 @@ fn word_told<'a>(told: &[Told<'a>], place: usize) -> Option<&'a str>
     }
 }
 
-// Notes a use of a name, if there is one.
+// Notes a use of a name, if it stands in a top item that states something.
 fn add_named<'a>(
     found: &mut Found<'a>,
+    stated: &[bool],
     told: &[Told<'a>],
-    place: usize,
-    name: Option<&'a str>,
+    name: Named<'a>,
 ) -> Result<(), AllocError>
     ensures places { OnOk result
         (Begin (map place_read found.old.reads.items) found.old.uses.items →
@@ -168,12 +266,12 @@ fn add_named<'a>(
         ((entries : List UseEntry) →
         Says (map name_read found.old.reads.items) found.old.uses.items entries →
         Says (map name_read found.new.reads.items) found.new.uses.items
-        (entries ++ map (named_use told.now place) (text_list name.entry))) }
+        (entries ++ uses_of_name stated.now told.now name.entry)) }
 {
-    match name {
-        Some(local) => add_use(found, told, place, local),
-        None => Ok(()),
+    if is_marked(stated, name.place) {
+        add_use(found, told, name.place, name.local)?;
     }
+    Ok(())
 }
 
 // Notes a use of an imported name, with the reads around it.

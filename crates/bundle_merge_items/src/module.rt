@@ -5,12 +5,11 @@ ghost use Rattle.std.specs.Prelude.{◌≡◌, ◌++◌, ◌∷◌, ℕ, Bool, L
 ghost use Rattle.bundle_rules.specs.Meaning.{HasKind};
 ghost use Rattle.bundle_rules.specs.Program.{IsReached, Program};
 ghost use Rattle.bundle_rules.specs.Scopes.{Es, ModuleKind};
-ghost use Rattle.bundle_tree_piece.specs.Item as h;
 ghost use Rattle.bundle_tree_piece.specs.Item.{Item, item_of};
 ghost use Rattle.bundle_tree_places.specs.Marks.{ident_of};
 ghost use Rattle.bundle_tree_places.specs.Parted.{part_items};
 ghost use Rattle.bundle_tree_ast.specs.declared.stmt.Stmt as tree;
-ghost use Rattle.bundle_tree_listed.specs.Tree.{module_item_items, node, option_items, stmt_items};
+ghost use Rattle.bundle_tree_listed.specs.Tree.{module_item_items, option_items, stmt_items};
 ghost use Rattle.bundle_tree_rewrite.specs.Stated.{States};
 ghost use Rattle.bundle_merge_whole.specs.made.Given as given;
 ghost use Rattle.bundle_merge_whole.specs.planned.Decided.{module_plan};
@@ -29,8 +28,8 @@ use bundle_link_targets::Loaded;
 use bundle_merge_injected::{LoadNames, constant, load_function};
 use bundle_merge_names::{Answered, Body, BundleParts, Label, Names, Part, body_of, own_names};
 use bundle_tree_ast::{ExportMetadata, Module, ModuleItem, Stmt};
-use bundle_tree_list::pieces;
-use bundle_tree_piece::{Node, Piece, Role};
+use bundle_tree_list::pieces_of_body;
+use bundle_tree_piece::{Piece, Role};
 use bundle_tree_places::{Name, parts};
 use bundle_tree_rebuild::Rewrite;
 use bundle_tree_rewrite::{Rewriting, rebuild_item, rewritten_object, stated_item};
@@ -223,28 +222,11 @@ fn own_statements<'a>(
         HasKind q «module» kind →
         AreStatedAs q list context «module» kind (map (stmt_items 0) own.items)) }
 {
-    let list = list_of(alloc, part.own_items())?;
+    let list = pieces_of_body(alloc, part.own_items())?;
     let body = body_of(alloc, part, &list, module, bundle.linking, names)?;
     let default = names.local(module, "default");
     let nodes = parts::top_items(alloc, &list)?;
     stated_items(alloc, part.own_items(), &nodes, &body, default)
-}
-
-// The list of a module of these items.
-fn list_of<'a>(alloc: Global, items: &'a [ModuleItem]) -> Result<Vec<Piece<'a>>, AllocError>
-    ensures { IfOk result (λ list. map item_of list.items
-        ≡ node 0 h.Module (flat_map (module_item_items 0) items.now)) }
-{
-    let mut list = pieces(alloc, items)?;
-    list.insert(
-        0,
-        Piece::Open {
-            field: 0,
-            node: Node::Module,
-        },
-    )?;
-    list.push(Piece::Close)?;
-    Ok(list)
 }
 
 // What items state in turn, where these are the nodes of their list.

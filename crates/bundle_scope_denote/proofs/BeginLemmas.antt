@@ -8,13 +8,14 @@ use Rattle.bundle_scope_denote.specs.declared.table.ScopeKind.TheVariants as k
 use Rattle.bundle_scope_denote.specs.declared.table.Way.TheVariants as w
 use Rattle.bundle_scope_denote.specs.declared.walk.Declaration.{Declaration}
 use Rattle.bundle_scope_denote.specs.declared.walk.Occurrence.{Occurrence}
+use Rattle.bundle_scope_denote.specs.declared.walk.Nodes.{Nodes}
 use Rattle.bundle_scope_denote.specs.declared.walk.Open.{Open}
 use Rattle.bundle_scope_denote.specs.declared.walk.Walk.{Walk}
 use Rattle.bundle_scope_denote.specs.Kinds.{kind_as, reading_as, is_field}
 use Rattle.bundle_scope_denote.specs.Numbers.{Numbered, AreAround, Keeps, name_as, numbered}
 use Rattle.bundle_scope_denote.specs.Chains.{top_number}
 use Rattle.bundle_scope_denote.specs.Walked.{IsAt, IsAlone, IsDeclared, IsInnermost, StaysOnce, scope_within}
-use Rattle.bundle_scope_denote.specs.Steps.{IsBlank, Starts, Stays, scopes_of, names_of}
+use Rattle.bundle_scope_denote.specs.Steps.{IsBlank, Starts, Stays, scopes_of, names_of, one_by_one, repeated}
 use Rattle.bundle_scope_denote.proofs.TidyLemmas.{tidy-module, tidy-wrapped, once-none}
 
 -- the scopes of a CommonJS module outside all nodes
@@ -85,19 +86,20 @@ begins_outside reading items names later first second inner is_first keeps is_se
 }
 
 -- the same of a walk whose tables these are
-at_first : (reading : d.Reading) (kind is : s.ModuleKind) (items : List Item) (scopes table : List Numbered) (names : List d.Name) (declarations first : List Declaration) (occurrences : List Occurrence) (inner : Open) (outer : List Open) (top number : ℕ) → kind ≡ is → scopes ≡ table → declarations ≡ first → occurrences ≡ [] → outer ≡ [] → top ≡ number → IsAt reading is items 0 table names first [] (inner ∷ []) number → IsAt reading kind items 0 scopes names declarations occurrences (inner ∷ reverse outer) top
-at_first reading kind is items scopes table names declarations first occurrences inner outer top number is_kind is_table is_first is_none is_outer is_number at =
-    subst (λ k. IsAt reading k items 0 scopes names declarations occurrences (inner ∷ reverse outer) top) (back is_kind)
-    (subst (λ l. IsAt reading is items 0 l names declarations occurrences (inner ∷ reverse outer) top) (back is_table)
-    (subst (λ l. IsAt reading is items 0 table names l occurrences (inner ∷ reverse outer) top) (back is_first)
-    (subst (λ l. IsAt reading is items 0 table names first l (inner ∷ reverse outer) top) (back is_none)
-    (subst (λ l. IsAt reading is items 0 table names first [] (inner ∷ reverse l) top) (back is_outer)
-    (subst (λ n. IsAt reading is items 0 table names first [] (inner ∷ []) n) (back is_number) at)))))
+at_first : (reading : d.Reading) (kind is : s.ModuleKind) (items : List Item) (scopes table : List Numbered) (names : List d.Name) (declarations first : List Declaration) (occurrences : List Occurrence) (inner : Open) (more : ℕ) (outer : List Nodes) (top number : ℕ) → kind ≡ is → scopes ≡ table → declarations ≡ first → occurrences ≡ [] → more ≡ 0 → outer ≡ [] → top ≡ number → IsAt reading is items 0 table names first [] (inner ∷ []) number → IsAt reading kind items 0 scopes names declarations occurrences (repeated more inner (inner ∷ one_by_one (reverse outer))) top
+at_first reading kind is items scopes table names declarations first occurrences inner more outer top number is_kind is_table is_first is_none is_more is_outer is_number at =
+    subst (λ k. IsAt reading k items 0 scopes names declarations occurrences (repeated more inner (inner ∷ one_by_one (reverse outer))) top) (back is_kind)
+    (subst (λ l. IsAt reading is items 0 l names declarations occurrences (repeated more inner (inner ∷ one_by_one (reverse outer))) top) (back is_table)
+    (subst (λ l. IsAt reading is items 0 table names l occurrences (repeated more inner (inner ∷ one_by_one (reverse outer))) top) (back is_first)
+    (subst (λ l. IsAt reading is items 0 table names first l (repeated more inner (inner ∷ one_by_one (reverse outer))) top) (back is_none)
+    (subst (λ n. IsAt reading is items 0 table names first [] (repeated n inner (inner ∷ one_by_one (reverse outer))) top) (back is_more)
+    (subst (λ l. IsAt reading is items 0 table names first [] (inner ∷ one_by_one (reverse l)) top) (back is_outer)
+    (subst (λ n. IsAt reading is items 0 table names first [] (inner ∷ []) n) (back is_number) at))))))
 
 -- an ECMAScript module begins
-pub starts_top : (old new : Walk) → IsBlank old → kind_as old.kind ≡ s.Es → scopes_of new ≡ scopes_of old ++ record { scope = s.Top; outer = None } ∷ [] → names_of new ≡ names_of old → new.declarations.items ≡ old.declarations.items → new.occurrences.items ≡ old.occurrences.items → new.inner ≡ old.inner → new.outer.items ≡ old.outer.items → Stays old new → Starts old new
-starts_top old new blank kind scopes names declarations occurrences inner outer stays = record {
-  is_at = λ items. at_first (reading_as new.reading) (kind_as new.kind) s.Es items (scopes_of new) top_alone (names_of new) new.declarations.items [] new.occurrences.items new.inner new.outer.items new.top 0 (ap kind_as stays.kind ∙ kind) table (declarations ∙ blank.declarations) (occurrences ∙ blank.occurrences) (outer ∙ blank.outer) (stays.top ∙ blank.top ∙ ap top_number kind) (begins_alone (reading_as new.reading) items (names_of new) new.inner (subst (IsOutermost s.Es) (back inner) (subst (λ k. IsOutermost k old.inner) kind (blank_inner old blank))));
+pub starts_top : (old new : Walk) → IsBlank old → kind_as old.kind ≡ s.Es → scopes_of new ≡ scopes_of old ++ record { scope = s.Top; outer = None } ∷ [] → names_of new ≡ names_of old → new.declarations.items ≡ old.declarations.items → new.occurrences.items ≡ old.occurrences.items → new.inner ≡ old.inner → new.more ≡ old.more → new.outer.items ≡ old.outer.items → Stays old new → Starts old new
+starts_top old new blank kind scopes names declarations occurrences inner more outer stays = record {
+  is_at = λ items. at_first (reading_as new.reading) (kind_as new.kind) s.Es items (scopes_of new) top_alone (names_of new) new.declarations.items [] new.occurrences.items new.inner new.more new.outer.items new.top 0 (ap kind_as stays.kind ∙ kind) table (declarations ∙ blank.declarations) (occurrences ∙ blank.occurrences) (more ∙ blank.more) (outer ∙ blank.outer) (stays.top ∙ blank.top ∙ ap top_number kind) (begins_alone (reading_as new.reading) items (names_of new) new.inner (subst (IsOutermost s.Es) (back inner) (subst (λ k. IsOutermost k old.inner) kind (blank_inner old blank))));
   tidy = tidy-module (scopes_of new) (names_of new) table (once-none (names_of new) (names ∙ ap (map name_as) blank.names));
   stays = stays;
 }
@@ -106,9 +108,9 @@ starts_top old new blank kind scopes names declarations occurrences inner outer 
     table = scopes ∙ ap (λ l. map numbered l ++ record { scope = s.Top; outer = None } ∷ []) blank.scopes
 
 -- a CommonJS module begins
-pub starts_wrapped : (old new : Walk) (names : List d.Name) (first second : Declaration) (wrapper : ℕ) → IsBlank old → kind_as old.kind ≡ s.Cjs → scopes_of new ≡ (scopes_of old ++ record { scope = s.Wrapper; outer = None } ∷ []) ++ record { scope = s.Top; outer = Some wrapper } ∷ [] → wrapper ≡ length (scopes_of old) → IsAlone names 0 wrapper w.Wrapper (codes "module") first → StaysOnce (names_of old) names → Keeps names (names_of new) → StaysOnce names (names_of new) → IsAlone (names_of new) 0 wrapper w.Wrapper (codes "exports") second → new.declarations.items ≡ (old.declarations.items ++ first ∷ []) ++ second ∷ [] → new.occurrences.items ≡ old.occurrences.items → new.inner ≡ old.inner → new.outer.items ≡ old.outer.items → Stays old new → Starts old new
-starts_wrapped old new names first second wrapper blank kind scopes number is_first once keeps still_once is_second declarations occurrences inner outer stays = record {
-  is_at = λ items. at_first (reading_as new.reading) (kind_as new.kind) s.Cjs items (scopes_of new) outside (names_of new) new.declarations.items (first ∷ second ∷ []) new.occurrences.items new.inner new.outer.items new.top 1 (ap kind_as stays.kind ∙ kind) table (declarations ∙ ap (λ l. (l ++ first ∷ []) ++ second ∷ []) blank.declarations) (occurrences ∙ blank.occurrences) (outer ∙ blank.outer) (stays.top ∙ blank.top ∙ ap top_number kind) (begins_outside (reading_as new.reading) items names (names_of new) first second new.inner (subst (λ k. IsAlone names 0 k w.Wrapper (codes "module") first) is_wrapper is_first) keeps (subst (λ k. IsAlone (names_of new) 0 k w.Wrapper (codes "exports") second) is_wrapper is_second) (subst (IsOutermost s.Cjs) (back inner) (subst (λ k. IsOutermost k old.inner) kind (blank_inner old blank))));
+pub starts_wrapped : (old new : Walk) (names : List d.Name) (first second : Declaration) (wrapper : ℕ) → IsBlank old → kind_as old.kind ≡ s.Cjs → scopes_of new ≡ (scopes_of old ++ record { scope = s.Wrapper; outer = None } ∷ []) ++ record { scope = s.Top; outer = Some wrapper } ∷ [] → wrapper ≡ length (scopes_of old) → IsAlone names 0 wrapper w.Wrapper (codes "module") first → StaysOnce (names_of old) names → Keeps names (names_of new) → StaysOnce names (names_of new) → IsAlone (names_of new) 0 wrapper w.Wrapper (codes "exports") second → new.declarations.items ≡ (old.declarations.items ++ first ∷ []) ++ second ∷ [] → new.occurrences.items ≡ old.occurrences.items → new.inner ≡ old.inner → new.more ≡ old.more → new.outer.items ≡ old.outer.items → Stays old new → Starts old new
+starts_wrapped old new names first second wrapper blank kind scopes number is_first once keeps still_once is_second declarations occurrences inner more outer stays = record {
+  is_at = λ items. at_first (reading_as new.reading) (kind_as new.kind) s.Cjs items (scopes_of new) outside (names_of new) new.declarations.items (first ∷ second ∷ []) new.occurrences.items new.inner new.more new.outer.items new.top 1 (ap kind_as stays.kind ∙ kind) table (declarations ∙ ap (λ l. (l ++ first ∷ []) ++ second ∷ []) blank.declarations) (occurrences ∙ blank.occurrences) (more ∙ blank.more) (outer ∙ blank.outer) (stays.top ∙ blank.top ∙ ap top_number kind) (begins_outside (reading_as new.reading) items names (names_of new) first second new.inner (subst (λ k. IsAlone names 0 k w.Wrapper (codes "module") first) is_wrapper is_first) keeps (subst (λ k. IsAlone (names_of new) 0 k w.Wrapper (codes "exports") second) is_wrapper is_second) (subst (IsOutermost s.Cjs) (back inner) (subst (λ k. IsOutermost k old.inner) kind (blank_inner old blank))));
   tidy = tidy-wrapped (scopes_of new) (names_of new) wrapper wrapped is_wrapper (still_once (once (once-none (names_of old) (ap (map name_as) blank.names))));
   stays = stays;
 }

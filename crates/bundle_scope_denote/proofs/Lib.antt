@@ -3,6 +3,7 @@ pub mod NameLemmas
 pub mod NamelessLemmas
 pub mod HeadLemmas
 pub mod WalkLemmas
+pub mod QuietLemmas
 pub mod StepLemmas
 pub mod BeginLemmas
 pub mod EndLemmas

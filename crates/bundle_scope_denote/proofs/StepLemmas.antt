@@ -1,10 +1,10 @@
 -- The walk goes on by each kind of element.
-use Rattle.std.proofs.Common.{◌≡◌, ℕ, ◌+◌, ◌<◌, Bool, true, false, cond, List, [], ◌∷◌, ◌++◌, Option, Some, None, Result, Ok, Err, OnOk, option_map, map, length, drop, reverse, slice_index_or, refl, ap, sym, ◌∙◌, subst, append-nil}
+use Rattle.std.proofs.Common.{◌≡◌, ℕ, zero, suc, ◌+◌, ◌<◌, ◌⊎◌, inl, inr, Bool, true, false, cond, List, [], ◌∷◌, ◌++◌, Option, Some, None, Result, Ok, Err, OnOk, option_map, map, length, drop, reverse, slice_index_or, refl, ap, sym, ◌∙◌, subst, append-nil}
 use Rattle.std.specs.Prelude.{slice_get, option_and_then, is_some}
 use Rattle.std.specs.List.{cons_option}
 use Rattle.std.specs.Option.{option_to_list}
 use Rattle.std.proofs.lemmas.Option.{slice_get-map, slice_get_read}
-use Rattle.std.proofs.lemmas.List.{reverse-append, drop-map}
+use Rattle.std.proofs.lemmas.List.{drop-map}
 use Rattle.std.proofs.lemmas.Slice.Zip.{AllZip-long}
 use Rattle.bundle_tree_piece.specs.declared.piece.Piece.{Piece}
 use Rattle.bundle_tree_piece.specs.declared.piece.Role.{Role}
@@ -21,10 +21,10 @@ use Rattle.bundle_scope_denote.specs.declared.walk.Walk.{Walk}
 use Rattle.bundle_scope_denote.specs.Kinds.{kind_as, reading_as, way_named}
 use Rattle.bundle_scope_denote.specs.Numbers.{Numbered, AreAround, Keeps}
 use Rattle.bundle_scope_denote.specs.Walked.{scope_in, IsInnermost, AreOpen, IsDeclared, IsSeen, IsAt, IsDefault, at_number, begins_nameless, declared_as, occurs_as}
-use Rattle.bundle_scope_denote.specs.Steps.{scopes_of, names_of, scope_made, IsWalkAt, Stays, Goes, Begins, Occurs, Ends, next_inner}
+use Rattle.bundle_scope_denote.specs.Steps.{scopes_of, names_of, nodes_open, one_by_one, repeated, scope_made, IsWalkAt, Stays, Goes, Begins, Occurs, Ends}
 use Rattle.bundle_scope_denote.proofs.ChainLemmas.{Keeps-append, Keeps-same, slice_get-next, AreAround-keeps}
 use Rattle.bundle_scope_denote.proofs.ZipLemmas.{BothOrNone}
-use Rattle.bundle_scope_denote.proofs.WalkLemmas.{drop-at, AreOpen-in_field, AreOpen-keeps, innermost, innermost-new, behind_option, declared-next, seen-next}
+use Rattle.bundle_scope_denote.proofs.WalkLemmas.{drop-at, AreOpen-in_field, AreOpen-keeps, innermost-open, innermost-new, behind_option, declared-next, seen-next}
 
 -- what holds where all goes well
 pub on_ok : {T E P Q : Type 0} (r : Result T E) → (P → Q) → OnOk r P → OnOk r Q
@@ -36,11 +36,11 @@ pub item_at : (pieces : List Piece) (place : ℕ) (piece : Piece) → place < le
 item_at pieces place piece within is = slice_get-map item_of pieces place ∙ ap (option_map item_of) (slice_get_read pieces (length pieces) place piece refl within is)
 
 -- the walk has gone on, if it has in what no step changes
-goes_on : (old new : Walk) (items : List Item) (place : ℕ) → Stays old new → IsAt (reading_as old.reading) (kind_as old.kind) items (place + 1) (scopes_of new) (names_of new) new.declarations.items new.occurrences.items (new.inner ∷ reverse new.outer.items) old.top → Goes old new items place
+goes_on : (old new : Walk) (items : List Item) (place : ℕ) → Stays old new → IsAt (reading_as old.reading) (kind_as old.kind) items (place + 1) (scopes_of new) (names_of new) new.declarations.items new.occurrences.items (nodes_open new) old.top → Goes old new items place
 goes_on old new items place stays is = record {
-  is_at = subst (λ t. IsAt (reading_as new.reading) (kind_as new.kind) items (place + 1) (scopes_of new) (names_of new) new.declarations.items new.occurrences.items (new.inner ∷ reverse new.outer.items) t) (sym stays.top)
-      (subst (λ k. IsAt (reading_as new.reading) (kind_as k) items (place + 1) (scopes_of new) (names_of new) new.declarations.items new.occurrences.items (new.inner ∷ reverse new.outer.items) old.top) (sym stays.kind)
-      (subst (λ r. IsAt (reading_as r) (kind_as old.kind) items (place + 1) (scopes_of new) (names_of new) new.declarations.items new.occurrences.items (new.inner ∷ reverse new.outer.items) old.top) (sym stays.reading) is));
+  is_at = subst (λ t. IsAt (reading_as new.reading) (kind_as new.kind) items (place + 1) (scopes_of new) (names_of new) new.declarations.items new.occurrences.items (nodes_open new) t) (sym stays.top)
+      (subst (λ k. IsAt (reading_as new.reading) (kind_as k) items (place + 1) (scopes_of new) (names_of new) new.declarations.items new.occurrences.items (nodes_open new) old.top) (sym stays.kind)
+      (subst (λ r. IsAt (reading_as r) (kind_as old.kind) items (place + 1) (scopes_of new) (names_of new) new.declarations.items new.occurrences.items (nodes_open new) old.top) (sym stays.reading) is));
   stays = stays;
 }
 
@@ -65,17 +65,16 @@ begun old new items place field head before at b =
     let rest : List Item = drop (place + 1) items in
     let made : Option Numbered = scope_made old.inner place field head in
     let grown : Keeps (scopes_of old) (scopes_of new) = subst (λ l. Keeps (scopes_of old) l) (sym b.scopes) (Keeps-append (scopes_of old) (option_to_list made)) in
-    let inner_known = innermost (scopes_of old) kind old.inner (reverse old.outer.items) spot.path before.nodes in
+    let inner_known = innermost-open (scopes_of old) kind old.more old.inner (one_by_one (reverse old.outer.items)) spot.path before.nodes in
     let inner_new = innermost-new (scopes_of old) kind old.inner new.inner spot.path place field head inner_known b.way b.variable b.block b.defaults b.heads b.left b.around b.own in
-    let outer_known : AreOpen (scopes_of new) kind (old.inner ∷ reverse old.outer.items) (p.in_field field spot.path) = AreOpen-keeps (scopes_of old) (scopes_of new) grown kind (old.inner ∷ reverse old.outer.items) (p.in_field field spot.path) (AreOpen-in_field (scopes_of old) kind (old.inner ∷ reverse old.outer.items) field spot.path before.nodes) in
-    let pushed : reverse new.outer.items ≡ old.inner ∷ reverse old.outer.items = ap reverse b.outer ∙ reverse-append old.outer.items (old.inner ∷ []) in
-    let nodes_there : AreOpen (scopes_of new) kind (new.inner ∷ old.inner ∷ reverse old.outer.items) (record { head = head; begins = place; field = 0 } ∷ p.in_field field spot.path) = (subst (λ l. IsInnermost l kind new.inner (record { head = head; begins = place; field = 0 } ∷ p.in_field field spot.path)) (sym b.scopes) inner_new, outer_known) in
-    let nodes_here : AreOpen (scopes_of new) kind (new.inner ∷ reverse new.outer.items) (p.past spot item).path = subst (λ n. AreOpen (scopes_of new) kind (new.inner ∷ reverse new.outer.items) (record { head = head; begins = n; field = 0 } ∷ p.in_field field spot.path)) (sym before.stands) (subst (λ l. AreOpen (scopes_of new) kind (new.inner ∷ l) (record { head = head; begins = place; field = 0 } ∷ p.in_field field spot.path)) (sym pushed) nodes_there) in
+    let outer_known : AreOpen (scopes_of new) kind (nodes_open old) (p.in_field field spot.path) = AreOpen-keeps (scopes_of old) (scopes_of new) grown kind (nodes_open old) (p.in_field field spot.path) (AreOpen-in_field (scopes_of old) kind (nodes_open old) field spot.path before.nodes) in
+    let nodes_there : AreOpen (scopes_of new) kind (new.inner ∷ nodes_open old) (record { head = head; begins = place; field = 0 } ∷ p.in_field field spot.path) = (subst (λ l. IsInnermost l kind new.inner (record { head = head; begins = place; field = 0 } ∷ p.in_field field spot.path)) (sym b.scopes) inner_new, outer_known) in
+    let nodes_here : AreOpen (scopes_of new) kind (nodes_open new) (p.past spot item).path = subst (λ n. AreOpen (scopes_of new) kind (nodes_open new) (record { head = head; begins = n; field = 0 } ∷ p.in_field field spot.path)) (sym before.stands) (subst (λ l. AreOpen (scopes_of new) kind l (record { head = head; begins = place; field = 0 } ∷ p.in_field field spot.path)) (sym b.nodes) nodes_there) in
     let outermost : AreAround (scopes_of new) (Some old.top) (s.outermost kind) = AreAround-keeps (scopes_of old) (scopes_of new) grown (Some old.top) (s.outermost kind) before.outermost in
     let default : BothOrNone (IsDeclared (scopes_of new) (names_of new)) b.default (d.declared_at reading kind spot item rest) = default-declared (scopes_of new) (names_of new) kind spot.place place old.top (d.is_nameless_default item rest) b.default before.stands outermost (subst (λ l. IsDefault (names_of new) place old.top (begins_nameless l) b.default) (drop-at items place item at) b.is_default) in
     goes_on old new items place b.stays (record {
       stands = stands-next items place item at before.stands;
-      nodes = subst (λ (x : p.Spot). AreOpen (scopes_of new) kind (new.inner ∷ reverse new.outer.items) x.path) (sym (spot_before-next items place item at)) nodes_here;
+      nodes = subst (λ (x : p.Spot). AreOpen (scopes_of new) kind (nodes_open new) x.path) (sym (spot_before-next items place item at)) nodes_here;
       outermost = outermost;
       declared = declared-next (scopes_of old) (scopes_of new) (names_of old) (names_of new) grown b.keeps reading kind items place item old.declarations.items new.declarations.items b.default at b.declarations default before.declared;
       seen = seen-next (scopes_of old) (scopes_of new) (names_of old) (names_of new) grown b.keeps reading kind items place item old.occurrences.items new.occurrences.items None at (b.occurrences ∙ sym (append-nil old.occurrences.items)) tt before.seen;
@@ -107,7 +106,7 @@ passed walk items place item before at same_path no_occurrence no_declaration =
     let keep_names : Keeps (names_of walk) (names_of walk) = Keeps-same (names_of walk) (names_of walk) refl in
     goes_on walk walk items place (stay walk) (record {
       stands = stands-next items place item at before.stands;
-      nodes = subst (λ q. AreOpen (scopes_of walk) kind (walk.inner ∷ reverse walk.outer.items) q) (sym (ap (λ (x : p.Spot). x.path) (spot_before-next items place item at) ∙ same_path)) before.nodes;
+      nodes = subst (λ q. AreOpen (scopes_of walk) kind (nodes_open walk) q) (sym (ap (λ (x : p.Spot). x.path) (spot_before-next items place item at) ∙ same_path)) before.nodes;
       outermost = before.outermost;
       declared = declared-next (scopes_of walk) (scopes_of walk) (names_of walk) (names_of walk) keep_scopes keep_names reading kind items place item walk.declarations.items walk.declarations.items None at (sym (append-nil walk.declarations.items)) (subst (λ x. BothOrNone (IsDeclared (scopes_of walk) (names_of walk)) None x) (sym no_declaration) tt) before.declared;
       seen = seen-next (scopes_of walk) (scopes_of walk) (names_of walk) (names_of walk) keep_scopes keep_names reading kind items place item walk.occurrences.items walk.occurrences.items None at (sym (append-nil walk.occurrences.items)) (subst (λ x. BothOrNone (IsSeen (scopes_of walk) (names_of walk) reading kind (d.declared reading kind items)) None x) (sym no_occurrence) tt) before.seen;
@@ -120,12 +119,20 @@ worded walk items place field ctxt sym before at = passed walk items place (h.Id
 pub holed : (walk : Walk) (items : List Item) (place field : ℕ) → IsWalkAt walk items place → slice_get items place ≡ Some (h.Hole field) → Goes walk walk items place
 holed walk items place field before at = passed walk items place (h.Hole field) before at refl refl refl
 
+-- nodes are open in front of others
+never_none : (more : ℕ) (node : Open) (rest : List Open) → repeated more node (node ∷ rest) ≡ [] → ⊥
+never_none zero node rest none = cc
+never_none (suc more) node rest none = cc
+
 -- the path without the innermost node
-closed : (scopes : List Numbered) (kind : s.ModuleKind) (inner : Open) (outer rest : List Open) (popped : Option Open) (path : List p.Around) → outer ≡ rest ++ option_to_list popped → (popped ≡ None → rest ≡ []) → AreOpen scopes kind (inner ∷ reverse outer) path → AreOpen scopes kind (next_inner inner popped ∷ reverse rest) (p.outer_path path)
-closed scopes kind inner outer rest None path is at_last known = let empty : rest ≡ [] = at_last refl in
-    let none : outer ≡ [] = is ∙ append-nil rest ∙ empty in
-    let last : AreOpen scopes kind (inner ∷ []) path = subst (λ l. AreOpen scopes kind (inner ∷ reverse l) path) none known in
-    subst (λ l. AreOpen scopes kind (inner ∷ reverse l) (p.outer_path path)) (sym empty) (alone path last)
+closed : (scopes : List Numbered) (kind : s.ModuleKind) (inner : Open) (nodes next : List Open) (path : List p.Around) → (next ≡ [] → ⊥) → (nodes ≡ inner ∷ next) ⊎ ((nodes ≡ inner ∷ []) × (next ≡ nodes)) → AreOpen scopes kind nodes path → AreOpen scopes kind next (p.outer_path path)
+closed scopes kind inner nodes next path some (inl is) known = inside path (subst (λ l. AreOpen scopes kind l path) is known)
+  where
+    inside : (path : List p.Around) → AreOpen scopes kind (inner ∷ next) path → AreOpen scopes kind next (p.outer_path path)
+    inside [] known = absurd (some known.1)
+    inside (node ∷ path) known = known.1
+closed scopes kind inner nodes next path some (inr last) known =
+    subst (λ l. AreOpen scopes kind l (p.outer_path path)) (sym (last.1 ∙ last.0)) (alone path (subst (λ l. AreOpen scopes kind l path) last.0 known))
   where
     alone : (path : List p.Around) → AreOpen scopes kind (inner ∷ []) path → AreOpen scopes kind (inner ∷ []) (p.outer_path path)
     alone [] last = last
@@ -134,13 +141,6 @@ closed scopes kind inner outer rest None path is at_last known = let empty : res
         no_nodes : (path : List p.Around) → AreOpen scopes kind [] path → AreOpen scopes kind (inner ∷ []) path
         no_nodes [] none = absurd none
         no_nodes (node ∷ path) none = absurd none
-closed scopes kind inner outer rest (Some next) path is at_last known =
-    let others : reverse outer ≡ next ∷ reverse rest = ap reverse is ∙ reverse-append rest (next ∷ []) in
-    inside path (subst (λ l. AreOpen scopes kind (inner ∷ l) path) others known)
-  where
-    inside : (path : List p.Around) → AreOpen scopes kind (inner ∷ next ∷ reverse rest) path → AreOpen scopes kind (next ∷ reverse rest) (p.outer_path path)
-    inside [] known = let different : next ∷ reverse rest ≡ [] = known.1 in cc
-    inside (node ∷ path) known = known.1
 
 -- a node ends
 pub ended : (old new : Walk) (items : List Item) (place : ℕ) → IsWalkAt old items place → slice_get items place ≡ Some h.Close → Ends old new → Goes old new items place
@@ -150,12 +150,11 @@ ended old new items place before at e =
     let spot : p.Spot = p.spot_before items place in
     let keep_scopes : Keeps (scopes_of old) (scopes_of new) = Keeps-same (scopes_of old) (scopes_of new) e.scopes in
     let keep_names : Keeps (names_of old) (names_of new) = Keeps-same (names_of old) (names_of new) e.names in
-    let nodes_old : AreOpen (scopes_of old) kind (next_inner old.inner e.popped ∷ reverse new.outer.items) (p.outer_path spot.path) = closed (scopes_of old) kind old.inner old.outer.items new.outer.items e.popped spot.path e.outer e.at_last before.nodes in
-    let nodes_inner : AreOpen (scopes_of old) kind (new.inner ∷ reverse new.outer.items) (p.outer_path spot.path) = subst (λ i. AreOpen (scopes_of old) kind (i ∷ reverse new.outer.items) (p.outer_path spot.path)) (sym e.inner) nodes_old in
-    let nodes_new : AreOpen (scopes_of new) kind (new.inner ∷ reverse new.outer.items) (p.outer_path spot.path) = AreOpen-keeps (scopes_of old) (scopes_of new) keep_scopes kind (new.inner ∷ reverse new.outer.items) (p.outer_path spot.path) nodes_inner in
+    let nodes_old : AreOpen (scopes_of old) kind (nodes_open new) (p.outer_path spot.path) = closed (scopes_of old) kind old.inner (nodes_open old) (nodes_open new) spot.path (never_none new.more new.inner (one_by_one (reverse new.outer.items))) e.nodes before.nodes in
+    let nodes_new : AreOpen (scopes_of new) kind (nodes_open new) (p.outer_path spot.path) = AreOpen-keeps (scopes_of old) (scopes_of new) keep_scopes kind (nodes_open new) (p.outer_path spot.path) nodes_old in
     goes_on old new items place e.stays (record {
       stands = stands-next items place h.Close at before.stands;
-      nodes = subst (λ (x : p.Spot). AreOpen (scopes_of new) kind (new.inner ∷ reverse new.outer.items) x.path) (sym (spot_before-next items place h.Close at)) nodes_new;
+      nodes = subst (λ (x : p.Spot). AreOpen (scopes_of new) kind (nodes_open new) x.path) (sym (spot_before-next items place h.Close at)) nodes_new;
       outermost = AreAround-keeps (scopes_of old) (scopes_of new) keep_scopes (Some old.top) (s.outermost kind) before.outermost;
       declared = declared-next (scopes_of old) (scopes_of new) (names_of old) (names_of new) keep_scopes keep_names reading kind items place h.Close old.declarations.items new.declarations.items None at (e.declarations ∙ sym (append-nil old.declarations.items)) tt before.declared;
       seen = seen-next (scopes_of old) (scopes_of new) (names_of old) (names_of new) keep_scopes keep_names reading kind items place h.Close old.occurrences.items new.occurrences.items None at (e.occurrences ∙ sym (append-nil old.occurrences.items)) tt before.seen;
@@ -187,7 +186,7 @@ met old new items place field ctxt symbol role before at is_one o =
     let scope : ℕ = scope_in old.inner field in
     let all : List d.Declared = d.declared reading kind items in
     let keep_scopes : Keeps (scopes_of old) (scopes_of new) = Keeps-same (scopes_of old) (scopes_of new) o.scopes in
-    let known = innermost (scopes_of old) kind old.inner (reverse old.outer.items) spot.path before.nodes in
+    let known = innermost-open (scopes_of old) kind old.more old.inner (one_by_one (reverse old.outer.items)) spot.path before.nodes in
     let around : AreAround (scopes_of new) (Some scope) (s.scopes_around kind path) = AreAround-keeps (scopes_of old) (scopes_of new) keep_scopes (Some scope) (s.scopes_around kind path) (known.scope field) in
     let by_way : o.declared ≡ option_map (declared_as place o.number scope) (cond (p.is_binding role) (option_map way_named (d.way_of path)) None) = o.is_declared ∙ ap (λ w. option_map (declared_as place o.number scope) (cond (p.is_binding role) w None)) (known.way field) in
     let declares : BothOrNone (IsDeclared (scopes_of new) (names_of new)) o.declared (d.declaration_of reading kind found) = subst (λ x. BothOrNone (IsDeclared (scopes_of new) (names_of new)) x (d.declaration_of reading kind found)) (sym by_way) (ident-declared (scopes_of new) (names_of new) spot.place place o.number scope (d.name_of reading symbol ctxt) (s.scopes_around kind path) (p.is_binding role) (d.way_of path) before.stands o.named around) in
@@ -196,7 +195,7 @@ met old new items place field ctxt symbol role before at is_one o =
     let numbered : at_number all (option_map (λ _. length old.declarations.items) o.declared) ≡ d.declaration_of reading kind found = numbered-declaration (IsDeclared (scopes_of new) (names_of new)) before.declared.before (d.declared_from reading kind (p.past spot item) rest) all (length old.declarations.items) o.declared (d.declaration_of reading kind found) (AllZip-long (IsDeclared (scopes_of old) (names_of old)) old.declarations.items before.declared.before before.declared.each) declares (whole items place item reading kind before.declared.before (d.declaration_of reading kind found) at (ap (option_and_then (d.declaration_of reading kind)) is_one) before.declared.rest) in
     goes_on old new items place o.stays (record {
       stands = stands-next items place item at before.stands;
-      nodes = subst (λ (x : p.Spot). AreOpen (scopes_of new) kind (new.inner ∷ reverse new.outer.items) x.path) (sym (spot_before-next items place item at)) (subst (λ i. AreOpen (scopes_of new) kind (i ∷ reverse new.outer.items) spot.path) (sym o.inner) (subst (λ l. AreOpen (scopes_of new) kind (old.inner ∷ reverse l) spot.path) (sym o.outer) (AreOpen-keeps (scopes_of old) (scopes_of new) keep_scopes kind (old.inner ∷ reverse old.outer.items) spot.path before.nodes)));
+      nodes = subst (λ (x : p.Spot). AreOpen (scopes_of new) kind (nodes_open new) x.path) (sym (spot_before-next items place item at)) (subst (λ l. AreOpen (scopes_of new) kind l spot.path) (sym o.nodes) (AreOpen-keeps (scopes_of old) (scopes_of new) keep_scopes kind (nodes_open old) spot.path before.nodes));
       outermost = AreAround-keeps (scopes_of old) (scopes_of new) keep_scopes (Some old.top) (s.outermost kind) before.outermost;
       declared = declared_there;
       seen = seen-next (scopes_of old) (scopes_of new) (names_of old) (names_of new) keep_scopes o.keeps reading kind items place item old.occurrences.items new.occurrences.items (Some (record { place = place; name = o.number; scope = scope; declaration = option_map (λ _. length old.declarations.items) o.declared })) at o.occurrences (subst (λ x. BothOrNone (IsSeen (scopes_of new) (names_of new) reading kind all) (Some (record { place = place; name = o.number; scope = scope; declaration = option_map (λ _. length old.declarations.items) o.declared })) x) (sym is_one) (record { place = sym before.stands; name = o.named; around = around; declaration = numbered; declares = both_declare (IsDeclared (scopes_of new) (names_of new)) (length old.declarations.items) o.declared (d.declaration_of reading kind found) declares })) before.seen;

@@ -7,7 +7,7 @@ use Rattle.std.specs.Map.{lookup}
 use Rattle.std.proofs.lemmas.List.{length-append}
 use Rattle.std.proofs.lemmas.List.Folds.{list_any-append}
 use Rattle.std.proofs.lemmas.List.Quantifiers.{position-Some}
-use Rattle.std.proofs.lemmas.Option.{slice_get-get_or}
+use Rattle.std.proofs.lemmas.Option.{same_Some, slice_get-get_or}
 use Rattle.std.proofs.lemmas.Map.Keys.{IsDistinct-push}
 use Rattle.bundle_scope_denote.specs.texts.Placed.{ArePlaced}
 
@@ -64,6 +64,10 @@ module _ {K : Type 0} (t : K → Bool) where
       by : (b : Bool) → list_any t ks ≡ b → is_some (position t ks) ≡ list_any t ks
       by true p = ap is_some (at_place ks (position_or_len t ks) refl (or_len-some ks p)) ∙ sym p
       by false p = ap is_some (position-none ks p) ∙ sym p
+
+  -- and where one is found, the search comes to it
+  pub or_len-there : (ks : List K) (n : ℕ) → position t ks ≡ Some n → n ≡ position_or_len t ks
+  or_len-there ks n at = same_Some n (position_or_len t ks) (sym at ∙ at_place ks (position_or_len t ks) refl (or_len-some ks (sym (is_some-position ks) ∙ ap is_some at)))
 
   -- a key that is put last and passes where none did is the one that is found
   pub position-last : (ks : List K) (k : K) → list_any t ks ≡ false → t k ≡ true → position t (ks ++ k ∷ []) ≡ Some (length ks)

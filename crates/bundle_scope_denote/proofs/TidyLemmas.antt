@@ -14,9 +14,9 @@ use Rattle.bundle_scope_denote.specs.Kinds.{kind_as, kind_named, kind_made, scop
 use Rattle.bundle_scope_denote.specs.Numbers.{Numbered, in_scope}
 use Rattle.bundle_scope_denote.specs.Chains.{AreInOrder, IsOnce}
 use Rattle.bundle_scope_denote.specs.Walked.{scope_in, IsTidy}
-use Rattle.bundle_scope_denote.specs.Steps.{scopes_of, names_of, IsWalkAt, IsTidyAt, Begins, Occurs, Ends}
+use Rattle.bundle_scope_denote.specs.Steps.{scopes_of, names_of, one_by_one, IsWalkAt, IsTidyAt, Begins, Occurs, Ends}
 use Rattle.bundle_scope_denote.proofs.HeadLemmas.{kind_made-named}
-use Rattle.bundle_scope_denote.proofs.WalkLemmas.{innermost, named_scope}
+use Rattle.bundle_scope_denote.proofs.WalkLemmas.{innermost-open, named_scope}
 use Rattle.bundle_scope_denote.proofs.HomeLemmas.{number-around}
 use Rattle.bundle_scope_denote.proofs.InsertLemmas.{at_append}
 
@@ -75,7 +75,7 @@ pub begun-tidy : (old new : Walk) (items : List Item) (place field : ℕ) (head 
 begun-tidy old new items place field head is_nameless at tidy b =
     let kind : s.ModuleKind = kind_as old.kind in
     let path : List p.Around = (p.spot_before items place).path in
-    let known = innermost (scopes_of old) kind old.inner (reverse old.outer.items) path at.nodes in
+    let known = innermost-open (scopes_of old) kind old.more old.inner (one_by_one (reverse old.outer.items)) path at.nodes in
     let outer : List p.Around = p.in_field field path in
     let made : Option ScopeKind = kind_made head old.inner.block old.inner.is_default in
     let no_first : (t : Bool) → cond (t && false) None made ≡ made = λ (t : Bool). never t made in

@@ -18,6 +18,7 @@ use Rattle.bundle_scope_denote.specs.declared.walk.Open.{Open}
 use Rattle.bundle_scope_denote.specs.Kinds.{scope_as, way_named, kind_named, kind_made, is_field, way_in, way_of_variable, leaves_first_out}
 use Rattle.bundle_scope_denote.specs.Numbers.{Numbered, AreAround, Keeps, in_scope}
 use Rattle.bundle_scope_denote.specs.Walked.{scope_within, scope_in, IsInnermost, AreOpen, IsDeclared, IsSeen, AreDeclaredTo, AreSeenTo}
+use Rattle.bundle_scope_denote.specs.Steps.{repeated}
 use Rattle.bundle_scope_denote.proofs.ChainLemmas.{Keeps-append, slice_get-next, AreAround-keeps, AllZip-weaker}
 use Rattle.bundle_scope_denote.proofs.ZipLemmas.{BothOrNone}
 use Rattle.bundle_scope_denote.proofs.HeadLemmas.{way_in-named, way_of_variable-named, kind_made-named}
@@ -72,6 +73,11 @@ AreOpen-keeps old new keeps kind (node ∷ outer) (around ∷ path) known = (IsI
 pub innermost : (scopes : List Numbered) (kind : s.ModuleKind) (node : Open) (outer : List Open) (path : List p.Around) → AreOpen scopes kind (node ∷ outer) path → IsInnermost scopes kind node path
 innermost scopes kind node outer [] known = known.0
 innermost scopes kind node outer (around ∷ path) known = known.0
+
+-- the same where more nodes of which the same is known are open in it
+pub innermost-open : (scopes : List Numbered) (kind : s.ModuleKind) (more : ℕ) (node : Open) (outer : List Open) (path : List p.Around) → AreOpen scopes kind (repeated more node (node ∷ outer)) path → IsInnermost scopes kind node path
+innermost-open scopes kind zero node outer path known = innermost scopes kind node outer path known
+innermost-open scopes kind (suc more) node outer path known = innermost scopes kind node (repeated more node (node ∷ outer)) path known
 
 -- a kind of scope has its name
 pub named_scope : (kind : s.ScopeKind) (begins : ℕ) → scope_as (kind_named kind) begins ≡ s.Inner kind begins

@@ -122,6 +122,34 @@ leaves_first_out h.SetterProp = true
 leaves_first_out h.SwitchStmt = true
 leaves_first_out _ = false
 
+-- whether such a node makes no scope and says nothing of what stands in it, but for the nodes of patterns how it is declared by what stands around
+abbrev pub is_quiet : Head → Truth
+is_quiet h.ImportNamedSpecifier = false
+is_quiet h.ImportDefaultSpecifier = false
+is_quiet h.ImportStarAsSpecifier = false
+is_quiet h.ExportDefaultDecl = false
+is_quiet h.ExportDefaultExpr = false
+is_quiet h.BlockStmt = false
+is_quiet h.SwitchStmt = false
+is_quiet h.CatchClause = false
+is_quiet h.ForStmt = false
+is_quiet h.ForInStmt = false
+is_quiet (h.ForOfStmt is_await) = false
+is_quiet h.ClassDecl = false
+is_quiet h.FnDecl = false
+is_quiet (h.VarDecl kind meta) = false
+is_quiet h.VarDeclarator = false
+is_quiet h.FnExpr = false
+is_quiet (h.ArrowExpr is_async) = false
+is_quiet h.ClassExpr = false
+is_quiet h.GetterProp = false
+is_quiet h.SetterProp = false
+is_quiet (h.Function is_generator is_async) = false
+is_quiet h.Param = false
+is_quiet h.Constructor = false
+is_quiet h.StaticBlock = false
+is_quiet _ = true
+
 -- whether a field is this one
 abbrev pub is_field : Option ℕ → ℕ → Truth
 is_field None field = false

@@ -1,5 +1,5 @@
 -- A step of the walk over a list, by what it changes.
-use Rattle.std.specs.Prelude.{◌≡◌, ℕ, ◌+◌, Bool as Truth, false, cond, List, [], ◌∷◌, ◌++◌, Option, Some, None, map, length, reverse, option_map, slice_get}
+use Rattle.std.specs.Prelude.{◌≡◌, ℕ, zero, suc, ◌+◌, ◌⊎◌, Bool as Truth, false, cond, List, [], ◌∷◌, ◌++◌, Option, Some, None, map, length, reverse, option_map, slice_get}
 use Rattle.std.specs.List.{AllZip}
 use Rattle.std.specs.Option.{option_to_list}
 use Rattle.bundle_tree_piece.specs.declared.piece.Role.{Role}
@@ -10,6 +10,7 @@ use Rattle.bundle_rules.specs.Scopes as s
 use Rattle.bundle_rules.specs.Declarations as d
 use Rattle.bundle_scope_denote.specs.declared.table.ScopeKind.TheVariants as k
 use Rattle.bundle_scope_denote.specs.declared.walk.Declaration.{Declaration}
+use Rattle.bundle_scope_denote.specs.declared.walk.Nodes.{Nodes}
 use Rattle.bundle_scope_denote.specs.declared.walk.Open.{Open}
 use Rattle.bundle_scope_denote.specs.declared.walk.Walk.{Walk}
 use Rattle.bundle_scope_denote.specs.Kinds.{kind_as, reading_as, kind_named, kind_made, is_field, leaves_first_out, way_in, way_of_variable}
@@ -24,9 +25,23 @@ scopes_of walk = map numbered walk.scopes.items
 abbrev pub names_of : Walk → List d.Name
 names_of walk = map name_as walk.names.keys
 
+-- so many more nodes of which the same is known, in front of others
+abbrev pub repeated : ℕ → Open → List Open → List Open
+repeated zero node rest = rest
+repeated (suc more) node rest = node ∷ repeated more node rest
+
+-- nodes one by one
+abbrev pub one_by_one : List Nodes → List Open
+one_by_one [] = []
+one_by_one (nodes ∷ outer) = repeated nodes.more nodes.node (nodes.node ∷ one_by_one outer)
+
+-- what is known of the nodes that are open, innermost first, and at last of what is outside all nodes
+abbrev pub nodes_open : Walk → List Open
+nodes_open walk = repeated walk.more walk.inner (walk.inner ∷ one_by_one (reverse walk.outer.items))
+
 -- a walk has met what stands before a place
 abbrev pub IsWalkAt : Walk → List Item → ℕ → Type 0
-IsWalkAt walk items place = IsAt (reading_as walk.reading) (kind_as walk.kind) items place (scopes_of walk) (names_of walk) walk.declarations.items walk.occurrences.items (walk.inner ∷ reverse walk.outer.items) walk.top
+IsWalkAt walk items place = IsAt (reading_as walk.reading) (kind_as walk.kind) items place (scopes_of walk) (names_of walk) walk.declarations.items walk.occurrences.items (nodes_open walk) walk.top
 
 -- and its tables are tidy
 abbrev pub IsTidyAt : Walk → ℕ → Type 0
@@ -39,6 +54,7 @@ pub record IsBlank (walk : Walk) : Type 0 where
   pub declarations : walk.declarations.items ≡ []
   pub occurrences : walk.occurrences.items ≡ []
   pub outer : walk.outer.items ≡ []
+  pub more : walk.more ≡ 0
   pub way : walk.inner.way ≡ None
   pub variable : walk.inner.variable ≡ None
   pub around : walk.inner.around ≡ top_number (kind_as walk.kind)
@@ -70,6 +86,16 @@ pub record Starts (old new : Walk) : Type 0 where
 abbrev pub scope_made : Open → (place field : ℕ) → Head → Option Numbered
 scope_made inner place field head = option_map (in_scope place (scope_in inner field)) (kind_made head inner.block inner.is_default)
 
+-- a node is the innermost one now, and nothing else has changed
+pub record Opens (old new : Walk) (node : Open) : Type 0 where
+  pub inner : new.inner ≡ node
+  pub nodes : nodes_open new ≡ node ∷ nodes_open old
+  pub names : names_of new ≡ names_of old
+  pub scopes : scopes_of new ≡ scopes_of old
+  pub declarations : new.declarations.items ≡ old.declarations.items
+  pub occurrences : new.occurrences.items ≡ old.occurrences.items
+  pub stays : Stays old new
+
 -- a node begins at a place
 pub record Begins (old new : Walk) (place field : ℕ) (head : Head) (is_nameless : Truth) : Type 0 where
   pub default : Option Declaration
@@ -87,7 +113,7 @@ pub record Begins (old new : Walk) (place field : ℕ) (head : Head) (is_nameles
   pub left : new.inner.leaves_first_out ≡ leaves_first_out head
   pub around : new.inner.around ≡ scope_in old.inner field
   pub own : new.inner.own ≡ option_map (λ _. length (scopes_of old)) (scope_made old.inner place field head)
-  pub outer : new.outer.items ≡ old.outer.items ++ old.inner ∷ []
+  pub nodes : nodes_open new ≡ new.inner ∷ nodes_open old
   pub stays : Stays old new
 
 -- an identifier stands at a place that binds or refers
@@ -101,21 +127,12 @@ pub record Occurs (old new : Walk) (place field : ℕ) (sym : List ℕ) (ctxt : 
   pub is_declared : declared ≡ option_map (declared_as place number (scope_in old.inner field)) (cond (is_binding role) old.inner.way None)
   pub declarations : new.declarations.items ≡ old.declarations.items ++ option_to_list declared
   pub occurrences : new.occurrences.items ≡ old.occurrences.items ++ record { place = place; name = number; scope = scope_in old.inner field; declaration = option_map (λ _. length old.declarations.items) declared } ∷ []
-  pub inner : new.inner ≡ old.inner
-  pub outer : new.outer.items ≡ old.outer.items
+  pub nodes : nodes_open new ≡ nodes_open old
   pub stays : Stays old new
 
--- the node that is innermost then, and at last what is known outside all nodes
-abbrev pub next_inner : Open → Option Open → Open
-next_inner inner None = inner
-next_inner inner (Some next) = next
-
--- the innermost node ends
+-- the innermost node ends, if one is open
 pub record Ends (old new : Walk) : Type 0 where
-  pub popped : Option Open
-  pub outer : old.outer.items ≡ new.outer.items ++ option_to_list popped
-  pub inner : new.inner ≡ next_inner old.inner popped
-  pub at_last : popped ≡ None → new.outer.items ≡ []
+  pub nodes : (nodes_open old ≡ old.inner ∷ nodes_open new) ⊎ ((nodes_open old ≡ old.inner ∷ []) × (nodes_open new ≡ nodes_open old))
   pub names : names_of new ≡ names_of old
   pub scopes : scopes_of new ≡ scopes_of old
   pub declarations : new.declarations.items ≡ old.declarations.items

@@ -8,6 +8,7 @@ use Rattle.bundle_tree_piece.specs.Item.{Item}
 use Rattle.bundle_rules.specs.Places as p
 use Rattle.bundle_rules.specs.Scopes as s
 use Rattle.bundle_rules.specs.Declarations as d
+use Rattle.bundle_scope_denote.specs.declared.table.ScopeKind.TheVariants as k
 use Rattle.bundle_scope_denote.specs.declared.table.Way.{Way}
 use Rattle.bundle_scope_denote.specs.declared.table.Way.TheVariants as w
 use Rattle.bundle_scope_denote.specs.declared.walk.Declaration.{Declaration}
@@ -24,6 +25,20 @@ scope_within (Some own) around is_left_out = cond is_left_out around own
 
 abbrev pub scope_in : Open → ℕ → ℕ
 scope_in inner field = scope_within inner.own inner.around (inner.leaves_first_out && field == 0)
+
+-- nothing is noted of a node but how it declares the names in it
+pub record IsBare (inner : Open) : Type 0 where
+  pub own : inner.own ≡ None
+  pub variable : inner.variable ≡ None
+  pub head : inner.head ≡ None
+  pub block : inner.block ≡ k.Block
+  pub default : inner.is_default ≡ false
+  pub left : inner.leaves_first_out ≡ false
+
+-- the same is known of a node for which nothing is to be noted as of the one around it
+pub record GoesOn (head : h.Head) (inner : Open) : Type 0 where
+  pub bare : IsBare inner
+  pub way : cond (d.is_pattern head) inner.way None ≡ inner.way
 
 -- what is known of the innermost node says what the path means for what stands in it
 pub record IsInnermost (scopes : List Numbered) (kind : s.ModuleKind) (inner : Open) (path : List p.Around) : Type 0 where
@@ -124,11 +139,6 @@ declared_as place name scope way = record { place = place; name = name; way = wa
 abbrev pub occurs_as : Role → Truth
 occurs_as o.Word = false
 occurs_as _ = true
-
--- whether an element is an identifier that binds or refers
-abbrev pub is_occurrence : Item → Truth
-is_occurrence (h.Ident field sym ctxt role) = occurs_as role
-is_occurrence _ = false
 
 -- the tables before a place: the scopes are in order, their nodes begin before the place, and each name is there once
 pub record IsTidy (scopes : List Numbered) (names : List d.Name) (place : ℕ) : Type 0 where

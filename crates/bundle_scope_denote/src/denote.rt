@@ -20,7 +20,7 @@ ghost use Rattle.bundle_scope_denote.specs.Steps.{IsBlank, IsWhole, Stays};
 use crate::homes::{Bindings, Keys, alone_of, homes_of, outer_at, scope_at};
 use crate::kinds::is_function;
 use crate::mixed::Mixed;
-use crate::salt::{Salt, salt_of};
+use crate::salt::salt_of;
 use crate::table::{Binding, Denotations, Denoted, ModuleKind, Reading, Scope};
 use crate::walk::{Name, Occurrence, Walk, number_of};
 use bundle_tree_piece::Piece;
@@ -55,12 +55,11 @@ pub(crate) fn table_of<'a>(walk: Walk<'a>, found: Found<'a>) -> Denotations<'a>
     ensures bindings { result.bindings.items ≡ found.entry.bindings.items }
     ensures occurrences { result.occurrences.items ≡ found.entry.occurrences.items }
 {
-    let salt = *walk.names.hasher();
     Denotations {
         scopes: walk.scopes,
         bindings: found.bindings,
         occurrences: found.occurrences,
-        salt,
+        salt: walk.salt,
     }
 }
 
@@ -353,7 +352,7 @@ fn is_unresolved(ctxt: Option<u32>) -> bool
 // identifier declares the symbol in the same scope.
 fn implied_in<'a>(
     alloc: Global,
-    names: &IndexSet<Name<'a>, Salt>,
+    names: &IndexSet<Name<'a>, Mixed>,
     keys: &Keys,
     reading: Reading,
 ) -> Result<Keys, AllocError>
@@ -361,7 +360,7 @@ fn implied_in<'a>(
         HoldsImplied (reading_as reading) (map name_as names.now.keys) keys.now.keys implied.keys) }
 {
     match reading {
-        Reading::BySymbol => Ok(IndexSet::with_hasher(alloc, Mixed::of(names.hasher()))),
+        Reading::BySymbol => Ok(IndexSet::with_hasher(alloc, *names.hasher())),
         Reading::ByContext => implied_by_context(alloc, names, keys),
     }
 }
@@ -369,13 +368,13 @@ fn implied_in<'a>(
 // The same by symbol and context.
 fn implied_by_context<'a>(
     alloc: Global,
-    names: &IndexSet<Name<'a>, Salt>,
+    names: &IndexSet<Name<'a>, Mixed>,
     keys: &Keys,
 ) -> Result<Keys, AllocError>
     ensures { IfOk result (λ implied.
         HoldsImplied ByContext (map name_as names.now.keys) keys.now.keys implied.keys) }
 {
-    let mut implied = IndexSet::with_hasher(alloc, Mixed::of(names.hasher()));
+    let mut implied = IndexSet::with_hasher(alloc, *names.hasher());
     for key in keys.as_slice() {
         put_implied(&mut implied, names, keys, *key)?;
     }
@@ -385,7 +384,7 @@ fn implied_by_context<'a>(
 // Adds a key, if it is that of a name that no identifier declares.
 fn put_implied<'a>(
     implied: &mut Keys,
-    names: &IndexSet<Name<'a>, Salt>,
+    names: &IndexSet<Name<'a>, Mixed>,
     keys: &Keys,
     key: (usize, usize),
 ) -> Result<(), AllocError>
@@ -403,7 +402,7 @@ fn put_implied<'a>(
 }
 
 // Whether a key has no context, and no identifier declares its symbol in the scope.
-fn is_implied<'a>(names: &IndexSet<Name<'a>, Salt>, keys: &Keys, key: (usize, usize)) -> bool
+fn is_implied<'a>(names: &IndexSet<Name<'a>, Mixed>, keys: &Keys, key: (usize, usize)) -> bool
     ensures { result ≡ is_implied_key (map name_as names.now.keys) keys.now.keys key }
 {
     let Some(name) = names.get_index(key.1) else {
@@ -416,7 +415,7 @@ fn is_implied<'a>(names: &IndexSet<Name<'a>, Salt>, keys: &Keys, key: (usize, us
 }
 
 // Whether a key of the scope is of an identifier's name with this symbol.
-fn is_written<'a>(names: &IndexSet<Name<'a>, Salt>, keys: &Keys, scope: usize, sym: &str) -> bool
+fn is_written<'a>(names: &IndexSet<Name<'a>, Mixed>, keys: &Keys, scope: usize, sym: &str) -> bool
     ensures { result
         ≡ list_any (bound.is_written_key (map name_as names.now.keys) scope sym.now)
         keys.now.keys }
@@ -431,7 +430,7 @@ fn is_written<'a>(names: &IndexSet<Name<'a>, Salt>, keys: &Keys, scope: usize, s
 
 // Whether a key is of the scope and of an identifier's name with this symbol.
 fn is_written_key<'a>(
-    names: &IndexSet<Name<'a>, Salt>,
+    names: &IndexSet<Name<'a>, Mixed>,
     key: (usize, usize),
     scope: usize,
     sym: &str,
@@ -446,7 +445,7 @@ fn is_written_key<'a>(
 }
 
 // Whether the name with a number is that of an identifier with this symbol, whose context is read.
-fn is_written_name<'a>(names: &IndexSet<Name<'a>, Salt>, number: usize, sym: &str) -> bool
+fn is_written_name<'a>(names: &IndexSet<Name<'a>, Mixed>, number: usize, sym: &str) -> bool
     ensures { result
         ≡ bound.is_written_name sym.now (slice_get (map name_as names.now.keys) number) }
 {

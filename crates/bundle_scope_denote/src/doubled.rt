@@ -72,7 +72,7 @@ pub(crate) fn first_met<'a>(
     ensures { IfOk result (TellsFirst walk.now) }
 {
     let times = times_of(alloc, walk)?;
-    let mut met = Met::new(alloc, Mixed::of(walk.names.hasher()));
+    let mut met = Met::new(alloc, *walk.names.hasher());
     met.first_excluded(alloc, walk, &times)
 }
 

@@ -14,7 +14,6 @@ ghost use Rattle.bundle_scope_denote.specs.Ready.{AddsHome, AreHomes, AreHomesOf
 
 use crate::kinds::{has_parameters, holds_parameters, joins_parameter, takes};
 use crate::mixed::Mixed;
-use crate::salt::Salt;
 use crate::table::{Binding, Scope, Way};
 use crate::walk::{Declaration, Name, Walk};
 use indexmap::IndexSet;
@@ -78,7 +77,7 @@ fn homes_by<'a>(alloc: Global, walk: &Walk<'a>, parameters: &Keys) -> Result<Hom
     ensures { IfOk result (AreHomesOf walk.now parameters.now.keys walk.now.declarations.items) }
 {
     let count = walk.declarations.len();
-    let keys = IndexSet::with_capacity_and_hasher(alloc, count, Mixed::of(walk.names.hasher()))?;
+    let keys = IndexSet::with_capacity_and_hasher(alloc, count, *walk.names.hasher())?;
     let items = Vec::with_capacity(alloc, count)?;
     let of = Vec::with_capacity(alloc, count)?;
     let mut homes = Homes {
@@ -119,7 +118,7 @@ impl<'a> Homes<'a> {
 
 /// The number of the name without a context that has the symbol of a name with a number.
 pub(crate) fn alone_of<'a>(
-    names: &IndexSet<Name<'a>, Salt>,
+    names: &IndexSet<Name<'a>, Mixed>,
     name: Name<'a>,
     number: usize,
 ) -> Option<usize>
@@ -133,7 +132,7 @@ pub(crate) fn alone_of<'a>(
 }
 
 // The number of the name without a context that has this symbol.
-fn without_context<'a>(names: &IndexSet<Name<'a>, Salt>, sym: &'a str) -> Option<usize>
+fn without_context<'a>(names: &IndexSet<Name<'a>, Mixed>, sym: &'a str) -> Option<usize>
     ensures { FindsAlone (map name_as names.now.keys) sym.now result }
 {
     names.get_index_of(&Name { sym, ctxt: None })
@@ -148,7 +147,7 @@ fn parameters_of<'a>(alloc: Global, walk: &Walk<'a>) -> Result<Keys, AllocError>
         (map (taken_key (map numbered walk.now.scopes.items) walk.now.top)
         walk.now.declarations.items)) }
 {
-    let mut parameters = IndexSet::with_hasher(alloc, Mixed::of(walk.names.hasher()));
+    let mut parameters = IndexSet::with_hasher(alloc, *walk.names.hasher());
     for declaration in &walk.declarations {
         let taker = taker_of(&walk.scopes, declaration.way, declaration.scope).unwrap_or(walk.top);
         put_parameter(&mut parameters, &walk.scopes, (taker, declaration.name))?;

@@ -30,6 +30,25 @@ pub(crate) fn is_pattern(node: &Node) -> bool
     }
 }
 
+/// Whether such a node makes no scope and says nothing of what stands in it, but for the nodes of patterns how it is
+/// declared by what stands around.
+pub(crate) fn is_quiet(node: &Node) -> bool
+    ensures { result ≡ kinds.is_quiet (head_of node.now) }
+{
+    match node {
+        Node::ImportNamedSpecifier | Node::ImportDefaultSpecifier | Node::ImportStarAsSpecifier =>
+            false,
+        Node::ExportDefaultDecl | Node::ExportDefaultExpr => false,
+        Node::BlockStmt | Node::SwitchStmt | Node::CatchClause => false,
+        Node::ForStmt | Node::ForInStmt | Node::ForOfStmt { .. } => false,
+        Node::ClassDecl | Node::FnDecl | Node::VarDecl { .. } | Node::VarDeclarator => false,
+        Node::FnExpr | Node::ArrowExpr { .. } | Node::ClassExpr => false,
+        Node::GetterProp | Node::SetterProp | Node::Function { .. } | Node::Param => false,
+        Node::Constructor | Node::StaticBlock => false,
+        _ => true,
+    }
+}
+
 /// The field of such a node that is the head of a loop.
 pub(crate) fn loop_head(node: &Node) -> Option<u8>
     ensures { (field : ℕ) →

@@ -1,4 +1,4 @@
-//! A hash of keys that are made of a few numbers.
+//! A hash of names, and of keys that are made of a few numbers.
 
 ghost use Rattle.std.specs.Prelude.{◌≡◌};
 ghost use Rattle.bundle_scope_denote.specs.Mixed.{folded, mix, mix_bytes, mixed_by};
@@ -6,10 +6,11 @@ ghost use Rattle.bundle_scope_denote.specs.Mixed.{folded, mix, mix_bytes, mixed_
 use crate::salt::Salt;
 use std::hash::{BuildHasher, Hasher};
 
-/// Makes hashers for tables whose keys are numbers that this program gives, as those of the scopes and names of a list.
-/// They begin with the list's salt, since of all pairs of such numbers a stranger can choose those that meet in one
-/// place, and fold each number in by one product, as the kit's own hasher for such tables does, but take a number as
-/// it is and not byte by byte.
+/// Makes hashers for the tables over a list: of its names, and of numbers that this program gives, as those of its scopes
+/// and names. They begin with the list's salt, since of all names and of all pairs of such numbers a stranger can choose
+/// those that meet in one place, and fold each number in by one product, as the kit's own hasher for such tables does,
+/// but take a number as it is and not byte by byte. Of a text each byte is a number, but where it has eight; and who
+/// chooses texts does not choose what the salt has made stand before them.
 #[derive(Clone, Copy)]
 pub struct Mixed {
     begun: Mixer,

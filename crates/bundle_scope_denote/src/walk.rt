@@ -1,7 +1,8 @@
 //! One pass over a list: the scopes, the declarations and the occurrences, with names as numbers.
 
-ghost use Rattle.std.specs.Prelude.{◌≡◌, ◌+◌, ◌<◌, ◌++◌, ◌∷◌, [], ℕ, false, IfOk, OnOk, cond, drop, map, length, slice_get};
+ghost use Rattle.std.specs.Prelude.{◌≡◌, ◌+◌, ◌<◌, ◌++◌, ◌∷◌, [], ℕ, true, false, IfOk, OnOk, cond, drop, map, length, slice_get};
 ghost use Rattle.std.specs.Option.{option_map, option_to_list};
+ghost use Rattle.bundle_tree_piece.specs.Item as Items;
 ghost use Rattle.bundle_tree_piece.specs.Item.{head_of, item_of};
 ghost use Rattle.bundle_rules.specs.Places.{is_binding};
 ghost use Rattle.bundle_rules.specs.Scopes as Scopes;
@@ -10,16 +11,17 @@ ghost use Rattle.bundle_rules.specs.Declarations as Declarations;
 ghost use Rattle.bundle_scope_denote.specs.Chains.{top_number};
 ghost use Rattle.bundle_scope_denote.specs.Kinds as kinds;
 ghost use Rattle.bundle_scope_denote.specs.Kinds.{kind_as, kind_made, kind_named, reading_as, scope_as};
-ghost use Rattle.bundle_scope_denote.specs.Steps.{Begins, Ends, Goes, IsBlank, IsTidyAt, IsWalkAt, IsWhole, Occurs, Starts, Stays};
+ghost use Rattle.bundle_scope_denote.specs.Steps.{Begins, Ends, Goes, IsBlank, IsTidyAt, IsWalkAt, IsWhole, Occurs, Opens, Starts, Stays};
 ghost use Rattle.bundle_scope_denote.specs.Numbers.{Keeps, name_as, numbered, in_scope};
 ghost use Rattle.bundle_scope_denote.specs.Hashed.{hashed, hashed-alike};
 ghost use Rattle.bundle_scope_denote.specs.Walked as walked;
-ghost use Rattle.bundle_scope_denote.specs.Walked.{IsAlone, IsDefault, StaysOnce, begins_node_by, begins_nameless, declared_as, is_identifier_by, is_nameless_by};
+ghost use Rattle.bundle_scope_denote.specs.Walked.{GoesOn, IsAlone, IsBare, IsDefault, StaysOnce, begins_node_by, begins_nameless, declared_as, is_identifier_by, is_nameless_by};
 
 use crate::kinds::{
-    block_in, is_default, is_field, is_pattern, kind_of_scope, leaves_first_out, loop_head, way_in,
-    way_of_variable,
+    block_in, is_default, is_field, is_pattern, is_quiet, kind_of_scope, leaves_first_out,
+    loop_head, way_in, way_of_variable,
 };
+use crate::mixed::Mixed;
 use crate::salt::Salt;
 use crate::table::{ModuleKind, Reading, Scope, ScopeKind, Way};
 use bundle_tree_piece::{Node, Piece, Role};
@@ -83,19 +85,28 @@ pub(crate) struct Open {
     pub(crate) leaves_first_out: bool,
 }
 
+/// An open node, and how many more of which the same is known are open right inside it, one in another.
+#[derive(Clone, Copy)]
+pub(crate) struct Nodes {
+    pub(crate) node: Open,
+    pub(crate) more: u32,
+}
+
 /// What was met so far. `top` is the number of the scope of the module's top; `inner` is the innermost open node,
-/// and at last what is known outside all nodes.
+/// and at last what is known outside all nodes; and so many more of which the same is known are open in it.
 #[derive(Drop)]
 pub(crate) struct Walk<'a> {
     pub(crate) scopes: Vec<Scope>,
-    pub(crate) names: IndexSet<Name<'a>, Salt>,
+    pub(crate) names: IndexSet<Name<'a>, Mixed>,
     pub(crate) declarations: Vec<Declaration>,
     pub(crate) occurrences: Vec<Occurrence>,
     pub(crate) top: usize,
     inner: Open,
-    outer: Vec<Open>,
+    more: u32,
+    outer: Vec<Nodes>,
     pub(crate) kind: ModuleKind,
     pub(crate) reading: Reading,
+    pub(crate) salt: Salt,
 }
 
 impl<'a> Walk<'a> {
@@ -108,14 +119,16 @@ impl<'a> Walk<'a> {
         let top = top_of(kind);
         Walk {
             scopes: Vec::new(alloc),
-            names: IndexSet::with_hasher(alloc, salt),
+            names: IndexSet::with_hasher(alloc, Mixed::of(&salt)),
             declarations: Vec::new(alloc),
             occurrences: Vec::new(alloc),
             top,
             inner: outermost(top),
+            more: 0,
             outer: Vec::new(alloc),
             kind,
             reading,
+            salt,
         }
     }
 
@@ -127,10 +140,24 @@ impl<'a> Walk<'a> {
             (map item_of pieces.now)) }
         ensures stays { OnOk result (Stays self.old self.new) }
     {
+        self.make_room(pieces.len())?;
         self.start()?;
         for place in 0..pieces.len() {
             self.step(pieces, place)?;
         }
+        Ok(())
+    }
+
+    // Makes room for what so many pieces have, as a rule.
+    fn make_room(&mut self, count: usize) -> Result<(), AllocError>
+        requires { IsBlank self.old }
+        ensures blank { IsBlank self.new }
+        ensures stays { Stays self.old self.new }
+    {
+        self.scopes.reserve(count / 12)?;
+        self.names.reserve(count / 12)?;
+        self.declarations.reserve(count / 12)?;
+        self.occurrences.reserve(count / 6)?;
         Ok(())
     }
 
@@ -178,16 +205,20 @@ impl<'a> Walk<'a> {
         ensures goes { OnOk result (Goes self.old self.new (map item_of pieces.now) place) }
         ensures tidy { OnOk result (IsTidyAt self.new (place + 1)) }
     {
-        let piece = pieces[place];
-        match piece {
-            Piece::Open { field, node } => self.begin(pieces, place, field, node),
+        match &pieces[place] {
+            Piece::Open { field, node } => self.begin(pieces, place, *field, node),
             Piece::Ident {
                 field,
                 sym,
                 ctxt,
                 role,
-            } if is_occurrence(piece) => self.name(place, field, sym, ctxt, role),
-            Piece::Ident { .. } => Ok(()),
+            } => {
+                if is_occurrence(*role) {
+                    self.name(place, *field, *sym, *ctxt, *role)
+                } else {
+                    Ok(())
+                }
+            }
             Piece::Hole { .. } => Ok(()),
             Piece::Close => {
                 self.end();
@@ -202,20 +233,73 @@ impl<'a> Walk<'a> {
         pieces: &[Piece<'a>],
         place: usize,
         field: u8,
-        node: Node<'a>,
+        node: &Node<'a>,
+    ) -> Result<(), AllocError>
+        requires within { place < length pieces.now }
+        requires at { slice_get (map item_of pieces.now) place
+            ≡ Some (Items.Open field (head_of node.now)) }
+        ensures { OnOk result
+            (Begins self.old self.new place field (head_of node.now)
+            (begins_nameless (map item_of (drop place pieces.now)))) }
+    {
+        if is_quiet(node) {
+            self.begin_quiet(field, node)
+        } else {
+            self.begin_other(pieces, place, field, node)
+        }
+    }
+
+    // A node begins for which nothing is to be noted but how it declares the names in it.
+    fn begin_quiet(&mut self, field: u8, node: &Node<'a>) -> Result<(), AllocError>
+        requires { kinds.is_quiet (head_of node.now) ≡ true }
+        ensures { OnOk result
+            ((place : ℕ) → Begins self.old self.new place field (head_of node.now) false) }
+    {
+        if self.more < u32::MAX && goes_on(node, &self.inner) {
+            self.more += 1;
+            return Ok(());
+        }
+        let way = if is_pattern(node) {
+            self.inner.way
+        } else {
+            None
+        };
+        let around = scope_in(&self.inner, field);
+        self.open(quiet(way, around))
+    }
+
+    // Any other node begins.
+    fn begin_other(
+        &mut self,
+        pieces: &[Piece<'a>],
+        place: usize,
+        field: u8,
+        node: &Node<'a>,
     ) -> Result<(), AllocError>
         requires { place < length pieces.now }
         ensures { OnOk result
-            (Begins self.old self.new place field (head_of node.entry)
+            (Begins self.old self.new place field (head_of node.now)
             (begins_nameless (map item_of (drop place pieces.now)))) }
     {
         let default = default_at(&mut self.names, &pieces[place..], place, self.top)?;
         push_some(&mut self.declarations, default)?;
         let around = scope_in(&self.inner, field);
-        let made = made_by(&node, &self.inner, around, place);
+        let made = made_by(node, &self.inner, around, place);
         let own = push_scope(&mut self.scopes, made)?;
-        self.outer.push(self.inner)?;
-        self.inner = opened(&node, field, &self.inner, around, own);
+        let opened = opened(node, field, &self.inner, around, own);
+        self.open(opened)
+    }
+
+    // The innermost node is this one now.
+    fn open(&mut self, node: Open) -> Result<(), AllocError>
+        ensures { OnOk result (Opens self.old self.new node) }
+    {
+        self.outer.push(Nodes {
+            node: self.inner,
+            more: self.more,
+        })?;
+        self.inner = node;
+        self.more = 0;
         Ok(())
     }
 
@@ -248,8 +332,13 @@ impl<'a> Walk<'a> {
     fn end(&mut self)
         ensures { Ends self.old self.new }
     {
+        if self.more > 0 {
+            self.more -= 1;
+            return;
+        }
         if let Some(outer) = self.outer.pop() {
-            self.inner = outer;
+            self.inner = outer.node;
+            self.more = outer.more;
         }
     }
 }
@@ -279,6 +368,46 @@ fn outermost(top: usize) -> Open
         way: None,
         variable: None,
         around: top,
+        own: None,
+        block: ScopeKind::Block,
+        is_default: false,
+        head: None,
+        leaves_first_out: false,
+    }
+}
+
+// Whether the same is known of a node for which nothing is to be noted as of the innermost one.
+fn goes_on<'a>(node: &Node<'a>, inner: &Open) -> bool
+    ensures { result ≡ true → GoesOn (head_of node.now) inner.now }
+{
+    if inner.way.is_some() && !is_pattern(node) {
+        return false;
+    }
+    is_bare(inner)
+}
+
+// Whether nothing is noted of an open node but how it declares the names in it.
+fn is_bare(inner: &Open) -> bool
+    ensures { result ≡ true → IsBare inner.now }
+{
+    inner.own.is_none()
+        && inner.variable.is_none()
+        && inner.head.is_none()
+        && inner.block == ScopeKind::Block
+        && !inner.is_default
+        && !inner.leaves_first_out
+}
+
+// A node of which nothing is noted but how it declares the names in it.
+fn quiet(way: Option<Way>, around: usize) -> Open
+    ensures way { result.way ≡ way }
+    ensures around { result.around ≡ around }
+    ensures bare { IsBare result }
+{
+    Open {
+        way,
+        variable: None,
+        around,
         own: None,
         block: ScopeKind::Block,
         is_default: false,
@@ -347,14 +476,11 @@ fn made_by<'a>(node: &Node<'a>, inner: &Open, around: usize, place: usize) -> Op
     })
 }
 
-// Whether an element is an identifier that binds or refers.
-fn is_occurrence<'a>(piece: Piece<'a>) -> bool
-    ensures { result ≡ walked.is_occurrence (item_of piece.entry) }
+// Whether an identifier binds or refers.
+fn is_occurrence(role: Role) -> bool
+    ensures { result ≡ walked.occurs_as role }
 {
-    match piece {
-        Piece::Ident { role, .. } => role != Role::Word,
-        _ => false,
-    }
+    role != Role::Word
 }
 
 // How an identifier declares its name, with this node around it.
@@ -396,7 +522,7 @@ fn name_of<'a>(reading: Reading, sym: &'a str, ctxt: u32) -> Name<'a>
 
 /// The number of a name, which it gets if it has none.
 pub(crate) fn number_of<'a>(
-    names: &mut IndexSet<Name<'a>, Salt>,
+    names: &mut IndexSet<Name<'a>, Mixed>,
     name: Name<'a>,
 ) -> Result<usize, AllocError>
     ensures keeps { OnOk result (Keeps (map name_as names.old.keys) (map name_as names.new.keys)) }
@@ -411,7 +537,7 @@ pub(crate) fn number_of<'a>(
 
 // The declaration of a name for which no identifier stands.
 fn alone<'a>(
-    names: &mut IndexSet<Name<'a>, Salt>,
+    names: &mut IndexSet<Name<'a>, Mixed>,
     sym: &'a str,
     way: Way,
     place: usize,
@@ -434,7 +560,7 @@ fn alone<'a>(
 
 // The declaration of the default export without a name that begins with the first of these pieces, if one does.
 fn default_at<'a>(
-    names: &mut IndexSet<Name<'a>, Salt>,
+    names: &mut IndexSet<Name<'a>, Mixed>,
     rest: &[Piece<'a>],
     place: usize,
     top: usize,

@@ -3,7 +3,6 @@ use Rattle.std.proofs.Common.{◌≡◌, ℕ, suc, ◌==◌, Bool, true, false, 
 use Rattle.std.specs.Borrow.{Bor}
 use Rattle.std.specs.Prelude.{slice_get}
 use Rattle.std.specs.List.{list_any}
-use Rattle.std.specs.Map.{lookup}
 use Rattle.std.proofs.lemmas.Bool.{false≢true, or_left, or_right, and_from, and_parts}
 use Rattle.std.proofs.lemmas.Option.{none-some}
 use Rattle.bundle_tree_piece.specs.Item.{Item}
@@ -14,7 +13,7 @@ use Rattle.bundle_scope_denote.proofs.InsertLemmas.{list_any-here}
 use Rattle.bundle_tree_places.proofs.ListLemmas.{take_at}
 use Rattle.bundle_scope_names.specs.declared.hygiene.Hygiene.{Hygiene}
 use Rattle.bundle_scope_names.specs.Turns.{Facts, symbol_by, symbol_of, is_around, needs_by, needs_in, is_symbol, is_global_by, is_called_by, is_called, is_before, is_number, declares, first_of}
-use Rattle.bundle_scope_names.specs.Marks.{Symbol, is_among, is_called_in, needed_by, has, IsClosed, Marks, has_symbol, last_of, symbol_called, Adds, AddsGlobal, Knows}
+use Rattle.bundle_scope_names.specs.Marks.{Symbol, is_among, is_called_in, needed_by, has, IsClosed, Marks, has_symbol, number_in, last_by, last_of, symbol_called, Adds, AddsGlobal, Knows}
 use Rattle.bundle_scope_names.proofs.TestLemmas.{or_false, any_more, any_same, bytes_comm, same_bytes, given-or}
 use Rattle.bundle_scope_names.proofs.MarkLemmas.{has-nothing}
 
@@ -56,9 +55,9 @@ pub record HasGlobals (scopes : List Numbered) (items : List Item) (symbols : Li
   pub closed : IsClosed scopes (needed_by hygiene)
   pub kept : hygiene.kept.keys ≡ []
   pub given : hygiene.given.keys ≡ []
-  pub last : hygiene.last.entries ≡ []
+  pub last : (symbol : ℕ) → unwrap_or (slice_get hygiene.last.items symbol) 0 ≡ 0
 
-pub globals-first : (scopes : List Numbered) (items : List Item) (symbols : List Text) (all : List Denoted) (hygiene : Hygiene) → ((text : Text) → has_symbol hygiene text ≡ list_any (is_called_in items symbols text) all) → hygiene.needed.keys ≡ [] → hygiene.kept.keys ≡ [] → hygiene.given.keys ≡ [] → hygiene.last.entries ≡ [] → HasGlobals scopes items symbols all [] hygiene
+pub globals-first : (scopes : List Numbered) (items : List Item) (symbols : List Text) (all : List Denoted) (hygiene : Hygiene) → ((text : Text) → has_symbol hygiene text ≡ list_any (is_called_in items symbols text) all) → hygiene.needed.keys ≡ [] → hygiene.kept.keys ≡ [] → hygiene.given.keys ≡ [] → ((symbol : ℕ) → unwrap_or (slice_get hygiene.last.items symbol) 0 ≡ 0) → HasGlobals scopes items symbols all [] hygiene
 globals-first scopes items symbols all hygiene tells needed kept given last = record {
   tells = tells;
   needed = λ scope text. has-nothing hygiene.symbols.keys scope text hygiene.needed.keys needed;
@@ -83,7 +82,7 @@ globals-more scopes items symbols occurrences i o old new at adds known = subst 
   closed = adds.closed has_number known.closed;
   kept = adds.kept ∙ known.kept;
   given = adds.given ∙ known.given;
-  last = adds.last ∙ known.last;
+  last = λ symbol. ap (λ l. unwrap_or (slice_get l symbol) 0) adds.last ∙ known.last symbol;
 })
   where
     has_number : (text : Text) → globals items text o ≡ true → has_symbol old text ≡ true
@@ -96,9 +95,13 @@ knows-first facts hygiene known = record {
   closed = known.closed;
   kept = λ group text. has-nothing hygiene.symbols.keys group text hygiene.kept.keys known.kept;
   given = λ text. ap (list_any (λ key. bytes_eq text (string_bytes key))) known.given;
-  tried = λ text k pos le. absurd (let none : last_of hygiene text ≡ 0 = ap (λ es. unwrap_or (lookup (λ key. bytes_eq text key.now) es) 0) known.last in omega arith);
+  tried = λ text k pos le. absurd (let none : last_of hygiene text ≡ 0 = untried (number_in hygiene.symbols.keys text) in omega arith);
 }
   where
+    untried : (symbol : Option ℕ) → last_by hygiene.last.items symbol ≡ 0
+    untried None = refl
+    untried (Some symbol) = known.last symbol
+
     none : (b : Bool) → false ≡ (b && false)
     none true = refl
     none false = refl
@@ -135,7 +138,7 @@ adds-no_number scopes from symbol text hygiene is none = record {
 }
 
 -- a symbol
-pub adds-one : (scopes : List Numbered) (from : ℕ) (symbol : Option Text) (text : Text) (old new : Hygiene) → symbol ≡ Some text → new.symbols.keys ≡ old.symbols.keys → (IsClosed scopes (needed_by old) → Marks scopes (from ∷ []) text (needed_by old) (needed_by new)) → new.kept.keys ≡ old.kept.keys → new.given.keys ≡ old.given.keys → new.last.entries ≡ old.last.entries → AddsGlobal scopes from symbol old new
+pub adds-one : (scopes : List Numbered) (from : ℕ) (symbol : Option Text) (text : Text) (old new : Hygiene) → symbol ≡ Some text → new.symbols.keys ≡ old.symbols.keys → (IsClosed scopes (needed_by old) → Marks scopes (from ∷ []) text (needed_by old) (needed_by new)) → new.kept.keys ≡ old.kept.keys → new.given.keys ≡ old.given.keys → new.last.items ≡ old.last.items → AddsGlobal scopes from symbol old new
 adds-one scopes from symbol text old new is symbols marks kept given last = record {
   symbols = symbols;
   needed = λ has_number closed scope other. (marks closed).marks scope other ∙ ap (λ b. has scope other (needed_by old) || b) (turn (bytes_eq other text) (is_around scopes from scope) ∙ ap (λ b. is_around scopes from scope && b) (bytes_comm other text) ∙ ap (λ s. is_around scopes from scope && is_symbol other s) (sym is));

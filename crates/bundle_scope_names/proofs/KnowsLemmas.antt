@@ -1,6 +1,7 @@
 -- What is known once one more binding had its turn.
 use Rattle.std.proofs.Common.{◌≡◌, ◌<◌, ◌≤◌, ⊎_elim, ℕ, zero, suc, ◌==◌, Bool, true, false, ◌||◌, ◌&&◌, cond, not, List, [], ◌∷◌, ◌++◌, Option, Some, None, map, refl, ap, ap₂, sym, ◌∙◌, subst, arith, eqb-true, bytes_eq, string_bytes, decimal}
-use Rattle.std.specs.Prelude.{slice_get, filter}
+use Rattle.std.specs.Prelude.{slice_get, filter, unwrap_or}
+use Rattle.std.specs.Option.{option_map}
 use Rattle.std.specs.List.{list_any}
 use Rattle.std.proofs.lemmas.Bool.{false≢true, or_cases, or_left, or_right, and_from, and_parts, cases_order, ne_eqb}
 use Rattle.bundle_rules.specs.Homes.{is_arguments}
@@ -10,8 +11,9 @@ use Rattle.bundle_scope_denote.specs.declared.table.Denoted.{Denoted}
 use Rattle.bundle_scope_denote.specs.Numbers.{Numbered}
 use Rattle.bundle_scope_names.specs.declared.hygiene.Hygiene.{Hygiene}
 use Rattle.bundle_scope_names.specs.Turns.{Facts, Turn, symbol_of, symbol_by, is_symbol, home_of, group_of, is_around, is_number, denotes, keeps, keeps_in, is_kept, keeps_own, needs_by, needs, needs_in, is_needed, may_keep, gets, is_taken, all_to, is_least, is_right}
-use Rattle.bundle_scope_names.specs.Marks.{needed_by, has, IsClosed, Marks, has_symbol, has_given, has_taken, last_of, may_keep_by, Keeps, AreTried, Gives, Knows, uses_of}
+use Rattle.bundle_scope_names.specs.Marks.{Symbol, number_in, needed_by, has, IsClosed, Marks, has_symbol, has_given, has_taken, last_by, last_of, may_keep_by, Keeps, AreTried, Gives, Knows, uses_of}
 use Rattle.bundle_scope_names.proofs.TestLemmas.{or_false, any_more, any_same, any_or, eq_comm, bytes_comm, bytes_same, same_bytes}
+use Rattle.bundle_scope_names.proofs.MarkLemmas.{same-symbols}
 
 -- The least number.
 
@@ -183,9 +185,24 @@ gives-next facts done old new number n known may gives = (
     own : (k : ℕ) → 0 < k → k ≤ n → has_taken new (numbered (symbol_of facts number) k) ≡ true
     own k pos le = ⊎_elim (λ e. subst (λ m. has_taken new (numbered (symbol_of facts number) m) ≡ true) (sym e) now_given) (λ apart. ⊎_elim (λ below. stays (numbered (symbol_of facts number) k) (least-below (λ m. has_taken old (numbered (symbol_of facts number) m)) n k least pos below)) (λ above. absurd (omega arith)) apart) (cases_order k n)
 
+    reach : (text : Text) (t : Bool) → bytes_eq (symbol_of facts number) text ≡ t → (k : ℕ) → k ≤ last_of new text → k ≤ cond t n (last_of old text)
+    reach text t is k le = let most : last_of new text ≤ cond t n (last_of old text) = subst (λ b. last_of new text ≤ cond b n (last_of old text)) is (gives.last text) in omega (arith, le, most)
+
     tried : (text : Text) → AreTried new text
     tried text = by (bytes_eq (symbol_of facts number) text) refl
       where
         by : (t : Bool) → bytes_eq (symbol_of facts number) text ≡ t → AreTried new text
-        by true is k pos le = subst (λ t. has_taken new (numbered t k) ≡ true) (bytes_same (symbol_of facts number) text is) (own k pos (subst (λ m. k ≤ m) (gives.last text ∙ ap (λ b. cond b n (last_of old text)) is) le))
-        by false is k pos le = stays (numbered text k) (known.tried text k pos (subst (λ m. k ≤ m) (gives.last text ∙ ap (λ b. cond b n (last_of old text)) is) le))
+        by true is k pos le = subst (λ t. has_taken new (numbered t k) ≡ true) (bytes_same (symbol_of facts number) text is) (own k pos (reach text true is k le))
+        by false is k pos le = stays (numbered text k) (known.tried text k pos (reach text false is k le))
+
+-- the last numbers that were tried, once one of them is another
+pub last-next : (symbols : List Symbol) (old new : List ℕ) (text other : Text) (symbol n : ℕ) → number_in symbols text ≡ Some symbol → ((i : ℕ) → slice_get new i ≡ option_map (cond (symbol == i) n) (slice_get old i)) → last_by new (number_in symbols other) ≤ cond (bytes_eq text other) n (last_by old (number_in symbols other))
+last-next symbols old new text other symbol n is sets = by (number_in symbols other) refl
+  where
+    most : (t : Bool) (same : t ≡ bytes_eq text other) (v : Option ℕ) → unwrap_or (option_map (cond t n) v) 0 ≤ cond (bytes_eq text other) n (unwrap_or v 0)
+    most t same None = omega arith
+    most t same (Some v) = subst (λ b. cond t n v ≤ cond b n v) same (omega arith)
+
+    by : (o : Option ℕ) → number_in symbols other ≡ o → last_by new o ≤ cond (bytes_eq text other) n (last_by old o)
+    by None e = omega arith
+    by (Some i) e = subst (λ x. unwrap_or x 0 ≤ cond (bytes_eq text other) n (unwrap_or (slice_get old i) 0)) (sym (sets i)) (most (symbol == i) (same-symbols symbols text other symbol i is e) (slice_get old i))

@@ -1,12 +1,15 @@
 pub mod CalledLemmas
 pub mod TestLemmas
+pub mod WordLemmas
 pub mod AroundLemmas
 pub mod ListLemmas
 pub mod PlaceLemmas
 pub mod MarkLemmas
+pub mod UsesLemmas
 pub mod KnowsLemmas
 pub mod GlobalLemmas
 pub mod FreshLemmas
+pub mod SymbolLemmas
 pub mod NamedLemmas
 pub mod Numbering
 pub mod Lists

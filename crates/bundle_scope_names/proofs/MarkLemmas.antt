@@ -29,6 +29,10 @@ same-number symbols a b i is_a is_b =
     bytes_same a (get_or symbols i none).now (position-Some (λ (key : Symbol). bytes_eq a key.now) symbols i none is_a).1
     ∙ sym (bytes_same b (get_or symbols i none).now (position-Some (λ (key : Symbol). bytes_eq b key.now) symbols i none is_b).1)
 
+-- two numbers are one where two texts are
+pub same-symbols : (symbols : List Symbol) (a b : Text) (i j : ℕ) → number_in symbols a ≡ Some i → number_in symbols b ≡ Some j → (i == j) ≡ bytes_eq a b
+same-symbols symbols a b i j is_a is_b = iff (i == j) (bytes_eq a b) (λ e. same_bytes a b (same-number symbols a b j (is_a ∙ ap (λ n. Some n) (eqb-true i j e)) is_b)) (λ e. eq-eqb i j (same_Some i j (sym is_a ∙ ap (number_in symbols) (bytes_same a b e) ∙ is_b)))
+
 -- whose key is put is marked
 pub has-put : (symbols : List Symbol) (number symbol : ℕ) (text : Text) (old new : List Key) → number_in symbols text ≡ Some symbol → PutsKey number symbol old new → Puts number text (marked symbols old) (marked symbols new)
 has-put symbols number symbol text old new is puts scope other = by (number_in symbols other) refl
@@ -154,14 +158,3 @@ marks-none scopes text old closed = record { closed = closed; marks = λ scope o
     none true b = refl
     none false true = refl
     none false false = refl
-
-pub marks-more : (scopes : List Numbered) (uses : List ℕ) (from : ℕ) (text : Text) (old now new : Marked) → Marks scopes uses text old now → Marks scopes (from ∷ []) text now new → Marks scopes (uses ++ from ∷ []) text old new
-marks-more scopes uses from text old now new first second = record {
-  closed = second.closed;
-  marks = λ scope other. second.marks scope other ∙ ap (λ b. b || (bytes_eq other text && (is_around scopes from scope || false))) (first.marks scope other) ∙ join (has scope other old) (bytes_eq other text) (list_any (λ u. is_around scopes u scope) uses) (is_around scopes from scope || false) ∙ ap (λ b. has scope other old || (bytes_eq other text && b)) (sym (list_any-append (λ u. is_around scopes u scope) uses (from ∷ [])));
-}
-  where
-    join : (a b c d : Bool) → ((a || (b && c)) || (b && d)) ≡ (a || (b && (c || d)))
-    join true b c d = refl
-    join false true c d = refl
-    join false false c d = refl

@@ -4,3 +4,6 @@ pub mod Marks
 pub mod Fresh
 pub mod Numbering
 pub mod Resolution
+pub mod Uses
+pub mod Symbols
+pub mod Changed

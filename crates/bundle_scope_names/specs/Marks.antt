@@ -1,7 +1,6 @@
 -- Symbols that are marked in scopes, and what is known of the bindings that had their turn.
 use Rattle.std.specs.Prelude.{◌≡◌, ◌<◌, ◌≤◌, ℕ, ◌==◌, ◌&&◌, ◌||◌, not, cond, Bool, true, false, Option, Some, None, List, position, bytes_eq, string_bytes, unwrap_or, map, filter, slice_get}
 use Rattle.std.specs.List.{list_any}
-use Rattle.std.specs.HashMap.{get_by}
 use Rattle.bundle_tree_piece.specs.Item.{Item}
 use Rattle.bundle_rules.specs.Renaming.{numbered}
 use Rattle.bundle_rules.specs.Homes.{is_arguments}
@@ -72,9 +71,14 @@ has_given hygiene text = list_any (λ key. bytes_eq text (string_bytes key)) hyg
 abbrev pub has_taken : Hygiene → Text → Bool
 has_taken hygiene text = has_symbol hygiene text || has_given hygiene text
 
+-- what stands at the number of a symbol, or zero
+abbrev pub last_by : List ℕ → Option ℕ → ℕ
+last_by last None = 0
+last_by last (Some symbol) = unwrap_or (slice_get last symbol) 0
+
 -- the last number that was tried for a symbol, or zero
 abbrev pub last_of : Hygiene → Text → ℕ
-last_of hygiene text = unwrap_or (get_by (λ key. bytes_eq text key.now) hygiene.last) 0
+last_of hygiene text = last_by hygiene.last.items (number_in hygiene.symbols.keys text)
 
 -- whether a binding may keep its symbol, by what is marked
 abbrev pub may_keep_by : Hygiene → (home group : ℕ) → Text → Bool
@@ -101,7 +105,7 @@ pub record Gives (text : Text) (number : ℕ) (old new : Hygiene) : Type 0 where
   pub symbols : new.symbols.keys ≡ old.symbols.keys
   pub given : (other : Text) →
       has_given new other ≡ (has_given old other || bytes_eq other (numbered text number))
-  pub last : (other : Text) → last_of new other ≡ cond (bytes_eq text other) number (last_of old other)
+  pub last : (other : Text) → last_of new other ≤ cond (bytes_eq text other) number (last_of old other)
 
 -- what is known once these bindings had their turn
 pub record Knows (facts : Facts) (done : List Turn) (hygiene : Hygiene) : Type 0 where
@@ -133,7 +137,7 @@ pub record AddsGlobal (scopes : List Numbered) (from : ℕ) (symbol : Option Tex
       IsClosed scopes (needed_by old) → IsClosed scopes (needed_by new)
   pub kept : new.kept.keys ≡ old.kept.keys
   pub given : new.given.keys ≡ old.given.keys
-  pub last : new.last.entries ≡ old.last.entries
+  pub last : new.last.items ≡ old.last.items
 
 -- the symbol of an occurrence is needed, if it is a global, whose symbol has a number
 pub record Adds (scopes : List Numbered) (items : List Item) (occurrence : Denoted) (old new : Hygiene) : Type 0 where
@@ -146,7 +150,7 @@ pub record Adds (scopes : List Numbered) (items : List Item) (occurrence : Denot
       IsClosed scopes (needed_by old) → IsClosed scopes (needed_by new)
   pub kept : new.kept.keys ≡ old.kept.keys
   pub given : new.given.keys ≡ old.given.keys
-  pub last : new.last.entries ≡ old.last.entries
+  pub last : new.last.items ≡ old.last.items
 
 -- the scopes of the occurrences that denote a binding
 abbrev pub uses_of : List Denoted → ℕ → List ℕ

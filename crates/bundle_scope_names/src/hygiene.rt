@@ -2,7 +2,7 @@
 //! (ECMA-262, 9.1: an inner binding hides an outer one of its name), where no binding changes its symbol
 //! without need.
 
-ghost use Rattle.std.specs.Prelude.{◌≡◌, ◌<◌, ◌==◌, ◌||◌, ◌++◌, ◌∷◌, [], ℕ, true, cond, None, Some, List, IfOk, OnOk, length, map, string_bytes, slice_get, unwrap_or, if◌then◌else◌};
+ghost use Rattle.std.specs.Prelude.{◌≡◌, ◌<◌, ◌==◌, ◌++◌, ◌∷◌, [], ℕ, true, cond, None, Some, List, IfOk, OnOk, length, map, string_bytes, slice_get, unwrap_or};
 ghost use Rattle.std.specs.List.{list_any};
 ghost use Rattle.std.specs.Option.{option_map};
 ghost use Rattle.bundle_tree_piece.specs.Item.{item_of};
@@ -16,16 +16,19 @@ ghost use Rattle.bundle_scope_denote.specs.Bound as bound;
 ghost use Rattle.bundle_scope_denote.specs.Kinds.{scope_as};
 ghost use Rattle.bundle_scope_names.specs.Called.{at};
 ghost use Rattle.bundle_scope_names.specs.Turns as turns;
-ghost use Rattle.bundle_scope_names.specs.Turns.{AreInTurn, AreNamed, Facts, first_after, first_of, given_to, group_of, home_of, is_before, is_right, symbol_by, symbol_of, symbols_from};
+ghost use Rattle.bundle_scope_names.specs.Turns.{AreInTurn, AreNamed, Facts, first_after, first_of, given_to, group_of, home_of, is_before, is_number, is_right, symbol_by, symbol_of, symbols_from};
 ghost use Rattle.bundle_scope_names.specs.Marks as the_marks;
-ghost use Rattle.bundle_scope_names.specs.Marks.{Adds, AddsGlobal, AreTried, Gives, IsClosed, Keeps, Knows, Marks, Symbol, has, has_given, has_symbol, has_taken, is_among, is_called_in, marked, may_keep_by, number_in};
+ghost use Rattle.bundle_scope_names.specs.Symbols.{AddsSymbol, HasNumbers};
+ghost use Rattle.bundle_scope_names.specs.Uses.{AreUses};
+ghost use Rattle.bundle_scope_names.specs.Marks.{Adds, AddsGlobal, Gives, IsClosed, Keeps, Knows, Marks, Symbol, has_symbol, has_taken, is_among, is_called_in, last_by, marked, may_keep_by, number_in, uses_of};
 
 use crate::names::Names;
+use crate::uses::Uses;
 use bundle_scope_denote::{Binding, Denotations, Denoted, Mixed, Salt, Scope, ScopeKind};
 use bundle_tree_piece::Piece;
 use indexmap::IndexSet;
 use std::alloc::{AllocError, Global};
-use std::collections::{HashMap, HashSet};
+use std::collections::HashSet;
 
 // A binding by its scope, its first place and its number.
 type Place = (usize, usize, usize);
@@ -44,8 +47,24 @@ struct Hygiene<'s> {
     kept: Keys,
     // The texts that were given.
     given: HashSet<String, Salt>,
-    // For each symbol that was numbered the last number that was tried.
-    last: HashMap<&'s str, usize, Salt>,
+    // For each symbol, by its number, the last number that was tried, or zero.
+    last: Vec<usize>,
+}
+
+// The symbols before any binding is named, and for each binding that is declared the number of its own.
+#[derive(Drop)]
+struct Before<'s> {
+    symbols: IndexSet<&'s str, Salt>,
+    numbers: Vec<Option<usize>>,
+}
+
+// A binding whose turn it is: the scope to which it belongs, its symbol, and the number of that.
+#[derive(Clone, Copy)]
+struct Next<'s> {
+    number: usize,
+    home: usize,
+    sym: &'s str,
+    symbol: Option<usize>,
 }
 
 /// What the bindings of a list, which is read by symbol and context, are called once contexts are gone. The
@@ -70,20 +89,23 @@ pub fn hygienic_names<'a>(
         length names.contexts.items ≡ length denotations.now.bindings.items) }
 {
     let symbols = symbols_of(alloc, &denotations.bindings, keywords)?;
-    let uses = uses_of(alloc, denotations.bindings.len(), &denotations.occurrences)?;
+    let uses = Uses::of(alloc, denotations.bindings.len(), &denotations.occurrences)?;
     let places = places_of(alloc, &denotations.bindings, &denotations.occurrences)?;
-    let mut hygiene = Hygiene::of(alloc, pieces, denotations, &symbols)?;
+    let Before {
+        symbols: before,
+        numbers,
+    } = symbols_before(alloc, pieces, denotations, &symbols)?;
+    let mut hygiene = Hygiene::of(alloc, pieces, denotations, before)?;
     let mut names = keywords.copied(alloc, denotations.bindings.len())?;
     for place in places.iter() {
         let (home, _, number) = *place;
-        let sym = symbol_at(&symbols, number);
-        let text = hygiene.settle(
-            alloc,
-            &denotations.scopes,
+        let next = Next {
+            number,
             home,
-            sym,
-            uses_at(&uses, number),
-        )?;
+            sym: symbol_at(&symbols, number),
+            symbol: number_at(&numbers, number),
+        };
+        let text = hygiene.settle(alloc, denotations, &uses, next)?;
         if let Some(text) = text {
             names.set_text(number, text);
         }
@@ -100,7 +122,7 @@ fn symbols_of<'s, 'a: 's>(
     ensures { IfOk result (λ symbols.
         map (λ sym. sym.now) symbols.items ≡ symbols_from names.now 0 bindings.now) }
 {
-    let mut symbols = Vec::new(alloc);
+    let mut symbols = Vec::with_capacity(alloc, bindings.len())?;
     for (number, binding) in bindings.iter().enumerate() {
         symbols.push(names.text_of(number).unwrap_or(binding.sym))?;
     }
@@ -128,55 +150,6 @@ fn symbol_if<'s>(symbols: &[&'s str], number: usize) -> Option<&'s str>
     }
 }
 
-// For each binding the scopes of its occurrences.
-fn uses_of(
-    alloc: Global,
-    count: usize,
-    occurrences: &[Denoted],
-) -> Result<Vec<Vec<usize>>, AllocError>
-    ensures { IfOk result (λ uses.
-        (number : ℕ) →
-        number < count →
-        option_map (λ its. its.items) (slice_get uses.items number)
-        ≡ Some (the_marks.uses_of occurrences.now number)) }
-{
-    let mut uses = Vec::new(alloc);
-    for _ in 0..count {
-        uses.push(Vec::new(alloc))?;
-    }
-    for occurrence in occurrences {
-        if let Some(binding) = occurrence.binding {
-            add_use(&mut uses, binding, occurrence.scope)?;
-        }
-    }
-    Ok(uses)
-}
-
-// Adds a scope to those of a binding.
-fn add_use(uses: &mut Vec<Vec<usize>>, binding: usize, scope: usize) -> Result<(), AllocError>
-    ensures { OnOk result
-        ((number : ℕ) →
-        option_map (λ its. its.items) (slice_get uses.new.items number)
-        ≡ option_map (λ its. its.items ++ (if binding == number then scope ∷ [] else []))
-        (slice_get uses.old.items number)) }
-{
-    if let Some(its) = uses.get_mut(binding) {
-        its.push(scope)?;
-    }
-    Ok(())
-}
-
-// The scopes of a binding's occurrences.
-fn uses_at(uses: &[Vec<usize>], number: usize) -> &[usize]
-    ensures { result.now
-        ≡ unwrap_or (option_map (λ its. its.items) (slice_get uses.now number)) [] }
-{
-    match uses.get(number) {
-        Some(its) => its.as_slice(),
-        None => &[],
-    }
-}
-
 // The bindings that occurrences declare, in their order.
 fn places_of<'a>(
     alloc: Global,
@@ -187,9 +160,9 @@ fn places_of<'a>(
         AreInTurn (turns.homes_of bindings.now) occurrences.now places.items) }
 {
     let firsts = firsts_of(alloc, bindings.len(), occurrences)?;
-    let mut places = Vec::new(alloc);
+    let mut places = Vec::with_capacity(alloc, bindings.len())?;
     for (number, binding) in bindings.iter().enumerate() {
-        if let Some(first) = first_at(&firsts, number) {
+        if let Some(first) = number_at(&firsts, number) {
             places.push((binding.scope, first, number))?;
         }
     }
@@ -234,12 +207,12 @@ fn add_first(firsts: &mut Vec<Option<usize>>, occurrence: Denoted)
     }
 }
 
-// The place of the first occurrence that declares a binding.
-fn first_at(firsts: &[Option<usize>], number: usize) -> Option<usize>
-    ensures { result ≡ at firsts.now number }
+// What a list has for a binding.
+fn number_at(numbers: &[Option<usize>], binding: usize) -> Option<usize>
+    ensures { result ≡ at numbers.now binding }
 {
-    match firsts.get(number) {
-        Some(first) => *first,
+    match numbers.get(binding) {
+        Some(number) => *number,
         None => None,
     }
 }
@@ -292,45 +265,69 @@ fn joins_outer(kind: ScopeKind) -> bool
     }
 }
 
-// The symbols before: those of the globals and of the bindings that are declared.
+// The symbols before, those of the globals and of the bindings that are declared, and the numbers that they have.
 fn symbols_before<'s, 'a: 's>(
     alloc: Global,
     pieces: &[Piece<'a>],
     denotations: &Denotations<'a>,
     symbols: &[&'s str],
-    salt: Salt,
-) -> Result<IndexSet<&'s str, Salt>, AllocError>
-    ensures { IfOk result (λ before.
+) -> Result<Before<'s>, AllocError>
+    ensures symbols { IfOk result (λ before.
         (text : Text) →
-        is_among text before.keys
+        is_among text before.symbols.keys
         ≡ list_any (is_called_in (map item_of pieces.now) (map (λ sym. sym.now) symbols.now) text)
         denotations.now.occurrences.items) }
+    ensures numbers { IfOk result (λ before.
+        HasNumbers (map (λ sym. sym.now) symbols.now) denotations.now.occurrences.items
+        before.symbols.keys before.numbers.items) }
 {
-    let mut before = IndexSet::with_hasher(alloc, salt);
+    let mut before = Before {
+        symbols: IndexSet::with_hasher(alloc, denotations.salt),
+        numbers: vec![in alloc; None; symbols.len()]?,
+    };
     for occurrence in &denotations.occurrences {
-        add_symbol(&mut before, pieces, symbols, *occurrence)?;
+        before.add(pieces, symbols, *occurrence)?;
     }
     Ok(before)
 }
 
-// Adds the symbol of an occurrence, if it is a global or declares a binding.
-fn add_symbol<'s, 'a: 's>(
-    before: &mut IndexSet<&'s str, Salt>,
-    pieces: &[Piece<'a>],
-    symbols: &[&'s str],
-    occurrence: Denoted,
-) -> Result<(), AllocError>
-    ensures { OnOk result
-        ((text : Text) →
-        is_among text before.new.keys
-        ≡ (is_among text before.old.keys
-        || is_called_in (map item_of pieces.now) (map (λ sym. sym.now) symbols.now) text occurrence)) }
-{
-    let Some(sym) = symbol_called(pieces, symbols, occurrence) else {
-        return Ok(());
-    };
-    before.insert(sym)?;
-    Ok(())
+impl<'s> Before<'s> {
+    // Adds the symbol of an occurrence, if it is a global or declares a binding.
+    fn add<'a: 's>(
+        &mut self,
+        pieces: &[Piece<'a>],
+        symbols: &[&'s str],
+        occurrence: Denoted,
+    ) -> Result<(), AllocError>
+        requires { length self.old.numbers.items ≡ length symbols.now }
+        ensures { OnOk result
+            (AddsSymbol (map item_of pieces.now) (map (λ sym. sym.now) symbols.now) occurrence
+            self.old self.new) }
+    {
+        let Some(sym) = symbol_called(pieces, symbols, occurrence) else {
+            return Ok(());
+        };
+        let (number, _) = self.symbols.insert_full(sym)?;
+        self.set_number(occurrence.binding, number);
+        Ok(())
+    }
+
+    // The symbol of a binding has this number.
+    fn set_number(&mut self, binding: Option<usize>, number: usize)
+        ensures symbols { self.new.symbols ≡ self.old.symbols }
+        ensures count { length self.new.numbers.items ≡ length self.old.numbers.items }
+        ensures numbers { (other : ℕ) →
+            other < length self.old.numbers.items →
+            at self.new.numbers.items other
+            ≡ cond (is_number other binding) (Some number) (at self.old.numbers.items other) }
+    {
+        let Some(binding) = binding else {
+            return;
+        };
+        if let Some(its) = self.numbers.get_mut(binding) {
+            *its = Some(number);
+        }
+    }
 }
 
 // The symbol of an occurrence that is a global or declares a binding.
@@ -385,52 +382,104 @@ fn mark(marks: &mut Keys, scopes: &[Scope], from: usize, symbol: usize) -> Resul
     Ok(())
 }
 
-// Marks it in scopes and in those around them.
+// Marks it in the scopes of a binding's occurrences and in those around them.
 fn mark_all(
     marks: &mut Keys,
     scopes: &[Scope],
-    uses: &[usize],
+    occurrences: &[Denoted],
+    uses: &Uses,
+    binding: usize,
     symbol: usize,
 ) -> Result<(), AllocError>
-    requires { AreInOrder (map numbered scopes.now) }
+    requires in_order { AreInOrder (map numbered scopes.now) }
+    requires uses { AreUses occurrences.now uses.now }
+    requires within { binding < length uses.now.last.items }
     ensures { OnOk result
         ((symbols : List Symbol) (text : Text) →
         number_in symbols text ≡ Some symbol →
         IsClosed (map numbered scopes.now) (marked symbols marks.old.keys) →
-        Marks (map numbered scopes.now) uses.now text (marked symbols marks.old.keys)
-        (marked symbols marks.new.keys)) }
+        Marks (map numbered scopes.now) (uses_of occurrences.now binding) text
+        (marked symbols marks.old.keys) (marked symbols marks.new.keys)) }
 {
-    for from in uses {
-        mark(marks, scopes, *from, symbol)?;
+    let mut at = uses.last_of(binding);
+    for _ in 0..occurrences.len() {
+        let Some(number) = at else {
+            return Ok(());
+        };
+        mark(marks, scopes, scope_at(occurrences, number), symbol)?;
+        at = uses.before(number);
     }
     Ok(())
 }
 
+// The scope of an occurrence.
+fn scope_at(occurrences: &[Denoted], number: usize) -> usize
+    ensures { result
+        ≡ unwrap_or (option_map (λ occurrence. occurrence.scope)
+        (slice_get occurrences.now number)) 0 }
+{
+    match occurrences.get(number) {
+        Some(occurrence) => occurrence.scope,
+        None => 0,
+    }
+}
+
+// So many times zero.
+fn zeros(alloc: Global, count: usize) -> Result<Vec<usize>, AllocError>
+    ensures { IfOk result (λ last. (symbol : ℕ) → unwrap_or (slice_get last.items symbol) 0 ≡ 0) }
+{
+    let last = vec![in alloc; 0; count]?;
+    Ok(last)
+}
+
+// The last number that was tried for a symbol.
+fn tried_last(last: &[usize], symbol: usize) -> usize
+    ensures { result ≡ last_by last.now (Some symbol) }
+{
+    match last.get(symbol) {
+        Some(number) => *number,
+        None => 0,
+    }
+}
+
+// This one was tried last.
+fn set_last(last: &mut Vec<usize>, symbol: usize, number: usize)
+    ensures { (other : ℕ) →
+        slice_get last.new.items other
+        ≡ option_map (cond (symbol == other) number) (slice_get last.old.items other) }
+{
+    if let Some(its) = last.get_mut(symbol) {
+        *its = number;
+    }
+}
+
 impl<'s> Hygiene<'s> {
-    // Nothing was named so far: the symbols of the globals are needed where they stand.
+    // Nothing was named so far: the symbols of the globals are needed where they stand. These are the symbols before.
     fn of<'a: 's>(
         alloc: Global,
         pieces: &[Piece<'a>],
         denotations: &Denotations<'a>,
-        symbols: &[&'s str],
+        symbols: IndexSet<&'s str, Salt>,
     ) -> Result<Hygiene<'s>, AllocError>
         requires { AreInOrder (map numbered denotations.now.scopes.items) }
-        ensures { IfOk result (λ hygiene.
+        ensures knows { IfOk result (λ hygiene.
             (facts : Facts) →
             facts.scopes ≡ map numbered denotations.now.scopes.items →
-            facts.symbols ≡ map (λ sym. sym.now) symbols.now →
             facts.occurrences ≡ denotations.now.occurrences.items →
             facts.items ≡ map item_of pieces.now →
+            ((text : Text) → is_among text symbols.entry.keys ≡ is_before facts text) →
             Knows facts [] hygiene) }
+        ensures symbols { IfOk result (λ hygiene. hygiene.symbols.keys ≡ symbols.entry.keys) }
     {
         let salt = denotations.salt;
         let mixed = Mixed::of(&salt);
+        let count = symbols.len();
         let mut hygiene = Hygiene {
-            symbols: symbols_before(alloc, pieces, denotations, symbols, salt)?,
-            needed: HashSet::with_hasher(alloc, mixed),
-            kept: HashSet::with_hasher(alloc, mixed),
+            symbols,
+            needed: HashSet::with_capacity_and_hasher(alloc, denotations.occurrences.len(), mixed)?,
+            kept: HashSet::with_capacity_and_hasher(alloc, denotations.bindings.len(), mixed)?,
             given: HashSet::with_hasher(alloc, salt),
-            last: HashMap::with_hasher(alloc, salt),
+            last: zeros(alloc, count)?,
         };
         for occurrence in &denotations.occurrences {
             hygiene.add(pieces, &denotations.scopes, *occurrence)?;
@@ -477,40 +526,42 @@ impl<'s> Hygiene<'s> {
         Ok(())
     }
 
-    // The new text of the next binding, or `None` where it keeps its symbol, which has a number: it belongs to a
-    // scope, and its occurrences stand in these scopes.
-    fn settle(
+    // The new text of the next binding, or `None` where it keeps its symbol.
+    fn settle<'a>(
         &mut self,
         alloc: Global,
-        scopes: &[Scope],
-        home: usize,
-        sym: &'s str,
-        uses: &[usize],
+        denotations: &Denotations<'a>,
+        uses: &Uses,
+        next: Next<'s>,
     ) -> Result<Option<String>, AllocError>
-        requires { AreInOrder (map numbered scopes.now) }
-        ensures { IfOk result (λ text.
-            (facts : Facts) (done : List turns.Turn) (number : ℕ) →
-            facts.scopes ≡ map numbered scopes.now →
-            home_of facts number ≡ home →
-            symbol_of facts number ≡ sym.now →
-            is_before facts (symbol_of facts number) ≡ true →
-            uses.now ≡ the_marks.uses_of facts.occurrences number →
+        requires in_order { AreInOrder (map numbered denotations.now.scopes.items) }
+        requires uses { AreUses denotations.now.occurrences.items uses.now }
+        requires within { next.number < length uses.now.last.items }
+        ensures text { IfOk result (λ text.
+            (facts : Facts) (done : List turns.Turn) →
+            facts.scopes ≡ map numbered denotations.now.scopes.items →
+            facts.occurrences ≡ denotations.now.occurrences.items →
+            home_of facts next.entry.number ≡ next.entry.home →
+            symbol_of facts next.entry.number ≡ next.entry.sym.now →
+            next.entry.symbol ≡ number_in self.old.symbols.keys next.entry.sym.now →
+            is_before facts (symbol_of facts next.entry.number) ≡ true →
             Knows facts done self.old →
             (turn : turns.Turn)
-            × (turn.binding ≡ number)
+            × (turn.binding ≡ next.entry.number)
             × (is_right facts done turn ≡ true)
             × Knows facts (done ++ turn ∷ []) self.new
             × (option_map string_bytes text ≡ given_to facts turn)) }
+        ensures symbols { OnOk result (self.new.symbols.keys ≡ self.old.symbols.keys) }
     {
-        let group = group_at(scopes, home);
-        let Some(symbol) = self.symbols.get_index_of(&sym) else {
+        let Some(symbol) = next.symbol else {
             return Ok(None);
         };
-        if self.may_keep(home, group, sym, symbol) {
-            self.keep(scopes, group, symbol, uses)?;
+        let group = group_at(&denotations.scopes, next.home);
+        if self.may_keep(next.home, group, next.sym, symbol) {
+            self.keep(denotations, uses, next.number, group, symbol)?;
             return Ok(None);
         }
-        let text = self.free_text(alloc, sym)?;
+        let text = self.free_text(alloc, next.sym, symbol)?;
         Ok(Some(text))
     }
 
@@ -529,49 +580,61 @@ impl<'s> Hygiene<'s> {
     }
 
     // A binding in this group of scopes keeps the symbol with a number, which is needed at its occurrences.
-    fn keep(
+    fn keep<'a>(
         &mut self,
-        scopes: &[Scope],
+        denotations: &Denotations<'a>,
+        uses: &Uses,
+        binding: usize,
         group: usize,
         symbol: usize,
-        uses: &[usize],
     ) -> Result<(), AllocError>
-        requires { AreInOrder (map numbered scopes.now) }
-        ensures { OnOk result
+        requires in_order { AreInOrder (map numbered denotations.now.scopes.items) }
+        requires uses { AreUses denotations.now.occurrences.items uses.now }
+        requires within { binding < length uses.now.last.items }
+        ensures symbols { self.new.symbols.keys ≡ self.old.symbols.keys }
+        ensures keeps { OnOk result
             ((text : Text) →
             number_in self.old.symbols.keys text ≡ Some symbol →
-            Keeps (map numbered scopes.now) group text uses.now self.old self.new) }
+            Keeps (map numbered denotations.now.scopes.items) group text
+            (uses_of denotations.now.occurrences.items binding) self.old self.new) }
     {
         self.kept.insert((group, symbol))?;
-        mark_all(&mut self.needed, scopes, uses, symbol)?;
+        mark_all(
+            &mut self.needed,
+            &denotations.scopes,
+            &denotations.occurrences,
+            uses,
+            binding,
+            symbol,
+        )?;
         Ok(())
     }
 
     // A symbol with the least number from one on that makes a text which is free. It is given.
-    fn free_text(&mut self, alloc: Global, sym: &'s str) -> Result<String, AllocError>
-        ensures { IfOk result (λ text.
+    fn free_text(
+        &mut self,
+        alloc: Global,
+        sym: &'s str,
+        symbol: usize,
+    ) -> Result<String, AllocError>
+        ensures gives { IfOk result (λ text.
+            number_in self.old.symbols.keys sym.now ≡ Some symbol →
             (number : ℕ)
             × (string_bytes text ≡ renaming.numbered sym.now number)
             × Gives sym.now number self.old self.new) }
+        ensures symbols { OnOk result (self.new.symbols.keys ≡ self.old.symbols.keys) }
     {
-        let first = self.last_of(sym);
+        let first = tried_last(&self.last, symbol);
         for tried in first..usize::MAX {
             let number = tried + 1;
             let text = format!(in alloc; "{sym}{number}")?;
             if !self.is_taken(text.as_str()) {
-                self.last.insert(sym, number)?;
+                set_last(&mut self.last, symbol, number);
                 self.given.insert(text.clone()?)?;
                 return Ok(text);
             }
         }
         Err(AllocError)
-    }
-
-    // The last number that was tried for a symbol.
-    fn last_of(&self, sym: &'s str) -> usize
-        ensures { result ≡ the_marks.last_of self.now sym.now }
-    {
-        self.last.get(&sym).copied().unwrap_or(0)
     }
 
     // Whether a text is a symbol before, or was given.

@@ -53,7 +53,7 @@ fn texts_of<'a>(alloc: Global, bindings: &[Binding<'a>]) -> Result<Vec<Option<St
         map (option_map string_bytes) texts.items
         ≡ map (λ binding. keyword_text binding.sym.now) bindings.now) }
 {
-    let mut texts = Vec::new(alloc);
+    let mut texts = Vec::with_capacity(alloc, bindings.len())?;
     for binding in bindings {
         texts.push(free_text(alloc, binding.sym)?)?;
     }
@@ -112,10 +112,7 @@ fn none_of(alloc: Global, count: usize) -> Result<Vec<Option<u32>>, AllocError>
     ensures len { IfOk result (λ contexts. length contexts.items ≡ count) }
     ensures none { IfOk result (λ contexts. (number : ℕ) → at contexts.items number ≡ None) }
 {
-    let mut contexts = Vec::new(alloc);
-    for _ in 0..count {
-        contexts.push(None)?;
-    }
+    let contexts = vec![in alloc; None; count]?;
     Ok(contexts)
 }
 

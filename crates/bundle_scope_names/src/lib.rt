@@ -7,6 +7,7 @@ pub mod hygiene;
 pub mod keywords;
 pub mod names;
 pub mod rename;
+pub(crate) mod uses;
 pub(crate) mod words;
 
 pub use contexts::{Resolution, contexts_of};

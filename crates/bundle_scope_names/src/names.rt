@@ -55,8 +55,8 @@ impl Names {
         ensures texts { IfOk result (λ names. length names.texts.items ≡ count) }
         ensures contexts { IfOk result (λ names. length names.contexts.items ≡ count) }
     {
-        let mut texts = Vec::new(alloc);
-        let mut contexts = Vec::new(alloc);
+        let mut texts = Vec::with_capacity(alloc, count)?;
+        let mut contexts = Vec::with_capacity(alloc, count)?;
         for number in 0..count {
             texts.push(owned(alloc, self.text_of(number))?)?;
             contexts.push(self.context_of(number))?;

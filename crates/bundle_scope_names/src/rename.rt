@@ -1,6 +1,6 @@
 //! What the occurrences of a list become once its bindings are named.
 
-ghost use Rattle.std.specs.Prelude.{◌≡◌, IfOk, map};
+ghost use Rattle.std.specs.Prelude.{◌≡◌, ◌++◌, ℕ, IfOk, OnOk, bytes_eq, length, map, not, option_to_list, slice_get};
 ghost use Rattle.bundle_tree_piece.specs.Item.{item_of};
 ghost use Rattle.bundle_rules.specs.Idents.{idents};
 ghost use Rattle.bundle_rules.specs.Rebuilds as rebuilds;
@@ -8,11 +8,12 @@ ghost use Rattle.bundle_tree_places.specs.Changes.{change_of};
 ghost use Rattle.bundle_tree_places.specs.Marks.{ident_of};
 ghost use Rattle.bundle_scope_names.specs.Called as Called;
 ghost use Rattle.bundle_scope_names.specs.Called.{name_changes};
+ghost use Rattle.bundle_scope_names.specs.Changed.{change_next, idents_as};
 
 use crate::names::{Contexts, Names};
 use bundle_scope_denote::{Denotations, Denoted};
-use bundle_tree_piece::Piece;
-use bundle_tree_places::{Change, Name, Occurrence, occurrences_of};
+use bundle_tree_piece::{Piece, Role};
+use bundle_tree_places::{Change, Name};
 use std::alloc::{AllocError, Global};
 
 /// The changes of a list's occurrences in turn by which each binding is called by its new name wherever it occurs,
@@ -30,44 +31,88 @@ pub fn changes_of<'c, 'a: 'c>(
         ≡ name_changes names.now contexts (idents (map item_of pieces.now))
         (map (λ denoted. denoted.binding) denotations.now.occurrences.items)) }
 {
-    let occurrences = occurrences_of(alloc, pieces)?;
-    changes_in(
-        alloc,
-        &occurrences,
-        &denotations.occurrences,
-        names,
-        contexts,
-    )
-}
-
-// The changes of these occurrences, which denote these bindings in turn.
-fn changes_in<'c, 'a: 'c>(
-    alloc: Global,
-    occurrences: &[Occurrence<'a>],
-    denoted: &[Denoted],
-    names: &'c Names,
-    contexts: Contexts,
-) -> Result<Vec<Change<'c>>, AllocError>
-    ensures { IfOk result (λ changes.
-        map change_of changes.items
-        ≡ name_changes names.now contexts (map (λ o. ident_of o.id) occurrences.now)
-        (map (λ denoted. denoted.binding) denoted.now)) }
-{
-    let mut changes = Vec::new(alloc);
-    for (occurrence, its) in occurrences.iter().zip(denoted) {
-        let name = called(names, occurrence.id, its.binding);
-        changes.push(change_to(occurrence.id, in_context(contexts, name)))?;
+    let mut changes = Vec::with_capacity(alloc, denotations.occurrences.len())?;
+    for piece in pieces {
+        if let Some(old) = name_of(*piece) {
+            add_change(&mut changes, old, &denotations.occurrences, names, contexts)?;
+        }
     }
     Ok(changes)
 }
 
-// One identifier in the place of another.
-fn change_to<'c, 'a>(old: Name<'a>, ident: Name<'c>) -> Change<'c>
-    ensures { change_of result ≡ rebuilds.change_to (ident_of old.entry) (ident_of ident.entry) }
+// The identifier that an element of the list is, if it binds or refers.
+fn name_of<'a>(piece: Piece<'a>) -> Option<Name<'a>>
+    ensures { map ident_of (option_to_list result) ≡ idents_as (item_of piece.entry) }
+{
+    match piece {
+        Piece::Ident {
+            role: Role::Word,
+            ..
+        } => None,
+        Piece::Ident { sym, ctxt, .. } => Some(Name { sym, ctxt }),
+        _ => None,
+    }
+}
+
+// Adds the change of the next identifier, if it denotes something.
+fn add_change<'c, 'a: 'c>(
+    changes: &mut Vec<Change<'c>>,
+    old: Name<'a>,
+    denoted: &[Denoted],
+    names: &'c Names,
+    contexts: Contexts,
+) -> Result<(), AllocError>
+    ensures { OnOk result
+        (map change_of changes.new.items
+        ≡ map change_of changes.old.items
+        ++ change_next names.now contexts (ident_of old.entry)
+        (slice_get (map (λ denoted. denoted.binding) denoted.now) (length changes.old.items))) }
+{
+    let Some(binding) = binding_at(denoted, changes.len()) else {
+        return Ok(());
+    };
+    changes.push(change_for(names, contexts, old, binding))?;
+    Ok(())
+}
+
+// The binding that an occurrence denotes, or a global, where there is such an occurrence.
+fn binding_at(denoted: &[Denoted], number: usize) -> Option<Option<usize>>
+    ensures { result ≡ slice_get (map (λ denoted. denoted.binding) denoted.now) number }
+{
+    match denoted.get(number) {
+        Some(denoted) => Some(denoted.binding),
+        None => None,
+    }
+}
+
+// What stands in the place of an identifier that denotes this binding, or a global.
+fn change_for<'c, 'a: 'c>(
+    names: &'c Names,
+    contexts: Contexts,
+    old: Name<'a>,
+    binding: Option<usize>,
+) -> Change<'c>
+    ensures { change_of result
+        ≡ rebuilds.change_to (ident_of old.entry)
+        (Called.in_context contexts (Called.called names.now (ident_of old.entry) binding)) }
 {
     Change {
-        ident,
-        is_spelled_out: old.sym != ident.sym,
+        ident: in_context(contexts, called(names, old, binding)),
+        is_spelled_out: is_renamed(names, old.sym, binding),
+    }
+}
+
+// Whether what has this symbol and denotes this binding, or a global, gets another symbol.
+fn is_renamed(names: &Names, sym: &str, binding: Option<usize>) -> bool
+    ensures { (ctxt : ℕ) →
+        result ≡ not (bytes_eq sym.now (Called.called names.now (sym.now, ctxt) binding).0) }
+{
+    let Some(binding) = binding else {
+        return false;
+    };
+    match names.text_of(binding) {
+        None => false,
+        Some(text) => sym != text,
     }
 }
 

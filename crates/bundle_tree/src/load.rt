@@ -1,6 +1,6 @@
 //! The loader: from the name of a file to its module.
 
-ghost use Rattle.std.specs.Prelude.{◌≡◌, IfOk, Err};
+ghost use Rattle.std.specs.Prelude.{◌≡◌, ◌≢◌, IfOk, Err};
 ghost use Rattle.bundle_tree_names.specs.FileName.{name_of};
 
 use bundle_tree_ast::Module;
@@ -44,6 +44,24 @@ pub trait Load {
     fn load(&self, alloc: Global, file: &FileName) -> Result<ModuleData, LoadError>
         ensures answer { IfOk result (λ loaded. may_load self.now (name_of file.now) loaded) }
         ensures failure { result ≡ Err LoadError.Failed → may_fail_load self.now (name_of file.now) };
+
+    /// The module of a file, of a loader that is not asked for that file again: where `load` gives a copy, it may
+    /// hand over what it has. By itself it does what `load` does. For any other file it may give from then on
+    /// what it might before, and fail where it might.
+    fn hand_over(&mut self, alloc: Global, file: &FileName) -> Result<ModuleData, LoadError>
+        ensures answer { IfOk result (λ loaded. may_load self.old (name_of file.now) loaded) }
+        ensures failure { result ≡ Err LoadError.Failed → may_fail_load self.old (name_of file.now) }
+        ensures others { (other : Name) (given : ModuleData) →
+            other ≢ name_of file.now →
+            may_load self.new other given →
+            may_load self.old other given }
+        ensures other_failures { (other : Name) →
+            other ≢ name_of file.now →
+            may_fail_load self.new other →
+            may_fail_load self.old other }
+    {
+        self.load(alloc, file)
+    }
 }
 
 impl<T: Load> Load for &T {

@@ -5,10 +5,11 @@
 
 pub mod same;
 
-ghost use Rattle.std.specs.Prelude.{◌≡◌, IfOk, map};
+ghost use Rattle.std.specs.Prelude.{◌≡◌, [], IfOk, map};
 ghost use Rattle.std.specs.List.{flat_map};
+ghost use Rattle.bundle_tree_piece.specs.Item as h;
 ghost use Rattle.bundle_tree_piece.specs.Item.{item_of};
-ghost use Rattle.bundle_tree_listed.specs.Tree.{expr_items, key_value_prop_items, module_item_items, module_items};
+ghost use Rattle.bundle_tree_listed.specs.Tree.{expr_items, key_value_prop_items, module_item_items, module_items, node};
 
 use bundle_tree_ast::{Expr, KeyValueProp, Module, ModuleItem};
 pub use bundle_tree_piece::{Node, Piece, Role};
@@ -21,7 +22,7 @@ pub fn pieces<'a>(alloc: Global, items: &'a [ModuleItem]) -> Result<Vec<Piece<'a
     ensures { IfOk result (λ list.
         map item_of list.items ≡ flat_map (module_item_items 0) items.now) }
 {
-    let mut walk = Walk::new(alloc);
+    let mut walk = walk_for(alloc, items)?;
     walk.each_module_item(0, items)?;
     Ok(walk.into_pieces())
 }
@@ -30,11 +31,35 @@ pub fn pieces<'a>(alloc: Global, items: &'a [ModuleItem]) -> Result<Vec<Piece<'a
 pub fn pieces_of_module<'a>(alloc: Global, module: &'a Module) -> Result<Vec<Piece<'a>>, AllocError>
     ensures { IfOk result (λ list. map item_of list.items ≡ module_items 0 «module».now) }
 {
-    let mut walk = Walk::new(alloc);
+    pieces_of_body(alloc, module.body.as_slice())
+}
+
+/// The list of a module with this body, from its beginning to its end. Refused only where memory runs out.
+pub fn pieces_of_body<'a>(
+    alloc: Global,
+    body: &'a [ModuleItem],
+) -> Result<Vec<Piece<'a>>, AllocError>
+    ensures { IfOk result (λ list.
+        map item_of list.items ≡ node 0 h.Module (flat_map (module_item_items 0) body.now)) }
+{
+    let mut walk = walk_for(alloc, body)?;
     walk.open(0, Node::Module)?;
-    walk.each_module_item(0, module.body.as_slice())?;
+    walk.each_module_item(0, body)?;
     walk.close()?;
     Ok(walk.into_pieces())
+}
+
+// So many pieces have room at first for each item, and so many at most. What is not needed is never touched.
+const ROOM_OF_ITEM: usize = 128;
+
+const MOST_ROOM: usize = 1_048_576;
+
+// A walk that has met nothing, with room for about as many pieces as these items have, so that their list seldom grows.
+fn walk_for<'a>(alloc: Global, items: &[ModuleItem]) -> Result<Walk<'a>, AllocError>
+    ensures { IfOk result (λ walk. walk ≡ []) }
+{
+    let room = items.len().saturating_mul(ROOM_OF_ITEM).min(MOST_ROOM);
+    Walk::with_room(alloc, room)
 }
 
 /// The list of an expression, which stands in field 0. Refused only where memory runs out.

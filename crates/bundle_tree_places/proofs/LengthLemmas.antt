@@ -89,3 +89,12 @@ nodes-found all found part rest more n begins long there behind before =
     ∙ ap (λ (nodes : List (List Item)). done ++ nodes) (nodes-first items begins ∙ ap (λ (node : List Item). node ∷ side_by_side zero (drop (length_of_first zero items) items)) first ∙ ap (λ (l : List Item). map item_of part.now ∷ side_by_side zero l) left)
     ∙ sym (append_assoc done (map item_of part.now ∷ []) (side_by_side zero (map item_of more)))
     ∙ ap (λ (nodes : List (List Item)). nodes ++ side_by_side zero (map item_of more)) (sym (map-append (λ (one : Bor (List Piece)). map item_of one.now) found (part ∷ [])))
+
+-- behind an end that closes one of the nodes inside, one less is open
+pub close-passed : (depth next : ℕ) → suc next ≡ depth → depth_past (suc depth) h.Close ≡ Some (suc next)
+close-passed zero next e = cc
+close-passed (suc depth) next e = ap (λ k. Some k) (sym e)
+
+-- the end of the node itself
+pub close-ended : (depth : ℕ) → depth ≡ zero → depth_past (suc depth) h.Close ≡ None
+close-ended depth e = ap (λ k. depth_past (suc k) h.Close) e

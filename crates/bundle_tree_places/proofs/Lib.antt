@@ -13,3 +13,4 @@ pub mod HeadLemmas
 pub mod SecondLemmas
 pub mod PlaceLemmas
 pub mod AwaitsLemmas
+pub mod RareLemmas

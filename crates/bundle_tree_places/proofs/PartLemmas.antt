@@ -1,7 +1,6 @@
 -- What is found among the parts of a list, the first one and those behind it.
 use Rattle.std.proofs.Common.{◌≡◌, ℕ, zero, suc, ◌+◌, ◌<◌, Bool, true, false, List, [], ◌∷◌, ◌++◌, take, drop, append_assoc, append-nil, refl, ap, sym, ◌∙◌, arith, map}
 use Rattle.std.specs.Prelude.{filter, if◌then◌else◌}
-use Rattle.std.specs.List.{flat_map}
 use Rattle.std.proofs.lemmas.List.{drop-drop, drop-map, map-append, take-map}
 use Rattle.bundle_tree_piece.specs.declared.piece.Piece.{Piece}
 use Rattle.bundle_tree_piece.specs.Item.{Item, item_of}
@@ -73,11 +72,25 @@ pub first-moved : (field : ℕ) (all rest : List Piece) (at n : ℕ) → rest �
 first-moved field all rest at n is begins long some here before =
     before ∙ ap (first_from field) (sym is) ∙ first-passed field n rest begins long some here ∙ ap (first_from field) (ap (drop n) is ∙ drop-drop n at all)
 
--- those of a list that lie in the field, one by one
-pub kept-all : (field : ℕ) (nodes : List (List Item)) → flat_map (kept_in field) nodes ≡ filter (begins_in field) nodes
-kept-all field [] = refl
-kept-all field (node ∷ more) = step (begins_in field node) (kept-all field more)
+-- the nodes of a list that lie in a field
+abbrev pub all_from : ℕ → List Piece → List (List Item)
+all_from field rest = filter (begins_in field) (side_by_side zero (map item_of rest))
+
+-- a node more, if it lies in the field
+filter-kept : (field : ℕ) (node : List Item) (more : List (List Item)) → filter (begins_in field) (node ∷ more) ≡ kept_in field node ++ filter (begins_in field) more
+filter-kept field node more = by (begins_in field node)
   where
-    step : (b : Bool) → flat_map (kept_in field) more ≡ filter (begins_in field) more → (if b then node ∷ [] else []) ++ flat_map (kept_in field) more ≡ (if b then node ∷ filter (begins_in field) more else filter (begins_in field) more)
-    step true same = ap (λ l. node ∷ l) same
-    step false same = same
+    by : (b : Bool) → (if b then node ∷ filter (begins_in field) more else filter (begins_in field) more) ≡ (if b then node ∷ [] else []) ++ filter (begins_in field) more
+    by true = refl
+    by false = refl
+
+-- the first node was found and kept if it lies in the field, and those behind it are left
+pub kept-found : (field : ℕ) (all : List (List Item)) (found more : List Part) (node pieces rest : List Piece) (at n : ℕ) → rest ≡ drop at pieces → begins_node (map item_of rest) ≡ true → n ≡ length_of_first zero (map item_of rest) → node ≡ take n rest → map part_items more ≡ map part_items found ++ kept_in field (map item_of node) → all ≡ map part_items found ++ all_from field (drop at pieces) → all ≡ map part_items more ++ all_from field (drop (at + n) pieces)
+kept-found field all found more node pieces rest at n is begins long there pushed before =
+    before
+    ∙ ap (λ (l : List Piece). map part_items found ++ all_from field l) (sym is)
+    ∙ ap (λ (nodes : List (List Item)). map part_items found ++ filter (begins_in field) nodes) (nodes-cut rest n begins long ∙ ap (λ (first : List Piece). map item_of first ∷ side_by_side zero (map item_of (drop n rest))) (sym there))
+    ∙ ap (λ (nodes : List (List Item)). map part_items found ++ nodes) (filter-kept field (map item_of node) (side_by_side zero (map item_of (drop n rest))))
+    ∙ sym (append_assoc (map part_items found) (kept_in field (map item_of node)) (all_from field (drop n rest)))
+    ∙ ap (λ (nodes : List (List Item)). nodes ++ all_from field (drop n rest)) (sym pushed)
+    ∙ ap (λ (l : List Piece). map part_items more ++ all_from field l) (ap (drop n) is ∙ drop-drop n at pieces)

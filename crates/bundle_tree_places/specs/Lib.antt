@@ -7,4 +7,5 @@ pub mod Heads
 pub mod Seconds
 pub mod Placed
 pub mod Nested
+pub mod Rarities
 pub mod Stated

@@ -9,6 +9,7 @@ pub mod mark;
 pub mod nodes;
 pub mod parts;
 pub mod places;
+pub mod rare;
 pub mod seconds;
 
 pub use awaits::awaits_outside;

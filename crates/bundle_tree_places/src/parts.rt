@@ -75,9 +75,19 @@ pub fn in_field<'p, 'a>(
     ensures { IfOk result (λ found.
         map part_items found.items ≡ nodes.in_field field (part_items node.entry)) }
 {
+    let inside = behind_first(node.pieces);
+    let start = node.start.saturating_add(1);
     let mut found = Vec::new(alloc);
-    for part in &parts(alloc, node)? {
-        add_in_field(&mut found, *part, field)?;
+    let mut at = 0usize;
+    'each: while begins_node(behind(inside, at)) {
+        let rest = behind(inside, at);
+        let length = part_length(rest);
+        let part = Part {
+            start: start.saturating_add(at),
+            pieces: &rest[..length],
+        };
+        add_in_field(&mut found, part, field)?;
+        at += length;
     }
     Ok(found)
 }
@@ -166,31 +176,29 @@ fn part_length(pieces: &[Piece]) -> usize
     ensures bound { result ≤ length pieces.now }
     ensures some { lengths.begins_node (map item_of pieces.now) ≡ true → 0 < result }
 {
+    match pieces.first() {
+        Some(Piece::Open { .. }) => 1 + length_inside(behind(pieces, 1)),
+        Some(_) => 1,
+        None => 0,
+    }
+}
+
+// The length of what stands in a node, with the node's end.
+fn length_inside(pieces: &[Piece]) -> usize
+    ensures length { result ≡ length_of_first 1 (map item_of pieces.now) }
+    ensures bound { result ≤ length pieces.now }
+{
     let mut depth = 0usize;
-    for place in 0..pieces.len() {
-        match depth_past(depth, pieces[place]) {
-            Some(inner) => depth = inner,
-            None => return place + 1,
+    for (place, piece) in pieces.iter().enumerate() {
+        match piece {
+            Piece::Open { .. } => depth += 1,
+            Piece::Close if depth == 0 => return place + 1,
+            Piece::Close => depth -= 1,
+            Piece::Ident { .. } => {}
+            Piece::Hole { .. } => {}
         }
     }
     pieces.len()
-}
-
-// How many nodes are open after an element, where so many are before it; none where it ends the first.
-fn depth_past(depth: usize, piece: Piece) -> Option<usize>
-    requires { depth < 2 ^ 64 - 1 }
-    ensures past { result ≡ lengths.depth_past depth (item_of piece.entry) }
-    ensures bound { IfSome result (λ inner. inner ≤ depth + 1) }
-{
-    match piece {
-        Piece::Open { .. } => Some(depth + 1),
-        Piece::Ident { .. } if depth == 0 => None,
-        Piece::Ident { .. } => Some(depth),
-        Piece::Hole { .. } if depth == 0 => None,
-        Piece::Hole { .. } => Some(depth),
-        Piece::Close if depth <= 1 => None,
-        Piece::Close => Some(depth - 1),
-    }
 }
 
 // Whether a node begins a list.

@@ -1,6 +1,6 @@
 //! The walk over a tree that gives its list.
 
-ghost use Rattle.std.specs.Prelude.{◌≡◌, ◌++◌, ◌∷◌, [], OnOk, map};
+ghost use Rattle.std.specs.Prelude.{◌≡◌, ◌++◌, ◌∷◌, [], IfOk, OnOk, map};
 ghost use Rattle.std.specs.List.{flat_map};
 ghost use Rattle.bundle_tree_piece.specs.Item.{head_of, item_of, Open, Hole, Close};
 ghost use Rattle.bundle_tree_listed.specs.Tree as tree;
@@ -44,6 +44,14 @@ impl<'a> Walk<'a> {
         Walk {
             pieces: Vec::new(alloc),
         }
+    }
+
+    /// A walk that has met nothing, with room for so many pieces.
+    pub fn with_room(alloc: Global, count: usize) -> Result<Walk<'a>, AllocError>
+        ensures { IfOk result (λ walk. walk ≡ []) }
+    {
+        let pieces = Vec::with_capacity(alloc, count)?;
+        Ok(Walk { pieces })
     }
 
     /// Adds the lists of these items, one after the other.

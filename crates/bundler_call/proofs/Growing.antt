@@ -25,7 +25,6 @@ use Rattle.bundle_rules.specs.Entries.{Settings}
 use Rattle.bundle_rules.specs.Faults.{NumbersUsedUp, last_number}
 use Rattle.bundle_rules.specs.Judging as j
 use Rattle.bundle_rules.specs.Judging.{Grows}
-use Rattle.bundle_rules.proofs.KeptLemmas.{stays}
 use Rattle.bundler_kept.specs.declared.kept.Request.{Request}
 use Rattle.bundler_kept.specs.Kept.{asked_of}
 use Rattle.bundler_kept.proofs.Keeping.{kept_or_added}
@@ -104,10 +103,6 @@ module _ {L R : Type 0} (may_load : L → Name → ModuleData → Type 0) (may_r
       let from_l : Grows (answers_of (may_load l) (may_resolve r1)) settings entries c1 c2 = subst (λ (x : L). Grows (answers_of (may_load x) (may_resolve r1)) settings entries c1 c2) a.loader b.grows in
       let from_r : Grows (answers_of (may_load l) (may_resolve r)) settings entries c1 c2 = subst (λ (x : R). Grows (answers_of (may_load l) (may_resolve x)) settings entries c1 c2) a.resolver from_l in
       record { loader = b.loader ∙ a.loader; resolver = b.resolver ∙ a.resolver; grows = grows_trans _ settings entries c c1 c2 a.grows from_r }
-
-  -- by which it stays
-  pub advances_stays : (l l1 : L) (r r1 : R) (c c1 : Kept) → Advances may_load may_resolve settings entries l l1 r r1 c c1 → Stays c c1
-  advances_stays l l1 r r1 c c1 a = stays _ settings entries c c1 a.grows
 
 -- What stays.
 

@@ -6,7 +6,7 @@ use Rattle.bundle_tree_names.specs.FileName.{Name}
 use Rattle.bundle_tree_names.specs.declared.error.Error.{Error}
 use Rattle.bundle_rules.specs.Nodes.{Text}
 use Rattle.bundle_rules.specs.Entries.{Settings}
-use Rattle.bundle_rules.specs.Kept.{Asked, Kept}
+use Rattle.bundle_rules.specs.Kept.{Asked, Kept, kept_module}
 use Rattle.bundle_rules.specs.Program.{Loaded}
 use Rattle.bundle_rules.specs.Faults.{Fault, Parties, fault_of}
 use Rattle.bundle_rules.specs.Judging as j
@@ -96,23 +96,13 @@ module _ (parties : Parties) (file : Name) where
 
 -- The same judging by parties that may do as much.
 
-module _ (p q : Parties) (settings : Settings)
-    (load : (file : Name) (answer : Loaded) → p.answers.may_load file answer → q.answers.may_load file answer)
-    (fail_load : (file : Name) → p.may_fail_to_load file → q.may_fail_to_load file)
-    (resolve : (asked : Asked) (file : Name) → p.answers.may_resolve asked file → q.answers.may_resolve asked file)
-    (fail_resolve : (asked : Asked) → p.may_fail_to_resolve asked → q.may_fail_to_resolve asked) where
-  loads_as : (old new : Kept) (file : Name) (o : Outcome) → Loads p settings old file o new → Loads q settings old file o new
-  loads_as old new file o (j.kept is) = j.kept is
-  loads_as old new file o (j.no_room none full) = j.no_room none full
-  loads_as old new file o (j.fails none room may) = j.fails none room (fail_load file may)
-  loads_as old new file o (j.loaded answer none room may) = j.loaded answer none room (load file answer may)
-
+module _ (p q : Parties) (resolve : (asked : Asked) (file : Name) → p.answers.may_resolve asked file → q.answers.may_resolve asked file) (fail_resolve : (asked : Asked) → p.may_fail_to_resolve asked → q.may_fail_to_resolve asked) where
   resolves_as : (old new : Kept) (asked : Asked) (found : Option Name) → Resolves p old asked found new → Resolves q old asked found new
   resolves_as old new asked found (j.kept is) = j.kept is
   resolves_as old new asked found (j.resolved file none may) = j.resolved file none (resolve asked file may)
   resolves_as old new asked found (j.fails none may) = j.fails none (fail_resolve asked may)
 
-  asks_as : (file : Name) (texts : List Text) (old new : Kept) (list all : List Name) (o : Outcome) → Asks p file texts old list o new all → Asks q file texts old list o new all
+  pub asks_as : (file : Name) (texts : List Text) (old new : Kept) (list all : List Name) (o : Outcome) → Asks p file texts old list o new all → Asks q file texts old list o new all
   asks_as file texts old new list all o j.over = j.over
   asks_as file texts old new list all o (j.fails its) = j.fails (resolves_as _ _ _ _ its)
   asks_as file texts old new list all o (j.listed its listed more) = j.listed (resolves_as _ _ _ _ its) listed (asks_as file _ _ new list all o more)
@@ -122,12 +112,33 @@ module _ (p q : Parties) (settings : Settings)
   asks_as file texts old new list all o (j.stopped_resolved its) = j.stopped_resolved (resolves_as _ _ _ _ its)
   asks_as file texts old new list all o (j.stopped_numbered its fresh number) = j.stopped_numbered (resolves_as _ _ _ _ its) fresh number
 
+-- a file is loaded alike by parties that may do as much for one of which nothing is kept
+pub loads_as : (p q : Parties) (settings : Settings) (old : Kept)
+    → ((file : Name) (answer : Loaded) → kept_module old file ≡ None → p.answers.may_load file answer → q.answers.may_load file answer)
+    → ((file : Name) → kept_module old file ≡ None → p.may_fail_to_load file → q.may_fail_to_load file)
+    → (new : Kept) (file : Name) (o : Outcome) → Loads p settings old file o new → Loads q settings old file o new
+loads_as p q settings old load fail_load new file o (j.kept is) = j.kept is
+loads_as p q settings old load fail_load new file o (j.no_room none full) = j.no_room none full
+loads_as p q settings old load fail_load new file o (j.fails none room may) = j.fails none room (fail_load file none may)
+loads_as p q settings old load fail_load new file o (j.loaded answer none room may) = j.loaded answer none room (load file answer none may)
+
+module _ (p q : Parties) (settings : Settings)
+    (load : (file : Name) (answer : Loaded) → p.answers.may_load file answer → q.answers.may_load file answer)
+    (fail_load : (file : Name) → p.may_fail_to_load file → q.may_fail_to_load file)
+    (resolve : (asked : Asked) (file : Name) → p.answers.may_resolve asked file → q.answers.may_resolve asked file)
+    (fail_resolve : (asked : Asked) → p.may_fail_to_resolve asked → q.may_fail_to_resolve asked) where
+  file_as : (old new : Kept) (file : Name) (o : Outcome) → Loads p settings old file o new → Loads q settings old file o new
+  file_as old new file o its = loads_as p q settings old (λ other answer none. load other answer) (λ other none. fail_load other) new file o its
+
+  requests_as : (file : Name) (texts : List Text) (old new : Kept) (list all : List Name) (o : Outcome) → Asks p file texts old list o new all → Asks q file texts old list o new all
+  requests_as = asks_as p q resolve fail_resolve
+
   pub loads_all_as : (list : List Name) (i : ℕ) (old new : Kept) (o : Outcome) → LoadsAll p settings list i old o new → LoadsAll q settings list i old o new
   loads_all_as list i old new o j.over = j.over
-  loads_all_as list i old new o (j.not_loaded there its) = j.not_loaded there (loads_as _ _ _ _ its)
-  loads_all_as list i old new o (j.faulty there its kept first) = j.faulty there (loads_as _ _ _ _ its) kept first
-  loads_all_as list i old new o (j.not_resolved there its kept none asks) = j.not_resolved there (loads_as _ _ _ _ its) kept none (asks_as _ _ _ _ _ _ _ asks)
-  loads_all_as list i old new o (j.goes_on there its kept none asks more) = j.goes_on there (loads_as _ _ _ _ its) kept none (asks_as _ _ _ _ _ _ _ asks) (loads_all_as _ _ _ new o more)
+  loads_all_as list i old new o (j.not_loaded there its) = j.not_loaded there (file_as _ _ _ _ its)
+  loads_all_as list i old new o (j.faulty there its kept first) = j.faulty there (file_as _ _ _ _ its) kept first
+  loads_all_as list i old new o (j.not_resolved there its kept none asks) = j.not_resolved there (file_as _ _ _ _ its) kept none (requests_as _ _ _ _ _ _ _ asks)
+  loads_all_as list i old new o (j.goes_on there its kept none asks more) = j.goes_on there (file_as _ _ _ _ its) kept none (requests_as _ _ _ _ _ _ _ asks) (loads_all_as _ _ _ new o more)
   loads_all_as list i old new o j.LoadsAll.stopped = j.LoadsAll.stopped
-  loads_all_as list i old new o (j.stopped_loaded there its) = j.stopped_loaded there (loads_as _ _ _ _ its)
-  loads_all_as list i old new o (j.stopped_asking there its kept none asks) = j.stopped_asking there (loads_as _ _ _ _ its) kept none (asks_as _ _ _ _ _ _ _ asks)
+  loads_all_as list i old new o (j.stopped_loaded there its) = j.stopped_loaded there (file_as _ _ _ _ its)
+  loads_all_as list i old new o (j.stopped_asking there its kept none asks) = j.stopped_asking there (file_as _ _ _ _ its) kept none (requests_as _ _ _ _ _ _ _ asks)

@@ -4,6 +4,7 @@ pub mod Listing
 pub mod Loading
 pub mod Numbered
 pub mod Judging
+pub mod Handing
 pub mod Asking
 pub mod Placing
 pub mod Working

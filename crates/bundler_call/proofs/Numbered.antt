@@ -8,10 +8,7 @@ use Rattle.std.specs.declared.alloc.Global.{Global}
 use Rattle.std.specs.declared.string.String.{String}
 use Rattle.bundle_tree_names.specs.FileName.{Name, name_of}
 use Rattle.bundle_tree_names.specs.declared.file_name.FileName.{FileName}
-use Rattle.bundle_rules.specs.Entries.{Settings}
 use Rattle.bundle_rules.specs.Kept.{Kept, Stays}
-use Rattle.bundle_tree.specs.declared.load.ModuleData.{ModuleData}
-use Rattle.bundler_call.specs.Kept.{Advances}
 use Rattle.bundler_call.specs.Bundler.{files_of, HasNumber}
 use Rattle.bundler_call.proofs.Growing.{still_numbered}
 
@@ -61,8 +58,3 @@ none_left (x ∷ xs) n counted none = let no : ⊥ = omega arith in absurd no
 -- the same of the same entries
 pub numbered_along : (kept : Kept) (xs ys : List (String Global × FileName)) (ids : List ℕ) → xs ≡ ys → AllZip (HasNumber kept) xs ids → AllZip (HasNumber kept) ys ids
 numbered_along kept xs ys ids same all = subst (λ entries. AllZip (HasNumber kept) entries ids) same all
-
--- what is kept grows for the same entries
-pub advances_for : {L R : Type 0} (may_load : L → Name → ModuleData → Type 0) (may_resolve : R → Name → List ℕ → Name → Type 0) (settings : Settings) (xs ys : List (String Global × FileName)) (l l1 : L) (r r1 : R) (c c1 : Kept)
-    → xs ≡ ys → Advances may_load may_resolve settings (files_of xs) l l1 r r1 c c1 → Advances may_load may_resolve settings (files_of ys) l l1 r r1 c c1
-advances_for may_load may_resolve settings xs ys l l1 r r1 c c1 same grows = subst (λ entries. Advances may_load may_resolve settings (files_of entries) l l1 r r1 c c1) same grows

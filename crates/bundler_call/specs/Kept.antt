@@ -1,5 +1,5 @@
 -- What a bundler keeps, its parties and its settings, in the words of the definitions.
-use Rattle.std.specs.Prelude.{◌≡◌, ◌⊎◌, ℕ, ◌+◌, ◌≤◌, Bool, not, List, Some, Contains, IsSome, length, map}
+use Rattle.std.specs.Prelude.{◌≡◌, ◌⊎◌, ℕ, ◌+◌, ◌≤◌, Bool, not, List, Some, None, Contains, IsSome, length, map}
 use Rattle.std.specs.String.{string_bytes}
 use Rattle.std.specs.declared.alloc.Global.{Global}
 use Rattle.std.specs.declared.string.String.{String}
@@ -99,3 +99,13 @@ pub record Advances {L R : Type 0} (may_load : L → Name → ModuleData → Typ
   pub loader : new_loader ≡ old_loader
   pub resolver : new_resolver ≡ old_resolver
   pub grows : Grows (answers_of (may_load old_loader) (may_resolve old_resolver)) settings entries old new
+
+-- the resolver stays what it is, and what is kept grows by the answers of both parties, as they were, to what has to be asked, where these are the settings and the files of the entries
+pub record Proceeds {L R : Type 0} (may_load : L → Name → ModuleData → Type 0) (may_resolve : R → Name → List ℕ → Name → Type 0) (settings : Settings) (entries : List Name) (old_loader : L) (old_resolver new_resolver : R) (old new : Kept) : Type 0 where
+  pub resolver : new_resolver ≡ old_resolver
+  pub grows : Grows (answers_of (may_load old_loader) (may_resolve old_resolver)) settings entries old new
+
+-- for a file of which nothing is kept, a loader may give what another may, and fail where that may
+pub record StandsFor {L : Type 0} (may_load : L → Name → ModuleData → Type 0) (may_fail_load : L → Name → Type 0) (first later : L) (kept : Kept) : Type 0 where
+  pub gives : (file : Name) (given : ModuleData) → kept_module kept file ≡ None → may_load later file given → may_load first file given
+  pub fails : (file : Name) → kept_module kept file ≡ None → may_fail_load later file → may_fail_load first file

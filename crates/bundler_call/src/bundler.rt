@@ -12,13 +12,13 @@ ghost use Rattle.bundler_call.specs.Answer.{answer_of};
 ghost use Rattle.bundler_call.specs.Bundler.{config_of, files_of, hook_of, kept_by, loader_of, parties_held, resolver_of, settings_held, HasNumber};
 ghost use Rattle.bundler_call.specs.Judged.{Ends, AreApart, IsFaultOfList, IsFinishedBundle, IsMergedBundle, IsToldOf, asked_by};
 ghost use Rattle.bundler_call.specs.Kept.{entry_of, kept_of, settings_of, IsBounded};
-ghost use Rattle.bundler_call.specs.Library.{MovesOn};
+ghost use Rattle.bundler_call.specs.Library.{GoesFurther, MovesOn};
 ghost use Rattle.bundler_call.specs.Linking.{answered_by, IsLoaded, IsNumberedOn, IsReadOf, IsRefusalOfEntries};
 ghost use Rattle.bundler_call.specs.Loading.{files_on, AreMet, AreNumbered, AreSound};
 ghost use Rattle.bundler_call.specs.declared.load.LoadList.{LoadList};
 
 use crate::bundle::{Bundle, BundleKind};
-use crate::library::Library;
+use crate::library::{Asking, Library};
 use crate::linked::module_on;
 use crate::load::{LoadList, load_all};
 use crate::program::program_on;
@@ -86,7 +86,13 @@ impl<L: Load + Drop, R: Resolve + Drop> Bundler<L, R> {
         if entries.is_empty() {
             return Ok(Vec::new(alloc));
         }
-        let (list, ids) = loaded(&mut self.library, alloc, entries.as_slice(), &self.config)?;
+        let (list, ids) = loaded(
+            &mut self.library,
+            alloc,
+            entries.as_slice(),
+            &self.config,
+            Asking::Lent,
+        )?;
         let kept = &self.library.kept;
         let merged = merged_bundles(alloc, kept, &list, &self.config, &*self.hook, entries, ids)?;
         Ok(finished_bundles(alloc, merged, &self.config)?)
@@ -115,7 +121,13 @@ impl<L: Load + Drop, R: Resolve + Drop> Bundler<L, R> {
             hook,
         } = self;
         let mut library = library;
-        let (list, ids) = loaded(&mut library, alloc, entries.as_slice(), &config)?;
+        let (list, ids) = loaded(
+            &mut library,
+            alloc,
+            entries.as_slice(),
+            &config,
+            Asking::Owned,
+        )?;
         let kept = library.into_kept();
         let merged = merged_bundles(alloc, &kept, &list, &config, &*hook, entries, ids)?;
         drop(kept);
@@ -129,10 +141,12 @@ fn loaded<L: Load + Drop, R: Resolve + Drop>(
     alloc: Global,
     entries: &[(String, FileName)],
     config: &Config,
+    asking: Asking,
 ) -> Result<(LoadList, Vec<ModuleId>), Error>
     requires { 0 < length entries.now }
-    ensures grows { MovesOn L.may_load R.may_resolve (settings_of config.now) (files_of entries.now)
-        library.old library.new }
+    ensures grows { GoesFurther L.may_load R.may_resolve (settings_of config.now)
+        (files_of entries.now) library.old library.new }
+    ensures lent { asking ≡ Asking.Lent → library.new.loader ≡ library.old.loader }
     ensures loaded { IfOk result (λ made.
         IsLoaded (settings_of config.now) (kept_of library.new.kept) made.0) }
     ensures sound { IfOk result (λ made. AreSound (kept_of library.new.kept) (files_on made.0)) }
@@ -152,7 +166,7 @@ fn loaded<L: Load + Drop, R: Resolve + Drop>(
 {
     refuse_doubled_entry(alloc, entries)?;
     let (list, ids) = numbered(library, alloc, entries)?;
-    let list = load_all(library, alloc, list, config)?;
+    let list = load_all(library, alloc, list, config, asking)?;
     Ok((list, ids))
 }
 

@@ -1,6 +1,6 @@
 //! The modules that a bundler knows, and the parties that it asks for those that it lacks.
 
-ghost use Rattle.std.specs.Prelude.{◌≡◌, ◌<◌, ◌++◌, ◌∷◌, [], false, Some, None, Err, Contains, IsOk, IsSome, IsTrue, IfOk, IfErr, IfSome, OnOk, OnErr, List};
+ghost use Rattle.std.specs.Prelude.{◌≡◌, ◌≢◌, ◌<◌, ◌++◌, ◌∷◌, [], false, Some, None, Err, Contains, IsOk, IsSome, IsTrue, IfOk, IfErr, IfSome, OnOk, OnErr, List};
 ghost use Rattle.std.specs.Map.{lookup};
 ghost use Rattle.std.specs.Option.{option_map};
 ghost use Rattle.std.specs.String.{string_bytes};
@@ -10,9 +10,9 @@ ghost use Rattle.bundle_rules.specs.Faults.{ResolveFails, fault_of};
 ghost use Rattle.bundle_rules.specs.Judging.{Loads, Numbers, Resolves};
 ghost use Rattle.bundle_rules.specs.Kept.{asked_eq, kept_file, kept_module, nothing_kept, number_in};
 ghost use Rattle.bundler_kept.specs.Kept.{asked_of, names_in, resolved_in, tree_room, trees_in, HasRoomFor, LoadedAreMet};
-ghost use Rattle.bundler_call.specs.Kept.{kept_as, kept_of, settings_of, IsBounded, IsKept, IsMet, IsRequested, MayBeMet};
+ghost use Rattle.bundler_call.specs.Kept.{kept_as, kept_of, settings_of, IsBounded, IsKept, IsMet, IsRequested, MayBeMet, StandsFor};
 ghost use Rattle.bundler_call.specs.Judged.{Tells, asked_by};
-ghost use Rattle.bundler_call.specs.Library.{Keeps, MovesOn};
+ghost use Rattle.bundler_call.specs.Library.{GoesFurther, Keeps, MovesOn};
 ghost use Rattle.bundler_call.specs.Refusal.{load_refusal, resolve_refusal};
 
 use bundle_tree::load::{Load, LoadError, ModuleData};
@@ -23,6 +23,15 @@ use bundle_tree_names::error::Error;
 use bundle_tree_names::file_name::FileName;
 use bundler_kept::{Kept, Request};
 use std::alloc::{AllocError, Global};
+
+/// How a loader is asked for the module of a file.
+#[derive(Clone, Copy)]
+pub enum Asking {
+    /// It is lent, and stays what it is.
+    Lent,
+    /// It is not asked for that file again, so it may hand over what it has.
+    Owned,
+}
 
 /// The loader, the resolver and what their answers were.
 #[derive(Drop)]
@@ -105,11 +114,17 @@ impl<L: Load + Drop, R: Resolve + Drop> Library<L, R> {
         alloc: Global,
         file: &FileName,
         config: &Config,
+        asking: Asking,
     ) -> Result<(), Error>
         requires { IsMet (kept_of self.old.kept) (name_of file.now) }
         ensures there { OnOk result (IsKept (kept_of self.new.kept) (name_of file.now)) }
         ensures grows { (entries : List Name) →
-            MovesOn L.may_load R.may_resolve (settings_of config.now) entries self.old self.new }
+            GoesFurther L.may_load R.may_resolve (settings_of config.now) entries self.old
+            self.new }
+        ensures lent { asking ≡ Asking.Lent → self.new.loader ≡ self.old.loader }
+        ensures stands { OnOk result
+            (StandsFor L.may_load L.may_fail_load self.old.loader self.new.loader
+            (kept_of self.new.kept)) }
         ensures judged { Tells result (λ outcome.
             Loads
             (asked_by L.may_load L.may_fail_load R.may_resolve R.may_fail_resolve self.old.loader
@@ -126,7 +141,7 @@ impl<L: Load + Drop, R: Resolve + Drop> Library<L, R> {
             return Err(Error::TooManyModules { file: name });
         }
         reserve_tree(&mut self.kept)?;
-        let loaded = self.loader.load(alloc, file);
+        let loaded = asked(&mut self.loader, alloc, file, asking);
         keep_loaded(&mut self.kept, name, loaded)
     }
 
@@ -187,6 +202,32 @@ impl<L: Load + Drop, R: Resolve + Drop> Library<L, R> {
             .resolver
             .resolve(alloc, &request.file, request.specifier.as_str());
         keep_resolved(&mut self.kept, own, resolved)
+    }
+}
+
+// The module of a file, of a loader that is asked in this way.
+fn asked<L: Load + Drop>(
+    loader: &mut L,
+    alloc: Global,
+    file: &FileName,
+    asking: Asking,
+) -> Result<ModuleData, LoadError>
+    ensures answer { IfOk result (λ loaded. L.may_load loader.old (name_of file.now) loaded) }
+    ensures failure { result ≡ Err LoadError.Failed →
+        L.may_fail_load loader.old (name_of file.now) }
+    ensures lent { asking ≡ Asking.Lent → loader.new ≡ loader.old }
+    ensures others { (other : Name) (given : ModuleData) →
+        other ≢ name_of file.now →
+        L.may_load loader.new other given →
+        L.may_load loader.old other given }
+    ensures other_failures { (other : Name) →
+        other ≢ name_of file.now →
+        L.may_fail_load loader.new other →
+        L.may_fail_load loader.old other }
+{
+    match asking {
+        Asking::Lent => loader.load(alloc, file),
+        Asking::Owned => loader.hand_over(alloc, file),
     }
 }
 

@@ -11,11 +11,11 @@ ghost use Rattle.bundle_rules.specs.Kept.{Kept, kept_file, kept_module, number_i
 ghost use Rattle.bundle_rules.specs.Program.{Loaded};
 ghost use Rattle.bundler_kept.specs.Kept.{asked_of};
 ghost use Rattle.bundler_call.specs.Judged.{Ends, LeadsOn, asked_by};
-ghost use Rattle.bundler_call.specs.Kept.{kept_of, settings_of, AreRequested, IsKept, IsMet, IsRequested};
-ghost use Rattle.bundler_call.specs.Library.{Keeps, MovesOn};
+ghost use Rattle.bundler_call.specs.Kept.{kept_of, settings_of, AreRequested, IsKept, IsMet, IsRequested, StandsFor};
+ghost use Rattle.bundler_call.specs.Library.{GoesFurther, Keeps, MovesOn};
 ghost use Rattle.bundler_call.specs.Loading.{files_on, ids_on, AllLead, AreAsked, AreMet, AreNumbered, AreSound, Begins, IsNoted, IsPlaced, IsSound, LeadsTo};
 
-use crate::library::Library;
+use crate::library::{Asking, Library};
 use crate::listed::Listed;
 use bundle_link::tables::requests_of;
 use bundle_tree::load::Load;
@@ -99,11 +99,14 @@ pub(crate) fn load_all<L: Load + Drop, R: Resolve + Drop>(
     alloc: Global,
     list: LoadList,
     config: &Config,
+    asking: Asking,
 ) -> Result<LoadList, Error>
     requires met { AreMet (kept_of library.old.kept) (files_on list) }
     requires numbered { AreNumbered (kept_of library.old.kept) list }
     ensures grows { (entries : List Name) →
-        MovesOn L.may_load R.may_resolve (settings_of config.now) entries library.old library.new }
+        GoesFurther L.may_load R.may_resolve (settings_of config.now) entries library.old
+        library.new }
+    ensures lent { asking ≡ Asking.Lent → library.new.loader ≡ library.old.loader }
     ensures loaded { IfOk result (λ list. AreSound (kept_of library.new.kept) (files_on list)) }
     ensures begins { IfOk result (λ made. Begins (files_on list) (files_on made)) }
     ensures once { IfOk result (λ made. IsDistinct (files_on made)) }
@@ -128,7 +131,7 @@ pub(crate) fn load_all<L: Load + Drop, R: Resolve + Drop>(
         let Some(file) = list.file_at(place)? else {
             return Ok(list);
         };
-        work_on(library, alloc, &mut list, &file, config)?;
+        work_on(library, alloc, &mut list, &file, config, asking)?;
     }
     let _count = list.files.len();
     Ok(list)
@@ -142,12 +145,18 @@ fn work_on<L: Load + Drop, R: Resolve + Drop>(
     list: &mut LoadList,
     file: &FileName,
     config: &Config,
+    asking: Asking,
 ) -> Result<(), Error>
     requires met { AreMet (kept_of library.old.kept) (files_on list.old) }
     requires numbered { AreNumbered (kept_of library.old.kept) list.old }
     requires listed { IsMet (kept_of library.old.kept) (name_of file.now) }
     ensures grows { (entries : List Name) →
-        MovesOn L.may_load R.may_resolve (settings_of config.now) entries library.old library.new }
+        GoesFurther L.may_load R.may_resolve (settings_of config.now) entries library.old
+        library.new }
+    ensures lent { asking ≡ Asking.Lent → library.new.loader ≡ library.old.loader }
+    ensures stands { OnOk result
+        (StandsFor L.may_load L.may_fail_load library.old.loader library.new.loader
+        (kept_of library.new.kept)) }
     ensures loaded { OnOk result (IsSound (kept_of library.new.kept) (name_of file.now)) }
     ensures met { OnOk result (AreMet (kept_of library.new.kept) (files_on list.new)) }
     ensures begins { OnOk result (Begins (files_on list.old) (files_on list.new)) }
@@ -158,9 +167,10 @@ fn work_on<L: Load + Drop, R: Resolve + Drop>(
         (AreNumbered (kept_of library.old.kept) list.old →
         IsNoted (settings_of config.now) (kept_of library.new.kept) (name_of file.now) list.old
         list.new) }
-    ensures judged { (place : ℕ) →
+    ensures judged { (first : L) (place : ℕ) →
+        StandsFor L.may_load L.may_fail_load first library.old.loader (kept_of library.old.kept) →
         slice_get (files_on list.old) place ≡ Some (name_of file.now) →
-        let parties = asked_by L.may_load L.may_fail_load R.may_resolve R.may_fail_resolve library.old.loader library.old.resolver in
+        let parties = asked_by L.may_load L.may_fail_load R.may_resolve R.may_fail_resolve first library.old.resolver in
         LeadsOn result
         (LoadsAll parties (settings_of config.now) (files_on list.old) place
         (kept_of library.old.kept))
@@ -168,7 +178,7 @@ fn work_on<L: Load + Drop, R: Resolve + Drop>(
         (kept_of library.new.kept))
         (kept_of library.new.kept) }
 {
-    library.load(alloc, file, config)?;
+    library.load(alloc, file, config, asking)?;
     let specifiers = kept_requests(library, alloc, file, config)?;
     let deps = ask_each(library, alloc, list, file, specifiers)?;
     list.add_deps(deps)?;

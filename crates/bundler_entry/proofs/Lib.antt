@@ -6,6 +6,7 @@ pub mod Known
 pub mod LinkedLemmas
 mod MadeLemmas
 mod MergedLemmas
+mod NamingLemmas
 pub mod PartLemmas
 mod ReadLemmas
 pub mod SourceLemmas

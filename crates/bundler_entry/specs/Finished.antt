@@ -1,17 +1,25 @@
 -- What is handed out of what was merged.
-use Rattle.std.specs.Prelude.{◌≡◌, Bool, true, false, not, List}
+use Rattle.std.specs.Prelude.{◌≡◌, ℕ, Bool, true, false, not, List, Option, Some, None, map}
 use Rattle.bundle_tree_ast.specs.declared.module.Module.{Module}
 use Rattle.bundle_tree_piece.specs.Item.{Item}
 use Rattle.bundle_tree_names.specs.declared.config.Config.{Config}
 use Rattle.bundle_tree_listed.specs.Tree.{module_items}
+use Rattle.bundle_rules.specs.Declarations.{ByContext}
 use Rattle.bundle_rules.specs.Scopes.{Es}
 use Rattle.bundle_rules.specs.Cleared.{tidied}
 use Rattle.bundle_rules.specs.Denotes.{IsResolved}
 use Rattle.bundle_rules.specs.Renamed.{HasNamesOnly}
 use Rattle.bundle_rules.specs.Forms.{wrapped}
+use Rattle.bundle_scope_denote.specs.declared.table.Denotations.{Denotations}
+use Rattle.bundle_scope_denote.specs.Listed.{IsTable}
+use Rattle.bundle_scope_names.specs.declared.names.Names.{Names}
+use Rattle.bundle_scope_names.specs.declared.names.Contexts.{Contexts}
+use Rattle.bundle_scope_names.specs.declared.names.Contexts.TheVariants.{Keep, Clear}
+use Rattle.bundle_scope_names.specs.Called.{text_of, context_of}
+use Rattle.bundle_tree_rename.specs.Naming.{Naming}
 use Rattle.bundle_link.specs.Programs.{is_call}
 use Rattle.bundle_merge_forms.specs.Wrapped.{CanBeWrapped}
-use Rattle.bundle_merge_whole.specs.finished.Ended.{IsNamedAtOnce, IsNamedInTurn}
+use Rattle.bundle_merge_whole.specs.finished.Ended.{AreEndNames, IsNamedAtOnce, IsNamedInTurn}
 
 -- whether bindings are renamed
 abbrev pub is_renaming : Config → Bool
@@ -34,3 +42,20 @@ pub record IsFinished (config : Config) (before made : List Item) : Type 0 where
   pub as_call : is_call config.«module» ≡ true →
       CanBeWrapped named.body.items →
       made ≡ wrapped (module_items 0 named)
+
+-- the names that the bindings of a tree have in the end, with the bindings that its occurrences denote in turn
+pub record IsEnded (renames : Bool) (tree : List Item) (names : Names) (bindings : List (Option ℕ)) : Type 0 where
+  pub table : Denotations
+  pub denotes : IsTable ByContext Es tree table
+  pub right : AreEndNames renames tree table names
+  pub are : bindings ≡ map (λ denoted. denoted.binding) table.occurrences.items
+
+-- the context that an identifier gets, which is 0 where contexts do not stay
+abbrev pub context_for : Contexts → Option ℕ → Option ℕ
+context_for Keep ctxt = ctxt
+context_for Clear ctxt = Some 0
+
+-- what becomes of an identifier that denotes this binding, or a global
+abbrev pub naming_for : Names → Contexts → Option ℕ → Naming
+naming_for names contexts None = record { sym = None; ctxt = context_for contexts None }
+naming_for names contexts (Some binding) = record { sym = text_of names binding; ctxt = context_for contexts (context_of names binding) }

@@ -3,39 +3,35 @@
 
 ghost use Rattle.std.specs.Prelude.{◌≡◌, IfOk, map, if◌then◌else◌};
 ghost use Rattle.bundle_scope_names.specs.declared.names.Contexts.TheVariants.{Clear, Keep};
-ghost use Rattle.bundle_merge_whole.specs.finished.Twice.{IsEditable};
 ghost use Rattle.bundle_tree_piece.specs.Item.{item_of};
-ghost use Rattle.bundle_rules.specs.Declarations.{ByContext};
-ghost use Rattle.bundle_rules.specs.Scopes.{Es};
 ghost use Rattle.bundle_rules.specs.Forms.{wrapped};
 ghost use Rattle.bundle_merge_forms.specs.Wrapped.{CanBeWrapped};
 ghost use Rattle.bundle_scope_denote.specs.Chains.{AreInOrder};
 ghost use Rattle.bundle_scope_denote.specs.Numbers.{numbered};
-ghost use Rattle.bundle_scope_denote.specs.Listed.{IsTable};
 ghost use Rattle.bundle_tree_listed.specs.Tree.{module_items};
 ghost use Rattle.bundle_merge_whole.specs.finished.Ended.{AreEndNames, IsNamedAtOnce};
-ghost use Rattle.bundler_entry.specs.Finished.{IsFinished, NamesInTurn, is_renaming};
+ghost use Rattle.bundle_tree_rename.specs.Naming.{naming_of};
+ghost use Rattle.bundler_entry.specs.Finished.{IsEnded, IsFinished, NamesInTurn, context_for, is_renaming, naming_for};
 
 use bundle_merge_forms::wrap_with_iife;
-use bundle_scope_denote::{Denotations, ModuleKind, Reading, denotations};
-use bundle_scope_names::{Contexts, Names, changes_of, hygienic_names, keyword_names};
+use bundle_scope_denote::{Denotations, Denoted, ModuleKind, Reading, denotations};
+use bundle_scope_names::{Contexts, Names, hygienic_names, keyword_names};
 use bundle_tree_ast::Module;
 use bundle_tree_list::pieces_of_module;
 use bundle_tree_names::config::{Config, ModuleType};
 use bundle_tree_piece::Piece;
-use bundle_tree_rebuild::Rebuild;
+use bundle_tree_rename::{NewName, Rename};
 use std::alloc::{AllocError, Global};
 
-/// The module of what was merged, which is let go of. Both keywords and names are renamed in one go.
-pub fn finished(alloc: Global, merged: Module, config: &Config) -> Result<Module, AllocError>
+/// The module of what was merged. Both keywords and names are renamed in one go, where they stand.
+pub fn finished(alloc: Global, mut merged: Module, config: &Config) -> Result<Module, AllocError>
     ensures { IfOk result (λ made.
         IsFinished config.now (module_items 0 merged) (module_items 0 made)) }
 {
-    let named = named(alloc, &merged, config)?;
-    drop(merged);
+    give_names(alloc, &mut merged, config)?;
     match config.module {
-        ModuleType::Es => Ok(named),
-        ModuleType::Iife => called(alloc, &named),
+        ModuleType::Es => Ok(merged),
+        ModuleType::Iife => called(alloc, &merged),
     }
 }
 
@@ -50,18 +46,36 @@ fn called(alloc: Global, module: &Module) -> Result<Module, AllocError>
     }
 }
 
-// What was merged, with the names that its bindings have in the end.
-fn named(alloc: Global, merged: &Module, config: &Config) -> Result<Module, AllocError>
-    ensures at_once { IfOk result (λ made.
-        IsNamedAtOnce (is_renaming config.now) (module_items 0 merged.now)
-        (module_items 0 made)) }
-    ensures in_turn { IfOk result (λ made.
-        NamesInTurn (is_renaming config.now) (module_items 0 merged.now)
-        (module_items 0 made)) }
+// What was merged gets the names that its bindings have in the end.
+fn give_names(alloc: Global, merged: &mut Module, config: &Config) -> Result<(), AllocError>
+    ensures at_once { IfOk result (λ done. IsNamedAtOnce (is_renaming config.now)
+        (module_items 0 merged.old) (module_items 0 merged.new)) }
+    ensures in_turn { IfOk result (λ done. NamesInTurn (is_renaming config.now)
+        (module_items 0 merged.old) (module_items 0 merged.new)) }
+{
+    let ended = end_names(alloc, merged, config)?;
+    let names = new_names(alloc, &ended.names, &ended.bindings, contexts_of(config))?;
+    let mut rename = Rename::new(alloc, &names);
+    rename.module(merged)
+}
+
+// What the bindings of a module are called in the end, and which of them its occurrences denote in turn.
+#[derive(Drop)]
+struct EndNames {
+    names: Names,
+    bindings: Vec<Option<usize>>,
+}
+
+// The same of what was merged.
+fn end_names(alloc: Global, merged: &Module, config: &Config) -> Result<EndNames, AllocError>
+    ensures { IfOk result (λ ended. IsEnded (is_renaming config.now) (module_items 0 merged.now)
+        ended.names ended.bindings.items) }
 {
     let list = list_of(alloc, merged)?;
     let denoted = denotations(alloc, &list, ModuleKind::Es, Reading::ByContext)?;
-    renamed(alloc, merged, list, denoted, config)
+    let names = names_of(alloc, &list, &denoted, config)?;
+    let bindings = bindings_of(alloc, &denoted.occurrences)?;
+    Ok(EndNames { names, bindings })
 }
 
 // The list of a module, without room for more.
@@ -73,26 +87,59 @@ fn list_of<'x>(alloc: Global, module: &'x Module) -> Result<Vec<Piece<'x>>, Allo
     Ok(list)
 }
 
-// The same, where this is its list, and this is what its names denote, which are let go of before the tree is made.
-fn renamed<'c>(
-    alloc: Global,
-    merged: &Module,
-    list: Vec<Piece<'c>>,
-    denoted: Denotations<'c>,
-    config: &Config,
-) -> Result<Module, AllocError>
-    requires { IsTable ByContext Es (map item_of list.items) denoted }
-    ensures at_once { map item_of list.entry.items ≡ module_items 0 merged.now →
-        IfOk result (λ made. IsNamedAtOnce (is_renaming config.now) (module_items 0 merged.now)
-        (module_items 0 made)) }
-    ensures editable { IfOk result (λ made. IsEditable (module_items 0 merged.now)) }
+// Which bindings are denoted in turn.
+fn bindings_of(alloc: Global, denoted: &[Denoted]) -> Result<Vec<Option<usize>>, AllocError>
+    ensures { IfOk result (λ bindings.
+        bindings.items ≡ map (λ denoted. denoted.binding) denoted.now) }
 {
-    let names = names_of(alloc, &list, &denoted, config)?;
-    let changes = changes_of(alloc, &list, &denoted, &names, contexts_of(config))?;
-    drop(list);
-    drop(denoted);
-    let mut rebuild = Rebuild::new(alloc, &changes);
-    rebuild.module(merged)
+    let mut bindings = Vec::with_capacity(alloc, denoted.len())?;
+    for its in denoted {
+        bindings.push(its.binding)?;
+    }
+    Ok(bindings)
+}
+
+// What becomes of identifiers that denote these bindings in turn, where contexts stay or are 0.
+fn new_names<'n>(
+    alloc: Global,
+    names: &'n Names,
+    bindings: &[Option<usize>],
+    contexts: Contexts,
+) -> Result<Vec<NewName<'n>>, AllocError>
+    ensures { IfOk result (λ new.
+        map naming_of new.items ≡ map (naming_for names.now contexts) bindings.now) }
+{
+    let mut new = Vec::with_capacity(alloc, bindings.len())?;
+    for binding in bindings {
+        new.push(new_name(names, *binding, contexts))?;
+    }
+    Ok(new)
+}
+
+// What becomes of an identifier that denotes this binding, or a global.
+fn new_name<'n>(names: &'n Names, binding: Option<usize>, contexts: Contexts) -> NewName<'n>
+    ensures { naming_of result ≡ naming_for names.now contexts binding }
+{
+    match binding {
+        None => NewName {
+            sym: None,
+            ctxt: new_context(contexts, None),
+        },
+        Some(number) => NewName {
+            sym: names.text_of(number),
+            ctxt: new_context(contexts, names.context_of(number)),
+        },
+    }
+}
+
+// The context that an identifier gets, which is 0 where contexts do not stay.
+fn new_context(contexts: Contexts, ctxt: Option<u32>) -> Option<u32>
+    ensures { result ≡ context_for contexts ctxt }
+{
+    match contexts {
+        Contexts::Keep => ctxt,
+        Contexts::Clear => Some(0),
+    }
 }
 
 // Whether contexts stay: they do where bindings are not renamed.

@@ -3,6 +3,8 @@
 ghost use Rattle.std.specs.Prelude.{◌≡◌, ◌↔◌, ◌+◌, ◌<◌, ◌++◌, ◌∷◌, [], ℕ, true, false, not, is_some, length, slice_get, if◌then◌else◌, IfOk, IfSome, IsSome, OnOk, OnErr, Some};
 ghost use Rattle.std.specs.Option.{option_copied};
 ghost use Rattle.std.specs.Str.{bytes_eq};
+ghost use Rattle.std.specs.BTreeMap.{get};
+ghost use Rattle.bundle_scope_denote.specs.texts.Placed.{IsPut};
 ghost use Rattle.indexmap.specs.IndexSet.{contains, contains_by, index_of_by, index_set_len, insert_index, insert_key, IsEmpty, IsUnchanged, IsUnique, Updates};
 
 use std::alloc::{AllocError, Global};
@@ -121,28 +123,34 @@ impl<K: Ord + Copy + Drop> TextSet<K> {
         ensures err { OnErr result (IsUnchanged self.old self.new) }
         ensures unique { IsUnique K.eq self.new }
     {
-        match self.get_index_of(&key) {
-            Some(place) => Ok((place, false)),
+        self.keys.reserve(1)?;
+        let place = self.keys.len();
+        match put(&mut self.places, key, place)? {
+            Some(own) => Ok((own, false)),
             None => {
-                let place = self.len();
-                self.push(key)?;
+                self.keys.push(key)?;
                 Ok((place, true))
             }
         }
     }
+}
 
-    // Puts a key that is not there last.
-    fn push(&mut self, key: K) -> Result<(), AllocError>
-        requires { contains K.eq self.old key ≡ false }
-        ensures keys { OnOk result (self.new.keys ≡ self.old.keys ++ key ∷ []) }
-        ensures err { OnErr result (IsUnchanged self.old self.new) }
-        ensures unique { IsUnique K.eq self.new }
-    {
-        self.keys.reserve(1)?;
-        self.places.insert(key, self.keys.len())?;
-        self.keys.push(key)?;
-        Ok(())
+// Puts a key at its place, unless it has one, which is answered then. Most keys are new, so it is put there first and
+// looked for by that.
+fn put<K: Ord + Copy + Drop>(
+    places: &mut BTreeMap<K, usize>,
+    key: K,
+    place: usize,
+) -> Result<Option<usize>, AllocError>
+    ensures own { IfOk result (λ own. own ≡ get K.cmp places.old key) }
+    ensures places { IfOk result (λ own. IsPut K.cmp places.old places.new key place own) }
+    ensures err { OnErr result ((other : K) → get K.cmp places.new other ≡ get K.cmp places.old other) }
+{
+    let own = places.insert(key, place)?;
+    if let Some(own) = own {
+        places.insert(key, own)?;
     }
+    Ok(own)
 }
 
 impl<'a> TextSet<&'a str> {

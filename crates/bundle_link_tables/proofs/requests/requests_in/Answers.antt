@@ -13,12 +13,13 @@ pub returns-in-Ok-clause-requests : goal.returns-in-Ok-clause-requests
 returns-in-Ok-clause-requests c = λ settings same said.
     let texts = map string_bytes c.args.external.now in
     let tree = map item_of c.args.pieces.now in
-    let sources = c.in_ok-entries.entries.given.sources.items in
+    let sources = c.in_ok-outline.outline.sources.items in
     let calls = rw c.in-Ok.is at c.in_ok-judged.ensures.calls in
     c.in_ok-requests-in-Ok.ensures
-    ∙ ap (λ l. each_once (unexternal sources ++ map (λ (call : RequireCall). call.specifier.now) l)) c.deref.ensures.value
+    ∙ ap (λ l. each_once (unexternal l ++ map (λ (call : RequireCall). call.specifier.now) c.deref-in-Ok.result.now)) c.deref.ensures.value
+    ∙ ap (λ l. each_once (unexternal sources ++ map (λ (call : RequireCall). call.specifier.now) l)) c.deref-in-Ok.ensures.value
     ∙ requested settings (is_free tree) tree texts sources c.in-Ok.calls.items said
-    (c.in_ok-entries.ensures.sources ∙ told_all c.in_ok-external.external texts _ c.in_ok-external.ensures)
+    (c.in_ok-outline.ensures.sources ∙ told_all c.in_ok-external.external texts _ c.in_ok-external.ensures)
     (calls settings same (λ x. c.in_ok-external.ensures x ∙ ap (has_text x) (sym said)))
 
 pub returns-in-Ok-clause-judged : goal.returns-in-Ok-clause-judged

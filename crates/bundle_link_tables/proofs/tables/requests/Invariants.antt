@@ -5,7 +5,7 @@ use Rattle.bundle_link_tables.specs.Sources.{unexternal}
 use Rattle.bundle_link_tables.proofs.tables.requests.Given as goal
 
 abbrev pub invariant-loop-source : goal.invariant-loop-source
-invariant-loop-source l = map (λ key. key.now) l.texts.keys ≡ each_once (unexternal (take l.source-index l.given.sources.items))
+invariant-loop-source l = map (λ key. key.now) l.texts.keys ≡ each_once (unexternal (take l.source-index l.sources))
 
 abbrev pub invariant-loop-call : goal.invariant-loop-call
-invariant-loop-call l = map (λ key. key.now) l.texts.keys ≡ each_once (unexternal l.given.sources.items ++ map (λ call. call.specifier.now) (take l.call-index l.calls))
+invariant-loop-call l = map (λ key. key.now) l.texts.keys ≡ each_once (unexternal l.sources ++ map (λ call. call.specifier.now) (take l.call-index l.calls))

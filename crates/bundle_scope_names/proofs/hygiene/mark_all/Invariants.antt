@@ -1,9 +1,10 @@
--- The symbol is marked in the scopes gone over.
-use Rattle.std.proofs.Common.{◌≡◌, List, Some, map, take}
+-- The symbol is marked in the scopes of the occurrences gone over.
+use Rattle.std.proofs.Common.{◌≡◌, ◌-◌, List, Some, map, length}
 use Rattle.bundle_rules.specs.Nodes.{Text}
 use Rattle.bundle_scope_denote.specs.Numbers.{numbered}
-use Rattle.bundle_scope_names.specs.Marks.{Symbol, number_in, marked, IsClosed, Marks}
+use Rattle.bundle_scope_names.specs.Marks.{Symbol, number_in, marked, IsClosed}
+use Rattle.bundle_scope_names.proofs.UsesLemmas.{IsMarkedFrom}
 use Rattle.bundle_scope_names.proofs.hygiene.mark_all.Given as goal
 
-abbrev pub invariant-loop-from : goal.invariant-loop-from
-invariant-loop-from l = (symbols : List Symbol) (text : Text) → number_in symbols text ≡ Some l.symbol → IsClosed (map numbered l.scopes) (marked symbols l.initial.marks.keys) → Marks (map numbered l.scopes) (take l.from-index l.uses) text (marked symbols l.initial.marks.keys) (marked symbols l.marks.keys)
+abbrev pub invariant-loop : goal.invariant-loop
+invariant-loop l = (symbols : List Symbol) (text : Text) → number_in symbols text ≡ Some l.symbol → IsClosed (map numbered l.scopes) (marked symbols l.initial.marks.keys) → IsMarkedFrom (map numbered l.scopes) l.occurrences l.binding text (marked symbols l.initial.marks.keys) (marked symbols l.marks.keys) (length l.occurrences - l.counter) l.at

@@ -19,9 +19,9 @@ read firsts number first is = ap (option_and_then (λ value. value)) is
 pub loop-number-preserved : goal.loop-number-preserved
 loop-number-preserved c =
     let lt : c.loop-number.number < length c.args.bindings.now = c.loop-number-test.true in
-    let first : c.first_at.result ≡ first_of c.args.occurrences.now c.loop-number.number = c.first_at.ensures ∙ ap (λ l. at l c.loop-number.number) c.deref.ensures.value ∙ read c.in_ok-firsts.firsts.items c.loop-number.number _ (c.in_ok-firsts.ensures c.loop-number.number lt) in
-    elim c.match-first_at.branch [
-      | in-Some+in_ok-push w ↦ placed-next (homes_of c.args.bindings.now) c.args.occurrences.now c.loop-number.number _ w.in-Some.first c.loop-number.places.items c.match-first_at.places.items (ap (λ (v : Vec Place Global). v.items) w.places-is ∙ w.in_ok-push.ensures.items) (slice_get-map (λ (b : Binding). b.scope) c.args.bindings.now c.loop-number.number ∙ ap (option_map (λ (b : Binding). b.scope)) (slice_get-get_or c.args.bindings.now c.loop-number.number _ lt)) (sym first ∙ w.in-Some.is) c.loop-number.invariant
+    let first : c.number_at.result ≡ first_of c.args.occurrences.now c.loop-number.number = c.number_at.ensures ∙ ap (λ l. at l c.loop-number.number) c.deref.ensures.value ∙ read c.in_ok-firsts.firsts.items c.loop-number.number _ (c.in_ok-firsts.ensures c.loop-number.number lt) in
+    elim c.match-number_at.branch [
+      | in-Some+in_ok-push w ↦ placed-next (homes_of c.args.bindings.now) c.args.occurrences.now c.loop-number.number _ w.in-Some.first c.loop-number.places.items c.match-number_at.places.items (ap (λ (v : Vec Place Global). v.items) w.places-is ∙ w.in_ok-push.ensures.items) (slice_get-map (λ (b : Binding). b.scope) c.args.bindings.now c.loop-number.number ∙ ap (option_map (λ (b : Binding). b.scope)) (slice_get-get_or c.args.bindings.now c.loop-number.number _ lt)) (sym first ∙ w.in-Some.is) c.loop-number.invariant
       | in_default w ↦ subst (λ (v : Vec Place Global). ArePlaced (homes_of c.args.bindings.now) c.args.occurrences.now (c.loop-number.number + 1) v.items) (sym w.places-is) (placed-over (homes_of c.args.bindings.now) c.args.occurrences.now c.loop-number.number c.loop-number.places.items (sym first ∙ w.in_default.is) c.loop-number.invariant)
     ]
 

@@ -1,9 +1,15 @@
--- Those in the field among the parts that were passed.
-use Rattle.std.proofs.Common.{◌≡◌, map, take}
-use Rattle.std.specs.List.{flat_map}
-use Rattle.bundle_tree_places.specs.Lengths.{kept_in}
+-- Those in the field that were found and those behind the place are all.
+use Rattle.std.proofs.Common.{◌≡◌, ◌≤◌, ◌-◌, ◌++◌, length, map, drop}
 use Rattle.bundle_tree_places.specs.Parted.{part_items}
+use Rattle.bundle_tree_places.proofs.PartLemmas.{all_from}
 use Rattle.bundle_tree_places.proofs.parts.in_field.Given as goal
 
-abbrev pub invariant-loop-part : goal.invariant-loop-part
-invariant-loop-part l = map part_items l.found.items ≡ flat_map (kept_in l.field) (map part_items (take l.part-index l.part-items))
+abbrev pub invariant-each : goal.invariant-each
+invariant-each l =
+    record {
+      within : l.at ≤ length l.inside;
+      parts : all_from l.field l.inside ≡ map part_items l.found.items ++ all_from l.field (drop l.at l.inside);
+    }
+
+abbrev pub decreases-each : goal.decreases-each
+decreases-each l = length l.inside - l.at

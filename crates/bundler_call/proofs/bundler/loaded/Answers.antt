@@ -1,4 +1,5 @@
 -- The files of the entries get their numbers, and then all that they need is loaded, or the first fault on that way is told.
+use Rattle.std.proofs.Common.{◌∙◌}
 use Rattle.bundle_rules.specs.Faults.{fault_of}
 use Rattle.bundle_rules.specs.Judging.{GoesOn, LoadsAll}
 use Rattle.bundler_call.specs.Bundler.{files_of}
@@ -7,7 +8,8 @@ use Rattle.bundler_call.specs.Kept.{kept_of, settings_of}
 use Rattle.bundler_call.specs.Loading.{files_on}
 use Rattle.bundler_call.proofs.Bundling.{all_on}
 use Rattle.bundler_call.proofs.Ending.{completes, refused_list, refused_loading, refused_number}
-use Rattle.bundler_call.proofs.Growing.{advances_refl, advances_stays, advances_trans, still_bounded}
+use Rattle.bundler_call.proofs.Growing.{still_bounded}
+use Rattle.bundler_call.proofs.Handing.{proceeds_lent, proceeds_refl, proceeds_stays, proceeds_trans, stands_as}
 use Rattle.bundler_call.proofs.Judging.{as_before}
 use Rattle.bundler_call.proofs.Numbered.{all_still_numbered}
 use Rattle.bundler_call.proofs.bundler.loaded.Goals as goal
@@ -16,7 +18,7 @@ use Rattle.bundler_call.proofs.bundler.loaded.Goals as goal
 
 pub returns-in_err-refuse_doubled_entry-clause-grows : goal.returns-in_err-refuse_doubled_entry-clause-grows
 returns-in_err-refuse_doubled_entry-clause-grows g c =
-    advances_refl _ _ (settings_of c.args.config.now) (files_of c.args.entries.now) _ _ (kept_of c.args.library.now.kept)
+    proceeds_refl _ _ (settings_of c.args.config.now) (files_of c.args.entries.now) _ _ (kept_of c.args.library.now.kept)
 
 pub returns-in_err-refuse_doubled_entry-clause-refused : goal.returns-in_err-refuse_doubled_entry-clause-refused
 returns-in_err-refuse_doubled_entry-clause-refused g c =
@@ -25,7 +27,8 @@ returns-in_err-refuse_doubled_entry-clause-refused g c =
     c.in_err-refuse_doubled_entry.ensures.doubled
 
 pub returns-in_err-list-clause-grows : goal.returns-in_err-list-clause-grows
-returns-in_err-list-clause-grows g c = c.in_err-list.ensures.grows (settings_of c.args.config.now)
+returns-in_err-list-clause-grows g c =
+    proceeds_lent _ _ (settings_of c.args.config.now) (files_of c.args.entries.now) _ _ _ _ _ _ (c.in_err-list.ensures.grows (settings_of c.args.config.now))
 
 pub returns-in_err-list-clause-refused : goal.returns-in_err-list-clause-refused
 returns-in_err-list-clause-refused g c =
@@ -38,7 +41,9 @@ pub returns-in_err-list-2-clause-grows : goal.returns-in_err-list-2-clause-grows
 returns-in_err-list-2-clause-grows g c =
     let settings = settings_of c.args.config.now in
     let files = files_of c.args.entries.now in
-    advances_trans _ _ settings files _ _ _ _ _ _ _ _ _ (c.in_ok-list.ensures.grows settings) (c.in_err-list-2.ensures.grows files)
+    let first = c.in_ok-list.ensures.grows settings in
+    proceeds_trans _ g.L.Load.may_fail_load _ settings files _ _ _ _ _ _ _ _ (proceeds_lent _ _ settings files _ _ _ _ _ _ first)
+    (stands_as g.L.Load.may_load g.L.Load.may_fail_load c.args.library.now.loader c.numbered.new.library.loader (kept_of c.numbered.new.library.kept) first.loader) (c.in_err-list-2.ensures.grows files)
 
 pub returns-in_err-list-2-clause-refused : goal.returns-in_err-list-2-clause-refused
 returns-in_err-list-2-clause-refused g c =
@@ -59,7 +64,9 @@ pub returns-clause-grows : goal.returns-clause-grows
 returns-clause-grows g c =
     let settings = settings_of c.args.config.now in
     let files = files_of c.args.entries.now in
-    advances_trans _ _ settings files _ _ _ _ _ _ _ _ _ (c.in_ok-list.ensures.grows settings) (c.in_ok-list-2.ensures.grows files)
+    let first = c.in_ok-list.ensures.grows settings in
+    proceeds_trans _ g.L.Load.may_fail_load _ settings files _ _ _ _ _ _ _ _ (proceeds_lent _ _ settings files _ _ _ _ _ _ first)
+    (stands_as g.L.Load.may_load g.L.Load.may_fail_load c.args.library.now.loader c.numbered.new.library.loader (kept_of c.numbered.new.library.kept) first.loader) (c.in_ok-list-2.ensures.grows files)
 
 pub returns-clause-loaded : goal.returns-clause-loaded
 returns-clause-loaded g c =
@@ -82,7 +89,7 @@ returns-clause-numbered g c =
     let new = kept_of c.load_all.new.library.kept in
     all_on new c.in_ok-list-2.list (c.in_ok-list-2.ensures.numbered c.in_ok-list.ensures.listed) c.args.entries.now c.in_ok-list.ids.items (files_on c.in_ok-list.list) c.in_ok-list-2.ensures.begins
     (c.in_ok-list.ensures.all c.in_ok-refuse_doubled_entry.ensures.apart)
-    (all_still_numbered mid new (advances_stays _ _ settings files _ _ _ _ _ _ (c.in_ok-list-2.ensures.grows files)) c.args.entries.now c.in_ok-list.ids.items c.in_ok-list.ensures.numbered)
+    (all_still_numbered mid new (proceeds_stays _ _ settings files _ _ _ _ _ (c.in_ok-list-2.ensures.grows files)) c.args.entries.now c.in_ok-list.ids.items c.in_ok-list.ensures.numbered)
 
 pub returns-clause-completes : goal.returns-clause-completes
 returns-clause-completes g c =
@@ -96,3 +103,12 @@ returns-clause-completes g c =
     settings c.args.entries.now apart old mid new (files_on c.in_ok-list.list) c.in_ok-list.ensures.judged (c.in_ok-list.ensures.all apart)
     (as_before (λ l r. LoadsAll (asked_by g.L.Load.may_load g.L.Load.may_fail_load g.R.Resolve.may_resolve g.R.Resolve.may_fail_resolve l r) settings (files_on c.in_ok-list.list) 0 mid GoesOn new)
     _ _ _ _ first.loader first.resolver c.in_ok-list-2.ensures.judged)
+
+pub returns-in_err-list-clause-lent : goal.returns-in_err-list-clause-lent
+returns-in_err-list-clause-lent g c = λ lent. (c.in_err-list.ensures.grows (settings_of c.args.config.now)).loader
+
+pub returns-in_err-list-2-clause-lent : goal.returns-in_err-list-2-clause-lent
+returns-in_err-list-2-clause-lent g c = λ lent. c.in_err-list-2.ensures.lent lent ∙ (c.in_ok-list.ensures.grows (settings_of c.args.config.now)).loader
+
+pub returns-clause-lent : goal.returns-clause-lent
+returns-clause-lent g c = λ lent. c.in_ok-list-2.ensures.lent lent ∙ (c.in_ok-list.ensures.grows (settings_of c.args.config.now)).loader

@@ -15,9 +15,9 @@ under (Err e) P f = tt
 
 pub returns-in-Es : goal.returns-in-Es
 returns-in-Es c = record {
-  named = c.in_ok-named.named;
-  at_once = c.in_ok-named.ensures.at_once;
-  in_turn = c.in_ok-named.ensures.in_turn;
+  named = c.give_names.new.merged;
+  at_once = c.in_ok-give_names.ensures.at_once;
+  in_turn = c.in_ok-give_names.ensures.in_turn;
   as_module = λ so. refl;
   as_call = λ so. absurd (false≢true (sym (ap is_call c.in-Es.is) ∙ so));
 }
@@ -26,10 +26,10 @@ pub returns-in-Iife : goal.returns-in-Iife
 returns-in-Iife c =
     IfOk-weaker c.called.result _ _
     (λ made is. record {
-      named = c.in_ok-named.named;
-      at_once = c.in_ok-named.ensures.at_once;
-      in_turn = c.in_ok-named.ensures.in_turn;
+      named = c.give_names.new.merged;
+      at_once = c.in_ok-give_names.ensures.at_once;
+      in_turn = c.in_ok-give_names.ensures.in_turn;
       as_module = λ so. absurd (false≢true (sym so ∙ ap is_call c.in-Iife.is));
       as_call = λ so can. is can;
     })
-    (under c.called.result (λ made. module_items 0 made ≡ wrapped (module_items 0 c.in_ok-named.named)) c.called.ensures)
+    (under c.called.result (λ made. module_items 0 made ≡ wrapped (module_items 0 c.give_names.new.merged)) c.called.ensures)

@@ -4,7 +4,7 @@ use Rattle.bundle_link_search.specs.Graph.{Graph, same_spot}
 use Rattle.bundle_link_search.specs.Given.{IsAnswer}
 use Rattle.bundle_link_search.proofs.search.Search.answer.Goals as goal
 
-pub returns-in-Some-clause-right : goal.returns-in-Some-clause-right
-returns-in-Some-clause-right c =
-    let noted : lookup (same_spot c.args.at) c.self.inside.answers.entries ≡ Some c.in-Some.answer = cc in
-    subst (λ (g : Graph). IsAnswer g c.args.at c.in-Some.answer) c.self.view_is (c.self.invariant.right c.args.at c.in-Some.answer noted)
+pub returns-in-Some-copied-clause-right : goal.returns-in-Some-copied-clause-right
+returns-in-Some-copied-clause-right c =
+    let noted : lookup (same_spot c.args.at) c.self.inside.answers.entries ≡ Some c.in-Some-copied.answer = cc in
+    subst (λ (g : Graph). IsAnswer g c.args.at c.in-Some-copied.answer) c.self.view_is (c.self.invariant.right c.args.at c.in-Some-copied.answer noted)

@@ -1,16 +1,18 @@
 -- Each element takes the walk one place on.
 use Rattle.std.proofs.Common.{Some, ap, sym, ◌∙◌, map}
 use Rattle.bundle_tree_piece.specs.Item.{item_of}
-use Rattle.bundle_scope_denote.specs.Walked.{is_occurrence}
 use Rattle.bundle_scope_denote.proofs.StepLemmas.{on_ok, item_at, begun_in_pieces, worded_by, holed, ended, occurred}
-use Rattle.bundle_scope_denote.proofs.TidyLemmas.{begun-tidy, occurred-tidy, ended-tidy, tidy-later}
+use Rattle.bundle_scope_denote.proofs.TidyLemmas.{begun-tidy}
 use Rattle.bundle_scope_denote.proofs.walk.Walk.step.Goals as goal
 
 pub returns-in-Open-clause-goes : goal.returns-in-Open-clause-goes
 returns-in-Open-clause-goes c = on_ok c.begin.result (begun_in_pieces c.args.self.now c.begin.new.self c.args.pieces.now c.args.place c.in-Open.field _ c.requires.before (item_at _ _ _ c.requires.within c.index-pieces-place.is ∙ ap (λ piece. Some (item_of piece)) c.in-Open.is)) c.begin.ensures
 
-pub returns-in-Ident-clause-goes : goal.returns-in-Ident-clause-goes
-returns-in-Ident-clause-goes c = on_ok c.name.result (occurred c.args.self.now c.name.new.self (map item_of c.args.pieces.now) c.args.place c.in-Ident.field c.in-Ident.ctxt c.in-Ident.sym.now c.in-Ident.role c.requires.before (item_at _ _ _ c.requires.within c.index-pieces-place.is ∙ ap (λ piece. Some (item_of piece)) c.in-Ident.is) (sym c.is_occurrence.ensures ∙ c.if-is_occurrence.true)) c.name.ensures
+pub returns-then-is_occurrence-clause-goes : goal.returns-then-is_occurrence-clause-goes
+returns-then-is_occurrence-clause-goes c = on_ok c.name.result (occurred c.args.self.now c.name.new.self (map item_of c.args.pieces.now) c.args.place c.in-Ident.field c.in-Ident.ctxt c.in-Ident.sym.now c.in-Ident.role c.requires.before (item_at _ _ _ c.requires.within c.index-pieces-place.is ∙ ap (λ piece. Some (item_of piece)) c.in-Ident.is) (sym c.is_occurrence.ensures ∙ c.if-is_occurrence.true)) c.name.ensures
+
+pub returns-else-is_occurrence-clause-goes : goal.returns-else-is_occurrence-clause-goes
+returns-else-is_occurrence-clause-goes c = worded_by c.args.self.now (map item_of c.args.pieces.now) c.args.place c.in-Ident.field c.in-Ident.ctxt c.in-Ident.sym.now c.in-Ident.role c.requires.before (item_at _ _ _ c.requires.within c.index-pieces-place.is ∙ ap (λ piece. Some (item_of piece)) c.in-Ident.is) (sym c.is_occurrence.ensures ∙ c.if-is_occurrence.false)
 
 pub returns-in-Hole-clause-goes : goal.returns-in-Hole-clause-goes
 returns-in-Hole-clause-goes c = holed c.args.self.now (map item_of c.args.pieces.now) c.args.place c.in-Hole.field c.requires.before (item_at _ _ _ c.requires.within c.index-pieces-place.is ∙ ap (λ piece. Some (item_of piece)) c.in-Hole.is)
@@ -18,20 +20,5 @@ returns-in-Hole-clause-goes c = holed c.args.self.now (map item_of c.args.pieces
 pub returns-in-Close-clause-goes : goal.returns-in-Close-clause-goes
 returns-in-Close-clause-goes c = ended c.args.self.now c.end.new.self (map item_of c.args.pieces.now) c.args.place c.requires.before (item_at _ _ _ c.requires.within c.index-pieces-place.is ∙ ap (λ piece. Some (item_of piece)) c.in-Close.is) c.end.ensures
 
-pub returns-in-Ident-2-clause-goes : goal.returns-in-Ident-2-clause-goes
-returns-in-Ident-2-clause-goes c = worded_by c.args.self.now (map item_of c.args.pieces.now) c.args.place c.in-Ident-2.field c.in-Ident-2.ctxt c.in-Ident-2.sym.now c.in-Ident-2.role c.requires.before (item_at _ _ _ c.requires.within c.index-pieces-place.is ∙ ap (λ piece. Some (item_of piece)) c.in-Ident-2.is) (ap (λ piece. is_occurrence (item_of piece)) (sym c.in-Ident-2.is ∙ c.in-Ident.is) ∙ sym c.is_occurrence.ensures ∙ c.if-is_occurrence.false)
-
 pub returns-in-Open-clause-tidy : goal.returns-in-Open-clause-tidy
 returns-in-Open-clause-tidy c = on_ok c.begin.result (begun-tidy c.args.self.now c.begin.new.self (map item_of c.args.pieces.now) c.args.place c.in-Open.field _ _ c.requires.before c.requires.tidy) c.begin.ensures
-
-pub returns-in-Ident-clause-tidy : goal.returns-in-Ident-clause-tidy
-returns-in-Ident-clause-tidy c = on_ok c.name.result (occurred-tidy c.args.self.now c.name.new.self c.args.place c.in-Ident.field c.in-Ident.ctxt c.in-Ident.sym.now c.in-Ident.role c.requires.tidy) c.name.ensures
-
-pub returns-in-Hole-clause-tidy : goal.returns-in-Hole-clause-tidy
-returns-in-Hole-clause-tidy c = tidy-later _ _ c.args.place c.requires.tidy
-
-pub returns-in-Close-clause-tidy : goal.returns-in-Close-clause-tidy
-returns-in-Close-clause-tidy c = ended-tidy c.args.self.now c.end.new.self c.args.place c.requires.tidy c.end.ensures
-
-pub returns-in-Ident-2-clause-tidy : goal.returns-in-Ident-2-clause-tidy
-returns-in-Ident-2-clause-tidy c = tidy-later _ _ c.args.place c.requires.tidy

@@ -1,14 +1,13 @@
 -- The number is the least.
-use Rattle.std.proofs.Common.{◌≡◌, ◌<◌, ◌≤◌, ◌+◌, ◌++◌, ◌||◌, ⊎_elim, ℕ, Some, cond, true, false, bytes_eq, string_bytes, decimal, unwrap_or, rules, Bool, refl, ap, ap₂, sym, ◌∙◌, subst, arith}
+use Rattle.std.proofs.Common.{◌≡◌, ◌<◌, ◌≤◌, ◌+◌, ◌++◌, ◌||◌, ⊎_elim, ℕ, Some, cond, true, false, bytes_eq, string_bytes, decimal, rules, Bool, List, refl, ap, ap₂, sym, ◌∙◌, subst, arith}
 use Rattle.std.proofs.lemmas.Bool.{cases_order}
-use Rattle.std.proofs.lemmas.Map.Text.{hash_map_updates_str, hash_set_updates_text}
-use Rattle.std.specs.HashMap.{get_by}
+use Rattle.std.proofs.lemmas.Map.Text.{hash_set_updates_text}
 use Rattle.bundle_rules.specs.Nodes.{Text}
 use Rattle.bundle_rules.specs.Renaming.{numbered}
 use Rattle.bundle_scope_names.specs.declared.hygiene.Hygiene.{Hygiene}
-use Rattle.bundle_scope_names.specs.Marks.{needed_by, kept_by, has_taken, has_given, last_of}
-use Rattle.bundle_scope_names.proofs.TestLemmas.{given-or, last-cond, bytes_comm}
-use Rattle.bundle_scope_names.proofs.KnowsLemmas.{least-from, numbered-some}
+use Rattle.bundle_scope_names.specs.Marks.{number_in, needed_by, kept_by, has_taken, has_given, last_by, last_of}
+use Rattle.bundle_scope_names.proofs.TestLemmas.{given-or, bytes_comm}
+use Rattle.bundle_scope_names.proofs.KnowsLemmas.{least-from, numbered-some, last-next}
 use Rattle.bundle_scope_names.proofs.hygiene.Hygiene.free_text.Goals as goal
 
 next : (k n tried : ℕ) (hygiene : Hygiene) (text : Text) → n ≡ tried + 1 → has_taken hygiene (numbered text n) ≡ true → (k ≤ tried → has_taken hygiene (numbered text k) ≡ true) → k ≤ n → has_taken hygiene (numbered text k) ≡ true
@@ -17,26 +16,26 @@ next k n tried hygiene text is met before le = ⊎_elim (λ e. subst (λ m. has_
 pub loop-tried-init : goal.loop-tried-init
 loop-tried-init c = (refl, λ k over le. absurd (omega arith))
 
-pub returns-then-not-is_taken : goal.returns-then-not-is_taken
-returns-then-not-is_taken c =
+pub returns-then-not-is_taken-clause-gives : goal.returns-then-not-is_taken-clause-gives
+returns-then-not-is_taken-clause-gives c = λ is.
     let n : ℕ = c.loop-tried.tried + 1 in
     let pos : 0 < n = omega arith in
     let plain : string_bytes c.in_ok-text.text ≡ c.args.sym.now ++ decimal n = search rules in
     let is_text : string_bytes c.in_ok-text.text ≡ numbered c.args.sym.now n = plain ∙ sym (numbered-some c.args.sym.now n pos) in
     let same = c.loop-tried.invariant.0 in
     let free : has_taken c.args.self.now (numbered c.args.sym.now n) ≡ false = sym (c.if-not-is_taken.ensures ∙ ap₂ has_taken same (c.as_str.ensures.value ∙ is_text)) in
-    let first : c.last_of-first.result ≡ last_of c.args.self.now c.args.sym.now = c.last_of-first.ensures in
+    let first : c.tried_last-first.result ≡ last_of c.args.self.now c.args.sym.now = c.tried_last-first.ensures ∙ ap (λ (l : List ℕ). last_by l (Some c.args.symbol)) c.deref.ensures.value ∙ ap (last_by c.args.self.now.last.items) (sym is) in
     let lt : last_of c.args.self.now c.args.sym.now < n = subst (λ m. m < n) first (omega arith) in
     let cloned : string_bytes c.in_ok-clone.field-0 ≡ string_bytes c.in_ok-text.text = search rules in (
       n,
       is_text,
       record {
-        is_least = λ tried. least-from (λ other. has_taken c.args.self.now (numbered c.args.sym.now other)) (last_of c.args.self.now c.args.sym.now) n lt tried (λ k over below. let le : k ≤ c.loop-tried.tried = omega arith in c.loop-tried.invariant.1 k (subst (λ m. m < k) (sym c.last_of-first.ensures) over) le) free;
+        is_least = λ tried. least-from (λ other. has_taken c.args.self.now (numbered c.args.sym.now other)) (last_of c.args.self.now c.args.sym.now) n lt tried (λ k over below. let le : k ≤ c.loop-tried.tried = omega arith in c.loop-tried.invariant.1 k (subst (λ m. m < k) (sym first) over) le) free;
         kept = ap kept_by same;
         needed = ap needed_by same;
         symbols = ap (λ (h : Hygiene). h.symbols.keys) same;
-        given = λ other. hash_set_updates_text (string_bytes c.in_ok-clone.field-0) c.loop-tried.self.given c.insert-then-not-is_taken.new.self true c.in_ok-insert-2.ensures.updates other ∙ given-or (bytes_eq (string_bytes c.in_ok-clone.field-0) other) (has_given c.loop-tried.self other) ∙ ap₂ (λ (a : Bool) (b : Bool). a || b) (ap (λ (h : Hygiene). has_given h other) same) (bytes_comm (string_bytes c.in_ok-clone.field-0) other ∙ ap (bytes_eq other) (cloned ∙ is_text));
-        last = λ other. ap (λ o. unwrap_or o 0) (hash_map_updates_str c.args.sym.now c.loop-tried.self.last c.insert.new.self (Some n) c.in_ok-insert.ensures.updates other) ∙ last-cond (bytes_eq c.args.sym.now other) n (get_by (λ key. bytes_eq other key.now) c.loop-tried.self.last) ∙ ap (cond (bytes_eq c.args.sym.now other) n) (ap (λ (h : Hygiene). last_of h other) same);
+        given = λ other. hash_set_updates_text (string_bytes c.in_ok-clone.field-0) c.loop-tried.self.given c.insert.new.self true c.in_ok-insert.ensures.updates other ∙ given-or (bytes_eq (string_bytes c.in_ok-clone.field-0) other) (has_given c.loop-tried.self other) ∙ ap₂ (λ (a : Bool) (b : Bool). a || b) (ap (λ (h : Hygiene). has_given h other) same) (bytes_comm (string_bytes c.in_ok-clone.field-0) other ∙ ap (bytes_eq other) (cloned ∙ is_text));
+        last = λ other. subst (λ (h : Hygiene). last_by c.set_last.new.last.items (number_in c.loop-tried.self.symbols.keys other) ≤ cond (bytes_eq c.args.sym.now other) n (last_by h.last.items (number_in h.symbols.keys other))) same (last-next c.loop-tried.self.symbols.keys c.loop-tried.self.last.items c.set_last.new.last.items c.args.sym.now other c.args.symbol n (ap (λ (h : Hygiene). number_in h.symbols.keys c.args.sym.now) same ∙ is) c.set_last.ensures);
       },
     )
 

@@ -12,8 +12,8 @@ use Rattle.bundler_call.specs.Linking.{IsNumberedOn, IsRefusalOfEntries}
 use Rattle.bundler_call.proofs.Bundling.{all_finished, along}
 use Rattle.bundler_call.proofs.Ending.{answers_none, bundled_headline, completed_stops, empty_headline, refused_headline, refused_linking, some_entry, IsRefusedBy}
 use Rattle.bundler_call.proofs.Finding.{handed_on}
+use Rattle.bundler_call.proofs.Handing.{grows_along_entries}
 use Rattle.bundler_call.proofs.Linking.{all_bundled_as, refusal_as}
-use Rattle.bundler_call.proofs.Numbered.{advances_for}
 use Rattle.bundler_call.proofs.Unasked.{completes_beside, refused_beside}
 use Rattle.bundler_call.proofs.bundler.Bundler.bundle.Goals as goal
 
@@ -34,25 +34,25 @@ loaded-requires g c = some_entry c.args.entries.items c.as_slice.result.now _ _ 
 -- Refusals.
 
 pub returns-in_err-list-clause-loader : goal.returns-in_err-list-clause-loader
-returns-in_err-list-clause-loader g c = c.in_err-list.ensures.grows.loader
+returns-in_err-list-clause-loader g c = c.in_err-list.ensures.lent refl
 
 pub returns-in_err-list-clause-resolver : goal.returns-in_err-list-clause-resolver
 returns-in_err-list-clause-resolver g c = c.in_err-list.ensures.grows.resolver
 
 pub returns-in_err-merged-clause-loader : goal.returns-in_err-merged-clause-loader
-returns-in_err-merged-clause-loader g c = c.in_ok-list.ensures.grows.loader
+returns-in_err-merged-clause-loader g c = c.in_ok-list.ensures.lent refl
 
 pub returns-in_err-merged-clause-resolver : goal.returns-in_err-merged-clause-resolver
 returns-in_err-merged-clause-resolver g c = c.in_ok-list.ensures.grows.resolver
 
 pub returns-in_err-finished_bundles-clause-loader : goal.returns-in_err-finished_bundles-clause-loader
-returns-in_err-finished_bundles-clause-loader g c = c.in_ok-list.ensures.grows.loader
+returns-in_err-finished_bundles-clause-loader g c = c.in_ok-list.ensures.lent refl
 
 pub returns-in_err-finished_bundles-clause-resolver : goal.returns-in_err-finished_bundles-clause-resolver
 returns-in_err-finished_bundles-clause-resolver g c = c.in_ok-list.ensures.grows.resolver
 
 pub returns-clause-loader : goal.returns-clause-loader
-returns-clause-loader g c = c.in_ok-list.ensures.grows.loader
+returns-clause-loader g c = c.in_ok-list.ensures.lent refl
 
 pub returns-clause-resolver : goal.returns-clause-resolver
 returns-clause-resolver g c = c.in_ok-list.ensures.grows.resolver
@@ -63,7 +63,7 @@ returns-in_err-list-clause-headline g c =
     let old = kept_of c.args.self.now.library.kept in
     let new = kept_of c.loaded.new.library.kept in
     refused_headline _ settings c.args.entries.items old new c.from_residual.result c.in_err-list.field-0.0 c.from_residual.ensures.1
-    (advances_for _ _ settings c.as_slice.result.now c.args.entries.items _ _ _ _ old new c.as_slice.ensures.value c.in_err-list.ensures.grows).grows
+    (grows_along_entries _ settings c.as_slice.result.now c.args.entries.items old new c.as_slice.ensures.value c.in_err-list.ensures.grows.grows)
     (refused_beside g.L.Load.may_load g.L.Load.may_fail_load g.R.Resolve.may_resolve g.R.Resolve.may_fail_resolve _ _ settings c.args.self.now.library.loader c.args.self.now.library.resolver c.from_residual.result c.in_err-list.field-0.0 c.from_residual.ensures.1 (map entry_of c.args.entries.items) old new
     (subst (λ xs. IsToldOf (asked_by g.L.Load.may_load g.L.Load.may_fail_load g.R.Resolve.may_resolve g.R.Resolve.may_fail_resolve c.args.self.now.library.loader c.args.self.now.library.resolver) settings (map entry_of xs) old new c.in_err-list.field-0.0) c.as_slice.ensures.value c.in_err-list.ensures.refused))
 
@@ -77,7 +77,7 @@ returns-in_err-merged-clause-headline g c =
     let may_resolve = g.R.Resolve.may_resolve c.args.self.now.library.resolver in
     let may_fail_resolve = g.R.Resolve.may_fail_resolve c.args.self.now.library.resolver in
     refused_headline _ settings c.args.entries.items old new c.from_residual-in_err-merged.result (error_of c.in_err-merged.field-0.0) c.from_residual-in_err-merged.ensures.1
-    (advances_for _ _ settings c.as_slice.result.now c.args.entries.items _ _ _ _ old new c.as_slice.ensures.value c.in_ok-list.ensures.grows).grows
+    (grows_along_entries _ settings c.as_slice.result.now c.args.entries.items old new c.as_slice.ensures.value c.in_ok-list.ensures.grows.grows)
     (refused_linking _ settings _ (map entry_of c.args.entries.items) old new c.in_err-merged.field-0.0 c.from_residual-in_err-merged.ensures.1
     (completes_beside g.L.Load.may_load g.L.Load.may_fail_load g.R.Resolve.may_resolve g.R.Resolve.may_fail_resolve _ _ settings c.args.self.now.library.loader c.args.self.now.library.resolver (map entry_of c.args.entries.items) old new
     (subst (λ xs. Completes (asked_by g.L.Load.may_load g.L.Load.may_fail_load g.R.Resolve.may_resolve g.R.Resolve.may_fail_resolve c.args.self.now.library.loader c.args.self.now.library.resolver) settings (map entry_of xs) old new) c.as_slice.ensures.value c.in_ok-list.ensures.completes))
@@ -92,7 +92,7 @@ returns-in_err-finished_bundles-clause-headline g c =
     let old = kept_of c.args.self.now.library.kept in
     let new = kept_of c.loaded.new.library.kept in
     refused_headline _ settings c.args.entries.items old new c.from_residual-in_err-finished_bundles.result OutOfMemory c.from_residual-in_err-finished_bundles.ensures.1
-    (advances_for _ _ settings c.as_slice.result.now c.args.entries.items _ _ _ _ old new c.as_slice.ensures.value c.in_ok-list.ensures.grows).grows
+    (grows_along_entries _ settings c.as_slice.result.now c.args.entries.items old new c.as_slice.ensures.value c.in_ok-list.ensures.grows.grows)
     (handed_on c.from_residual-in_err-finished_bundles.result OutOfMemory (IsRefusedBy _ settings (map entry_of c.args.entries.items) old new) c.from_residual-in_err-finished_bundles.ensures.1
     (completed_stops _ settings (map entry_of c.args.entries.items) old new
     (completes_beside g.L.Load.may_load g.L.Load.may_fail_load g.R.Resolve.may_resolve g.R.Resolve.may_fail_resolve _ _ settings c.args.self.now.library.loader c.args.self.now.library.resolver (map entry_of c.args.entries.items) old new
@@ -110,7 +110,7 @@ returns-clause-headline g c =
     let may_resolve = g.R.Resolve.may_resolve c.args.self.now.library.resolver in
     let may_fail_resolve = g.R.Resolve.may_fail_resolve c.args.self.now.library.resolver in
     bundled_headline _ settings c.args.entries.items old new c.in_ok-finished_bundles.field-0.items
-    (advances_for _ _ settings c.as_slice.result.now c.args.entries.items _ _ _ _ old new c.as_slice.ensures.value c.in_ok-list.ensures.grows).grows
+    (grows_along_entries _ settings c.as_slice.result.now c.args.entries.items old new c.as_slice.ensures.value c.in_ok-list.ensures.grows.grows)
     (completes_beside g.L.Load.may_load g.L.Load.may_fail_load g.R.Resolve.may_resolve g.R.Resolve.may_fail_resolve _ _ settings c.args.self.now.library.loader c.args.self.now.library.resolver (map entry_of c.args.entries.items) old new
     (subst (λ xs. Completes (asked_by g.L.Load.may_load g.L.Load.may_fail_load g.R.Resolve.may_resolve g.R.Resolve.may_fail_resolve c.args.self.now.library.loader c.args.self.now.library.resolver) settings (map entry_of xs) old new) c.as_slice.ensures.value c.in_ok-list.ensures.completes))
     (along c.deref_box-1.ensures.1 (λ v. AllZip (IsBundledFor (parties_of may_load may_fail_load may_resolve may_fail_resolve ((goal.Hook-dyn g v).may_give v.1) ((goal.Hook-dyn g v).may_fail_hook v.1)) settings new) c.args.entries.items c.in_ok-finished_bundles.field-0.items)

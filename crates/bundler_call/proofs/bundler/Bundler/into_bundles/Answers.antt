@@ -12,8 +12,8 @@ use Rattle.bundler_call.specs.Loading.{files_on, AreSound}
 use Rattle.bundler_call.proofs.Bundling.{all_finished, along}
 use Rattle.bundler_call.proofs.Ending.{answers_none, bundled_headline, completed_stops, empty_headline, refused_headline, refused_linking, some_entry, IsRefusedBy}
 use Rattle.bundler_call.proofs.Finding.{handed_on}
+use Rattle.bundler_call.proofs.Handing.{grows_along_entries}
 use Rattle.bundler_call.proofs.Linking.{all_bundled_as, refusal_as}
-use Rattle.bundler_call.proofs.Numbered.{advances_for}
 use Rattle.bundler_call.proofs.Unasked.{completes_beside, refused_beside}
 use Rattle.bundler_call.proofs.bundler.Bundler.into_bundles.Goals as goal
 
@@ -47,7 +47,7 @@ returns-in_err-list-clause-headline g c =
     let new = kept_of c.loaded.new.library.kept in (
       new,
       refused_headline _ settings c.args.entries.items old new c.from_residual.result c.in_err-list.field-0.0 c.from_residual.ensures.1
-          (advances_for _ _ settings c.as_slice.result.now c.args.entries.items _ _ _ _ old new c.as_slice.ensures.value c.in_err-list.ensures.grows).grows
+          (grows_along_entries _ settings c.as_slice.result.now c.args.entries.items old new c.as_slice.ensures.value c.in_err-list.ensures.grows.grows)
           (refused_beside g.L.Load.may_load g.L.Load.may_fail_load g.R.Resolve.may_resolve g.R.Resolve.may_fail_resolve _ _ settings c.args.self.library.loader c.args.self.library.resolver c.from_residual.result c.in_err-list.field-0.0 c.from_residual.ensures.1 (map entry_of c.args.entries.items) old new
           (subst (λ xs. IsToldOf (asked_by g.L.Load.may_load g.L.Load.may_fail_load g.R.Resolve.may_resolve g.R.Resolve.may_fail_resolve c.args.self.library.loader c.args.self.library.resolver) settings (map entry_of xs) old new c.in_err-list.field-0.0) c.as_slice.ensures.value c.in_err-list.ensures.refused)),
     )
@@ -63,7 +63,7 @@ returns-in_err-merged-clause-headline g c =
     let may_fail_resolve = g.R.Resolve.may_fail_resolve c.args.self.library.resolver in (
       new,
       refused_headline _ settings c.args.entries.items old new c.from_residual-in_err-merged.result (error_of c.in_err-merged.field-0.0) c.from_residual-in_err-merged.ensures.1
-          (advances_for _ _ settings c.as_slice.result.now c.args.entries.items _ _ _ _ old new c.as_slice.ensures.value c.in_ok-list.ensures.grows).grows
+          (grows_along_entries _ settings c.as_slice.result.now c.args.entries.items old new c.as_slice.ensures.value c.in_ok-list.ensures.grows.grows)
           (refused_linking _ settings _ (map entry_of c.args.entries.items) old new c.in_err-merged.field-0.0 c.from_residual-in_err-merged.ensures.1
           (completes_beside g.L.Load.may_load g.L.Load.may_fail_load g.R.Resolve.may_resolve g.R.Resolve.may_fail_resolve _ _ settings c.args.self.library.loader c.args.self.library.resolver (map entry_of c.args.entries.items) old new
           (subst (λ xs. Completes (asked_by g.L.Load.may_load g.L.Load.may_fail_load g.R.Resolve.may_resolve g.R.Resolve.may_fail_resolve c.args.self.library.loader c.args.self.library.resolver) settings (map entry_of xs) old new) c.as_slice.ensures.value c.in_ok-list.ensures.completes))
@@ -82,7 +82,7 @@ returns-in_err-finished_bundles-clause-headline g c =
     let new = kept_of c.loaded.new.library.kept in (
       new,
       refused_headline _ settings c.args.entries.items old new c.from_residual-in_err-finished_bundles.result OutOfMemory c.from_residual-in_err-finished_bundles.ensures.1
-          (advances_for _ _ settings c.as_slice.result.now c.args.entries.items _ _ _ _ old new c.as_slice.ensures.value c.in_ok-list.ensures.grows).grows
+          (grows_along_entries _ settings c.as_slice.result.now c.args.entries.items old new c.as_slice.ensures.value c.in_ok-list.ensures.grows.grows)
           (handed_on c.from_residual-in_err-finished_bundles.result OutOfMemory (IsRefusedBy _ settings (map entry_of c.args.entries.items) old new) c.from_residual-in_err-finished_bundles.ensures.1
           (completed_stops _ settings (map entry_of c.args.entries.items) old new
           (completes_beside g.L.Load.may_load g.L.Load.may_fail_load g.R.Resolve.may_resolve g.R.Resolve.may_fail_resolve _ _ settings c.args.self.library.loader c.args.self.library.resolver (map entry_of c.args.entries.items) old new
@@ -102,7 +102,7 @@ returns-clause-headline g c =
     let may_fail_resolve = g.R.Resolve.may_fail_resolve c.args.self.library.resolver in (
       new,
       bundled_headline _ settings c.args.entries.items old new c.in_ok-finished_bundles.field-0.items
-          (advances_for _ _ settings c.as_slice.result.now c.args.entries.items _ _ _ _ old new c.as_slice.ensures.value c.in_ok-list.ensures.grows).grows
+          (grows_along_entries _ settings c.as_slice.result.now c.args.entries.items old new c.as_slice.ensures.value c.in_ok-list.ensures.grows.grows)
           (completes_beside g.L.Load.may_load g.L.Load.may_fail_load g.R.Resolve.may_resolve g.R.Resolve.may_fail_resolve _ _ settings c.args.self.library.loader c.args.self.library.resolver (map entry_of c.args.entries.items) old new
           (subst (λ xs. Completes (asked_by g.L.Load.may_load g.L.Load.may_fail_load g.R.Resolve.may_resolve g.R.Resolve.may_fail_resolve c.args.self.library.loader c.args.self.library.resolver) settings (map entry_of xs) old new) c.as_slice.ensures.value c.in_ok-list.ensures.completes))
           (along c.into_kept-kept.ensures (λ k. AllZip (IsBundledFor (parties_of may_load may_fail_load may_resolve may_fail_resolve ((goal.Hook-dyn g (c.args.self.hook.vtable, c.args.self.hook.value)).may_give c.args.self.hook.value) ((goal.Hook-dyn g (c.args.self.hook.vtable, c.args.self.hook.value)).may_fail_hook c.args.self.hook.value)) settings (kept_of k)) c.args.entries.items c.in_ok-finished_bundles.field-0.items)

@@ -5,7 +5,8 @@ use Rattle.bundler_kept.specs.Kept.{names_in, trees_in}
 use Rattle.bundler_call.specs.Kept.{kept_of, settings_of}
 use Rattle.bundler_call.proofs.Asking.{load_full, load_judged, load_kept}
 use Rattle.bundler_call.proofs.Finding.{tree_found}
-use Rattle.bundler_call.proofs.Growing.{advances_along, advances_refl, has_room, holds_refused, is_full, load_grows, load_unchanged}
+use Rattle.bundler_call.proofs.Growing.{has_room, holds_refused, is_full, load_grows, load_unchanged}
+use Rattle.bundler_call.proofs.Handing.{proceeds_along, proceeds_refl, stands_loaded, stands_refl}
 use Rattle.bundler_call.proofs.library.Library.load.Goals as goal
 
 pub keep_loaded-requires-clause-met : goal.keep_loaded-requires-clause-met
@@ -17,28 +18,27 @@ returns-clause-there g c = tree_found _ _ (name_of c.args.file.now) _ _ _ c.in_o
 
 pub returns-clause-grows : goal.returns-clause-grows
 returns-clause-grows g c = λ entries. record {
-  loader = refl;
   resolver = refl;
   grows = load_grows _ _ (settings_of c.args.config.now) entries _ _ _ (name_of c.args.file.now) _ _ _ c.requires (c.has.ensures.none c.if-has.false)
-      (has_room (trees_in c.args.self.now.kept) _ _ c.count.ensures c.if-count-config.false) c.in_ok-name.ensures.cases c.in_ok-reserve_tree.ensures.same c.load-loaded.ensures.answer c.keep_loaded.ensures.given c.keep_loaded.ensures.refused;
+      (has_room (trees_in c.args.self.now.kept) _ _ c.count.ensures c.if-count-config.false) c.in_ok-name.ensures.cases c.in_ok-reserve_tree.ensures.same c.asked-loaded.ensures.answer c.keep_loaded.ensures.given c.keep_loaded.ensures.refused;
 }
 
 pub returns-then-has-clause-grows : goal.returns-then-has-clause-grows
-returns-then-has-clause-grows g c = λ entries. advances_refl _ _ (settings_of c.args.config.now) entries _ _ (kept_of c.args.self.now.kept)
+returns-then-has-clause-grows g c = λ entries. proceeds_refl _ _ (settings_of c.args.config.now) entries _ _ (kept_of c.args.self.now.kept)
 
 pub returns-in_err-name-clause-grows : goal.returns-in_err-name-clause-grows
-returns-in_err-name-clause-grows g c = λ entries. advances_refl _ _ (settings_of c.args.config.now) entries _ _ (kept_of c.args.self.now.kept)
+returns-in_err-name-clause-grows g c = λ entries. proceeds_refl _ _ (settings_of c.args.config.now) entries _ _ (kept_of c.args.self.now.kept)
 
 pub returns-then-count-config-clause-grows : goal.returns-then-count-config-clause-grows
-returns-then-count-config-clause-grows g c = λ entries. advances_refl _ _ (settings_of c.args.config.now) entries _ _ (kept_of c.args.self.now.kept)
+returns-then-count-config-clause-grows g c = λ entries. proceeds_refl _ _ (settings_of c.args.config.now) entries _ _ (kept_of c.args.self.now.kept)
 
 pub returns-in_err-reserve_tree-clause-grows : goal.returns-in_err-reserve_tree-clause-grows
-returns-in_err-reserve_tree-clause-grows g c = λ entries. advances_along _ _ (settings_of c.args.config.now) entries _ _ (kept_of c.args.self.now.kept) (kept_of c.reserve_tree.new.kept) c.in_err-reserve_tree.ensures.same
+returns-in_err-reserve_tree-clause-grows g c = λ entries. proceeds_along _ _ (settings_of c.args.config.now) entries _ _ (kept_of c.args.self.now.kept) (kept_of c.reserve_tree.new.kept) c.in_err-reserve_tree.ensures.same
 
 pub returns-clause-judged : goal.returns-clause-judged
 returns-clause-judged g c =
     load_judged (g.L.Load.may_load c.args.self.now.loader) (g.L.Load.may_fail_load c.args.self.now.loader) (g.R.Resolve.may_resolve c.args.self.now.resolver) (g.R.Resolve.may_fail_resolve c.args.self.now.resolver) _ _ (settings_of c.args.config.now) (kept_of c.args.self.now.kept) _ _ (name_of c.args.file.now) _ _ _ (c.has.ensures.none c.if-has.false)
-    (has_room (trees_in c.args.self.now.kept) _ _ c.count.ensures c.if-count-config.false) c.in_ok-name.ensures.cases c.in_ok-reserve_tree.ensures.same c.load-loaded.ensures.answer c.load-loaded.ensures.failure c.keep_loaded.ensures.given c.keep_loaded.ensures.refused
+    (has_room (trees_in c.args.self.now.kept) _ _ c.count.ensures c.if-count-config.false) c.in_ok-name.ensures.cases c.in_ok-reserve_tree.ensures.same c.asked-loaded.ensures.answer c.asked-loaded.ensures.failure c.keep_loaded.ensures.given c.keep_loaded.ensures.refused
 
 pub returns-then-has-clause-judged : goal.returns-then-has-clause-judged
 returns-then-has-clause-judged g c =
@@ -54,3 +54,11 @@ returns-in_err-reserve_tree-clause-unchanged g c = holds_refused _ _ c.in_err-re
 
 pub returns-clause-unchanged : goal.returns-clause-unchanged
 returns-clause-unchanged g c = load_unchanged (kept_of c.args.self.now.kept) _ _ _ _ _ c.in_ok-reserve_tree.ensures.same c.keep_loaded.ensures.given c.keep_loaded.ensures.refused
+
+pub returns-then-has-clause-stands : goal.returns-then-has-clause-stands
+returns-then-has-clause-stands g c = stands_refl g.L.Load.may_load g.L.Load.may_fail_load c.args.self.now.loader (kept_of c.args.self.now.kept)
+
+pub returns-clause-stands : goal.returns-clause-stands
+returns-clause-stands g c =
+    stands_loaded g.L.Load.may_load g.L.Load.may_fail_load c.keep_loaded.result _ _ (name_of c.args.file.now) _ c.asked-loaded.ensures.others c.asked-loaded.ensures.other_failures
+    (tree_found _ _ (name_of c.args.file.now) _ _ _ c.in_ok-name.ensures.cases c.keep_loaded.ensures.given c.keep_loaded.ensures.refused)
