@@ -1,3 +1,4 @@
+mod ByItem
 mod Fronts
 mod Handed
 mod Kept

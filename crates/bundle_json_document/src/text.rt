@@ -1,16 +1,17 @@
 //! The JSON text of bundles.
 
 ghost use Rattle.std.specs.Prelude.{◌≡◌, string_bytes, IfOk, IfErr, OnOk};
-ghost use Rattle.bundle_tree_listed.specs.Tree.{module_items};
+ghost use Rattle.bundle_tree_listed.specs.Tree.{module_item_items, module_items};
 ghost use Rattle.bundle_json_form.specs.Texts.{AppendsForm};
 ghost use Rattle.bundle_json_document.specs.Bundles.{name_in, AppendsObject, IsTextOf};
 
 use bundle_json_form::{push_comma, push_quoted, push_tree};
-use bundle_tree_ast::Module;
-use bundle_tree_list::pieces_of_module;
+use bundle_tree_ast::{Module, ModuleItem};
+use bundle_tree_list::pieces;
 use bundle_tree_names::error::Error;
 use bundler_call::{Bundle, BundleKind};
 use std::alloc::{AllocError, Global};
+use std::slice;
 
 /// The JSON text of the bundles: an array with an object for each, in their order, which has its number
 /// as a text, its kind, its module and its name. Refused only for memory. Each bundle is to be of the
@@ -47,13 +48,29 @@ fn push_object(alloc: Global, text: &mut String, bundle: &Bundle) -> Result<(), 
     Ok(())
 }
 
-// Puts the form of a module behind a text.
+// Puts the form of a module behind a text, item by item, so that one item is listed at a time.
 fn push_module(alloc: Global, text: &mut String, module: &Module) -> Result<(), AllocError>
     ensures { OnOk result (AppendsForm (module_items 0 «module».now) (string_bytes text.old)
         (string_bytes text.new)) }
 {
-    let pieces = pieces_of_module(alloc, module)?;
-    push_tree(alloc, text, pieces.as_slice())
+    text.push_str("{\"body\":[")?;
+    let mut is_later = false;
+    for item in &module.body {
+        push_comma(text, is_later)?;
+        push_item(alloc, text, item)?;
+        is_later = true;
+    }
+    text.push_str("],\"type\":\"Module\"}")?;
+    Ok(())
+}
+
+// Puts the form of an item behind a text.
+fn push_item(alloc: Global, text: &mut String, item: &ModuleItem) -> Result<(), AllocError>
+    ensures { OnOk result (AppendsForm (module_item_items 0 item.now) (string_bytes text.old)
+        (string_bytes text.new)) }
+{
+    let list = pieces(alloc, slice::from_ref(item))?;
+    push_tree(alloc, text, list.as_slice())
 }
 
 // The name of a bundle of this kind.

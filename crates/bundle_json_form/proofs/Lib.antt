@@ -1,4 +1,4 @@
-mod After
+pub mod After
 mod Frames
 pub mod Growth
 mod Idents

@@ -1,11 +1,20 @@
-use Rattle.std.proofs.Common.{◌≡◌, map, string_bytes, ap, subst, ◌∙◌}
-use Rattle.bundle_tree_piece.specs.Item.{item_of}
-use Rattle.bundle_tree_listed.specs.Tree.{module_items}
-use Rattle.bundle_json_form.specs.Texts.{AppendsForm}
-use Rattle.bundle_json_form.proofs.Growth.{on_ok}
+use Rattle.std.proofs.Common.{◌+◌, ◌∷◌, drop, get_or, string_bytes, sym, ap, ◌∙◌, arith}
+use Rattle.std.proofs.lemmas.List.{drop_more, drop_all}
+use Rattle.bundle_json_document.proofs.ByItem.{item_put, module_put}
 use Rattle.bundle_json_document.proofs.text.push_module.Goals as goal
+
+pub loop-item-preserved : goal.loop-item-preserved
+loop-item-preserved c =
+    let body = c.args.«module».now.body.items in
+    let it = c.item-item.result in
+    let more = drop (c.loop-item.item-index + 1) body in
+    let same = c.deref-item-items.ensures.value in
+    let next = drop_more body c.loop-item.item-index it (omega arith)
+    ∙ ap (λ list. get_or list c.loop-item.item-index it ∷ more) (sym same)
+    ∙ ap (λ first. first ∷ more) (sym c.item-item.is) in
+    item_put _ _ _ _ body _ more c.loop-item.is_later it c.loop-item.invariant next c.in_ok-push_comma.ensures c.in_ok-push_item.ensures
 
 pub returns : goal.returns
 returns c =
-    let listed : map item_of c.as_slice.result.now ≡ module_items 0 c.args.«module».now = ap (map item_of) c.as_slice.ensures.value ∙ c.in_ok-pieces.ensures in
-    on_ok c.push_tree.result (subst (λ items. AppendsForm items (string_bytes c.args.text.now) (string_bytes c.push_tree.new.out)) listed) c.push_tree.ensures
+    module_put _ _ _ _ c.args.«module».now _ c.loop-item.is_later c.in_ok-push_str.ensures.bytes c.loop-item.invariant
+    (drop_all c.loop-item.item-index c.args.«module».now.body.items (omega arith)) c.in_ok-push_str-2.ensures.bytes
