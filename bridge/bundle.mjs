@@ -10,7 +10,7 @@ Follows what the entries import on disk, bundles it by the program bundle_json, 
 JavaScript module for each entry.
 
   -o, --output PATH    write to this file; to a folder of files NAME.mjs where there are several entries
-      --iife           one function's call, a script, in place of a module
+      --iife           an IIFE, a script, in place of a module
       --require        CommonJS modules too: calls require('./file') load modules
       --external NAME  leave imports of this specifier as they are; may come again. Names that do not
                        begin with ./, ../ or / are left as they are without it
