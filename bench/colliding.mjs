@@ -22,8 +22,42 @@ const textOf = (word) => {
   return bytes.toString('latin1');
 };
 
-/** The state of the hash before a text that stands alone, and before the name of a file, which the byte 0 comes before. */
-export const seeds = { text: SEED, file: folded(SEED, MULTIPLIER ^ 2n) };
+// The state behind a write of up to 8 bytes, or of 16 at most at the end of more.
+function written(state, bytes) {
+  const length = bytes.length;
+  if (length > 8) {
+    const at = (place) => bytes.readBigUint64LE(place);
+    let before = (state + BigInt(length)) & WORD, place = 0;
+    for (; length - place > 16; place += 16) before = folded(at(place) ^ before, at(place + 8) ^ MULTIPLIER);
+    return folded(at(length - 16 < 0 ? 0 : length - 16) ^ before, at(length - 8) ^ MULTIPLIER);
+  }
+  const short = length >= 4 ? BigInt(bytes.readUint32LE(0)) | (BigInt(bytes.readUint32LE(length - 4)) << 32n)
+    : length > 0 ? BigInt(bytes[0] | (bytes[length >> 1] << 8) | (bytes[length - 1] << 16)) : 0n;
+  return folded(state ^ short, MULTIPLIER ^ BigInt(2 * length));
+}
+// What is hashed of a key: the number of an enum's variant, a text, a byte.
+const variant = (number) => {
+  const bytes = Buffer.alloc(8);
+  bytes.writeBigInt64LE(BigInt(number));
+  return [bytes];
+};
+const text = (value) => [Buffer.from(value), Buffer.from([0xff])];
+const byte = (value) => [Buffer.from([value])];
+const behind = (...parts) => parts.flat().reduce(written, SEED);
+
+// What stands before the specifier in the label of a name that is taken of an external: `Label::Of` and `Target::External`.
+const EXTERNAL = [variant(0), variant(2)];
+/**
+ * The state of the hash before a text, by the table that it is a key of: `text` where it stands alone, `file` for the name
+ * of a file, `label` for a name that is taken of the module 'external' and `owner` for the specifier of an external, both
+ * in the labels of a bundle (`Label`, in the names that merging gives).
+ */
+export const seeds = {
+  text: SEED,
+  file: behind(byte(0)),
+  label: behind(...EXTERNAL, text('external'), variant(0)),
+  owner: behind(...EXTERNAL),
+};
 
 // The state behind the first 16 bytes of a text of 32.
 const stateOf = (text, seed) => folded(wordOf(text.slice(0, 8)) ^ ((seed + BigInt(LENGTH)) & WORD), wordOf(text.slice(8, 16)) ^ MULTIPLIER);

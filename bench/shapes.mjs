@@ -79,10 +79,18 @@ function over_a_border(count, ahead) {
   };
 }
 
+// Modules without statements, each with what it asks for.
+const bare = (specifier) => imported(specifier, []);
+const empties = (count, asksOf, config = {}) => graph(count, (at) => asksOf(at).map((to) => (typeof to === 'number' ? bare(file(to)) : to)), [bare(file(0))], config);
+const ahead = (count, at, step = 1) => (at + step < count ? [at + step] : []);
+const outside = (at) => `ext${at}`;
+
 // Names that strangers choose, for the two that are compared: all with one hash, or with hashes of their own.
 const chosen_names = {};
 function names(kind, count) {
-  const which = { file: { seed: seeds.file, end: '.js' }, specifier: { start: './' }, text: {} }[kind];
+  const which = {
+    file: { seed: seeds.file, end: '.js' }, specifier: { start: './' }, label: { seed: seeds.label }, owner: { seed: seeds.owner }, text: {},
+  }[kind];
   const most = Math.max(count, chosen_names[kind]?.alike.length ?? 0);
   if (chosen_names[kind]?.alike.length !== most) chosen_names[kind] = colliding(most, which);
   return { alike: chosen_names[kind].alike.slice(0, count), apart: chosen_names[kind].apart.slice(0, count) };
@@ -150,7 +158,21 @@ const with_metas = (entries) => (count) => {
   };
 };
 
-const of_kind = (kind) => ({ files: 'file', requests: 'specifier' })[kind] ?? 'text';
+// The same names, at the state of the table of labels.
+of_names.labels = of_names.members;
+of_names.owners = of_names.specifiers;
+// Names of entries, and of their files.
+const empty_entries = (list, nameOf, fileOf) => ({
+  config: {},
+  files: Object.fromEntries(list.map((name, at) => [fileOf(name, at), []])),
+  entries: list.map((name, at) => [nameOf(name, at), fileOf(name, at)]),
+});
+of_names.bundles = (list) => empty_entries(list, (name) => name, (name, at) => `e${at}.js`);
+of_names.entry_files = (list) => empty_entries(list, (name, at) => `e${at}`, (name) => name);
+
+const of_kind = (kind) => ({
+  files: 'file', entry_files: 'file', requests: 'specifier', labels: 'label', owners: 'owner',
+})[kind] ?? 'text';
 const with_names = (kind, which) => (count) => of_names[kind](names(of_kind(kind), count)[which]);
 
 /** The shapes: from which size on each is timed, what it is, and how it is made. */
@@ -200,6 +222,34 @@ export const shapes = {
     },
     entries: [['main', 'main.js']],
   })],
+  tinychain: [5000, 'a chain of empty modules', (count) => empties(count, (at) => ahead(count, at))],
+  tinypairs: [2500, 'a chain of so many pairs of empty modules that import each other', (count) => empties(2 * count,
+    (at) => (at % 2 === 0 ? [at + 1, ...ahead(2 * count, at, 2)] : [at - 1]))],
+  zigzag: [1000, 'a chain of empty modules, each second of which imports the one three before', (count) => empties(count,
+    (at) => [...ahead(count, at), ...(at % 2 === 1 && at >= 3 ? [at - 3] : [])])],
+  ringcross: [4000, 'a ring of empty modules, each of which imports another one anywhere', (count) => {
+    const anywhere = random(12345);
+    return empties(count, (at) => [(at + 1) % count, anywhere(count)]);
+  }],
+  starfar: [1000, 'each module stars the next, and asks it for a name of its own that the last one has', (count) => graph(count,
+    (at) => (at + 1 < count ? [starred(file(at + 1)), imported(file(at + 1), [[`x${at}`, 'y']]), run(call('use', 'y'))]
+      : upTo(count, (which) => exported(constant(`x${which}`, which)))),
+    [bare(file(0))])],
+  filesexternals: [500, 'so many modules, each with an external of its own', (count) => graph(count,
+    (at) => [imported(outside(at), [['x', 'x']]), run(call('use', 'x'))], upTo(count, (at) => bare(file(at))),
+    { external_modules: upTo(count, outside) })],
+  externalstars: [500, 'each module stars an external of its own and the next module', (count) => graph(count,
+    (at) => [starred(outside(at)), ...(at + 1 < count ? [starred(file(at + 1))] : [])], [starred(file(0))],
+    { external_modules: upTo(count, outside) })],
+  entriesempty: [100, 'so many entries over one chain of so many empty modules', (count) => {
+    const { files } = empties(count, (at) => ahead(count, at));
+    delete files['main.js'];
+    return {
+      config: {},
+      files: { ...files, ...Object.fromEntries(upTo(count, (at) => [`e${at}.js`, [bare(file(0))]])) },
+      entries: upTo(count, (at) => [`bundle${at}`, `e${at}.js`]),
+    };
+  }],
   entries: [50, 'so many entries over twice as many files, each with import.meta', (count) => ({
     config: {},
     files: Object.fromEntries(upTo(count, (at) => [
@@ -213,7 +263,7 @@ export const shapes = {
   metas_10: [250, 'ten entries, each over all of so many files with import.meta', with_metas(10)],
   metas_100: [250, 'a hundred entries, each over all of so many files with import.meta', with_metas(100)],
   ...Object.fromEntries(Object.keys(of_names).flatMap((kind) => ['apart', 'alike'].map((which) => [
-    `${kind}_${which}`, [4096, `${kind} that strangers chose, with hashes ${which}`, with_names(kind, which)],
+    `${kind}_${which}`, [1250, `${kind} that strangers chose, with hashes ${which}`, with_names(kind, which)],
   ]))),
 };
 

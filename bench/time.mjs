@@ -1,11 +1,10 @@
 // Times a program that `bridge/build` made on documents of shapes.mjs, each at N, 2 N and 4 N.
 //
-//   node bench/time.mjs PROGRAM [--instructions] [SHAPE[=N] ..]
+//   node bench/time.mjs PROGRAM [--seconds] [SHAPE[=N] ..]
 //
-// Seconds are those of the processor in the program and in the system for it, the least of three runs; memory is that at
-// the peak. Growth is how 4 N stands to N, where 4 is linear. With --instructions it counts instructions instead, in
-// millions, which no other work disturbs and which takes fifty times as long.
-// It needs /usr/bin/time (Debian's package `time`), and valgrind to count.
+// It counts instructions, in millions; with --seconds it takes those of the processor in the program and in the system for
+// it, the least of three runs, and the memory at the peak. Growth is how 4 N stands to N, where 4 is linear.
+// It needs Debian's package `valgrind` to count, and `time` for seconds.
 import { spawnSync } from 'node:child_process';
 import fs from 'node:fs';
 import os from 'node:os';
@@ -14,10 +13,10 @@ import process from 'node:process';
 import { documentOf, shapes } from './shapes.mjs';
 
 const words = process.argv.slice(2);
-const counts = words.includes('--instructions');
+const counts = !words.includes('--seconds');
 const [program, ...asked] = words.filter((word) => !word.startsWith('--'));
 if (!program) {
-  console.error('usage: node bench/time.mjs PROGRAM [--instructions] [SHAPE[=N] ..]');
+  console.error('usage: node bench/time.mjs PROGRAM [--seconds] [SHAPE[=N] ..]');
   process.exit(2);
 }
 const wanted = asked.length > 0 ? asked.map((word) => word.split('=')) : Object.keys(shapes).map((shape) => [shape]);
@@ -54,8 +53,10 @@ function counted() {
 }
 
 const shown = (cost) => (counts ? cost.toFixed(0) : cost.toFixed(2));
-console.log(`| Shape | N, 2 N, 4 N | MB of document | ${counts ? 'Million instructions' : 'Seconds'} | MB at the peak | Growth |`);
-console.log('|---|---|---|---|---|---|');
+const columns = ['Shape', 'N, 2 N, 4 N', 'MB of document', ...(counts ? ['Million instructions'] : ['Seconds', 'MB at the peak']), 'Growth'];
+const line = (cells) => console.log(`| ${cells.join(' | ')} |`);
+line(columns);
+console.log(`|${'---|'.repeat(columns.length)}`);
 for (const [shape, from] of wanted) {
   const sizes = [1, 2, 4].map((times) => times * Number(from ?? shapes[shape][0]));
   const results = sizes.map((size) => {
@@ -65,6 +66,6 @@ for (const [shape, from] of wanted) {
   });
   const row = (show) => results.map(show).join(', ');
   const status = results.map((it) => it.status).find(Boolean);
-  console.log(`| ${shape}${status ? ` (${status})` : ''} | ${sizes.join(', ')} | ${row((it) => it.size.toFixed(1))} | ${row((it) => shown(it.cost))} | ${
-    counts ? '' : row((it) => it.memory.toFixed(0))} | ${(results[2].cost / results[0].cost).toFixed(1)} |`);
+  line([`${shape}${status ? ` (${status})` : ''}`, sizes.join(', '), row((it) => it.size.toFixed(1)), row((it) => shown(it.cost)),
+    ...(counts ? [] : [row((it) => it.memory.toFixed(0))]), (results[2].cost / results[0].cost).toFixed(1)]);
 }

@@ -12,10 +12,30 @@ const built = (...parts) => path.join(bridge, ...parts);
 export const programs = (given) => (given ? [given]
   : [built('..', 'crates', 'bundle_json', 'out', 'bundle_json'), built('out', 'bundle_json')]);
 
-/** Where the program may be that says where a document is refused. */
-const tellers = () => [process.env.BUNDLE_JSON_TOLD ?? built('out', 'bundle_json_told')];
+// The program that says where a document is refused, where it is of this text.
+function teller() {
+  const given = process.env.BUNDLE_JSON_TOLD;
+  const program = given ?? built('out', 'bundle_json_told');
+  return isFile(program) && (given || !fault(program)) ? program : undefined;
+}
 
-const found = (files) => files.find((file) => fs.statSync(file, { throwIfNoEntry: false })?.isFile());
+const isFile = (file) => fs.statSync(file, { throwIfNoEntry: false })?.isFile() ?? false;
+
+// Why a program is not to be run, or nothing where it is made of the text that stands here.
+function fault(program) {
+  const { status, stdout, error } = spawnSync(built('stamp'), ['is', program], { encoding: 'utf8' });
+  if (error) throw new Failure(`${built('stamp')} cannot be run: ${error.message}`);
+  return status === 0 ? '' : stdout.trim();
+}
+
+// The program to run: as the user says, or the first of this text.
+function chosen(given) {
+  const files = programs(given).filter(isFile);
+  const program = given ? files[0] : files.find((file) => !fault(file));
+  if (program) return program;
+  const why = files.length > 0 ? files.map(fault).join('\n') : `there is no program to run at ${programs(given).join(' or ')}`;
+  throw new Failure(`${why}\nbridge/build makes it in some minutes, and bridge/build --proved proves and makes it`);
+}
 
 const run = (program, document) => {
   const ran = spawnSync(program, [], { input: document, maxBuffer: Infinity });
@@ -30,11 +50,7 @@ const run = (program, document) => {
  * is there, the file and the name in it that are meant.
  */
 export function answered(given, document) {
-  const program = found(programs(given));
-  if (!program) {
-    throw new Failure(`there is no program to run at ${programs(given).join(' or ')}: bridge/build makes it in some minutes, and
-rt run in crates/bundle_json proves and makes it`);
-  }
+  const program = chosen(given);
   const ran = run(program, document);
   if (ran.status === 0) return { bundles: JSON.parse(ran.stdout.toString()) };
   const line = ran.stderr.toString().trim();
@@ -45,9 +61,9 @@ rt run in crates/bundle_json proves and makes it`);
 
 // The file and the name of a refusal, of the second program, where that refuses alike.
 function told(document, line) {
-  const teller = found(tellers());
-  if (!teller) return {};
-  const [first, second] = run(teller, document).stderr.toString().split('\n');
+  const program = teller();
+  if (!program) return {};
+  const [first, second] = run(program, document).stderr.toString().split('\n');
   if (first !== line) return {};
   const place = JSON.parse(second);
   return { file: place.file, word: place.name };

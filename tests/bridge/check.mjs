@@ -29,10 +29,13 @@ export function check(name, body) {
 
 export const { deepEqual, equal, match, ok } = assert;
 
-/** Writes the last line and gives the status. */
+/** Writes the last line and gives the status, which is 1 too where there are other checks than tests/counts has. */
 export function counted() {
+  const total = counts.passed + counts.failed;
+  const { status, stdout, stderr } = run(path.join(top, 'tests', 'counted'), ['bridge', `${total}`]);
+  process.stdout.write(stdout + stderr);
   console.log(`bridge: ${counts.passed} passed, ${counts.failed} failed`);
-  return counts.failed === 0 && counts.passed > 0 ? 0 : 1;
+  return counts.failed === 0 && status === 0 ? 0 : 1;
 }
 
 /** Runs a command to its end: its output, its errors and its status; none where it cannot be run, or does not end. */

@@ -1,12 +1,25 @@
 // Small random graphs of modules that Node can run, and that say what they do: they call `log`.
 //
-// graph(seed) gives { files, entries, config }: `files` by their names for Node; each specifier is `./NAME`. What the linker does not promise
-// is left out: what `this` is in `ns.f()`, names of functions, values of a namespace object that change once it was made, when CommonJS modules
-// run, the default of a CommonJS module. Modules that reach each other stand together in a bundle, so they do so in Node's order too; they have
-// their functions first, and these use functions alone; their other statements use what stands before them in that order. So all that is logged has
-// to be logged by the bundle, in the same order.
+// graph(seed) gives { files, entries, config, isCyclic, orderOf }: `files` by their names for Node, each specifier is
+// `./NAME`; whether modules reach themselves; and their numbers in Node's order from an entry on. What the linker does not
+// promise is left out: what `this` is in `ns.f()`, names of functions, values of a namespace object that change once it
+// was made, when CommonJS modules run, the default of a CommonJS module; no star, re-export or namespace object leads to a
+// module of the same cycle, and no class reads itself through an import while it is made. All that is logged has to be
+// logged by the bundle, in the same order: so modules that reach each other stand together in Node's order, as in a
+// bundle, and have their functions first, these use functions alone, and their other statements use what stands before
+// them in that order.
+//
+// graph(seed, true) has none of these last bounds: modules of a cycle stand apart, their functions stand anywhere and read
+// values, and statements read what Node has not set up, so that some end in an error. There the order of a bundle may be
+// another than Node's. In a graph with a cycle each own statement then holds a number, its mark, which tells where it
+// stands; and there are no CommonJS modules, since it would show when they run.
 
-export function graph(seed) {
+// A mark: the module's number, and from 1 on the place of the statement in it.
+const MARK = 'MARK', PLACES = 1 << 12;
+/** The module and the place in it that a mark tells. */
+export const marked = (mark) => ({ module: Math.floor(mark / PLACES), place: mark % PLACES });
+
+export function graph(seed, isFree = false) {
   let state = (seed * 2654435761 + 12345) >>> 0;
   const random = (below) => {
     state ^= state << 13; state >>>= 0; state ^= state >>> 17; state ^= state << 5; state >>>= 0;
@@ -50,10 +63,14 @@ export function graph(seed) {
   const isCyclic = (m) => reach.get(m).has(m);
   arrange();
   const listed = [...place.keys()];
-  if (listed.some((m, at) => listed.some((n, behind) => behind > at + 1 && together(m, n) && !together(m, listed[behind - 1])))) {
+  if (!isFree && listed.some((m, at) => listed.some((n, behind) => behind > at + 1 && together(m, n) && !together(m, listed[behind - 1])))) {
     modules.forEach((m) => { m.edges = m.edges.filter((e) => e.to.i > m.i); });
     arrange();
   }
+
+  const isMarked = isFree && modules.some(isCyclic);
+  if (isMarked) modules.forEach((m) => { m.commons = []; });
+  const own = (value) => (isMarked ? `(${MARK}, ${value})` : value);
 
   // A name that a module exports: what it is, or null where it is none or two.
   const given = (m, name, seen = new Set()) => {
@@ -93,7 +110,8 @@ export function graph(seed) {
       const from = `'./${to.file}'`;
       // Of a module that reaches this one and stands behind it in Node's order, functions alone.
       const early = together(m, to) && !(place.get(to) < place.get(m));
-      const all = early ? to.own.filter((d) => d.as && d.kind === 'function').map((d) => ({ name: d.as, m: to, d })) : linked(to).filter((l) => !together(m, l.m) || l.d.kind === 'function' || place.get(l.m) < place.get(m));
+      const all = early ? to.own.filter((d) => d.as && (isFree || d.kind === 'function')).map((d) => ({ name: d.as, m: to, d }))
+        : linked(to).filter((l) => isFree || !together(m, l.m) || l.d.kind === 'function' || place.get(l.m) < place.get(m));
       const forms = ['named', 'named', 'bare'];
       if (!early && !together(m, to)) forms.push('through', ...(isPlain(to) ? ['star'] : []), ...(isFixed(to) ? ['whole', 'whole', 'nested'] : ['static']));
       switch (one(forms)) {
@@ -102,7 +120,7 @@ export function graph(seed) {
           const main = taken.find((t) => t.name === 'default' && chance(60)), rest = taken.filter((t) => t !== main);
           const clause = [main && main.local, rest.length && `{ ${rest.map((t) => (t.name === t.local ? t.name : `${t.name} as ${t.local}`)).join(', ')} }`].filter(Boolean).join(', ');
           m.head.push(clause ? `import ${clause} from ${from};` : `import ${from};`);
-          m.uses.push(...taken.map((t) => ({ text: t.local, kind: t.d.kind, isLate: early })));
+          m.uses.push(...taken.map((t) => ({ text: t.local, kind: t.d.kind, d: t.d, isLate: early })));
           break;
         }
         case 'bare': m.head.push(`import ${from};`); break;
@@ -125,7 +143,7 @@ export function graph(seed) {
           const local = fresh(one(['ns', 'mod', 'x']));
           m.head.push(`import * as ${local} from ${from};`);
           for (const l of some(all, 2).filter((l) => l.name !== 'default')) {
-            m.uses.push({ text: `${local}.${l.name}`, kind: l.d.kind });
+            m.uses.push({ text: `${local}.${l.name}`, kind: l.d.kind, d: l.d });
             if (l.d.kind === 'whole') m.uses.push(...some(linked(l.m), 2).filter((k) => k.name !== 'default').map((k) => ({ text: `${local}.${l.name}.${k.name}`, kind: k.d.kind })));
           }
           if (isFixed(to)) m.uses.push({ text: local, kind: 'whole' });
@@ -144,8 +162,8 @@ export function graph(seed) {
   function write(m) {
     const cyclic = isCyclic(m), functions = [], rest = [], seen = [];
     const callable = (u) => u.kind === 'function';
-    const value = () => {
-      const ready = [...m.uses.filter((u) => !u.isLate || callable(u)), ...seen];
+    const value = (self) => {
+      const ready = [...m.uses.filter((u) => !u.isLate || callable(u) || (isFree && u.d !== self && chance(20))), ...seen];
       const shown = ready.length && chance(75) ? one(ready) : null;
       if (!shown) return one([`${random(9)}`, `'${one(['s', 't'])}${m.i}'`, `[${random(5)}]`]);
       if (callable(shown)) return `${shown.text}(${random(3)})`;
@@ -156,40 +174,45 @@ export function graph(seed) {
     // In a function: names inside clash with those outside.
     const body = (d) => {
       const callee = one([...m.uses, ...m.own.filter((o) => o !== d).map((o) => ({ text: o.symbol, kind: o.kind }))].filter((u) => callable(u) && u.text !== d?.symbol).concat([null]));
-      const reads = cyclic ? [] : m.uses.filter((u) => u.kind === 'const' || u.kind === 'var' || u.kind === 'let');
+      const reads = cyclic && !isFree ? [] : [...m.uses, ...(isFree ? m.own.map((o) => ({ text: o.symbol, kind: o.kind })) : [])]
+        .filter((u) => u.kind === 'const' || u.kind === 'var' || u.kind === 'let');
       const inner = one(['x', 'y', 'mod', 'x1', 'z']), read = reads.length && chance(60) ? one(reads).text : null;
       const clash = read?.split('.')[0] === inner || callee?.text.split('.')[0] === inner || inner === 'n';
       const head = clash ? '' : one([`const ${inner} = n + 1;`, `let ${inner} = [n]; for (const w of ${inner}) { log(w, n); }`, `var ${inner} = n; { let w = ${inner}; w++; }`, '']);
       const call = callee && !callee.text.includes('.') ? `n > 0 ? ${callee.text}(n - 1) : ` : '';
-      return `${head} return ${call}${read ? `[${read}, ${clash || !head ? 'n' : inner}]` : clash || !head ? `n + ${m.i}` : inner};`;
+      return `${isMarked ? `${MARK}; ` : ''}${head} return ${call}${read ? `[${read}, ${clash || !head ? 'n' : inner}]` : clash || !head ? `n + ${m.i}` : inner};`;
     };
     const listed = [];
     for (const d of m.own) {
       const front = d.inline && d.as ? 'export ' : '';
       if (!d.inline && d.as) listed.push(d.as === d.symbol ? d.symbol : `${d.symbol} as ${d.as}`);
       if (d.kind === 'function') functions.push(`${front}function ${d.symbol}(n${chance(20) ? ', o = () => n' : ''}) { ${body(d)} }`);
-      else if (d.kind === 'class') rest.push(() => `${front}class ${d.symbol} { static s = ${value()}; constructor() { this.k = ${value()}; } }`);
-      else rest.push(() => `${front}${d.kind} ${d.symbol} = ${value()};`);
+      else if (d.kind === 'class') rest.push(() => `${front}class ${d.symbol} { ${isMarked ? `${MARK}() {} ` : ''}static s = ${value(d)}; constructor() { this.k = ${value()}; } }`);
+      else rest.push(() => `${front}${d.kind} ${d.symbol} = ${own(value())};`);
     }
+    const logged = (values) => `log(${isMarked ? `${MARK}, ` : ''}${values});`;
     const text = [], add = (make, d) => { text.push(make()); if (d && d.kind !== 'function') seen.push({ text: d.symbol, kind: d.kind }); };
     const order = m.own.filter((d) => d.kind !== 'function');
     // Functions are there from the beginning on, where they use nothing that is not.
-    if (cyclic || chance(60)) { text.push(...functions.splice(0)); }
+    const isAnywhere = isFree && chance(70);
+    if (!isAnywhere && (cyclic || chance(60))) { text.push(...functions.splice(0)); }
     for (const d of m.own) if (d.kind === 'function' && cyclic) seen.push({ text: d.symbol, kind: 'function' });
     order.forEach((d, at) => {
       add(rest[at], d);
-      if (chance(50)) text.push(`log('${m.i}', ${value()});`);
-      if (m.changes && (d.kind === 'let' || d.kind === 'var') && chance(60)) text.push(`${d.symbol} = ${value()};`);
+      if (chance(50)) text.push(logged(`'${m.i}', ${value()}`));
+      if (m.changes && (d.kind === 'let' || d.kind === 'var') && chance(60)) text.push(`${d.symbol} = ${own(value())};`);
     });
-    text.push(...functions);
+    if (isAnywhere) functions.forEach((line) => text.splice(random(text.length + 1), 0, line));
+    else text.push(...functions);
     for (const d of m.own) if (d.kind === 'function' && !cyclic) seen.push({ text: d.symbol, kind: 'function' });
-    if (m.fallback === 'expression') text.push(`export default ${value()};`);
-    if (m.fallback === 'function') (cyclic ? text.unshift.bind(text) : text.push.bind(text))(`export default function (n) { ${body(null)} }`);
-    if (m.fallback === 'class') text.push(`export default class { static s = ${value()}; constructor() { this.k = 1; } }`);
-    text.push(`log('end ${m.i}', ${value()}, ${value()});`);
-    if (!cyclic && chance(10)) text.push(`log(typeof import.meta, import.meta.k);`);
+    if (m.fallback === 'expression') text.push(`export default ${own(value())};`);
+    if (m.fallback === 'function') (cyclic && !isAnywhere ? text.unshift.bind(text) : text.push.bind(text))(`export default function (n) { ${body(null)} }`);
+    if (m.fallback === 'class') text.push(`export default class { ${isMarked ? `${MARK}() {} ` : ''}static s = ${value()}; constructor() { this.k = 1; } }`);
+    text.push(logged(`'end ${m.i}', ${value()}, ${value()}`));
+    if ((isFree || !cyclic) && chance(10)) text.push(logged('typeof import.meta, import.meta.k'));
     if (listed.length) text.splice(random(text.length), 0, `export { ${listed.join(', ')} };`);
-    m.text = [...m.head, ...text].join('\n') + '\n';
+    const whole = text.map((line, at) => line.replaceAll(MARK, `0x${(m.i * PLACES + at + 1).toString(16)}`));
+    m.text = [...m.head, ...whole].join('\n') + '\n';
   }
 
   const files = Object.fromEntries(modules.filter((m) => place.has(m)).map((m) => [m.file, m.text]));
@@ -198,7 +221,15 @@ export function graph(seed) {
     files[c.file] = inner + c.names.map((name, at) => `exports.${name} = ${inner && chance(50) ? `Object.keys(inner).length` : `'${c.file}${at}'`};`).join('\n') + '\n';
   });
   // From another entry a cycle has another order.
-  const second = modules.find((m) => m.i > 0 && place.has(m) && ![m, ...reach.get(m)].some(isCyclic));
+  const second = modules.find((m) => m.i > 0 && place.has(m) && (isFree || ![m, ...reach.get(m)].some(isCyclic)));
   const entries = second && chance(20) ? ['main.js', second.file] : ['main.js'];
-  return { files, entries, config: { require: true, ...(chance(20) ? { module: 'Iife' } : {}) } };
+  // Node's order from an entry on.
+  const orderOf = (entry) => {
+    place.clear();
+    visit(modules.find((m) => m.file === entry), new Set());
+    return [...place.keys()].map((m) => m.i);
+  };
+  return {
+    files, entries, config: { require: true, ...(chance(20) ? { module: 'Iife' } : {}) }, isCyclic: modules.some(isCyclic), orderOf,
+  };
 }
