@@ -33,8 +33,9 @@ const file = path.join(folder, 'document.json');
 // Runs a command on the document; gives its status and what it wrote of errors.
 function run(command, words) {
   const input = fs.openSync(file, 'r');
-  const { status, stderr } = spawnSync(command, words, { stdio: [input, 'ignore', 'pipe'], timeout: 600_000, encoding: 'utf8' });
+  const { status, stderr, error } = spawnSync(command, words, { stdio: [input, 'ignore', 'pipe'], timeout: 600_000, encoding: 'utf8' });
   fs.closeSync(input);
+  if (error?.code === 'ENOENT') throw new Error(`${command} is not here`);
   return { status, lines: stderr.trim().split('\n') };
 }
 
