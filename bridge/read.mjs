@@ -2,8 +2,17 @@
 import { parse } from './babel.mjs';
 import { failureAt } from './failure.mjs';
 
+// What Babel is told of each goal. A CommonJS module is the body of a function, and its code is strict here.
+const goals = {
+  module: { sourceType: 'module' },
+  commonjs: {
+    sourceType: 'script',
+    strictMode: true,
+    allowReturnOutsideFunction: true,
+    allowNewTargetOutsideFunction: true,
+  },
+};
 const options = {
-  sourceType: 'module',
   createParenthesizedExpressions: true,
   attachComment: false,
   // What the linker judges itself, doubled declarations and exports among it, is passed on to it.
@@ -20,10 +29,10 @@ const places = new WeakMap();
 /** Where a node that was read stands: `line` from 1, `column` from 0. */
 export const placeOf = (form) => places.get(form);
 
-/** The form of the module with this source text; `file` is what failures call it. */
-export function moduleOf(source, file) {
+/** The form of the module with this source text, read with this goal; `file` is what failures call it. */
+export function moduleOf(source, file, goal = 'module') {
   try {
-    const { errors, program } = parse(source, options);
+    const { errors, program } = parse(source, { ...options, ...goals[goal] });
     const bad = errors.find((error) => !judgedByLinker.has(error.reasonCode));
     if (bad) throw bad;
     return { type: 'Module', body: statements(program).map(item) };

@@ -1,0 +1,395 @@
+//! What the place where an expression stands asks of it.
+
+ghost use Rattle.std.specs.Prelude.{◌≡◌, ◌≢◌, ◌≤◌, true, false};
+ghost use Rattle.bundle_tree_leaf.specs.declared.operator.BinaryOp.TheVariants.{In as in_operator};
+ghost use Rattle.bundle_tree_piece.specs.Item as head;
+ghost use Rattle.bundle_tree_piece.specs.Item.{head_of};
+ghost use Rattle.bundle_js_print.specs.Levels.{level, rank};
+ghost use Rattle.bundle_js_print.specs.declared.context.Link.TheVariants as links;
+ghost use Rattle.bundle_js_print.specs.declared.context.Start.TheVariants as starts;
+
+use crate::level::{Level, left_level, level_of, right_level};
+use bundle_tree_leaf::BinaryOp;
+use bundle_tree_piece::{Node, Piece};
+
+/// What an expression begins whose first words would there be read as something else.
+#[derive(Clone, Copy, PartialEq, Eq, Debug)]
+pub enum Start {
+    /// Nothing of that kind.
+    Free,
+    /// An expression statement: not `{`, `function`, `class`, `let [` (ECMA-262, 14.5).
+    Statement,
+    /// The body of an arrow function: not `{` (ECMA-262, 15.3).
+    ArrowBody,
+    /// What a module exports as its default: not `function`, `class` (ECMA-262, 16.2.3).
+    Default,
+    /// The head of a `for` or `for in`: not `let [` (ECMA-262, 14.7).
+    ForHead,
+    /// The left side of a `for of`: neither `let` nor `async` alone (ECMA-262, 14.7.5).
+    ForOf,
+    /// The begin of the left side of a `for of`, or the left side of a `for await`: not `let`.
+    ForLet,
+}
+
+/// How an expression stands in an optional chain (ECMA-262, 13.3).
+#[derive(Clone, Copy, PartialEq, Eq, Debug)]
+pub enum Link {
+    /// Not in one.
+    Alone,
+    /// As what a part of it is of, which may be a chain too.
+    Object,
+    /// As a part that a `?.` does not begin.
+    Plain,
+    /// As a part that a `?.` begins.
+    Optional,
+}
+
+/// What the place where an expression stands asks of it.
+#[derive(Clone, Copy)]
+pub struct Context {
+    /// The loosest that it may be.
+    pub least: Level,
+    /// Whether it may be a `??`, however loose that is.
+    pub takes_coalesce: bool,
+    /// What it begins.
+    pub start: Start,
+    /// Whether `in` would end the head of a `for`.
+    pub no_in: bool,
+    /// Whether a call would be taken for the arguments of a `new`.
+    pub no_call: bool,
+    /// Whether a statement ends before an `else`, which an `if` of its own would take.
+    pub no_else: bool,
+    pub link: Link,
+}
+
+/// What a node asks of a child.
+#[derive(Clone, Copy)]
+pub enum Slot {
+    /// It stands between brackets, or is begun and ended by words of its own.
+    Inside(Level),
+    /// It stands behind something of the node's.
+    Right(Level),
+    /// The node begins with it.
+    Left(Level),
+    /// The node begins with it, and is a `??`.
+    LeftOfCoalesce,
+    /// The node is a property, a call or a template of it.
+    Object,
+    /// It is what a `new` calls.
+    Callee(Level),
+    /// It begins what `Start` says.
+    Begin(Level, Start),
+    /// It is the body of an arrow function.
+    ArrowBody,
+    /// It is the property or the call of a part of an optional chain.
+    Part(bool),
+    /// It is all that the node is.
+    Whole,
+    /// It is a statement with which the node ends.
+    Body,
+}
+
+impl Context {
+    /// What is asked of what stands between brackets.
+    pub fn inside(least: Level) -> Context {
+        Context {
+            least,
+            takes_coalesce: false,
+            start: Start::Free,
+            no_in: false,
+            no_call: false,
+            no_else: false,
+            link: Link::Alone,
+        }
+    }
+
+    /// What is asked of a child, where this is asked of its node.
+    pub fn of_child(self, slot: Slot) -> Context {
+        match slot {
+            Slot::Inside(least) => Context::inside(least),
+            Slot::Right(least) => self.right(least),
+            Slot::Left(least) => self.left(least),
+            Slot::LeftOfCoalesce => Context {
+                takes_coalesce: true,
+                ..self.left(Level::BitOr)
+            },
+            Slot::Object => Context {
+                no_call: self.no_call,
+                link: object_of(self.link),
+                ..self.left(Level::Call)
+            },
+            Slot::Callee(least) => Context {
+                no_call: true,
+                ..Context::inside(least)
+            },
+            Slot::Begin(least, start) => Context {
+                start,
+                no_in: is_for_head(start),
+                ..Context::inside(least)
+            },
+            Slot::ArrowBody => Context {
+                start: Start::ArrowBody,
+                ..self.right(Level::Assignment)
+            },
+            Slot::Part(is_optional) => Context {
+                no_call: self.no_call,
+                link: if is_optional {
+                    Link::Optional
+                } else {
+                    Link::Plain
+                },
+                ..self.left(Level::Sequence)
+            },
+            Slot::Whole => self,
+            Slot::Body => Context {
+                no_else: self.no_else,
+                ..Context::inside(Level::Sequence)
+            },
+        }
+    }
+
+    fn right(self, least: Level) -> Context {
+        Context {
+            no_in: self.no_in,
+            ..Context::inside(least)
+        }
+    }
+
+    fn left(self, least: Level) -> Context {
+        Context {
+            start: begin_of(self.start),
+            ..self.right(least)
+        }
+    }
+}
+
+// What a part begins with which something begins.
+fn begin_of(start: Start) -> Start {
+    match start {
+        Start::ForOf => Start::ForLet,
+        other => other,
+    }
+}
+
+// How that stands in a chain of which something that stands so is a property or a call.
+fn object_of(link: Link) -> Link {
+    match link {
+        Link::Alone | Link::Object => Link::Alone,
+        Link::Plain | Link::Optional => Link::Object,
+    }
+}
+
+/// Whether it is the head of a `for` that is begun.
+pub fn is_for_head(start: Start) -> bool {
+    matches!(start, Start::ForHead | Start::ForOf | Start::ForLet)
+}
+
+/// What a node asks of the expression in its field of this number, which is its first child or not.
+pub fn slot_of(node: &Node, field: u8, is_first: bool) -> Slot {
+    match node {
+        Node::SeqExpr => if is_first {
+            Slot::Left(Level::Assignment)
+        } else {
+            Slot::Right(Level::Assignment)
+        },
+        Node::ExprStmt => Slot::Begin(Level::Sequence, Start::Statement),
+        Node::ExportDefaultExpr => Slot::Begin(Level::Assignment, Start::Default),
+        Node::ForStmt if field == 0 => Slot::Begin(Level::Sequence, Start::ForHead),
+        Node::ForInStmt if field == 0 => Slot::Begin(Level::Chain, Start::ForHead),
+        Node::ForOfStmt { is_await: false } if field == 1 => Slot::Begin(
+            Level::Chain,
+            Start::ForOf,
+        ),
+        Node::ForOfStmt { is_await: true } if field == 1 => Slot::Begin(
+            Level::Chain,
+            Start::ForLet,
+        ),
+        Node::ForOfStmt { .. } if field == 2 => Slot::Inside(Level::Assignment),
+        Node::IfStmt | Node::WithStmt | Node::WhileStmt | Node::LabeledStmt if field != 0 =>
+            Slot::Body,
+        Node::ForStmt | Node::ForOfStmt { .. } if field == 3 => Slot::Body,
+        Node::ForInStmt if field == 2 => Slot::Body,
+        Node::VarDecl { .. } => Slot::Right(Level::Sequence),
+        Node::VarDeclarator if field == 1 => Slot::Right(Level::Assignment),
+        Node::BindingIdent => Slot::Whole,
+        Node::RestPat | Node::ArrayPat | Node::AssignPat if field == 0 => Slot::Inside(
+            Level::Chain,
+        ),
+        Node::KeyValuePatProp if field == 1 => Slot::Inside(Level::Chain),
+        Node::Class => if field == 0 {
+            Slot::Inside(Level::Chain)
+        } else {
+            Slot::Inside(Level::Assignment)
+        },
+        Node::MemberExpr | Node::SuperPropExpr | Node::ComputedPropName => property_slot(
+            node, field,
+        ),
+        Node::ParenExpr
+        | Node::ReturnStmt
+        | Node::ThrowStmt
+        | Node::IfStmt
+        | Node::WithStmt
+        | Node::SwitchStmt
+        | Node::SwitchCase
+        | Node::WhileStmt
+        | Node::DoWhileStmt
+        | Node::ForStmt
+        | Node::ForInStmt
+        | Node::Tpl => Slot::Inside(Level::Sequence),
+        _ => operand_slot(node, field),
+    }
+}
+
+// The same of what has a property.
+fn property_slot(node: &Node, field: u8) -> Slot {
+    match node {
+        Node::MemberExpr if field == 0 => Slot::Object,
+        Node::ComputedPropName => Slot::Whole,
+        _ => Slot::Inside(Level::Sequence),
+    }
+}
+
+// The same of operators.
+fn operand_slot(node: &Node, field: u8) -> Slot {
+    match node {
+        Node::UnaryExpr { .. } | Node::AwaitExpr => Slot::Right(Level::Unary),
+        Node::UpdateExpr { prefix: true, .. } => Slot::Right(Level::Chain),
+        Node::UpdateExpr { .. } => Slot::Left(Level::Chain),
+        Node::BinExpr { op } => binary_slot(*op, field),
+        Node::AssignExpr { .. } => if field == 1 {
+            Slot::Left(Level::Chain)
+        } else {
+            Slot::Right(Level::Assignment)
+        },
+        Node::CondExpr => match field {
+            0 => Slot::Left(Level::Coalesce),
+            1 => Slot::Inside(Level::Assignment),
+            _ => Slot::Right(Level::Assignment),
+        },
+        Node::CallExpr if field == 0 => Slot::Left(Level::Call),
+        Node::OptCall | Node::TaggedTpl if field == 0 => Slot::Object,
+        Node::NewExpr { has_args } if field == 0 => Slot::Callee(if *has_args {
+            Level::Call
+        } else {
+            Level::New
+        }),
+        Node::OptChainExpr { optional } => Slot::Part(*optional),
+        Node::ArrowExpr { .. } if field == 1 => Slot::ArrowBody,
+        Node::YieldExpr { .. } => Slot::Right(Level::Assignment),
+        _ => Slot::Inside(Level::Assignment),
+    }
+}
+
+fn binary_slot(op: BinaryOp, field: u8) -> Slot {
+    if field != 1 {
+        Slot::Right(right_level(op))
+    } else if op == BinaryOp::NullishCoalescing {
+        Slot::LeftOfCoalesce
+    } else {
+        Slot::Left(left_level(op))
+    }
+}
+
+/// Whether a node needs parentheses where this is asked of it. `next` is the piece behind its begin.
+pub fn needs_parens(node: &Node, context: Context, next: Option<&Piece>) -> bool
+    ensures tight { result ≡ false → context.takes_coalesce ≡ false → context.link ≢ links.Object
+        → rank context.least ≤ rank (level (head_of node.now)) }
+    ensures in_head { result ≡ false → context.no_in ≡ true
+        → head_of node.now ≢ head.BinExpr in_operator }
+    ensures called { result ≡ false → context.no_call ≡ true → head_of node.now ≢ head.CallExpr }
+    ensures statement { result ≡ false → context.start ≡ starts.Statement
+        → (head_of node.now ≢ head.ObjectLit) × (head_of node.now ≢ head.FnExpr)
+        × (head_of node.now ≢ head.ClassExpr) }
+    ensures arrow { result ≡ false → context.start ≡ starts.ArrowBody
+        → head_of node.now ≢ head.ObjectLit }
+    ensures default { result ≡ false → context.start ≡ starts.Default
+        → (head_of node.now ≢ head.FnExpr) × (head_of node.now ≢ head.ClassExpr) }
+    ensures minimal { context.start ≡ starts.Free → context.no_in ≡ false
+        → context.no_call ≡ false → rank context.least ≤ rank (level (head_of node.now))
+        → result ≡ false }
+{
+    is_torn(node, context) || is_misread(node, context.start, next)
+}
+
+// Whether a node would be torn apart, or end what it stands in.
+fn is_torn(node: &Node, context: Context) -> bool
+    ensures tight { result ≡ false → context.takes_coalesce ≡ false → context.link ≢ links.Object
+        → rank context.least ≤ rank (level (head_of node.now)) }
+    ensures in_head { result ≡ false → context.no_in ≡ true
+        → head_of node.now ≢ head.BinExpr in_operator }
+    ensures called { result ≡ false → context.no_call ≡ true → head_of node.now ≢ head.CallExpr }
+    ensures minimal { context.no_in ≡ false → context.no_call ≡ false
+        → rank context.least ≤ rank (level (head_of node.now)) → result ≡ false }
+{
+    match node {
+        Node::BinExpr { op: BinaryOp::In } if context.no_in => true,
+        Node::BinExpr {
+            op: BinaryOp::NullishCoalescing,
+        } if context.takes_coalesce => false,
+        Node::CallExpr if context.no_call => true,
+        Node::OptChainExpr { .. } if context.link == Link::Object => false,
+        _ => level_of(node).is_looser(context.least),
+    }
+}
+
+// Whether the first word of a node would be read as something else.
+fn is_misread(node: &Node, start: Start, next: Option<&Piece>) -> bool
+    ensures statement { result ≡ false → start ≡ starts.Statement
+        → (head_of node.now ≢ head.ObjectLit) × (head_of node.now ≢ head.FnExpr)
+        × (head_of node.now ≢ head.ClassExpr) }
+    ensures arrow { result ≡ false → start ≡ starts.ArrowBody → head_of node.now ≢ head.ObjectLit }
+    ensures default { result ≡ false → start ≡ starts.Default
+        → (head_of node.now ≢ head.FnExpr) × (head_of node.now ≢ head.ClassExpr) }
+    ensures free { start ≡ starts.Free → result ≡ false }
+{
+    match start {
+        Start::Statement => begins_brace(node, next) || begins_declaration(node),
+        Start::ArrowBody => begins_brace(node, next),
+        Start::Default => begins_declaration(node),
+        _ => false,
+    }
+}
+
+fn begins_declaration(node: &Node) -> bool
+    ensures { result ≡ false
+        → (head_of node.now ≢ head.FnExpr) × (head_of node.now ≢ head.ClassExpr) }
+{
+    matches!(node, Node::FnExpr | Node::ClassExpr)
+}
+
+// Whether a node begins with a brace that parentheses around what is in it would make another.
+fn begins_brace(node: &Node, next: Option<&Piece>) -> bool
+    ensures { result ≡ false → head_of node.now ≢ head.ObjectLit }
+{
+    match node {
+        Node::ObjectLit => true,
+        Node::AssignExpr { .. } => matches!(
+            next,
+            Some(Piece::Open {
+                node: Node::ObjectPat,
+                ..
+            })
+        ),
+        _ => false,
+    }
+}
+
+/// Whether an identifier needs parentheses where it begins that. `next` is the piece behind it.
+pub fn name_needs_parens(name: &str, start: Start, next: Option<&Piece>) -> bool {
+    match start {
+        Start::Statement | Start::ForHead => name == "let" && is_computed(next),
+        Start::ForOf => name == "let" || name == "async",
+        Start::ForLet => name == "let",
+        _ => false,
+    }
+}
+
+fn is_computed(next: Option<&Piece>) -> bool {
+    matches!(
+        next,
+        Some(Piece::Open {
+            node: Node::ComputedPropName,
+            ..
+        })
+    )
+}

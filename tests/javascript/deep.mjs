@@ -1,0 +1,30 @@
+// Texts whose nodes lie deep in each other, or follow each other in long chains.
+const nested = (open, inner, close, depth = 1000) => open.repeat(depth) + inner + close.repeat(depth);
+
+export const deep = {
+  'a sum of 2,000 operands': `x = a${' + a'.repeat(1999)}`,
+  'a sum of 2,000 texts, one a line': `x = 'a'${"\n  + 'b'".repeat(1999)}`,
+  '2,000 members': `a${'.b'.repeat(2000)}`,
+  '2,000 calls': `a${'()'.repeat(2000)}`,
+  '1,900 links of an optional chain': `a${'?.b'.repeat(1900)}`,
+  '2,000 expressions by comma': `a${', a'.repeat(1999)}`,
+  '2,000 powers': `a${' ** a'.repeat(1999)}`,
+  '2,000 assignments': `${'a = '.repeat(1999)}a`,
+  '2,000 conditions': `${'a ? b : '.repeat(2000)}c`,
+  '2,000 else if': `${'if (a) b; else '.repeat(2000)}c`,
+  '2,000 unary operators': `${'! '.repeat(2000)}a`,
+  '1,000 parentheses': nested('(', 'a', ')'),
+  '1,000 arrays': nested('[', 'a', ']'),
+  '1,000 array patterns': `${nested('[', 'a', ']')} = b`,
+  '1,000 objects': `x = ${nested('{ a: ', 'b', ' }')}`,
+  '1,000 object patterns': `(${nested('{ a: ', 'b', ' }')} = c)`,
+  '1,000 blocks': nested('{ ', 'a', ' }'),
+  '1,000 arrow functions': `${'a => '.repeat(1000)}b`,
+  '1,000 arguments': nested('f(', 'a', ')'),
+  '1,000 computed members': nested('a[', 'b', ']'),
+  '1,000 templates': nested('`${', 'a', '}`'),
+  '1,000 loops': `${'for (;;) '.repeat(1000)}a`,
+  '500 functions': nested('function f() { ', 'a', ' }', 500),
+  '500 classes': nested('class A { f() { ', 'a', ' } }', 500),
+  '500 switches': nested('switch (a) { case b: ', 'c', ' }', 500),
+};
